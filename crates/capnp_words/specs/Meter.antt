@@ -1,0 +1,38 @@
+-- What a read limiter holds, and what it grants.
+use Rattle.std.specs.Prelude.{ℕ, Bool, true, false, Option, Some, None, ◌+◌, ◌-◌, ◌^◌, ◌≤◌, min}
+
+-- a budget of words, and the number of pointers followed so far
+pub record Meter : Type 0 where
+  pub left : Option ℕ
+  pub followed : ℕ
+
+abbrev pub unused : Option ℕ → Meter
+unused limit = record { left = limit; followed = 0 }
+
+abbrev pub FitsIn : Option ℕ → ℕ → Type 0
+FitsIn None n = Unit {0}
+FitsIn (Some left) n = n ≤ left
+
+abbrev pub less : Option ℕ → ℕ → Option ℕ
+less None n = None
+less (Some left) n = Some (left - n)
+
+-- the budget covers n words
+abbrev pub Allows : Meter → ℕ → Type 0
+Allows m n = FitsIn m.left n
+
+abbrev pub spent : Meter → ℕ → Meter
+spent m n = record m { left = less m.left n }
+
+abbrev pub counted : Meter → Meter
+counted m = record m { followed = min (m.followed + 1) (2 ^ 64 - 1) }
+
+-- an arena that charges asks its limiter
+abbrev pub Affords : Bool → Meter → ℕ → Type 0
+Affords true m n = Allows m n
+Affords false m n = Unit {0}
+
+-- the limiter after n words that an arena asked for
+abbrev pub charged : Bool → Meter → ℕ → Meter
+charged true m n = spent m n
+charged false m n = m

@@ -1,0 +1,49 @@
+-- The names of refusals, and their texts.
+use Rattle.std.specs.Prelude.{ℕ, List, codes, ◌++◌}
+use Rattle.std.specs.Fmt.{decimal}
+use Rattle.capnp_words.specs.declared.error.ErrorKind.{ErrorKind}
+use Rattle.capnp_words.specs.declared.error.ErrorKind.TheVariants.{AllocationFailed, CannotCreateACanonicalMessageWithACapability, CantHandleNonStructInlineComposite, ExistingListPointerIsNotByteSized, ExistingListValueIsIncompatibleWithExpectedType, ExistingPointerIsNotAList, ExpectedAPointerListButGotAListOfDataOnlyStructs, ExpectedAPrimitiveListButGotAListOfPointerOnlyStructs, FoundBitListWhereStructListWasExpected, FoundStructListWhereBitListWasExpected, InlineCompositeListsElementsOverrunItsWordCount, InlineCompositeListsOfNonStructTypeAreNotSupported, InvalidSegmentId, MalformedDoubleFarPointer, MessageContainsListPointerOfNonBytesWhereDataWasExpected, MessageContainsListPointerOfNonBytesWhereTextWasExpected, MessageContainsListWithIncompatibleElementType, MessageContainsNonCapabilityPointerWhereCapabilityPointerWasExpected, MessageContainsNonListPointerWhereDataWasExpected, MessageContainsNonListPointerWhereListPointerWasExpected, MessageContainsNonListPointerWhereTextWasExpected, MessageContainsNonStructPointerWhereStructPointerWasExpected, MessageContainsNullCapabilityPointer, MessageContainsOutOfBoundsPointer, MessageContainsTextThatIsNotNULTerminated, MessageIsTooDeeplyNested, MessageIsTooDeeplyNestedOrContainsCycles, MessageTooLarge, NestingLimitExceeded, NoSuchPlace, ReadLimitExceeded, TextBlobMissingNULTerminator, TriedToReadFromNullArena, UnexpectedFarPointer, UnknownPointerType}
+
+-- the name of a refusal
+abbrev pub name_of : ErrorKind → List ℕ
+name_of AllocationFailed = codes "AllocationFailed"
+name_of CannotCreateACanonicalMessageWithACapability = codes "CannotCreateACanonicalMessageWithACapability"
+name_of CantHandleNonStructInlineComposite = codes "CantHandleNonStructInlineComposite"
+name_of ExistingListPointerIsNotByteSized = codes "ExistingListPointerIsNotByteSized"
+name_of ExistingListValueIsIncompatibleWithExpectedType = codes "ExistingListValueIsIncompatibleWithExpectedType"
+name_of ExistingPointerIsNotAList = codes "ExistingPointerIsNotAList"
+name_of ExpectedAPointerListButGotAListOfDataOnlyStructs = codes "ExpectedAPointerListButGotAListOfDataOnlyStructs"
+name_of ExpectedAPrimitiveListButGotAListOfPointerOnlyStructs = codes "ExpectedAPrimitiveListButGotAListOfPointerOnlyStructs"
+name_of FoundBitListWhereStructListWasExpected = codes "FoundBitListWhereStructListWasExpected"
+name_of FoundStructListWhereBitListWasExpected = codes "FoundStructListWhereBitListWasExpected"
+name_of InlineCompositeListsElementsOverrunItsWordCount = codes "InlineCompositeListsElementsOverrunItsWordCount"
+name_of InlineCompositeListsOfNonStructTypeAreNotSupported = codes "InlineCompositeListsOfNonStructTypeAreNotSupported"
+name_of (InvalidSegmentId _) = codes "InvalidSegmentId"
+name_of MalformedDoubleFarPointer = codes "MalformedDoubleFarPointer"
+name_of MessageContainsListPointerOfNonBytesWhereDataWasExpected = codes "MessageContainsListPointerOfNonBytesWhereDataWasExpected"
+name_of MessageContainsListPointerOfNonBytesWhereTextWasExpected = codes "MessageContainsListPointerOfNonBytesWhereTextWasExpected"
+name_of MessageContainsListWithIncompatibleElementType = codes "MessageContainsListWithIncompatibleElementType"
+name_of MessageContainsNonCapabilityPointerWhereCapabilityPointerWasExpected = codes "MessageContainsNonCapabilityPointerWhereCapabilityPointerWasExpected"
+name_of MessageContainsNonListPointerWhereDataWasExpected = codes "MessageContainsNonListPointerWhereDataWasExpected"
+name_of MessageContainsNonListPointerWhereListPointerWasExpected = codes "MessageContainsNonListPointerWhereListPointerWasExpected"
+name_of MessageContainsNonListPointerWhereTextWasExpected = codes "MessageContainsNonListPointerWhereTextWasExpected"
+name_of MessageContainsNonStructPointerWhereStructPointerWasExpected = codes "MessageContainsNonStructPointerWhereStructPointerWasExpected"
+name_of MessageContainsNullCapabilityPointer = codes "MessageContainsNullCapabilityPointer"
+name_of MessageContainsOutOfBoundsPointer = codes "MessageContainsOutOfBoundsPointer"
+name_of MessageContainsTextThatIsNotNULTerminated = codes "MessageContainsTextThatIsNotNULTerminated"
+name_of MessageIsTooDeeplyNested = codes "MessageIsTooDeeplyNested"
+name_of MessageIsTooDeeplyNestedOrContainsCycles = codes "MessageIsTooDeeplyNestedOrContainsCycles"
+name_of (MessageTooLarge _) = codes "MessageTooLarge"
+name_of NestingLimitExceeded = codes "NestingLimitExceeded"
+name_of NoSuchPlace = codes "NoSuchPlace"
+name_of ReadLimitExceeded = codes "ReadLimitExceeded"
+name_of TextBlobMissingNULTerminator = codes "TextBlobMissingNULTerminator"
+name_of TriedToReadFromNullArena = codes "TriedToReadFromNullArena"
+name_of UnexpectedFarPointer = codes "UnexpectedFarPointer"
+name_of UnknownPointerType = codes "UnknownPointerType"
+
+-- the text that `{}` writes
+abbrev pub text_of : ErrorKind → List ℕ
+text_of (InvalidSegmentId n) = codes "InvalidSegmentId(" ++ decimal n ++ codes ")"
+text_of (MessageTooLarge n) = codes "MessageTooLarge(" ++ decimal n ++ codes ")"
+text_of e = name_of e

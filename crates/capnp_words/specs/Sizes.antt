@@ -1,0 +1,33 @@
+-- The numbers of element sizes and of kinds of pointers.
+use Rattle.std.specs.Prelude.{ℕ}
+use Rattle.capnp_words.specs.declared.wire_pointer.ElementSize.{ElementSize}
+use Rattle.capnp_words.specs.declared.wire_pointer.ElementSize.TheVariants.{Void, Bit, Byte, TwoBytes, FourBytes, EightBytes, Pointer, InlineComposite}
+use Rattle.capnp_words.specs.declared.wire_pointer.WirePointerKind.{WirePointerKind}
+use Rattle.capnp_words.specs.declared.wire_pointer.WirePointerKind.TheVariants.{Struct, List, Far, Other}
+
+abbrev pub size_number : ElementSize → ℕ
+size_number Void = 0
+size_number Bit = 1
+size_number Byte = 2
+size_number TwoBytes = 3
+size_number FourBytes = 4
+size_number EightBytes = 5
+size_number Pointer = 6
+size_number InlineComposite = 7
+
+-- pointers of an element
+abbrev pub pointers_in : ElementSize → ℕ
+pointers_in Void = 0
+pointers_in Bit = 0
+pointers_in Byte = 0
+pointers_in TwoBytes = 0
+pointers_in FourBytes = 0
+pointers_in EightBytes = 0
+pointers_in Pointer = 1
+pointers_in InlineComposite = 0
+
+abbrev pub kind_number : WirePointerKind → ℕ
+kind_number Struct = 0
+kind_number List = 1
+kind_number Far = 2
+kind_number Other = 3

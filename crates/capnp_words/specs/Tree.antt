@@ -1,0 +1,82 @@
+-- The values that a message can hold, as trees. Where objects lie, in how many segments and by which kind of pointer
+-- they are reached is no part of a value; the lengths of its data and pointer sections are, until it is trimmed
+-- ("Canonicalization").
+use Rattle.std.specs.Prelude.{ℕ, zero, suc, ◌+◌, max, List, []}
+
+-- A value: the null pointer; a capability by its index; a struct by the words of its data section and its children;
+-- a list of numbers by an element size from 0 to 5 and the elements; a list of pointers; a list of structs by the data
+-- words and pointers of each element, and the elements ("Structs", "Lists", "Capabilities (Interfaces)").
+mutual
+  pub data Tree : Type 0 where
+    Null : Tree
+    Capability : ℕ → Tree
+    Struct : List ℕ → Trees → Tree
+    Flat : ℕ → List ℕ → Tree
+    Pointers : Trees → Tree
+    Structs : ℕ → ℕ → Elements → Tree
+
+  -- Children in order.
+  pub data Trees : Type 0 where
+    no_trees : Trees
+    tree : Tree → Trees → Trees
+
+  -- The elements of a list of structs in order, each by its data words and its children.
+  pub data Elements : Type 0 where
+    no_elements : Elements
+    element : List ℕ → Trees → Elements → Elements
+
+-- How many children.
+abbrev pub count : Trees → ℕ
+count no_trees = 0
+count (tree t ts) = suc (count ts)
+
+-- How many elements.
+abbrev pub element_count : Elements → ℕ
+element_count no_elements = 0
+element_count (element ws ts es) = suc (element_count es)
+
+-- How many objects lie one inside the other, at most: what the nesting limit of a reader is measured against.
+-- Null and a capability take none.
+abbrev mutual
+  pub depth : Tree → ℕ
+  depth Null = 0
+  depth (Capability i) = 0
+  depth (Struct ws ts) = 1 + depth_all ts
+  depth (Flat size ns) = 1
+  depth (Pointers ts) = 1 + depth_all ts
+  depth (Structs d q es) = 1 + depth_elements es
+
+  -- The greatest depth of a child.
+  pub depth_all : Trees → ℕ
+  depth_all no_trees = 0
+  depth_all (tree t ts) = max (depth t) (depth_all ts)
+
+  -- The greatest depth of a child of any element.
+  pub depth_elements : Elements → ℕ
+  depth_elements no_elements = 0
+  depth_elements (element ws ts es) = max (depth_all ts) (depth_elements es)
+
+-- How many capabilities a value has inside. Canonical form is for values without any ("Canonicalization").
+abbrev mutual
+  pub capabilities : Tree → ℕ
+  capabilities Null = 0
+  capabilities (Capability i) = 1
+  capabilities (Struct ws ts) = capabilities_all ts
+  capabilities (Flat size ns) = 0
+  capabilities (Pointers ts) = capabilities_all ts
+  capabilities (Structs d q es) = capabilities_elements es
+
+  -- Inside all children.
+  pub capabilities_all : Trees → ℕ
+  capabilities_all no_trees = 0
+  capabilities_all (tree t ts) = capabilities t + capabilities_all ts
+
+  -- Inside the children of all elements.
+  pub capabilities_elements : Elements → ℕ
+  capabilities_elements no_elements = 0
+  capabilities_elements (element ws ts es) = capabilities_all ts + capabilities_elements es
+
+-- So many elements without data words and pointers.
+abbrev pub blank : ℕ → Elements
+blank zero = no_elements
+blank (suc n) = element [] no_trees (blank n)

@@ -1,0 +1,101 @@
+//! Masks: a field is stored as its exclusive or with its default, so that the default is zero bits.
+ghost use Rattle.std.specs.Prelude.{◌≡◌, bit_xor};
+ghost use Rattle.std.specs.Int.{w8, w16, w32, w64, int_bit_xor};
+
+/// Numbers that are masked by another number of the same bits.
+pub trait Mask {
+    /// What masks a number: the type itself.
+    type T;
+
+    // The number under a mask.
+    ghost masked: { Self → Self.T → Self };
+
+    /// The exclusive or of a number and a mask. The same mask again gives the number back.
+    fn mask(value: Self, mask: Self::T) -> Self
+        ensures value { result ≡ masked value mask }
+        ensures undone { masked result mask ≡ value };
+}
+
+impl Mask for u8 {
+    type T = u8;
+
+    ghost masked = { bit_xor };
+
+    fn mask(value: u8, mask: u8) -> u8 {
+        value ^ mask
+    }
+}
+
+impl Mask for u16 {
+    type T = u16;
+
+    ghost masked = { bit_xor };
+
+    fn mask(value: u16, mask: u16) -> u16 {
+        value ^ mask
+    }
+}
+
+impl Mask for u32 {
+    type T = u32;
+
+    ghost masked = { bit_xor };
+
+    fn mask(value: u32, mask: u32) -> u32 {
+        value ^ mask
+    }
+}
+
+impl Mask for u64 {
+    type T = u64;
+
+    ghost masked = { bit_xor };
+
+    fn mask(value: u64, mask: u64) -> u64 {
+        value ^ mask
+    }
+}
+
+#[tactic(auto, using(crate::proofs::Masks::int_xor_again))]
+impl Mask for i8 {
+    type T = i8;
+
+    ghost masked = { int_bit_xor w8 };
+
+    fn mask(value: i8, mask: i8) -> i8 {
+        value ^ mask
+    }
+}
+
+#[tactic(auto, using(crate::proofs::Masks::int_xor_again))]
+impl Mask for i16 {
+    type T = i16;
+
+    ghost masked = { int_bit_xor w16 };
+
+    fn mask(value: i16, mask: i16) -> i16 {
+        value ^ mask
+    }
+}
+
+#[tactic(auto, using(crate::proofs::Masks::int_xor_again))]
+impl Mask for i32 {
+    type T = i32;
+
+    ghost masked = { int_bit_xor w32 };
+
+    fn mask(value: i32, mask: i32) -> i32 {
+        value ^ mask
+    }
+}
+
+#[tactic(auto, using(crate::proofs::Masks::int_xor_again))]
+impl Mask for i64 {
+    type T = i64;
+
+    ghost masked = { int_bit_xor w64 };
+
+    fn mask(value: i64, mask: i64) -> i64 {
+        value ^ mask
+    }
+}

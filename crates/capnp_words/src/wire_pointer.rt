@@ -1,0 +1,441 @@
+//! Pointer words: their bits, as the encoding specification's sections "Structs", "Lists",
+//! "Inter-Segment Pointers" and "Capabilities (Interfaces)" lay them out.
+ghost use Rattle.std.specs.Prelude.{◌≡◌, ◌<◌, ◌+◌, ◌*◌, ◌-◌, ◌^◌, ◌↔◌, ◌+ℤ◌, pos, IsTrue};
+ghost use Rattle.capnp_words.specs.Canonical.{offset_to, Reaches};
+ghost use Rattle.capnp_words.specs.Numbers.{element_bits};
+ghost use Rattle.capnp_words.specs.Segments.{offset_leads};
+ghost use Rattle.capnp_words.specs.Sizes.{size_number, pointers_in, kind_number};
+ghost use Rattle.capnp_words.specs.Word.{kind, offset_bits, signed, offset_field, IsOffset, lower_half, upper_half, data_words, pointer_count, element_size, list_count, is_double, far_position, struct_word, list_word, far_word, capability_word};
+
+pub use self::ElementSize::{
+    Bit, Byte, EightBytes, FourBytes, InlineComposite, Pointer, TwoBytes, Void,
+};
+use crate::units::{
+    BitCount32, ElementCount32, WirePointerCount16, WirePointerCount32, WordCount16, WordCount32,
+};
+
+/// How wide the elements of a list are, by the numbers 0 to 7 of the format ("Lists").
+#[derive(Clone, Copy, Debug, PartialEq)]
+pub enum ElementSize {
+    /// No bits at all.
+    Void,
+    /// One bit.
+    Bit,
+    /// One byte.
+    Byte,
+    /// Two bytes.
+    TwoBytes,
+    /// Four bytes.
+    FourBytes,
+    /// Eight bytes that are no pointer.
+    EightBytes,
+    /// One pointer of eight bytes.
+    Pointer,
+    /// A struct of data words and pointers, whose size the list's tag word says.
+    InlineComposite,
+}
+
+/// How many bits of data an element has: 0 for a pointer and for a struct.
+pub fn data_bits_per_element(size: ElementSize) -> BitCount32
+    ensures { result ≡ element_bits (size_number size) }
+{
+    match size {
+        ElementSize::Void | ElementSize::Pointer | ElementSize::InlineComposite => 0,
+        ElementSize::Bit => 1,
+        ElementSize::Byte => 8,
+        ElementSize::TwoBytes => 16,
+        ElementSize::FourBytes => 32,
+        ElementSize::EightBytes => 64,
+    }
+}
+
+/// How many pointers an element is: 1 for a pointer, else 0.
+pub fn pointers_per_element(size: ElementSize) -> WirePointerCount32
+    ensures { result ≡ pointers_in size }
+{
+    match size {
+        ElementSize::Pointer => 1,
+        _ => 0,
+    }
+}
+
+/// The two sections of a struct, data first ("Structs").
+#[derive(Clone, Copy, Debug)]
+pub struct StructSize {
+    /// The data section, in words.
+    pub data_words: WordCount16,
+    /// The pointer section, in pointers, each one word.
+    pub pointers: WirePointerCount16,
+}
+
+impl StructSize {
+    /// Both sections, in words.
+    pub fn total(&self) -> WordCount32
+        ensures { result ≡ self.now.data_words + self.now.pointers }
+    {
+        u32::from(self.data_words) + u32::from(self.pointers)
+    }
+}
+
+/// What a pointer word is, by its lowest two bits.
+#[derive(Clone, Copy, PartialEq)]
+pub enum WirePointerKind {
+    /// A pointer to a struct, or the tag of a struct list. The zero word is of this kind too.
+    Struct,
+    /// A pointer to a list.
+    List,
+    /// A pointer to a landing pad.
+    Far,
+    /// A capability, or a word that the format doesn't know.
+    Other,
+}
+
+/// What a pointer leads to, landing pads followed.
+#[derive(Clone, Copy, Debug, PartialEq, Eq)]
+pub enum PointerType {
+    /// Nothing: the word is zero.
+    Null,
+    /// A struct.
+    Struct,
+    /// A list.
+    List,
+    /// A capability.
+    Capability,
+}
+
+/// A pointer word. Each field can be read of every word; whether it means something is the
+/// word's kind to say.
+#[derive(Clone, Copy, Debug, PartialEq, Eq)]
+pub struct WirePointer(pub u64);
+
+impl WirePointer {
+    /// The word of 64 zero bits, which leads to nothing.
+    pub fn null() -> Self
+        ensures { result.0 ≡ 0 }
+    {
+        WirePointer(0)
+    }
+
+    /// The pointer to a struct of no words, in bytes `fcffffff00000000`. Its offset is -1, since
+    /// offset 0 would make it null.
+    pub fn empty_struct() -> Self
+        ensures { result.0 ≡ struct_word (2 ^ 30 - 1) 0 0 }
+    {
+        WirePointer(0xffff_fffc)
+    }
+
+    /// A pointer to a struct that begins `offset` words after the word behind the pointer
+    /// ("Structs").
+    pub fn new_struct(offset: i32, size: StructSize) -> Self
+        requires { IsOffset offset }
+        ensures word { result.0 ≡ struct_word (offset_field offset) size.data_words size.pointers }
+        ensures kind_of { kind result.0 ≡ 0 }
+        ensures offset_of { signed (offset_bits result.0) ≡ offset }
+        ensures data_of { data_words result.0 ≡ size.data_words }
+        ensures pointers_of { pointer_count result.0 ≡ size.pointers }
+    {
+        let low = u64::from(bits_of_offset(offset)) << 2;
+        WirePointer(low | upper_of_struct(size) << 32)
+    }
+
+    /// The first word of a struct list: how many elements there are, fewer than 2^30, and the
+    /// size of each ("Lists").
+    pub fn new_tag(count: ElementCount32, size: StructSize) -> Self
+        requires { count < 2 ^ 30 }
+        ensures word { result.0 ≡ struct_word count size.data_words size.pointers }
+        ensures kind_of { kind result.0 ≡ 0 }
+        ensures count_of { offset_bits result.0 ≡ count }
+        ensures data_of { data_words result.0 ≡ size.data_words }
+        ensures pointers_of { pointer_count result.0 ≡ size.pointers }
+    {
+        WirePointer(u64::from(count) << 2 | upper_of_struct(size) << 32)
+    }
+
+    /// A pointer to a list of fewer than 2^29 elements, where for `InlineComposite` the count is
+    /// of the elements' words without the tag. The list begins `offset` words after the word
+    /// behind the pointer ("Lists").
+    pub fn new_list(offset: i32, size: ElementSize, count: ElementCount32) -> Self
+        requires near { IsOffset offset }
+        requires few { count < 2 ^ 29 }
+        ensures word { result.0 ≡ list_word (offset_field offset) (size_number size) count }
+        ensures kind_of { kind result.0 ≡ 1 }
+        ensures offset_of { signed (offset_bits result.0) ≡ offset }
+        ensures size_of { element_size result.0 ≡ size_number size }
+        ensures count_of { list_count result.0 ≡ count }
+    {
+        let low = u64::from(bits_of_offset(offset)) << 2 | 1;
+        let upper = u64::from(count) << 3 | size_code(size);
+        WirePointer(low | upper << 32)
+    }
+
+    /// A pointer to a struct list whose tag begins `offset` words after the word behind the
+    /// pointer, and whose elements take fewer than 2^29 `words` behind the tag ("Lists").
+    pub fn new_struct_list(offset: i32, words: WordCount32) -> Self
+        requires near { IsOffset offset }
+        requires few { words < 2 ^ 29 }
+        ensures word { result.0 ≡ list_word (offset_field offset) 7 words }
+        ensures kind_of { kind result.0 ≡ 1 }
+        ensures offset_of { signed (offset_bits result.0) ≡ offset }
+        ensures size_of { element_size result.0 ≡ 7 }
+        ensures words_of { list_count result.0 ≡ words }
+    {
+        Self::new_list(offset, ElementSize::InlineComposite, words)
+    }
+
+    /// A far pointer to a landing pad of one word, which is itself the pointer to the object
+    /// ("Inter-Segment Pointers"). The pad's position in its segment is below 2^29 words.
+    pub fn new_far(position: WordCount32, segment: u32) -> Self
+        requires { position < 2 ^ 29 }
+        ensures word { result.0 ≡ far_word 0 position segment }
+        ensures kind_of { kind result.0 ≡ 2 }
+        ensures pads { is_double result.0 ≡ 0 }
+        ensures position_of { far_position result.0 ≡ position }
+        ensures segment_of { upper_half result.0 ≡ segment }
+    {
+        WirePointer(u64::from(position) << 3 | 2 | u64::from(segment) << 32)
+    }
+
+    /// A far pointer to a landing pad of two words: where the object starts, and what it is
+    /// ("Inter-Segment Pointers"). The pad's position in its segment is below 2^29 words.
+    pub fn new_double_far(position: WordCount32, segment: u32) -> Self
+        requires { position < 2 ^ 29 }
+        ensures word { result.0 ≡ far_word 1 position segment }
+        ensures kind_of { kind result.0 ≡ 2 }
+        ensures pads { is_double result.0 ≡ 1 }
+        ensures position_of { far_position result.0 ≡ position }
+        ensures segment_of { upper_half result.0 ≡ segment }
+    {
+        WirePointer(u64::from(position) << 3 | 6 | u64::from(segment) << 32)
+    }
+
+    /// A capability, by its index in the message's table ("Capabilities (Interfaces)").
+    pub fn new_capability(index: u32) -> Self
+        ensures word { result.0 ≡ capability_word index }
+        ensures lower { lower_half result.0 ≡ 3 }
+        ensures index_of { upper_half result.0 ≡ index }
+    {
+        WirePointer(u64::from(index) << 32 | 3)
+    }
+
+    /// What the lowest two bits say.
+    pub fn kind(self) -> WirePointerKind
+        ensures { kind_number result ≡ kind self.0 }
+    {
+        match self.0 & 3 {
+            0 => WirePointerKind::Struct,
+            1 => WirePointerKind::List,
+            2 => WirePointerKind::Far,
+            _ => WirePointerKind::Other,
+        }
+    }
+
+    /// Whether the word is zero.
+    pub fn is_null(self) -> bool
+        ensures { IsTrue result ↔ (self.0 ≡ 0) }
+    {
+        self.0 == 0
+    }
+
+    /// Whether the word has an offset: it is of kind struct or list.
+    pub fn is_positional(self) -> bool
+        ensures { IsTrue result ↔ (kind self.0 < 2) }
+    {
+        self.0 & 3 < 2
+    }
+
+    /// Whether the word is a capability: its lower half is exactly 3.
+    pub fn is_capability(self) -> bool
+        ensures { IsTrue result ↔ (lower_half self.0 ≡ 3) }
+    {
+        self.0 & 0xffff_ffff == 3
+    }
+
+    /// The offset, in words from the word behind the pointer: from -2^29 to 2^29 - 1.
+    pub fn offset(self) -> i32
+        ensures value { result ≡ signed (offset_bits self.0) }
+        ensures near { IsOffset result }
+    {
+        let bits = (self.0 >> 2 & 0x3fff_ffff) as i32;
+        if bits < 0x2000_0000 {
+            bits
+        } else {
+            bits - 0x4000_0000
+        }
+    }
+
+    /// Where the offset leads, from a pointer at a position of a segment of `length` words: to a
+    /// position from 0 to `length`, else None.
+    pub fn target(self, position: WordCount32, length: WordCount32) -> Option<WordCount32>
+        ensures { result ≡ offset_leads length position (offset_bits self.0) }
+    {
+        let bits = self.0 >> 2 & 0x3fff_ffff;
+        let start = u64::from(position) + 1 + bits;
+        let length = u64::from(length);
+        if bits < 0x2000_0000 {
+            if start <= length {
+                Some(start as u32)
+            } else {
+                None
+            }
+        } else if start >= 0x4000_0000 && start - 0x4000_0000 <= length {
+            Some((start - 0x4000_0000) as u32)
+        } else {
+            None
+        }
+    }
+
+    /// How many elements a struct list has, by its tag.
+    pub fn inline_composite_list_element_count(self) -> ElementCount32
+        ensures value { result ≡ offset_bits self.0 }
+        ensures few { result < 2 ^ 30 }
+    {
+        (self.0 >> 2 & 0x3fff_ffff) as u32
+    }
+
+    /// The data section of a struct, in words.
+    pub fn struct_data_size(self) -> WordCount16
+        ensures { result ≡ data_words self.0 }
+    {
+        (self.0 >> 32 & 0xffff) as u16
+    }
+
+    /// The pointers of a struct.
+    pub fn struct_ptr_count(self) -> WirePointerCount16
+        ensures { result ≡ pointer_count self.0 }
+    {
+        (self.0 >> 48) as u16
+    }
+
+    /// Both sections of a struct, or of each element of a struct list, by its tag.
+    pub fn struct_size(self) -> StructSize
+        ensures data_of { result.data_words ≡ data_words self.0 }
+        ensures pointers_of { result.pointers ≡ pointer_count self.0 }
+    {
+        StructSize {
+            data_words: self.struct_data_size(),
+            pointers: self.struct_ptr_count(),
+        }
+    }
+
+    /// All of a struct, in words.
+    pub fn struct_word_size(self) -> WordCount32
+        ensures { result ≡ data_words self.0 + pointer_count self.0 }
+    {
+        self.struct_size().total()
+    }
+
+    /// How wide the elements of a list are.
+    pub fn list_element_size(self) -> ElementSize
+        ensures { size_number result ≡ element_size self.0 }
+    {
+        match self.0 >> 32 & 7 {
+            0 => ElementSize::Void,
+            1 => ElementSize::Bit,
+            2 => ElementSize::Byte,
+            3 => ElementSize::TwoBytes,
+            4 => ElementSize::FourBytes,
+            5 => ElementSize::EightBytes,
+            6 => ElementSize::Pointer,
+            _ => ElementSize::InlineComposite,
+        }
+    }
+
+    /// How many elements a list has; for a struct list this is its words.
+    pub fn list_element_count(self) -> ElementCount32
+        ensures value { result ≡ list_count self.0 }
+        ensures few { result < 2 ^ 29 }
+    {
+        (self.0 >> 35) as u32
+    }
+
+    /// How many words a struct list claims for its elements, without the tag.
+    pub fn list_inline_composite_word_count(self) -> WordCount32
+        ensures value { result ≡ list_count self.0 }
+        ensures few { result < 2 ^ 29 }
+    {
+        self.list_element_count()
+    }
+
+    /// Whether a far pointer leads to a landing pad of two words.
+    pub fn is_double_far(self) -> bool
+        ensures { IsTrue result ↔ (is_double self.0 ≡ 1) }
+    {
+        self.0 >> 2 & 1 == 1
+    }
+
+    /// Where a far pointer's landing pad begins, in words from its segment's start.
+    pub fn far_position_in_segment(self) -> WordCount32
+        ensures value { result ≡ far_position self.0 }
+        ensures small { result < 2 ^ 29 }
+    {
+        (self.0 >> 3 & 0x1fff_ffff) as u32
+    }
+
+    /// The number of the segment that a far pointer's landing pad is in.
+    pub fn far_segment_id(self) -> u32
+        ensures { result ≡ upper_half self.0 }
+    {
+        self.upper()
+    }
+
+    /// A capability's index in the message's table.
+    pub fn cap_index(self) -> u32
+        ensures { result ≡ upper_half self.0 }
+    {
+        self.upper()
+    }
+
+    fn upper(self) -> u32
+        ensures { result ≡ upper_half self.0 }
+    {
+        (self.0 >> 32) as u32
+    }
+}
+
+/// The offset that a pointer at a position has to hold to lead to a target, both in words from
+/// the start of one segment. The two are less than 2^29 words apart, counted from the word behind
+/// the pointer.
+pub fn offset_between(position: WordCount32, target: WordCount32) -> i32
+    requires { Reaches position target }
+    ensures distance { pos target ≡ pos (position + 1) +ℤ result }
+    ensures bits { offset_field result ≡ offset_to position target }
+    ensures near { IsOffset result }
+{
+    (i64::from(target) - i64::from(position) - 1) as i32
+}
+
+// The 30 bits of an offset.
+fn bits_of_offset(offset: i32) -> u32
+    requires { IsOffset offset }
+    ensures bits { result ≡ offset_field offset }
+    ensures small { result < 2 ^ 30 }
+    ensures again { signed result ≡ offset }
+{
+    offset.cast_unsigned() & 0x3fff_ffff
+}
+
+// The upper half of a struct's word.
+fn upper_of_struct(size: StructSize) -> u64
+    ensures value { result ≡ size.data_words + 2 ^ 16 * size.pointers }
+    ensures small { result < 2 ^ 32 }
+{
+    u64::from(size.data_words) | u64::from(size.pointers) << 16
+}
+
+// The number of an element size.
+
+fn size_code(size: ElementSize) -> u64
+    ensures value { result ≡ size_number size }
+    ensures small { result < 8 }
+{
+    match size {
+        ElementSize::Void => 0,
+        ElementSize::Bit => 1,
+        ElementSize::Byte => 2,
+        ElementSize::TwoBytes => 3,
+        ElementSize::FourBytes => 4,
+        ElementSize::EightBytes => 5,
+        ElementSize::Pointer => 6,
+        ElementSize::InlineComposite => 7,
+    }
+}

@@ -1,0 +1,111 @@
+//! Words in slices of bytes: eight bytes each, the lowest byte first. Positions and counts are in
+//! words from the slice's start; up to seven bytes behind the last whole word are ignored.
+ghost use Rattle.std.specs.Prelude.{◌≡◌, ◌<◌, ◌≤◌, ◌+◌, ◌*◌, ◌/◌, ◌^◌, ◌++◌, [], ℕ, length, take, drop, replicate, slice_set, slice_index};
+ghost use Rattle.capnp_words.specs.Bytes.{words_of};
+ghost use Rattle.capnp_words.specs.Canonical.{used_words};
+ghost use borrow.Rule.Slice.PartMut.{put_mid};
+
+use std::simd::prelude::*;
+
+/// The word at a position.
+#[tactic(auto, using(crate::proofs::WordsOf::word_bytes))]
+pub fn word_at(bytes: &[u8], at: usize) -> u64
+    requires { 8 * at + 8 ≤ length bytes.now }
+    ensures { result ≡ slice_index (words_of bytes.now) at }
+{
+    let i = 8 * at;
+    u64::from_le_bytes([
+        bytes[i],
+        bytes[i + 1],
+        bytes[i + 2],
+        bytes[i + 3],
+        bytes[i + 4],
+        bytes[i + 5],
+        bytes[i + 6],
+        bytes[i + 7],
+    ])
+}
+
+/// Writes a word.
+#[tactic(auto, using(crate::proofs::WordsOf::put_words))]
+pub fn put_word(bytes: &mut [u8], at: usize, word: u64)
+    requires { 8 * at + 8 ≤ length bytes.old }
+    ensures { words_of bytes.new ≡ slice_set (words_of bytes.old) at word }
+{
+    u64x1::splat(word)
+        .to_le_bytes()
+        .copy_to_slice(&mut bytes[8 * at..]);
+}
+
+/// Copies whole words from a slice over the words from a position on.
+#[tactic(auto, using(crate::proofs::WordsOf::put_words))]
+pub fn copy_words(bytes: &mut [u8], at: usize, from: &[u8])
+    requires whole { length from.now ≡ 8 * length (words_of from.now) }
+    requires room { 8 * (at + length (words_of from.now)) ≤ length bytes.old }
+    ensures { words_of bytes.new ≡ put_mid at (length (words_of from.now)) (words_of bytes.old) (words_of from.now) }
+{
+    let start = 8 * at;
+    bytes[start..start + from.len()].copy_from_slice(from);
+}
+
+/// Writes zeros over n words.
+#[tactic(auto, using(crate::proofs::WordsOf::put_words))]
+pub fn zero_words(bytes: &mut [u8], at: usize, n: usize)
+    requires { 8 * (at + n) ≤ length bytes.old }
+    ensures { words_of bytes.new ≡ put_mid at n (words_of bytes.old) (replicate n 0) }
+{
+    let start = 8 * at;
+    bytes[start..start + 8 * n].fill(0);
+}
+
+/// How many words there are up to the last that is not zero.
+pub fn used(bytes: &[u8]) -> usize
+    ensures value { result ≡ used_words (words_of bytes.now) }
+    ensures within { result ≤ length bytes.now / 8 }
+{
+    let mut n = bytes.len() / 8;
+    while n > 0 {
+        if word_at(bytes, n - 1) != 0 {
+            return n;
+        }
+        n -= 1;
+    }
+    0
+}
+
+/// The words in a part of a slice.
+#[tactic(auto, using(crate::proofs::WordsOf::part_words))]
+pub fn part(bytes: &[u8], at: usize, n: usize) -> &[u8]
+    requires { 8 * (at + n) ≤ length bytes.now }
+    ensures words { words_of result.now ≡ take n (drop at (words_of bytes.now)) }
+    ensures length { length result.now ≡ 8 * n }
+    ensures count { length (words_of result.now) ≡ n }
+{
+    &bytes[8 * at..8 * at + 8 * n]
+}
+
+/// How many whole words there are.
+#[tactic(auto, using(crate::proofs::WordsOf::part_words))]
+pub fn count(bytes: &[u8]) -> usize
+    ensures { result ≡ length (words_of bytes.now) }
+{
+    bytes.len() / 8
+}
+
+/// How many of `n` words from a position on there are up to the last that is not zero.
+pub fn used_part(bytes: &[u8], at: usize, n: usize) -> usize
+    requires { 8 * (at + n) ≤ length bytes.now }
+    ensures value { result ≡ used_words (take n (drop at (words_of bytes.now))) }
+    ensures within { result ≤ n }
+{
+    used(part(bytes, at, n))
+}
+
+/// Copies `n` words from one position to another, as they were before.
+pub fn move_words(bytes: &mut [u8], from: usize, to: usize, n: usize)
+    requires there { 8 * (from + n) ≤ length bytes.old }
+    requires room { 8 * (to + n) ≤ length bytes.old }
+    ensures { words_of bytes.new ≡ put_mid to n (words_of bytes.old) (take n (drop from (words_of bytes.old))) }
+{
+    bytes.copy_within(8 * from..8 * (from + n), 8 * to);
+}
