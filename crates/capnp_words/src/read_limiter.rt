@@ -1,6 +1,6 @@
 //! The traversal limit: how many words reading may still charge. It keeps a small message that
 //! leads to the same words again and again from costing more than its reader allows.
-ghost use Rattle.std.specs.Prelude.{◌≡◌, ◌↔◌, IsOk, OnOk, OnErr, IfErr};
+ghost use Rattle.std.specs.Prelude.{◌≡◌, ◌^◌, ◌<◌, ◌↔◌, IsOk, OnOk, OnErr, IfErr};
 ghost use Rattle.capnp_words.specs.Meter.{Meter, Allows, spent, counted, unused};
 ghost use Rattle.capnp_words.specs.declared.error.ErrorKind.TheVariants.{ReadLimitExceeded};
 
@@ -66,7 +66,8 @@ impl ReadLimiter {
 
     /// Counts one pointer more as followed. From the greatest `u64` on it stays.
     pub fn count(&mut self)
-        ensures { self.new ≡ counted self.old }
+        ensures counted { self.new ≡ counted self.old }
+        ensures small { self.old.followed < 2 ^ 64 }
     {
         self.pointers = self.pointers.saturating_add(1);
     }

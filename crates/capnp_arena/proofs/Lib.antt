@@ -1,0 +1,4 @@
+pub mod MessageLemmas
+pub mod RowLemmas
+pub mod RowsLemmas
+pub mod TakingLemmas

@@ -1,0 +1,22 @@
+-- What writing leaves of the segments of a message.
+use Rattle.std.specs.Prelude.{ℕ, List, ◌++◌, length, take, drop, slice_set}
+use Rattle.capnp_words.specs.Segments.{Segments, segment}
+
+-- segment s as ws
+abbrev pub with_segment : Segments → ℕ → List ℕ → Segments
+with_segment S s ws = slice_set S s ws
+
+-- the words ws over those from position p on
+abbrev pub overwritten : List ℕ → ℕ → List ℕ → List ℕ
+overwritten xs p ws = take p xs ++ (ws ++ drop (length ws) (drop p xs))
+
+-- the word x at a place
+abbrev pub with_word : Segments → ℕ → ℕ → ℕ → Segments
+with_word S s p x = with_segment S s (slice_set (segment S s) p x)
+
+abbrev pub with_words : Segments → ℕ → ℕ → List ℕ → Segments
+with_words S s p ws = with_segment S s (overwritten (segment S s) p ws)
+
+-- more words at the end of a segment
+abbrev pub extended : Segments → ℕ → List ℕ → Segments
+extended S s ws = with_segment S s (segment S s ++ ws)

@@ -1,0 +1,25 @@
+//! What a message is for everything above: segments of whole words, checked and charged, read or written.
+
+mod allocator;
+mod builder_arena;
+mod builder_arena_impl;
+mod heap_allocator;
+mod null_arena;
+mod output_segments;
+mod reader_arena;
+mod reader_arena_impl;
+mod reader_segments;
+mod row;
+
+pub use allocator::{Allocator, Segment};
+pub use builder_arena::BuilderArena;
+pub use builder_arena_impl::BuilderArenaImpl;
+pub use heap_allocator::{HeapAllocator, HeapSegment};
+pub use null_arena::NullArena;
+pub use output_segments::OutputSegments;
+pub use reader_arena::ReaderArena;
+pub use reader_arena_impl::{ReaderArenaImpl, ReaderOptions};
+pub use reader_segments::{ReaderSegments, SegmentArray};
+
+/// The number of a segment, counted from 0.
+pub type SegmentId = u32;

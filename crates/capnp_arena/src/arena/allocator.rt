@@ -1,0 +1,63 @@
+//! Where a builder's segments come from.
+ghost use Rattle.std.specs.Prelude.{◌≡◌, ◌<◌, ◌≤◌, ◌+◌, ◌-◌, ◌*◌, ◌/◌, ◌^◌, ◌++◌, ◌∷◌, [], ℕ, Bool, List, length, IsTrue, IsNone, IfSome, IfOk, OnOk, IfErr};
+ghost use Rattle.std.specs.Borrow.{sem, Lends, Array, u8 as byte};
+ghost use Rattle.capnp_arena.specs.Allocations.{IsFresh, IsClearFrom, one_more, max_words};
+ghost use Rattle.capnp_words.specs.declared.error.ErrorKind.TheVariants.{AllocationFailed, MessageTooLarge};
+
+use capnp_words::error::ErrorKind;
+
+/// The bytes of a segment, which never change their number.
+pub trait Segment {
+    ghost content: { Self → List ℕ };
+
+    ghost with_content: { Self → List ℕ → Self };
+
+    ghost holds: { (s : Self) (w : List ℕ) → length w ≡ length (content s) → content (with_content s w) ≡ w };
+
+    /// All its bytes.
+    fn bytes(&self) -> &[u8]
+        ensures { result.now ≡ content self.now };
+
+    /// All its bytes, to be written.
+    fn bytes_mut(&mut self) -> &mut [u8]
+        ensures* lends { sem 𝓛 (Lends Self.row (Array byte 0) self.entry result (with_content self.old)) }
+        ensures now { result.now ≡ content self.old };
+}
+
+/// Where segments come from and go back to.
+pub trait Allocator: Drop {
+    type Segment: Segment;
+
+    // How often memory was refused, up to the greatest u64.
+    ghost refusals: { Self → ℕ };
+
+    // Whether a request for so many words may be met by a segment of so many words.
+    ghost offers: { Self → ℕ → ℕ → Bool };
+
+    /// A segment of zeros, of at least `min_words` words and at most 536,870,911.
+    ///
+    /// A larger request is `MessageTooLarge(min_words)`; every other refusal is `AllocationFailed`, and counts in `refused`.
+    fn allocate_segment(&mut self, min_words: u32) -> Result<Self::Segment, ErrorKind>
+        ensures fresh { IfOk result (λ s. IsFresh min_words (Self.Segment.content s)) }
+        ensures size { IfOk result (λ s. IsTrue (offers self.old min_words (length (Self.Segment.content s) / 8))) }
+        ensures counted { OnOk result (refusals self.new ≡ refusals self.old) }
+        ensures too_large { max_words < min_words → (result ≡ Err (MessageTooLarge min_words)) × (refusals self.new ≡ refusals self.old) }
+        ensures refused { min_words ≤ max_words → IfErr result (λ e. (e ≡ AllocationFailed) × (refusals self.new ≡ one_more (refusals self.old))) }
+        ensures offers { offers self.new ≡ offers self.old };
+
+    /// Gives a segment back. All its words behind the first `used_words` are zero.
+    fn deallocate_segment(&mut self, segment: Self::Segment, used_words: u32)
+        requires { IsClearFrom used_words (Self.Segment.content segment) }
+        ensures refusals { refusals self.new ≡ refusals self.old }
+        ensures offers { offers self.new ≡ offers self.old };
+
+    /// Puts a row last in a list. Where there is no memory for it, gives the row back, leaves the list as it was, and counts in `refused`.
+    fn keep<T>(&mut self, list: &mut Vec<T>, row: T) -> Option<T>
+        ensures kept { IsNone result → (list.new.items ≡ list.old.items ++ row ∷ []) × (refusals self.new ≡ refusals self.old) }
+        ensures given_back { IfSome result (λ r. (r ≡ row) × (list.new.items ≡ list.old.items) × (refusals self.new ≡ one_more (refusals self.old))) }
+        ensures offers { offers self.new ≡ offers self.old };
+
+    /// How often memory was refused: one for each `AllocationFailed` and each row given back, up to the greatest u64.
+    fn refused(&self) -> u64
+        ensures { result ≡ refusals self.now };
+}

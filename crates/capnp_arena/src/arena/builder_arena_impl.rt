@@ -1,0 +1,298 @@
+//! The arena of a message that is built.
+ghost use Rattle.std.specs.Prelude.{◌≡◌, ◌⊎◌, ◌<◌, ◌≤◌, ◌+◌, ◌*◌, ◌/◌, ◌^◌, ◌↔◌, ◌++◌, ◌∷◌, [], ℕ, ℤ, pos, false, refl, length, replicate, Some, None, IsTrue, IsSome, IsNone, IfSome, IsOk, IfOk, OnOk, OnErr, IfErr, slice_get};
+ghost use Rattle.capnp_words.specs.Bytes.{message};
+ghost use Rattle.capnp_words.specs.Segments.{segment};
+ghost use Rattle.capnp_words.specs.declared.error.ErrorKind.TheVariants.{AllocationFailed, InvalidSegmentId, MessageTooLarge};
+ghost use Rattle.capnp_arena.specs.Allocations.{max_segments, max_words, one_more};
+ghost use Rattle.capnp_arena.specs.Limits.{IsSmall};
+ghost use Rattle.capnp_arena.specs.Output.{output_bytes, is_single};
+ghost use Rattle.capnp_arena.specs.Row.{shown, capacity_at};
+ghost use Rattle.capnp_arena.specs.Taking.{IsFull, IsFirstFit, IsRefusal, SameRoomBelow, with_another};
+ghost use Rattle.capnp_arena.specs.Written.{extended};
+
+use crate::arena::builder_arena::sealed::Closed;
+use crate::arena::row::Row;
+use crate::arena::{Allocator, BuilderArena, OutputSegments, ReaderArena, SegmentId};
+use capnp_words::error::ErrorKind;
+use std::alloc::Global;
+
+/// A message of any number of segments, each of an allocator. Its nesting limit is 0x7fffffff, and reading it charges nothing.
+///
+/// Dropping it gives each segment back to the allocator once, in order of number.
+pub struct BuilderArenaImpl<A: Allocator> {
+    alloc: Global,
+    allocator: A,
+    rows: Vec<Row<A::Segment>>,
+    ghost few: { length rows.items ≤ max_segments },
+}
+
+impl<A: Allocator> Drop for BuilderArenaImpl<A> {
+    fn drop(self) {
+        let BuilderArenaImpl {
+            alloc: _,
+            mut allocator,
+            mut rows,
+        } = self;
+        rows.reverse();
+        while let Some(Row { segment, used }) = rows.pop() {
+            allocator.deallocate_segment(segment, used);
+        }
+        rows.destroy_empty();
+    }
+}
+
+impl<A: Allocator> BuilderArenaImpl<A> {
+    /// An arena with no segment.
+    pub fn new(alloc: Global, allocator: A) -> Self
+        ensures segments { ⟦<Self as ReaderArena>⟧.segments result ≡ [] }
+        ensures refusals { ⟦<Self as BuilderArena>⟧.refusals result ≡ A.refusals allocator }
+        ensures offers { ⟦<Self as BuilderArena>⟧.offers result ≡ A.offers allocator }
+    {
+        BuilderArenaImpl {
+            alloc,
+            allocator,
+            rows: Vec::new(alloc),
+        }
+    }
+
+    /// How many segments there are.
+    pub fn len(&self) -> usize
+        ensures { result ≡ length (⟦<Self as ReaderArena>⟧.segments self.now) }
+    {
+        self.rows.len()
+    }
+
+    /// Whether there is no segment.
+    pub fn is_empty(&self) -> bool
+        ensures { IsTrue result ↔ (length (⟦<Self as ReaderArena>⟧.segments self.now) ≡ 0) }
+    {
+        self.rows.is_empty()
+    }
+
+    /// Gives each segment back to the allocator once, in order of number, and then the allocator itself.
+    pub fn into_allocator(self) -> A
+        ensures refusals { A.refusals result ≡ A.refusals self.allocator }
+        ensures offers { A.offers result ≡ A.offers self.allocator }
+    {
+        let BuilderArenaImpl {
+            alloc: _,
+            mut allocator,
+            mut rows,
+        } = self;
+        rows.reverse();
+        while let Some(Row { segment, used }) = rows.pop() {
+            allocator.deallocate_segment(segment, used);
+        }
+        rows.destroy_empty();
+        allocator
+    }
+
+    /// Puts a segment of at least `min` words behind the others, with none of its words allocated.
+    ///
+    /// `MessageTooLarge(usize::MAX)` says that there are 4,294,967,295 segments, else `MessageTooLarge(min)` that `min` is above 536,870,911; `AllocationFailed` is want of memory. A refusal changes nothing but `refused`.
+    #[tactic(auto, using(crate::proofs::TakingLemmas::pushed))]
+    pub fn allocate_segment(&mut self, min: u32) -> Result<(), ErrorKind>
+        ensures made { OnOk result (⟦<Self as ReaderArena>⟧.segments self.new ≡ ⟦<Self as ReaderArena>⟧.segments self.old ++ [] ∷ []) }
+        ensures least { OnOk result (min ≤ ⟦<Self as BuilderArena>⟧.room self.new (length (⟦<Self as ReaderArena>⟧.segments self.old))) }
+        ensures size { OnOk result (IsTrue (⟦<Self as BuilderArena>⟧.offers self.old min (⟦<Self as BuilderArena>⟧.room self.new (length (⟦<Self as ReaderArena>⟧.segments self.old))))) }
+        ensures granted { OnOk result (⟦<Self as BuilderArena>⟧.refusals self.new ≡ ⟦<Self as BuilderArena>⟧.refusals self.old) }
+        ensures room { SameRoomBelow (length (⟦<Self as ReaderArena>⟧.segments self.old)) (⟦<Self as BuilderArena>⟧.room self.old) (⟦<Self as BuilderArena>⟧.room self.new) }
+        ensures many { length (⟦<Self as ReaderArena>⟧.segments self.old) ≡ max_segments → result ≡ Err (MessageTooLarge usize.MAX) }
+        ensures large { length (⟦<Self as ReaderArena>⟧.segments self.old) < max_segments → max_words < min → result ≡ Err (MessageTooLarge min) }
+        ensures named { IfErr result (λ e. IsRefusal e min (length (⟦<Self as ReaderArena>⟧.segments self.old)) (⟦<Self as BuilderArena>⟧.refusals self.old) (⟦<Self as BuilderArena>⟧.refusals self.new)) }
+        ensures refused { OnErr result (⟦<Self as ReaderArena>⟧.segments self.new ≡ ⟦<Self as ReaderArena>⟧.segments self.old) }
+        ensures refused_room { OnErr result (⟦<Self as BuilderArena>⟧.room self.new ≡ ⟦<Self as BuilderArena>⟧.room self.old) }
+        ensures offers { ⟦<Self as BuilderArena>⟧.offers self.new ≡ ⟦<Self as BuilderArena>⟧.offers self.old }
+    {
+        if self.rows.len() >= 0xffff_ffff {
+            return Err(ErrorKind::MessageTooLarge(usize::MAX));
+        }
+        let segment = self.allocator.allocate_segment(min)?;
+        match self.allocator.keep(&mut self.rows, Row::new(segment)) {
+            None => Ok(()),
+            Some(Row { segment, used }) => {
+                self.allocator.deallocate_segment(segment, used);
+                Err(ErrorKind::AllocationFailed)
+            }
+        }
+    }
+
+    /// The allocated words of each segment, within the limits of a reader. It takes memory where there is not exactly one segment, and want of it is `AllocationFailed`.
+    pub fn get_segments_for_output(&self) -> Result<OutputSegments<'_>, ErrorKind>
+        ensures bytes { IfOk result (λ o. output_bytes o ≡ ⟦<Self as ReaderArena>⟧.segments self.now) }
+        ensures small { IfOk result (λ o. IsSmall (output_bytes o)) }
+        ensures single { IfOk result (λ o. IsTrue (is_single o) ↔ (length (⟦<Self as ReaderArena>⟧.segments self.now) ≡ 1)) }
+        ensures one { length (⟦<Self as ReaderArena>⟧.segments self.now) ≡ 1 → IsOk result }
+        ensures named { IfErr result (λ e. e ≡ AllocationFailed) }
+    {
+        if self.rows.len() == 1 {
+            return Ok(OutputSegments::SingleSegment(self.rows[0].allocated()));
+        }
+        match Vec::with_capacity(self.alloc, self.rows.len()) {
+            Ok(mut segments) => {
+                for row in self.rows.iter() {
+                    if segments.push(row.allocated()).is_err() {
+                        return Err(ErrorKind::AllocationFailed);
+                    }
+                }
+                Ok(OutputSegments::MultiSegment(segments))
+            }
+            Err(_) => Err(ErrorKind::AllocationFailed),
+        }
+    }
+
+    /// Whether a segment has room for so many words more.
+    fn has_room(&self, id: u32, amount: u32) -> bool
+        requires { id < length (⟦<Self as ReaderArena>⟧.segments self.now) }
+        ensures room { IsTrue result ↔ (length (segment (message (⟦<Self as ReaderArena>⟧.segments self.now)) id) + amount ≤ ⟦<Self as BuilderArena>⟧.room self.now id) }
+        ensures small { length (segment (message (⟦<Self as ReaderArena>⟧.segments self.now)) id) < 2 ^ 29 }
+    {
+        self.rows[id as usize].has_room(amount)
+    }
+
+    /// The first segment that has room for so many words more.
+    #[tactic(auto, using(crate::proofs::RowsLemmas::counting))]
+    fn first_fit(&self, amount: u32) -> Option<u32>
+        ensures fit { IfSome result (λ k. IsFirstFit (message (⟦<Self as ReaderArena>⟧.segments self.now)) (⟦<Self as BuilderArena>⟧.room self.now) amount k) }
+        ensures full { IsNone result → IsFull (message (⟦<Self as ReaderArena>⟧.segments self.now)) (⟦<Self as BuilderArena>⟧.room self.now) amount }
+    {
+        for id in 0..self.rows.len() as u32 {
+            if self.has_room(id, amount) {
+                return Some(id);
+            }
+        }
+        None
+    }
+
+    /// Takes words at the end of a segment that has room for them.
+    #[tactic(auto, using(crate::proofs::RowsLemmas::rows_written))]
+    fn take(&mut self, id: u32, amount: u32) -> u32
+        requires there { id < length (⟦<Self as ReaderArena>⟧.segments self.old) }
+        requires fits { length (segment (message (⟦<Self as ReaderArena>⟧.segments self.old)) id) + amount ≤ ⟦<Self as BuilderArena>⟧.room self.old id }
+        ensures at { result ≡ length (segment (message (⟦<Self as ReaderArena>⟧.segments self.old)) id) }
+        ensures words { message (⟦<Self as ReaderArena>⟧.segments self.new) ≡ extended (message (⟦<Self as ReaderArena>⟧.segments self.old)) id (replicate amount 0) }
+        ensures length { length (segment (message (⟦<Self as ReaderArena>⟧.segments self.new)) id) ≡ result + amount }
+        ensures small { result + amount < 2 ^ 29 }
+        ensures room { ⟦<Self as BuilderArena>⟧.room self.new ≡ ⟦<Self as BuilderArena>⟧.room self.old }
+        ensures allocator { self.new.allocator ≡ self.old.allocator }
+    {
+        let row = &mut self.rows[id as usize];
+        row.take(amount)
+    }
+
+    /// Takes words in a new segment behind the others, and gives its number.
+    #[tactic(auto, using(crate::proofs::TakingLemmas::another))]
+    fn take_another(&mut self, amount: u32) -> Result<u32, ErrorKind>
+        ensures taken { IfOk result (λ k. (k ≡ length (⟦<Self as ReaderArena>⟧.segments self.old)) × (message (⟦<Self as ReaderArena>⟧.segments self.new) ≡ with_another (message (⟦<Self as ReaderArena>⟧.segments self.old)) amount)) }
+        ensures least { IfOk result (λ k. amount ≤ ⟦<Self as BuilderArena>⟧.room self.new k) }
+        ensures size { IfOk result (λ k. IsTrue (⟦<Self as BuilderArena>⟧.offers self.old amount (⟦<Self as BuilderArena>⟧.room self.new k))) }
+        ensures granted { OnOk result (⟦<Self as BuilderArena>⟧.refusals self.new ≡ ⟦<Self as BuilderArena>⟧.refusals self.old) }
+        ensures room { SameRoomBelow (length (⟦<Self as ReaderArena>⟧.segments self.old)) (⟦<Self as BuilderArena>⟧.room self.old) (⟦<Self as BuilderArena>⟧.room self.new) }
+        ensures many { length (⟦<Self as ReaderArena>⟧.segments self.old) ≡ max_segments → result ≡ Err (MessageTooLarge usize.MAX) }
+        ensures large { length (⟦<Self as ReaderArena>⟧.segments self.old) < max_segments → max_words < amount → result ≡ Err (MessageTooLarge amount) }
+        ensures named { IfErr result (λ e. IsRefusal e amount (length (⟦<Self as ReaderArena>⟧.segments self.old)) (⟦<Self as BuilderArena>⟧.refusals self.old) (⟦<Self as BuilderArena>⟧.refusals self.new)) }
+        ensures refused { OnErr result (⟦<Self as ReaderArena>⟧.segments self.new ≡ ⟦<Self as ReaderArena>⟧.segments self.old) }
+        ensures refused_room { OnErr result (⟦<Self as BuilderArena>⟧.room self.new ≡ ⟦<Self as BuilderArena>⟧.room self.old) }
+        ensures offers { ⟦<Self as BuilderArena>⟧.offers self.new ≡ ⟦<Self as BuilderArena>⟧.offers self.old }
+    {
+        let id = self.rows.len();
+        self.allocate_segment(amount)?;
+        let id = id as u32;
+        let _at = self.take(id, amount);
+        Ok(id)
+    }
+}
+
+impl<A: Allocator> ReaderArena for BuilderArenaImpl<A> {
+    ghost segments = { λ b. shown A.Segment.Segment b.rows.items };
+
+    ghost nesting = { λ _. pos 2147483647 };
+
+    ghost charging = { λ _. false };
+
+    ghost absent = { λ _ id. InvalidSegmentId id };
+
+    ghost absent_named = { λ _ _ _. refl };
+
+    #[tactic(auto, using(crate::proofs::RowsLemmas::reading))]
+    fn get_segment(&self, id: u32) -> Result<&[u8], ErrorKind> {
+        match self.rows.get(id as usize) {
+            Some(row) => Ok(row.allocated()),
+            None => Err(ErrorKind::InvalidSegmentId(id)),
+        }
+    }
+
+    fn nesting_limit(&self) -> i32 {
+        0x7fff_ffff
+    }
+
+    fn charges(&self) -> bool {
+        false
+    }
+
+    fn size_in_words(&self) -> usize {
+        let mut words = 0;
+        for row in self.rows.iter() {
+            words += row.used as usize;
+        }
+        words
+    }
+}
+
+impl<A: Allocator> Closed for BuilderArenaImpl<A> {}
+
+impl<A: Allocator> BuilderArena for BuilderArenaImpl<A> {
+    ghost room = { λ b. capacity_at A.Segment.Segment b.rows.items };
+
+    ghost refusals = { λ b. A.refusals b.allocator };
+
+    ghost offers = { λ b. A.offers b.allocator };
+
+    #[tactic(auto, using(crate::proofs::RowsLemmas::rows_written))]
+    fn set_word(&mut self, id: u32, at: u32, word: u64) {
+        let row = &mut self.rows[id as usize];
+        row.set_word(at, word);
+    }
+
+    #[tactic(auto, using(crate::proofs::RowsLemmas::rows_written))]
+    fn copy_words(&mut self, id: u32, at: u32, from: &[u8]) {
+        let row = &mut self.rows[id as usize];
+        row.copy_words(at, from);
+    }
+
+    #[tactic(auto, using(crate::proofs::RowsLemmas::rows_written))]
+    fn zero_words(&mut self, id: u32, at: u32, n: u32) {
+        let row = &mut self.rows[id as usize];
+        row.zero_words(at, n);
+    }
+
+    fn allocate(&mut self, id: u32, amount: u32) -> Option<u32> {
+        if self.has_room(id, amount) {
+            Some(self.take(id, amount))
+        } else {
+            None
+        }
+    }
+
+    #[tactic(auto, using(crate::proofs::TakingLemmas::found))]
+    fn allocate_anywhere(&mut self, amount: u32) -> Result<(SegmentId, u32), ErrorKind> {
+        match self.first_fit(amount) {
+            Some(id) => {
+                let at = self.take(id, amount);
+                Ok((id, at))
+            }
+            None => {
+                let id = self.take_another(amount)?;
+                Ok((id, 0))
+            }
+        }
+    }
+
+    fn as_reader(&self) -> &Self {
+        self
+    }
+
+    fn refused(&self) -> u64 {
+        self.allocator.refused()
+    }
+}

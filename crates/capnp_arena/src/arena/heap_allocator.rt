@@ -1,0 +1,96 @@
+//! Segments on the heap.
+ghost use Rattle.std.specs.Prelude.{◌≡◌, ◌≤◌, ◌==◌, max};
+ghost use Rattle.capnp_arena.specs.Allocations.{max_words};
+
+use crate::arena::{Allocator, Segment};
+use capnp_words::error::ErrorKind;
+use std::alloc::Global;
+
+/// A segment on the heap.
+#[derive(Drop)]
+pub struct HeapSegment {
+    bytes: Vec<u8>,
+}
+
+impl Segment for HeapSegment {
+    ghost use Rattle.capnp_arena.specs.Heap.{with_bytes, with_bytes-holds};
+
+    ghost content = { λ s. s.bytes.items };
+
+    ghost with_content = { with_bytes };
+
+    ghost holds = { with_bytes-holds };
+
+    fn bytes(&self) -> &[u8] {
+        self.bytes.as_slice()
+    }
+
+    fn bytes_mut(&mut self) -> &mut [u8] {
+        self.bytes.as_mut_slice()
+    }
+}
+
+/// Makes segments on the heap, each of the greater of `words` and what is asked for.
+#[derive(Drop)]
+pub struct HeapAllocator {
+    alloc: Global,
+    words: u32,
+    refused: u64,
+    ghost small: { words ≤ max_words },
+}
+
+impl HeapAllocator {
+    /// An allocator that has refused nothing yet. `words`, the least number of words of a segment, is at most 536,870,911.
+    pub fn new(alloc: Global, words: u32) -> Self
+        requires { words ≤ max_words }
+        ensures words { result.words ≡ words }
+        ensures refused { result.refused ≡ 0 }
+    {
+        HeapAllocator {
+            alloc,
+            words,
+            refused: 0,
+        }
+    }
+}
+
+impl Allocator for HeapAllocator {
+    type Segment = HeapSegment;
+
+    ghost refusals = { λ a. a.refused };
+
+    ghost offers = { λ a asked words. words == max a.words asked };
+
+    fn allocate_segment(&mut self, min_words: u32) -> Result<HeapSegment, ErrorKind> {
+        if min_words > 0x1fff_ffff {
+            return Err(ErrorKind::MessageTooLarge(min_words as usize));
+        }
+        let words = self.words.max(min_words);
+        match Vec::from_elem(self.alloc, 0u8, 8 * words as usize) {
+            Ok(bytes) => Ok(HeapSegment { bytes }),
+            Err(_) => {
+                self.refused = self.refused.saturating_add(1);
+                Err(ErrorKind::AllocationFailed)
+            }
+        }
+    }
+
+    fn deallocate_segment(&mut self, segment: HeapSegment, _used_words: u32) {
+        drop(segment);
+    }
+
+    fn keep<T>(&mut self, list: &mut Vec<T>, row: T) -> Option<T> {
+        match list.push(row) {
+            Ok(()) => None,
+            Err(e) => {
+                self.refused = self.refused.saturating_add(1);
+                let row = e.value;
+                Some(row)
+            }
+        }
+    }
+
+    fn refused(&self) -> u64 {
+        self.refused
+    }
+}

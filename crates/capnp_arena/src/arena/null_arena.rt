@@ -1,0 +1,40 @@
+//! The arena of no message.
+ghost use Rattle.std.specs.Prelude.{[], pos, false};
+ghost use Rattle.capnp_words.specs.declared.error.ErrorKind.TheVariants.{TriedToReadFromNullArena};
+
+use crate::arena::ReaderArena;
+use capnp_words::error::ErrorKind;
+
+/// An arena with no place in it. Whatever asks for one is `TriedToReadFromNullArena`; it charges nothing, and its nesting limit is 0x7fffffff.
+#[derive(Clone, Copy)]
+pub struct NullArena;
+
+impl ReaderArena for NullArena {
+    ghost segments = { λ _. [] };
+
+    ghost nesting = { λ _. pos 2147483647 };
+
+    ghost charging = { λ _. false };
+
+    ghost absent = { λ _ _. TriedToReadFromNullArena };
+
+    ghost use Rattle.std.proofs.Common.{arith};
+
+    ghost absent_named = { λ a id h. absurd (omega arith) };
+
+    fn get_segment(&self, _id: u32) -> Result<&[u8], ErrorKind> {
+        Err(ErrorKind::TriedToReadFromNullArena)
+    }
+
+    fn nesting_limit(&self) -> i32 {
+        0x7fff_ffff
+    }
+
+    fn charges(&self) -> bool {
+        false
+    }
+
+    fn size_in_words(&self) -> usize {
+        0
+    }
+}

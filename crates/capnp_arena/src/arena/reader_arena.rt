@@ -1,0 +1,99 @@
+//! Arenas that are read.
+ghost use Rattle.std.specs.Prelude.{◌≡◌, ◌<◌, ◌≤◌, ◌+◌, ◌*◌, ◌/◌, ◌^◌, ◌↔◌, ◌⊎◌, ℕ, ℤ, pos, ◌+ℤ◌, List, Bool, length, IsOk, IfOk, OnOk, OnErr, IfErr, Some, slice_get};
+ghost use Rattle.capnp_words.specs.Segments.{segment};
+ghost use Rattle.capnp_words.specs.Bytes.{words_of, message};
+ghost use Rattle.capnp_words.specs.Meter.{Affords, charged};
+ghost use Rattle.capnp_arena.specs.Checks.{Holds, IsOffset, misplaced, total_words};
+ghost use Rattle.capnp_words.specs.declared.error.ErrorKind.{ErrorKind};
+ghost use Rattle.capnp_words.specs.declared.error.ErrorKind.TheVariants.{InvalidSegmentId, ReadLimitExceeded};
+
+use capnp_words::error::ErrorKind;
+use capnp_words::read_limiter::ReadLimiter;
+
+/// What readers ask of a message.
+pub trait ReaderArena {
+    // The whole words of each segment, as bytes.
+    ghost segments: { Self → List (List ℕ) };
+
+    ghost nesting: { Self → ℤ };
+
+    // Whether reading is charged and counted at all.
+    ghost charging: { Self → Bool };
+
+    // The refusal of a segment that is not there.
+    ghost absent: { Self → ℕ → ErrorKind };
+
+    // Where there are segments at all, a number beyond them is refused by this name.
+    ghost absent_named: { (a : Self) (id : ℕ) → 0 < length (segments a) → absent a id ≡ InvalidSegmentId id };
+
+    fn get_segment(&self, id: u32) -> Result<&[u8], ErrorKind>
+        ensures there { IsOk result ↔ (id < length (segments self.now)) }
+        ensures bytes { IfOk result (λ s. slice_get (segments self.now) id ≡ Some s.now) }
+        ensures words { IfOk result (λ s. words_of s.now ≡ segment (message (segments self.now)) id) }
+        ensures whole { IfOk result (λ s. length s.now ≡ 8 * length (segment (message (segments self.now)) id)) }
+        ensures small { IfOk result (λ s. length s.now < 8 * 2 ^ 32) }
+        ensures named { IfErr result (λ e. e ≡ absent self.now id) };
+
+    fn nesting_limit(&self) -> i32
+        ensures { result ≡ nesting self.now };
+
+    fn charges(&self) -> bool
+        ensures { result ≡ charging self.now };
+
+    fn size_in_words(&self) -> usize
+        ensures { result ≡ total_words (segments self.now) };
+
+    #[tactic(auto, using(crate::proofs::MessageLemmas::placing))]
+    fn check_offset(&self, id: u32, start: u32, offset: i32) -> Result<u32, ErrorKind>
+        ensures exactly { IsOk result ↔ IsOffset (message (segments self.now)) id start offset }
+        ensures value { IfOk result (λ r. pos r ≡ pos start +ℤ offset) }
+        ensures named { IfErr result (λ e. e ≡ misplaced (message (segments self.now)) id (absent self.now id)) }
+    {
+        let length = self.get_segment(id)?.len() / 8;
+        let at = start as i64 + offset as i64;
+        if start as usize <= length && 0 <= at && at <= length as i64 {
+            Ok(at as u32)
+        } else {
+            Err(ErrorKind::MessageContainsOutOfBoundsPointer)
+        }
+    }
+
+    fn amplified_read(&self, amount: u64, lim: &mut ReadLimiter) -> Result<(), ErrorKind>
+        ensures exactly { IsOk result ↔ Affords (charging self.now) lim.old amount }
+        ensures granted { OnOk result (lim.new ≡ charged (charging self.now) lim.old amount) }
+        ensures refused { OnErr result (lim.new ≡ lim.old) }
+        ensures named { IfErr result (λ e. e ≡ ReadLimitExceeded) }
+    {
+        if self.charges() {
+            lim.can_read(amount as usize)
+        } else {
+            Ok(())
+        }
+    }
+
+    #[tactic(auto, using(crate::proofs::MessageLemmas::placing))]
+    fn contains_interval(
+        &self,
+        id: u32,
+        start: u32,
+        size: usize,
+        lim: &mut ReadLimiter,
+    ) -> Result<(), ErrorKind>
+        ensures exactly { IsOk result ↔ Holds (message (segments self.now)) id start size × Affords (charging self.now) lim.old size }
+        ensures granted { OnOk result (lim.new ≡ charged (charging self.now) lim.old size) }
+        ensures refused { OnErr result (lim.new ≡ lim.old) }
+        ensures outside { IfErr result (λ e. (Holds (message (segments self.now)) id start size → ⊥) → e ≡ misplaced (message (segments self.now)) id (absent self.now id)) }
+        ensures budget { IfErr result (λ e. Holds (message (segments self.now)) id start size → e ≡ ReadLimitExceeded) }
+    {
+        let length = self.get_segment(id)?.len() / 8;
+        if start as usize <= length && size <= length - start as usize {
+            if self.charges() {
+                lim.can_read(size)
+            } else {
+                Ok(())
+            }
+        } else {
+            Err(ErrorKind::MessageContainsOutOfBoundsPointer)
+        }
+    }
+}

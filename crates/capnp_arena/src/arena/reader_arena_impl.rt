@@ -1,0 +1,104 @@
+//! The arena of a message that is read.
+ghost use Rattle.std.specs.Prelude.{◌≡◌, ◌<◌, ◌+◌, ◌*◌, ◌/◌, ◌^◌, ℕ, ℤ, pos, List, length, map, true, refl, Some, None};
+ghost use Rattle.capnp_arena.specs.Limits.{whole, IsSmall};
+ghost use Rattle.capnp_arena.specs.Checks.{total_words};
+ghost use Rattle.capnp_words.specs.declared.error.ErrorKind.TheVariants.{InvalidSegmentId};
+
+use crate::arena::{ReaderArena, ReaderSegments};
+use capnp_words::error::ErrorKind;
+
+/// How much of a message may be read. The default is 8,388,608 words and a nesting limit of 64.
+#[derive(Clone, Copy)]
+pub struct ReaderOptions {
+    /// How many words may be traversed, `None` for no limit. A program makes its `ReadLimiter` of it.
+    pub traversal_limit_in_words: Option<usize>,
+    /// How many levels of structs and lists may be entered, one inside the other.
+    pub nesting_limit: i32,
+}
+
+impl Default for ReaderOptions {
+    fn default() -> Self
+        ensures words { result.traversal_limit_in_words ≡ Some 8388608 }
+        ensures nesting { result.nesting_limit ≡ pos 64 }
+    {
+        ReaderOptions {
+            traversal_limit_in_words: Some(8_388_608),
+            nesting_limit: 64,
+        }
+    }
+}
+
+/// The arena of a message, over the whole words of its segments; up to 7 bytes behind the last word of a segment are not looked at.
+#[derive(Drop)]
+pub struct ReaderArenaImpl<S: ReaderSegments> {
+    segments: S,
+    nesting_limit: i32,
+    words: usize,
+    ghost small: { IsSmall (S.segments segments) },
+    ghost counted: { words ≡ total_words (S.segments segments) },
+}
+
+impl<S: ReaderSegments> ReaderArenaImpl<S> {
+    /// The arena of these segments. There are fewer than 2^32 segments, and each has fewer than 2^32 words.
+    pub fn new(segments: S, options: ReaderOptions) -> Self
+        requires { IsSmall (S.segments segments) }
+        ensures segments { result.segments ≡ segments }
+        ensures nesting { result.nesting_limit ≡ options.nesting_limit }
+    {
+        let mut words = 0;
+        for id in 0..segments.len() as u64 {
+            if let Some(segment) = segments.get_segment(id as u32) {
+                words += segment.len() / 8;
+            }
+        }
+        ReaderArenaImpl {
+            segments,
+            nesting_limit: options.nesting_limit,
+            words,
+        }
+    }
+
+    /// The segments that `new` took.
+    pub fn into_segments(self) -> S
+        ensures { result ≡ self.segments }
+    {
+        let ReaderArenaImpl {
+            segments,
+            nesting_limit: _,
+            words: _,
+        } = self;
+        segments
+    }
+}
+
+impl<S: ReaderSegments> ReaderArena for ReaderArenaImpl<S> {
+    ghost segments = { λ a. map whole (S.segments a.segments) };
+
+    ghost nesting = { λ a. a.nesting_limit };
+
+    ghost charging = { λ _. true };
+
+    ghost absent = { λ _ id. InvalidSegmentId id };
+
+    ghost absent_named = { λ _ _ _. refl };
+
+    #[tactic(auto, using(crate::proofs::MessageLemmas::wholes))]
+    fn get_segment(&self, id: u32) -> Result<&[u8], ErrorKind> {
+        match self.segments.get_segment(id) {
+            Some(s) => Ok(&s[..8 * (s.len() / 8)]),
+            None => Err(ErrorKind::InvalidSegmentId(id)),
+        }
+    }
+
+    fn nesting_limit(&self) -> i32 {
+        self.nesting_limit
+    }
+
+    fn charges(&self) -> bool {
+        true
+    }
+
+    fn size_in_words(&self) -> usize {
+        self.words
+    }
+}

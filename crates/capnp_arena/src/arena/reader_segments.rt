@@ -1,0 +1,64 @@
+//! Where a reader's segments come from.
+ghost use Rattle.std.specs.Prelude.{◌≡◌, ◌<◌, ◌↔◌, ℕ, List, length, map, IsTrue, IsSome, IfSome, Some, slice_get};
+ghost use Rattle.capnp_arena.specs.Limits.{AreSmall};
+
+/// The segments of a message, as bytes. Section "Messages" of the encoding specification.
+pub trait ReaderSegments {
+    // The bytes of each segment, those behind its last whole word included.
+    ghost segments: { Self → List (List ℕ) };
+
+    /// The bytes of a segment, `None` exactly where `id` is not below `len`.
+    fn get_segment(&self, id: u32) -> Option<&[u8]>
+        ensures there { IsSome result ↔ (id < length (segments self.now)) }
+        ensures bytes { IfSome result (λ s. slice_get (segments self.now) id ≡ Some s.now) };
+
+    /// How many segments there are.
+    fn len(&self) -> usize
+        ensures { result ≡ length (segments self.now) };
+
+    /// Whether there are none.
+    fn is_empty(&self) -> bool
+        ensures { IsTrue result ↔ (length (segments self.now) ≡ 0) };
+}
+
+/// Borrowed segments, within the limits of a reader.
+#[derive(Clone, Copy)]
+pub struct SegmentArray<'a> {
+    segments: &'a [&'a [u8]],
+}
+
+impl<'a> SegmentArray<'a> {
+    /// The segments in this order. `None` exactly where there are 2^32 segments or more, or where one has 2^32 words or more.
+    pub fn new(segments: &'a [&'a [u8]]) -> Option<Self>
+        ensures exactly { IsSome result ↔ AreSmall segments.now }
+        ensures segments { IfSome result (λ r. r.segments.now ≡ segments.now) }
+    {
+        if segments.len() >= 0x1_0000_0000 {
+            return None;
+        }
+        if segments.iter().all(|s| s.len() / 8 < 0x1_0000_0000) {
+            Some(SegmentArray { segments })
+        } else {
+            None
+        }
+    }
+}
+
+impl ReaderSegments for SegmentArray<'_> {
+    ghost segments = { λ a. map (λ s. s.now) a.segments.now };
+
+    fn get_segment(&self, id: u32) -> Option<&[u8]> {
+        match self.segments.get(id as usize) {
+            Some(s) => Some(*s),
+            None => None,
+        }
+    }
+
+    fn len(&self) -> usize {
+        self.segments.len()
+    }
+
+    fn is_empty(&self) -> bool {
+        self.segments.is_empty()
+    }
+}

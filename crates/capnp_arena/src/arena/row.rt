@@ -1,0 +1,124 @@
+//! A segment of a builder arena, and how much of it is allocated.
+ghost use Rattle.std.specs.Prelude.{◌≡◌, ◌<◌, ◌≤◌, ◌+◌, ◌-◌, ◌*◌, ◌/◌, ◌↔◌, ◌++◌, [], ℕ, List, length, take, drop, replicate, slice_set, IsTrue};
+ghost use Rattle.capnp_words.specs.Bytes.{words_of};
+ghost use Rattle.capnp_arena.specs.Allocations.{IsRow, max_words, zeros};
+ghost use Rattle.capnp_arena.specs.Written.{overwritten};
+
+use crate::arena::Segment;
+use capnp_words::words;
+
+/// Writes a word below the first `end` words.
+#[tactic(auto, using(crate::proofs::RowLemmas::kept))]
+fn put_below(bytes: &mut [u8], end: usize, at: usize, word: u64)
+    requires inside { at < end }
+    requires room { 8 * end ≤ length bytes.old }
+    ensures words { words_of (take (8 * end) bytes.new) ≡ slice_set (words_of (take (8 * end) bytes.old)) at word }
+    ensures rest { drop (8 * end) bytes.new ≡ drop (8 * end) bytes.old }
+{
+    words::put_word(&mut bytes[..8 * end], at, word);
+}
+
+/// Writes words below the first `end` words.
+#[tactic(auto, using(crate::proofs::RowLemmas::kept))]
+fn copy_below(bytes: &mut [u8], end: usize, at: usize, from: &[u8])
+    requires whole { length from.now ≡ 8 * length (words_of from.now) }
+    requires inside { at + length (words_of from.now) ≤ end }
+    requires room { 8 * end ≤ length bytes.old }
+    ensures words { words_of (take (8 * end) bytes.new) ≡ overwritten (words_of (take (8 * end) bytes.old)) at (words_of from.now) }
+    ensures rest { drop (8 * end) bytes.new ≡ drop (8 * end) bytes.old }
+{
+    words::copy_words(&mut bytes[..8 * end], at, from);
+}
+
+/// Writes `n` words of zero below the first `end` words.
+#[tactic(auto, using(crate::proofs::RowLemmas::kept_zeros))]
+fn zero_below(bytes: &mut [u8], end: usize, at: usize, n: usize)
+    requires inside { at + n ≤ end }
+    requires room { 8 * end ≤ length bytes.old }
+    ensures words { words_of (take (8 * end) bytes.new) ≡ overwritten (words_of (take (8 * end) bytes.old)) at (replicate n 0) }
+    ensures rest { drop (8 * end) bytes.new ≡ drop (8 * end) bytes.old }
+{
+    words::zero_words(&mut bytes[..8 * end], at, n);
+}
+
+/// A segment, and how many of its words are allocated; the others are zero.
+pub(crate) struct Row<S: Segment> {
+    pub(crate) segment: S,
+    pub(crate) used: u32,
+    ghost clear: { IsRow used (S.content segment) },
+}
+
+impl<S: Segment> Row<S> {
+    ghost use Rattle.capnp_arena.specs.Row.{allocated, capacity};
+
+    pub(crate) fn allocated(&self) -> &[u8]
+        ensures { result.now ≡ allocated S.Segment self.now }
+    {
+        &self.segment.bytes()[..8 * self.used as usize]
+    }
+
+    pub(crate) fn new(segment: S) -> Row<S>
+        requires fresh { S.content segment ≡ zeros (length (S.content segment) / 8) }
+        requires small { length (S.content segment) / 8 ≤ max_words }
+        ensures none { allocated S.Segment result ≡ [] }
+        ensures used { result.used ≡ 0 }
+        ensures segment { result.segment ≡ segment }
+    {
+        Row { segment, used: 0 }
+    }
+
+    /// Whether so many words more can be taken.
+    pub(crate) fn has_room(&self, amount: u32) -> bool
+        ensures { IsTrue result ↔ (self.now.used + amount ≤ capacity S.Segment self.now) }
+    {
+        self.used as usize + amount as usize <= self.segment.bytes().len() / 8
+    }
+
+    /// Takes so many words behind the others, which are zero.
+    #[tactic(auto, using(crate::proofs::RowLemmas::taking))]
+    pub(crate) fn take(&mut self, amount: u32) -> u32
+        requires { self.old.used + amount ≤ capacity S.Segment self.old }
+        ensures at { result ≡ self.old.used }
+        ensures taken { words_of (allocated S.Segment self.new) ≡ words_of (allocated S.Segment self.old) ++ replicate amount 0 }
+        ensures used { self.new.used ≡ self.old.used + amount }
+        ensures capacity { capacity S.Segment self.new ≡ capacity S.Segment self.old }
+    {
+        let at = self.used;
+        self.used = at + amount;
+        at
+    }
+
+    #[tactic(auto, using(crate::proofs::RowLemmas::written))]
+    pub(crate) fn set_word(&mut self, at: u32, word: u64)
+        requires { at < self.old.used }
+        ensures words { words_of (allocated S.Segment self.new) ≡ slice_set (words_of (allocated S.Segment self.old)) at word }
+        ensures used { self.new.used ≡ self.old.used }
+        ensures capacity { capacity S.Segment self.new ≡ capacity S.Segment self.old }
+    {
+        let end = self.used as usize;
+        put_below(self.segment.bytes_mut(), end, at as usize, word);
+    }
+
+    #[tactic(auto, using(crate::proofs::RowLemmas::written))]
+    pub(crate) fn copy_words(&mut self, at: u32, from: &[u8])
+        requires whole { length from.now ≡ 8 * length (words_of from.now) }
+        requires inside { at + length (words_of from.now) ≤ self.old.used }
+        ensures words { words_of (allocated S.Segment self.new) ≡ overwritten (words_of (allocated S.Segment self.old)) at (words_of from.now) }
+        ensures used { self.new.used ≡ self.old.used }
+        ensures capacity { capacity S.Segment self.new ≡ capacity S.Segment self.old }
+    {
+        let end = self.used as usize;
+        copy_below(self.segment.bytes_mut(), end, at as usize, from);
+    }
+
+    #[tactic(auto, using(crate::proofs::RowLemmas::written))]
+    pub(crate) fn zero_words(&mut self, at: u32, n: u32)
+        requires { at + n ≤ self.old.used }
+        ensures words { words_of (allocated S.Segment self.new) ≡ overwritten (words_of (allocated S.Segment self.old)) at (replicate n 0) }
+        ensures used { self.new.used ≡ self.old.used }
+        ensures capacity { capacity S.Segment self.new ≡ capacity S.Segment self.old }
+    {
+        let end = self.used as usize;
+        zero_below(self.segment.bytes_mut(), end, at as usize, n as usize);
+    }
+}

@@ -1,0 +1,6 @@
+//! Segments, limits and allocation: what a Cap'n Proto message is made of, by the sections "Messages" and "Inter-Segment Pointers" of the encoding specification.
+#![tactic(auto)]
+
+pub mod arena;
+#[cfg(test)]
+mod tests;
