@@ -1,6 +1,6 @@
 -- Words put behind others.
-use Rattle.std.proofs.Common.{◌≡◌, ℕ, zero, suc, ◌<◌, List, [], ◌∷◌, ◌++◌, length, replicate, slice_set, refl, ap, ◌∙◌, arith}
-use Rattle.std.proofs.lemmas.List.{append_assoc}
+use Rattle.std.proofs.Common.{◌≡◌, ℕ, zero, suc, ◌+◌, ◌<◌, List, [], ◌∷◌, ◌++◌, length, replicate, slice_set, refl, ap, ◌∙◌, arith}
+use Rattle.std.proofs.lemmas.List.{append_assoc, length-append}
 use Rattle.capnp_words.specs.Bytes.{message}
 use Rattle.capnp_words.specs.Segments.{Segments, segment}
 use Rattle.capnp_arena.specs.Written.{extended, with_word}
@@ -26,8 +26,14 @@ length_extended [] s xs = refl
 length_extended (t ∷ S) zero xs = refl
 length_extended (t ∷ S) (suc s) xs = ap suc (length_extended S s xs)
 
+-- one word more
+pub segment_longer : (S : Segments) (s x : ℕ) → s < length S → length (segment (extended S s (x ∷ [])) s) ≡ length (segment S s) + 1
+segment_longer [] s x l = absurd (omega arith)
+segment_longer (t ∷ S) zero x l = length-append t (x ∷ [])
+segment_longer (t ∷ S) (suc s) x l = segment_longer S s x (omega arith)
+
 pub length_message : (B : List (List ℕ)) → length (message B) ≡ length B
 length_message [] = refl
 length_message (b ∷ B) = ap suc (length_message B)
 
-pub ruleset extending = (written_last, extended_twice, length_extended, length_message)
+pub ruleset extending = (written_last, extended_twice, segment_longer, length_extended, length_message)

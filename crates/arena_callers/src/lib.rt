@@ -1,7 +1,7 @@
 //! Callers that know an arena by its contracts alone.
 #![tactic(auto)]
 
-ghost use Rattle.std.specs.Prelude.{◌≡◌, ◌<◌, ◌≤◌, ◌+◌, ◌^◌, ◌↔◌, ◌++◌, ◌∷◌, [], length, IsTrue, IsOk, IsSome, IfSome, OnOk, OnErr, slice_set};
+ghost use Rattle.std.specs.Prelude.{◌≡◌, ◌<◌, ◌≤◌, ◌+◌, ◌^◌, ◌↔◌, ◌++◌, ◌∷◌, [], length, IsTrue, IsOk, IsSome, IfSome, OnOk, OnErr, slice_set, slice_index_or, replicate};
 ghost use Rattle.std.specs.Bool.{OnTrue, OnFalse};
 ghost use Rattle.capnp_words.specs.Bytes.{message};
 ghost use Rattle.capnp_words.specs.Segments.{segment};
@@ -31,14 +31,26 @@ pub fn append<A: BuilderArena>(arena: &mut A, id: u32, word: u64) -> bool
     }
 }
 
-/// Puts two words behind a segment's others where both fit, else at most the first.
+/// Takes two words of a segment and writes them. Where only one fits, takes and writes the first alone.
 #[tactic(auto, using(crate::proofs::Extending::extending))]
 pub fn append_both<A: BuilderArena>(arena: &mut A, id: u32, first: u64, second: u64) -> bool
     requires { id < length (A.segments arena.old) }
+    ensures exactly { IsTrue result ↔ (length (segment (message (A.segments arena.old)) id) + 2 ≤ A.room arena.old id) }
     ensures words { OnTrue result (message (A.segments arena.new) ≡ extended (message (A.segments arena.old)) id (first ∷ second ∷ [])) }
+    ensures one { length (segment (message (A.segments arena.old)) id) + 1 ≡ A.room arena.old id → message (A.segments arena.new) ≡ extended (message (A.segments arena.old)) id (first ∷ []) }
+    ensures none { A.room arena.old id ≤ length (segment (message (A.segments arena.old)) id) → A.segments arena.new ≡ A.segments arena.old }
     ensures room { A.room arena.new ≡ A.room arena.old }
 {
     append(arena, id, first) && append(arena, id, second)
+}
+
+/// Makes all allocated words of a segment zero.
+pub fn clear<A: BuilderArena>(arena: &mut A, id: u32)
+    requires { id < length (A.segments arena.old) }
+    ensures words { A.segments arena.new ≡ slice_set (A.segments arena.old) id (replicate (length (slice_index_or (A.segments arena.old) id [])) 0) }
+    ensures room { A.room arena.new ≡ A.room arena.old }
+{
+    arena.segment_mut(id).fill(0);
 }
 
 /// Grants an interval, and says exactly when and what is left.

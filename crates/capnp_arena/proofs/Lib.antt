@@ -1,3 +1,5 @@
+pub mod Fronts
+pub mod LentLemmas
 pub mod MessageLemmas
 pub mod RowLemmas
 pub mod RowsLemmas

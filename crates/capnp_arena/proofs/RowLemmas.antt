@@ -1,5 +1,9 @@
 -- A row's allocated words: written over, and more of them taken.
 use Rattle.std.proofs.Common.{◌≡◌, ℕ, ◌+◌, ◌-◌, ◌*◌, ◌≤◌, List, ◌++◌, length, take, drop, replicate, sym, ap, ◌∙◌, arith, take-add, take_at, drop-drop, length-take, subst}
+use Rattle.std.proofs.Math.Bridge.{le_prop}
+use Rattle.std.proofs.Math.Nat.{ℕ_set}
+use mathlib.Core.List.{is_set}
+use Rattle.capnp_arena.specs.declared.arena.row.Row.{Row}
 use Rattle.std.proofs.lemmas.List.{drop-replicate, take-replicate, length-replicate}
 use borrow.Rule.Slice.PartMut.{put_mid}
 use Rattle.capnp_words.specs.Bytes.{words_of}
@@ -52,3 +56,11 @@ module _ {S : Type 0} (g : Ghosts S) where
   content_is s bytes new same l = g.holds s new (l ∙ ap length same)
 
 pub ruleset written = (same_row, kept_part, content_row, content_is)
+
+-- that a row is clear has one proof at most
+row_once : (used : ℕ) (bytes : List ℕ) (x y : IsRow used bytes) → x ≡ y
+row_once used bytes x y = λ i. (le_prop x.0 y.0 i, le_prop x.1 y.1 i, is_set ℕ_set (drop (8 * used) bytes) (replicate (length bytes - 8 * used) 0) x.2 y.2 i)
+
+module _ {S : Type 0} (g : Ghosts S) where
+  pub same_rows : (s : S) (used : ℕ) (x y : IsRow used (g.content s)) → (let R : Type 0 = Row S g in ◌≡◌ {A = R} (record { segment = s; used = used; clear = x }) (record { segment = s; used = used; clear = y }))
+  same_rows s used x y = λ i. record { segment = s; used = used; clear = row_once used (g.content s) x y i }

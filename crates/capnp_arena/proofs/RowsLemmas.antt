@@ -1,5 +1,5 @@
 -- The rows of a builder arena: one read, one changed, one more.
-use Rattle.std.proofs.Common.{◌≡◌, ℕ, ◌+◌, ◌*◌, ◌/◌, ◌<◌, ◌≤◌, List, [], ◌∷◌, zero, suc, ◌++◌, length, get_or, set, map, take, refl, sym, ap, ◌∙◌, arith, length-take, slice_get, Some, ◌^◌}
+use Rattle.std.proofs.Common.{◌≡◌, ℕ, ◌+◌, ◌/◌, ◌<◌, ◌≤◌, List, [], ◌∷◌, zero, suc, ◌++◌, length, get_or, set, map, take, refl, sym, ap, ◌∙◌, arith, slice_get, Some, ◌^◌}
 use Rattle.capnp_words.specs.Bytes.{words_of, message}
 use Rattle.capnp_words.specs.Segments.{segment}
 use Rattle.capnp_words.proofs.WordsOf.{words}
@@ -11,6 +11,7 @@ use Rattle.capnp_arena.specs.Limits.{IsSmall}
 use Rattle.capnp_arena.specs.Checks.{total_words}
 use Rattle.capnp_arena.proofs.MessageLemmas.{total-more, length-message}
 use Rattle.capnp_arena.specs.Written.{with_segment}
+pub use Rattle.capnp_arena.specs.Lent.{allocated_whole, room_same}
 use Rattle.capnp_arena.specs.declared.arena.allocator.Segment.{Ghosts}
 use Rattle.capnp_arena.specs.declared.arena.row.Row.{Row}
 
@@ -21,11 +22,8 @@ module _ {S : Type 0} (g : Ghosts S) where
   segment_row (r ∷ rows) zero d l = refl
   segment_row (r ∷ rows) (suc i) d l = segment_row rows i d (omega arith)
 
-  pub allocated_whole : (r : Row S g) → length (allocated g r) ≡ 8 * r.used
-  allocated_whole r = omega (arith, length-take (8 * r.used) (g.content r.segment), r.clear.0)
-
   pub row_words : (r : Row S g) → length (words_of (allocated g r)) ≡ r.used
-  row_words r = words (allocated g r) ∙ omega (arith, allocated_whole r)
+  row_words r = words (allocated g r) ∙ omega (arith, allocated_whole g r)
 
   -- one row replaced
   pub row_changed : (rows : List (Row S g)) (i : ℕ) (r : Row S g) → message (shown g (set rows i r)) ≡ with_segment (message (shown g rows)) i (words_of (allocated g r))
@@ -63,18 +61,7 @@ module _ {S : Type 0} (g : Ghosts S) where
   pub room_is : (rows : List (Row S g)) (i : ℕ) (r : Row S g) → i < length rows → r ≡ get_or rows i r → capacity_at g rows i ≡ capacity g r
   room_is rows i r l e = room_row rows i r l ∙ ap (capacity g) (sym e)
 
-  capacities_same : (rows : List (Row S g)) (i : ℕ) (old new : Row S g) → old ≡ get_or rows i old → capacity g new ≡ capacity g old → map (capacity g) (set rows i new) ≡ map (capacity g) rows
-  capacities_same [] i old new e same = refl
-  capacities_same (q ∷ rows) zero old new e same = ap (λ n. n ∷ map (capacity g) rows) (same ∙ ap (capacity g) e)
-  capacities_same (q ∷ rows) (suc i) old new e same = ap (λ xs. capacity g q ∷ xs) (capacities_same rows i old new e same)
-
-  -- a row replaced by one as large leaves the room of each
-  pub room_same : (rows : List (Row S g)) (i : ℕ) (old new : Row S g) → old ≡ get_or rows i old → capacity g new ≡ capacity g old → capacity_at g (set rows i new) ≡ capacity_at g rows
-  room_same rows i old new e same =
-      let at : List ℕ → ℕ → ℕ = λ xs k. get_or xs k 0 in
-      ap at (capacities_same rows i old new e same)
-
-  shown_at : (rows : List (Row S g)) (i : ℕ) (d : Row S g) → i < length rows → slice_get (shown g rows) i ≡ Some (allocated g (get_or rows i d))
+  pub shown_at : (rows : List (Row S g)) (i : ℕ) (d : Row S g) → i < length rows → slice_get (shown g rows) i ≡ Some (allocated g (get_or rows i d))
   shown_at [] i d l = absurd (omega arith)
   shown_at (r ∷ rows) zero d l = refl
   shown_at (r ∷ rows) (suc i) d l = shown_at rows i d (omega arith)
@@ -84,7 +71,7 @@ module _ {S : Type 0} (g : Ghosts S) where
   total_rows rows i r l e =
       total-more (shown g rows) i (allocated g (get_or rows i r)) (shown_at rows i r l)
       ∙ ap (λ (q : Row S g). total_words (take i (shown g rows)) + length (allocated g q) / 8) (sym e)
-      ∙ ap (λ n. total_words (take i (shown g rows)) + n) (omega (arith, allocated_whole r))
+      ∙ ap (λ n. total_words (take i (shown g rows)) + n) (omega (arith, allocated_whole g r))
 
   pub row_small : (r : Row S g) → r.used < 2 ^ 29
   row_small r = omega (arith, r.clear.0, r.clear.1)
@@ -112,7 +99,7 @@ module _ {S : Type 0} (g : Ghosts S) where
     where
       go : (rows : List (Row S g)) (k : ℕ) (s : List ℕ) → slice_get (shown g rows) k ≡ Some s → length s / 8 < 2 ^ 32
       go [] k s e = cc
-      go (r ∷ rows) zero s e = let same : allocated g r ≡ s = cc in omega (arith, ap length same, allocated_whole r, row_small r)
+      go (r ∷ rows) zero s e = let same : allocated g r ≡ s = cc in omega (arith, ap length same, allocated_whole g r, row_small r)
       go (r ∷ rows) (suc k) s e = go rows k s e
 
 pub ruleset reading = (segment_row, allocated_whole, row_words, length_shown)

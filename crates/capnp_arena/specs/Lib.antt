@@ -1,8 +1,10 @@
 pub mod Allocations
 pub mod Checks
 pub mod Heap
+pub mod Lent
 pub mod Limits
 pub mod Output
+pub mod Room
 pub mod Row
 pub mod Taking
 pub mod Written

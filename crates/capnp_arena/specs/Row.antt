@@ -1,7 +1,26 @@
 -- The segments of a builder arena, by their rows.
-use Rattle.std.specs.Prelude.{ℕ, List, ◌*◌, ◌/◌, length, take, map, slice_index_or}
+use Rattle.std.specs.Prelude.{ℕ, List, ◌*◌, ◌/◌, ◌≡◌, ◌≤◌, ◌-◌, length, take, drop, map, replicate, slice_index_or, slice_get, Option, Some, None}
+use Rattle.std.specs.Vec.{with_item}
+use Rattle.std.specs.Global.{Vec}
+use Rattle.std.proofs.Common.{arith, refl, sym, ap, ◌∙◌, subst, length-take, length-set}
+use Rattle.std.proofs.lemmas.Slice.{drop-append-drop}
+use Rattle.std.proofs.lemmas.Grind.{common_steps}
+use Rattle.capnp_arena.specs.Allocations.{IsRow, max_segments}
+use Rattle.capnp_arena.specs.Written.{with_front}
 use Rattle.capnp_arena.specs.declared.arena.row.Row.{Row}
 use Rattle.capnp_arena.specs.declared.arena.allocator.Segment.{Ghosts}
+
+pub length-with_front : (n : ℕ) (xs ws : List ℕ) → n ≤ length xs → length (with_front n xs ws) ≡ length xs
+length-with_front n xs ws h = grind (arith, common_steps)
+
+pub drop-with_front : (n : ℕ) (xs ws : List ℕ) → drop n (with_front n xs ws) ≡ drop n xs
+drop-with_front n xs ws = drop-append-drop (length (take n ws)) xs (take n ws) n (omega (arith, length-take n ws)) refl
+
+-- writing the allocated words leaves the zeros behind them
+pub front_row : (used : ℕ) (bytes ws : List ℕ) → IsRow used bytes → IsRow used (with_front (8 * used) bytes ws)
+front_row used bytes ws row =
+    let l = length-with_front (8 * used) bytes ws row.0 in
+    (omega (arith, row.0, l), omega (arith, row.1, l), drop-with_front (8 * used) bytes ws ∙ row.2 ∙ ap (λ n. replicate (n - 8 * used) 0) (sym l))
 
 module _ {S : Type 0} (g : Ghosts S) where
   -- the allocated words of a row, as bytes
@@ -19,3 +38,28 @@ module _ {S : Type 0} (g : Ghosts S) where
   -- how many words each segment can hold, 0 where there is none
   abbrev pub capacity_at : List (Row S g) → ℕ → ℕ
   capacity_at rows id = slice_index_or (map capacity rows) id 0
+
+  -- the zeros behind them stay
+  pub clear_behind : (r : Row S g) (ws : List ℕ) → IsRow r.used (g.content (g.with_content r.segment (with_front (8 * r.used) (g.content r.segment) ws)))
+  clear_behind r ws =
+      let bytes = g.content r.segment in
+      subst (IsRow r.used) (sym (g.holds r.segment (with_front (8 * r.used) bytes ws) (length-with_front (8 * r.used) bytes ws r.clear.0))) (front_row r.used bytes ws r.clear)
+
+  -- the row with ws over its allocated words, as bytes
+  abbrev pub with_allocated : Row S g → List ℕ → Row S g
+  with_allocated r ws = record r { segment = g.with_content r.segment (with_front (8 * r.used) (g.content r.segment) ws); clear = clear_behind r ws }
+
+  -- the rows where that at id, if there is one, has ws over its allocated words, as bytes
+  abbrev pub with_found : Vec (Row S g) → ℕ → List ℕ → Option (Row S g) → Vec (Row S g)
+  with_found v id ws (Some r) = with_item v id (with_allocated r ws)
+  with_found v id ws None = v
+
+  abbrev pub with_row : Vec (Row S g) → ℕ → List ℕ → Vec (Row S g)
+  with_row v id ws = with_found v id ws (slice_get v.items id)
+
+  pub few_with_row : (v : Vec (Row S g)) (id : ℕ) (ws : List ℕ) → length v.items ≤ max_segments → length (with_row v id ws).items ≤ max_segments
+  few_with_row v id ws few = go (slice_get v.items id)
+    where
+      go : (r : Option (Row S g)) → length (with_found v id ws r).items ≤ max_segments
+      go (Some q) = omega (arith, few, length-set v.items id (with_allocated q ws))
+      go None = few

@@ -20,3 +20,7 @@ with_words S s p ws = with_segment S s (overwritten (segment S s) p ws)
 -- more words at the end of a segment
 abbrev pub extended : Segments → ℕ → List ℕ → Segments
 extended S s ws = with_segment S s (segment S s ++ ws)
+
+-- the first n elements of ws over those of xs
+abbrev pub with_front : ℕ → List ℕ → List ℕ → List ℕ
+with_front n xs ws = take n ws ++ drop (length (take n ws)) xs

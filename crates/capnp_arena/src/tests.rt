@@ -202,6 +202,22 @@ fn words_written_and_given_out(rt: HostRuntime) -> Result<(), ErrorKind> {
     Ok(())
 }
 
+#[test]
+fn words_lent(rt: HostRuntime) -> Result<(), ErrorKind> {
+    let mut arena = BuilderArenaImpl::new(rt.alloc(), HeapAllocator::new(rt.alloc(), 4));
+    arena.allocate_segment(0)?;
+    arena.segment_mut(0).fill(1);
+    assert_eq!(rt; arena.allocate_anywhere(1)?, (0, 0));
+    if let Some(words) = arena.allocated_mut(0) {
+        words.fill(7);
+    }
+    assert_eq!(rt; arena.allocate_anywhere(1)?, (0, 1));
+    assert!(rt; arena.allocated_mut(1).is_none());
+    let bytes = [7, 7, 7, 7, 7, 7, 7, 7, 0, 0, 0, 0, 0, 0, 0, 0];
+    assert!(rt; arena.get_segment(0) == Ok(&bytes[..]));
+    Ok(())
+}
+
 /// Whatever allocation fails: each `AllocationFailed` counts once, and leaves the segments and their words as they were.
 #[test]
 fn refused_growth(rt: HostRuntime) {

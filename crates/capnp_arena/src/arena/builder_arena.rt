@@ -1,5 +1,6 @@
 //! Arenas that are written.
-ghost use Rattle.std.specs.Prelude.{◌≡◌, ◌⊎◌, ◌<◌, ◌≤◌, ◌+◌, ◌-◌, ◌*◌, ◌/◌, ◌^◌, ◌↔◌, ◌++◌, ◌∷◌, [], ℕ, Bool, List, length, replicate, slice_get, Some, IsTrue, IsNone, IsSome, IfSome, IsOk, IfOk, IsOkAnd, OnOk, OnErr, IfErr};
+ghost use Rattle.std.specs.Prelude.{◌≡◌, ◌⊎◌, ◌<◌, ◌≤◌, ◌+◌, ◌-◌, ◌*◌, ◌/◌, ◌^◌, ◌↔◌, ◌++◌, ◌∷◌, [], ℕ, Bool, List, length, replicate, slice_get, slice_set, Some, IsTrue, IsNone, IsSome, IfSome, IsOk, IfOk, IsOkAnd, OnOk, OnErr, IfErr};
+ghost use Rattle.std.specs.Borrow.{sem, Lends, Array, u8 as byte};
 ghost use Rattle.capnp_words.specs.Segments.{segment, IsPlace};
 ghost use Rattle.capnp_words.specs.Bytes.{words_of, message};
 ghost use Rattle.capnp_words.specs.declared.error.ErrorKind.TheVariants.{MessageTooLarge};
@@ -24,6 +25,20 @@ pub trait BuilderArena: ReaderArena + sealed::Closed {
 
     // Whether a request for so many words may be met by a segment of so many words.
     ghost offers: { Self → ℕ → ℕ → Bool };
+
+    // The arena with other bytes in the allocated words of a segment.
+    ghost with_bytes: { Self → ℕ → List ℕ → Self };
+
+    /// Lends the allocated words of a segment, as bytes, to be written. Whatever is written, the words behind them stay zero.
+    fn segment_mut(&mut self, id: u32) -> &mut [u8]
+        requires { id < length (Self.segments self.old) }
+        ensures* lends { sem 𝓛 (Lends Self.row (Array byte 0) self.entry result (with_bytes self.old id)) }
+        ensures bytes { slice_get (Self.segments self.old) id ≡ Some result.now };
+
+    /// Lends the allocated words of a segment, as bytes, to be written; `None` exactly where `id` is not below the number of segments.
+    fn allocated_mut(&mut self, id: u32) -> Option<&mut [u8]>
+        ensures there { IsSome result ↔ (id < length (Self.segments self.old)) }
+        ensures bytes { IfSome result (λ s. slice_get (Self.segments self.old) id ≡ Some s.now) };
 
     /// Writes a word.
     fn set_word(&mut self, id: u32, at: u32, word: u64)
@@ -89,4 +104,20 @@ pub trait BuilderArena: ReaderArena + sealed::Closed {
     /// How often memory was refused, up to the greatest u64: the `refused` of its allocator.
     fn refused(&self) -> u64
         ensures { result ≡ refusals self.now };
+
+    // A segment has no more words allocated than it has room for.
+    ghost within: { (a : Self) (id : ℕ) → length (segment (message (Self.ReaderArena.segments a)) id) ≤ room a id };
+
+    // A segment has room for fewer than 2^29 words.
+    ghost small: { (a : Self) (id : ℕ) → room a id < 2 ^ 29 };
+
+    // Other bytes, as many as there were: that segment has them, and the others stay.
+    ghost with_bytes_segments: { (a : Self) (id : ℕ) (old ws : List ℕ) → slice_get (Self.ReaderArena.segments a) id ≡ Some old → length ws ≡ length old → Self.ReaderArena.segments (with_bytes a id ws) ≡ slice_set (Self.ReaderArena.segments a) id ws };
+
+    // Nothing else changes.
+    ghost with_bytes_room: { (a : Self) (id : ℕ) (ws : List ℕ) → room (with_bytes a id ws) ≡ room a };
+
+    ghost with_bytes_refusals: { (a : Self) (id : ℕ) (ws : List ℕ) → refusals (with_bytes a id ws) ≡ refusals a };
+
+    ghost with_bytes_offers: { (a : Self) (id : ℕ) (ws : List ℕ) → offers (with_bytes a id ws) ≡ offers a };
 }

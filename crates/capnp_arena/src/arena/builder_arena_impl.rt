@@ -6,7 +6,9 @@ ghost use Rattle.capnp_words.specs.declared.error.ErrorKind.TheVariants.{Allocat
 ghost use Rattle.capnp_arena.specs.Allocations.{max_segments, max_words, one_more};
 ghost use Rattle.capnp_arena.specs.Limits.{IsSmall};
 ghost use Rattle.capnp_arena.specs.Output.{output_bytes, is_single};
-ghost use Rattle.capnp_arena.specs.Row.{shown, capacity_at};
+ghost use Rattle.capnp_arena.specs.Room.{rows_within, rows_small};
+ghost use Rattle.capnp_arena.specs.Row.{shown, capacity_at, with_row, few_with_row};
+ghost use Rattle.capnp_arena.specs.Lent.{with_row_shown, with_row_capacity};
 ghost use Rattle.capnp_arena.specs.Taking.{IsFull, IsFirstFit, IsRefusal, SameRoomBelow, with_another};
 ghost use Rattle.capnp_arena.specs.Written.{extended};
 
@@ -26,18 +28,26 @@ pub struct BuilderArenaImpl<A: Allocator> {
     ghost few: { length rows.items ≤ max_segments },
 }
 
+/// Gives each segment back to the allocator once, in order of number.
+fn give_back<A: Allocator>(allocator: &mut A, mut rows: Vec<Row<A::Segment>>)
+    ensures refusals { A.refusals allocator.new ≡ A.refusals allocator.old }
+    ensures offers { A.offers allocator.new ≡ A.offers allocator.old }
+{
+    rows.reverse();
+    while let Some(Row { segment, used }) = rows.pop() {
+        allocator.deallocate_segment(segment, used);
+    }
+    rows.destroy_empty();
+}
+
 impl<A: Allocator> Drop for BuilderArenaImpl<A> {
     fn drop(self) {
         let BuilderArenaImpl {
             alloc: _,
             mut allocator,
-            mut rows,
+            rows,
         } = self;
-        rows.reverse();
-        while let Some(Row { segment, used }) = rows.pop() {
-            allocator.deallocate_segment(segment, used);
-        }
-        rows.destroy_empty();
+        give_back(&mut allocator, rows);
     }
 }
 
@@ -48,10 +58,11 @@ impl<A: Allocator> BuilderArenaImpl<A> {
         ensures refusals { ⟦<Self as BuilderArena>⟧.refusals result ≡ A.refusals allocator }
         ensures offers { ⟦<Self as BuilderArena>⟧.offers result ≡ A.offers allocator }
     {
+        let rows = Vec::new(alloc);
         BuilderArenaImpl {
             alloc,
             allocator,
-            rows: Vec::new(alloc),
+            rows,
         }
     }
 
@@ -77,13 +88,9 @@ impl<A: Allocator> BuilderArenaImpl<A> {
         let BuilderArenaImpl {
             alloc: _,
             mut allocator,
-            mut rows,
+            rows,
         } = self;
-        rows.reverse();
-        while let Some(Row { segment, used }) = rows.pop() {
-            allocator.deallocate_segment(segment, used);
-        }
-        rows.destroy_empty();
+        give_back(&mut allocator, rows);
         allocator
     }
 
@@ -244,9 +251,35 @@ impl<A: Allocator> Closed for BuilderArenaImpl<A> {}
 impl<A: Allocator> BuilderArena for BuilderArenaImpl<A> {
     ghost room = { λ b. capacity_at A.Segment.Segment b.rows.items };
 
+    ghost within = { λ b. rows_within A.Segment.Segment b.rows.items };
+
+    ghost small = { λ b. rows_small A.Segment.Segment b.rows.items };
+
     ghost refusals = { λ b. A.refusals b.allocator };
 
     ghost offers = { λ b. A.offers b.allocator };
+
+    ghost with_bytes = { λ b id ws. record b { rows = with_row A.Segment.Segment b.rows id ws; few = few_with_row A.Segment.Segment b.rows id ws b.few } };
+
+    ghost with_bytes_segments = { λ b. with_row_shown A.Segment.Segment b.rows };
+
+    ghost with_bytes_room = { λ b. with_row_capacity A.Segment.Segment b.rows };
+
+    ghost with_bytes_refusals = { λ _ _ _. refl };
+
+    ghost with_bytes_offers = { λ _ _ _. refl };
+
+    fn segment_mut(&mut self, id: u32) -> &mut [u8] {
+        let row = &mut self.rows[id as usize];
+        row.allocated_mut()
+    }
+
+    fn allocated_mut(&mut self, id: u32) -> Option<&mut [u8]> {
+        if (id as usize) < self.rows.len() {
+            return Some(self.segment_mut(id));
+        }
+        None
+    }
 
     #[tactic(auto, using(crate::proofs::RowsLemmas::rows_written))]
     fn set_word(&mut self, id: u32, at: u32, word: u64) {

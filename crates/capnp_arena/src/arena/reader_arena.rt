@@ -10,7 +10,7 @@ ghost use Rattle.capnp_words.specs.declared.error.ErrorKind.TheVariants.{Invalid
 use capnp_words::error::ErrorKind;
 use capnp_words::read_limiter::ReadLimiter;
 
-/// What readers ask of a message.
+/// What readers ask of a message: the words of its segments, whether a place lies in them, and what reading costs. Sections "Messages", "Inter-Segment Pointers" and "Security Considerations" of the encoding specification.
 pub trait ReaderArena {
     // The whole words of each segment, as bytes.
     ghost segments: { Self → List (List ℕ) };
@@ -26,6 +26,9 @@ pub trait ReaderArena {
     // Where there are segments at all, a number beyond them is refused by this name.
     ghost absent_named: { (a : Self) (id : ℕ) → 0 < length (segments a) → absent a id ≡ InvalidSegmentId id };
 
+    /// The whole words of segment `id`, as bytes, fewer than 2^35 of them. Segments are numbered from 0.
+    ///
+    /// A number that no segment has is `InvalidSegmentId(id)`; in a `NullArena` every number is `TriedToReadFromNullArena`.
     fn get_segment(&self, id: u32) -> Result<&[u8], ErrorKind>
         ensures there { IsOk result ↔ (id < length (segments self.now)) }
         ensures bytes { IfOk result (λ s. slice_get (segments self.now) id ≡ Some s.now) }
@@ -34,15 +37,21 @@ pub trait ReaderArena {
         ensures small { IfOk result (λ s. length s.now < 8 * 2 ^ 32) }
         ensures named { IfErr result (λ e. e ≡ absent self.now id) };
 
+    /// How many levels of structs and lists may be entered, one inside the other, from the root on. Zero or less leaves none.
     fn nesting_limit(&self) -> i32
         ensures { result ≡ nesting self.now };
 
+    /// Whether reading is charged to a read limiter, and pointers are counted there. Where it isn't, every charge is granted and leaves the limiter as it was.
     fn charges(&self) -> bool
         ensures { result ≡ charging self.now };
 
+    /// The sum of the whole words of all segments; in an arena that is built, of those that are allocated.
     fn size_in_words(&self) -> usize
         ensures { result ≡ total_words (segments self.now) };
 
+    /// The word position `start + offset` of segment `id`. `start` and the sum are positions in words, from 0 to the segment's length, which is included in both.
+    ///
+    /// A position beyond these bounds is `MessageContainsOutOfBoundsPointer`. A segment that isn't there is refused as by `get_segment`.
     #[tactic(auto, using(crate::proofs::MessageLemmas::placing))]
     fn check_offset(&self, id: u32, start: u32, offset: i32) -> Result<u32, ErrorKind>
         ensures exactly { IsOk result ↔ IsOffset (message (segments self.now)) id start offset }
@@ -58,6 +67,9 @@ pub trait ReaderArena {
         }
     }
 
+    /// Charges `amount` words that a message claims and doesn't hold, as those of a list of empty structs.
+    ///
+    /// `ReadLimitExceeded` where fewer are left; `lim` is then as it was. Where the arena doesn't charge, this is granted and `lim` stays.
     fn amplified_read(&self, amount: u64, lim: &mut ReadLimiter) -> Result<(), ErrorKind>
         ensures exactly { IsOk result ↔ Affords (charging self.now) lim.old amount }
         ensures granted { OnOk result (lim.new ≡ charged (charging self.now) lim.old amount) }
@@ -71,6 +83,9 @@ pub trait ReaderArena {
         }
     }
 
+    /// Grants the `size` words from position `start` of segment `id`, and then charges them. The interval may be empty, and may end where the segment does.
+    ///
+    /// An interval that doesn't lie in the segment is `MessageContainsOutOfBoundsPointer`, and a segment that isn't there is refused as by `get_segment`; neither is charged. `ReadLimitExceeded` where fewer words are left. After each refusal `lim` is as it was.
     #[tactic(auto, using(crate::proofs::MessageLemmas::placing))]
     fn contains_interval(
         &self,

@@ -2,7 +2,8 @@
 ghost use Rattle.std.specs.Prelude.{◌≡◌, ◌<◌, ◌≤◌, ◌+◌, ◌-◌, ◌*◌, ◌/◌, ◌↔◌, ◌++◌, [], ℕ, List, length, take, drop, replicate, slice_set, IsTrue};
 ghost use Rattle.capnp_words.specs.Bytes.{words_of};
 ghost use Rattle.capnp_arena.specs.Allocations.{IsRow, max_words, zeros};
-ghost use Rattle.capnp_arena.specs.Written.{overwritten};
+ghost use Rattle.capnp_arena.specs.Written.{overwritten, with_front};
+ghost use Rattle.std.specs.Borrow.{sem, Lends, Array, u8 as byte};
 
 use crate::arena::Segment;
 use capnp_words::words;
@@ -41,6 +42,16 @@ fn zero_below(bytes: &mut [u8], end: usize, at: usize, n: usize)
     words::zero_words(&mut bytes[..8 * end], at, n);
 }
 
+/// Lends the first `n` bytes of a segment; the others stay.
+fn front_of<S: Segment>(segment: &mut S, n: usize) -> &mut [u8]
+    requires { n ≤ length (S.content segment.old) }
+    ensures* lends { sem 𝓛 (Lends S.row (Array byte 0) segment.entry result (λ ws. S.with_content segment.old (with_front n (S.content segment.old) ws))) }
+    ensures now { result.now ≡ take n (S.content segment.old) }
+{
+    let bytes = segment.bytes_mut();
+    &mut bytes[..n]
+}
+
 /// A segment, and how many of its words are allocated; the others are zero.
 pub(crate) struct Row<S: Segment> {
     pub(crate) segment: S,
@@ -49,12 +60,22 @@ pub(crate) struct Row<S: Segment> {
 }
 
 impl<S: Segment> Row<S> {
-    ghost use Rattle.capnp_arena.specs.Row.{allocated, capacity};
+    ghost use Rattle.capnp_arena.specs.Row.{allocated, capacity, with_allocated};
+    ghost use Rattle.capnp_arena.specs.contracts.arena.row.Row.{the_row};
 
     pub(crate) fn allocated(&self) -> &[u8]
         ensures { result.now ≡ allocated S.Segment self.now }
     {
         &self.segment.bytes()[..8 * self.used as usize]
+    }
+
+    /// Lends the allocated words, to be written.
+    pub(crate) fn allocated_mut(&mut self) -> &mut [u8]
+        ensures* lends { sem 𝓛 (Lends (the_row S.row S.Segment) (Array byte 0) self.entry result (with_allocated S.Segment self.old)) }
+        ensures now { result.now ≡ allocated S.Segment self.old }
+    {
+        let n = 8 * self.used as usize;
+        front_of(&mut self.segment, n)
     }
 
     pub(crate) fn new(segment: S) -> Row<S>

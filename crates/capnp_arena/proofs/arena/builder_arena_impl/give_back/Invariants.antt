@@ -1,5 +1,5 @@
 use Rattle.std.proofs.Common.{vec_len, ◌≡◌}
-use Rattle.capnp_arena.proofs.arena.builder_arena_impl.BuilderArenaImpl.into_allocator.Given as goal
+use Rattle.capnp_arena.proofs.arena.builder_arena_impl.give_back.Given as goal
 
 abbrev pub invariant-loop-segment : goal.invariant-loop-segment
 invariant-loop-segment g l = record {

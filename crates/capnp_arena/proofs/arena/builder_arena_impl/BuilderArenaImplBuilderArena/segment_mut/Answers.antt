@@ -1,0 +1,16 @@
+use Rattle.std.proofs.Common.{◌≡◌, ◌<◌, length, get_or, Some, refl, sym, ap, ◌∙◌, arith}
+use Rattle.capnp_arena.specs.Row.{allocated}
+use Rattle.capnp_arena.proofs.RowsLemmas.{length_shown, shown_at}
+use Rattle.capnp_arena.proofs.LentLemmas.{lent_arena}
+use Rattle.capnp_arena.proofs.arena.builder_arena_impl.BuilderArenaImplBuilderArena.segment_mut.Goals as goal
+
+pub returns : goal.returns
+returns g c =
+    let seg = g.A.Segment.Segment in
+    let rows = c.args.self.now.rows in
+    let row = c.index_mut-row.result.now in
+    let there : c.args.id < length rows.items = omega (arith, length_shown seg rows.items, c.requires) in
+    let e : row ≡ get_or rows.items c.args.id row = c.index_mut-row.ensures.value in (
+      (refl, λ w. lent_arena g.A.Allocator seg c.args.self.now c.args.id row w there e _),
+      record { lends = tt; bytes = shown_at seg rows.items c.args.id row there ∙ ap (λ q. Some (allocated seg q)) (sym e) ∙ ap Some (sym c.allocated_mut.ensures.now) },
+    )

@@ -1,0 +1,79 @@
+-- What rows hold when the allocated words of one of them were lent to be written.
+use Rattle.std.specs.Prelude.{ℕ, List, [], ◌∷◌, ◌*◌, ◌/◌, ◌≡◌, ◌++◌, length, map, take, drop, slice_get, slice_set, Option, Some, None}
+use Rattle.std.proofs.Common.{zero, suc, refl, sym, ap, ◌∙◌, arith, get_or, set, take_at, length-take}
+use Rattle.std.proofs.lemmas.Grind.{common_steps}
+use Rattle.std.specs.Global.{Vec}
+use Rattle.capnp_arena.specs.Written.{with_front}
+use Rattle.capnp_arena.specs.Row.{allocated, capacity, capacity_at, shown, with_allocated, with_found, with_row, length-with_front}
+use Rattle.capnp_arena.specs.declared.arena.row.Row.{Row}
+use Rattle.capnp_arena.specs.declared.arena.allocator.Segment.{Ghosts}
+
+-- n elements over the first n
+pub front_written : (n : ℕ) (xs ws : List ℕ) → length ws ≡ n → ws ++ drop n xs ≡ with_front n xs ws
+front_written n xs ws e = grind (arith, common_steps)
+
+pub front_taken : (n : ℕ) (xs ws : List ℕ) → length ws ≡ n → take n (with_front n xs ws) ≡ ws
+front_taken n xs ws e = ap (take n) (sym (front_written n xs ws e)) ∙ take_at ws (drop n xs) n e
+
+module _ {S : Type 0} (g : Ghosts S) where
+  pub allocated_whole : (r : Row S g) → length (allocated g r) ≡ 8 * r.used
+  allocated_whole r = omega (arith, length-take (8 * r.used) (g.content r.segment), r.clear.0)
+
+  capacities_same : (rows : List (Row S g)) (i : ℕ) (old new : Row S g) → old ≡ get_or rows i old → capacity g new ≡ capacity g old → map (capacity g) (set rows i new) ≡ map (capacity g) rows
+  capacities_same [] i old new e same = refl
+  capacities_same (q ∷ rows) zero old new e same = ap (λ n. n ∷ map (capacity g) rows) (same ∙ ap (capacity g) e)
+  capacities_same (q ∷ rows) (suc i) old new e same = ap (λ xs. capacity g q ∷ xs) (capacities_same rows i old new e same)
+
+  -- a row replaced by one as large leaves the room of each
+  pub room_same : (rows : List (Row S g)) (i : ℕ) (old new : Row S g) → old ≡ get_or rows i old → capacity g new ≡ capacity g old → capacity_at g (set rows i new) ≡ capacity_at g rows
+  room_same rows i old new e same =
+      let at : List ℕ → ℕ → ℕ = λ xs k. get_or xs k 0 in
+      ap at (capacities_same rows i old new e same)
+
+  content_over : (r : Row S g) (ws : List ℕ) → g.content (with_allocated g r ws).segment ≡ with_front (8 * r.used) (g.content r.segment) ws
+  content_over r ws = g.holds r.segment (with_front (8 * r.used) (g.content r.segment) ws) (length-with_front (8 * r.used) (g.content r.segment) ws r.clear.0)
+
+  over : (r : Row S g) (ws : List ℕ) → length ws ≡ length (allocated g r) → allocated g (with_allocated g r ws) ≡ ws
+  over r ws l = ap (take (8 * r.used)) (content_over r ws) ∙ front_taken (8 * r.used) (g.content r.segment) ws (l ∙ allocated_whole r)
+
+  same_capacity : (r : Row S g) (ws : List ℕ) → capacity g (with_allocated g r ws) ≡ capacity g r
+  same_capacity r ws = ap (λ xs. length xs / 8) (content_over r ws) ∙ ap (λ n. n / 8) (length-with_front (8 * r.used) (g.content r.segment) ws r.clear.0)
+
+  shown_set : (rows : List (Row S g)) (i : ℕ) (r : Row S g) → shown g (slice_set rows i r) ≡ slice_set (shown g rows) i (allocated g r)
+  shown_set [] i r = refl
+  shown_set (q ∷ rows) zero r = refl
+  shown_set (q ∷ rows) (suc i) r = ap (λ B. allocated g q ∷ B) (shown_set rows i r)
+
+  shown_found : (rows : List (Row S g)) (i : ℕ) (r : Row S g) → slice_get rows i ≡ Some r → slice_get (shown g rows) i ≡ Some (allocated g r)
+  shown_found [] i r e = cc
+  shown_found (q ∷ rows) zero r e = let same : q ≡ r = cc in ap (λ x. Some (allocated g x)) same
+  shown_found (q ∷ rows) (suc i) r e = shown_found rows i r e
+
+  shown_none : (rows : List (Row S g)) (i : ℕ) → slice_get rows i ≡ None → slice_get (shown g rows) i ≡ None
+  shown_none [] i e = refl
+  shown_none (q ∷ rows) zero e = cc
+  shown_none (q ∷ rows) (suc i) e = shown_none rows i e
+
+  found_at : (rows : List (Row S g)) (i : ℕ) (r : Row S g) → slice_get rows i ≡ Some r → r ≡ get_or rows i r
+  found_at [] i r e = cc
+  found_at (q ∷ rows) zero r e = cc
+  found_at (q ∷ rows) (suc i) r e = found_at rows i r e
+
+  -- what the segments are afterwards
+  pub with_row_shown : (v : Vec (Row S g)) (id : ℕ) (old ws : List ℕ) → slice_get (shown g v.items) id ≡ Some old → length ws ≡ length old → shown g (with_row g v id ws).items ≡ slice_set (shown g v.items) id ws
+  with_row_shown v id old ws e l = go (slice_get v.items id) refl
+    where
+      go : (found : Option (Row S g)) → slice_get v.items id ≡ found → shown g (with_found g v id ws found).items ≡ slice_set (shown g v.items) id ws
+      go (Some r) is =
+          let at : slice_get (shown g v.items) id ≡ Some (allocated g r) = shown_found v.items id r is in
+          let same : old ≡ allocated g r = cc in
+          shown_set v.items id (with_allocated g r ws) ∙ ap (slice_set (shown g v.items) id) (over r ws (l ∙ ap length same))
+      go None is = let none : slice_get (shown g v.items) id ≡ None = shown_none v.items id is in cc
+
+  -- no segment gets more room
+  pub with_row_capacity : (v : Vec (Row S g)) (id : ℕ) (ws : List ℕ) → capacity_at g (with_row g v id ws).items ≡ capacity_at g v.items
+  with_row_capacity v id ws = go (slice_get v.items id) refl
+    where
+      go : (found : Option (Row S g)) → slice_get v.items id ≡ found → capacity_at g (with_found g v id ws found).items ≡ capacity_at g v.items
+      go (Some r) is = room_same v.items id r (with_allocated g r ws) (found_at v.items id r is) (same_capacity r ws)
+      go None is = refl
