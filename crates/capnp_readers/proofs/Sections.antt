@@ -1,0 +1,118 @@
+-- Slices that a reader holds: a default's whole words, fields, elements.
+use Rattle.std.proofs.Common.{◌≡◌, ◌≢◌, ℕ, ◌+◌, ◌-◌, ◌*◌, ◌/◌, ◌^◌, ◌<◌, ◌≤◌, List, length, take, drop, refl, sym, ap, ◌∙◌, arith, length-take, length-drop, mul_comm}
+use Rattle.std.proofs.lemmas.List.{drop-take, take-take, drop-drop}
+use Rattle.std.proofs.lemmas.Grind.{common_steps}
+use Rattle.std.proofs.lemmas.Nat.{le-div, mul-add-lt, rows}
+use Rattle.capnp_words.specs.Bytes.{words_of}
+use Rattle.capnp_words.specs.Segments.{Segments, segment}
+use Rattle.capnp_words.proofs.WordsOf.{words, words_of-take}
+use Rattle.capnp_words.specs.Numbers.{words_for, element_bits}
+use Rattle.capnp_words.specs.Sizes.{size_number}
+use Rattle.capnp_words.specs.declared.wire_pointer.ElementSize.{ElementSize}
+use Rattle.capnp_words.specs.declared.wire_pointer.ElementSize.TheVariants.{Void, Bit, Byte, TwoBytes, FourBytes, EightBytes, Pointer, InlineComposite}
+use Rattle.capnp_words.specs.declared.wire_pointer.StructSize.{StructSize}
+use Rattle.capnp_readers.specs.Objects.{IsHeld}
+use Rattle.capnp_readers.specs.declared.object.Place.{Place}
+use Rattle.capnp_readers.specs.Sections.{IsInside, IsPart, bytes_for, HasRoom, HoldsPointer, list_words, pointers_behind}
+use Rattle.capnp_readers.specs.Source.{default_segments}
+use Rattle.capnp_readers.proofs.Defaults.{default_at}
+
+-- all bytes of a default's whole words
+pub default_whole : (bytes : List ℕ) → words_of (take (8 * (length bytes / 8)) bytes) ≡ segment (default_segments bytes) (2 ^ 32)
+default_whole bytes =
+    words_of-take (length bytes / 8) bytes (omega arith) ∙ take-past (length bytes / 8) (words_of bytes) (omega (arith, words bytes)) ∙ sym (default_at bytes)
+  where
+    take-past : (k : ℕ) (xs : List ℕ) → length xs ≤ k → take k xs ≡ xs
+    take-past k xs h = grind (arith, common_steps)
+
+pub default_length : (bytes : List ℕ) → length (take (8 * (length bytes / 8)) bytes) ≡ 8 * length (segment (default_segments bytes) (2 ^ 32))
+default_length bytes = omega (arith, length-take (8 * (length bytes / 8)) bytes, words bytes, ap length (default_at bytes))
+
+-- a field within its section, by its bytes
+pub inside_bytes : (bits n offset : ℕ) → 0 < n → IsInside bits (8 * n) offset → offset < bits / 8 / n
+inside_bytes bits n offset some h =
+    let bytes : (offset + 1) * n * 8 ≤ bits = omega (arith, h) in
+    omega (arith, le-div (offset + 1) (bits / 8) n some (le-div ((offset + 1) * n) bits 8 (omega arith) bytes))
+
+-- the pointers of an element lie among the elements' words
+pub pointers_within : (size : ElementSize) (sections : StructSize) (count i : ℕ) → HoldsPointer size sections → i < count → pointers_behind size sections i < list_words size count (sections.data_words + sections.pointers)
+pointers_within Pointer sections count i h l = l
+pointers_within InlineComposite sections count i h l =
+    omega (arith, mul-add-lt i (sections.data_words + sections.pointers) sections.data_words count l (omega arith), mul_comm count (sections.data_words + sections.pointers))
+pointers_within Void sections count i h l = absurd h
+pointers_within Bit sections count i h l = absurd h
+pointers_within Byte sections count i h l = absurd h
+pointers_within TwoBytes sections count i h l = absurd h
+pointers_within FourBytes sections count i h l = absurd h
+pointers_within EightBytes sections count i h l = absurd h
+
+-- they have a position of 32 bits
+pub struct_pointers : (S : Segments) (start : Place) (size : ElementSize) (sections : StructSize) (count i : ℕ) → IsHeld S start → HasRoom S start (list_words size count (sections.data_words + sections.pointers)) → HoldsPointer size sections → i < count → size ≡ InlineComposite →
+    i * (sections.data_words + sections.pointers) + sections.data_words < 2 ^ 32
+struct_pointers S start size sections count i (words_are, whole, small) room h l is =
+    omega (arith, rw is at (pointers_within size sections count i h l), rw is at room, whole, small)
+
+-- an element of a number of words lies among all
+pub words_within : (width count i : ℕ) → i < count → i * width + width ≤ count * width
+words_within width count i h = grind (arith, rows)
+
+pub struct_within : (size : ElementSize) (width count i : ℕ) → size ≡ InlineComposite → i < count → i * width + width ≤ list_words size count width
+struct_within size width count i e h = rw e (words_within width count i h)
+
+flat_words : (size : ElementSize) (n width : ℕ) → size_number size ≤ 5 → list_words size n width ≡ words_for (size_number size) n
+flat_words Pointer n width h = absurd (omega arith)
+flat_words InlineComposite n width h = absurd (omega arith)
+flat_words Void n width h = refl
+flat_words Bit n width h = refl
+flat_words Byte n width h = refl
+flat_words TwoBytes n width h = refl
+flat_words FourBytes n width h = refl
+flat_words EightBytes n width h = refl
+
+-- so does a number
+number_within : (size : ElementSize) (n i : ℕ) → size_number size ≤ 5 → i < n → i * (element_bits (size_number size) / 8) + element_bits (size_number size) / 8 ≤ 8 * words_for (size_number size) n
+number_within Pointer n i h l = absurd (omega arith)
+number_within InlineComposite n i h l = absurd (omega arith)
+number_within Void n i h l = omega arith
+number_within Bit n i h l = omega arith
+number_within Byte n i h l = omega arith
+number_within TwoBytes n i h l = omega arith
+number_within FourBytes n i h l = omega arith
+number_within EightBytes n i h l = omega arith
+
+-- numbers of whole bytes
+number_bytes : (size : ElementSize) → size_number size ≢ 1 → bytes_for (element_bits (size_number size)) ≡ element_bits (size_number size) / 8
+number_bytes Bit h = absurd (h refl)
+number_bytes Void h = refl
+number_bytes Byte h = refl
+number_bytes TwoBytes h = refl
+number_bytes FourBytes h = refl
+number_bytes EightBytes h = refl
+number_bytes Pointer h = refl
+number_bytes InlineComposite h = refl
+
+part_of_part : (bs : List ℕ) (a L f n : ℕ) → f + n ≤ L → take n (drop f (take L (drop a bs))) ≡ take n (drop (a + f) bs)
+part_of_part bs a L f n h =
+    let m = L - f in
+    let split : L ≡ f + m = omega arith in
+    ap (λ k. take n (drop f (take k (drop a bs)))) split
+    ∙ ap (take n) (drop-take f m (drop a bs))
+    ∙ take-take n m (drop f (drop a bs)) (omega arith)
+    ∙ ap (take n) (drop-drop f a bs)
+
+-- the bytes of a number are bytes of its segment
+pub number_part : (here : Place) (size : ElementSize) (count width i bits at : ℕ) (content : List ℕ) → IsPart here (8 * here.at) (64 * list_words size count width) content → size_number size ≤ 5 → size_number size ≢ 1 → i < count →
+    bits ≡ element_bits (size_number size) → at ≡ here.at →
+    IsPart here (8 * at + i * (bits / 8)) bits (take (i * (bits / 8) + bits / 8 - i * (bits / 8)) (drop (i * (bits / 8)) content))
+number_part here size count width i bits at content (is, long) flat whole l e f =
+    rw (e, f) (
+    let b = element_bits (size_number size) / 8 in
+    let n : i * b + b - i * b ≡ b = omega arith in
+    let words : bytes_for (64 * list_words size count width) ≡ 8 * words_for (size_number size) count = omega (arith, flat_words size count width flat) in
+    let room : i * b + b ≤ bytes_for (64 * list_words size count width) = omega (arith, words, number_within size count i flat l) in
+    let bytes = number_bytes size whole in
+    let same : take b (drop (i * b) content) ≡ take b (drop (8 * here.at + i * b) here.bytes.now) = ap (λ c. take b (drop (i * b) c)) is ∙ part_of_part here.bytes.now (8 * here.at) _ (i * b) b room in
+    rw (n, bytes) (same, omega (arith, length-take b (drop (i * b) content), length-drop (i * b) content, long, room))
+    )
+
+pub ruleset elements = (pointers_within, struct_pointers, words_within, struct_within)

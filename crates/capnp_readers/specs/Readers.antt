@@ -1,0 +1,91 @@
+-- What readers show of a message, and where they may be put.
+use Rattle.std.specs.Prelude.{◌≡◌, ℕ, ℤ, pos, ◌+◌, ◌*◌, ◌/◌, ◌%◌, ◌^◌, slice_range, ◌-ℤ◌, ◌<◌, ◌≤◌, length}
+use Rattle.std.specs.Int.{w32, saturate_signed}
+use Rattle.capnp_words.specs.Bytes.{words_of}
+use Rattle.capnp_words.specs.Meter.{Meter, Affords}
+use Rattle.capnp_words.specs.Means.{Leads}
+use Rattle.capnp_words.specs.Segments.{Segments, Target, segment, word_at, words_at}
+use Rattle.capnp_words.specs.Numbers.{element_bits}
+use Rattle.capnp_words.specs.Sizes.{size_number}
+use Rattle.capnp_words.specs.Word.{kind, offset_bits, data_words, pointer_count, element_size, list_count, upper_half}
+use Rattle.capnp_words.specs.declared.wire_pointer.ElementSize.{ElementSize}
+use Rattle.capnp_words.specs.declared.wire_pointer.ElementSize.TheVariants.{Pointer, InlineComposite}
+use Rattle.capnp_arena.specs.declared.arena.reader_arena.ReaderArena.{Ghosts}
+use Rattle.capnp_readers.specs.Faults.{tag}
+use Rattle.capnp_readers.specs.Outcomes.{Entered}
+use Rattle.capnp_readers.specs.Sections.{bytes_for, list_words}
+use Rattle.capnp_readers.specs.Source.{source_segments, source_charging, levels}
+use Rattle.capnp_readers.specs.Spending.{after}
+use Rattle.capnp_readers.specs.declared.source.Source.{Source}
+use Rattle.capnp_readers.specs.declared.readers.struct_reader.StructPlace.{StructPlace}
+use Rattle.capnp_readers.specs.declared.readers.struct_reader.StructReader.{StructReader}
+use Rattle.capnp_readers.specs.declared.readers.list_reader.ListPlace.{ListPlace}
+use Rattle.capnp_readers.specs.declared.readers.list_reader.ListReader.{ListReader}
+use Rattle.capnp_readers.specs.declared.readers.target.Target.{Target as ReadTarget}
+use Rattle.capnp_readers.specs.declared.readers.target.Target.TheVariants.{Null, Cap, Struct, List}
+
+-- Both sections of a struct lie in its segment.
+abbrev pub IsStructPlace : Segments → StructPlace → Type 0
+IsStructPlace S place =
+    (place.segment < length S) × (place.byte + bytes_for place.bits ≤ 8 * length (segment S place.segment)) × (place.pointers_at + place.pointers ≤ length (segment S place.segment))
+
+-- The elements of a list lie in its segment, from a word on.
+abbrev pub IsListPlace : Segments → ListPlace → Type 0
+IsListPlace S place =
+    (place.segment < length S) × (place.byte % 8 ≡ 0)
+    × (place.byte + 8 * list_words place.size place.count (place.struct_size.data_words + place.struct_size.pointers) ≤ 8 * length (segment S place.segment))
+
+-- A nesting limit of one level less; the least number of 32 bits stays.
+abbrev pub one_level_less : ℤ → ℤ
+one_level_less n = saturate_signed w32 (n -ℤ pos 1)
+
+module _ {A : Type 0} (g : Ghosts A) where
+  -- A reader shows the struct of d data words and q pointers that starts at position p of segment s.
+  pub record ShowsStruct (S : Segments) (r : StructReader A g) (s p d q : ℕ) : Type 0 where
+    pub words_are : words_of r.content.now ≡ words_at S s p d
+    pub byte_is : r.byte ≡ 8 * p
+    pub bits_are : r.bits ≡ 64 * d
+    pub segment_is : r.pointers.segment ≡ s
+    pub pointers_start : r.pointers.at ≡ p + d
+    pub pointers_are : r.pointer_count ≡ q
+
+  -- A reader shows the list of n elements that starts at position p of segment s, with d data words and q pointers each where
+  -- they are structs, and else with 0 of both.
+  pub record ShowsList (S : Segments) (r : ListReader A g) (s p n d q : ℕ) : Type 0 where
+    pub words_are : words_of r.content.now ≡ words_at S s p (list_words r.element_size n (d + q))
+    pub segment_is : r.start.segment ≡ s
+    pub elements_start : r.start.at ≡ p
+    pub counts : r.count ≡ n
+    pub data_of : r.struct_size.data_words ≡ d
+    pub pointers_of : r.struct_size.pointers ≡ q
+
+  -- A struct reader shows element number i of a list: a struct's two sections, one pointer, or the bits of a number.
+  abbrev pub ShowsElement : ElementSize → Segments → ListReader A g → ℕ → StructReader A g → Type 0
+  ShowsElement InlineComposite S list i r =
+      let d = list.struct_size.data_words in let q = list.struct_size.pointers in ShowsStruct S r list.start.segment (list.start.at + i * (d + q)) d q
+  ShowsElement Pointer S list i r = ShowsStruct S r list.start.segment (list.start.at + i) 0 1
+  ShowsElement size S list i r =
+      (r.bits ≡ element_bits (size_number size)) × (r.byte ≡ 8 * list.start.at + i * (r.bits / 8))
+      × (r.content.now ≡ slice_range list.content.now (i * (r.bits / 8)) (i * (r.bits / 8) + r.bits / 8)) × (r.pointer_count ≡ 0)
+
+  -- The list of a target, by its size: one of structs starts behind its tag.
+  abbrev pub IsListOf : ElementSize → Segments → ListReader A g → Target → Type 0
+  IsListOf InlineComposite S r a =
+      (element_size a.word ≡ 7) × ShowsList S r a.segment (a.start + 1) (offset_bits (tag S a)) (data_words (tag S a)) (pointer_count (tag S a))
+  IsListOf size S r a = (element_size a.word ≡ size_number size) × ShowsList S r a.segment a.start (list_count a.word) 0 0
+
+  -- What the pointer at position p of segment s of a source leads to, within a nesting limit: its words are checked and charged, from
+  -- m to m'. A struct's or a list's reader reads the same source, with one level less.
+  abbrev pub IsTarget : Source A → ℤ → ℕ → ℕ → Meter → Meter → ReadTarget A g → Type 0
+  IsTarget source nesting s p m m' Null = (word_at (source_segments g.segments source) s p ≡ 0) × (m' ≡ m)
+  IsTarget source nesting s p m m' (Cap i) =
+      (a : Target) × Leads (source_segments g.segments source) s p a × (a.word % 2 ^ 32 ≡ 3) × (i ≡ upper_half a.word)
+      × Affords (source_charging g.charging source) m a.pads × (m' ≡ after (source_charging g.charging source) m a.pads 1)
+  IsTarget source nesting s p m m' (Struct r) =
+      (a : Target) × Entered (source_segments g.segments source) (source_charging g.charging source) (levels nesting) s p m m' a × (kind a.word ≡ 0)
+      × ShowsStruct (source_segments g.segments source) r a.segment a.start (data_words a.word) (pointer_count a.word)
+      × (r.source ≡ source) × (r.nesting_limit ≡ nesting -ℤ pos 1)
+  IsTarget source nesting s p m m' (List r) =
+      (a : Target) × Entered (source_segments g.segments source) (source_charging g.charging source) (levels nesting) s p m m' a × (kind a.word ≡ 1)
+      × IsListOf r.element_size (source_segments g.segments source) r a
+      × (r.source ≡ source) × (r.nesting_limit ≡ nesting -ℤ pos 1)

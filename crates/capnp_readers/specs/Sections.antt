@@ -1,0 +1,50 @@
+-- Parts of a segment that a reader holds as slices.
+use Rattle.std.specs.Prelude.{◌≡◌, ℕ, List, take, drop, length, ◌+◌, ◌*◌, ◌/◌, ◌%◌, ◌^◌, slice_index, ◌<◌, ◌≤◌}
+use Rattle.capnp_words.specs.Segments.{Segments, segment}
+use Rattle.capnp_words.specs.Numbers.{words_for}
+use Rattle.capnp_words.specs.Sizes.{size_number}
+use Rattle.capnp_words.specs.declared.wire_pointer.ElementSize.{ElementSize}
+use Rattle.capnp_words.specs.declared.wire_pointer.ElementSize.TheVariants.{Pointer, InlineComposite}
+use Rattle.capnp_words.specs.declared.wire_pointer.StructSize.{StructSize}
+use Rattle.capnp_readers.specs.declared.object.Place.{Place}
+
+-- Bytes in which so many bits stand.
+abbrev pub bytes_for : ℕ → ℕ
+bytes_for bits = (bits + 7) / 8
+
+-- These bytes stand in the segment of a place, from a byte position on, and hold so many bits.
+abbrev pub IsPart : Place → ℕ → ℕ → List ℕ → Type 0
+IsPart here byte bits bytes = (bytes ≡ take (bytes_for bits) (drop byte here.bytes.now)) × (length bytes ≡ bytes_for bits)
+
+-- A field of so many bits, the offset counting such fields, lies wholly in a section of so many bits.
+abbrev pub IsInside : ℕ → ℕ → ℕ → Type 0
+IsInside bits width offset = (offset + 1) * width ≤ bits
+
+-- A bit of bytes, 0 or 1, the lowest of each byte first.
+abbrev pub bit_at : List ℕ → ℕ → ℕ
+bit_at bytes i = slice_index bytes (i / 8) / 2 ^ (i % 8) % 2
+
+-- So many words from a place on lie in its segment.
+abbrev pub HasRoom : Segments → Place → ℕ → Type 0
+HasRoom S here n = here.at + n ≤ length (segment S here.segment)
+
+-- How many words the elements of a list take: n elements, of a width in words where they are structs ("Lists").
+abbrev pub list_words : ElementSize → ℕ → ℕ → ℕ
+list_words InlineComposite n width = n * width
+list_words Pointer n width = n
+list_words size n width = words_for (size_number size) n
+
+-- Elements that are no structs have no sections.
+abbrev pub IsSized : ElementSize → StructSize → Type 0
+IsSized size sections = size_number size < 7 → (sections.data_words ≡ 0) × (sections.pointers ≡ 0)
+
+-- An element holds a pointer: it is one, or a struct with pointers.
+abbrev pub HoldsPointer : ElementSize → StructSize → Type 0
+HoldsPointer Pointer sections = Unit {0}
+HoldsPointer InlineComposite sections = 0 < sections.pointers
+HoldsPointer size sections = ⊥
+
+-- How many words behind the elements' start the pointers of element number i start: in a struct they stand behind its data.
+abbrev pub pointers_behind : ElementSize → StructSize → ℕ → ℕ
+pointers_behind InlineComposite sections i = i * (sections.data_words + sections.pointers) + sections.data_words
+pointers_behind size sections i = i

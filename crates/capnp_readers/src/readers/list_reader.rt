@@ -1,0 +1,312 @@
+//! Lists of a message, in place.
+ghost use Rattle.std.specs.Prelude.{◌≡◌, ◌≢◌, ◌<◌, ◌≤◌, ◌+◌, ◌*◌, ◌/◌, ◌^◌, ◌↔◌, ℕ, pos, [], IsTrue, length, take, drop, slice_range};
+ghost use Rattle.capnp_words.specs.Bytes.{message};
+ghost use Rattle.capnp_words.specs.Segments.{word_at, segment};
+ghost use Rattle.capnp_words.specs.declared.wire_pointer.ElementSize.TheVariants.{Void, InlineComposite};
+ghost use Rattle.capnp_words.specs.Numbers.{element_bits};
+ghost use Rattle.capnp_words.specs.Sizes.{size_number};
+ghost use Rattle.capnp_readers.specs.Source.{source_segments};
+ghost use Rattle.capnp_readers.specs.Objects.{IsHeld};
+ghost use Rattle.capnp_readers.specs.Sections.{IsPart, HasRoom, IsSized, HoldsPointer, list_words, pointers_behind};
+
+use crate::object::Place;
+use crate::readers::{NO_SECTIONS, PointerReader, StructReader};
+use crate::source::Source;
+use capnp_arena::arena::ReaderArena;
+use capnp_words::wire_pointer::{ElementSize, StructSize, data_bits_per_element};
+use std::alloc::AllocError;
+
+/// Where a list is in an arena.
+#[derive(Clone, Copy, Debug)]
+pub struct ListPlace {
+    /// The number of the segment.
+    pub segment: u32,
+    /// Where the elements start, in bytes: at a word, in a struct list behind the tag.
+    pub byte: u64,
+    /// How wide an element is.
+    pub size: ElementSize,
+    /// The two sections of each element, which counts for a struct list alone.
+    pub struct_size: StructSize,
+    /// How many elements.
+    pub count: u32,
+}
+
+/// A list that is read, with the words of its elements at hand.
+pub struct ListReader<'a, A: ReaderArena> {
+    /// Where it is read from.
+    pub source: Source<'a, A>,
+    /// The words of the elements.
+    pub content: &'a [u8],
+    /// Where the elements start.
+    pub start: Place<'a>,
+    /// How wide an element is.
+    pub element_size: ElementSize,
+    /// The two sections of each element of a struct list, else 0 and 0.
+    pub struct_size: StructSize,
+    /// How many elements.
+    pub count: u32,
+    /// How many levels of structs and lists may be entered from its pointers, none below 1.
+    pub nesting_limit: i32,
+    ghost held: { IsHeld (source_segments A.segments source) start },
+    ghost content_is: { IsPart start (8 * start.at) (64 * list_words element_size count (struct_size.data_words + struct_size.pointers)) content.now },
+    ghost inside: { HasRoom (source_segments A.segments source) start (list_words element_size count (struct_size.data_words + struct_size.pointers)) },
+    ghost sized: { IsSized element_size struct_size },
+}
+
+impl<'a, A: ReaderArena> Clone for ListReader<'a, A> {
+    fn clone(&self) -> Result<Self, AllocError> {
+        Ok(*self)
+    }
+}
+
+impl<'a, A: ReaderArena> Copy for ListReader<'a, A> {}
+
+// The sections of an element that is a pointer.
+const ONE_POINTER: StructSize = StructSize {
+    data_words: 0,
+    pointers: 1,
+};
+
+/// How many words so many elements take.
+fn words_of_elements(size: ElementSize, struct_size: StructSize, count: u32) -> usize
+    ensures { result ≡ list_words size count (struct_size.data_words + struct_size.pointers) }
+{
+    match size {
+        ElementSize::InlineComposite => count as usize * struct_size.total() as usize,
+        ElementSize::Pointer => count as usize,
+        _ => (count as usize * data_bits_per_element(size) as usize + 63) / 64,
+    }
+}
+
+impl<'a, A: ReaderArena> ListReader<'a, A> {
+    ghost use Rattle.capnp_readers.specs.Readers.{ShowsList, ShowsElement, IsListPlace, one_level_less};
+
+    /// The list from nothing: a void list of none. Its nesting limit is 0x7fffffff.
+    pub fn new_default() -> Self
+        ensures source { result.source ≡ Source.Nothing }
+        ensures elements { (result.element_size ≡ Void) × (result.count ≡ 0) }
+        ensures nesting { result.nesting_limit ≡ pos 2147483647 }
+    {
+        ListReader {
+            source: Source::Nothing,
+            content: &[],
+            start: Place {
+                segment: 0,
+                bytes: &[],
+                at: 0,
+            },
+            element_size: ElementSize::Void,
+            struct_size: StructSize {
+                data_words: 0,
+                pointers: 0,
+            },
+            count: 0,
+            nesting_limit: 0x7fff_ffff,
+        }
+    }
+
+    /// The list at a place of an arena. Its elements lie in the arena.
+    pub fn at(arena: &'a A, place: ListPlace, nesting_limit: i32) -> Self
+        requires { IsListPlace (message (A.segments arena.now)) place }
+        ensures source { result.source ≡ Source.Arena arena.entry }
+        ensures elements { (result.element_size ≡ place.size) × (result.count ≡ place.count) }
+        ensures sections { place.size ≡ InlineComposite → result.struct_size ≡ place.struct_size }
+        ensures start { (result.start.segment ≡ place.segment) × (8 * result.start.at ≡ place.byte) }
+        ensures nesting { result.nesting_limit ≡ nesting_limit }
+    {
+        let Ok(bytes) = arena.get_segment(place.segment) else {
+            return Self::new_default();
+        };
+        let struct_size = match place.size {
+            ElementSize::InlineComposite => place.struct_size,
+            _ => NO_SECTIONS,
+        };
+        let start = Place {
+            segment: u64::from(place.segment),
+            bytes,
+            at: (place.byte / 8) as u32,
+        };
+        Self::of_words(
+            Source::Arena(arena),
+            start,
+            place.size,
+            struct_size,
+            place.count,
+            nesting_limit,
+        )
+    }
+
+    // The list whose elements start at a place.
+    #[tactic(auto, using(capnp_words::proofs::WordsOf::part_words))]
+    pub(crate) fn of_words(
+        source: Source<'a, A>,
+        start: Place<'a>,
+        element_size: ElementSize,
+        struct_size: StructSize,
+        count: u32,
+        nesting_limit: i32,
+    ) -> Self
+        requires held { IsHeld (source_segments A.segments source) start }
+        requires room { HasRoom (source_segments A.segments source) start (list_words element_size count (struct_size.data_words + struct_size.pointers)) }
+        requires sized { IsSized element_size struct_size }
+        ensures source { result.source ≡ source.entry }
+        ensures size { result.element_size ≡ element_size }
+        ensures shows { ShowsList A.ReaderArena (source_segments A.segments source.entry) result start.entry.segment start.entry.at count struct_size.data_words struct_size.pointers }
+        ensures nesting { result.nesting_limit ≡ nesting_limit }
+    {
+        let first = 8 * start.at as usize;
+        let length = 8 * words_of_elements(element_size, struct_size, count);
+        ListReader {
+            source,
+            content: &start.bytes[first..first + length],
+            start,
+            element_size,
+            struct_size,
+            count,
+            nesting_limit,
+        }
+    }
+
+    /// How many elements.
+    pub fn len(&self) -> u32
+        ensures { result ≡ self.now.count }
+    {
+        self.count
+    }
+
+    /// Whether there are no elements.
+    pub fn is_empty(&self) -> bool
+        ensures { IsTrue result ↔ (self.now.count ≡ 0) }
+    {
+        self.count == 0
+    }
+
+    /// How wide an element is.
+    pub fn get_element_size(&self) -> ElementSize
+        ensures { result ≡ self.now.element_size }
+    {
+        self.element_size
+    }
+
+    /// The two sections of each element of a struct list, else 0 and 0.
+    pub fn struct_size(&self) -> StructSize
+        ensures value { result ≡ self.now.struct_size }
+        ensures none { size_number self.now.element_size < 7 → (result.data_words ≡ 0) × (result.pointers ≡ 0) }
+    {
+        self.struct_size
+    }
+
+    /// The words of the elements.
+    pub fn data_bytes(&self) -> &'a [u8]
+        ensures { result.now ≡ self.now.content.now }
+    {
+        self.content
+    }
+
+    /// A pointer of an element: the element itself, or a struct element's first pointer. The elements
+    /// hold a pointer, and there are more than `index`.
+    #[tactic(auto, using(crate::proofs::Sections::elements))]
+    pub fn get_pointer_element(self, index: u32) -> PointerReader<'a, A>
+        requires range { index < self.count }
+        requires pointers { HoldsPointer self.element_size self.struct_size }
+        ensures source { result.source ≡ self.entry.source }
+        ensures place { (result.place.segment ≡ self.entry.start.segment) × (result.place.at ≡ self.entry.start.at + pointers_behind self.entry.element_size self.entry.struct_size index) }
+        ensures nesting { result.nesting_limit ≡ self.entry.nesting_limit }
+    {
+        let behind = match self.element_size {
+            ElementSize::InlineComposite => {
+                index * self.struct_size.total() + u32::from(self.struct_size.data_words)
+            }
+            _ => index,
+        };
+        PointerReader {
+            source: self.source,
+            place: Place {
+                at: self.start.at + behind,
+                ..self.start
+            },
+            nesting_limit: self.nesting_limit,
+        }
+    }
+
+    /// An element as a struct, with one level less than the list; the least `i32` stays. The elements
+    /// are no bits, and there are more than `index`. A number is a struct of its bits, a pointer a
+    /// struct of one pointer.
+    pub fn get_struct_element(&self, index: u32) -> StructReader<'a, A>
+        requires range { index < self.now.count }
+        requires size { size_number self.now.element_size ≢ 1 }
+        ensures source { result.source ≡ self.now.source }
+        ensures element { ShowsElement A.ReaderArena self.now.element_size (source_segments A.segments self.now.source) self.now index result }
+        ensures nesting { result.nesting_limit ≡ one_level_less self.now.nesting_limit }
+    {
+        self.element_within(index, self.nesting_limit.saturating_sub(1))
+    }
+
+    /// An element as a struct, as `get_struct_element` gives it, under the list's own nesting limit.
+    pub fn element(&self, index: u32) -> StructReader<'a, A>
+        requires range { index < self.now.count }
+        requires size { size_number self.now.element_size ≢ 1 }
+        ensures source { result.source ≡ self.now.source }
+        ensures element { ShowsElement A.ReaderArena self.now.element_size (source_segments A.segments self.now.source) self.now index result }
+        ensures nesting { result.nesting_limit ≡ self.now.nesting_limit }
+    {
+        self.element_within(index, self.nesting_limit)
+    }
+
+    #[tactic(auto, using(crate::proofs::Sections::elements))]
+    fn element_within(&self, index: u32, nesting_limit: i32) -> StructReader<'a, A>
+        requires range { index < self.now.count }
+        requires size { size_number self.now.element_size ≢ 1 }
+        ensures source { result.source ≡ self.now.source }
+        ensures element { ShowsElement A.ReaderArena self.now.element_size (source_segments A.segments self.now.source) self.now index result }
+        ensures nesting { result.nesting_limit ≡ nesting_limit }
+    {
+        match self.element_size {
+            ElementSize::InlineComposite => StructReader::of_words(
+                self.source,
+                Place {
+                    at: self.start.at + index * self.struct_size.total(),
+                    ..self.start
+                },
+                self.struct_size,
+                nesting_limit,
+            ),
+            ElementSize::Pointer => StructReader::of_words(
+                self.source,
+                Place {
+                    at: self.start.at + index,
+                    ..self.start
+                },
+                ONE_POINTER,
+                nesting_limit,
+            ),
+            _ => self.number(index, nesting_limit),
+        }
+    }
+
+    // An element that is a number, as a struct of its bits.
+    fn number(&self, index: u32, nesting_limit: i32) -> StructReader<'a, A>
+        requires range { index < self.now.count }
+        requires whole { size_number self.now.element_size ≢ 1 }
+        requires flat { size_number self.now.element_size ≤ 5 }
+        ensures source { result.source ≡ self.now.source }
+        ensures bits { result.bits ≡ element_bits (size_number self.now.element_size) }
+        ensures byte { result.byte ≡ 8 * self.now.start.at + index * (result.bits / 8) }
+        ensures content { result.content.now ≡ slice_range self.now.content.now (index * (result.bits / 8)) (index * (result.bits / 8) + result.bits / 8) }
+        ensures pointers { result.pointer_count ≡ 0 }
+        ensures nesting { result.nesting_limit ≡ nesting_limit }
+    {
+        let bits = data_bits_per_element(self.element_size);
+        let length = bits as usize / 8;
+        let first = index as usize * length;
+        StructReader {
+            source: self.source,
+            content: &self.content[first..first + length],
+            byte: 8 * u64::from(self.start.at) + first as u64,
+            bits,
+            pointers: self.start,
+            pointer_count: 0,
+            nesting_limit,
+        }
+    }
+}

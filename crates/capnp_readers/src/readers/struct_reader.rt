@@ -1,0 +1,228 @@
+//! Structs of a message, in place.
+ghost use Rattle.std.specs.Prelude.{◌≡◌, ◌<◌, ◌≤◌, ◌+◌, ◌*◌, ◌/◌, ◌^◌, ◌↔◌, ℕ, pos, [], true, false, IsTrue, length, take, drop, slice_range};
+ghost use Rattle.capnp_words.specs.Bytes.{message};
+ghost use Rattle.capnp_words.specs.Segments.{word_at, segment};
+ghost use Rattle.capnp_readers.specs.Source.{source_segments};
+ghost use Rattle.capnp_readers.specs.Objects.{IsHeld};
+ghost use Rattle.capnp_readers.specs.Sections.{IsPart, IsInside, HasRoom, bit_at, bytes_for};
+
+use crate::object::Place;
+use crate::readers::PointerReader;
+use crate::source::Source;
+use capnp_arena::arena::ReaderArena;
+use capnp_words::mask::Mask;
+use capnp_words::primitive::Primitive;
+use capnp_words::wire_pointer::StructSize;
+use capnp_words::zero::Zero;
+use std::alloc::AllocError;
+
+/// Where a struct is in an arena. Its data section may be a part of a byte, and its two sections
+/// may stand apart.
+#[derive(Clone, Copy, Debug, PartialEq, Eq)]
+pub struct StructPlace {
+    /// The number of the segment.
+    pub segment: u32,
+    /// Where the data section starts, in bytes.
+    pub byte: u64,
+    /// The data section, in bits.
+    pub bits: u32,
+    /// Where the pointer section starts, in words.
+    pub pointers_at: u32,
+    /// The pointer section, in pointers.
+    pub pointers: u16,
+}
+
+/// A struct that is read, with its data section at hand.
+pub struct StructReader<'a, A: ReaderArena> {
+    /// Where it is read from.
+    pub source: Source<'a, A>,
+    /// The bytes of the data section.
+    pub content: &'a [u8],
+    /// Where the data section starts in its segment, in bytes.
+    pub byte: u64,
+    /// The data section, in bits.
+    pub bits: u32,
+    /// Where the pointer section starts.
+    pub pointers: Place<'a>,
+    /// The pointer section, in pointers.
+    pub pointer_count: u16,
+    /// How many levels of structs and lists may be entered from its pointers, none below 1.
+    pub nesting_limit: i32,
+    ghost held: { IsHeld (source_segments A.segments source) pointers },
+    ghost content_is: { IsPart pointers byte bits content.now },
+    ghost inside: { HasRoom (source_segments A.segments source) pointers pointer_count },
+}
+
+impl<'a, A: ReaderArena> Clone for StructReader<'a, A> {
+    fn clone(&self) -> Result<Self, AllocError> {
+        Ok(*self)
+    }
+}
+
+impl<'a, A: ReaderArena> Copy for StructReader<'a, A> {}
+
+impl<'a, A: ReaderArena> StructReader<'a, A> {
+    ghost use Rattle.capnp_readers.specs.Readers.{ShowsStruct, IsStructPlace};
+
+    /// The struct from nothing, which has no sections. Its nesting limit is 0x7fffffff.
+    pub fn new_default() -> Self
+        ensures source { result.source ≡ Source.Nothing }
+        ensures sections { (result.bits ≡ 0) × (result.pointer_count ≡ 0) }
+        ensures nesting { result.nesting_limit ≡ pos 2147483647 }
+    {
+        StructReader {
+            source: Source::Nothing,
+            content: &[],
+            byte: 0,
+            bits: 0,
+            pointers: Place {
+                segment: 0,
+                bytes: &[],
+                at: 0,
+            },
+            pointer_count: 0,
+            nesting_limit: 0x7fff_ffff,
+        }
+    }
+
+    /// The struct at a place of an arena. Both sections lie in the arena.
+    pub fn at(arena: &'a A, place: StructPlace, nesting_limit: i32) -> Self
+        requires { IsStructPlace (message (A.segments arena.now)) place }
+        ensures source { result.source ≡ Source.Arena arena.entry }
+        ensures data_at { (result.byte ≡ place.byte) × (result.bits ≡ place.bits) }
+        ensures pointers { (result.pointers.segment ≡ place.segment) × (result.pointers.at ≡ place.pointers_at) × (result.pointer_count ≡ place.pointers) }
+        ensures nesting { result.nesting_limit ≡ nesting_limit }
+    {
+        let Ok(bytes) = arena.get_segment(place.segment) else {
+            return Self::new_default();
+        };
+        let start = place.byte as usize;
+        let length = (place.bits as usize + 7) / 8;
+        StructReader {
+            source: Source::Arena(arena),
+            content: &bytes[start..start + length],
+            byte: place.byte,
+            bits: place.bits,
+            pointers: Place {
+                segment: u64::from(place.segment),
+                bytes,
+                at: place.pointers_at,
+            },
+            pointer_count: place.pointers,
+            nesting_limit,
+        }
+    }
+
+    // The struct of whole words that starts at a place.
+    #[tactic(auto, using(capnp_words::proofs::WordsOf::part_words))]
+    pub(crate) fn of_words(
+        source: Source<'a, A>,
+        start: Place<'a>,
+        size: StructSize,
+        nesting_limit: i32,
+    ) -> Self
+        requires held { IsHeld (source_segments A.segments source) start }
+        requires room { HasRoom (source_segments A.segments source) start (size.data_words + size.pointers) }
+        ensures source { result.source ≡ source.entry }
+        ensures shows { ShowsStruct A.ReaderArena (source_segments A.segments source.entry) result start.entry.segment start.entry.at size.data_words size.pointers }
+        ensures nesting { result.nesting_limit ≡ nesting_limit }
+    {
+        let first = 8 * start.at as usize;
+        let length = 8 * usize::from(size.data_words);
+        StructReader {
+            source,
+            content: &start.bytes[first..first + length],
+            byte: first as u64,
+            bits: 64 * u32::from(size.data_words),
+            pointers: Place {
+                at: start.at + u32::from(size.data_words),
+                ..start
+            },
+            pointer_count: size.pointers,
+            nesting_limit,
+        }
+    }
+
+    /// The bytes of the data section, the last of which may be used in part.
+    pub fn data_bytes(&self) -> &'a [u8]
+        ensures { result.now ≡ self.now.content.now }
+    {
+        self.content
+    }
+
+    /// How many pointers the pointer section has.
+    pub fn pointer_count(&self) -> u16
+        ensures { result ≡ self.now.pointer_count }
+    {
+        self.pointer_count
+    }
+
+    /// A pointer of the pointer section, and from nothing where it doesn't have so many.
+    pub fn get_pointer_field(&self, index: usize) -> PointerReader<'a, A>
+        ensures source { index < self.now.pointer_count → result.source ≡ self.now.source }
+        ensures place { index < self.now.pointer_count → (result.place.segment ≡ self.now.pointers.segment) × (result.place.at ≡ self.now.pointers.at + index) }
+        ensures nesting { index < self.now.pointer_count → result.nesting_limit ≡ self.now.nesting_limit }
+        ensures nothing { self.now.pointer_count ≤ index → (result.source ≡ Source.Nothing) × (result.nesting_limit ≡ pos 2147483647) }
+    {
+        if index >= usize::from(self.pointer_count) {
+            return PointerReader::new_default();
+        }
+        PointerReader {
+            source: self.source,
+            place: Place {
+                at: self.pointers.at + index as u32,
+                ..self.pointers
+            },
+            nesting_limit: self.nesting_limit,
+        }
+    }
+
+    /// Whether a pointer of the pointer section is zero, or the section doesn't have so many.
+    pub fn is_pointer_field_null(&self, index: usize) -> bool
+        ensures { IsTrue result ↔ (index < self.now.pointer_count → word_at (source_segments A.segments self.now.source) self.now.pointers.segment (self.now.pointers.at + index) ≡ 0) }
+    {
+        self.get_pointer_field(index).is_null()
+    }
+
+    /// A field of the data section, by its offset in values of `T`; zero where the field doesn't lie
+    /// wholly in the section.
+    pub fn get_data_field<T: Primitive + Zero>(&self, offset: usize) -> T
+        ensures inside { IsInside self.now.bits (8 * T.BYTES) offset → result ≡ T.value_of (slice_range self.now.content.now (offset * T.BYTES) (offset * T.BYTES + T.BYTES)) }
+        ensures outside { (IsInside self.now.bits (8 * T.BYTES) offset → ⊥) → result ≡ T.nought }
+    {
+        let n = T::BYTES;
+        if offset < self.bits as usize / 8 / n {
+            let start = offset * n;
+            T::load(&self.content[start..start + n])
+        } else {
+            T::zero()
+        }
+    }
+
+    /// A field of the data section under a mask, its default, where `get_data_field` is zero too.
+    pub fn get_data_field_mask<T: Primitive + Zero + Mask>(
+        &self,
+        offset: usize,
+        mask: <T as Mask>::T,
+    ) -> T
+        ensures inside { IsInside self.now.bits (8 * T.BYTES) offset → result ≡ T.masked (T.value_of (slice_range self.now.content.now (offset * T.BYTES) (offset * T.BYTES + T.BYTES))) mask }
+        ensures outside { (IsInside self.now.bits (8 * T.BYTES) offset → ⊥) → result ≡ T.masked T.nought mask }
+    {
+        T::mask(self.get_data_field(offset), mask)
+    }
+
+    /// A bit of the data section, by its offset in bits; false behind the section.
+    pub fn get_bool_field(&self, offset: usize) -> bool
+        ensures { IsTrue result ↔ (offset < self.now.bits) × (bit_at self.now.content.now offset ≡ 1) }
+    {
+        offset < self.bits as usize && self.content[offset / 8] >> (offset % 8) & 1 == 1
+    }
+
+    /// A bit of the data section under a mask, its default, where `get_bool_field` is false too.
+    pub fn get_bool_field_mask(&self, offset: usize, mask: bool) -> bool
+        ensures plain { mask ≡ false → (IsTrue result ↔ (offset < self.now.bits) × (bit_at self.now.content.now offset ≡ 1)) }
+        ensures turned { mask ≡ true → (IsTrue result ↔ ((offset < self.now.bits) × (bit_at self.now.content.now offset ≡ 1) → ⊥)) }
+    {
+        self.get_bool_field(offset) != mask
+    }
+}

@@ -1,0 +1,26 @@
+//! What a pointer leads to, one level at a time.
+
+use crate::readers::{ListReader, StructReader};
+use capnp_arena::arena::ReaderArena;
+use std::alloc::AllocError;
+
+/// What a pointer leads to. The words of a struct or a list are checked and charged; of its
+/// children nothing is known.
+pub enum Target<'a, A: ReaderArena> {
+    /// Nothing: the pointer is zero.
+    Null,
+    /// A capability, by its index in the message's table.
+    Cap(u32),
+    /// A struct, with one level less for its pointers.
+    Struct(StructReader<'a, A>),
+    /// A list, with one level less for its pointers.
+    List(ListReader<'a, A>),
+}
+
+impl<'a, A: ReaderArena> Clone for Target<'a, A> {
+    fn clone(&self) -> Result<Self, AllocError> {
+        Ok(*self)
+    }
+}
+
+impl<'a, A: ReaderArena> Copy for Target<'a, A> {}
