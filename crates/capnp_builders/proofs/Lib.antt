@@ -1,0 +1,14 @@
+pub mod Shapes
+pub mod Copying
+pub mod Padding
+pub mod LeastWidths
+pub mod Scanning
+pub mod SegmentsWritten
+pub mod ChildrenCopied
+pub mod RoomLemmas
+pub mod UsedChildren
+pub mod ObjectsRead
+pub mod StructsCopied
+pub mod FlatRead
+pub mod ElementsCopied
+pub mod ElementsLaid

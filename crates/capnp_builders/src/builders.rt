@@ -1,0 +1,167 @@
+//! Builders: places of a message that is built, each with the message borrowed for writing.
+ghost use Rattle.std.specs.Prelude.{◌≡◌, ◌≢◌, ◌⊎◌, ◌↔◌, ◌∷◌, [], ◌+◌, ◌*◌, ◌^◌, ◌<◌, ◌≤◌, IsTrue, false, true, length, pos, IsOk, IfOk, IfErr, OnErr};
+ghost use Rattle.capnp_words.specs.Bytes.{message, words_of};
+ghost use Rattle.capnp_words.specs.Canonical.{trim, encoding};
+ghost use Rattle.capnp_words.specs.Segments.{segment, word_at, IsPlace};
+ghost use Rattle.capnp_words.specs.Tree.{Tree};
+ghost use Rattle.capnp_words.specs.declared.error.ErrorKind.TheVariants.{UnknownPointerType};
+ghost use Rattle.capnp_readers.specs.Source.{source_segments, source_charging, fault, levels};
+ghost use Rattle.capnp_readers.specs.Outcomes.{Copied, Refused, Spends};
+ghost use Rattle.capnp_builders.specs.Copies.{IsCopied, IsCleared, WantsRoom, CanBeCopied};
+ghost use Rattle.capnp_builders.specs.Reads.{IsArena};
+
+use crate::copy;
+use capnp_arena::arena::{BuilderArena, ReaderArena};
+use capnp_readers::object::Place;
+use capnp_readers::readers::PointerReader;
+use capnp_readers::source::Source;
+use capnp_words::error::ErrorKind;
+use capnp_words::read_limiter::ReadLimiter;
+use capnp_words::words;
+
+/// A pointer of a message that is built.
+#[derive(Drop)]
+pub struct PointerBuilder<'a, A> {
+    /// The message.
+    pub arena: &'a mut A,
+    /// The segment of the pointer's word.
+    pub segment: u32,
+    /// Its position in the segment, in words.
+    pub at: u32,
+}
+
+impl<'a, A: BuilderArena> PointerBuilder<'a, A> {
+    ghost use Rattle.std.specs.Borrow.{sem, follows};
+    ghost use Rattle.capnp_builders.specs.Lent.{with_arena};
+    ghost use Rattle.capnp_builders.specs.contracts.builders.PointerBuilder.{the_row};
+    ghost use mir.Syntax.{named};
+
+    /// The root pointer of a message: word 0 of segment 0, which is allocated.
+    pub fn get_root(arena: &'a mut A) -> Self
+        requires { IsPlace (message (A.segments arena.old)) 0 0 }
+        ensures same { result.arena.ghost_name ≡ arena.entry.ghost_name }
+        ensures now { result.arena.now ≡ arena.old }
+        ensures place { (result.segment ≡ 0) × (result.at ≡ 0) }
+    {
+        PointerBuilder {
+            arena,
+            segment: 0,
+            at: 0,
+        }
+    }
+
+    /// The same pointer, for as long as it is borrowed.
+    pub fn reborrow(&mut self) -> PointerBuilder<'_, A>
+        ensures* lends { sem 𝓛 (follows (the_row (record { mir = named 1; lft = [] }) A.row) A.row self.entry.ghost_name result.arena.ghost_name (with_arena self.old)) }
+        ensures now { result.arena.now ≡ self.old.arena.now }
+        ensures place { (result.segment ≡ self.old.segment) × (result.at ≡ self.old.at) }
+    {
+        let segment = self.segment;
+        let at = self.at;
+        let arena = &mut *self.arena;
+        PointerBuilder { arena, segment, at }
+    }
+
+    /// Whether the pointer is zero.
+    pub fn is_null(&self) -> bool
+        requires { IsPlace (message (A.segments self.now.arena.now)) self.now.segment self.now.at }
+        ensures { IsTrue result ↔ (word_at (message (A.segments self.now.arena.now)) self.now.segment self.now.at ≡ 0) }
+    {
+        words::word_at(segment_bytes(&*self.arena, self.segment), self.at as usize) == 0
+    }
+
+    /// The pointer, to be read: nothing is charged, and 0x7fffffff levels may be entered.
+    pub fn as_reader(&self) -> PointerReader<'_, A>
+        ensures reads { IsArena result.source self.now.arena.now }
+        ensures place { (result.place.segment ≡ self.now.segment) × (result.place.at ≡ self.now.at) }
+        ensures nesting { result.nesting_limit ≡ pos 2147483647 }
+    {
+        reader_at(&*self.arena, self.segment, self.at)
+    }
+
+    /// The pointer, to be read once building is over: nothing is charged, and 0x7fffffff levels
+    /// may be entered.
+    pub fn into_reader(self) -> PointerReader<'a, A>
+        ensures reads { IsArena result.source self.entry.arena.now }
+        ensures place { (result.place.segment ≡ self.entry.segment) × (result.place.at ≡ self.entry.at) }
+        ensures nesting { result.nesting_limit ≡ pos 2147483647 }
+    {
+        let PointerBuilder { arena, segment, at } = self;
+        reader_at(arena, segment, at)
+    }
+
+    /// Makes the pointer the canonical form of what another one means ("Canonicalization"). The
+    /// objects go behind the words of the pointer's segment; the source is charged as reading all
+    /// of it costs.
+    ///
+    /// A refusal is the first one of reading the source,
+    /// `CannotCreateACanonicalMessageWithACapability`, or `MessageTooLarge` with the words of an
+    /// object that found no room in the segment. The pointer is null then, the words that were taken
+    /// are zero and stay allocated, and what was charged stays charged.
+    ///
+    /// For now `canonicalize` has to be true and the pointer null: else this is
+    /// `UnknownPointerType`, and nothing changes.
+    pub fn copy_from<B: ReaderArena>(
+        &mut self,
+        from: PointerReader<'_, B>,
+        lim: &mut ReadLimiter,
+        canonicalize: bool,
+    ) -> Result<(), ErrorKind>
+        requires place { IsPlace (message (A.segments self.old.arena.now)) self.old.segment self.old.at }
+        ensures copied { let S = source_segments B.segments from.entry.source in let charging = source_charging B.charging from.entry.source in let n = levels from.entry.nesting_limit in
+            IfOk result (λ _. (t : Tree) × Copied S true charging n from.entry.place.segment from.entry.place.at lim.old lim.new t × IsCopied (message (A.segments self.old.arena.now)) (message (A.segments self.new.arena.now)) self.old.segment self.old.at t) }
+        ensures fresh { let S = source_segments B.segments from.entry.source in let charging = source_charging B.charging from.entry.source in let n = levels from.entry.nesting_limit in
+            segment (message (A.segments self.old.arena.now)) self.old.segment ≡ 0 ∷ [] →
+            IfOk result (λ _. (t : Tree) × Copied S true charging n from.entry.place.segment from.entry.place.at lim.old lim.new t × (segment (message (A.segments self.new.arena.now)) self.old.segment ≡ encoding (trim t))) }
+        ensures exactly { let S = source_segments B.segments from.entry.source in let charging = source_charging B.charging from.entry.source in let n = levels from.entry.nesting_limit in
+            IsTrue canonicalize → word_at (message (A.segments self.old.arena.now)) self.old.segment self.old.at ≡ 0 →
+            IsOk result ↔ CanBeCopied S charging n from.entry.place.segment from.entry.place.at lim.old (length (segment (message (A.segments self.old.arena.now)) self.old.segment)) (A.room self.old.arena.now self.old.segment) }
+        ensures refused { let S = source_segments B.segments from.entry.source in let charging = source_charging B.charging from.entry.source in let n = levels from.entry.nesting_limit in
+            IsTrue canonicalize → word_at (message (A.segments self.old.arena.now)) self.old.segment self.old.at ≡ 0 →
+            IfErr result (λ k. WantsRoom S n from.entry.place.segment from.entry.place.at (message (A.segments self.old.arena.now)) (message (A.segments self.new.arena.now)) self.old.segment (A.room self.old.arena.now self.old.segment) k
+            ⊎ Refused S true charging n from.entry.place.segment from.entry.place.at lim.old lim.new (fault k from.entry.source)) }
+        ensures unbuilt { canonicalize ≡ false ⊎ word_at (message (A.segments self.old.arena.now)) self.old.segment self.old.at ≢ 0 → (result ≡ Err UnknownPointerType) × (A.segments self.new.arena.now ≡ A.segments self.old.arena.now) × (lim.new ≡ lim.old) }
+        ensures spent { OnErr result (Spends (source_charging B.charging from.entry.source) lim.old lim.new 1) }
+        ensures cleared { OnErr result (IsCleared (message (A.segments self.old.arena.now)) (message (A.segments self.new.arena.now)) self.old.segment) }
+        ensures longer { length (segment (message (A.segments self.old.arena.now)) self.old.segment) ≤ length (segment (message (A.segments self.new.arena.now)) self.old.segment) }
+        ensures room { A.room self.new.arena.now ≡ A.room self.old.arena.now }
+        ensures refusals { A.refusals self.new.arena.now ≡ A.refusals self.old.arena.now }
+        ensures offers { A.offers self.new.arena.now ≡ A.offers self.old.arena.now }
+        ensures same { self.new.arena.ghost_name ≡ self.old.arena.ghost_name }
+        ensures builder { (self.new.segment ≡ self.old.segment) × (self.new.at ≡ self.old.at) }
+    {
+        if !canonicalize || !self.is_null() {
+            return Err(ErrorKind::UnknownPointerType);
+        }
+        copy::copy_value(&mut *self.arena, self.segment, self.at, from, lim)
+    }
+}
+
+/// The words of a segment, none where there is no such segment.
+fn segment_bytes<A: ReaderArena>(arena: &A, id: u32) -> &[u8]
+    ensures words { words_of result.now ≡ segment (message (A.segments arena.now)) id }
+    ensures whole { length result.now ≡ 8 * length (segment (message (A.segments arena.now)) id) }
+    ensures small { length result.now < 8 * 2 ^ 32 }
+{
+    match arena.get_segment(id) {
+        Ok(bytes) => bytes,
+        Err(_) => &[],
+    }
+}
+
+/// A pointer of an arena, to be read.
+fn reader_at<A: ReaderArena>(arena: &A, segment: u32, at: u32) -> PointerReader<'_, A>
+    ensures reads { IsArena result.source arena.now }
+    ensures place { (result.place.segment ≡ segment) × (result.place.at ≡ at) }
+    ensures nesting { result.nesting_limit ≡ pos 2147483647 }
+{
+    PointerReader {
+        source: Source::Arena(arena),
+        place: Place {
+            segment: u64::from(segment),
+            bytes: segment_bytes(arena, segment),
+            at,
+        },
+        nesting_limit: 0x7fff_ffff,
+    }
+}
