@@ -1,0 +1,5 @@
+pub mod Three
+pub mod LineLemmas
+pub mod WritingLemmas
+pub mod CanonLemmas
+pub mod RunLemmas

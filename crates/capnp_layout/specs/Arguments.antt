@@ -1,0 +1,30 @@
+-- The arguments of the program: a command, a nesting limit, and a budget of words.
+use Rattle.std.specs.Prelude.{◌≡◌, ℕ, ℤ, pos, neg_ℤ, ◌<◌, ◌^◌, cond, List, [], ◌∷◌, drop, codes, Option, Some, None}
+use mir.Val.{SFits as FitsSigned}
+use mir.Syntax.{w32}
+use Rattle.std.specs.Str.Parse.{IsNumeral, digits_value, starts_with_minus}
+use Rattle.capnp_layout.specs.declared.tool.args.Args.{Args}
+use Rattle.capnp_layout.specs.declared.tool.args.Args.TheVariants.{Canon}
+
+-- the digits of a number that may be below zero
+abbrev pub without_minus : List ℕ → List ℕ
+without_minus text = cond (starts_with_minus text) (drop 1 text) text
+
+-- the number that an optional '-' and decimal digits write
+abbrev pub signed_value : List ℕ → ℤ
+signed_value text = let n = digits_value 10 (without_minus text) in cond (starts_with_minus text) (neg_ℤ (pos n)) (pos n)
+
+-- a nesting limit: an optional '-' and one or more decimal digits, with a value of i32
+abbrev pub IsNesting : List ℕ → ℤ → Type 0
+IsNesting text n = IsNumeral 10 (without_minus text) × (n ≡ signed_value text) × FitsSigned w32 n
+
+-- a budget of words: one or more decimal digits with a value below 2^64, or the word `none`
+abbrev pub IsBudget : List ℕ → Option ℕ → Type 0
+IsBudget text None = text ≡ codes "none"
+IsBudget text (Some n) = IsNumeral 10 text × (n ≡ digits_value 10 text) × (n < 2 ^ 64)
+
+-- the arguments are `canon NESTING BUDGET`
+abbrev pub AreArguments : List (List ℕ) → Args → Type 0
+AreArguments words (Canon options) =
+    (nesting : List ℕ) × (budget : List ℕ) × (words ≡ codes "canon" ∷ nesting ∷ budget ∷ []) × IsNesting nesting options.nesting_limit
+    × IsBudget budget options.traversal_limit_in_words

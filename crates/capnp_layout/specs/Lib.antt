@@ -1,0 +1,6 @@
+pub mod Arguments
+pub mod Writing
+pub mod Lines
+pub mod Answers
+pub mod Sources
+pub mod Runs

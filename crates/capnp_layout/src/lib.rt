@@ -1,0 +1,14 @@
+//! The wire layout of Cap'n Proto: what the crates below have, under one name, and the engine of the program `layout_tool`.
+#![tactic(auto)]
+
+pub mod devices;
+#[cfg(test)]
+mod tests;
+pub mod tool;
+
+pub use capnp_arena::arena;
+pub use capnp_builders::builders;
+pub use capnp_readers::{object, readers, source};
+pub use capnp_words::{
+    error, laws, mask, primitive, read_limiter, units, wire_pointer, words, zero,
+};

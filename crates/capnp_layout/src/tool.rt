@@ -1,0 +1,11 @@
+//! The engine of the program `layout_tool`.
+
+mod args;
+mod canon;
+mod engine;
+mod lines;
+mod reading;
+mod writing;
+
+pub use args::{Args, parse_args};
+pub use engine::{Outcome, run, run_with};

@@ -1,0 +1,64 @@
+//! The words behind the program's name.
+ghost use Rattle.std.specs.Prelude.{◌≡◌, Some, None, IfSome, IsNone, ℤ, ℕ, Option, map, string_bytes};
+ghost use Rattle.capnp_layout.specs.Arguments.{IsNesting, IsBudget, AreArguments};
+ghost use Rattle.capnp_layout.specs.declared.tool.args.Args.{Args};
+
+use capnp_arena::arena::ReaderOptions;
+
+/// What the program is asked for.
+#[derive(Clone, Copy)]
+pub enum Args {
+    /// The canonical words of a message ("Canonicalization"), which is read within these limits.
+    Canon(ReaderOptions),
+}
+
+/// Reads the words behind the program's name, which are `canon NESTING BUDGET`. All else is `None`.
+///
+/// NESTING is the nesting limit, an `i32` in decimal digits with an optional `-`. BUDGET is the
+/// traversal limit in words, a `u64` in decimal digits, or `none`.
+pub fn parse_args(args: &[String]) -> Option<Args>
+    ensures read { IfSome result (λ a. AreArguments (map string_bytes args.now) a) }
+    ensures none { IsNone result → (a : Args) → AreArguments (map string_bytes args.now) a → ⊥ }
+{
+    let [command, nesting, budget] = args else {
+        return None;
+    };
+    if command.as_str() != "canon" {
+        return None;
+    }
+    let nesting_limit = parse_nesting(nesting.as_str())?;
+    let traversal_limit_in_words = parse_budget(budget.as_str())?;
+    Some(Args::Canon(ReaderOptions {
+        traversal_limit_in_words,
+        nesting_limit,
+    }))
+}
+
+/// Reads an optional `-` and decimal digits; a `+` is refused.
+fn parse_nesting(text: &str) -> Option<i32>
+    ensures read { IfSome result (λ n. IsNesting text.now n) }
+    ensures none { IsNone result → (n : ℤ) → IsNesting text.now n → ⊥ }
+{
+    if text.starts_with('+') {
+        None
+    } else {
+        text.parse().ok()
+    }
+}
+
+/// Reads decimal digits, or `none`; a `+` is refused.
+fn parse_budget(text: &str) -> Option<Option<usize>>
+    ensures read { IfSome result (λ n. IsBudget text.now n) }
+    ensures none { IsNone result → (n : Option ℕ) → IsBudget text.now n → ⊥ }
+{
+    if text == "none" {
+        return Some(None);
+    }
+    if text.starts_with('+') {
+        return None;
+    }
+    match text.parse() {
+        Ok(n) => Some(Some(n)),
+        Err(_) => None,
+    }
+}

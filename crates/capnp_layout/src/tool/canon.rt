@@ -1,0 +1,173 @@
+//! The canonical words of a message ("Canonicalization"), in a segment of which the size is found by
+//! tries: each has twice the room of the one before, so that all together take no longer than
+//! twice the last.
+ghost use Rattle.std.specs.Prelude.{◌≡◌, ◌⊎◌, ◌<◌, ◌≤◌, ◌+◌, ◌++◌, ◌∷◌, [], true, false, OnOk, IfOk, IfErr};
+ghost use Rattle.capnp_words.specs.Bytes.{message};
+ghost use Rattle.capnp_words.specs.Canonical.{trim, encoding};
+ghost use Rattle.capnp_words.specs.Tree.{Tree};
+ghost use Rattle.capnp_arena.specs.Allocations.{max_words, one_more};
+ghost use Rattle.capnp_arena.specs.Limits.{IsSmall};
+ghost use Rattle.capnp_readers.specs.Source.{source_segments, source_charging, levels};
+ghost use Rattle.capnp_layout.specs.Answers.{HasValue, Reads, RefusesCopy, RefusesOr, RefusesTry, is_message_too_large};
+ghost use Rattle.capnp_layout.specs.Sources.{IsArena};
+
+use super::lines::Message;
+use capnp_arena::arena::{
+    Allocator, BuilderArena, BuilderArenaImpl, ReaderArena, ReaderArenaImpl, ReaderOptions,
+    ReaderSegments,
+};
+use capnp_builders::builders::PointerBuilder;
+use capnp_readers::readers::PointerReader;
+use capnp_words::error::ErrorKind;
+use capnp_words::read_limiter::ReadLimiter;
+use std::alloc::Global;
+
+/// The greatest number of words of a builder segment.
+const MOST_WORDS: u32 = 0x1fff_ffff;
+
+/// Copies what a pointer means to the root of a message whose only word is that root, which is null.
+fn copy_root<A: BuilderArena, B: ReaderArena>(
+    arena: &mut A,
+    from: PointerReader<'_, B>,
+    left: Option<usize>,
+) -> Result<(), ErrorKind>
+    requires root { message (A.segments arena.old) ≡ (0 ∷ []) ∷ [] }
+    requires arena { IsArena from.source }
+    ensures copied { let S = source_segments B.segments from.entry.source in let charging = source_charging B.charging from.entry.source in let n = levels from.entry.nesting_limit in
+        IfOk result (λ _. (t : Tree) × Reads S charging n from.entry.place.segment from.entry.place.at left t × (message (A.segments arena.new) ≡ encoding (trim t) ∷ [])) }
+    ensures refused { let S = source_segments B.segments from.entry.source in let charging = source_charging B.charging from.entry.source in let n = levels from.entry.nesting_limit in
+        IfErr result (RefusesCopy S charging n from.entry.place.segment from.entry.place.at left (A.room arena.old 0)) }
+    ensures refusals { A.refusals arena.new ≡ A.refusals arena.old }
+{
+    let mut lim = ReadLimiter::new(left);
+    let mut root = PointerBuilder::get_root(arena);
+    root.copy_from(from, &mut lim, true)
+}
+
+/// Makes the canonical words of what a pointer means in a fresh segment of so many words.
+fn copy_to_segment<A: Allocator, B: ReaderArena>(
+    arena: &mut BuilderArenaImpl<A>,
+    from: PointerReader<'_, B>,
+    left: Option<usize>,
+    room: u32,
+) -> Result<(), ErrorKind>
+    requires empty { ⟦<BuilderArenaImpl<A> as ReaderArena>⟧.segments arena.old ≡ [] }
+    requires arena { IsArena from.source }
+    requires some { 1 ≤ room }
+    requires most { room ≤ max_words }
+    ensures copied { let S = source_segments B.segments from.entry.source in let charging = source_charging B.charging from.entry.source in let n = levels from.entry.nesting_limit in
+        IfOk result (λ _. (t : Tree) × Reads S charging n from.entry.place.segment from.entry.place.at left t × (message (⟦<BuilderArenaImpl<A> as ReaderArena>⟧.segments arena.new) ≡ encoding (trim t) ∷ [])) }
+    ensures granted { OnOk result (⟦<BuilderArenaImpl<A> as BuilderArena>⟧.refusals arena.new ≡ ⟦<BuilderArenaImpl<A> as BuilderArena>⟧.refusals arena.old) }
+    ensures refused { let S = source_segments B.segments from.entry.source in let charging = source_charging B.charging from.entry.source in let n = levels from.entry.nesting_limit in
+        IfErr result (RefusesTry S charging n from.entry.place.segment from.entry.place.at left room (⟦<BuilderArenaImpl<A> as BuilderArena>⟧.refusals arena.old) (⟦<BuilderArenaImpl<A> as BuilderArena>⟧.refusals arena.new)) }
+{
+    arena.allocate_segment(room)?;
+    let _root = arena.allocate(0, 1);
+    copy_root(arena, from, left)
+}
+
+/// Makes the canonical words of what a pointer means in a fresh message with a segment of so many
+/// words. A refusal gives the allocator back.
+fn copy_to_message<A: Allocator, B: ReaderArena>(
+    alloc: Global,
+    allocator: A,
+    from: PointerReader<'_, B>,
+    left: Option<usize>,
+    room: u32,
+) -> Result<BuilderArenaImpl<A>, (ErrorKind, A)>
+    requires arena { IsArena from.source }
+    requires some { 1 ≤ room }
+    requires most { room ≤ max_words }
+    ensures copied { let S = source_segments B.segments from.entry.source in let charging = source_charging B.charging from.entry.source in let n = levels from.entry.nesting_limit in
+        IfOk result (λ made. (t : Tree) × Reads S charging n from.entry.place.segment from.entry.place.at left t × (message (⟦<BuilderArenaImpl<A> as ReaderArena>⟧.segments made) ≡ encoding (trim t) ∷ [])) }
+    ensures granted { IfOk result (λ made. ⟦<BuilderArenaImpl<A> as BuilderArena>⟧.refusals made ≡ A.refusals allocator) }
+    ensures refused { let S = source_segments B.segments from.entry.source in let charging = source_charging B.charging from.entry.source in let n = levels from.entry.nesting_limit in
+        IfErr result (λ e. RefusesTry S charging n from.entry.place.segment from.entry.place.at left room (A.refusals allocator) (A.refusals e.1) e.0) }
+{
+    let mut made = BuilderArenaImpl::new(alloc, allocator);
+    match copy_to_segment(&mut made, from, left, room) {
+        Ok(()) => Ok(made),
+        Err(kind) => Err((kind, made.into_allocator())),
+    }
+}
+
+/// Whether a refusal says that something would be too large.
+fn is_too_large(kind: ErrorKind) -> bool
+    ensures { result ≡ is_message_too_large kind }
+{
+    matches!(kind, ErrorKind::MessageTooLarge(_))
+}
+
+/// The same with twice the room as often as there is too little, up to the greatest segment.
+fn copy_in_tries<A: Allocator, B: ReaderArena>(
+    alloc: Global,
+    allocator: A,
+    from: PointerReader<'_, B>,
+    left: Option<usize>,
+    first_room: u32,
+) -> Result<BuilderArenaImpl<A>, (ErrorKind, A)>
+    requires arena { IsArena from.source }
+    requires some { 1 ≤ first_room }
+    requires most { first_room ≤ max_words }
+    ensures copied { let S = source_segments B.segments from.entry.source in let charging = source_charging B.charging from.entry.source in let n = levels from.entry.nesting_limit in
+        IfOk result (λ made. (t : Tree) × Reads S charging n from.entry.place.segment from.entry.place.at left t × (message (⟦<BuilderArenaImpl<A> as ReaderArena>⟧.segments made) ≡ encoding (trim t) ∷ [])) }
+    ensures granted { IfOk result (λ made. ⟦<BuilderArenaImpl<A> as BuilderArena>⟧.refusals made ≡ A.refusals allocator) }
+    ensures refused { let S = source_segments B.segments from.entry.source in let charging = source_charging B.charging from.entry.source in let n = levels from.entry.nesting_limit in
+        IfErr result (λ e. RefusesTry S charging n from.entry.place.segment from.entry.place.at left max_words (A.refusals allocator) (A.refusals e.1) e.0) }
+{
+    let mut room = first_room;
+    let mut unused = allocator;
+    loop {
+        match copy_to_message(alloc, unused, from, left, room) {
+            Ok(made) => return Ok(made),
+            Err((kind, returned)) => {
+                if room == MOST_WORDS || !is_too_large(kind) {
+                    return Err((kind, returned));
+                }
+                unused = returned;
+                room = (2 * room).min(MOST_WORDS);
+            }
+        }
+    }
+}
+
+/// The room of the first try: the words of the input and one more, up to the greatest segment.
+fn first_room(words: usize) -> u32
+    ensures some { 1 ≤ result }
+    ensures most { result ≤ max_words }
+{
+    if words < MOST_WORDS as usize {
+        words as u32 + 1
+    } else {
+        MOST_WORDS
+    }
+}
+
+/// Makes a message of one segment, the canonical words of what the root of another message means.
+/// A refusal gives the allocator back.
+pub(crate) fn canonical<A: Allocator>(
+    alloc: Global,
+    allocator: A,
+    source: Message,
+    options: ReaderOptions,
+) -> Result<BuilderArenaImpl<A>, (ErrorKind, A)>
+    ensures small { let segments = ⟦<Message as ReaderSegments>⟧.segments source in OnOk result (IsSmall segments) }
+    ensures value { let segments = ⟦<Message as ReaderSegments>⟧.segments source in
+        IfOk result (λ made. (t : Tree) × HasValue (message segments) (levels options.nesting_limit) options.traversal_limit_in_words t × (message (⟦<BuilderArenaImpl<A> as ReaderArena>⟧.segments made) ≡ encoding (trim t) ∷ [])) }
+    ensures granted { IfOk result (λ made. ⟦<BuilderArenaImpl<A> as BuilderArena>⟧.refusals made ≡ A.refusals allocator) }
+    ensures refused { let segments = ⟦<Message as ReaderSegments>⟧.segments source in
+        IfErr result (λ e. RefusesOr segments (levels options.nesting_limit) options.traversal_limit_in_words (A.refusals allocator) (A.refusals e.1) e.0) }
+{
+    if !source.is_small() {
+        return Err((ErrorKind::MessageTooLarge(usize::MAX), allocator));
+    }
+    let arena = ReaderArenaImpl::new(source, options);
+    let mut lim = ReadLimiter::new(options.traversal_limit_in_words);
+    match PointerReader::get_root_from_arena(&arena, &mut lim) {
+        Ok(root) => {
+            let room = first_room(arena.size_in_words());
+            copy_in_tries(alloc, allocator, root, lim.left(), room)
+        }
+        Err(kind) => Err((kind, allocator)),
+    }
+}

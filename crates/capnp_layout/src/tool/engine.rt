@@ -1,0 +1,195 @@
+//! One run of the program: an input is read, and one line is written.
+ghost use Rattle.std.specs.Prelude.{◌≡◌, ◌≢◌, ◌⊎◌, ◌∷◌, ◌++◌, [], ℕ, List, length, ◌≤◌, ◌+◌, true, false, Some, None, IfSome, OnOk, OnErr, IfOk, IfErr};
+ghost use Rattle.std.specs.Io.KnownBytes.{Appends, Keeps};
+ghost use Rattle.capnp_words.specs.Tree.{Tree};
+ghost use Rattle.capnp_arena.specs.Allocations.{max_words, one_more};
+ghost use Rattle.capnp_layout.specs.Lines.{segments_of};
+ghost use Rattle.capnp_arena.specs.Limits.{IsSmall};
+ghost use Rattle.capnp_words.specs.Canonical.{trim, word_count};
+ghost use Rattle.capnp_words.specs.declared.error.ErrorKind.{ErrorKind};
+ghost use Rattle.capnp_words.specs.declared.error.ErrorKind.TheVariants.{AllocationFailed};
+ghost use Rattle.capnp_layout.specs.Answers.{HasValue, RefusesOr, canonical_line, digits_of, refusal_line};
+ghost use Rattle.capnp_readers.specs.Source.{levels};
+ghost use Rattle.capnp_layout.specs.Runs.{IsRefusal, TextIsRefused, TextMeans, budget_of, levels_of};
+ghost use Rattle.capnp_words.specs.Bytes.{message, words_of};
+
+use super::args::Args;
+use super::canon::canonical;
+use super::lines::{InputFault, Message, read_lines};
+use super::reading::read_text;
+use super::writing::{write_refusal, write_words};
+use crate::devices::{DeviceFault, Input, Output};
+use capnp_arena::arena::{
+    Allocator, BuilderArenaImpl, HeapAllocator, OutputSegments, ReaderArena, ReaderOptions,
+    ReaderSegments,
+};
+use capnp_words::error::ErrorKind;
+use std::alloc::Global;
+
+/// How a run ends.
+#[derive(Clone, Copy, Debug, PartialEq, Eq)]
+pub enum Outcome {
+    /// The answer is written.
+    Done,
+    /// The message is refused, and the line `refused NAME` is written.
+    Refused,
+    /// A line isn't pairs of hex digits, or the input failed. Nothing is written.
+    BadInput,
+    /// The output failed. How much of a line was written isn't said.
+    WriteFailed,
+}
+
+/// The message that an input holds, one line of hex digits for each segment.
+fn read_message<A: Allocator, R: Input>(
+    alloc: Global,
+    allocator: &mut A,
+    input: &mut R,
+) -> Result<Message, InputFault>
+    requires { R.has_failed input.old ≡ false }
+    ensures segments { IfOk result (λ m. IfSome (R.remaining input.old) (λ text. segments_of text ≡ Some (⟦<Message as ReaderSegments>⟧.segments m))) }
+    ensures kept { OnOk result (A.refusals allocator.new ≡ A.refusals allocator.old) }
+    ensures bad { IfErr result (λ e. e ≡ InputFault.BadInput → (R.has_failed input.new ≡ true) ⊎ IfSome (R.remaining input.old) (λ text. segments_of text ≡ None)) }
+    ensures memory { IfErr result (λ e. e ≡ InputFault.NoMemory → A.refusals allocator.new ≡ one_more (A.refusals allocator.old)) }
+{
+    let text = read_text(alloc, allocator, input)?;
+    read_lines(alloc, allocator, text.as_slice())
+}
+
+/// Writes the line of a refusal.
+fn refuse<W: Output>(output: &mut W, kind: ErrorKind) -> Outcome
+    requires { W.has_failed output.old ≡ false }
+    ensures either { (result ≡ Outcome.Refused) ⊎ (result ≡ Outcome.WriteFailed) }
+    ensures written { result ≡ Outcome.Refused → Appends (W.contents output.old) (W.contents output.new) (refusal_line kind) }
+    ensures works { result ≡ Outcome.Refused → W.has_failed output.new ≡ false }
+    ensures failed { result ≡ Outcome.WriteFailed → W.has_failed output.new ≡ true }
+{
+    match write_refusal(output, kind) {
+        Ok(()) => Outcome::Refused,
+        Err(DeviceFault) => Outcome::WriteFailed,
+    }
+}
+
+/// The words of a message of one segment.
+fn only_segment<A: Allocator>(made: &BuilderArenaImpl<A>) -> &[u8]
+    requires { length (⟦<BuilderArenaImpl<A> as ReaderArena>⟧.segments made.now) ≡ 1 }
+    ensures { message (⟦<BuilderArenaImpl<A> as ReaderArena>⟧.segments made.now) ≡ words_of result.now ∷ [] }
+{
+    match made.get_segments_for_output() {
+        Ok(OutputSegments::SingleSegment(segment)) => segment,
+        _ => &[],
+    }
+}
+
+/// Writes the words of a message of one segment as a line.
+fn answer<A: Allocator, W: Output>(output: &mut W, made: &BuilderArenaImpl<A>) -> Outcome
+    requires works { W.has_failed output.old ≡ false }
+    requires single { length (⟦<BuilderArenaImpl<A> as ReaderArena>⟧.segments made.now) ≡ 1 }
+    ensures either { (result ≡ Outcome.Done) ⊎ (result ≡ Outcome.WriteFailed) }
+    ensures written { result ≡ Outcome.Done → (words : List ℕ) → message (⟦<BuilderArenaImpl<A> as ReaderArena>⟧.segments made.now) ≡ words ∷ [] → Appends (W.contents output.old) (W.contents output.new) (digits_of words ++ 10 ∷ []) }
+    ensures works { result ≡ Outcome.Done → W.has_failed output.new ≡ false }
+    ensures failed { result ≡ Outcome.WriteFailed → W.has_failed output.new ≡ true }
+{
+    match write_words(output, only_segment(made)) {
+        Ok(()) => Outcome::Done,
+        Err(DeviceFault) => Outcome::WriteFailed,
+    }
+}
+
+/// The limits within which a message is read.
+fn options_of(args: &Args) -> ReaderOptions
+    ensures levels { levels result.nesting_limit ≡ levels_of args.now }
+    ensures budget { result.traversal_limit_in_words ≡ budget_of args.now }
+{
+    match *args {
+        Args::Canon(options) => options,
+    }
+}
+
+/// Answers to a message with the line of its canonical words, or of its refusal.
+fn canon<A: Allocator, W: Output>(
+    alloc: Global,
+    allocator: A,
+    source: Message,
+    options: ReaderOptions,
+    output: &mut W,
+) -> (Outcome, A)
+    requires { W.has_failed output.old ≡ false }
+    ensures done { let segments = ⟦<Message as ReaderSegments>⟧.segments source in
+        result.0 ≡ Outcome.Done → (t : Tree) × IsSmall segments × HasValue (message segments) (levels options.nesting_limit) options.traversal_limit_in_words t × Appends (W.contents output.old) (W.contents output.new) (canonical_line t) }
+    ensures refused { let segments = ⟦<Message as ReaderSegments>⟧.segments source in
+        result.0 ≡ Outcome.Refused → (k : ErrorKind) × RefusesOr segments (levels options.nesting_limit) options.traversal_limit_in_words (A.refusals allocator) (A.refusals result.1) k × Appends (W.contents output.old) (W.contents output.new) (refusal_line k) }
+    ensures exactly { let segments = ⟦<Message as ReaderSegments>⟧.segments source in
+        (t : Tree) → IsSmall segments → HasValue (message segments) (levels options.nesting_limit) options.traversal_limit_in_words t → 1 + word_count (trim t) ≤ max_words →
+        (result.0 ≡ Outcome.Done) ⊎ (result.0 ≡ Outcome.WriteFailed) ⊎ ((result.0 ≡ Outcome.Refused) × (A.refusals result.1 ≡ one_more (A.refusals allocator)) × Appends (W.contents output.old) (W.contents output.new) (refusal_line AllocationFailed)) }
+    ensures input { result.0 ≢ Outcome.BadInput }
+    ensures works { result.0 ≢ Outcome.WriteFailed → W.has_failed output.new ≡ false }
+    ensures failed { result.0 ≡ Outcome.WriteFailed → W.has_failed output.new ≡ true }
+{
+    match canonical(alloc, allocator, source, options) {
+        Ok(made) => {
+            let outcome = answer(output, &made);
+            (outcome, made.into_allocator())
+        }
+        Err((kind, allocator)) => (refuse(output, kind), allocator),
+    }
+}
+
+/// Reads a message from an input, and writes one line to an output: the canonical words of what it
+/// means as lower case hex digits, each word's lowest byte first, or `refused` and the name of the
+/// refusal. Segments come from an allocator, which keeps what is read, too.
+///
+/// The refusal `AllocationFailed` is want of memory, which the allocator has counted.
+pub fn run_with<A: Allocator, R: Input, W: Output>(
+    alloc: Global,
+    allocator: A,
+    args: &Args,
+    input: &mut R,
+    output: &mut W,
+) -> (Outcome, A)
+    requires input { R.has_failed input.old ≡ false }
+    requires output { W.has_failed output.old ≡ false }
+    ensures done { result.0 ≡ Outcome.Done → IfSome (R.remaining input.old) (λ text. (t : Tree) × TextMeans text (levels_of args.now) (budget_of args.now) t × Appends (W.contents output.old) (W.contents output.new) (canonical_line t)) }
+    ensures refused { result.0 ≡ Outcome.Refused → IfSome (R.remaining input.old) (λ text. (k : ErrorKind) × IsRefusal text (levels_of args.now) (budget_of args.now) (A.refusals allocator) (A.refusals result.1) k × Appends (W.contents output.old) (W.contents output.new) (refusal_line k)) }
+    ensures exactly { IfSome (R.remaining input.old) (λ text. (t : Tree) → TextMeans text (levels_of args.now) (budget_of args.now) t → 1 + word_count (trim t) ≤ max_words →
+        (result.0 ≡ Outcome.Done) ⊎ (R.has_failed input.new ≡ true) ⊎ (W.has_failed output.new ≡ true) ⊎ ((result.0 ≡ Outcome.Refused) × (A.refusals result.1 ≡ one_more (A.refusals allocator)) × Appends (W.contents output.old) (W.contents output.new) (refusal_line AllocationFailed))) }
+    ensures input { result.0 ≡ Outcome.BadInput → (R.has_failed input.new ≡ true) ⊎ IfSome (R.remaining input.old) (λ text. segments_of text ≡ None) }
+    ensures unwritten { result.0 ≡ Outcome.BadInput → W.contents output.new ≡ W.contents output.old }
+    ensures works { result.0 ≢ Outcome.WriteFailed → W.has_failed output.new ≡ false }
+    ensures failed { result.0 ≡ Outcome.WriteFailed → W.has_failed output.new ≡ true }
+{
+    let mut allocator = allocator;
+    match read_message(alloc, &mut allocator, input) {
+        Ok(source) => canon(alloc, allocator, source, options_of(args), output),
+        Err(InputFault::BadInput) => (Outcome::BadInput, allocator),
+        Err(InputFault::NoMemory) => (refuse(output, ErrorKind::AllocationFailed), allocator),
+    }
+}
+
+/// Reads a message from an input, and writes one line to an output: the canonical words of what it
+/// means as lower case hex digits, each word's lowest byte first, or `refused` and the name of the
+/// refusal ("Canonicalization").
+///
+/// A line of the input is a segment, as pairs of hex digits in either case; no bytes are no
+/// segments. The root pointer costs one word of the traversal limit. The refusal
+/// `AllocationFailed` is want of memory; `MessageTooLarge` says that there are more segments or
+/// words than a reader takes, or more canonical words than the 536,870,911 of a segment.
+pub fn run<R: Input, W: Output>(
+    alloc: Global,
+    args: &Args,
+    input: &mut R,
+    output: &mut W,
+) -> Outcome
+    requires input { R.has_failed input.old ≡ false }
+    requires output { W.has_failed output.old ≡ false }
+    ensures done { result ≡ Outcome.Done → IfSome (R.remaining input.old) (λ text. (t : Tree) × TextMeans text (levels_of args.now) (budget_of args.now) t × Appends (W.contents output.old) (W.contents output.new) (canonical_line t)) }
+    ensures refused { result ≡ Outcome.Refused → IfSome (R.remaining input.old) (λ text. (k : ErrorKind) × ((k ≡ AllocationFailed) ⊎ TextIsRefused text (levels_of args.now) (budget_of args.now) k) × Appends (W.contents output.old) (W.contents output.new) (refusal_line k)) }
+    ensures exactly { IfSome (R.remaining input.old) (λ text. (t : Tree) → TextMeans text (levels_of args.now) (budget_of args.now) t → 1 + word_count (trim t) ≤ max_words →
+        (result ≡ Outcome.Done) ⊎ (R.has_failed input.new ≡ true) ⊎ (W.has_failed output.new ≡ true) ⊎ ((result ≡ Outcome.Refused) × Appends (W.contents output.old) (W.contents output.new) (refusal_line AllocationFailed))) }
+    ensures input { result ≡ Outcome.BadInput → (R.has_failed input.new ≡ true) ⊎ IfSome (R.remaining input.old) (λ text. segments_of text ≡ None) }
+    ensures unwritten { result ≡ Outcome.BadInput → W.contents output.new ≡ W.contents output.old }
+    ensures works { result ≢ Outcome.WriteFailed → W.has_failed output.new ≡ false }
+    ensures failed { result ≡ Outcome.WriteFailed → W.has_failed output.new ≡ true }
+{
+    let (outcome, _) = run_with(alloc, HeapAllocator::new(alloc, 0), args, input, output);
+    outcome
+}

@@ -1,0 +1,46 @@
+//! The lines that the program prints.
+ghost use Rattle.std.specs.Prelude.{◌≡◌, ◌+◌, ◌++◌, ◌∷◌, [], false, true, OnOk, OnErr};
+ghost use Rattle.std.specs.Io.KnownBytes.{Appends};
+ghost use Rattle.capnp_words.specs.Bytes.{words_of};
+ghost use Rattle.capnp_layout.specs.Answers.{word_digits, digits_of, refusal_line};
+
+use crate::devices::{DeviceFault, Output, write_all};
+use capnp_words::error::ErrorKind;
+use capnp_words::words::word_at;
+
+/// Writes the bytes of a word, the lowest first, as 16 hex digits.
+fn write_word<W: Output>(output: &mut W, word: u64) -> Result<(), DeviceFault>
+    requires { W.has_failed output.old ≡ false }
+    ensures written { OnOk result (Appends (W.contents output.old) (W.contents output.new) (word_digits word)) }
+    ensures works { OnOk result (W.has_failed output.new ≡ false) }
+    ensures fails { OnErr result (W.has_failed output.new ≡ true) }
+{
+    let mut digits = [0u8; 16];
+    let _ = hex::encode_to_slice(word.to_le_bytes().as_slice(), &mut digits);
+    write_all(output, &digits)
+}
+
+/// Writes all whole words of a segment as one line of hex digits.
+pub(crate) fn write_words<W: Output>(output: &mut W, segment: &[u8]) -> Result<(), DeviceFault>
+    requires { W.has_failed output.old ≡ false }
+    ensures written { OnOk result (Appends (W.contents output.old) (W.contents output.new) (digits_of (words_of segment.now) ++ 10 ∷ [])) }
+    ensures works { OnOk result (W.has_failed output.new ≡ false) }
+    ensures fails { OnErr result (W.has_failed output.new ≡ true) }
+{
+    for at in 0..segment.len() / 8 {
+        write_word(output, word_at(segment, at))?;
+    }
+    write_all(output, b"\n")
+}
+
+/// Writes the line that names a refusal.
+pub(crate) fn write_refusal<W: Output>(output: &mut W, kind: ErrorKind) -> Result<(), DeviceFault>
+    requires { W.has_failed output.old ≡ false }
+    ensures written { OnOk result (Appends (W.contents output.old) (W.contents output.new) (refusal_line kind)) }
+    ensures works { OnOk result (W.has_failed output.new ≡ false) }
+    ensures fails { OnErr result (W.has_failed output.new ≡ true) }
+{
+    write_all(output, b"refused ")?;
+    write_all(output, kind.name().as_bytes())?;
+    write_all(output, b"\n")
+}
