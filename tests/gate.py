@@ -1,0 +1,72 @@
+#!/usr/bin/env python3
+"""The gate: `rt ci`, and then the outside vectors over the program that it has just proved and built.
+
+    gate.py
+
+Shows what both print. Each ends in a line `N passed, M failed`, which is shown behind its name; the last line of
+all is `N passed, M failed` of both together, and the exit status is 0 exactly where M is 0.
+
+`rt ci` begins with no `out/` folder, and leaves there the program that it built. A program of an earlier run is
+removed before, so that the vectors run over the new one or not at all: then that is one failure."""
+import pathlib
+import re
+import shutil
+import subprocess
+import sys
+
+TOP = pathlib.Path(__file__).resolve().parents[1]
+PROGRAM = TOP / 'crates/layout_tool/out/layout_tool'
+VECTORS = TOP / 'tests/vectors/run.py'
+COUNTS = re.compile(r'(\d+) passed, (\d+) failed')
+
+
+def say(text):
+    print(text, flush=True)
+
+
+def remove(path):
+    if path.is_dir() and not path.is_symlink():
+        shutil.rmtree(path)
+    else:
+        path.unlink(missing_ok=True)
+
+
+def counted(name, command):
+    """Runs a command, shows what it prints, and returns how many passed and failed, by its last line. An exit status
+    that says otherwise, or a run that counts nothing, is one more failure."""
+    last = ''
+    try:
+        with subprocess.Popen(command, cwd=TOP, stdin=subprocess.DEVNULL, stdout=subprocess.PIPE, encoding='utf-8', errors='surrogateescape') as run:
+            for line in run.stdout:
+                last = line.rstrip('\n')
+                say(f'{name}: {last}' if COUNTS.fullmatch(last) else last)
+    except OSError as error:
+        say(f'{name}: not run: {error}')
+        return 0, 1
+    found = COUNTS.fullmatch(last)
+    if not found:
+        say(f'{name}: ended with status {run.returncode}, and no count in its last line')
+        return 0, 1
+    passed, failed = int(found[1]), int(found[2])
+    if failed == 0 and (run.returncode or not passed):
+        say(f'{name}: ended with status {run.returncode} where {passed} passed and none failed, which is a failure')
+        failed = 1
+    return passed, failed
+
+
+def main():
+    # as it came, whatever the locale
+    sys.stdout.reconfigure(encoding='utf-8', errors='surrogateescape')
+    remove(PROGRAM)
+    parts = [counted('rt ci', ['rt', 'ci'])]
+    if PROGRAM.is_file():
+        parts.append(counted('vectors', [sys.executable, str(VECTORS), str(PROGRAM)]))
+    else:
+        say(f'vectors: not run, since no {PROGRAM.relative_to(TOP)} was built')
+        parts.append((0, 1))
+    passed, failed = (sum(it) for it in zip(*parts))
+    say(f'{passed} passed, {failed} failed')
+    return 1 if failed else 0
+
+
+sys.exit(main())
