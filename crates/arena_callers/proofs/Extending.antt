@@ -1,8 +1,8 @@
 -- Words put behind others.
 use Rattle.std.proofs.Common.{◌≡◌, ℕ, zero, suc, ◌+◌, ◌<◌, List, [], ◌∷◌, ◌++◌, length, replicate, slice_set, refl, ap, ◌∙◌, arith}
 use Rattle.std.proofs.lemmas.List.{append_assoc, length-append}
-use Rattle.capnp_words.specs.Bytes.{message}
-use Rattle.capnp_words.specs.Segments.{Segments, segment}
+use Rattle.capnp_format.specs.Bytes.{message}
+use Rattle.capnp_format.specs.Segments.{Segments, segment}
 use Rattle.capnp_arena.specs.Written.{extended, with_word}
 
 set_last : (xs : List ℕ) (old x : ℕ) → slice_set (xs ++ old ∷ []) (length xs) x ≡ xs ++ x ∷ []

@@ -1,13 +1,13 @@
 //! Callers that know an arena by its contracts alone.
 #![tactic(auto)]
 
-ghost use Rattle.std.specs.Prelude.{◌≡◌, ◌<◌, ◌≤◌, ◌+◌, ◌^◌, ◌↔◌, ◌++◌, ◌∷◌, [], length, IsTrue, IsOk, IsSome, IfSome, OnOk, OnErr, slice_set, slice_index_or, replicate};
+ghost use Rattle.std.specs.Prelude.{◌≡◌, ◌<◌, ◌≤◌, ◌+◌, ◌^◌, ◌↔◌, ◌++◌, ◌∷◌, [], length, IsTrue, IsOk, IsSome, IsNone, IfSome, OnOk, OnErr, slice_set, slice_index_or, replicate};
 ghost use Rattle.std.specs.Bool.{OnTrue, OnFalse};
-ghost use Rattle.capnp_words.specs.Bytes.{message};
-ghost use Rattle.capnp_words.specs.Segments.{segment};
+ghost use Rattle.capnp_format.specs.Bytes.{message};
+ghost use Rattle.capnp_format.specs.Segments.{segment};
 ghost use Rattle.capnp_words.specs.Meter.{Affords, charged};
 ghost use Rattle.capnp_arena.specs.Checks.{Holds};
-ghost use Rattle.capnp_arena.specs.Written.{extended, with_segment};
+ghost use Rattle.capnp_arena.specs.Written.{with_more, with_segment, with_word};
 
 use capnp_arena::arena::{BuilderArena, ReaderArena};
 use capnp_words::error::ErrorKind;
@@ -16,11 +16,10 @@ use capnp_words::read_limiter::ReadLimiter;
 /// Takes a word of a segment, and writes it.
 #[tactic(auto, using(crate::proofs::Extending::extending))]
 pub fn append<A: BuilderArena>(arena: &mut A, id: u32, word: u64) -> bool
-    requires { id < length (A.segments arena.old) }
-    ensures exactly { IsTrue result ↔ (length (segment (message (A.segments arena.old)) id) + 1 ≤ A.room arena.old id) }
-    ensures words { OnTrue result (message (A.segments arena.new) ≡ extended (message (A.segments arena.old)) id (word ∷ [])) }
-    ensures none { OnFalse result (A.segments arena.new ≡ A.segments arena.old) }
-    ensures room { A.room arena.new ≡ A.room arena.old }
+    requires { id < length (A.view arena.old).words }
+    ensures exactly { IsTrue result ↔ (length (segment (A.view arena.old).words id) + 1 ≤ (A.view arena.old).room id) }
+    ensures words { OnTrue result (A.view arena.new ≡ with_more (A.view arena.old) id (word ∷ [])) }
+    ensures none { OnFalse result (A.view arena.new ≡ A.view arena.old) }
 {
     match arena.allocate(id, 1) {
         Some(at) => {
@@ -34,21 +33,54 @@ pub fn append<A: BuilderArena>(arena: &mut A, id: u32, word: u64) -> bool
 /// Takes two words of a segment and writes them. Where only one fits, takes and writes the first alone.
 #[tactic(auto, using(crate::proofs::Extending::extending))]
 pub fn append_both<A: BuilderArena>(arena: &mut A, id: u32, first: u64, second: u64) -> bool
-    requires { id < length (A.segments arena.old) }
-    ensures exactly { IsTrue result ↔ (length (segment (message (A.segments arena.old)) id) + 2 ≤ A.room arena.old id) }
-    ensures words { OnTrue result (message (A.segments arena.new) ≡ extended (message (A.segments arena.old)) id (first ∷ second ∷ [])) }
-    ensures one { length (segment (message (A.segments arena.old)) id) + 1 ≡ A.room arena.old id → message (A.segments arena.new) ≡ extended (message (A.segments arena.old)) id (first ∷ []) }
-    ensures none { A.room arena.old id ≤ length (segment (message (A.segments arena.old)) id) → A.segments arena.new ≡ A.segments arena.old }
-    ensures room { A.room arena.new ≡ A.room arena.old }
+    requires { id < length (A.view arena.old).words }
+    ensures exactly { IsTrue result ↔ (length (segment (A.view arena.old).words id) + 2 ≤ (A.view arena.old).room id) }
+    ensures words { OnTrue result (A.view arena.new ≡ with_more (A.view arena.old) id (first ∷ second ∷ [])) }
+    ensures one { length (segment (A.view arena.old).words id) + 1 ≡ (A.view arena.old).room id → A.view arena.new ≡ with_more (A.view arena.old) id (first ∷ []) }
+    ensures none { (A.view arena.old).room id ≤ length (segment (A.view arena.old).words id) → A.view arena.new ≡ A.view arena.old }
 {
     append(arena, id, first) && append(arena, id, second)
+}
+
+/// Writes the first two words of a segment.
+pub fn put_two<A: BuilderArena>(arena: &mut A, id: u32, first: u64, second: u64)
+    requires { 2 ≤ length (segment (A.view arena.old).words id) }
+    ensures { A.view arena.new ≡ record (A.view arena.old) { words = with_word (with_word (A.view arena.old).words id 0 first) id 1 second } }
+{
+    arena.set_word(id, 0, first);
+    arena.set_word(id, 1, second);
+}
+
+/// The same, of which only the room is said.
+pub fn put_either<A: BuilderArena>(arena: &mut A, id: u32, word: u64) -> u32
+    requires { 2 ≤ length (segment (A.view arena.old).words id) }
+    ensures length { length (segment (A.view arena.new).words id) ≡ length (segment (A.view arena.old).words id) }
+    ensures room { (A.view arena.new).room ≡ (A.view arena.old).room }
+{
+    if word == 7 {
+        return 0;
+    }
+    arena.set_word(id, 1, word);
+    1
+}
+
+/// Takes a word and writes it, or says that it is not there.
+pub fn try_append<A: BuilderArena>(arena: &mut A, id: u32, word: u64) -> Option<u32>
+    requires { id < length (A.view arena.old).words }
+    ensures length { IfSome result (λ at. length (segment (A.view arena.new).words id) ≡ at + 1) }
+    ensures room { (A.view arena.new).room ≡ (A.view arena.old).room }
+    ensures none { IsNone result → A.view arena.new ≡ A.view arena.old }
+{
+    let at = arena.allocate(id, 1)?;
+    arena.set_word(id, at, word);
+    Some(at)
 }
 
 /// Makes all allocated words of a segment zero.
 pub fn clear<A: BuilderArena>(arena: &mut A, id: u32)
     requires { id < length (A.segments arena.old) }
     ensures words { A.segments arena.new ≡ slice_set (A.segments arena.old) id (replicate (length (slice_index_or (A.segments arena.old) id [])) 0) }
-    ensures room { A.room arena.new ≡ A.room arena.old }
+    ensures view { A.view arena.new ≡ record (A.view arena.old) { words = (A.view arena.new).words } }
 {
     arena.segment_mut(id).fill(0);
 }

@@ -4,3 +4,4 @@ pub mod MessageLemmas
 pub mod RowLemmas
 pub mod RowsLemmas
 pub mod TakingLemmas
+mod Small

@@ -2,9 +2,9 @@
 use Rattle.std.proofs.Common.{◌≡◌, ℕ, zero, suc, ◌+◌, ◌*◌, ◌/◌, ◌<◌, ◌≤◌, List, [], ◌∷◌, length, map, take, slice_get, Some, refl, sym, ap, ◌∙◌, arith, length-take}
 use Rattle.std.proofs.lemmas.Grind.{common_steps}
 use Rattle.std.proofs.lemmas.List.Sums.{sum_by-cons}
-use Rattle.capnp_words.specs.Bytes.{words_of, message}
-use Rattle.capnp_words.specs.Segments.{Segments, segment}
-use Rattle.capnp_words.proofs.WordsOf.{words, words_of-take}
+use Rattle.capnp_format.specs.Bytes.{words_of, message}
+use Rattle.capnp_format.specs.Segments.{Segments, segment}
+use Rattle.capnp_format.proofs.WordsOf.{words, words_of-take}
 use Rattle.capnp_words.specs.declared.error.ErrorKind.{ErrorKind}
 use Rattle.capnp_words.specs.declared.error.ErrorKind.TheVariants.{MessageContainsOutOfBoundsPointer}
 use Rattle.capnp_arena.specs.Limits.{whole}
@@ -34,6 +34,11 @@ words_of-whole bs =
   where
     take-past : (n : ℕ) (xs : List ℕ) → length xs ≤ n → take n xs ≡ xs
     take-past n xs h = grind (arith, common_steps)
+
+-- so the words of a message are those of the whole words of its segments
+pub message_wholes : (B : List (List ℕ)) → message (map whole B) ≡ message B
+message_wholes [] = refl
+message_wholes (b ∷ B) = ap (λ ws. ws ∷ message (map whole B)) (words_of-whole b) ∙ ap (λ M. words_of b ∷ M) (message_wholes B)
 
 pub length-whole : (bs : List ℕ) → length (whole bs) ≡ 8 * (length bs / 8)
 length-whole bs = omega (arith, length-take (8 * (length bs / 8)) bs)

@@ -6,8 +6,8 @@ use mathlib.Core.List.{is_set}
 use Rattle.capnp_arena.specs.declared.arena.row.Row.{Row}
 use Rattle.std.proofs.lemmas.List.{drop-replicate, take-replicate, length-replicate}
 use borrow.Rule.Slice.PartMut.{put_mid}
-use Rattle.capnp_words.specs.Bytes.{words_of}
-use Rattle.capnp_words.proofs.WordsOf.{words_of-append, words_of-zeros}
+use Rattle.capnp_format.specs.Bytes.{words_of}
+use Rattle.capnp_format.proofs.WordsOf.{words_of-append, words_of-zeros}
 use Rattle.capnp_arena.specs.Allocations.{IsRow}
 use Rattle.capnp_arena.specs.Written.{overwritten}
 use Rattle.capnp_arena.specs.declared.arena.allocator.Segment.{Ghosts}

@@ -1,8 +1,8 @@
 -- The rows of a builder arena: one read, one changed, one more.
 use Rattle.std.proofs.Common.{◌≡◌, ℕ, ◌+◌, ◌/◌, ◌<◌, ◌≤◌, List, [], ◌∷◌, zero, suc, ◌++◌, length, get_or, set, map, take, refl, sym, ap, ◌∙◌, arith, slice_get, Some, ◌^◌}
-use Rattle.capnp_words.specs.Bytes.{words_of, message}
-use Rattle.capnp_words.specs.Segments.{segment}
-use Rattle.capnp_words.proofs.WordsOf.{words}
+use Rattle.capnp_format.specs.Bytes.{words_of, message}
+use Rattle.capnp_format.specs.Segments.{segment}
+use Rattle.capnp_format.proofs.WordsOf.{words}
 use Rattle.capnp_arena.specs.Row.{allocated, capacity, shown, capacity_at}
 use Rattle.std.specs.Borrow.{Bor}
 use Rattle.std.proofs.lemmas.List.{map-append}

@@ -1,25 +1,26 @@
 -- Words taken in a message: the first segment with room, and a segment behind the others.
 use Rattle.std.proofs.Common.{◌≡◌, ℕ, zero, suc, ◌<◌, inl, inr, List, [], ◌∷◌, ◌++◌, length, replicate, refl, sym, ap, ◌∙◌, arith, length-append}
 use Rattle.std.proofs.lemmas.Bool.{cases_lt}
-use Rattle.capnp_words.specs.Bytes.{words_of, message}
-use Rattle.capnp_words.specs.Segments.{Segments, segment}
+use Rattle.capnp_format.specs.Bytes.{words_of, message}
+use Rattle.capnp_format.specs.Segments.{Segments, segment}
 use Rattle.capnp_arena.proofs.MessageLemmas.{length-message}
 use Rattle.capnp_arena.specs.Row.{allocated, capacity, shown, capacity_at}
 use Rattle.capnp_arena.specs.Taking.{IsFull, IsFirstFit, with_another}
+use Rattle.capnp_arena.specs.View.{View}
 use Rattle.capnp_arena.specs.Written.{extended}
 use Rattle.capnp_arena.specs.declared.arena.allocator.Segment.{Ghosts}
 use Rattle.capnp_arena.specs.declared.arena.row.Row.{Row}
 
 -- there is one first fit at most
-pub fit_unique : (S : Segments) (room : ℕ → ℕ) (amount j k : ℕ) → IsFirstFit S room amount j → IsFirstFit S room amount k → j ≡ k
-fit_unique S room amount j k a b =
+pub fit_unique : (v : View) (amount j k : ℕ) → IsFirstFit v amount j → IsFirstFit v amount k → j ≡ k
+fit_unique v amount j k a b =
     elim (cases_lt j k) [
       | inl below ↦ absurd (omega (arith, a.1, b.2 j below))
       | inr above ↦ elim (cases_lt k j) [ inl below ↦ absurd (omega (arith, b.1, a.2 k below)) | inr same ↦ omega arith ]
     ]
 
-pub fit_not_full : (S : Segments) (room : ℕ → ℕ) (amount k : ℕ) → IsFirstFit S room amount k → IsFull S room amount → ⊥
-fit_not_full S room amount k fit full = omega (arith, fit.1, full k fit.0)
+pub fit_not_full : (v : View) (amount k : ℕ) → IsFirstFit v amount k → IsFull v amount → ⊥
+fit_not_full v amount k fit full = omega (arith, fit.1, full k fit.0)
 
 -- words taken in a segment without any, behind the others
 pub extended_another : (S : Segments) (ws : List ℕ) → extended (S ++ [] ∷ []) (length S) ws ≡ S ++ ws ∷ []

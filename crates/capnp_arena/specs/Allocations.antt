@@ -2,8 +2,8 @@
 use Rattle.std.specs.Prelude.{ℕ, List, ◌≡◌, ◌+◌, ◌*◌, ◌-◌, ◌/◌, ◌^◌, ◌≤◌, length, drop, replicate, min}
 
 -- the greatest number of words of a builder segment
-abbrev pub max_words : ℕ
-max_words = 2 ^ 29 - 1
+abbrev pub max_segment_words : ℕ
+max_segment_words = 2 ^ 29 - 1
 
 -- the greatest number of segments of a builder arena
 abbrev pub max_segments : ℕ
@@ -15,7 +15,7 @@ zeros words = replicate (8 * words) 0
 
 -- a fresh segment: whole words, all zero, at least those asked for, within the greatest number
 abbrev pub IsFresh : ℕ → List ℕ → Type 0
-IsFresh asked bytes = (bytes ≡ zeros (length bytes / 8)) × (asked ≤ length bytes / 8) × (length bytes / 8 ≤ max_words)
+IsFresh asked bytes = (bytes ≡ zeros (length bytes / 8)) × (asked ≤ length bytes / 8) × (length bytes / 8 ≤ max_segment_words)
 
 -- the words from used on are zero
 abbrev pub IsClearFrom : ℕ → List ℕ → Type 0
@@ -27,4 +27,4 @@ one_more n = min (n + 1) (2 ^ 64 - 1)
 
 -- used words of a segment, whose other words are zero
 abbrev pub IsRow : ℕ → List ℕ → Type 0
-IsRow used bytes = (8 * used ≤ length bytes) × (length bytes ≤ 8 * max_words) × IsClearFrom used bytes
+IsRow used bytes = (8 * used ≤ length bytes) × (length bytes ≤ 8 * max_segment_words) × IsClearFrom used bytes

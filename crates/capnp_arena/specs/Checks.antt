@@ -1,6 +1,6 @@
 -- What an arena checks of a place, by the words of its segments.
 use Rattle.std.specs.Prelude.{ℕ, ℤ, pos, ◌+ℤ◌, ◌≤ℤ◌, List, cond, nat_lt, map, sum, length, ◌+◌, ◌/◌, ◌<◌, ◌≤◌}
-use Rattle.capnp_words.specs.Segments.{Segments, segment}
+use Rattle.capnp_format.specs.Segments.{Segments, segment}
 use Rattle.capnp_words.specs.declared.error.ErrorKind.{ErrorKind}
 use Rattle.capnp_words.specs.declared.error.ErrorKind.TheVariants.{MessageContainsOutOfBoundsPointer}
 
@@ -9,8 +9,8 @@ abbrev pub Holds : Segments → ℕ → ℕ → ℕ → Type 0
 Holds S id start size = (id < length S) × (start + size ≤ length (segment S id))
 
 -- segment id is there, and start and start + offset lie in it, its end included
-abbrev pub IsOffset : Segments → ℕ → ℕ → ℤ → Type 0
-IsOffset S id start offset =
+abbrev pub LeadsInside : Segments → ℕ → ℕ → ℤ → Type 0
+LeadsInside S id start offset =
     (id < length S) × (start ≤ length (segment S id)) × (pos 0 ≤ℤ (pos start +ℤ offset)) × ((pos start +ℤ offset) ≤ℤ pos (length (segment S id)))
 
 -- the words of all segments, each by its bytes

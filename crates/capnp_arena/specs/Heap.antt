@@ -1,4 +1,4 @@
--- A segment on the heap, with other bytes.
+-- A segment on the heap, with other bytes. The lemmas stand here since a law of a trait may cite nothing else.
 use Rattle.std.specs.Prelude.{ℕ, List, ◌++◌, ◌≡◌, length, take, drop}
 use Rattle.std.proofs.Common.{arith}
 use Rattle.std.proofs.lemmas.Grind.{common_steps}

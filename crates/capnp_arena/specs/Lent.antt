@@ -1,4 +1,4 @@
--- What rows hold when the allocated words of one of them were lent to be written.
+-- What rows hold when the allocated words of one of them were lent to be written. The lemmas stand here since a law of a trait may cite nothing else.
 use Rattle.std.specs.Prelude.{ℕ, List, [], ◌∷◌, ◌*◌, ◌/◌, ◌≡◌, ◌++◌, length, map, take, drop, slice_get, slice_set, Option, Some, None}
 use Rattle.std.proofs.Common.{zero, suc, refl, sym, ap, ◌∙◌, arith, get_or, set, take_at, length-take}
 use Rattle.std.proofs.lemmas.Grind.{common_steps}

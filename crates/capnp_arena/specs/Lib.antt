@@ -7,4 +7,5 @@ pub mod Output
 pub mod Room
 pub mod Row
 pub mod Taking
+pub mod View
 pub mod Written

@@ -1,9 +1,9 @@
--- How much room rows have: no more words are allocated than that, and it is fewer than 2^29 words.
+-- How much room rows have: no more words are allocated than that, and it is fewer than 2^29 words. The lemmas stand here since a law of a trait may cite nothing else.
 use Rattle.std.specs.Prelude.{ℕ, List, [], ◌∷◌, ◌^◌, ◌<◌, ◌≤◌, length}
 use Rattle.std.proofs.Common.{zero, suc, arith}
-use Rattle.capnp_words.specs.Bytes.{message}
-use Rattle.capnp_words.specs.Segments.{segment}
-use Rattle.capnp_words.proofs.WordsOf.{words}
+use Rattle.capnp_format.specs.Bytes.{message}
+use Rattle.capnp_format.specs.Segments.{segment}
+use Rattle.capnp_format.proofs.WordsOf.{words}
 use Rattle.capnp_arena.specs.Row.{allocated, capacity_at, shown}
 use Rattle.capnp_arena.specs.Lent.{allocated_whole}
 use Rattle.capnp_arena.specs.declared.arena.row.Row.{Row}

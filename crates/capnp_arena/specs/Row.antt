@@ -1,4 +1,4 @@
--- The segments of a builder arena, by their rows.
+-- The segments of a builder arena, by their rows. The lemmas stand here since a law of a trait may cite nothing else.
 use Rattle.std.specs.Prelude.{ℕ, List, ◌*◌, ◌/◌, ◌≡◌, ◌≤◌, ◌-◌, length, take, drop, map, replicate, slice_index_or, slice_get, Option, Some, None}
 use Rattle.std.specs.Vec.{with_item}
 use Rattle.std.specs.Global.{Vec}

@@ -1,6 +1,7 @@
 -- What writing leaves of the segments of a message.
 use Rattle.std.specs.Prelude.{ℕ, List, ◌++◌, length, take, drop, slice_set}
-use Rattle.capnp_words.specs.Segments.{Segments, segment}
+use Rattle.capnp_format.specs.Segments.{Segments, segment}
+use Rattle.capnp_arena.specs.View.{View}
 
 -- segment s as ws
 abbrev pub with_segment : Segments → ℕ → List ℕ → Segments
@@ -24,3 +25,7 @@ extended S s ws = with_segment S s (segment S s ++ ws)
 -- the first n elements of ws over those of xs
 abbrev pub with_front : ℕ → List ℕ → List ℕ → List ℕ
 with_front n xs ws = take n ws ++ drop (length (take n ws)) xs
+
+-- the arena with more words at the end of a segment, and nothing else changed
+abbrev pub with_more : View → ℕ → List ℕ → View
+with_more v s ws = record v { words = extended v.words s ws }

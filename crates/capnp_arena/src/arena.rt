@@ -23,3 +23,10 @@ pub use reader_segments::{ReaderSegments, SegmentArray};
 
 /// The number of a segment, counted from 0.
 pub type SegmentId = u32;
+
+/// The greatest number of words of a segment that is built, 536,870,911: each position fits the 29 bits that a
+/// far pointer has for it ("Inter-Segment Pointers").
+pub const MAX_SEGMENT_WORDS: u32 = 0x1fff_ffff;
+
+/// The greatest number of segments of a message that is built, 4,294,967,295: their count is a u32.
+const MAX_SEGMENTS: usize = 0xffff_ffff;

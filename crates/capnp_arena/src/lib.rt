@@ -2,5 +2,3 @@
 #![tactic(auto)]
 
 pub mod arena;
-#[cfg(test)]
-mod tests;

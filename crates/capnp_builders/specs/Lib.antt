@@ -1,6 +1,3 @@
-pub mod Copied
-pub mod Copies
+pub mod Building
 pub mod Lent
 pub mod Reads
-pub mod Rooms
-pub mod Widths

@@ -1,20 +1,21 @@
 //! Builders: places of a message that is built, each with the message borrowed for writing.
 ghost use Rattle.std.specs.Prelude.{◌≡◌, ◌≢◌, ◌⊎◌, ◌↔◌, ◌∷◌, [], ◌+◌, ◌*◌, ◌^◌, ◌<◌, ◌≤◌, IsTrue, false, true, length, pos, IsOk, IfOk, IfErr, OnErr};
-ghost use Rattle.capnp_words.specs.Bytes.{message, words_of};
-ghost use Rattle.capnp_words.specs.Canonical.{trim, encoding};
-ghost use Rattle.capnp_words.specs.Segments.{segment, word_at, IsPlace};
-ghost use Rattle.capnp_words.specs.Tree.{Tree};
+ghost use Rattle.capnp_format.specs.Bytes.{message, words_of};
+ghost use Rattle.capnp_format.specs.Canonical.{trim, encoding};
+ghost use Rattle.capnp_format.specs.Segments.{segment, word_at, IsPlace};
+ghost use Rattle.capnp_format.specs.Tree.{Tree};
 ghost use Rattle.capnp_words.specs.declared.error.ErrorKind.TheVariants.{UnknownPointerType};
-ghost use Rattle.capnp_readers.specs.Source.{source_segments, source_charging, fault, levels};
-ghost use Rattle.capnp_readers.specs.Outcomes.{Copied, Refused, Spends};
-ghost use Rattle.capnp_builders.specs.Copies.{IsCopied, IsCleared, WantsRoom, CanBeCopied};
-ghost use Rattle.capnp_builders.specs.Reads.{IsArena};
+ghost use Rattle.capnp_builders.specs.Reads.{IsArenaOf};
+ghost use Rattle.capnp_objects.specs.Outcomes.{Reads, Refused, Spends};
+ghost use Rattle.capnp_objects.specs.Source.{fault};
+ghost use Rattle.capnp_objects.specs.Wanted.{canonical};
+ghost use Rattle.capnp_readers.specs.Readers.{reading};
 
-use crate::copy;
 use capnp_arena::arena::{BuilderArena, ReaderArena};
-use capnp_readers::object::Place;
+use capnp_copies::copy;
+use capnp_objects::object::Place;
+use capnp_objects::source::Source;
 use capnp_readers::readers::PointerReader;
-use capnp_readers::source::Source;
 use capnp_words::error::ErrorKind;
 use capnp_words::read_limiter::ReadLimiter;
 use capnp_words::words;
@@ -32,13 +33,15 @@ pub struct PointerBuilder<'a, A> {
 
 impl<'a, A: BuilderArena> PointerBuilder<'a, A> {
     ghost use Rattle.std.specs.Borrow.{sem, follows};
+    ghost use Rattle.capnp_copies.specs.Frames.{KeepsLimits};
+    ghost use Rattle.capnp_builders.specs.Building.{Fits, GainsCopy, IsCopy, HasOnlyNull, IsNull, IsThere, LacksWords, StaysClear, built};
     ghost use Rattle.capnp_builders.specs.Lent.{with_arena};
     ghost use Rattle.capnp_builders.specs.contracts.builders.PointerBuilder.{the_row};
     ghost use mir.Syntax.{named};
 
     /// The root pointer of a message: word 0 of segment 0, which is allocated.
     pub fn get_root(arena: &'a mut A) -> Self
-        requires { IsPlace (message (A.segments arena.old)) 0 0 }
+        requires { IsPlace (A.view arena.old).words 0 0 }
         ensures same { result.arena.ghost_name ≡ arena.entry.ghost_name }
         ensures now { result.arena.now ≡ arena.old }
         ensures place { (result.segment ≡ 0) × (result.at ≡ 0) }
@@ -64,27 +67,27 @@ impl<'a, A: BuilderArena> PointerBuilder<'a, A> {
 
     /// Whether the pointer is zero.
     pub fn is_null(&self) -> bool
-        requires { IsPlace (message (A.segments self.now.arena.now)) self.now.segment self.now.at }
-        ensures { IsTrue result ↔ (word_at (message (A.segments self.now.arena.now)) self.now.segment self.now.at ≡ 0) }
+        requires { IsPlace (A.view self.now.arena.now).words self.now.segment self.now.at }
+        ensures { IsTrue result ↔ (word_at (A.view self.now.arena.now).words self.now.segment self.now.at ≡ 0) }
     {
         words::word_at(segment_bytes(&*self.arena, self.segment), self.at as usize) == 0
     }
 
-    /// The pointer, to be read: nothing is charged, and 0x7fffffff levels may be entered.
+    /// The pointer, to be read: nothing is charged, and `i32::MAX` levels may be entered.
     pub fn as_reader(&self) -> PointerReader<'_, A>
-        ensures reads { IsArena result.source self.now.arena.now }
+        ensures reads { IsArenaOf result.source self.now.arena.now }
         ensures place { (result.place.segment ≡ self.now.segment) × (result.place.at ≡ self.now.at) }
-        ensures nesting { result.nesting_limit ≡ pos 2147483647 }
+        ensures nesting { result.nesting_limit ≡ i32.MAX }
     {
         reader_at(&*self.arena, self.segment, self.at)
     }
 
-    /// The pointer, to be read once building is over: nothing is charged, and 0x7fffffff levels
+    /// The pointer, to be read once building is over: nothing is charged, and `i32::MAX` levels
     /// may be entered.
     pub fn into_reader(self) -> PointerReader<'a, A>
-        ensures reads { IsArena result.source self.entry.arena.now }
+        ensures reads { IsArenaOf result.source self.entry.arena.now }
         ensures place { (result.place.segment ≡ self.entry.segment) × (result.place.at ≡ self.entry.at) }
-        ensures nesting { result.nesting_limit ≡ pos 2147483647 }
+        ensures nesting { result.nesting_limit ≡ i32.MAX }
     {
         let PointerBuilder { arena, segment, at } = self;
         reader_at(arena, segment, at)
@@ -107,26 +110,22 @@ impl<'a, A: BuilderArena> PointerBuilder<'a, A> {
         lim: &mut ReadLimiter,
         canonicalize: bool,
     ) -> Result<(), ErrorKind>
-        requires place { IsPlace (message (A.segments self.old.arena.now)) self.old.segment self.old.at }
-        ensures copied { let S = source_segments B.segments from.entry.source in let charging = source_charging B.charging from.entry.source in let n = levels from.entry.nesting_limit in
-            IfOk result (λ _. (t : Tree) × Copied S true charging n from.entry.place.segment from.entry.place.at lim.old lim.new t × IsCopied (message (A.segments self.old.arena.now)) (message (A.segments self.new.arena.now)) self.old.segment self.old.at t) }
-        ensures fresh { let S = source_segments B.segments from.entry.source in let charging = source_charging B.charging from.entry.source in let n = levels from.entry.nesting_limit in
-            segment (message (A.segments self.old.arena.now)) self.old.segment ≡ 0 ∷ [] →
-            IfOk result (λ _. (t : Tree) × Copied S true charging n from.entry.place.segment from.entry.place.at lim.old lim.new t × (segment (message (A.segments self.new.arena.now)) self.old.segment ≡ encoding (trim t))) }
-        ensures exactly { let S = source_segments B.segments from.entry.source in let charging = source_charging B.charging from.entry.source in let n = levels from.entry.nesting_limit in
-            IsTrue canonicalize → word_at (message (A.segments self.old.arena.now)) self.old.segment self.old.at ≡ 0 →
-            IsOk result ↔ CanBeCopied S charging n from.entry.place.segment from.entry.place.at lim.old (length (segment (message (A.segments self.old.arena.now)) self.old.segment)) (A.room self.old.arena.now self.old.segment) }
-        ensures refused { let S = source_segments B.segments from.entry.source in let charging = source_charging B.charging from.entry.source in let n = levels from.entry.nesting_limit in
-            IsTrue canonicalize → word_at (message (A.segments self.old.arena.now)) self.old.segment self.old.at ≡ 0 →
-            IfErr result (λ k. WantsRoom S n from.entry.place.segment from.entry.place.at (message (A.segments self.old.arena.now)) (message (A.segments self.new.arena.now)) self.old.segment (A.room self.old.arena.now self.old.segment) k
-            ⊎ Refused S true charging n from.entry.place.segment from.entry.place.at lim.old lim.new (fault k from.entry.source)) }
-        ensures unbuilt { canonicalize ≡ false ⊎ word_at (message (A.segments self.old.arena.now)) self.old.segment self.old.at ≢ 0 → (result ≡ Err UnknownPointerType) × (A.segments self.new.arena.now ≡ A.segments self.old.arena.now) × (lim.new ≡ lim.old) }
-        ensures spent { OnErr result (Spends (source_charging B.charging from.entry.source) lim.old lim.new 1) }
-        ensures cleared { OnErr result (IsCleared (message (A.segments self.old.arena.now)) (message (A.segments self.new.arena.now)) self.old.segment) }
-        ensures longer { length (segment (message (A.segments self.old.arena.now)) self.old.segment) ≤ length (segment (message (A.segments self.new.arena.now)) self.old.segment) }
-        ensures room { A.room self.new.arena.now ≡ A.room self.old.arena.now }
-        ensures refusals { A.refusals self.new.arena.now ≡ A.refusals self.old.arena.now }
-        ensures offers { A.offers self.new.arena.now ≡ A.offers self.old.arena.now }
+        requires place { IsThere (built A.view self.old) }
+        ensures copied { IfOk result (λ _. (t : Tree) × Reads canonical (reading B.ReaderArena from.entry) lim.old lim.new t
+            × GainsCopy (built A.view self.old) (built A.view self.new) t) }
+        ensures fresh { HasOnlyNull (built A.view self.old) →
+            IfOk result (λ _. (t : Tree) × Reads canonical (reading B.ReaderArena from.entry) lim.old lim.new t
+            × IsCopy (built A.view self.old) (built A.view self.new) t) }
+        ensures exactly { IsTrue canonicalize → IsNull (built A.view self.old) →
+            IsOk result ↔ Fits (reading B.ReaderArena from.entry) lim.old (built A.view self.old) }
+        ensures refused { IsTrue canonicalize → IsNull (built A.view self.old) → IfErr result (λ k.
+            LacksWords (reading B.ReaderArena from.entry) (built A.view self.old) (built A.view self.new) k
+            ⊎ Refused canonical (reading B.ReaderArena from.entry) lim.old lim.new (fault k from.entry.source)) }
+        ensures unbuilt { canonicalize ≡ false ⊎ ¬ IsNull (built A.view self.old) →
+            (result ≡ Err UnknownPointerType) × (A.view self.new.arena.now ≡ A.view self.old.arena.now) × (lim.new ≡ lim.old) }
+        ensures spent { OnErr result (Spends (reading B.ReaderArena from.entry).charging lim.old lim.new 1) }
+        ensures cleared { OnErr result (StaysClear (built A.view self.old) (built A.view self.new)) }
+        ensures limits { KeepsLimits (A.view self.old.arena.now) (A.view self.new.arena.now) }
         ensures same { self.new.arena.ghost_name ≡ self.old.arena.ghost_name }
         ensures builder { (self.new.segment ≡ self.old.segment) × (self.new.at ≡ self.old.at) }
     {
@@ -151,9 +150,9 @@ fn segment_bytes<A: ReaderArena>(arena: &A, id: u32) -> &[u8]
 
 /// A pointer of an arena, to be read.
 fn reader_at<A: ReaderArena>(arena: &A, segment: u32, at: u32) -> PointerReader<'_, A>
-    ensures reads { IsArena result.source arena.now }
+    ensures reads { IsArenaOf result.source arena.now }
     ensures place { (result.place.segment ≡ segment) × (result.place.at ≡ at) }
-    ensures nesting { result.nesting_limit ≡ pos 2147483647 }
+    ensures nesting { result.nesting_limit ≡ i32.MAX }
 {
     PointerReader {
         source: Source::Arena(arena),
@@ -162,6 +161,6 @@ fn reader_at<A: ReaderArena>(arena: &A, segment: u32, at: u32) -> PointerReader<
             bytes: segment_bytes(arena, segment),
             at,
         },
-        nesting_limit: 0x7fff_ffff,
+        nesting_limit: i32::MAX,
     }
 }

@@ -2,13 +2,13 @@
 use Rattle.std.proofs.Common.{◌≡◌, inl, inr, ℕ, ◌+◌, ◌≤◌, List, Option, Some, None, IfSome, subst, arith}
 use Rattle.capnp_words.specs.declared.error.ErrorKind.{ErrorKind}
 use Rattle.capnp_words.specs.declared.error.ErrorKind.TheVariants.{AllocationFailed}
-use Rattle.capnp_words.specs.Bytes.{message}
-use Rattle.capnp_words.specs.Tree.{Tree}
-use Rattle.capnp_words.specs.Canonical.{trim, word_count}
+use Rattle.capnp_format.specs.Bytes.{message}
+use Rattle.capnp_format.specs.Tree.{Tree}
+use Rattle.capnp_format.specs.Canonical.{trim, word_count}
 use Rattle.capnp_words.specs.Meter.{FitsIn, less}
-use Rattle.capnp_arena.specs.Allocations.{max_words, one_more}
+use Rattle.capnp_arena.specs.Allocations.{max_segment_words, one_more}
 use Rattle.capnp_arena.specs.Limits.{IsSmall}
-use Rattle.capnp_layout.specs.Answers.{HasValue, Refuses, RefusesOr}
+use Rattle.capnp_layout.specs.Answers.{HasValue, LacksMemoryOr, Refuses}
 use Rattle.capnp_layout.specs.Answers.Refuses.{beyond_limits, no_root, no_budget, no_copy}
 
 pub if_some : {X : Type 0} (P : X → Type 0) (o : Option X) → ((x : X) → P x) → IfSome o P
@@ -21,7 +21,7 @@ covers_rest (Some b) c h = omega arith
 
 -- a message is not refused of which the root means a value whose canonical words fit a segment
 pub not_refused : (segments : List (List ℕ)) (n : ℕ) (budget : Option ℕ) (k : ErrorKind) (t : Tree)
-    → IsSmall segments → HasValue (message segments) n budget t → 1 + word_count (trim t) ≤ max_words → Refuses segments n budget k → ⊥
+    → IsSmall segments → HasValue (message segments) n budget t → 1 + word_count (trim t) ≤ max_segment_words → Refuses segments n budget k → ⊥
 not_refused segments n budget k t small value fits (beyond_limits w named large) = large small
 not_refused segments n budget k t small value fits (no_root named none) = none value.root
 not_refused segments n budget k t small value fits (no_budget named none) =
@@ -33,7 +33,7 @@ not_refused segments n budget k t small value fits (no_copy (inr (m, refused))) 
 
 -- such a message is refused for want of memory alone
 pub only_memory : (segments : List (List ℕ)) (n : ℕ) (budget : Option ℕ) (old new : ℕ) (k : ErrorKind) (t : Tree)
-    → IsSmall segments → HasValue (message segments) n budget t → 1 + word_count (trim t) ≤ max_words → RefusesOr segments n budget old new k
+    → IsSmall segments → HasValue (message segments) n budget t → 1 + word_count (trim t) ≤ max_segment_words → LacksMemoryOr old new k (Refuses segments n budget k)
     → (k ≡ AllocationFailed) × (new ≡ one_more old)
 only_memory segments n budget old new k t small value fits (inl memory) = memory
 only_memory segments n budget old new k t small value fits (inr (refused, same)) = absurd (not_refused segments n budget k t small value fits refused)

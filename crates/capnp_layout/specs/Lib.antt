@@ -1,6 +1,7 @@
 pub mod Arguments
 pub mod Writing
 pub mod Lines
+pub mod Messages
 pub mod Answers
 pub mod Sources
 pub mod Runs

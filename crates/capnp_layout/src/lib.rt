@@ -2,8 +2,6 @@
 #![tactic(auto)]
 
 pub mod devices;
-#[cfg(test)]
-mod tests;
 pub mod tool;
 
 pub use capnp_arena::arena;

@@ -1,15 +1,2 @@
-pub mod Followed
-pub mod Parts
-pub mod Faultless
-pub mod Decided
-pub mod Budgets
-pub mod Copies
-pub mod Objects
-pub mod Stops
-pub mod Truths
-pub mod Limits
-pub mod Defaults
-pub mod Landings
-pub mod Targets
 pub mod Sections
-pub mod Small
+pub mod Targets

@@ -3,19 +3,19 @@ use Rattle.std.proofs.Common.{◌≡◌, ◌≢◌, ℕ, ◌+◌, ◌-◌, ◌*�
 use Rattle.std.proofs.lemmas.List.{drop-take, take-take, drop-drop}
 use Rattle.std.proofs.lemmas.Grind.{common_steps}
 use Rattle.std.proofs.lemmas.Nat.{le-div, mul-add-lt, rows}
-use Rattle.capnp_words.specs.Bytes.{words_of}
-use Rattle.capnp_words.specs.Segments.{Segments, segment}
-use Rattle.capnp_words.proofs.WordsOf.{words, words_of-take}
-use Rattle.capnp_words.specs.Numbers.{words_for, element_bits}
+use Rattle.capnp_format.specs.Bytes.{words_of}
+use Rattle.capnp_format.specs.Segments.{Segments, segment}
+use Rattle.capnp_format.proofs.WordsOf.{words, words_of-take}
+use Rattle.capnp_format.specs.Numbers.{words_for, element_bits}
 use Rattle.capnp_words.specs.Sizes.{size_number}
 use Rattle.capnp_words.specs.declared.wire_pointer.ElementSize.{ElementSize}
 use Rattle.capnp_words.specs.declared.wire_pointer.ElementSize.TheVariants.{Void, Bit, Byte, TwoBytes, FourBytes, EightBytes, Pointer, InlineComposite}
 use Rattle.capnp_words.specs.declared.wire_pointer.StructSize.{StructSize}
-use Rattle.capnp_readers.specs.Objects.{IsHeld}
-use Rattle.capnp_readers.specs.declared.object.Place.{Place}
+use Rattle.capnp_objects.specs.Objects.{IsHeld}
+use Rattle.capnp_objects.specs.declared.object.Place.{Place}
 use Rattle.capnp_readers.specs.Sections.{IsInside, IsPart, bytes_for, HasRoom, HoldsPointer, list_words, pointers_behind}
-use Rattle.capnp_readers.specs.Source.{default_segments}
-use Rattle.capnp_readers.proofs.Defaults.{default_at}
+use Rattle.capnp_objects.specs.Source.{default_segments}
+use Rattle.capnp_objects.proofs.Defaults.{default_at}
 
 -- all bytes of a default's whole words
 pub default_whole : (bytes : List ℕ) → words_of (take (8 * (length bytes / 8)) bytes) ≡ segment (default_segments bytes) (2 ^ 32)

@@ -1,19 +1,19 @@
 -- From what is read at a place to what its reader shows.
-use Rattle.std.proofs.Common.{◌≡◌, ℕ, ℤ, pos, ◌-ℤ◌, ◌≤◌, sym, arith}
+use Rattle.std.proofs.Common.{◌≡◌, ℕ, pos, ◌-ℤ◌, ◌≤◌, sym, arith}
 use Rattle.capnp_words.specs.Meter.{Meter}
-use Rattle.capnp_words.specs.Segments.{Segments, Target}
+use Rattle.capnp_format.specs.Segments.{Segments, Target}
 use Rattle.capnp_words.specs.Sizes.{size_number}
-use Rattle.capnp_words.specs.Word.{element_size, list_count}
+use Rattle.capnp_format.specs.Word.{element_size, list_count}
 use Rattle.capnp_words.specs.declared.wire_pointer.ElementSize.{ElementSize}
 use Rattle.capnp_words.specs.declared.wire_pointer.ElementSize.TheVariants.{Void, Bit, Byte, TwoBytes, FourBytes, EightBytes, Pointer, InlineComposite}
 use Rattle.capnp_words.specs.declared.wire_pointer.StructSize.{StructSize}
 use Rattle.capnp_arena.specs.declared.arena.reader_arena.ReaderArena.{Ghosts}
-use Rattle.capnp_readers.specs.Objects.{IsObject}
-use Rattle.capnp_readers.specs.Readers.{ShowsStruct, ShowsList, IsListOf, IsTarget}
-use Rattle.capnp_readers.specs.Source.{source_segments, source_charging, levels}
-use Rattle.capnp_readers.specs.declared.object.Place.{Place}
-use Rattle.capnp_readers.specs.declared.object.Object.TheVariants.{Struct as ObjectStruct, Flat as ObjectFlat, Pointers as ObjectPointers}
-use Rattle.capnp_readers.specs.declared.source.Source.{Source}
+use Rattle.capnp_objects.specs.Objects.{IsObject}
+use Rattle.capnp_objects.specs.Source.{levels}
+use Rattle.capnp_readers.specs.Readers.{ShowsStruct, ShowsList, IsListOf, IsTarget, reading}
+use Rattle.capnp_objects.specs.declared.object.Place.{Place}
+use Rattle.capnp_objects.specs.declared.object.Object.TheVariants.{Struct as ObjectStruct, Flat as ObjectFlat, Pointers as ObjectPointers}
+use Rattle.capnp_readers.specs.declared.readers.PointerReader.{PointerReader}
 use Rattle.capnp_readers.specs.declared.readers.struct_reader.StructReader.{StructReader}
 use Rattle.capnp_readers.specs.declared.readers.list_reader.ListReader.{ListReader}
 use Rattle.capnp_readers.specs.declared.readers.target.Target.TheVariants.{Struct, List}
@@ -35,25 +35,22 @@ module _ {A : Type 0} (g : Ghosts A) where
   flat_list EightBytes S r a h e s = (e, s)
   flat_list Pointer S r a h e s = (e, s)
 
-  pub struct_target : (source : Source A) (nesting : ℤ) (n s p : ℕ) (m m' : Meter) (start : Place) (size : StructSize) (r : StructReader A g) →
-      n ≡ levels nesting → IsObject (source_segments g.segments source) (source_charging g.charging source) n s p m m' (ObjectStruct start size) →
-      ShowsStruct g (source_segments g.segments source) r start.segment start.at size.data_words size.pointers → r.source ≡ source → r.nesting_limit ≡ nesting -ℤ pos 1 →
-      IsTarget g source nesting s p m m' (Struct r)
-  struct_target source nesting n s p m m' start size r is_levels (a, entered, z, (held, u, at), d, q) shows from level =
-      (a, rw (← is_levels) entered, z, shows_struct (source_segments g.segments source) r start.segment a.segment start.at a.start size.data_words _ size.pointers _ shows u (omega arith) d q, from, level)
+  pub struct_target : (from : PointerReader A g) (n : ℕ) {m m' : Meter} (start : Place) (size : StructSize) (r : StructReader A g) →
+      n ≡ levels from.nesting_limit → IsObject (record (reading g from) { levels = n }) m m' (ObjectStruct start size) → ShowsStruct g (reading g from).segments r start.segment start.at size.data_words size.pointers →
+      r.source ≡ from.source → r.nesting_limit ≡ from.nesting_limit -ℤ pos 1 → IsTarget g from m m' (Struct r)
+  struct_target from n start size r is_levels (a, entered, z, (held, u, at), d, q) shows same level =
+      (a, rw (← is_levels) entered, z, shows_struct (reading g from).segments r start.segment a.segment start.at a.start size.data_words _ size.pointers _ shows u (omega arith) d q, same, level)
 
-  pub flat_target : (source : Source A) (nesting : ℤ) (n s p : ℕ) (m m' : Meter) (start : Place) (size : ElementSize) (count : ℕ) (r : ListReader A g) →
-      n ≡ levels nesting → IsObject (source_segments g.segments source) (source_charging g.charging source) n s p m m' (ObjectFlat start size count) → r.element_size ≡ size →
-      ShowsList g (source_segments g.segments source) r start.segment start.at count 0 0 → r.source ≡ source → r.nesting_limit ≡ nesting -ℤ pos 1 →
-      IsTarget g source nesting s p m m' (List r)
-  flat_target source nesting n s p m m' start size count r is_levels (a, entered, z, small, (held, u, at), e, counted) same shows from level =
-      let S = source_segments g.segments source in
-      (a, rw (← is_levels) entered, z, flat_list r.element_size S r a (rw same (omega arith)) (rw same (sym e)) (shows_list S r start.segment a.segment start.at a.start count _ shows u (omega arith) counted), from, level)
+  pub flat_target : (from : PointerReader A g) (n : ℕ) {m m' : Meter} (start : Place) (size : ElementSize) (count : ℕ) (r : ListReader A g) →
+      n ≡ levels from.nesting_limit → IsObject (record (reading g from) { levels = n }) m m' (ObjectFlat start size count) → r.element_size ≡ size → ShowsList g (reading g from).segments r start.segment start.at count 0 0 →
+      r.source ≡ from.source → r.nesting_limit ≡ from.nesting_limit -ℤ pos 1 → IsTarget g from m m' (List r)
+  flat_target from n start size count r is_levels (a, entered, z, small, (held, u, at), e, counted) wide shows same level =
+      let S = (reading g from).segments in
+      (a, rw (← is_levels) entered, z, flat_list r.element_size S r a (rw wide (omega arith)) (rw wide (sym e)) (shows_list S r start.segment a.segment start.at a.start count _ shows u (omega arith) counted), same, level)
 
-  pub pointers_target : (source : Source A) (nesting : ℤ) (n s p : ℕ) (m m' : Meter) (start : Place) (count : ℕ) (r : ListReader A g) →
-      n ≡ levels nesting → IsObject (source_segments g.segments source) (source_charging g.charging source) n s p m m' (ObjectPointers start count) → r.element_size ≡ Pointer →
-      ShowsList g (source_segments g.segments source) r start.segment start.at count 0 0 → r.source ≡ source → r.nesting_limit ≡ nesting -ℤ pos 1 →
-      IsTarget g source nesting s p m m' (List r)
-  pointers_target source nesting n s p m m' start count r is_levels (a, entered, z, six, (held, u, at), counted) same shows from level =
-      let S = source_segments g.segments source in
-      (a, rw (← is_levels) entered, z, flat_list r.element_size S r a (rw same (omega arith)) (rw same six) (shows_list S r start.segment a.segment start.at a.start count _ shows u (omega arith) counted), from, level)
+  pub pointers_target : (from : PointerReader A g) (n : ℕ) {m m' : Meter} (start : Place) (count : ℕ) (r : ListReader A g) →
+      n ≡ levels from.nesting_limit → IsObject (record (reading g from) { levels = n }) m m' (ObjectPointers start count) → r.element_size ≡ Pointer → ShowsList g (reading g from).segments r start.segment start.at count 0 0 →
+      r.source ≡ from.source → r.nesting_limit ≡ from.nesting_limit -ℤ pos 1 → IsTarget g from m m' (List r)
+  pointers_target from n start count r is_levels (a, entered, z, six, (held, u, at), counted) wide shows same level =
+      let S = (reading g from).segments in
+      (a, rw (← is_levels) entered, z, flat_list r.element_size S r a (rw wide (omega arith)) (rw wide six) (shows_list S r start.segment a.segment start.at a.start count _ shows u (omega arith) counted), same, level)

@@ -1,9 +1,2 @@
-pub mod Spending
-pub mod Follow
-pub mod Faults
-pub mod Outcomes
-pub mod Source
-pub mod Objects
-pub mod Landings
 pub mod Sections
 pub mod Readers

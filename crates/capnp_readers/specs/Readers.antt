@@ -1,22 +1,23 @@
 -- What readers show of a message, and where they may be put.
 use Rattle.std.specs.Prelude.{◌≡◌, ℕ, ℤ, pos, ◌+◌, ◌*◌, ◌/◌, ◌%◌, ◌^◌, slice_range, ◌-ℤ◌, ◌<◌, ◌≤◌, length}
 use Rattle.std.specs.Int.{w32, saturate_signed}
-use Rattle.capnp_words.specs.Bytes.{words_of}
+use Rattle.capnp_format.specs.Bytes.{words_of}
 use Rattle.capnp_words.specs.Meter.{Meter, Affords}
-use Rattle.capnp_words.specs.Means.{Leads}
-use Rattle.capnp_words.specs.Segments.{Segments, Target, segment, word_at, words_at}
-use Rattle.capnp_words.specs.Numbers.{element_bits}
+use Rattle.capnp_format.specs.Segments.{Segments, Target, segment, words_at}
+use Rattle.capnp_format.specs.Numbers.{element_bits}
 use Rattle.capnp_words.specs.Sizes.{size_number}
-use Rattle.capnp_words.specs.Word.{kind, offset_bits, data_words, pointer_count, element_size, list_count, upper_half}
+use Rattle.capnp_format.specs.Word.{kind, offset_bits, data_words, pointer_count, element_size, list_count, upper_half}
 use Rattle.capnp_words.specs.declared.wire_pointer.ElementSize.{ElementSize}
 use Rattle.capnp_words.specs.declared.wire_pointer.ElementSize.TheVariants.{Pointer, InlineComposite}
 use Rattle.capnp_arena.specs.declared.arena.reader_arena.ReaderArena.{Ghosts}
-use Rattle.capnp_readers.specs.Faults.{tag}
-use Rattle.capnp_readers.specs.Outcomes.{Entered}
+use Rattle.capnp_objects.specs.Demands.{tag}
+use Rattle.capnp_objects.specs.Faults.{LeadsTo}
+use Rattle.capnp_objects.specs.Reading.{Reading, reading_at, word_of}
+use Rattle.capnp_objects.specs.Outcomes.{Entered}
 use Rattle.capnp_readers.specs.Sections.{bytes_for, list_words}
-use Rattle.capnp_readers.specs.Source.{source_segments, source_charging, levels}
-use Rattle.capnp_readers.specs.Spending.{after}
-use Rattle.capnp_readers.specs.declared.source.Source.{Source}
+use Rattle.capnp_objects.specs.Source.{source_segments}
+use Rattle.capnp_objects.specs.Spending.{after}
+use Rattle.capnp_readers.specs.declared.readers.PointerReader.{PointerReader}
 use Rattle.capnp_readers.specs.declared.readers.struct_reader.StructPlace.{StructPlace}
 use Rattle.capnp_readers.specs.declared.readers.struct_reader.StructReader.{StructReader}
 use Rattle.capnp_readers.specs.declared.readers.list_reader.ListPlace.{ListPlace}
@@ -59,14 +60,20 @@ module _ {A : Type 0} (g : Ghosts A) where
     pub data_of : r.struct_size.data_words ≡ d
     pub pointers_of : r.struct_size.pointers ≡ q
 
-  -- A struct reader shows element number i of a list: a struct's two sections, one pointer, or the bits of a number.
-  abbrev pub ShowsElement : ElementSize → Segments → ListReader A g → ℕ → StructReader A g → Type 0
-  ShowsElement InlineComposite S list i r =
-      let d = list.struct_size.data_words in let q = list.struct_size.pointers in ShowsStruct S r list.start.segment (list.start.at + i * (d + q)) d q
-  ShowsElement Pointer S list i r = ShowsStruct S r list.start.segment (list.start.at + i) 0 1
-  ShowsElement size S list i r =
+  -- A struct reader shows element number i of a list of this element size: a struct's two sections, one pointer, or the
+  -- bits of a number.
+  abbrev pub ShowsOfSize : ElementSize → ListReader A g → ℕ → StructReader A g → Type 0
+  ShowsOfSize InlineComposite list i r =
+      let d = list.struct_size.data_words in
+      let q = list.struct_size.pointers in
+      ShowsStruct (source_segments g.segments list.source) r list.start.segment (list.start.at + i * (d + q)) d q
+  ShowsOfSize Pointer list i r = ShowsStruct (source_segments g.segments list.source) r list.start.segment (list.start.at + i) 0 1
+  ShowsOfSize size list i r =
       (r.bits ≡ element_bits (size_number size)) × (r.byte ≡ 8 * list.start.at + i * (r.bits / 8))
       × (r.content.now ≡ slice_range list.content.now (i * (r.bits / 8)) (i * (r.bits / 8) + r.bits / 8)) × (r.pointer_count ≡ 0)
+
+  abbrev pub ShowsElement : ListReader A g → ℕ → StructReader A g → Type 0
+  ShowsElement list i r = ShowsOfSize list.element_size list i r
 
   -- The list of a target, by its size: one of structs starts behind its tag.
   abbrev pub IsListOf : ElementSize → Segments → ListReader A g → Target → Type 0
@@ -74,18 +81,21 @@ module _ {A : Type 0} (g : Ghosts A) where
       (element_size a.word ≡ 7) × ShowsList S r a.segment (a.start + 1) (offset_bits (tag S a)) (data_words (tag S a)) (pointer_count (tag S a))
   IsListOf size S r a = (element_size a.word ≡ size_number size) × ShowsList S r a.segment a.start (list_count a.word) 0 0
 
-  -- What the pointer at position p of segment s of a source leads to, within a nesting limit: its words are checked and charged, from
-  -- m to m'. A struct's or a list's reader reads the same source, with one level less.
-  abbrev pub IsTarget : Source A → ℤ → ℕ → ℕ → Meter → Meter → ReadTarget A g → Type 0
-  IsTarget source nesting s p m m' Null = (word_at (source_segments g.segments source) s p ≡ 0) × (m' ≡ m)
-  IsTarget source nesting s p m m' (Cap i) =
-      (a : Target) × Leads (source_segments g.segments source) s p a × (a.word % 2 ^ 32 ≡ 3) × (i ≡ upper_half a.word)
-      × Affords (source_charging g.charging source) m a.pads × (m' ≡ after (source_charging g.charging source) m a.pads 1)
-  IsTarget source nesting s p m m' (Struct r) =
-      (a : Target) × Entered (source_segments g.segments source) (source_charging g.charging source) (levels nesting) s p m m' a × (kind a.word ≡ 0)
-      × ShowsStruct (source_segments g.segments source) r a.segment a.start (data_words a.word) (pointer_count a.word)
-      × (r.source ≡ source) × (r.nesting_limit ≡ nesting -ℤ pos 1)
-  IsTarget source nesting s p m m' (List r) =
-      (a : Target) × Entered (source_segments g.segments source) (source_charging g.charging source) (levels nesting) s p m m' a × (kind a.word ≡ 1)
-      × IsListOf r.element_size (source_segments g.segments source) r a
-      × (r.source ≡ source) × (r.nesting_limit ≡ nesting -ℤ pos 1)
+  -- What a pointer reader reads.
+  abbrev pub reading : PointerReader A g → Reading
+  reading r = reading_at g r.source r.place r.nesting_limit
+
+  -- What the pointer of a reader leads to: its words are checked and charged, from m to m'. A struct's or a list's reader
+  -- reads the same source, with one level less.
+  abbrev pub IsTarget : PointerReader A g → Meter → Meter → ReadTarget A g → Type 0
+  IsTarget from m m' Null = (word_of (reading from) ≡ 0) × (m' ≡ m)
+  IsTarget from m m' (Cap i) =
+      (a : Target) × LeadsTo (reading from) a × (a.word % 2 ^ 32 ≡ 3) × (i ≡ upper_half a.word)
+      × Affords (reading from).charging m a.pads × (m' ≡ after (reading from).charging m a.pads 1)
+  IsTarget from m m' (Struct r) =
+      (a : Target) × Entered (reading from) m m' a × (kind a.word ≡ 0)
+      × ShowsStruct (reading from).segments r a.segment a.start (data_words a.word) (pointer_count a.word)
+      × (r.source ≡ from.source) × (r.nesting_limit ≡ from.nesting_limit -ℤ pos 1)
+  IsTarget from m m' (List r) =
+      (a : Target) × Entered (reading from) m m' a × (kind a.word ≡ 1) × IsListOf r.element_size (reading from).segments r a
+      × (r.source ≡ from.source) × (r.nesting_limit ≡ from.nesting_limit -ℤ pos 1)

@@ -1,9 +1,6 @@
-//! Reading a message in place, one object at a time, with every claim of a stranger checked and
-//! charged before it is believed.
+//! Readers: pointers, structs and lists of a message, in place.
 #![tactic(auto)]
 
-pub mod object;
 pub mod readers;
-pub mod source;
-#[cfg(test)]
-mod tests;
+
+pub use capnp_objects::{object, source};

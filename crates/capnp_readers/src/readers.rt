@@ -1,21 +1,23 @@
 //! Readers: pointers, structs and lists of a message, in place.
 ghost use Rattle.std.specs.Prelude.{◌≡◌, ◌<◌, ◌≤◌, ◌+◌, ◌*◌, ◌/◌, ◌^◌, ◌↔◌, ℕ, pos, false, IsTrue, IfOk, IsOk, OnOk, OnErr, IfErr, length};
-ghost use Rattle.capnp_words.specs.Bytes.{message};
+ghost use Rattle.capnp_format.specs.Bytes.{message};
 ghost use Rattle.capnp_words.specs.Meter.{Affords, charged};
-ghost use Rattle.capnp_words.specs.Segments.{word_at, segment, IsPlace};
+ghost use Rattle.capnp_format.specs.Segments.{word_at, segment, IsPlace};
 ghost use Rattle.capnp_words.specs.declared.error.ErrorKind.TheVariants.{MessageContainsOutOfBoundsPointer, ReadLimitExceeded};
 ghost use Rattle.capnp_arena.specs.Checks.{Holds, misplaced};
-ghost use Rattle.capnp_readers.specs.Source.{source_segments, source_charging, fault, levels};
-ghost use Rattle.capnp_readers.specs.Outcomes.{Refused};
-ghost use Rattle.capnp_readers.specs.Objects.{IsHeld};
+ghost use Rattle.capnp_objects.specs.Source.{source_segments, source_charging, fault, levels};
+ghost use Rattle.capnp_objects.specs.Outcomes.{Refused};
+ghost use Rattle.capnp_objects.specs.Objects.{IsHeld};
+ghost use Rattle.capnp_objects.specs.Reading.{word_of};
+ghost use Rattle.capnp_objects.specs.Wanted.{plain};
 
 mod list_reader;
 mod struct_reader;
 mod target;
 
-use crate::object::{Object, Place};
-use crate::source::Source;
 use capnp_arena::arena::ReaderArena;
+use capnp_objects::object::{Object, Place};
+use capnp_objects::source::Source;
 use capnp_words::error::ErrorKind;
 use capnp_words::read_limiter::ReadLimiter;
 use capnp_words::wire_pointer::{ElementSize, StructSize};
@@ -62,12 +64,12 @@ impl<'a, A: ReaderArena> Clone for PointerReader<'a, A> {
 impl<'a, A: ReaderArena> Copy for PointerReader<'a, A> {}
 
 impl<'a, A: ReaderArena> PointerReader<'a, A> {
-    ghost use Rattle.capnp_readers.specs.Readers.{IsTarget};
+    ghost use Rattle.capnp_readers.specs.Readers.{IsTarget, reading};
 
-    /// The pointer from nothing, which is null. Its nesting limit is 0x7fffffff.
+    /// The pointer from nothing, which is null. Its nesting limit is `i32::MAX`.
     pub fn new_default() -> Self
         ensures source { result.source ≡ Source.Nothing }
-        ensures nesting { result.nesting_limit ≡ pos 2147483647 }
+        ensures nesting { result.nesting_limit ≡ i32.MAX }
     {
         PointerReader {
             source: Source::Nothing,
@@ -76,7 +78,7 @@ impl<'a, A: ReaderArena> PointerReader<'a, A> {
                 bytes: &[],
                 at: 0,
             },
-            nesting_limit: 0x7fff_ffff,
+            nesting_limit: i32::MAX,
         }
     }
 
@@ -126,7 +128,7 @@ impl<'a, A: ReaderArena> PointerReader<'a, A> {
     }
 
     /// The pointer in word 0 of a default, whose bytes are one segment that no far pointer leads to.
-    /// It is free of charge, and its nesting limit is 0x7fffffff. The default has fewer than 2^32
+    /// It is free of charge, and its nesting limit is `i32::MAX`. The default has fewer than 2^32
     /// words; up to 7 bytes behind the last are not looked at.
     ///
     /// A default without a whole word is `MessageContainsOutOfBoundsPointer`.
@@ -135,7 +137,7 @@ impl<'a, A: ReaderArena> PointerReader<'a, A> {
         ensures exactly { IsOk result ↔ (8 ≤ length bytes.now) }
         ensures source { IfOk result (λ r. r.source ≡ Source.Default bytes.entry) }
         ensures place { IfOk result (λ r. (r.place.segment ≡ 2 ^ 32) × (r.place.at ≡ 0)) }
-        ensures nesting { IfOk result (λ r. r.nesting_limit ≡ pos 2147483647) }
+        ensures nesting { IfOk result (λ r. r.nesting_limit ≡ i32.MAX) }
         ensures named { IfErr result (λ k. k ≡ MessageContainsOutOfBoundsPointer) }
     {
         let words = bytes.len() / 8;
@@ -149,7 +151,7 @@ impl<'a, A: ReaderArena> PointerReader<'a, A> {
                 bytes: &bytes[..8 * words],
                 at: 0,
             },
-            nesting_limit: 0x7fff_ffff,
+            nesting_limit: i32::MAX,
         })
     }
 
@@ -164,7 +166,7 @@ impl<'a, A: ReaderArena> PointerReader<'a, A> {
 
     /// Whether the pointer is zero, or from nothing.
     pub fn is_null(&self) -> bool
-        ensures { IsTrue result ↔ (word_at (source_segments A.segments self.now.source) self.now.place.segment self.now.place.at ≡ 0) }
+        ensures { IsTrue result ↔ (word_of (reading A.ReaderArena self.now) ≡ 0) }
     {
         self.place.word().is_null()
     }
@@ -176,8 +178,8 @@ impl<'a, A: ReaderArena> PointerReader<'a, A> {
     /// own words, and for a list of elements without width their number are charged, each before
     /// it is read. A refusal is named by the first fault that is met; it keeps what was charged.
     pub fn next(&self, lim: &mut ReadLimiter) -> Result<Target<'a, A>, ErrorKind>
-        ensures target { IfOk result (λ t. IsTarget A.ReaderArena self.now.source self.now.nesting_limit self.now.place.segment self.now.place.at lim.old lim.new t) }
-        ensures refused { IfErr result (λ k. Refused (source_segments A.segments self.now.source) false (source_charging A.charging self.now.source) (levels self.now.nesting_limit) self.now.place.segment self.now.place.at lim.old lim.new (fault k self.now.source)) }
+        ensures target { IfOk result (IsTarget A.ReaderArena self.now lim.old lim.new) }
+        ensures refused { IfErr result (λ k. Refused plain (reading A.ReaderArena self.now) lim.old lim.new (fault k self.now.source)) }
     {
         match self
             .source

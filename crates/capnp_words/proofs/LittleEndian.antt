@@ -1,7 +1,7 @@
 -- Little-endian bytes as the digits of a number.
 use Rattle.std.proofs.Common.{◌≡◌, ℕ, List, [], ◌∷◌, length, set, arith}
 use Rattle.std.specs.Int.{w8, w16, w32, w64, from_le_bytes}
-use Rattle.capnp_words.specs.Numbers.{from_digits}
+use Rattle.capnp_format.specs.Numbers.{from_digits}
 
 pub one_byte : (bs : List ℕ) → length bs ≡ 1 → from_le_bytes w8 bs ≡ from_digits 256 bs
 one_byte (a ∷ []) l = omega arith

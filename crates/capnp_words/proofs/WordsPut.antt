@@ -6,10 +6,10 @@ use Rattle.std.specs.Int.{from_le_bytes, w64}
 use Rattle.std.specs.List.{copy_within}
 use borrow.Rule.Slice.PartMut.{put_mid}
 use lib.Lanes.{put_chunk}
-use Rattle.capnp_words.specs.Bytes.{words_of}
-use Rattle.capnp_words.specs.Numbers.{from_digits, digits}
-use Rattle.capnp_words.proofs.Digits.{from_digits-digits}
-use Rattle.capnp_words.proofs.WordsOf.{words, words_of-put_mid, words_of-put_mid_at, words_of-part}
+use Rattle.capnp_format.specs.Bytes.{words_of}
+use Rattle.capnp_format.specs.Numbers.{from_digits, digits}
+use Rattle.capnp_format.proofs.Digits.{from_digits-digits}
+use Rattle.capnp_format.proofs.WordsOf.{words, words_of-put_mid, words_of-put_mid_at, words_of-part}
 
 eight_bytes : (a b c d e f g h : ℕ) → from_le_bytes w64 (a ∷ b ∷ c ∷ d ∷ e ∷ f ∷ g ∷ h ∷ []) ≡ from_digits 256 (a ∷ b ∷ c ∷ d ∷ e ∷ f ∷ g ∷ h ∷ [])
 eight_bytes a b c d e f g h = omega arith

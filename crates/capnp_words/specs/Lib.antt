@@ -1,15 +1,3 @@
-pub mod Word
-pub mod Tree
-pub mod Segments
-pub mod Numbers
-pub mod Means
-pub mod Decode
-pub mod Canonical
-pub mod Forest
-pub mod Value
-pub mod Bytes
-pub mod Names
 pub mod Meter
+pub mod Names
 pub mod Sizes
-pub mod Laws
-pub mod Examples

@@ -16,15 +16,15 @@ size_number Pointer = 6
 size_number InlineComposite = 7
 
 -- pointers of an element
-abbrev pub pointers_in : ElementSize → ℕ
-pointers_in Void = 0
-pointers_in Bit = 0
-pointers_in Byte = 0
-pointers_in TwoBytes = 0
-pointers_in FourBytes = 0
-pointers_in EightBytes = 0
-pointers_in Pointer = 1
-pointers_in InlineComposite = 0
+abbrev pub pointers_per_element : ElementSize → ℕ
+pointers_per_element Void = 0
+pointers_per_element Bit = 0
+pointers_per_element Byte = 0
+pointers_per_element TwoBytes = 0
+pointers_per_element FourBytes = 0
+pointers_per_element EightBytes = 0
+pointers_per_element Pointer = 1
+pointers_per_element InlineComposite = 0
 
 abbrev pub kind_number : WirePointerKind → ℕ
 kind_number Struct = 0

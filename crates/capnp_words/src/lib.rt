@@ -3,13 +3,12 @@
 #![tactic(auto)]
 
 pub mod error;
-pub mod laws;
 pub mod mask;
 pub mod primitive;
 pub mod read_limiter;
-#[cfg(test)]
-mod tests;
 pub mod units;
 pub mod wire_pointer;
 pub mod words;
 pub mod zero;
+
+pub use capnp_format::laws;

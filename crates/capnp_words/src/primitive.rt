@@ -2,7 +2,7 @@
 ghost use Rattle.std.specs.Prelude.{◌≡◌, ◌<◌, ◌≤◌, ◌^◌, ℕ, List, length};
 ghost use Rattle.std.proofs.Common.{lit<, lit≤};
 ghost use Rattle.std.specs.Int.{w8, w16, w32, w64, from_le_bytes, to_le_bytes, cast_signed, cast_unsigned};
-ghost use Rattle.capnp_words.specs.Numbers.{from_digits};
+ghost use Rattle.capnp_format.specs.Numbers.{from_digits};
 
 /// Numbers that a message holds.
 pub trait Primitive {

@@ -1,11 +1,11 @@
 //! Pointer words: their bits, as the encoding specification's sections "Structs", "Lists",
 //! "Inter-Segment Pointers" and "Capabilities (Interfaces)" lay them out.
 ghost use Rattle.std.specs.Prelude.{◌≡◌, ◌<◌, ◌+◌, ◌*◌, ◌-◌, ◌^◌, ◌↔◌, ◌+ℤ◌, pos, IsTrue};
-ghost use Rattle.capnp_words.specs.Canonical.{offset_to, Reaches};
-ghost use Rattle.capnp_words.specs.Numbers.{element_bits};
-ghost use Rattle.capnp_words.specs.Segments.{offset_leads};
-ghost use Rattle.capnp_words.specs.Sizes.{size_number, pointers_in, kind_number};
-ghost use Rattle.capnp_words.specs.Word.{kind, offset_bits, signed, offset_field, IsOffset, lower_half, upper_half, data_words, pointer_count, element_size, list_count, is_double, far_position, struct_word, list_word, far_word, capability_word};
+ghost use Rattle.capnp_format.specs.Canonical.{offset_to, Reaches};
+ghost use Rattle.capnp_format.specs.Numbers.{element_bits};
+ghost use Rattle.capnp_format.specs.Segments.{offset_leads};
+ghost use Rattle.capnp_words.specs.Sizes.{size_number, pointers_per_element, kind_number};
+ghost use Rattle.capnp_format.specs.Word.{kind, offset_bits, signed, offset_field, IsOffset, lower_half, upper_half, data_words, pointer_count, element_size, list_count, is_double, far_position, struct_word, list_word, far_word, capability_word};
 
 pub use self::ElementSize::{
     Bit, Byte, EightBytes, FourBytes, InlineComposite, Pointer, TwoBytes, Void,
@@ -51,7 +51,7 @@ pub fn data_bits_per_element(size: ElementSize) -> BitCount32
 
 /// How many pointers an element is: 1 for a pointer, else 0.
 pub fn pointers_per_element(size: ElementSize) -> WirePointerCount32
-    ensures { result ≡ pointers_in size }
+    ensures { result ≡ pointers_per_element size }
 {
     match size {
         ElementSize::Pointer => 1,

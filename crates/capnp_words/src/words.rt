@@ -1,14 +1,14 @@
 //! Words in slices of bytes: eight bytes each, the lowest byte first. Positions and counts are in
 //! words from the slice's start; up to seven bytes behind the last whole word are ignored.
 ghost use Rattle.std.specs.Prelude.{◌≡◌, ◌<◌, ◌≤◌, ◌+◌, ◌*◌, ◌/◌, ◌^◌, ◌++◌, [], ℕ, length, take, drop, replicate, slice_set, slice_index};
-ghost use Rattle.capnp_words.specs.Bytes.{words_of};
-ghost use Rattle.capnp_words.specs.Canonical.{used_words};
+ghost use Rattle.capnp_format.specs.Bytes.{words_of};
+ghost use Rattle.capnp_format.specs.Canonical.{used_words};
 ghost use borrow.Rule.Slice.PartMut.{put_mid};
 
 use std::simd::prelude::*;
 
 /// The word at a position.
-#[tactic(auto, using(crate::proofs::WordsOf::word_bytes))]
+#[tactic(auto, using(capnp_format::proofs::WordsOf::word_bytes))]
 pub fn word_at(bytes: &[u8], at: usize) -> u64
     requires { 8 * at + 8 ≤ length bytes.now }
     ensures { result ≡ slice_index (words_of bytes.now) at }
@@ -27,7 +27,7 @@ pub fn word_at(bytes: &[u8], at: usize) -> u64
 }
 
 /// Writes a word.
-#[tactic(auto, using(crate::proofs::WordsOf::put_words))]
+#[tactic(auto, using(capnp_format::proofs::WordsOf::put_words))]
 pub fn put_word(bytes: &mut [u8], at: usize, word: u64)
     requires { 8 * at + 8 ≤ length bytes.old }
     ensures { words_of bytes.new ≡ slice_set (words_of bytes.old) at word }
@@ -38,7 +38,7 @@ pub fn put_word(bytes: &mut [u8], at: usize, word: u64)
 }
 
 /// Copies whole words from a slice over the words from a position on.
-#[tactic(auto, using(crate::proofs::WordsOf::put_words))]
+#[tactic(auto, using(capnp_format::proofs::WordsOf::put_words))]
 pub fn copy_words(bytes: &mut [u8], at: usize, from: &[u8])
     requires whole { length from.now ≡ 8 * length (words_of from.now) }
     requires room { 8 * (at + length (words_of from.now)) ≤ length bytes.old }
@@ -49,7 +49,7 @@ pub fn copy_words(bytes: &mut [u8], at: usize, from: &[u8])
 }
 
 /// Writes zeros over n words.
-#[tactic(auto, using(crate::proofs::WordsOf::put_words))]
+#[tactic(auto, using(capnp_format::proofs::WordsOf::put_words))]
 pub fn zero_words(bytes: &mut [u8], at: usize, n: usize)
     requires { 8 * (at + n) ≤ length bytes.old }
     ensures { words_of bytes.new ≡ put_mid at n (words_of bytes.old) (replicate n 0) }
@@ -74,7 +74,7 @@ pub fn used(bytes: &[u8]) -> usize
 }
 
 /// The words in a part of a slice.
-#[tactic(auto, using(crate::proofs::WordsOf::part_words))]
+#[tactic(auto, using(capnp_format::proofs::WordsOf::part_words))]
 pub fn part(bytes: &[u8], at: usize, n: usize) -> &[u8]
     requires { 8 * (at + n) ≤ length bytes.now }
     ensures words { words_of result.now ≡ take n (drop at (words_of bytes.now)) }
@@ -85,7 +85,7 @@ pub fn part(bytes: &[u8], at: usize, n: usize) -> &[u8]
 }
 
 /// How many whole words there are.
-#[tactic(auto, using(crate::proofs::WordsOf::part_words))]
+#[tactic(auto, using(capnp_format::proofs::WordsOf::part_words))]
 pub fn count(bytes: &[u8]) -> usize
     ensures { result ≡ length (words_of bytes.now) }
 {

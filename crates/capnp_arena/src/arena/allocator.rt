@@ -1,7 +1,7 @@
 //! Where a builder's segments come from.
 ghost use Rattle.std.specs.Prelude.{◌≡◌, ◌<◌, ◌≤◌, ◌+◌, ◌-◌, ◌*◌, ◌/◌, ◌^◌, ◌++◌, ◌∷◌, [], ℕ, Bool, List, length, IsTrue, IsNone, IfSome, IfOk, OnOk, IfErr};
 ghost use Rattle.std.specs.Borrow.{sem, Lends, Array, u8 as byte};
-ghost use Rattle.capnp_arena.specs.Allocations.{IsFresh, IsClearFrom, one_more, max_words};
+ghost use Rattle.capnp_arena.specs.Allocations.{IsFresh, IsClearFrom, one_more, max_segment_words};
 ghost use Rattle.capnp_words.specs.declared.error.ErrorKind.TheVariants.{AllocationFailed, MessageTooLarge};
 
 use capnp_words::error::ErrorKind;
@@ -41,8 +41,8 @@ pub trait Allocator: Drop {
         ensures fresh { IfOk result (λ s. IsFresh min_words (Self.Segment.content s)) }
         ensures size { IfOk result (λ s. IsTrue (offers self.old min_words (length (Self.Segment.content s) / 8))) }
         ensures counted { OnOk result (refusals self.new ≡ refusals self.old) }
-        ensures too_large { max_words < min_words → (result ≡ Err (MessageTooLarge min_words)) × (refusals self.new ≡ refusals self.old) }
-        ensures refused { min_words ≤ max_words → IfErr result (λ e. (e ≡ AllocationFailed) × (refusals self.new ≡ one_more (refusals self.old))) }
+        ensures too_large { max_segment_words < min_words → (result ≡ Err (MessageTooLarge min_words)) × (refusals self.new ≡ refusals self.old) }
+        ensures refused { min_words ≤ max_segment_words → IfErr result (λ e. (e ≡ AllocationFailed) × (refusals self.new ≡ one_more (refusals self.old))) }
         ensures offers { offers self.new ≡ offers self.old };
 
     /// Gives a segment back. All its words behind the first `used_words` are zero.

@@ -1,24 +1,26 @@
 //! The arena of a message that is built.
+ghost use Rattle.std.below.core.specs.declared.int.i32.TheConstants.{MAX};
 ghost use Rattle.std.specs.Prelude.{◌≡◌, ◌⊎◌, ◌<◌, ◌≤◌, ◌+◌, ◌*◌, ◌/◌, ◌^◌, ◌↔◌, ◌++◌, ◌∷◌, [], ℕ, ℤ, pos, false, refl, length, replicate, Some, None, IsTrue, IsSome, IsNone, IfSome, IsOk, IfOk, OnOk, OnErr, IfErr, slice_get};
-ghost use Rattle.capnp_words.specs.Bytes.{message};
-ghost use Rattle.capnp_words.specs.Segments.{segment};
+ghost use Rattle.capnp_format.specs.Bytes.{message};
+ghost use Rattle.capnp_format.specs.Segments.{segment};
 ghost use Rattle.capnp_words.specs.declared.error.ErrorKind.TheVariants.{AllocationFailed, InvalidSegmentId, MessageTooLarge};
-ghost use Rattle.capnp_arena.specs.Allocations.{max_segments, max_words, one_more};
+ghost use Rattle.capnp_arena.specs.Allocations.{max_segments, max_segment_words, one_more};
+ghost use Rattle.capnp_arena.specs.View.{view_of, same_room};
 ghost use Rattle.capnp_arena.specs.Limits.{IsSmall};
 ghost use Rattle.capnp_arena.specs.Output.{output_bytes, is_single};
 ghost use Rattle.capnp_arena.specs.Room.{rows_within, rows_small};
 ghost use Rattle.capnp_arena.specs.Row.{shown, capacity_at, with_row, few_with_row};
 ghost use Rattle.capnp_arena.specs.Lent.{with_row_shown, with_row_capacity};
-ghost use Rattle.capnp_arena.specs.Taking.{IsFull, IsFirstFit, IsRefusal, SameRoomBelow, with_another};
-ghost use Rattle.capnp_arena.specs.Written.{extended};
+ghost use Rattle.capnp_arena.specs.Taking.{IsFull, IsFirstFit, IsAllocationRefusal, SameRoomBelow, with_another};
+ghost use Rattle.capnp_arena.specs.Written.{with_more};
 
 use crate::arena::builder_arena::sealed::Closed;
 use crate::arena::row::Row;
-use crate::arena::{Allocator, BuilderArena, OutputSegments, ReaderArena, SegmentId};
+use crate::arena::{Allocator, BuilderArena, MAX_SEGMENTS, OutputSegments, ReaderArena, SegmentId};
 use capnp_words::error::ErrorKind;
 use std::alloc::Global;
 
-/// A message of any number of segments, each of an allocator. Its nesting limit is 0x7fffffff, and reading it charges nothing.
+/// A message of any number of segments, each of an allocator. Its nesting limit is `i32::MAX`, and reading it charges nothing.
 ///
 /// Dropping it gives each segment back to the allocator once, in order of number.
 pub struct BuilderArenaImpl<A: Allocator> {
@@ -55,8 +57,8 @@ impl<A: Allocator> BuilderArenaImpl<A> {
     /// An arena with no segment.
     pub fn new(alloc: Global, allocator: A) -> Self
         ensures segments { ⟦<Self as ReaderArena>⟧.segments result ≡ [] }
-        ensures refusals { ⟦<Self as BuilderArena>⟧.refusals result ≡ A.refusals allocator }
-        ensures offers { ⟦<Self as BuilderArena>⟧.offers result ≡ A.offers allocator }
+        ensures refusals { (⟦<Self as BuilderArena>⟧.view result).refusals ≡ A.refusals allocator }
+        ensures offers { (⟦<Self as BuilderArena>⟧.view result).offers ≡ A.offers allocator }
     {
         let rows = Vec::new(alloc);
         BuilderArenaImpl {
@@ -100,18 +102,18 @@ impl<A: Allocator> BuilderArenaImpl<A> {
     #[tactic(auto, using(crate::proofs::TakingLemmas::pushed))]
     pub fn allocate_segment(&mut self, min: u32) -> Result<(), ErrorKind>
         ensures made { OnOk result (⟦<Self as ReaderArena>⟧.segments self.new ≡ ⟦<Self as ReaderArena>⟧.segments self.old ++ [] ∷ []) }
-        ensures least { OnOk result (min ≤ ⟦<Self as BuilderArena>⟧.room self.new (length (⟦<Self as ReaderArena>⟧.segments self.old))) }
-        ensures size { OnOk result (IsTrue (⟦<Self as BuilderArena>⟧.offers self.old min (⟦<Self as BuilderArena>⟧.room self.new (length (⟦<Self as ReaderArena>⟧.segments self.old))))) }
-        ensures granted { OnOk result (⟦<Self as BuilderArena>⟧.refusals self.new ≡ ⟦<Self as BuilderArena>⟧.refusals self.old) }
-        ensures room { SameRoomBelow (length (⟦<Self as ReaderArena>⟧.segments self.old)) (⟦<Self as BuilderArena>⟧.room self.old) (⟦<Self as BuilderArena>⟧.room self.new) }
+        ensures least { OnOk result (min ≤ (⟦<Self as BuilderArena>⟧.view self.new).room (length (⟦<Self as ReaderArena>⟧.segments self.old))) }
+        ensures size { OnOk result (IsTrue ((⟦<Self as BuilderArena>⟧.view self.old).offers min ((⟦<Self as BuilderArena>⟧.view self.new).room (length (⟦<Self as ReaderArena>⟧.segments self.old))))) }
+        ensures granted { OnOk result ((⟦<Self as BuilderArena>⟧.view self.new).refusals ≡ (⟦<Self as BuilderArena>⟧.view self.old).refusals) }
+        ensures room { SameRoomBelow (length (⟦<Self as ReaderArena>⟧.segments self.old)) (⟦<Self as BuilderArena>⟧.view self.old).room (⟦<Self as BuilderArena>⟧.view self.new).room }
         ensures many { length (⟦<Self as ReaderArena>⟧.segments self.old) ≡ max_segments → result ≡ Err (MessageTooLarge usize.MAX) }
-        ensures large { length (⟦<Self as ReaderArena>⟧.segments self.old) < max_segments → max_words < min → result ≡ Err (MessageTooLarge min) }
-        ensures named { IfErr result (λ e. IsRefusal e min (length (⟦<Self as ReaderArena>⟧.segments self.old)) (⟦<Self as BuilderArena>⟧.refusals self.old) (⟦<Self as BuilderArena>⟧.refusals self.new)) }
+        ensures large { length (⟦<Self as ReaderArena>⟧.segments self.old) < max_segments → max_segment_words < min → result ≡ Err (MessageTooLarge min) }
+        ensures named { IfErr result (IsAllocationRefusal (⟦<Self as BuilderArena>⟧.view self.old) (⟦<Self as BuilderArena>⟧.view self.new) (length (⟦<Self as ReaderArena>⟧.segments self.old)) min) }
         ensures refused { OnErr result (⟦<Self as ReaderArena>⟧.segments self.new ≡ ⟦<Self as ReaderArena>⟧.segments self.old) }
-        ensures refused_room { OnErr result (⟦<Self as BuilderArena>⟧.room self.new ≡ ⟦<Self as BuilderArena>⟧.room self.old) }
-        ensures offers { ⟦<Self as BuilderArena>⟧.offers self.new ≡ ⟦<Self as BuilderArena>⟧.offers self.old }
+        ensures refused_room { OnErr result ((⟦<Self as BuilderArena>⟧.view self.new).room ≡ (⟦<Self as BuilderArena>⟧.view self.old).room) }
+        ensures offers { (⟦<Self as BuilderArena>⟧.view self.new).offers ≡ (⟦<Self as BuilderArena>⟧.view self.old).offers }
     {
-        if self.rows.len() >= 0xffff_ffff {
+        if self.rows.len() >= MAX_SEGMENTS {
             return Err(ErrorKind::MessageTooLarge(usize::MAX));
         }
         let segment = self.allocator.allocate_segment(min)?;
@@ -151,8 +153,8 @@ impl<A: Allocator> BuilderArenaImpl<A> {
     /// Whether a segment has room for so many words more.
     fn has_room(&self, id: u32, amount: u32) -> bool
         requires { id < length (⟦<Self as ReaderArena>⟧.segments self.now) }
-        ensures room { IsTrue result ↔ (length (segment (message (⟦<Self as ReaderArena>⟧.segments self.now)) id) + amount ≤ ⟦<Self as BuilderArena>⟧.room self.now id) }
-        ensures small { length (segment (message (⟦<Self as ReaderArena>⟧.segments self.now)) id) < 2 ^ 29 }
+        ensures room { IsTrue result ↔ (length (segment (⟦<Self as BuilderArena>⟧.view self.now).words id) + amount ≤ (⟦<Self as BuilderArena>⟧.view self.now).room id) }
+        ensures small { length (segment (⟦<Self as BuilderArena>⟧.view self.now).words id) < 2 ^ 29 }
     {
         self.rows[id as usize].has_room(amount)
     }
@@ -160,8 +162,8 @@ impl<A: Allocator> BuilderArenaImpl<A> {
     /// The first segment that has room for so many words more.
     #[tactic(auto, using(crate::proofs::RowsLemmas::counting))]
     fn first_fit(&self, amount: u32) -> Option<u32>
-        ensures fit { IfSome result (λ k. IsFirstFit (message (⟦<Self as ReaderArena>⟧.segments self.now)) (⟦<Self as BuilderArena>⟧.room self.now) amount k) }
-        ensures full { IsNone result → IsFull (message (⟦<Self as ReaderArena>⟧.segments self.now)) (⟦<Self as BuilderArena>⟧.room self.now) amount }
+        ensures fit { IfSome result (λ k. IsFirstFit (⟦<Self as BuilderArena>⟧.view self.now) amount k) }
+        ensures full { IsNone result → IsFull (⟦<Self as BuilderArena>⟧.view self.now) amount }
     {
         for id in 0..self.rows.len() as u32 {
             if self.has_room(id, amount) {
@@ -175,13 +177,10 @@ impl<A: Allocator> BuilderArenaImpl<A> {
     #[tactic(auto, using(crate::proofs::RowsLemmas::rows_written))]
     fn take(&mut self, id: u32, amount: u32) -> u32
         requires there { id < length (⟦<Self as ReaderArena>⟧.segments self.old) }
-        requires fits { length (segment (message (⟦<Self as ReaderArena>⟧.segments self.old)) id) + amount ≤ ⟦<Self as BuilderArena>⟧.room self.old id }
-        ensures at { result ≡ length (segment (message (⟦<Self as ReaderArena>⟧.segments self.old)) id) }
-        ensures words { message (⟦<Self as ReaderArena>⟧.segments self.new) ≡ extended (message (⟦<Self as ReaderArena>⟧.segments self.old)) id (replicate amount 0) }
-        ensures length { length (segment (message (⟦<Self as ReaderArena>⟧.segments self.new)) id) ≡ result + amount }
+        requires fits { length (segment (⟦<Self as BuilderArena>⟧.view self.old).words id) + amount ≤ (⟦<Self as BuilderArena>⟧.view self.old).room id }
+        ensures at { result ≡ length (segment (⟦<Self as BuilderArena>⟧.view self.old).words id) }
+        ensures taken { ⟦<Self as BuilderArena>⟧.view self.new ≡ with_more (⟦<Self as BuilderArena>⟧.view self.old) id (replicate amount 0) }
         ensures small { result + amount < 2 ^ 29 }
-        ensures room { ⟦<Self as BuilderArena>⟧.room self.new ≡ ⟦<Self as BuilderArena>⟧.room self.old }
-        ensures allocator { self.new.allocator ≡ self.old.allocator }
     {
         let row = &mut self.rows[id as usize];
         row.take(amount)
@@ -190,17 +189,18 @@ impl<A: Allocator> BuilderArenaImpl<A> {
     /// Takes words in a new segment behind the others, and gives its number.
     #[tactic(auto, using(crate::proofs::TakingLemmas::another))]
     fn take_another(&mut self, amount: u32) -> Result<u32, ErrorKind>
-        ensures taken { IfOk result (λ k. (k ≡ length (⟦<Self as ReaderArena>⟧.segments self.old)) × (message (⟦<Self as ReaderArena>⟧.segments self.new) ≡ with_another (message (⟦<Self as ReaderArena>⟧.segments self.old)) amount)) }
-        ensures least { IfOk result (λ k. amount ≤ ⟦<Self as BuilderArena>⟧.room self.new k) }
-        ensures size { IfOk result (λ k. IsTrue (⟦<Self as BuilderArena>⟧.offers self.old amount (⟦<Self as BuilderArena>⟧.room self.new k))) }
-        ensures granted { OnOk result (⟦<Self as BuilderArena>⟧.refusals self.new ≡ ⟦<Self as BuilderArena>⟧.refusals self.old) }
-        ensures room { SameRoomBelow (length (⟦<Self as ReaderArena>⟧.segments self.old)) (⟦<Self as BuilderArena>⟧.room self.old) (⟦<Self as BuilderArena>⟧.room self.new) }
+        ensures number { IfOk result (λ k. k ≡ length (⟦<Self as ReaderArena>⟧.segments self.old)) }
+        ensures taken { OnOk result (message (⟦<Self as ReaderArena>⟧.segments self.new) ≡ with_another (⟦<Self as BuilderArena>⟧.view self.old).words amount) }
+        ensures least { IfOk result (λ k. amount ≤ (⟦<Self as BuilderArena>⟧.view self.new).room k) }
+        ensures size { IfOk result (λ k. IsTrue ((⟦<Self as BuilderArena>⟧.view self.old).offers amount ((⟦<Self as BuilderArena>⟧.view self.new).room k))) }
+        ensures granted { OnOk result ((⟦<Self as BuilderArena>⟧.view self.new).refusals ≡ (⟦<Self as BuilderArena>⟧.view self.old).refusals) }
+        ensures room { SameRoomBelow (length (⟦<Self as ReaderArena>⟧.segments self.old)) (⟦<Self as BuilderArena>⟧.view self.old).room (⟦<Self as BuilderArena>⟧.view self.new).room }
         ensures many { length (⟦<Self as ReaderArena>⟧.segments self.old) ≡ max_segments → result ≡ Err (MessageTooLarge usize.MAX) }
-        ensures large { length (⟦<Self as ReaderArena>⟧.segments self.old) < max_segments → max_words < amount → result ≡ Err (MessageTooLarge amount) }
-        ensures named { IfErr result (λ e. IsRefusal e amount (length (⟦<Self as ReaderArena>⟧.segments self.old)) (⟦<Self as BuilderArena>⟧.refusals self.old) (⟦<Self as BuilderArena>⟧.refusals self.new)) }
+        ensures large { length (⟦<Self as ReaderArena>⟧.segments self.old) < max_segments → max_segment_words < amount → result ≡ Err (MessageTooLarge amount) }
+        ensures named { IfErr result (IsAllocationRefusal (⟦<Self as BuilderArena>⟧.view self.old) (⟦<Self as BuilderArena>⟧.view self.new) (length (⟦<Self as ReaderArena>⟧.segments self.old)) amount) }
         ensures refused { OnErr result (⟦<Self as ReaderArena>⟧.segments self.new ≡ ⟦<Self as ReaderArena>⟧.segments self.old) }
-        ensures refused_room { OnErr result (⟦<Self as BuilderArena>⟧.room self.new ≡ ⟦<Self as BuilderArena>⟧.room self.old) }
-        ensures offers { ⟦<Self as BuilderArena>⟧.offers self.new ≡ ⟦<Self as BuilderArena>⟧.offers self.old }
+        ensures refused_room { OnErr result ((⟦<Self as BuilderArena>⟧.view self.new).room ≡ (⟦<Self as BuilderArena>⟧.view self.old).room) }
+        ensures offers { (⟦<Self as BuilderArena>⟧.view self.new).offers ≡ (⟦<Self as BuilderArena>⟧.view self.old).offers }
     {
         let id = self.rows.len();
         self.allocate_segment(amount)?;
@@ -213,7 +213,7 @@ impl<A: Allocator> BuilderArenaImpl<A> {
 impl<A: Allocator> ReaderArena for BuilderArenaImpl<A> {
     ghost segments = { λ b. shown A.Segment.Segment b.rows.items };
 
-    ghost nesting = { λ _. pos 2147483647 };
+    ghost nesting = { λ _. MAX };
 
     ghost charging = { λ _. false };
 
@@ -230,7 +230,7 @@ impl<A: Allocator> ReaderArena for BuilderArenaImpl<A> {
     }
 
     fn nesting_limit(&self) -> i32 {
-        0x7fff_ffff
+        i32::MAX
     }
 
     fn charges(&self) -> bool {
@@ -249,25 +249,19 @@ impl<A: Allocator> ReaderArena for BuilderArenaImpl<A> {
 impl<A: Allocator> Closed for BuilderArenaImpl<A> {}
 
 impl<A: Allocator> BuilderArena for BuilderArenaImpl<A> {
-    ghost room = { λ b. capacity_at A.Segment.Segment b.rows.items };
+    ghost view = { λ b. view_of (message (shown A.Segment.Segment b.rows.items)) (capacity_at A.Segment.Segment b.rows.items) (A.refusals b.allocator) (A.offers b.allocator) };
+
+    ghost read = { λ _. refl };
 
     ghost within = { λ b. rows_within A.Segment.Segment b.rows.items };
 
     ghost small = { λ b. rows_small A.Segment.Segment b.rows.items };
 
-    ghost refusals = { λ b. A.refusals b.allocator };
-
-    ghost offers = { λ b. A.offers b.allocator };
-
     ghost with_bytes = { λ b id ws. record b { rows = with_row A.Segment.Segment b.rows id ws; few = few_with_row A.Segment.Segment b.rows id ws b.few } };
 
     ghost with_bytes_segments = { λ b. with_row_shown A.Segment.Segment b.rows };
 
-    ghost with_bytes_room = { λ b. with_row_capacity A.Segment.Segment b.rows };
-
-    ghost with_bytes_refusals = { λ _ _ _. refl };
-
-    ghost with_bytes_offers = { λ _ _ _. refl };
+    ghost with_bytes_view = { λ b id ws. same_room _ _ _ (A.refusals b.allocator) (A.offers b.allocator) (with_row_capacity A.Segment.Segment b.rows id ws) };
 
     fn segment_mut(&mut self, id: u32) -> &mut [u8] {
         let row = &mut self.rows[id as usize];
@@ -299,6 +293,7 @@ impl<A: Allocator> BuilderArena for BuilderArenaImpl<A> {
         row.zero_words(at, n);
     }
 
+    #[tactic(auto, using(crate::proofs::RowsLemmas::counting))]
     fn allocate(&mut self, id: u32, amount: u32) -> Option<u32> {
         if self.has_room(id, amount) {
             Some(self.take(id, amount))

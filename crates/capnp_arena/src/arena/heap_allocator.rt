@@ -1,8 +1,8 @@
 //! Segments on the heap.
 ghost use Rattle.std.specs.Prelude.{◌≡◌, ◌≤◌, ◌==◌, max};
-ghost use Rattle.capnp_arena.specs.Allocations.{max_words};
+ghost use Rattle.capnp_arena.specs.Allocations.{max_segment_words};
 
-use crate::arena::{Allocator, Segment};
+use crate::arena::{Allocator, MAX_SEGMENT_WORDS, Segment};
 use capnp_words::error::ErrorKind;
 use std::alloc::Global;
 
@@ -36,13 +36,13 @@ pub struct HeapAllocator {
     alloc: Global,
     words: u32,
     refused: u64,
-    ghost small: { words ≤ max_words },
+    ghost small: { words ≤ max_segment_words },
 }
 
 impl HeapAllocator {
     /// An allocator that has refused nothing yet. `words`, the least number of words of a segment, is at most 536,870,911.
     pub fn new(alloc: Global, words: u32) -> Self
-        requires { words ≤ max_words }
+        requires { words ≤ max_segment_words }
         ensures words { result.words ≡ words }
         ensures refused { result.refused ≡ 0 }
     {
@@ -62,7 +62,7 @@ impl Allocator for HeapAllocator {
     ghost offers = { λ a asked words. words == max a.words asked };
 
     fn allocate_segment(&mut self, min_words: u32) -> Result<HeapSegment, ErrorKind> {
-        if min_words > 0x1fff_ffff {
+        if min_words > MAX_SEGMENT_WORDS {
             return Err(ErrorKind::MessageTooLarge(min_words as usize));
         }
         let words = self.words.max(min_words);

@@ -1,18 +1,19 @@
 //! The arena of no message.
+ghost use Rattle.std.below.core.specs.declared.int.i32.TheConstants.{MAX};
 ghost use Rattle.std.specs.Prelude.{[], pos, false};
 ghost use Rattle.capnp_words.specs.declared.error.ErrorKind.TheVariants.{TriedToReadFromNullArena};
 
 use crate::arena::ReaderArena;
 use capnp_words::error::ErrorKind;
 
-/// An arena with no place in it. Whatever asks for one is `TriedToReadFromNullArena`; it charges nothing, and its nesting limit is 0x7fffffff.
+/// An arena with no place in it. Whatever asks for one is `TriedToReadFromNullArena`; it charges nothing, and its nesting limit is `i32::MAX`.
 #[derive(Clone, Copy)]
 pub struct NullArena;
 
 impl ReaderArena for NullArena {
     ghost segments = { λ _. [] };
 
-    ghost nesting = { λ _. pos 2147483647 };
+    ghost nesting = { λ _. MAX };
 
     ghost charging = { λ _. false };
 
@@ -27,7 +28,7 @@ impl ReaderArena for NullArena {
     }
 
     fn nesting_limit(&self) -> i32 {
-        0x7fff_ffff
+        i32::MAX
     }
 
     fn charges(&self) -> bool {

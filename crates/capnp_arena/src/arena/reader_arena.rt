@@ -1,9 +1,9 @@
 //! Arenas that are read.
 ghost use Rattle.std.specs.Prelude.{◌≡◌, ◌<◌, ◌≤◌, ◌+◌, ◌*◌, ◌/◌, ◌^◌, ◌↔◌, ◌⊎◌, ℕ, ℤ, pos, ◌+ℤ◌, List, Bool, length, IsOk, IfOk, OnOk, OnErr, IfErr, Some, slice_get};
-ghost use Rattle.capnp_words.specs.Segments.{segment};
-ghost use Rattle.capnp_words.specs.Bytes.{words_of, message};
+ghost use Rattle.capnp_format.specs.Segments.{segment};
+ghost use Rattle.capnp_format.specs.Bytes.{words_of, message};
 ghost use Rattle.capnp_words.specs.Meter.{Affords, charged};
-ghost use Rattle.capnp_arena.specs.Checks.{Holds, IsOffset, misplaced, total_words};
+ghost use Rattle.capnp_arena.specs.Checks.{Holds, LeadsInside, misplaced, total_words};
 ghost use Rattle.capnp_words.specs.declared.error.ErrorKind.{ErrorKind};
 ghost use Rattle.capnp_words.specs.declared.error.ErrorKind.TheVariants.{InvalidSegmentId, ReadLimitExceeded};
 
@@ -54,7 +54,7 @@ pub trait ReaderArena {
     /// A position beyond these bounds is `MessageContainsOutOfBoundsPointer`. A segment that isn't there is refused as by `get_segment`.
     #[tactic(auto, using(crate::proofs::MessageLemmas::placing))]
     fn check_offset(&self, id: u32, start: u32, offset: i32) -> Result<u32, ErrorKind>
-        ensures exactly { IsOk result ↔ IsOffset (message (segments self.now)) id start offset }
+        ensures exactly { IsOk result ↔ LeadsInside (message (segments self.now)) id start offset }
         ensures value { IfOk result (λ r. pos r ≡ pos start +ℤ offset) }
         ensures named { IfErr result (λ e. e ≡ misplaced (message (segments self.now)) id (absent self.now id)) }
     {

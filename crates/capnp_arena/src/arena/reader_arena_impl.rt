@@ -1,5 +1,6 @@
 //! The arena of a message that is read.
 ghost use Rattle.std.specs.Prelude.{◌≡◌, ◌<◌, ◌+◌, ◌*◌, ◌/◌, ◌^◌, ℕ, ℤ, pos, List, length, map, true, refl, Some, None};
+ghost use Rattle.capnp_format.specs.Bytes.{message};
 ghost use Rattle.capnp_arena.specs.Limits.{whole, IsSmall};
 ghost use Rattle.capnp_arena.specs.Checks.{total_words};
 ghost use Rattle.capnp_words.specs.declared.error.ErrorKind.TheVariants.{InvalidSegmentId};
@@ -40,9 +41,11 @@ pub struct ReaderArenaImpl<S: ReaderSegments> {
 
 impl<S: ReaderSegments> ReaderArenaImpl<S> {
     /// The arena of these segments. There are fewer than 2^32 segments, and each has fewer than 2^32 words.
+    #[tactic(auto, using(crate::proofs::MessageLemmas::message_wholes))]
     pub fn new(segments: S, options: ReaderOptions) -> Self
         requires { IsSmall (S.segments segments) }
         ensures segments { result.segments ≡ segments }
+        ensures words { message (⟦<Self as ReaderArena>⟧.segments result) ≡ message (S.segments segments) }
         ensures nesting { result.nesting_limit ≡ options.nesting_limit }
     {
         let mut words = 0;

@@ -1,6 +1,6 @@
 //! Where a reader's segments come from.
 ghost use Rattle.std.specs.Prelude.{◌≡◌, ◌<◌, ◌↔◌, ℕ, List, length, map, IsTrue, IsSome, IfSome, Some, slice_get};
-ghost use Rattle.capnp_arena.specs.Limits.{AreSmall};
+ghost use Rattle.capnp_arena.specs.Limits.{AreSmall, IsSmall};
 
 /// The segments of a message, as bytes. Section "Messages" of the encoding specification.
 pub trait ReaderSegments {
@@ -25,6 +25,7 @@ pub trait ReaderSegments {
 #[derive(Clone, Copy)]
 pub struct SegmentArray<'a> {
     segments: &'a [&'a [u8]],
+    ghost small: { IsSmall (map (λ s. s.now) segments.now) },
 }
 
 impl<'a> SegmentArray<'a> {

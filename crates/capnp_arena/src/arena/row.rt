@@ -1,7 +1,7 @@
 //! A segment of a builder arena, and how much of it is allocated.
 ghost use Rattle.std.specs.Prelude.{◌≡◌, ◌<◌, ◌≤◌, ◌+◌, ◌-◌, ◌*◌, ◌/◌, ◌↔◌, ◌++◌, [], ℕ, List, length, take, drop, replicate, slice_set, IsTrue};
-ghost use Rattle.capnp_words.specs.Bytes.{words_of};
-ghost use Rattle.capnp_arena.specs.Allocations.{IsRow, max_words, zeros};
+ghost use Rattle.capnp_format.specs.Bytes.{words_of};
+ghost use Rattle.capnp_arena.specs.Allocations.{IsRow, max_segment_words, zeros};
 ghost use Rattle.capnp_arena.specs.Written.{overwritten, with_front};
 ghost use Rattle.std.specs.Borrow.{sem, Lends, Array, u8 as byte};
 
@@ -80,7 +80,7 @@ impl<S: Segment> Row<S> {
 
     pub(crate) fn new(segment: S) -> Row<S>
         requires fresh { S.content segment ≡ zeros (length (S.content segment) / 8) }
-        requires small { length (S.content segment) / 8 ≤ max_words }
+        requires small { length (S.content segment) / 8 ≤ max_segment_words }
         ensures none { allocated S.Segment result ≡ [] }
         ensures used { result.used ≡ 0 }
         ensures segment { result.segment ≡ segment }

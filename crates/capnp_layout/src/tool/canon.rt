@@ -2,19 +2,21 @@
 //! tries: each has twice the room of the one before, so that all together take no longer than
 //! twice the last.
 ghost use Rattle.std.specs.Prelude.{◌≡◌, ◌⊎◌, ◌<◌, ◌≤◌, ◌+◌, ◌++◌, ◌∷◌, [], true, false, OnOk, IfOk, IfErr};
-ghost use Rattle.capnp_words.specs.Bytes.{message};
-ghost use Rattle.capnp_words.specs.Canonical.{trim, encoding};
-ghost use Rattle.capnp_words.specs.Tree.{Tree};
-ghost use Rattle.capnp_arena.specs.Allocations.{max_words, one_more};
+ghost use Rattle.capnp_format.specs.Bytes.{message};
+ghost use Rattle.capnp_format.specs.Canonical.{trim, encoding};
+ghost use Rattle.capnp_format.specs.Tree.{Tree};
+ghost use Rattle.capnp_arena.specs.Allocations.{max_segment_words, one_more};
 ghost use Rattle.capnp_arena.specs.Limits.{IsSmall};
-ghost use Rattle.capnp_readers.specs.Source.{source_segments, source_charging, levels};
-ghost use Rattle.capnp_layout.specs.Answers.{HasValue, Reads, RefusesCopy, RefusesOr, RefusesTry, is_message_too_large};
+ghost use Rattle.capnp_objects.specs.Source.{levels};
+ghost use Rattle.capnp_readers.specs.Readers.{reading};
+ghost use Rattle.capnp_layout.specs.Answers.{IsMade, IsWithin, LacksMemoryIn, LacksMemoryOr, RefusesCopy, RefusesMessage, ValueOf, is_message_too_large};
+ghost use Rattle.capnp_layout.specs.Messages.{segments_in};
 ghost use Rattle.capnp_layout.specs.Sources.{IsArena};
 
 use super::lines::Message;
 use capnp_arena::arena::{
-    Allocator, BuilderArena, BuilderArenaImpl, ReaderArena, ReaderArenaImpl, ReaderOptions,
-    ReaderSegments,
+    Allocator, BuilderArena, BuilderArenaImpl, MAX_SEGMENT_WORDS, ReaderArena, ReaderArenaImpl,
+    ReaderOptions, ReaderSegments,
 };
 use capnp_builders::builders::PointerBuilder;
 use capnp_readers::readers::PointerReader;
@@ -22,22 +24,17 @@ use capnp_words::error::ErrorKind;
 use capnp_words::read_limiter::ReadLimiter;
 use std::alloc::Global;
 
-/// The greatest number of words of a builder segment.
-const MOST_WORDS: u32 = 0x1fff_ffff;
-
 /// Copies what a pointer means to the root of a message whose only word is that root, which is null.
 fn copy_root<A: BuilderArena, B: ReaderArena>(
     arena: &mut A,
     from: PointerReader<'_, B>,
     left: Option<usize>,
 ) -> Result<(), ErrorKind>
-    requires root { message (A.segments arena.old) ≡ (0 ∷ []) ∷ [] }
+    requires root { (A.view arena.old).words ≡ (0 ∷ []) ∷ [] }
     requires arena { IsArena from.source }
-    ensures copied { let S = source_segments B.segments from.entry.source in let charging = source_charging B.charging from.entry.source in let n = levels from.entry.nesting_limit in
-        IfOk result (λ _. (t : Tree) × Reads S charging n from.entry.place.segment from.entry.place.at left t × (message (A.segments arena.new) ≡ encoding (trim t) ∷ [])) }
-    ensures refused { let S = source_segments B.segments from.entry.source in let charging = source_charging B.charging from.entry.source in let n = levels from.entry.nesting_limit in
-        IfErr result (RefusesCopy S charging n from.entry.place.segment from.entry.place.at left (A.room arena.old 0)) }
-    ensures refusals { A.refusals arena.new ≡ A.refusals arena.old }
+    ensures copied { IfOk result (λ _. (t : Tree) × IsWithin (reading B.ReaderArena from.entry) left t × IsMade (A.view arena.new) t) }
+    ensures refused { IfErr result (RefusesCopy (reading B.ReaderArena from.entry) left ((A.view arena.old).room 0)) }
+    ensures refusals { (A.view arena.new).refusals ≡ (A.view arena.old).refusals }
 {
     let mut lim = ReadLimiter::new(left);
     let mut root = PointerBuilder::get_root(arena);
@@ -54,12 +51,10 @@ fn copy_to_segment<A: Allocator, B: ReaderArena>(
     requires empty { ⟦<BuilderArenaImpl<A> as ReaderArena>⟧.segments arena.old ≡ [] }
     requires arena { IsArena from.source }
     requires some { 1 ≤ room }
-    requires most { room ≤ max_words }
-    ensures copied { let S = source_segments B.segments from.entry.source in let charging = source_charging B.charging from.entry.source in let n = levels from.entry.nesting_limit in
-        IfOk result (λ _. (t : Tree) × Reads S charging n from.entry.place.segment from.entry.place.at left t × (message (⟦<BuilderArenaImpl<A> as ReaderArena>⟧.segments arena.new) ≡ encoding (trim t) ∷ [])) }
-    ensures granted { OnOk result (⟦<BuilderArenaImpl<A> as BuilderArena>⟧.refusals arena.new ≡ ⟦<BuilderArenaImpl<A> as BuilderArena>⟧.refusals arena.old) }
-    ensures refused { let S = source_segments B.segments from.entry.source in let charging = source_charging B.charging from.entry.source in let n = levels from.entry.nesting_limit in
-        IfErr result (RefusesTry S charging n from.entry.place.segment from.entry.place.at left room (⟦<BuilderArenaImpl<A> as BuilderArena>⟧.refusals arena.old) (⟦<BuilderArenaImpl<A> as BuilderArena>⟧.refusals arena.new)) }
+    requires most { room ≤ max_segment_words }
+    ensures copied { IfOk result (λ _. (t : Tree) × IsWithin (reading B.ReaderArena from.entry) left t × IsMade (⟦<BuilderArenaImpl<A> as BuilderArena>⟧.view arena.new) t) }
+    ensures granted { OnOk result ((⟦<BuilderArenaImpl<A> as BuilderArena>⟧.view arena.new).refusals ≡ (⟦<BuilderArenaImpl<A> as BuilderArena>⟧.view arena.old).refusals) }
+    ensures refused { IfErr result (LacksMemoryIn ⟦<BuilderArenaImpl<A> as BuilderArena>⟧.view arena.old arena.new (RefusesCopy (reading B.ReaderArena from.entry) left room)) }
 {
     arena.allocate_segment(room)?;
     let _root = arena.allocate(0, 1);
@@ -77,12 +72,10 @@ fn copy_to_message<A: Allocator, B: ReaderArena>(
 ) -> Result<BuilderArenaImpl<A>, (ErrorKind, A)>
     requires arena { IsArena from.source }
     requires some { 1 ≤ room }
-    requires most { room ≤ max_words }
-    ensures copied { let S = source_segments B.segments from.entry.source in let charging = source_charging B.charging from.entry.source in let n = levels from.entry.nesting_limit in
-        IfOk result (λ made. (t : Tree) × Reads S charging n from.entry.place.segment from.entry.place.at left t × (message (⟦<BuilderArenaImpl<A> as ReaderArena>⟧.segments made) ≡ encoding (trim t) ∷ [])) }
-    ensures granted { IfOk result (λ made. ⟦<BuilderArenaImpl<A> as BuilderArena>⟧.refusals made ≡ A.refusals allocator) }
-    ensures refused { let S = source_segments B.segments from.entry.source in let charging = source_charging B.charging from.entry.source in let n = levels from.entry.nesting_limit in
-        IfErr result (λ e. RefusesTry S charging n from.entry.place.segment from.entry.place.at left room (A.refusals allocator) (A.refusals e.1) e.0) }
+    requires most { room ≤ max_segment_words }
+    ensures copied { IfOk result (λ made. (t : Tree) × IsWithin (reading B.ReaderArena from.entry) left t × IsMade (⟦<BuilderArenaImpl<A> as BuilderArena>⟧.view made) t) }
+    ensures granted { IfOk result (λ made. (⟦<BuilderArenaImpl<A> as BuilderArena>⟧.view made).refusals ≡ A.refusals allocator) }
+    ensures refused { IfErr result (λ e. LacksMemoryOr (A.refusals allocator) (A.refusals e.1) e.0 (RefusesCopy (reading B.ReaderArena from.entry) left room e.0)) }
 {
     let mut made = BuilderArenaImpl::new(alloc, allocator);
     match copy_to_segment(&mut made, from, left, room) {
@@ -108,12 +101,10 @@ fn copy_in_tries<A: Allocator, B: ReaderArena>(
 ) -> Result<BuilderArenaImpl<A>, (ErrorKind, A)>
     requires arena { IsArena from.source }
     requires some { 1 ≤ first_room }
-    requires most { first_room ≤ max_words }
-    ensures copied { let S = source_segments B.segments from.entry.source in let charging = source_charging B.charging from.entry.source in let n = levels from.entry.nesting_limit in
-        IfOk result (λ made. (t : Tree) × Reads S charging n from.entry.place.segment from.entry.place.at left t × (message (⟦<BuilderArenaImpl<A> as ReaderArena>⟧.segments made) ≡ encoding (trim t) ∷ [])) }
-    ensures granted { IfOk result (λ made. ⟦<BuilderArenaImpl<A> as BuilderArena>⟧.refusals made ≡ A.refusals allocator) }
-    ensures refused { let S = source_segments B.segments from.entry.source in let charging = source_charging B.charging from.entry.source in let n = levels from.entry.nesting_limit in
-        IfErr result (λ e. RefusesTry S charging n from.entry.place.segment from.entry.place.at left max_words (A.refusals allocator) (A.refusals e.1) e.0) }
+    requires most { first_room ≤ max_segment_words }
+    ensures copied { IfOk result (λ made. (t : Tree) × IsWithin (reading B.ReaderArena from.entry) left t × IsMade (⟦<BuilderArenaImpl<A> as BuilderArena>⟧.view made) t) }
+    ensures granted { IfOk result (λ made. (⟦<BuilderArenaImpl<A> as BuilderArena>⟧.view made).refusals ≡ A.refusals allocator) }
+    ensures refused { IfErr result (λ e. LacksMemoryOr (A.refusals allocator) (A.refusals e.1) e.0 (RefusesCopy (reading B.ReaderArena from.entry) left max_segment_words e.0)) }
 {
     let mut room = first_room;
     let mut unused = allocator;
@@ -121,11 +112,11 @@ fn copy_in_tries<A: Allocator, B: ReaderArena>(
         match copy_to_message(alloc, unused, from, left, room) {
             Ok(made) => return Ok(made),
             Err((kind, returned)) => {
-                if room == MOST_WORDS || !is_too_large(kind) {
+                if room == MAX_SEGMENT_WORDS || !is_too_large(kind) {
                     return Err((kind, returned));
                 }
                 unused = returned;
-                room = (2 * room).min(MOST_WORDS);
+                room = (2 * room).min(MAX_SEGMENT_WORDS);
             }
         }
     }
@@ -134,12 +125,12 @@ fn copy_in_tries<A: Allocator, B: ReaderArena>(
 /// The room of the first try: the words of the input and one more, up to the greatest segment.
 fn first_room(words: usize) -> u32
     ensures some { 1 ≤ result }
-    ensures most { result ≤ max_words }
+    ensures most { result ≤ max_segment_words }
 {
-    if words < MOST_WORDS as usize {
+    if words < MAX_SEGMENT_WORDS as usize {
         words as u32 + 1
     } else {
-        MOST_WORDS
+        MAX_SEGMENT_WORDS
     }
 }
 
@@ -151,12 +142,10 @@ pub(crate) fn canonical<A: Allocator>(
     source: Message,
     options: ReaderOptions,
 ) -> Result<BuilderArenaImpl<A>, (ErrorKind, A)>
-    ensures small { let segments = ⟦<Message as ReaderSegments>⟧.segments source in OnOk result (IsSmall segments) }
-    ensures value { let segments = ⟦<Message as ReaderSegments>⟧.segments source in
-        IfOk result (λ made. (t : Tree) × HasValue (message segments) (levels options.nesting_limit) options.traversal_limit_in_words t × (message (⟦<BuilderArenaImpl<A> as ReaderArena>⟧.segments made) ≡ encoding (trim t) ∷ [])) }
-    ensures granted { IfOk result (λ made. ⟦<BuilderArenaImpl<A> as BuilderArena>⟧.refusals made ≡ A.refusals allocator) }
-    ensures refused { let segments = ⟦<Message as ReaderSegments>⟧.segments source in
-        IfErr result (λ e. RefusesOr segments (levels options.nesting_limit) options.traversal_limit_in_words (A.refusals allocator) (A.refusals e.1) e.0) }
+    ensures small { OnOk result (IsSmall (segments_in source)) }
+    ensures value { IfOk result (λ made. (t : Tree) × ValueOf (segments_in source) options t × IsMade (⟦<BuilderArenaImpl<A> as BuilderArena>⟧.view made) t) }
+    ensures granted { IfOk result (λ made. (⟦<BuilderArenaImpl<A> as BuilderArena>⟧.view made).refusals ≡ A.refusals allocator) }
+    ensures refused { IfErr result (λ e. LacksMemoryOr (A.refusals allocator) (A.refusals e.1) e.0 (RefusesMessage (segments_in source) options e.0)) }
 {
     if !source.is_small() {
         return Err((ErrorKind::MessageTooLarge(usize::MAX), allocator));

@@ -1,17 +1,18 @@
 //! One run of the program: an input is read, and one line is written.
 ghost use Rattle.std.specs.Prelude.{◌≡◌, ◌≢◌, ◌⊎◌, ◌∷◌, ◌++◌, [], ℕ, List, length, ◌≤◌, ◌+◌, true, false, Some, None, IfSome, OnOk, OnErr, IfOk, IfErr};
 ghost use Rattle.std.specs.Io.KnownBytes.{Appends, Keeps};
-ghost use Rattle.capnp_words.specs.Tree.{Tree};
-ghost use Rattle.capnp_arena.specs.Allocations.{max_words, one_more};
+ghost use Rattle.capnp_format.specs.Tree.{Tree};
+ghost use Rattle.capnp_arena.specs.Allocations.{max_segment_words, one_more};
 ghost use Rattle.capnp_layout.specs.Lines.{segments_of};
+ghost use Rattle.capnp_layout.specs.Messages.{segments_in};
 ghost use Rattle.capnp_arena.specs.Limits.{IsSmall};
-ghost use Rattle.capnp_words.specs.Canonical.{trim, word_count};
+ghost use Rattle.capnp_format.specs.Canonical.{trim, word_count};
 ghost use Rattle.capnp_words.specs.declared.error.ErrorKind.{ErrorKind};
 ghost use Rattle.capnp_words.specs.declared.error.ErrorKind.TheVariants.{AllocationFailed};
-ghost use Rattle.capnp_layout.specs.Answers.{HasValue, RefusesOr, canonical_line, digits_of, refusal_line};
-ghost use Rattle.capnp_readers.specs.Source.{levels};
-ghost use Rattle.capnp_layout.specs.Runs.{IsRefusal, TextIsRefused, TextMeans, budget_of, levels_of};
-ghost use Rattle.capnp_words.specs.Bytes.{message, words_of};
+ghost use Rattle.capnp_layout.specs.Answers.{AnswersRefusal, AnswersWords, IsDone, IsDoneOr, IsRefused, LacksMemoryOr, RefusesMessage, ValueOf, WhereFits, WantsMemory, canonical_line, digits_of, refusal_line};
+ghost use Rattle.capnp_objects.specs.Source.{levels};
+ghost use Rattle.capnp_layout.specs.Runs.{IsNoMessage, budget_of, levels_of, WhereItFits, WritesCountedRefusal, WritesRefusal, WritesValue};
+ghost use Rattle.capnp_format.specs.Bytes.{message, words_of};
 
 use super::args::Args;
 use super::canon::canonical;
@@ -20,8 +21,8 @@ use super::reading::read_text;
 use super::writing::{write_refusal, write_words};
 use crate::devices::{DeviceFault, Input, Output};
 use capnp_arena::arena::{
-    Allocator, BuilderArenaImpl, HeapAllocator, OutputSegments, ReaderArena, ReaderOptions,
-    ReaderSegments,
+    Allocator, BuilderArena, BuilderArenaImpl, HeapAllocator, OutputSegments, ReaderArena,
+    ReaderOptions, ReaderSegments,
 };
 use capnp_words::error::ErrorKind;
 use std::alloc::Global;
@@ -46,7 +47,7 @@ fn read_message<A: Allocator, R: Input>(
     input: &mut R,
 ) -> Result<Message, InputFault>
     requires { R.has_failed input.old ≡ false }
-    ensures segments { IfOk result (λ m. IfSome (R.remaining input.old) (λ text. segments_of text ≡ Some (⟦<Message as ReaderSegments>⟧.segments m))) }
+    ensures segments { IfOk result (λ m. IfSome (R.remaining input.old) (λ text. segments_of text ≡ Some (segments_in m))) }
     ensures kept { OnOk result (A.refusals allocator.new ≡ A.refusals allocator.old) }
     ensures bad { IfErr result (λ e. e ≡ InputFault.BadInput → (R.has_failed input.new ≡ true) ⊎ IfSome (R.remaining input.old) (λ text. segments_of text ≡ None)) }
     ensures memory { IfErr result (λ e. e ≡ InputFault.NoMemory → A.refusals allocator.new ≡ one_more (A.refusals allocator.old)) }
@@ -85,7 +86,7 @@ fn answer<A: Allocator, W: Output>(output: &mut W, made: &BuilderArenaImpl<A>) -
     requires works { W.has_failed output.old ≡ false }
     requires single { length (⟦<BuilderArenaImpl<A> as ReaderArena>⟧.segments made.now) ≡ 1 }
     ensures either { (result ≡ Outcome.Done) ⊎ (result ≡ Outcome.WriteFailed) }
-    ensures written { result ≡ Outcome.Done → (words : List ℕ) → message (⟦<BuilderArenaImpl<A> as ReaderArena>⟧.segments made.now) ≡ words ∷ [] → Appends (W.contents output.old) (W.contents output.new) (digits_of words ++ 10 ∷ []) }
+    ensures written { result ≡ Outcome.Done → AnswersWords (⟦<BuilderArenaImpl<A> as BuilderArena>⟧.view made.now) (Appends (W.contents output.old) (W.contents output.new)) }
     ensures works { result ≡ Outcome.Done → W.has_failed output.new ≡ false }
     ensures failed { result ≡ Outcome.WriteFailed → W.has_failed output.new ≡ true }
 {
@@ -114,13 +115,13 @@ fn canon<A: Allocator, W: Output>(
     output: &mut W,
 ) -> (Outcome, A)
     requires { W.has_failed output.old ≡ false }
-    ensures done { let segments = ⟦<Message as ReaderSegments>⟧.segments source in
-        result.0 ≡ Outcome.Done → (t : Tree) × IsSmall segments × HasValue (message segments) (levels options.nesting_limit) options.traversal_limit_in_words t × Appends (W.contents output.old) (W.contents output.new) (canonical_line t) }
-    ensures refused { let segments = ⟦<Message as ReaderSegments>⟧.segments source in
-        result.0 ≡ Outcome.Refused → (k : ErrorKind) × RefusesOr segments (levels options.nesting_limit) options.traversal_limit_in_words (A.refusals allocator) (A.refusals result.1) k × Appends (W.contents output.old) (W.contents output.new) (refusal_line k) }
-    ensures exactly { let segments = ⟦<Message as ReaderSegments>⟧.segments source in
-        (t : Tree) → IsSmall segments → HasValue (message segments) (levels options.nesting_limit) options.traversal_limit_in_words t → 1 + word_count (trim t) ≤ max_words →
-        (result.0 ≡ Outcome.Done) ⊎ (result.0 ≡ Outcome.WriteFailed) ⊎ ((result.0 ≡ Outcome.Refused) × (A.refusals result.1 ≡ one_more (A.refusals allocator)) × Appends (W.contents output.old) (W.contents output.new) (refusal_line AllocationFailed)) }
+    ensures small { result.0 ≡ Outcome.Done → IsSmall (segments_in source) }
+    ensures done { result.0 ≡ Outcome.Done → (t : Tree) × ValueOf (segments_in source) options t
+        × Appends (W.contents output.old) (W.contents output.new) (canonical_line t) }
+    ensures refused { result.0 ≡ Outcome.Refused →
+        AnswersRefusal (segments_in source) options (A.refusals allocator) (A.refusals result.1) (Appends (W.contents output.old) (W.contents output.new)) }
+    ensures exactly { WhereFits (segments_in source) options
+        (IsDoneOr result.0 (WantsMemory (A.refusals allocator) (A.refusals result.1) (Appends (W.contents output.old) (W.contents output.new)))) }
     ensures input { result.0 ≢ Outcome.BadInput }
     ensures works { result.0 ≢ Outcome.WriteFailed → W.has_failed output.new ≡ false }
     ensures failed { result.0 ≡ Outcome.WriteFailed → W.has_failed output.new ≡ true }
@@ -148,11 +149,12 @@ pub fn run_with<A: Allocator, R: Input, W: Output>(
 ) -> (Outcome, A)
     requires input { R.has_failed input.old ≡ false }
     requires output { W.has_failed output.old ≡ false }
-    ensures done { result.0 ≡ Outcome.Done → IfSome (R.remaining input.old) (λ text. (t : Tree) × TextMeans text (levels_of args.now) (budget_of args.now) t × Appends (W.contents output.old) (W.contents output.new) (canonical_line t)) }
-    ensures refused { result.0 ≡ Outcome.Refused → IfSome (R.remaining input.old) (λ text. (k : ErrorKind) × IsRefusal text (levels_of args.now) (budget_of args.now) (A.refusals allocator) (A.refusals result.1) k × Appends (W.contents output.old) (W.contents output.new) (refusal_line k)) }
-    ensures exactly { IfSome (R.remaining input.old) (λ text. (t : Tree) → TextMeans text (levels_of args.now) (budget_of args.now) t → 1 + word_count (trim t) ≤ max_words →
-        (result.0 ≡ Outcome.Done) ⊎ (R.has_failed input.new ≡ true) ⊎ (W.has_failed output.new ≡ true) ⊎ ((result.0 ≡ Outcome.Refused) × (A.refusals result.1 ≡ one_more (A.refusals allocator)) × Appends (W.contents output.old) (W.contents output.new) (refusal_line AllocationFailed))) }
-    ensures input { result.0 ≡ Outcome.BadInput → (R.has_failed input.new ≡ true) ⊎ IfSome (R.remaining input.old) (λ text. segments_of text ≡ None) }
+    ensures done { result.0 ≡ Outcome.Done → WritesValue (R.remaining input.old) args.now (Appends (W.contents output.old) (W.contents output.new)) }
+    ensures refused { result.0 ≡ Outcome.Refused →
+        WritesCountedRefusal (R.remaining input.old) args.now (A.refusals allocator) (A.refusals result.1) (Appends (W.contents output.old) (W.contents output.new)) }
+    ensures exactly { WhereItFits (R.remaining input.old) args.now (IsDone result.0 ⊎ (R.has_failed input.new ≡ true) ⊎ (W.has_failed output.new ≡ true)
+        ⊎ (IsRefused result.0 × WantsMemory (A.refusals allocator) (A.refusals result.1) (Appends (W.contents output.old) (W.contents output.new)))) }
+    ensures input { result.0 ≡ Outcome.BadInput → (R.has_failed input.new ≡ true) ⊎ IsNoMessage (R.remaining input.old) }
     ensures unwritten { result.0 ≡ Outcome.BadInput → W.contents output.new ≡ W.contents output.old }
     ensures works { result.0 ≢ Outcome.WriteFailed → W.has_failed output.new ≡ false }
     ensures failed { result.0 ≡ Outcome.WriteFailed → W.has_failed output.new ≡ true }
@@ -181,11 +183,11 @@ pub fn run<R: Input, W: Output>(
 ) -> Outcome
     requires input { R.has_failed input.old ≡ false }
     requires output { W.has_failed output.old ≡ false }
-    ensures done { result ≡ Outcome.Done → IfSome (R.remaining input.old) (λ text. (t : Tree) × TextMeans text (levels_of args.now) (budget_of args.now) t × Appends (W.contents output.old) (W.contents output.new) (canonical_line t)) }
-    ensures refused { result ≡ Outcome.Refused → IfSome (R.remaining input.old) (λ text. (k : ErrorKind) × ((k ≡ AllocationFailed) ⊎ TextIsRefused text (levels_of args.now) (budget_of args.now) k) × Appends (W.contents output.old) (W.contents output.new) (refusal_line k)) }
-    ensures exactly { IfSome (R.remaining input.old) (λ text. (t : Tree) → TextMeans text (levels_of args.now) (budget_of args.now) t → 1 + word_count (trim t) ≤ max_words →
-        (result ≡ Outcome.Done) ⊎ (R.has_failed input.new ≡ true) ⊎ (W.has_failed output.new ≡ true) ⊎ ((result ≡ Outcome.Refused) × Appends (W.contents output.old) (W.contents output.new) (refusal_line AllocationFailed))) }
-    ensures input { result ≡ Outcome.BadInput → (R.has_failed input.new ≡ true) ⊎ IfSome (R.remaining input.old) (λ text. segments_of text ≡ None) }
+    ensures done { result ≡ Outcome.Done → WritesValue (R.remaining input.old) args.now (Appends (W.contents output.old) (W.contents output.new)) }
+    ensures refused { result ≡ Outcome.Refused → WritesRefusal (R.remaining input.old) args.now (Appends (W.contents output.old) (W.contents output.new)) }
+    ensures exactly { WhereItFits (R.remaining input.old) args.now (IsDone result ⊎ (R.has_failed input.new ≡ true) ⊎ (W.has_failed output.new ≡ true)
+        ⊎ (IsRefused result × Appends (W.contents output.old) (W.contents output.new) (refusal_line AllocationFailed))) }
+    ensures input { result ≡ Outcome.BadInput → (R.has_failed input.new ≡ true) ⊎ IsNoMessage (R.remaining input.old) }
     ensures unwritten { result ≡ Outcome.BadInput → W.contents output.new ≡ W.contents output.old }
     ensures works { result ≢ Outcome.WriteFailed → W.has_failed output.new ≡ false }
     ensures failed { result ≡ Outcome.WriteFailed → W.has_failed output.new ≡ true }

@@ -1,7 +1,7 @@
 //! The lines that the program prints.
 ghost use Rattle.std.specs.Prelude.{◌≡◌, ◌+◌, ◌++◌, ◌∷◌, [], false, true, OnOk, OnErr};
 ghost use Rattle.std.specs.Io.KnownBytes.{Appends};
-ghost use Rattle.capnp_words.specs.Bytes.{words_of};
+ghost use Rattle.capnp_format.specs.Bytes.{words_of};
 ghost use Rattle.capnp_layout.specs.Answers.{word_digits, digits_of, refusal_line};
 
 use crate::devices::{DeviceFault, Output, write_all};

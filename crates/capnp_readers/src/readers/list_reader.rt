@@ -1,18 +1,18 @@
 //! Lists of a message, in place.
 ghost use Rattle.std.specs.Prelude.{◌≡◌, ◌≢◌, ◌<◌, ◌≤◌, ◌+◌, ◌*◌, ◌/◌, ◌^◌, ◌↔◌, ℕ, pos, [], IsTrue, length, take, drop, slice_range};
-ghost use Rattle.capnp_words.specs.Bytes.{message};
-ghost use Rattle.capnp_words.specs.Segments.{word_at, segment};
+ghost use Rattle.capnp_format.specs.Bytes.{message};
+ghost use Rattle.capnp_format.specs.Segments.{word_at, segment};
 ghost use Rattle.capnp_words.specs.declared.wire_pointer.ElementSize.TheVariants.{Void, InlineComposite};
-ghost use Rattle.capnp_words.specs.Numbers.{element_bits};
+ghost use Rattle.capnp_format.specs.Numbers.{element_bits};
 ghost use Rattle.capnp_words.specs.Sizes.{size_number};
-ghost use Rattle.capnp_readers.specs.Source.{source_segments};
-ghost use Rattle.capnp_readers.specs.Objects.{IsHeld};
+ghost use Rattle.capnp_objects.specs.Source.{source_segments};
+ghost use Rattle.capnp_objects.specs.Objects.{IsHeld};
 ghost use Rattle.capnp_readers.specs.Sections.{IsPart, HasRoom, IsSized, HoldsPointer, list_words, pointers_behind};
 
-use crate::object::Place;
 use crate::readers::{NO_SECTIONS, PointerReader, StructReader};
-use crate::source::Source;
 use capnp_arena::arena::ReaderArena;
+use capnp_objects::object::Place;
+use capnp_objects::source::Source;
 use capnp_words::wire_pointer::{ElementSize, StructSize, data_bits_per_element};
 use std::alloc::AllocError;
 
@@ -81,11 +81,11 @@ fn words_of_elements(size: ElementSize, struct_size: StructSize, count: u32) -> 
 impl<'a, A: ReaderArena> ListReader<'a, A> {
     ghost use Rattle.capnp_readers.specs.Readers.{ShowsList, ShowsElement, IsListPlace, one_level_less};
 
-    /// The list from nothing: a void list of none. Its nesting limit is 0x7fffffff.
+    /// The list from nothing: a void list of none. Its nesting limit is `i32::MAX`.
     pub fn new_default() -> Self
         ensures source { result.source ≡ Source.Nothing }
         ensures elements { (result.element_size ≡ Void) × (result.count ≡ 0) }
-        ensures nesting { result.nesting_limit ≡ pos 2147483647 }
+        ensures nesting { result.nesting_limit ≡ i32.MAX }
     {
         ListReader {
             source: Source::Nothing,
@@ -101,7 +101,7 @@ impl<'a, A: ReaderArena> ListReader<'a, A> {
                 pointers: 0,
             },
             count: 0,
-            nesting_limit: 0x7fff_ffff,
+            nesting_limit: i32::MAX,
         }
     }
 
@@ -137,7 +137,7 @@ impl<'a, A: ReaderArena> ListReader<'a, A> {
     }
 
     // The list whose elements start at a place.
-    #[tactic(auto, using(capnp_words::proofs::WordsOf::part_words))]
+    #[tactic(auto, using(capnp_format::proofs::WordsOf::part_words))]
     pub(crate) fn of_words(
         source: Source<'a, A>,
         start: Place<'a>,
@@ -236,7 +236,7 @@ impl<'a, A: ReaderArena> ListReader<'a, A> {
         requires range { index < self.now.count }
         requires size { size_number self.now.element_size ≢ 1 }
         ensures source { result.source ≡ self.now.source }
-        ensures element { ShowsElement A.ReaderArena self.now.element_size (source_segments A.segments self.now.source) self.now index result }
+        ensures element { ShowsElement A.ReaderArena self.now index result }
         ensures nesting { result.nesting_limit ≡ one_level_less self.now.nesting_limit }
     {
         self.element_within(index, self.nesting_limit.saturating_sub(1))
@@ -247,7 +247,7 @@ impl<'a, A: ReaderArena> ListReader<'a, A> {
         requires range { index < self.now.count }
         requires size { size_number self.now.element_size ≢ 1 }
         ensures source { result.source ≡ self.now.source }
-        ensures element { ShowsElement A.ReaderArena self.now.element_size (source_segments A.segments self.now.source) self.now index result }
+        ensures element { ShowsElement A.ReaderArena self.now index result }
         ensures nesting { result.nesting_limit ≡ self.now.nesting_limit }
     {
         self.element_within(index, self.nesting_limit)
@@ -258,7 +258,7 @@ impl<'a, A: ReaderArena> ListReader<'a, A> {
         requires range { index < self.now.count }
         requires size { size_number self.now.element_size ≢ 1 }
         ensures source { result.source ≡ self.now.source }
-        ensures element { ShowsElement A.ReaderArena self.now.element_size (source_segments A.segments self.now.source) self.now index result }
+        ensures element { ShowsElement A.ReaderArena self.now index result }
         ensures nesting { result.nesting_limit ≡ nesting_limit }
     {
         match self.element_size {

@@ -1,15 +1,15 @@
 //! Structs of a message, in place.
 ghost use Rattle.std.specs.Prelude.{◌≡◌, ◌<◌, ◌≤◌, ◌+◌, ◌*◌, ◌/◌, ◌^◌, ◌↔◌, ℕ, pos, [], true, false, IsTrue, length, take, drop, slice_range};
-ghost use Rattle.capnp_words.specs.Bytes.{message};
-ghost use Rattle.capnp_words.specs.Segments.{word_at, segment};
-ghost use Rattle.capnp_readers.specs.Source.{source_segments};
-ghost use Rattle.capnp_readers.specs.Objects.{IsHeld};
+ghost use Rattle.capnp_format.specs.Bytes.{message};
+ghost use Rattle.capnp_format.specs.Segments.{word_at, segment};
+ghost use Rattle.capnp_objects.specs.Source.{source_segments};
+ghost use Rattle.capnp_objects.specs.Objects.{IsHeld};
 ghost use Rattle.capnp_readers.specs.Sections.{IsPart, IsInside, HasRoom, bit_at, bytes_for};
 
-use crate::object::Place;
 use crate::readers::PointerReader;
-use crate::source::Source;
 use capnp_arena::arena::ReaderArena;
+use capnp_objects::object::Place;
+use capnp_objects::source::Source;
 use capnp_words::mask::Mask;
 use capnp_words::primitive::Primitive;
 use capnp_words::wire_pointer::StructSize;
@@ -64,11 +64,11 @@ impl<'a, A: ReaderArena> Copy for StructReader<'a, A> {}
 impl<'a, A: ReaderArena> StructReader<'a, A> {
     ghost use Rattle.capnp_readers.specs.Readers.{ShowsStruct, IsStructPlace};
 
-    /// The struct from nothing, which has no sections. Its nesting limit is 0x7fffffff.
+    /// The struct from nothing, which has no sections. Its nesting limit is `i32::MAX`.
     pub fn new_default() -> Self
         ensures source { result.source ≡ Source.Nothing }
         ensures sections { (result.bits ≡ 0) × (result.pointer_count ≡ 0) }
-        ensures nesting { result.nesting_limit ≡ pos 2147483647 }
+        ensures nesting { result.nesting_limit ≡ i32.MAX }
     {
         StructReader {
             source: Source::Nothing,
@@ -81,7 +81,7 @@ impl<'a, A: ReaderArena> StructReader<'a, A> {
                 at: 0,
             },
             pointer_count: 0,
-            nesting_limit: 0x7fff_ffff,
+            nesting_limit: i32::MAX,
         }
     }
 
@@ -114,7 +114,7 @@ impl<'a, A: ReaderArena> StructReader<'a, A> {
     }
 
     // The struct of whole words that starts at a place.
-    #[tactic(auto, using(capnp_words::proofs::WordsOf::part_words))]
+    #[tactic(auto, using(capnp_format::proofs::WordsOf::part_words))]
     pub(crate) fn of_words(
         source: Source<'a, A>,
         start: Place<'a>,
@@ -162,7 +162,7 @@ impl<'a, A: ReaderArena> StructReader<'a, A> {
         ensures source { index < self.now.pointer_count → result.source ≡ self.now.source }
         ensures place { index < self.now.pointer_count → (result.place.segment ≡ self.now.pointers.segment) × (result.place.at ≡ self.now.pointers.at + index) }
         ensures nesting { index < self.now.pointer_count → result.nesting_limit ≡ self.now.nesting_limit }
-        ensures nothing { self.now.pointer_count ≤ index → (result.source ≡ Source.Nothing) × (result.nesting_limit ≡ pos 2147483647) }
+        ensures nothing { self.now.pointer_count ≤ index → (result.source ≡ Source.Nothing) × (result.nesting_limit ≡ i32.MAX) }
     {
         if index >= usize::from(self.pointer_count) {
             return PointerReader::new_default();

@@ -1,5 +1,5 @@
 use Rattle.std.proofs.Common.{ap, ◌∙◌}
-use Rattle.capnp_words.specs.Bytes.{words_of}
+use Rattle.capnp_format.specs.Bytes.{words_of}
 use Rattle.capnp_words.proofs.WordsPut.{words_of-copy_within}
 use Rattle.capnp_words.proofs.words.move_words.Goals as goal
 

@@ -1,8 +1,8 @@
 use Rattle.std.proofs.Common.{◌-◌, ◌/◌, ℕ, List, length, sym, ap, ◌∙◌, arith, take_all}
-use Rattle.capnp_words.specs.Bytes.{words_of}
-use Rattle.capnp_words.specs.Canonical.{used_words}
-use Rattle.capnp_words.proofs.WordsOf.{words}
-use Rattle.capnp_words.proofs.UsedUp.{used_whole, used_before}
+use Rattle.capnp_format.specs.Bytes.{words_of}
+use Rattle.capnp_format.specs.Canonical.{used_words}
+use Rattle.capnp_format.proofs.WordsOf.{words}
+use Rattle.capnp_format.proofs.UsedUp.{used_whole, used_before}
 use Rattle.capnp_words.proofs.words.used.Goals as goal
 
 pub loop-n-init : goal.loop-n-init

@@ -1,6 +1,6 @@
 use Rattle.std.proofs.Common.{◌≡◌, ◌≤◌, ◌*◌, length, take}
-use Rattle.capnp_words.specs.Bytes.{words_of}
-use Rattle.capnp_words.specs.Canonical.{used_words}
+use Rattle.capnp_format.specs.Bytes.{words_of}
+use Rattle.capnp_format.specs.Canonical.{used_words}
 use Rattle.capnp_words.proofs.words.used.Given as goal
 
 abbrev pub invariant-loop-n : goal.invariant-loop-n

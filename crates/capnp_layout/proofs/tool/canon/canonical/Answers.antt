@@ -1,15 +1,13 @@
-use Rattle.std.proofs.Common.{rules, ◌≡◌, ◌∙◌, ◌^◌, ◌-◌, ◌∷◌, [], inr, refl, IsTrue, ℕ, map, vec_items, ap, Global, true, IfOk, IfErr, IsOk, sym, subst}
-use Rattle.capnp_words.specs.Bytes.{message}
-use Rattle.capnp_words.specs.Segments.{Segments, IsPlace}
-use Rattle.capnp_words.specs.Tree.{Tree}
-use Rattle.capnp_words.specs.Canonical.{trim, encoding}
+use Rattle.std.proofs.Common.{rules, ◌≡◌, ◌∙◌, ◌^◌, ◌-◌, ◌∷◌, [], inr, refl, IsTrue, ℕ, map, vec_items, ap, Global, true, IsOk, sym, subst}
+use Rattle.capnp_format.specs.Bytes.{message}
+use Rattle.capnp_format.specs.Segments.{Segments, IsPlace}
+use Rattle.capnp_format.specs.Canonical.{trim, encoding}
 use Rattle.capnp_words.specs.Meter.{Meter, FitsIn, less}
 use Rattle.capnp_arena.specs.Limits.{whole}
 use Rattle.capnp_arena.specs.Row.{shown}
-use Rattle.capnp_arena.specs.Allocations.{max_words}
-use Rattle.capnp_readers.specs.Source.{source_segments, source_charging, levels}
-use Rattle.capnp_layout.specs.Answers.{Reads, RefusesTry}
-use Rattle.capnp_layout.proofs.CanonLemmas.{message-whole, moved, value_read, copy_refused, root_refused, root_there}
+use Rattle.capnp_objects.specs.Source.{source_segments, source_charging, levels}
+use Rattle.capnp_readers.specs.Readers.{reading}
+use Rattle.capnp_layout.proofs.CanonLemmas.{message-whole, value_read, copy_refused, root_reading, root_refused, root_there}
 use Rattle.capnp_layout.specs.Answers.Refuses.{beyond_limits}
 use Rattle.capnp_layout.proofs.tool.canon.canonical.Goals as goal
 
@@ -27,11 +25,10 @@ returns-in-Ok-clause-value g c =
     let granted = c.get_root_from_arena.ensures.exactly.0 read in
     let root : IsPlace (message (map (vec_items {X = ℕ} {Z = Global}) c.args.source.segments.items)) 0 0 = subst (λ (S : Segments). IsPlace S 0 0) same (root_there _ granted.0) in
     let one : FitsIn c.args.options.traversal_limit_in_words 1 = subst (λ (m : Meter). FitsIn m.left 1) c.new-lim.ensures granted.1 in
-    value_read (λ made t. message (shown g.A.Segment.Segment made.rows.items) ≡ encoding (trim t) ∷ []) (message (map vec_items c.args.source.segments.items))
-    (levels c.args.options.nesting_limit) c.args.options.traversal_limit_in_words c.copy_in_tries.result root one
-    (moved (λ S ch n s p left. IfOk c.copy_in_tries.result (λ made. (t : Tree) × Reads S ch n s p left t × (message (shown g.A.Segment.Segment made.rows.items) ≡ encoding (trim t) ∷ []))) _ _ _ _ _ _ _ _ _ _ _ _
-    (ap (source_segments _) c.in-Ok.ensures.source ∙ same) (ap (source_charging (λ _. true)) c.in-Ok.ensures.source) (ap levels (c.in-Ok.ensures.nesting ∙ c.new-arena.ensures.nesting))
-    c.in-Ok.ensures.place.0 c.in-Ok.ensures.place.1 left c.copy_in_tries.ensures.copied)
+    let at_root = root_reading (reading _ c.in-Ok.root) (message (map vec_items c.args.source.segments.items)) (levels c.args.options.nesting_limit) (ap (source_segments _) c.in-Ok.ensures.source ∙ same) (ap (source_charging (λ _. true)) c.in-Ok.ensures.source)
+    (ap levels (c.in-Ok.ensures.nesting ∙ c.new-arena.ensures.nesting)) c.in-Ok.ensures.place.0 c.in-Ok.ensures.place.1 in
+    value_read (λ made t. message (shown g.A.Segment.Segment made.rows.items) ≡ encoding (trim t) ∷ []) _ (message (map vec_items c.args.source.segments.items)) (levels c.args.options.nesting_limit) _ c.args.options.traversal_limit_in_words c.copy_in_tries.result at_root left root one
+    c.copy_in_tries.ensures.copied
 
 pub returns-in-Ok-clause-refused : goal.returns-in-Ok-clause-refused
 returns-in-Ok-clause-refused g c =
@@ -39,10 +36,9 @@ returns-in-Ok-clause-refused g c =
     message-whole (map vec_items c.new-arena.result.segments.segments.items) ∙ ap (λ m. message (map vec_items m.segments.items)) c.new-arena.ensures.segments in
     let left : c.left.result ≡ less c.args.options.traversal_limit_in_words 1 =
     c.left.ensures ∙ ap (λ (m : Meter). m.left) c.in-Ok.ensures.granted ∙ ap (λ (m : Meter). less m.left 1) c.new-lim.ensures in
-    copy_refused g.A.Allocator.refusals (map vec_items c.args.source.segments.items) (levels c.args.options.nesting_limit) c.args.options.traversal_limit_in_words _ c.copy_in_tries.result
-    (moved (λ S ch n s p left. IfErr c.copy_in_tries.result (λ e. RefusesTry S ch n s p left max_words (g.A.Allocator.refusals c.args.allocator) (g.A.Allocator.refusals e.1) e.0)) _ _ _ _ _ _ _ _ _ _ _ _
-    (ap (source_segments _) c.in-Ok.ensures.source ∙ same) (ap (source_charging (λ _. true)) c.in-Ok.ensures.source) (ap levels (c.in-Ok.ensures.nesting ∙ c.new-arena.ensures.nesting))
-    c.in-Ok.ensures.place.0 c.in-Ok.ensures.place.1 left c.copy_in_tries.ensures.refused)
+    let at_root = root_reading (reading _ c.in-Ok.root) (message (map vec_items c.args.source.segments.items)) (levels c.args.options.nesting_limit) (ap (source_segments _) c.in-Ok.ensures.source ∙ same) (ap (source_charging (λ _. true)) c.in-Ok.ensures.source)
+    (ap levels (c.in-Ok.ensures.nesting ∙ c.new-arena.ensures.nesting)) c.in-Ok.ensures.place.0 c.in-Ok.ensures.place.1 in
+    copy_refused g.A.Allocator.refusals _ (map vec_items c.args.source.segments.items) (levels c.args.options.nesting_limit) _ c.args.options.traversal_limit_in_words _ c.copy_in_tries.result at_root left c.copy_in_tries.ensures.refused
 
 pub returns-clause-refused : goal.returns-clause-refused
 returns-clause-refused g c =

@@ -1,13 +1,13 @@
 use Rattle.std.proofs.Common.{◌≡◌, ◌-◌, ◌≤◌}
-use Rattle.capnp_arena.specs.Allocations.{max_words}
+use Rattle.capnp_arena.specs.Allocations.{max_segment_words}
 use Rattle.capnp_layout.proofs.tool.canon.copy_in_tries.Given as goal
 
 abbrev pub invariant-loop-made : goal.invariant-loop-made
 invariant-loop-made g l = record {
   some : 1 ≤ l.room;
-  most : l.room ≤ max_words;
+  most : l.room ≤ max_segment_words;
   granted : g.A.Allocator.refusals l.unused ≡ g.A.Allocator.refusals l.fn.allocator;
 }
 
 abbrev pub decreases-loop-made : goal.decreases-loop-made
-decreases-loop-made g l = max_words - l.room
+decreases-loop-made g l = max_segment_words - l.room

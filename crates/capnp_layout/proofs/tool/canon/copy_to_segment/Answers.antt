@@ -1,7 +1,7 @@
 use Rattle.std.proofs.Common.{◌≡◌, ◌≤◌, ◌∙◌, ℕ, length, ap, sym, subst}
 use Rattle.capnp_arena.specs.Row.{capacity_at, shown}
-use Rattle.capnp_readers.specs.Source.{source_segments, source_charging, levels}
-use Rattle.capnp_layout.proofs.CanonLemmas.{refused_try}
+use Rattle.capnp_readers.specs.Readers.{reading}
+use Rattle.capnp_layout.proofs.CanonLemmas.{limits_kept, refused_try}
 use Rattle.capnp_layout.proofs.tool.canon.copy_to_segment.Goals as goal
 
 pub returns-clause-refused : goal.returns-clause-refused
@@ -9,8 +9,7 @@ returns-clause-refused g c =
     let none : length (shown g.A.Segment.Segment c.args.arena.now.rows.items) ≡ 0 = ap length c.requires.empty in
     let made : c.args.room ≤ capacity_at g.A.Segment.Segment c.allocate_segment.new.self.rows.items 0 =
     subst (λ i. c.args.room ≤ capacity_at g.A.Segment.Segment c.allocate_segment.new.self.rows.items i) none c.in_ok-allocate_segment.ensures.least in
-    let least : c.args.room ≤ capacity_at g.A.Segment.Segment c.allocate-root.new.self.rows.items 0 =
-    subst (λ (rooms : ℕ → ℕ). c.args.room ≤ rooms 0) (sym c.allocate-root.ensures.room) made in
-    refused_try (source_segments g.B.ReaderArena.segments c.args.from.source) (source_charging g.B.ReaderArena.charging c.args.from.source) (levels c.args.from.nesting_limit)
-    c.args.from.place.segment c.args.from.place.at c.args.left (capacity_at g.A.Segment.Segment c.allocate-root.new.self.rows.items 0) c.args.room _ _ c.copy_root.result
-    least (c.copy_root.ensures.refusals ∙ c.allocate-root.ensures.refusals ∙ c.in_ok-allocate_segment.ensures.granted) c.copy_root.ensures.refused
+    let kept = limits_kept c.allocate-root.result _ _ _ _ c.allocate-root.ensures.taken c.allocate-root.ensures.none in
+    let least : c.args.room ≤ capacity_at g.A.Segment.Segment c.allocate-root.new.self.rows.items 0 = subst (λ (rooms : ℕ → ℕ). c.args.room ≤ rooms 0) (sym kept.0) made in
+    refused_try (reading g.B.ReaderArena c.args.from) c.args.left (capacity_at g.A.Segment.Segment c.allocate-root.new.self.rows.items 0) c.args.room _ _ c.copy_root.result least
+    (c.copy_root.ensures.refusals ∙ kept.1 ∙ c.in_ok-allocate_segment.ensures.granted) c.copy_root.ensures.refused

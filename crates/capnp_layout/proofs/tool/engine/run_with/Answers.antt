@@ -3,13 +3,13 @@ use Rattle.std.specs.Io.KnownBytes.{Appends}
 use Rattle.capnp_words.specs.declared.error.ErrorKind.{ErrorKind}
 use Rattle.capnp_words.specs.declared.error.ErrorKind.TheVariants.{AllocationFailed}
 use Rattle.capnp_layout.specs.Answers.{refusal_line}
-use Rattle.capnp_layout.specs.Runs.{IsRefusal, levels_of, budget_of}
+use Rattle.capnp_layout.specs.Runs.{IsCountedRefusal}
 use Rattle.capnp_layout.proofs.RunLemmas.{if_some}
 use Rattle.capnp_layout.proofs.tool.engine.run_with.Goals as goal
 
 pub returns-in-Err-NoMemory-clause-refused : goal.returns-in-Err-NoMemory-clause-refused
 returns-in-Err-NoMemory-clause-refused g c =
     λ refused. if_some
-    (λ text. (k : ErrorKind) × IsRefusal text (levels_of c.args.args.now) (budget_of c.args.args.now) (g.A.Allocator.refusals c.args.allocator) (g.A.Allocator.refusals c.read_message.new.allocator) k
+    (λ text. (k : ErrorKind) × IsCountedRefusal text c.args.args.now (g.A.Allocator.refusals c.args.allocator) (g.A.Allocator.refusals c.read_message.new.allocator) k
     × Appends (g.W.Output.contents c.args.output.now) (g.W.Output.contents c.refuse.new.output) (refusal_line k))
     (g.R.Input.remaining c.args.input.now) (λ text. (AllocationFailed, inl (refl, search rules), c.refuse.ensures.written refused))

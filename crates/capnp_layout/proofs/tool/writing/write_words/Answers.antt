@@ -1,6 +1,6 @@
 use Rattle.std.proofs.Common.{rules, ◌+◌, ℕ, ◌<◌, ◌≤◌, length, arith, ap, sym, ◌∙◌, ◌++◌, drop}
-use Rattle.capnp_words.specs.Bytes.{words_of}
-use Rattle.capnp_words.proofs.WordsOf.{words}
+use Rattle.capnp_format.specs.Bytes.{words_of}
+use Rattle.capnp_format.proofs.WordsOf.{words}
 use Rattle.capnp_layout.specs.Answers.{word_digits, digits_of}
 use Rattle.capnp_layout.proofs.WritingLemmas.{left_over_less, left_over_none, digits-drop, digits-end, on_ok}
 use Rattle.capnp_layout.proofs.tool.writing.write_words.Goals as goal

@@ -1,5 +1,5 @@
 use Rattle.std.proofs.Common.{◌≡◌, drop, false}
-use Rattle.capnp_words.specs.Bytes.{words_of}
+use Rattle.capnp_format.specs.Bytes.{words_of}
 use Rattle.capnp_layout.specs.Writing.{IsLeftOver}
 use Rattle.capnp_layout.specs.Answers.{digits_of}
 use Rattle.capnp_layout.proofs.tool.writing.write_words.Given as goal

@@ -1,6 +1,6 @@
 use Rattle.std.proofs.Common.{ℕ, ◌<◌, ◌+◌, length}
-use Rattle.capnp_words.specs.Bytes.{message}
-use Rattle.capnp_words.specs.Segments.{segment}
+use Rattle.capnp_format.specs.Bytes.{message}
+use Rattle.capnp_format.specs.Segments.{segment}
 use Rattle.capnp_arena.specs.Row.{shown, capacity_at}
 use Rattle.capnp_arena.proofs.arena.builder_arena_impl.BuilderArenaImpl.first_fit.Given as goal
 

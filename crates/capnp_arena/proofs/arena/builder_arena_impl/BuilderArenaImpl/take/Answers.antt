@@ -1,5 +1,5 @@
-use Rattle.std.proofs.Common.{◌<◌, length, sym, ap, ◌+◌, ◌∙◌, arith}
-use Rattle.capnp_arena.proofs.RowsLemmas.{length_shown, row_old, row_new, room_is}
+use Rattle.std.proofs.Common.{◌<◌, length, arith}
+use Rattle.capnp_arena.proofs.RowsLemmas.{length_shown, row_old, room_is}
 use Rattle.capnp_arena.proofs.arena.builder_arena_impl.BuilderArenaImpl.take.Goals as goal
 
 pub take-requires : goal.take-requires
@@ -8,9 +8,3 @@ take-requires g c =
     let row = c.index_mut-row.result.now in
     let there : c.args.id < length rows = omega (arith, length_shown g.A.Segment.Segment rows, c.requires.there) in
     omega (arith, row_old g.A.Segment.Segment rows c.args.id row there c.index_mut-row.ensures.value, room_is g.A.Segment.Segment rows c.args.id row there c.index_mut-row.ensures.value, c.requires.fits)
-
-pub returns-clause-length : goal.returns-clause-length
-returns-clause-length g c =
-    let rows = c.args.self.now.rows.items in
-    let there : c.args.id < length rows = omega (arith, length_shown g.A.Segment.Segment rows, c.requires.there) in
-    row_new g.A.Segment.Segment rows c.args.id c.take.new.self there ∙ c.take.ensures.used ∙ ap (λ n. n + c.args.amount) (sym c.take.ensures.at)

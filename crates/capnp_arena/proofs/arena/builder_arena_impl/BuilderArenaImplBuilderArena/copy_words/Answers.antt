@@ -1,5 +1,5 @@
-use Rattle.std.proofs.Common.{◌<◌, length, sym, ◌∙◌, arith}
-use Rattle.capnp_arena.proofs.RowsLemmas.{row_there, row_old, row_new}
+use Rattle.std.proofs.Common.{◌<◌, length, arith}
+use Rattle.capnp_arena.proofs.RowsLemmas.{row_there, row_old}
 use Rattle.capnp_arena.proofs.arena.builder_arena_impl.BuilderArenaImplBuilderArena.copy_words.Goals as goal
 
 pub copy_words-requires-clause-inside : goal.copy_words-requires-clause-inside
@@ -7,10 +7,3 @@ copy_words-requires-clause-inside g c =
     let rows = c.args.self.now.rows.items in
     let there : c.args.id < length rows = row_there g.A.Segment.Segment rows c.args.id c.args.at (omega (arith, c.requires.some, c.requires.inside)) in
     omega (arith, row_old g.A.Segment.Segment rows c.args.id c.index_mut-row.result.now there c.index_mut-row.ensures.value, c.requires.inside)
-
-pub returns-clause-length : goal.returns-clause-length
-returns-clause-length g c =
-    let rows = c.args.self.now.rows.items in
-    let there : c.args.id < length rows = row_there g.A.Segment.Segment rows c.args.id c.args.at (omega (arith, c.requires.some, c.requires.inside)) in
-    row_new g.A.Segment.Segment rows c.args.id c.copy_words.new.self there ∙ c.copy_words.ensures.used
-    ∙ sym (row_old g.A.Segment.Segment rows c.args.id c.index_mut-row.result.now there c.index_mut-row.ensures.value)

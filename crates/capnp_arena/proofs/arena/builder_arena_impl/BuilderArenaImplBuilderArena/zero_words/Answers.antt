@@ -1,5 +1,5 @@
-use Rattle.std.proofs.Common.{◌<◌, length, sym, ◌∙◌, arith}
-use Rattle.capnp_arena.proofs.RowsLemmas.{row_there, row_old, row_new}
+use Rattle.std.proofs.Common.{◌<◌, length, arith}
+use Rattle.capnp_arena.proofs.RowsLemmas.{row_there, row_old}
 use Rattle.capnp_arena.proofs.arena.builder_arena_impl.BuilderArenaImplBuilderArena.zero_words.Goals as goal
 
 pub zero_words-requires : goal.zero_words-requires
@@ -7,10 +7,3 @@ zero_words-requires g c =
     let rows = c.args.self.now.rows.items in
     let there : c.args.id < length rows = row_there g.A.Segment.Segment rows c.args.id c.args.at (omega (arith, c.requires.some, c.requires.inside)) in
     omega (arith, row_old g.A.Segment.Segment rows c.args.id c.index_mut-row.result.now there c.index_mut-row.ensures.value, c.requires.inside)
-
-pub returns-clause-length : goal.returns-clause-length
-returns-clause-length g c =
-    let rows = c.args.self.now.rows.items in
-    let there : c.args.id < length rows = row_there g.A.Segment.Segment rows c.args.id c.args.at (omega (arith, c.requires.some, c.requires.inside)) in
-    row_new g.A.Segment.Segment rows c.args.id c.zero_words.new.self there ∙ c.zero_words.ensures.used
-    ∙ sym (row_old g.A.Segment.Segment rows c.args.id c.index_mut-row.result.now there c.index_mut-row.ensures.value)

@@ -1,5 +1,5 @@
 use Rattle.std.proofs.Common.{◌≡◌, ◌≤◌, ◌*◌, take}
-use Rattle.capnp_arena.specs.Allocations.{max_words}
+use Rattle.capnp_arena.specs.Allocations.{max_segment_words}
 use Rattle.capnp_arena.specs.Checks.{total_words}
 use Rattle.capnp_arena.specs.Row.{shown}
 use Rattle.capnp_arena.proofs.arena.builder_arena_impl.BuilderArenaImplReaderArena.size_in_words.Given as goal
@@ -7,5 +7,5 @@ use Rattle.capnp_arena.proofs.arena.builder_arena_impl.BuilderArenaImplReaderAre
 abbrev pub invariant-loop-row : goal.invariant-loop-row
 invariant-loop-row g l = record {
   counted : l.words ≡ total_words (take l.row-index (shown g.A.Segment.Segment l.self.rows.items));
-  bounded : l.words ≤ max_words * l.row-index;
+  bounded : l.words ≤ max_segment_words * l.row-index;
 }

@@ -1,6 +1,6 @@
 use Rattle.std.proofs.Common.{arith, length, refl, ◌<◌}
 use Rattle.std.proofs.lemmas.Int.{ints}
-use Rattle.capnp_words.specs.Bytes.{message}
+use Rattle.capnp_format.specs.Bytes.{message}
 use Rattle.capnp_arena.proofs.MessageLemmas.{length-message}
 use Rattle.capnp_arena.proofs.arena.reader_arena.ReaderArena.check_offset.Goals as goal
 use Rattle.capnp_arena.proofs.arena.reader_arena.ReaderArena.check_offset.Goals.{else-start-length-via-then-start-length+then-at-ge0+else-at-length, else-start-length-via-then-start-length+else-at-ge0, else-start-length-via-else-start-length}

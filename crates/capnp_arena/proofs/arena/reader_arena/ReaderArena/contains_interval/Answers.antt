@@ -1,6 +1,6 @@
 use Rattle.std.proofs.Common.{rules, ◌≡◌, IfErr}
 use Rattle.std.specs.Prelude.{Result, Ok, Err}
-use Rattle.capnp_words.specs.Bytes.{message}
+use Rattle.capnp_format.specs.Bytes.{message}
 use Rattle.capnp_words.specs.declared.error.ErrorKind.{ErrorKind}
 use Rattle.capnp_arena.specs.Checks.{Holds, misplaced}
 use Rattle.capnp_arena.proofs.MessageLemmas.{placing}

@@ -1,5 +1,5 @@
 use Rattle.std.proofs.Common.{arith}
-use Rattle.capnp_readers.specs.Source.{source_segments}
+use Rattle.capnp_objects.specs.Source.{source_segments}
 use Rattle.capnp_readers.proofs.Sections.{struct_pointers}
 use Rattle.capnp_readers.proofs.readers.list_reader.ListReader.get_pointer_element.Goals as goal
 

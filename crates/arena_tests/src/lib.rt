@@ -1,0 +1,14 @@
+//! Tests of capnp_arena, by its public calls: segments that are read, their limits and charges,
+//! messages that are built, and what happens where memory is refused.
+#![tactic(auto)]
+
+#[cfg(test)]
+mod building;
+#[cfg(test)]
+mod names;
+#[cfg(test)]
+mod reading;
+#[cfg(test)]
+mod refusing;
+#[cfg(test)]
+mod returning;

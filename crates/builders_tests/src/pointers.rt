@@ -1,0 +1,49 @@
+//! Pointers of a message that is built.
+use capnp_arena::arena::{BuilderArena, BuilderArenaImpl, HeapAllocator, NullArena, ReaderArena};
+use capnp_builders::builders::PointerBuilder;
+use capnp_readers::readers::PointerReader;
+use capnp_words::error::ErrorKind;
+use capnp_words::read_limiter::ReadLimiter;
+use std::test::Fail;
+
+/// Nothing is copied as it stands for now, and a null pointer is copied as null.
+#[test]
+fn null_into_null(rt: HostRuntime) -> Result<(), Fail> {
+    let mut arena = BuilderArenaImpl::new(rt.alloc(), HeapAllocator::new(rt.alloc(), 8));
+    arena.allocate_segment(1)?;
+    assert!(rt; arena.allocate(0, 1) == Some(0));
+    let mut lim = ReadLimiter::new(Some(1));
+    let null: PointerReader<'_, NullArena> = PointerReader::new_default();
+    let mut root = PointerBuilder::get_root(&mut arena);
+    assert!(rt; root.is_null());
+    assert!(rt; root.copy_from(null, &mut lim, true) == Ok(()));
+    let unbuilt = root.reborrow().copy_from(null, &mut lim, false);
+    assert!(rt; unbuilt == Err(ErrorKind::UnknownPointerType));
+    assert!(rt; root.as_reader().is_null());
+    assert!(rt; lim.followed() == 0);
+    assert!(rt; arena.get_segment(0) == Ok(&[0; 8][..]));
+    Ok(())
+}
+
+/// A pointer that isn't null is not overwritten for now.
+#[test]
+fn onto_a_capability(rt: HostRuntime) -> Result<(), Fail> {
+    let mut arena = BuilderArenaImpl::new(rt.alloc(), HeapAllocator::new(rt.alloc(), 8));
+    arena.allocate_segment(1)?;
+    assert!(rt; arena.allocate(0, 2) == Some(0));
+    arena.set_word(0, 1, 0x0000_0005_0000_0003);
+    let mut lim = ReadLimiter::new(Some(1));
+    let null: PointerReader<'_, NullArena> = PointerReader::new_default();
+    let mut second = PointerBuilder {
+        arena: &mut arena,
+        segment: 0,
+        at: 1,
+    };
+    assert!(rt; !second.is_null());
+    assert!(rt; second.copy_from(null, &mut lim, true) == Err(ErrorKind::UnknownPointerType));
+    let reader = second.into_reader();
+    assert!(rt; !reader.is_null());
+    assert!(rt; reader.nesting_limit == i32::MAX);
+    assert!(rt; arena.get_segment(0) == Ok(&[0, 0, 0, 0, 0, 0, 0, 0, 3, 0, 0, 0, 5, 0, 0, 0][..]));
+    Ok(())
+}

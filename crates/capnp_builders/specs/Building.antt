@@ -1,0 +1,55 @@
+-- A pointer of a message that is built, and what a canonical copy to it leaves.
+use Rattle.std.specs.Prelude.{◌≡◌, ℕ, [], ◌∷◌, length}
+use Rattle.capnp_words.specs.Meter.{Meter}
+use Rattle.capnp_words.specs.declared.error.ErrorKind.{ErrorKind}
+use Rattle.capnp_format.specs.Segments.{Segments, segment, word_at, IsPlace}
+use Rattle.capnp_format.specs.Tree.{Tree}
+use Rattle.capnp_format.specs.Canonical.{trim, encoding}
+use Rattle.capnp_arena.specs.View.{View}
+use Rattle.capnp_objects.specs.Reading.{Reading}
+use Rattle.capnp_copies.specs.Copies.{IsCopied, IsCleared, CanBeCopied}
+use Rattle.capnp_copies.specs.Rooms.{FindsNoRoom, IsTooLarge}
+use Rattle.capnp_builders.specs.declared.builders.PointerBuilder.{PointerBuilder}
+
+-- A place that is written: the message, where in it, and how many words its segment can hold.
+pub record Building : Type 0 where
+  pub segments : Segments
+  pub segment : ℕ
+  pub at : ℕ
+  pub room : ℕ
+
+-- what a builder writes
+abbrev pub built : {A : Type 0} → (A → View) → PointerBuilder A → Building
+built view b = record { segments = (view b.arena.now).words; segment = b.segment; at = b.at; room = (view b.arena.now).room b.segment }
+
+-- the place is there
+abbrev pub IsThere : Building → Type 0
+IsThere b = IsPlace b.segments b.segment b.at
+
+-- its word is zero
+abbrev pub IsNull : Building → Type 0
+IsNull b = word_at b.segments b.segment b.at ≡ 0
+
+-- the segment has one word, which is zero
+abbrev pub HasOnlyNull : Building → Type 0
+HasOnlyNull b = segment b.segments b.segment ≡ 0 ∷ []
+
+-- The canonical words of t stand behind the words that were there, and the pointer leads to them.
+abbrev pub GainsCopy : Building → Building → Tree → Type 0
+GainsCopy old new t = IsCopied old.segments new.segments old.segment old.at t
+
+-- The segment is the canonical words of t.
+abbrev pub IsCopy : Building → Building → Tree → Type 0
+IsCopy old new t = segment new.segments old.segment ≡ encoding (trim t)
+
+-- Nothing is changed but for words of zero behind those of the segment.
+abbrev pub StaysClear : Building → Building → Type 0
+StaysClear old new = IsCleared old.segments new.segments old.segment
+
+-- What is read has a value without capabilities, at a cost that m covers, whose canonical words fit.
+abbrev pub Fits : Reading → Meter → Building → Type 0
+Fits r m b = CanBeCopied r m (length (segment b.segments b.segment)) b.room
+
+-- An object found no room, and what is read is too large.
+abbrev pub LacksWords : Reading → Building → Building → ErrorKind → Type 0
+LacksWords r old new k = FindsNoRoom new.segments old.segment old.room k (IsTooLarge r (length (segment old.segments old.segment)) old.room)

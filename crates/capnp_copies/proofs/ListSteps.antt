@@ -1,0 +1,109 @@
+-- The copy of a list of structs, from where its words are taken: its elements, and where it stops.
+use Rattle.std.proofs.Common.{◌≡◌, inl, inr, ℕ, ◌+◌, ◌*◌, ◌<◌, ◌≤◌, ◌∷◌, ◌++◌, List, [], length, set, take, replicate, refl, sym, ap, ap₂, ◌∙◌, arith, append_assoc, append-nil}
+use Rattle.std.proofs.lemmas.List.{length-replicate}
+use Rattle.std.proofs.Math.Seq.{take-append-add}
+use Rattle.capnp_words.specs.declared.error.ErrorKind.{ErrorKind}
+use Rattle.capnp_words.specs.declared.error.ErrorKind.TheVariants.{MessageTooLarge}
+use Rattle.capnp_words.specs.declared.wire_pointer.StructSize.{StructSize}
+use Rattle.capnp_words.specs.Meter.{Meter}
+use Rattle.capnp_format.specs.Word.{struct_word, list_word}
+use Rattle.capnp_format.specs.Segments.{Segments, segment, IsPlace}
+use Rattle.capnp_format.specs.Tree.{Structs, Elements, element_count}
+use Rattle.capnp_format.specs.Canonical.{trim, trim_elements, cut_to, word_count, word_count_elements, pointer, rows, element_bodies, offset_to}
+use Rattle.capnp_arena.specs.View.{View}
+use Rattle.capnp_arena.specs.Written.{with_segment, with_word}
+use Rattle.capnp_objects.specs.Outcomes.{RefusedElements, ElementsMean}
+use Rattle.capnp_objects.specs.Reading.{Reading, row}
+use Rattle.capnp_objects.specs.Wanted.{canonical}
+use Rattle.capnp_copies.specs.Copied.{copied, rows_laid}
+use Rattle.capnp_copies.specs.Frames.{TakesWords}
+use Rattle.capnp_copies.specs.Parts.{call_of, CopiesElements, StopsAtElements, CopiesStructs, StopsAtStructs}
+use Rattle.capnp_copies.specs.Rooms.{AreTooLargeElements, IsTooLargeList}
+use Rattle.capnp_copies.specs.Widths.{data_used, pointers_used}
+use Rattle.capnp_copies.proofs.Copying.{there}
+use Rattle.capnp_copies.proofs.ElementsLaid.{cut_count}
+use Rattle.capnp_copies.proofs.LeastWidths.{data_where_meant, pointers_where_meant}
+use Rattle.capnp_copies.proofs.SegmentsWritten.{then_written}
+use Rattle.capnp_copies.proofs.UsedChildren.{trim-structs}
+use Rattle.capnp_copies.proofs.RoomLemmas.{Wants}
+use Rattle.capnp_copies.proofs.StructSteps.{now_long, same_room}
+
+-- The sections are the least that lose nothing of i elements.
+pub record AreLeast (r : Reading) (size least : StructSize) (i : ℕ) : Type 0 where
+  pub of_data : least.data_words ≡ data_used (row r) r.at size.data_words size.pointers i
+  pub of_pointers : least.pointers ≡ pointers_used (row r) r.at size.data_words size.pointers i
+
+-- the canonical form of a list of structs, its elements being meant, and how many words it takes
+
+pub trimmed_list : {r : Reading} {size least : StructSize} {i : ℕ} (es : Elements) (c : ℕ) → r.at + i * (size.data_words + size.pointers) ≤ length (row r) → AreLeast r size least i → element_count es ≡ i → ElementsMean r size es c →
+    trim (Structs size.data_words size.pointers es) ≡ Structs least.data_words least.pointers (cut_to least.data_words least.pointers (trim_elements es))
+trimmed_list {r} {size} {least} {i} es c inside is_least len all =
+    let d : ℕ = size.data_words in
+    let q : ℕ = size.pointers in
+    let of_data : data_used (row r) r.at d q (element_count es) ≡ least.data_words = rw len (sym is_least.of_data) in
+    let of_pointers : pointers_used (row r) r.at d q (element_count es) ≡ least.pointers = rw len (sym is_least.of_pointers) in
+    trim-structs d q es
+    ∙ ap₂ (λ j k. Structs j k (cut_to j k (trim_elements es))) (data_where_meant r.segments r.levels r.segment r.at d q es c all ∙ of_data)
+    (pointers_where_meant r.segments r.levels r.segment r.at d q es c (rw len inside) all ∙ of_pointers)
+
+words_of_list : {r : Reading} {size least : StructSize} {i : ℕ} (es : Elements) (c : ℕ) → r.at + i * (size.data_words + size.pointers) ≤ length (row r) → AreLeast r size least i → element_count es ≡ i → ElementsMean r size es c →
+    word_count (trim (Structs size.data_words size.pointers es)) ≡ 1 + i * (least.data_words + least.pointers) + word_count_elements (cut_to least.data_words least.pointers (trim_elements es))
+words_of_list {r} {size} {least} {i} es c inside is_least len all =
+    let e : ℕ = least.data_words in
+    let q : ℕ = least.pointers in
+    ap word_count (trimmed_list es c inside is_least len all) ∙ ap (λ j. 1 + j * (e + q) + word_count_elements (cut_to e q (trim_elements es))) (cut_count e q es ∙ len)
+
+pub list_lacks_room : {r : Reading} {size least : StructSize} {old new : View} {id i n : ℕ} {m : Meter} {name : ErrorKind → ErrorKind} → r.at + i * (size.data_words + size.pointers) ≤ length (row r) → AreLeast r size least i → n ≡ 1 + i * (least.data_words + least.pointers) → new ≡ old →
+    old.room id < length (segment old.words id) + n → StopsAtStructs r size i (call_of old new id m m) name (MessageTooLarge n)
+list_lacks_room {r} {size} {least} {old} {new} {id} {i} {n} inside is_least is same full =
+    let now : length (segment new.words id) ≡ length (segment old.words id) = ap (λ (v : View). length (segment v.words id)) same in
+    record { why = inl (n, refl, omega arith, λ es c len all. omega (arith, words_of_list es c inside is_least len all)) }
+
+-- The words of a list are taken: its tag, of the least sections that lose nothing, and words of zero for its elements.
+pub record ListBegun (r : Reading) (size least : StructSize) (i : ℕ) (old mid : View) (id at head : ℕ) : Type 0 where
+  pub inside : r.at + i * (size.data_words + size.pointers) ≤ length (row r)
+  pub is_least : AreLeast r size least i
+  pub place : IsPlace old.words id at
+  pub taken : TakesWords old mid id head (struct_word i least.data_words least.pointers ∷ replicate (i * (least.data_words + least.pointers)) 0)
+
+pub list_stops : {r : Reading} {size least : StructSize} {i : ℕ} {old mid new : View} {id at head : ℕ} {m m' : Meter} {name : ErrorKind → ErrorKind} {k : ErrorKind} → ListBegun r size least i old mid id at head →
+    StopsAtElements r (record { source = size; kept = least }) i (call_of mid new id m m') name k → StopsAtStructs r size i (call_of old new id m m') name k
+list_stops {r} {size} {least} {i} {old} {mid} {new} {id} {at} {head} {m} {m'} {name} {k} begun stop =
+    let used : ℕ = length (segment old.words id) in
+    let now : ℕ = length (segment mid.words id) in
+    let one : Wants new.words id (old.room id) k (AreTooLargeElements r (record { source = size; kept = least }) i now (old.room id)) (RefusedElements canonical r size i m m' (name k)) =
+    rw (sym (same_room begun.taken)) stop.why in
+    let long : now ≡ used + (1 + i * (least.data_words + least.pointers)) =
+    omega (arith, now_long begun.place begun.taken, length-replicate {A = ℕ} (i * (least.data_words + least.pointers)) 0) in
+    let too_large : AreTooLargeElements r (record { source = size; kept = least }) i now (old.room id) → IsTooLargeList r size i used (old.room id) =
+    λ large es c len all. (let b = large es c len all in omega (arith, words_of_list es c begun.inside begun.is_least len all)) in
+    record { why = elim one [ inl x ↦ inl (x.0, x.1, x.2, too_large x.3) | inr x ↦ inr x ] }
+
+pub list_is_copied : {r : Reading} {size least : StructSize} {i : ℕ} {old mid last new : View} {id at head x : ℕ} {m m' : Meter} → ListBegun r size least i old mid id at head → CopiesElements r (record { source = size; kept = least }) i (call_of mid last id m m') (head + 1) →
+    x ≡ list_word (offset_to at (length (segment old.words id))) 7 (i * (least.data_words + least.pointers)) → new ≡ record last { words = with_word last.words id at x } → CopiesStructs r size i (call_of old new id m m') at
+list_is_copied {r} {size} {least} {i} {old} {mid} {last} {new} {id} {at} {head} {x} begun elements word writes =
+    let M : Segments = old.words in
+    let W : List ℕ = segment M id in
+    let id_there : id < length M = there M id at begun.place in
+    let e : ℕ = least.data_words in
+    let q : ℕ = least.pointers in
+    let es : Elements = cut_to e q (trim_elements elements.elements) in
+    let len : element_count es ≡ i = cut_count e q elements.elements ∙ elements.counts in
+    let form : trim (Structs size.data_words size.pointers elements.elements) ≡ Structs e q es = trimmed_list elements.elements elements.are_read.cost begun.inside begun.is_least elements.counts elements.are_read.means in
+    let put : last.words ≡ with_segment mid.words id (rows_laid (take (length W + 1) (segment mid.words id)) e q es 0) = rw (sym begun.taken.starts) elements.made in
+    let tag : ℕ = struct_word i e q in
+    let Z : List ℕ = replicate (i * (e + q)) 0 in
+    let front : take (length W + 1) (W ++ (tag ∷ Z)) ≡ W ++ tag ∷ [] = take-append-add W (tag ∷ Z) 1 in
+    let laid : rows_laid (W ++ tag ∷ []) e q es 0 ≡ W ++ ((tag ∷ rows e q 0 es) ++ element_bodies es) =
+    ap (λ j. W ++ tag ∷ [] ++ rows e q j es ++ replicate j 0 ++ element_bodies es) (let z : 0 * (e + q) ≡ 0 = omega arith in z) ∙ simp (append_assoc, append-nil) in
+    let same : x ≡ pointer (Structs e q es) (offset_to at (length W)) = word ∙ ap (λ j. list_word (offset_to at (length W)) 7 (j * (e + q))) (sym len) in
+    let second = then_written M mid.words last.words id (W ++ (tag ∷ Z)) (λ xs. rows_laid (take (length W + 1) xs) e q es 0) id_there (ap (λ (v : View). v.words) begun.taken.extends) put in
+    record {
+      elements = elements.elements;
+      counts = elements.counts;
+      are_read = elements.are_read;
+      made =
+          then_written M last.words new.words id (rows_laid (take (length W + 1) (W ++ (tag ∷ Z))) e q es 0) (λ xs. set xs at x) id_there second (ap (λ (v : View). v.words) writes)
+          ∙ ap (with_segment M id) (ap₂ (λ xs y. set xs at y) (ap (λ xs. rows_laid xs e q es 0) front ∙ laid ∙ ap (λ j. W ++ ((struct_word j e q ∷ rows e q 0 es) ++ element_bodies es)) (sym len)) same)
+          ∙ ap (λ t. with_segment M id (copied W at t)) (sym form);
+    }

@@ -1,0 +1,41 @@
+-- The widest of elements, one after another.
+use Rattle.std.proofs.Common.{◌≡◌, ℕ, zero, suc, ◌+◌, ◌-◌, ◌<◌, ◌≤◌, max, Bool, true, false, nat_eq, List, [], ◌∷◌, length, take, drop, refl, ap, ◌∙◌, arith, length-take, length-drop, drop-drop}
+use Rattle.std.proofs.lemmas.List.{drop-take}
+use Rattle.capnp_format.specs.Canonical.{used_from, used_words}
+use Rattle.capnp_copies.specs.Widths.{data_used, pointers_used}
+
+-- what is used beyond the first n words, and at least these
+used_beyond : (n : ℕ) (xs : List ℕ) → n ≤ length xs → max n (used_words xs) ≡ n + used_words (drop n xs)
+used_beyond zero xs l = omega arith
+used_beyond (suc n) [] l = absurd (omega arith)
+used_beyond (suc n) (x ∷ xs) l = step (nat_eq x 0) (used_words xs) ∙ ap suc (used_beyond n xs (omega arith)) ∙ omega arith
+  where
+    step : (b : Bool) (u : ℕ) → max (suc n) (used_from b u) ≡ suc (max n u)
+    step true zero = omega arith
+    step true (suc u) = omega arith
+    step false u = omega arith
+
+-- the same of a section in a segment
+pub used_section : (ws : List ℕ) (at n least : ℕ) → least ≤ n → at + n ≤ length ws → max least (used_words (take n (drop at ws))) ≡ least + used_words (take (n - least) (drop (at + least) ws))
+used_section ws at n least l fits =
+    used_beyond least (take n (drop at ws)) (omega (arith, length-take n (drop at ws), length-drop at ws))
+    ∙ ap (λ m. least + used_words (drop least (take m (drop at ws)))) (let e : n ≡ least + (n - least) = omega arith in e)
+    ∙ ap (λ xs. least + used_words xs) (drop-take least (n - least) (drop at ws) ∙ ap (take (n - least)) (drop-drop least at ws))
+
+-- a section of no words uses none
+
+pub no_data : (ws : List ℕ) (p q n : ℕ) → data_used ws p 0 q n ≡ 0
+no_data ws p q zero = refl
+no_data ws p q (suc n) = ap (max 0) (no_data ws (p + (0 + q)) q n)
+
+pub no_pointers : (ws : List ℕ) (p d n : ℕ) → pointers_used ws p d 0 n ≡ 0
+no_pointers ws p d zero = refl
+no_pointers ws p d (suc n) = ap (max 0) (no_pointers ws (p + (d + 0)) d n)
+
+-- one element more is looked at
+
+pub data_more : (ws : List ℕ) (p d q n i least : ℕ) → i < n → max least (data_used ws p d q (n - i)) ≡ max (max least (used_words (take d (drop p ws)))) (data_used ws (p + (d + q)) d q (n - (i + 1)))
+data_more ws p d q n i least l = ap (λ m. max least (data_used ws p d q m)) (let e : n - i ≡ suc (n - (i + 1)) = omega arith in e) ∙ omega arith
+
+pub pointers_more : (ws : List ℕ) (p d q n i least : ℕ) → i < n → max least (pointers_used ws p d q (n - i)) ≡ max (max least (used_words (take q (drop (p + d) ws)))) (pointers_used ws (p + (d + q)) d q (n - (i + 1)))
+pointers_more ws p d q n i least l = ap (λ m. max least (pointers_used ws p d q m)) (let e : n - i ≡ suc (n - (i + 1)) = omega arith in e) ∙ omega arith

@@ -1,0 +1,169 @@
+-- Children and words that are used, as the words of the source tell them; the Nulls behind them.
+-- A meaning is defined by recursion on the value, so the lemmas name its place, value and cost, which no premise determines.
+use Rattle.std.proofs.Common.{◌≡◌, ℕ, zero, suc, ◌+◌, ◌-◌, ◌<◌, ◌≤◌, max, true, nat_eq, List, [], ◌∷◌, length, get_or, take, drop, refl, sym, ap, ap₂, ◌∙◌, subst, arith, eqb-true, get_or-take, get_or-drop}
+use Rattle.capnp_format.specs.Segments.{Segments, segment, word_at, words_at}
+use Rattle.capnp_format.specs.Tree.{Tree, Null, Capability, Struct, Flat, Pointers, Structs, Trees, no_trees, tree, Elements, no_elements, element, count, capabilities_all}
+use Rattle.capnp_format.specs.Means.{Means, MeansAll}
+use Rattle.capnp_format.specs.Canonical.{used_from, used_words, is_null, used_trees, take_trees, data_width, pointer_width, trim, trim_each, trim_elements, cut_to}
+use Rattle.capnp_words.specs.declared.error.ErrorKind.{ErrorKind}
+use Rattle.capnp_words.specs.Meter.{Meter}
+use Rattle.capnp_format.proofs.Trimming.{used_from-rest, used_from-past, take_trees-count}
+use Rattle.capnp_format.proofs.Appending.{append_trees, count-append, means_joined}
+use Rattle.capnp_copies.proofs.LeastWidths.{used_where_meant}
+use Rattle.capnp_objects.specs.Spending.{after, pointers_in_all}
+use Rattle.capnp_objects.specs.Outcomes.{ReadsAll, RefusedAll}
+use Rattle.capnp_objects.specs.Reading.{Reading, row, words_from}
+use Rattle.capnp_objects.specs.Wanted.{canonical}
+
+-- nothing is used behind the used words
+pub behind_used : (xs : List ℕ) (i : ℕ) → used_words xs ≤ i → get_or xs i 0 ≡ 0
+behind_used [] i l = refl
+behind_used (x ∷ xs) zero l = eqb-true x 0 (used_from-past (nat_eq x 0) (used_words xs) l).0
+behind_used (x ∷ xs) (suc i) l = behind_used xs i (used_from-rest (nat_eq x 0) (used_words xs) i l)
+
+pub word_of : (S : Segments) (s p n i : ℕ) → i < n → get_or (words_at S s p n) i 0 ≡ word_at S s (p + i)
+word_of S s p n i l = get_or-take n (drop p (segment S s)) i 0 l ∙ get_or-drop p (segment S s) i 0
+
+pub null_behind : (S : Segments) (s p n i : ℕ) → used_words (words_at S s p n) ≤ i → i < n → word_at S s (p + i) ≡ 0
+null_behind S s p n i u l = sym (word_of S s p n i l) ∙ behind_used (words_at S s p n) i u
+
+-- the children that are used are as many as the used words of the pointers
+pub used_children : (S : Segments) (n s p q r : ℕ) (ts : Trees) (c : ℕ) → p + q ≤ length (segment S s) → count ts ≡ q → r ≡ used_words (words_at S s p q) → MeansAll S n s p ts c → used_trees ts ≡ r
+used_children S n s p q r ts c l len e all =
+    sym (used_where_meant S n s p ts c (omega (arith, len)) all) ∙ ap (λ i. used_words (words_at S s p i)) len ∙ sym e
+
+-- trimming the children first changes no width
+
+is_null-trim : (t : Tree) → is_null (trim t) ≡ is_null t
+is_null-trim Null = refl
+is_null-trim (Capability i) = refl
+is_null-trim (Struct ws ts) = refl
+is_null-trim (Flat size ns) = refl
+is_null-trim (Pointers ts) = refl
+is_null-trim (Structs d q es) = refl
+
+pub used_trees-trim : (ts : Trees) → used_trees (trim_each ts) ≡ used_trees ts
+used_trees-trim no_trees = refl
+used_trees-trim (tree t ts) = ap₂ used_from (is_null-trim t) (used_trees-trim ts)
+
+data_width-trim : (es : Elements) → data_width (trim_elements es) ≡ data_width es
+data_width-trim no_elements = refl
+data_width-trim (element ws ts es) = ap (max (used_words ws)) (data_width-trim es)
+
+pointer_width-trim : (es : Elements) → pointer_width (trim_elements es) ≡ pointer_width es
+pointer_width-trim no_elements = refl
+pointer_width-trim (element ws ts es) = ap₂ max (used_trees-trim ts) (pointer_width-trim es)
+
+trim_each-take : (n : ℕ) (ts : Trees) → trim_each (take_trees n ts) ≡ take_trees n (trim_each ts)
+trim_each-take zero ts = refl
+trim_each-take (suc n) no_trees = refl
+trim_each-take (suc n) (tree t ts) = ap (tree (trim t)) (trim_each-take n ts)
+
+-- what is copied of a struct and of a list of structs, by widths that the source's words tell
+pub trim-struct : (ws : List ℕ) (ts : Trees) → trim (Struct ws ts) ≡ Struct (take (used_words ws) ws) (trim_each (take_trees (used_trees ts) ts))
+trim-struct ws ts =
+    ap (λ n. Struct (take (used_words ws) ws) (take_trees n (trim_each ts))) (used_trees-trim ts) ∙ ap (Struct (take (used_words ws) ws)) (sym (trim_each-take (used_trees ts) ts))
+
+pub trim-structs : (d q : ℕ) (es : Elements) → trim (Structs d q es) ≡ Structs (data_width es) (pointer_width es) (cut_to (data_width es) (pointer_width es) (trim_elements es))
+trim-structs d q es = ap₂ (λ i j. Structs i j (cut_to i j (trim_elements es))) (data_width-trim es) (pointer_width-trim es)
+
+pub take_trees-trim : (n : ℕ) (ts : Trees) → take_trees n (trim_each ts) ≡ trim_each (take_trees n ts)
+take_trees-trim n ts = sym (trim_each-take n ts)
+
+-- Nulls at the end
+
+null_costs : (S : Segments) (n s p : ℕ) (t : Tree) (c : ℕ) → is_null t ≡ true → Means S n s p t c → c ≡ 0
+null_costs S n s p Null c e h = h.1
+null_costs S n s p (Capability i) c e h = absurd (cc e)
+null_costs S n s p (Struct ws ts) c e h = absurd (cc e)
+null_costs S n s p (Flat size ns) c e h = absurd (cc e)
+null_costs S n s p (Pointers ts) c e h = absurd (cc e)
+null_costs S n s p (Structs d q es) c e h = absurd (cc e)
+
+nulls_cost : (S : Segments) (n s p : ℕ) (ts : Trees) (c : ℕ) → used_trees ts ≤ 0 → MeansAll S n s p ts c → c ≡ 0
+nulls_cost S n s p no_trees c l h = h
+nulls_cost S n s p (tree t ts) c l (k, m, one, rest, g) =
+    let e = used_from-past (is_null t) (used_trees ts) l in
+    omega (arith, null_costs S n s p t k e.0 one, nulls_cost S n s (p + 1) ts m (omega (arith, e.1)) rest)
+
+-- reading the used children alone costs as much as reading them all
+pub means_taken : (S : Segments) (n s p : ℕ) (ts : Trees) (c m : ℕ) → used_trees ts ≤ m → MeansAll S n s p ts c → MeansAll S n s p (take_trees m ts) c
+means_taken S n s p ts c zero l h = nulls_cost S n s p ts c l h
+means_taken S n s p no_trees c (suc m) l h = h
+means_taken S n s p (tree t ts) c (suc m) l (a, b, one, rest, g) = (a, b, one, means_taken S n s (p + 1) ts b m (used_from-rest (is_null t) (used_trees ts) m l) rest, g)
+
+abbrev nulls : ℕ → Trees
+nulls zero = no_trees
+nulls (suc r) = tree Null (nulls r)
+
+count-nulls : (r : ℕ) → count (nulls r) ≡ r
+count-nulls zero = refl
+count-nulls (suc r) = ap suc (count-nulls r)
+
+nulls_mean : (S : Segments) (n s p r : ℕ) → ((i : ℕ) → i < r → word_at S s (p + i) ≡ 0) → MeansAll S n s p (nulls r) 0
+nulls_mean S n s p zero z = refl
+nulls_mean S n s p (suc r) z = (
+  0,
+  0,
+  (ap (word_at S s) (let e : p ≡ p + 0 = omega arith in e) ∙ z 0 (omega arith), refl),
+  nulls_mean S n s (p + 1) r (λ i l. ap (word_at S s) (let e : p + 1 + i ≡ p + suc i = omega arith in e) ∙ z (suc i) (omega arith)),
+  refl,
+)
+
+capabilities-nulls : (ts : Trees) (r : ℕ) → capabilities_all (append_trees ts (nulls r)) ≡ capabilities_all ts
+capabilities-nulls no_trees zero = refl
+capabilities-nulls no_trees (suc r) = omega (arith, capabilities-nulls no_trees r)
+capabilities-nulls (tree t ts) r = omega (arith, capabilities-nulls ts r)
+
+pointers_in-nulls : (ts : Trees) (r : ℕ) → pointers_in_all (append_trees ts (nulls r)) ≡ pointers_in_all ts
+pointers_in-nulls no_trees zero = refl
+pointers_in-nulls no_trees (suc r) = omega (arith, pointers_in-nulls no_trees r)
+pointers_in-nulls (tree t ts) r = omega (arith, pointers_in-nulls ts r)
+
+take_first : (ts us : Trees) → take_trees (count ts) (append_trees ts us) ≡ ts
+take_first no_trees us = refl
+take_first (tree t ts) us = ap (tree t) (take_first ts us)
+
+-- children of which the first ones are read, and the others Null
+pub record Filled (r : Reading) (q : ℕ) (m m' : Meter) (ts : Trees) : Type 0 where
+  pub all : Trees
+  pub counts : count all ≡ q
+  pub are_read : ReadsAll canonical r m m' all
+  pub first : take_trees (count ts) all ≡ ts
+
+pub fill_nulls : {r : Reading} {m m' : Meter} {ts : Trees} (q : ℕ) → ReadsAll canonical r m m' ts → count ts ≤ q → ((i : ℕ) → count ts ≤ i → i < q → word_at r.segments r.segment (r.at + i) ≡ 0) → Filled r q m m' ts
+fill_nulls {r} {m} {m'} {ts} q read l z =
+    let S : Segments = r.segments in
+    let s : ℕ = r.segment in
+    let p : ℕ = r.at in
+    let rest = q - count ts in
+    let none = nulls_mean S r.levels s (p + count ts) rest (λ i less. ap (word_at S s) (let f : p + count ts + i ≡ p + (count ts + i) = omega arith in f) ∙ z (count ts + i) (omega arith) (omega arith)) in
+    record {
+      all = append_trees ts (nulls rest);
+      counts = omega (arith, count-append ts (nulls rest), count-nulls rest);
+      are_read = record {
+        cost = read.cost;
+        means = subst (λ c. MeansAll S r.levels s p (append_trees ts (nulls rest)) c) (let f : read.cost + 0 ≡ read.cost = omega arith in f) (means_joined S r.levels s p ts (nulls rest) read.cost 0 read.means none);
+        takes = λ t. capabilities-nulls ts rest ∙ read.takes t;
+        covers = read.covers;
+        spent = read.spent ∙ ap (after r.charging m read.cost) (sym (pointers_in-nulls ts rest));
+      };
+      first = take_first ts (nulls rest);
+    }
+
+pub capabilities-take : (n : ℕ) (ts : Trees) → capabilities_all (take_trees n ts) ≤ capabilities_all ts
+capabilities-take zero ts = omega arith
+capabilities-take (suc n) no_trees = omega arith
+capabilities-take (suc n) (tree t ts) = omega (arith, capabilities-take n ts)
+
+-- a refusal among the first pointers, of which the others are Null, is one of them all
+pub refused_used : {r : Reading} {m m' : Meter} {k : ErrorKind} (q used : ℕ) → r.at + q ≤ length (row r) → used_words (words_from r q) ≤ used → used ≤ q → RefusedAll canonical r used m m' k → RefusedAll canonical r q m m' k
+refused_used {r} q used l e le h =
+    let S : Segments = r.segments in
+    record {
+      named = (h.named.0, h.named.1, (let b = h.named.2 in omega arith), h.named.3);
+      only = λ us c len all free covers.
+          let u = used_children S r.levels r.segment r.at q (used_words (words_from r q)) us c l len refl all in
+          h.only (take_trees used us) c (take_trees-count used us (omega (arith, len))) (means_taken S r.levels r.segment r.at us c used (omega (arith, u)) all) (λ t. omega (arith, capabilities-take used us, free t)) covers;
+      spent = (let (g, f, a, b, few) = h.spent in (g, f, a, b, omega arith));
+    }

@@ -1,0 +1,43 @@
+use Rattle.std.proofs.Common.{◌≡◌, ◌+◌, ◌-◌, ◌<◌, max, take, drop, sym, ap, ap₂, ◌∙◌, arith}
+use Rattle.capnp_format.specs.Bytes.{words_of}
+use Rattle.capnp_format.specs.Canonical.{used_words}
+use Rattle.capnp_copies.specs.Widths.{data_used, pointers_used}
+use Rattle.capnp_copies.proofs.Scanning.{no_data, no_pointers, data_more, pointers_more}
+use Rattle.capnp_copies.proofs.widths.least_widths.Goals as goal
+
+pub loop-i-preserved : goal.loop-i-preserved
+loop-i-preserved c =
+    let ws = words_of c.args.bytes.now in
+    let d = c.args.size.data_words in
+    let q = c.args.size.pointers in
+    let n = c.args.count in
+    let i = c.loop-i.i in
+    let at = c.loop-i.at in
+    let next : at + c.from-at.result + c.from-at-in-loop-i.result ≡ at + (d + q) = omega arith in
+    let behind : at + c.from-at.result ≡ at + d = omega arith in
+    let more : i < n = c.loop-i-test.true in
+    record {
+      reached = omega arith;
+      data_fits = c.widened-least_data.ensures.within;
+      pointers_fit = c.widened-least_pointers.ensures.within;
+      data_left =
+          ap₂ (λ w p. max w (data_used ws p d q (n - (i + 1)))) c.widened-least_data.ensures.value next
+          ∙ sym (data_more ws at d q n i c.loop-i.least_data more) ∙ c.loop-i.invariant.data_left;
+      pointers_left =
+          ap₂ (λ w p. max w (pointers_used ws p d q (n - (i + 1)))) (c.widened-least_pointers.ensures.value ∙ ap (λ p. max c.loop-i.least_pointers (used_words (take q (drop p ws)))) behind) next
+          ∙ sym (pointers_more ws at d q n i c.loop-i.least_pointers more) ∙ c.loop-i.invariant.pointers_left;
+    }
+
+pub returns-else-total-gt0-clause-data_words : goal.returns-else-total-gt0-clause-data_words
+returns-else-total-gt0-clause-data_words c =
+    let ws = words_of c.args.bytes.now in
+    let q = c.args.size.pointers in
+    let none : c.args.size.data_words ≡ 0 = omega (arith, c.total.ensures, c.if-total-gt0.false) in
+    sym (ap (λ d. data_used ws c.args.start d q c.args.count) none ∙ no_data ws c.args.start q c.args.count)
+
+pub returns-else-total-gt0-clause-pointers : goal.returns-else-total-gt0-clause-pointers
+returns-else-total-gt0-clause-pointers c =
+    let ws = words_of c.args.bytes.now in
+    let d = c.args.size.data_words in
+    let none : c.args.size.pointers ≡ 0 = omega (arith, c.total.ensures, c.if-total-gt0.false) in
+    sym (ap (λ q. pointers_used ws c.args.start d q c.args.count) none ∙ no_pointers ws c.args.start d c.args.count)

@@ -1,0 +1,55 @@
+//! The canonical copy of pointers one behind the other.
+ghost use Rattle.std.specs.Prelude.{◌≡◌, ℕ, ◌+◌, ◌<◌, ◌≤◌, length, IfOk, IfErr, OnErr};
+ghost use Rattle.capnp_format.specs.Segments.{segment, word_at};
+ghost use Rattle.capnp_objects.specs.Outcomes.{Spends};
+ghost use Rattle.capnp_objects.specs.Reading.{row};
+ghost use Rattle.capnp_objects.specs.Source.{fault};
+ghost use Rattle.capnp_readers.specs.Readers.{reading};
+ghost use Rattle.capnp_copies.specs.Parts.{CopiesChildren, StopsAtChildren, call_of};
+ghost use Rattle.capnp_copies.specs.Frames.{KeepsLimits};
+ghost use Rattle.capnp_copies.specs.Rooms.{IsSameBelow};
+
+use capnp_arena::arena::{BuilderArena, ReaderArena};
+use capnp_objects::object::Place;
+use capnp_readers::readers::PointerReader;
+use capnp_words::error::ErrorKind;
+use capnp_words::read_limiter::ReadLimiter;
+
+/// Copies what so many pointers mean, from that of `from` on, and sets as many pointers of the
+/// segment, which are null, from position `at` on. Their objects go behind the segment's words.
+#[cycle(copies)]
+pub(crate) fn copy_children<A: BuilderArena, B: ReaderArena>(
+    arena: &mut A,
+    id: u32,
+    at: u32,
+    from: PointerReader<'_, B>,
+    count: u32,
+    lim: &mut ReadLimiter,
+) -> Result<(), ErrorKind>
+    requires room { at + count ≤ length (segment (A.view arena.old).words id) }
+    requires null { (i : ℕ) → i < count → word_at (A.view arena.old).words id (at + i) ≡ 0 }
+    requires inside { from.place.at + count ≤ length (row (reading B.ReaderArena from)) }
+    ensures copied { IfOk result (λ _. CopiesChildren (reading B.ReaderArena from.entry) count (call_of (A.view arena.old) (A.view arena.new) id lim.old lim.new) at) }
+    ensures refused { IfErr result (StopsAtChildren (reading B.ReaderArena from.entry) count (call_of (A.view arena.old) (A.view arena.new) id lim.old lim.new) (λ k. fault k from.entry.source)) }
+    ensures spent { OnErr result (Spends (reading B.ReaderArena from.entry).charging lim.old lim.new count) }
+    ensures kept { OnErr result (IsSameBelow (A.view arena.old).words (A.view arena.new).words id at) }
+    ensures longer { length (segment (A.view arena.old).words id) ≤ length (segment (A.view arena.new).words id) }
+    ensures limits { KeepsLimits (A.view arena.old) (A.view arena.new) }
+{
+    for i in 0..count {
+        let child = PointerReader {
+            source: from.source,
+            place: Place {
+                segment: from.place.segment,
+                bytes: from.place.bytes,
+                at: from.place.at + i,
+            },
+            nesting_limit: from.nesting_limit,
+        };
+        match super::copy_object(arena, id, at + i, child, lim) {
+            Ok(()) => {}
+            Err(k) => return Err(k),
+        }
+    }
+    Ok(())
+}

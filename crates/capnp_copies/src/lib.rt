@@ -1,0 +1,6 @@
+//! Copies of what a pointer of one message means into another message that is built.
+#![tactic(auto)]
+
+pub mod copy;
+pub(crate) mod flat;
+pub(crate) mod widths;

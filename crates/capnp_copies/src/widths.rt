@@ -1,0 +1,63 @@
+//! How wide the elements of a list of structs have to be in the canonical form ("Canonicalization").
+ghost use Rattle.std.specs.Prelude.{◌≡◌, ◌+◌, ◌*◌, ◌≤◌, length, max, take, drop};
+ghost use Rattle.capnp_format.specs.Bytes.{words_of};
+ghost use Rattle.capnp_format.specs.Canonical.{used_words};
+ghost use Rattle.capnp_copies.specs.Widths.{data_used, pointers_used};
+
+use capnp_words::wire_pointer::StructSize;
+use capnp_words::words;
+
+/// The sizes of the elements of a list of structs: in the source, and in the copy, where no section
+/// is longer.
+#[derive(Clone, Copy)]
+pub(crate) struct ElementSizes {
+    /// Those in the source.
+    pub source: StructSize,
+    /// Those in the copy.
+    pub kept: StructSize,
+}
+
+/// The least sections that lose no data word but zeros and no pointer but nulls of so many elements
+/// from a word of a segment on.
+pub(crate) fn least_widths(bytes: &[u8], start: u32, count: u32, size: StructSize) -> StructSize
+    requires whole { length bytes.now ≡ 8 * length (words_of bytes.now) }
+    requires inside { start + count * (size.data_words + size.pointers) ≤ length (words_of bytes.now) }
+    ensures data_words { result.data_words ≡ data_used (words_of bytes.now) start size.data_words size.pointers count }
+    ensures pointers { result.pointers ≡ pointers_used (words_of bytes.now) start size.data_words size.pointers count }
+    ensures no_more_data { result.data_words ≤ size.data_words }
+    ensures no_more_pointers { result.pointers ≤ size.pointers }
+{
+    let StructSize {
+        data_words,
+        pointers,
+    } = size;
+    let mut least_data = 0;
+    let mut least_pointers = 0;
+    if size.total() > 0 {
+        let mut at = start as usize;
+        for i in 0..count {
+            least_data = widened(bytes, at, data_words, least_data);
+            at += usize::from(data_words);
+            least_pointers = widened(bytes, at, pointers, least_pointers);
+            at += usize::from(pointers);
+        }
+    }
+    StructSize {
+        data_words: least_data,
+        pointers: least_pointers,
+    }
+}
+
+/// How many of `n` words from a position on there are up to the last that is not zero, and at
+/// least `least`: only the words beyond these are looked at.
+#[tactic(auto, using(crate::proofs::Scanning::used_section))]
+fn widened(bytes: &[u8], at: usize, n: u16, least: u16) -> u16
+    requires inside { 8 * (at + n) ≤ length bytes.now }
+    requires whole { length bytes.now ≡ 8 * length (words_of bytes.now) }
+    requires within { least ≤ n }
+    ensures value { result ≡ max least (used_words (take n (drop at (words_of bytes.now)))) }
+    ensures within { result ≤ n }
+{
+    let beyond = at + usize::from(least);
+    least + words::used_part(bytes, beyond, usize::from(n - least)) as u16
+}

@@ -1,0 +1,30 @@
+-- Words as numbers, by their bytes, and one digit of a number.
+use Rattle.std.proofs.Common.{◌≡◌, ℕ, zero, suc, ◌+◌, ◌*◌, ◌/◌, ◌%◌, ◌^◌, ◌<◌, [], ◌∷◌, get_or, refl, sym, ap, ap₂, ◌∙◌, arith, pow-suc, mul_comm}
+use Rattle.std.proofs.Math.Nat.{pow-zero, div-div-eq-div-mul}
+use Rattle.std.specs.Int.{from_le_bytes, w64}
+use Rattle.capnp_format.specs.Numbers.{from_digits, digits}
+use Rattle.capnp_format.specs.Laws.{WordsAreBytes}
+
+-- the i-th digit
+pub digit_at : (base n x i : ℕ) → i < n → get_or (digits base n x) i 0 ≡ x / base ^ i % base
+digit_at base zero x i l = omega arith
+digit_at base (suc n) x zero l = ap (λ y. y % base) (let e : x ≡ x / base ^ 0 = rw pow-zero (omega arith) in e)
+digit_at base (suc n) x (suc i) l =
+    digit_at base n (x / base) i (omega arith)
+    ∙ ap (λ y. y % base) (div-div-eq-div-mul x base (base ^ i) ∙ ap (λ y. x / y) (mul_comm base (base ^ i) ∙ sym (pow-suc base i)))
+
+-- eight bytes are a word's digits
+eight : (a b c d e f g h : ℕ) → from_le_bytes w64 (a ∷ b ∷ c ∷ d ∷ e ∷ f ∷ g ∷ h ∷ []) ≡ from_digits 256 (a ∷ b ∷ c ∷ d ∷ e ∷ f ∷ g ∷ h ∷ [])
+eight a b c d e f g h = omega arith
+
+-- the words as one number are the bytes as one number
+grouped : (a b c d e f g h x : ℕ) → from_digits 256 (a ∷ b ∷ c ∷ d ∷ e ∷ f ∷ g ∷ h ∷ []) + 2 ^ 64 * x ≡ a + 256 * (b + 256 * (c + 256 * (d + 256 * (e + 256 * (f + 256 * (g + 256 * (h + 256 * x)))))))
+grouped a b c d e f g h x = omega arith
+
+pub words_are_bytes : WordsAreBytes
+words_are_bytes zero [] l = refl
+words_are_bytes (suc n) (a ∷ b ∷ c ∷ d ∷ e ∷ f ∷ g ∷ h ∷ rest) l =
+    ap₂ (λ x y. x + 2 ^ 64 * y) (eight a b c d e f g h) (words_are_bytes n rest (omega arith))
+    ∙ grouped a b c d e f g h (from_digits 256 rest)
+words_are_bytes zero (x ∷ xs) l = absurd (omega arith)
+words_are_bytes (suc n) _ l = absurd (omega arith)

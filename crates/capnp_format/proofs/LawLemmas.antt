@@ -1,0 +1,198 @@
+-- The laws that are put together from other lemmas.
+use Rattle.std.proofs.Common.{◌≡◌, ℕ, ◌<◌, ◌≤◌, inl, inr, ◌^◌, List, [], ◌∷◌, ◌++◌, length, replicate, take, Bool, true, false, nat_eq, zero, suc, ◌/◌, ◌%◌, eqb-true, eq-eqb, Option, Some, None, refl, sym, ap, ◌∙◌, subst, arith, length-append, le_trans}
+use Rattle.std.proofs.Math.ListN.{get_or-append, drop_of_length-le}
+use Rattle.std.proofs.Math.Seq.{take-nil}
+use Rattle.std.proofs.lemmas.List.{append-nil, length-replicate}
+use Rattle.std.proofs.lemmas.Bool.{cases_lt}
+use Rattle.capnp_format.specs.Segments.{Segments, segment, word_at, HasWords}
+use Rattle.capnp_format.specs.Numbers.{from_digits, element_bits}
+use Rattle.capnp_format.specs.Tree.{Tree, Null, Capability, Struct, Flat, Pointers, Structs, Trees, no_trees, tree, Elements, no_elements, element, depth}
+use Rattle.capnp_format.specs.Decode.{decode}
+use Rattle.capnp_format.specs.Canonical.{used_from, used_words, is_null, used_trees, data_width, pointer_width, trim, body, encoding, charge, Stands}
+use Rattle.capnp_format.specs.Forest.{IsForest}
+use Rattle.capnp_format.specs.Laws.{AreZeroFrom, AreNullFrom, AreZeroInEach, AreNullInEach, LeastWords, LeastChildren, LeastDataWidth, LeastPointerWidth, ElementIsBits, OneArenaValue, LevelsFromDepth, DecodeAgrees, DecodeRefuses, BodyLength, CanonicalWordsMean, OneStands, EncodingsDiffer, NoEncodingBegins, SameCanonicalWords, CanonicalCost, CanonicalLength, TrimTwice, TrimKeeps, CanonicalAgain}
+use Rattle.capnp_format.proofs.Levels.{other_levels, depth_within, one_value}
+use Rattle.capnp_format.proofs.Reading.{decode_finds}
+use Rattle.capnp_format.proofs.Sound.{decode_means, at_some}
+use Rattle.capnp_format.proofs.Nulls.{decode_none}
+use Rattle.capnp_format.proofs.Bounds.{words_within_cost, means_value}
+use Rattle.capnp_format.proofs.BytesLemmas.{digit_at}
+use Rattle.capnp_format.proofs.Lengths.{length-body}
+use Rattle.capnp_format.proofs.Lies.{pow_pow}
+use Rattle.capnp_format.proofs.Unique.{encoding_means, one_encoding, one_stands as only_one}
+use Rattle.capnp_format.proofs.Trimming.{used_from-rest, used_from-past, trim-trim, trim-words}
+use Rattle.capnp_format.proofs.Trimmed.{trim-value, trim-depth, trim-capabilities}
+use Rattle.capnp_format.proofs.Charges.{trim-charge, charge_within}
+
+pub levels_from_depth : LevelsFromDepth
+levels_from_depth S n m s p t c h = (λ k. depth_within S m s p t c k, λ l. other_levels S n m s p t c l h)
+
+pub decode_agrees : DecodeAgrees
+decode_agrees S n s p t c = (λ e. at_some _ (decode S n s p) (t, c) e (decode_means S n s p), λ h. decode_finds S n s p t c h)
+
+-- where an option has no value
+no_value : {A : Type 0} (o : Option A) → ((x : A) → o ≡ Some x → ⊥) → o ≡ None
+no_value (Some x) h = absurd (h x refl)
+no_value None h = refl
+
+pub decode_refuses : DecodeRefuses
+decode_refuses S n s p = (
+  λ e t c. decode_none S n s p t c e,
+  λ h. no_value (decode S n s p) (λ x e. h x.0 x.1 (at_some _ (decode S n s p) x e (decode_means S n s p))),
+)
+
+pub body_length : BodyLength
+body_length t v = length-body t v
+
+pub canonical_words_mean : CanonicalWordsMean
+canonical_words_mean t more n v f l = other_levels _ (depth t) n 0 0 t (charge t) l (encoding_means t more v f)
+
+pub encodings_differ : EncodingsDiffer
+encodings_differ t u v f w g e = one_encoding t u [] [] v f w g (ap (λ ws. ws ++ []) e)
+
+append_itself : (xs ys : List ℕ) → xs ++ ys ≡ xs → ys ≡ []
+append_itself xs [] e = refl
+append_itself xs (y ∷ ys) e = absurd (omega (arith, length-append xs (y ∷ ys), ap length e))
+
+pub no_encoding_begins : NoEncodingBegins
+no_encoding_begins t u more v f w g e =
+    let nothing : encoding u ++ [] ≡ encoding u = append-nil (encoding u) in
+    let same : t ≡ u = one_encoding t u more [] v f w g (e ∙ sym nothing) in
+    append_itself (encoding t) more (e ∙ ap encoding (sym same))
+
+pub same_canonical_words : SameCanonicalWords
+same_canonical_words S R n s p m u q c e t v wS wR h k f g = (
+  λ x. encodings_differ (trim t) (trim v) (trim-value t (means_value S n s p t c wS h)) f (trim-value v (means_value R m u q v e wR k)) g x,
+  λ x. ap encoding x,
+)
+
+pub canonical_cost : CanonicalCost
+canonical_cost S n s p t c w h = le_trans (trim-charge t (means_value S n s p t c w h)) (charge_within S n s p t c h)
+
+pub canonical_length : CanonicalLength
+canonical_length S n s p t c w h =
+    let v = means_value S n s p t c w h in
+    omega (arith, length-body (trim t) (trim-value t v), trim-words t v, words_within_cost S n s p t c h)
+
+pub trim_twice : TrimTwice
+trim_twice t = trim-trim t
+
+pub trim_keeps : TrimKeeps
+trim_keeps t v = (trim-value t v, trim-words t v, trim-depth t, trim-capabilities t)
+
+pub canonical_again : CanonicalAgain
+canonical_again t u more n c v f h =
+    let l = one_value _ n (depth (trim t)) 0 0 u (trim t) c (charge (trim t)) h (encoding_means (trim t) more (trim-value t v) f) in
+    ap (λ x. encoding (trim x)) l.0 ∙ ap encoding (trim-trim t)
+
+-- behind the end of a segment only an empty body stands
+empty_past : (S : Segments) (s h : ℕ) (ws : List ℕ) → length (segment S s) ≤ h → HasWords S s h ws → ws ≡ []
+empty_past S s h ws past e = sym e ∙ ap (take (length ws)) (drop_of_length-le (segment S s) past) ∙ take-nil (length ws)
+
+-- then the segment may be thought longer
+longer : (S : Segments) (s p h : ℕ) (t : Tree) → length (segment S s) ≤ h → Stands S s p h t → Stands ((segment S s ++ replicate h 0) ∷ []) 0 p h t
+longer S s p h t past a =
+    let R : Segments = (segment S s ++ replicate h 0) ∷ [] in
+    let nothing : body t ≡ [] = empty_past S s h (body t) past a.5.2 in
+    let here : word_at R 0 p ≡ word_at S s p = get_or-append (segment S s) (replicate h 0) 0 p a.0 in (
+      omega (arith, a.0, length-append (segment S s) (replicate h 0)),
+      a.1,
+      a.2,
+      a.3,
+      a.4,
+      (a.5.0, here ∙ a.5.1, subst (λ ws. HasWords R 0 h ws) (sym nothing) refl),
+    )
+
+pub one_stands : OneStands
+one_stands S s p h t u a b = elim (cases_lt h (length (segment S s))) [
+  | inl l ↦ only_one S s p h t u (omega arith) a b
+  | inr l ↦ only_one ((segment S s ++ replicate h 0) ∷ []) 0 p h t u
+      (omega (arith, length-append (segment S s) (replicate h 0), length-replicate {A = ℕ} h 0))
+      (longer S s p h t (omega arith) a) (longer S s p h u (omega arith) b)
+]
+
+-- the least widths
+
+used_from-within : (b : Bool) (k n : ℕ) → k ≤ n → used_from b k ≤ suc n
+used_from-within true zero n l = omega arith
+used_from-within true (suc k) n l = omega arith
+used_from-within false k n l = omega arith
+
+used_from-empty : (b : Bool) (k : ℕ) → b ≡ true → k ≤ 0 → used_from b k ≤ 0
+used_from-empty b zero e l = rw e (omega arith)
+used_from-empty b (suc k) e l = absurd (omega arith)
+
+null_is : (t : Tree) → is_null t ≡ true → t ≡ Null
+null_is Null e = refl
+null_is (Capability i) e = absurd (cc e)
+null_is (Struct ws ts) e = absurd (cc e)
+null_is (Flat size ns) e = absurd (cc e)
+null_is (Pointers ts) e = absurd (cc e)
+null_is (Structs d q es) e = absurd (cc e)
+
+zeros_past : (n : ℕ) (ws : List ℕ) → used_words ws ≤ n → AreZeroFrom n ws
+zeros_past n [] l = tt
+zeros_past zero (x ∷ xs) l =
+    let e = used_from-past (nat_eq x 0) (used_words xs) l in
+    (eqb-true x 0 e.0, zeros_past zero xs (omega (arith, e.1)))
+zeros_past (suc n) (x ∷ xs) l = zeros_past n xs (used_from-rest (nat_eq x 0) (used_words xs) n l)
+
+words_within : (n : ℕ) (ws : List ℕ) → AreZeroFrom n ws → used_words ws ≤ n
+words_within n [] h = omega arith
+words_within zero (x ∷ xs) h = used_from-empty (nat_eq x 0) (used_words xs) (eq-eqb x 0 h.0) (words_within zero xs h.1)
+words_within (suc n) (x ∷ xs) h = used_from-within (nat_eq x 0) (used_words xs) n (words_within n xs h)
+
+nulls_past : (n : ℕ) (ts : Trees) → used_trees ts ≤ n → AreNullFrom n ts
+nulls_past n no_trees l = tt
+nulls_past zero (tree t ts) l =
+    let e = used_from-past (is_null t) (used_trees ts) l in
+    (null_is t e.0, nulls_past zero ts (omega (arith, e.1)))
+nulls_past (suc n) (tree t ts) l = nulls_past n ts (used_from-rest (is_null t) (used_trees ts) n l)
+
+children_within : (n : ℕ) (ts : Trees) → AreNullFrom n ts → used_trees ts ≤ n
+children_within n no_trees h = omega arith
+children_within zero (tree t ts) h = used_from-empty (is_null t) (used_trees ts) (ap is_null h.0) (children_within zero ts h.1)
+children_within (suc n) (tree t ts) h = used_from-within (is_null t) (used_trees ts) n (children_within n ts h)
+
+pub least_words : LeastWords
+least_words n ws = (zeros_past n ws, words_within n ws)
+
+pub least_children : LeastChildren
+least_children n ts = (nulls_past n ts, children_within n ts)
+
+data_past : (d : ℕ) (es : Elements) → data_width es ≤ d → AreZeroInEach d es
+data_past d no_elements l = tt
+data_past d (element ws ts es) l = (zeros_past d ws (omega arith), data_past d es (omega arith))
+
+data_within : (d : ℕ) (es : Elements) → AreZeroInEach d es → data_width es ≤ d
+data_within d no_elements h = omega arith
+data_within d (element ws ts es) h = omega (arith, words_within d ws h.0, data_within d es h.1)
+
+pointers_past : (q : ℕ) (es : Elements) → pointer_width es ≤ q → AreNullInEach q es
+pointers_past q no_elements l = tt
+pointers_past q (element ws ts es) l = (nulls_past q ts (omega arith), pointers_past q es (omega arith))
+
+pointers_within : (q : ℕ) (es : Elements) → AreNullInEach q es → pointer_width es ≤ q
+pointers_within q no_elements h = omega arith
+pointers_within q (element ws ts es) h = omega (arith, children_within q ts h.0, pointers_within q es h.1)
+
+pub least_data_width : LeastDataWidth
+least_data_width d es = (data_past d es, data_within d es)
+
+pub least_pointer_width : LeastPointerWidth
+least_pointer_width q es = (pointers_past q es, pointers_within q es)
+
+pub element_is_bits : ElementIsBits
+element_is_bits size n i words l =
+    digit_at (2 ^ element_bits size) n (from_digits (2 ^ 64) words) i l
+    ∙ ap (λ m. from_digits (2 ^ 64) words / m % 2 ^ element_bits size) (pow_pow (element_bits size) i)
+
+-- a forest has its root word
+root_there : (S : Segments) (t : Tree) → IsForest S t → 0 < length (segment S 0)
+root_there S t h = h.inside 0 0 (omega arith)
+
+pub one_arena_value : OneArenaValue
+one_arena_value S t u (inl h) (inl k) = (one_value S h.means.0 k.means.0 0 0 t u h.means.1 k.means.1 h.means.2 k.means.2).0
+one_arena_value S t u (inl h) (inr k) = absurd (omega (arith, root_there S t h, k.0))
+one_arena_value S t u (inr h) (inl k) = absurd (omega (arith, root_there S u k, h.0))
+one_arena_value S t u (inr h) (inr k) = h.1 ∙ sym k.1

@@ -1,0 +1,33 @@
+-- Words one behind the other in a segment.
+use Rattle.std.proofs.Common.{◌≡◌, ℕ, suc, ◌+◌, ◌≤◌, List, [], ◌∷◌, ◌++◌, length, get_or, take, drop, refl, sym, ap, ◌∙◌, subst, arith, length-append, length-take, length-drop, take-take, take_at, drop_at, drop-drop, get_or-take, get_or-drop}
+use Rattle.std.proofs.lemmas.List.{drop-take}
+use Rattle.capnp_format.specs.Segments.{Segments, segment, word_at, words_at, HasWords}
+
+pub length_words : (S : Segments) (s p n : ℕ) → p + n ≤ length (segment S s) → length (words_at S s p n) ≡ n
+length_words S s p n h = omega (arith, length-take n (drop p (segment S s)), length-drop p (segment S s))
+
+pub has_words_first : (S : Segments) (s h : ℕ) (xs ys : List ℕ) → HasWords S s h (xs ++ ys) → HasWords S s h xs
+has_words_first S s h xs ys e =
+    sym (take-take (length xs) (length (xs ++ ys)) (drop h (segment S s)) (omega (arith, length-append xs ys)))
+    ∙ ap (take (length xs)) e ∙ take_at xs ys (length xs) refl
+
+pub has_words_rest : (S : Segments) (s h : ℕ) (xs ys : List ℕ) → HasWords S s h (xs ++ ys) → HasWords S s (h + length xs) ys
+has_words_rest S s h xs ys e =
+    ap (take (length ys)) (sym (drop-drop (length xs) h (segment S s)))
+    ∙ sym (drop-take (length xs) (length ys) (drop h (segment S s)))
+    ∙ ap (λ n. drop (length xs) (take n (drop h (segment S s)))) (sym (length-append xs ys))
+    ∙ ap (drop (length xs)) e ∙ drop_at xs ys (length xs) refl
+
+pub has_words_head : (S : Segments) (s h x : ℕ) (xs : List ℕ) → HasWords S s h (x ∷ xs) → word_at S s h ≡ x
+has_words_head S s h x xs e =
+    ap (λ i. get_or (segment S s) i 0) (let q : h ≡ h + 0 = omega arith in q) ∙ sym (get_or-drop h (segment S s) 0 0)
+    ∙ sym (get_or-take (suc (length xs)) (drop h (segment S s)) 0 0 (omega arith)) ∙ ap (λ l. get_or l 0 0) e
+
+pub has_words_tail : (S : Segments) (s h x : ℕ) (xs : List ℕ) → HasWords S s h (x ∷ xs) → HasWords S s (h + 1) xs
+has_words_tail S s h x xs e = has_words_rest S s h (x ∷ []) xs e
+
+pub has_words_within : (S : Segments) (s h : ℕ) (xs : List ℕ) → HasWords S s h xs → h ≤ length (segment S s) → h + length xs ≤ length (segment S s)
+has_words_within S s h xs e l = omega (arith, length-take (length xs) (drop h (segment S s)), length-drop h (segment S s), ap length e)
+
+pub moved : (S : Segments) (s h i : ℕ) (ws : List ℕ) → h ≡ i → HasWords S s h ws → HasWords S s i ws
+moved S s h i ws e b = subst (λ j. HasWords S s j ws) e b

@@ -1,0 +1,12 @@
+pub mod Word
+pub mod Numbers
+pub mod Segments
+pub mod Bytes
+pub mod Tree
+pub mod Value
+pub mod Means
+pub mod Decode
+pub mod Canonical
+pub mod Forest
+pub mod Laws
+pub mod Examples

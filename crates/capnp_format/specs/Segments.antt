@@ -1,0 +1,88 @@
+-- Messages, and where a pointer word leads ("Messages", "Inter-Segment Pointers"). A message is a list of segments, and
+-- a segment a list of words. A place is a segment's number and a word position in it. All functions here are total:
+-- what is not there has no words, and a pointer that leads nowhere gives None.
+use Rattle.std.specs.Prelude.{◌≡◌, ℕ, ◌+◌, ◌-◌, ◌<◌, ◌≤◌, ◌^◌, zero, suc, Bool, cond, ◌&&◌, List, [], length, get_or, take, drop, nat_lt, nat_le, nat_eq, Option, Some, None}
+use Rattle.capnp_format.specs.Word.{kind, offset_bits, is_double, far_position, upper_half}
+
+-- A message: its segments in order, each as its words.
+abbrev pub Segments : Type 0
+Segments = List (List ℕ)
+
+-- The words of a segment, none where there is no such segment.
+abbrev pub segment : Segments → ℕ → List ℕ
+segment S s = get_or S s []
+
+-- The word at a place, 0 where there is none.
+abbrev pub word_at : Segments → ℕ → ℕ → ℕ
+word_at S s p = get_or (segment S s) p 0
+
+-- The n words from a place on, fewer where the segment ends before.
+abbrev pub words_at : Segments → ℕ → ℕ → ℕ → List ℕ
+words_at S s p n = take n (drop p (segment S s))
+
+-- These words stand one behind the other from a place on.
+abbrev pub HasWords : Segments → ℕ → ℕ → List ℕ → Type 0
+HasWords S s p ws = words_at S s p (length ws) ≡ ws
+
+-- There is a word at this segment and position.
+abbrev pub IsPlace : Segments → ℕ → ℕ → Type 0
+IsPlace S s p = p < length (segment S s)
+
+-- Each word of the message is one of 64 bits.
+abbrev pub AreWords : Segments → Type 0
+AreWords S = (s p : ℕ) → word_at S s p < 2 ^ 64
+
+-- A message R has at least the segments of S, each at least as long.
+pub record Grows (S R : Segments) : Type 0 where
+  pub segments : length S ≤ length R
+  pub words : (u : ℕ) → length (segment S u) ≤ length (segment R u)
+
+-- What a pointer leads to: the word that describes the object (the pointer itself, or the pad or tag of a far
+-- pointer), the segment and position where the object starts, and how many words of landing pads were read.
+pub record Target : Type 0 where
+  pub word : ℕ
+  pub segment : ℕ
+  pub start : ℕ
+  pub pads : ℕ
+
+-- What f makes of x, and None where there is no x.
+infixl 10 ◌>>=◌
+abbrev pub ◌>>=◌ : {A B : Type 0} → Option A → (A → Option B) → Option B
+(Some x) >>= f = f x
+None >>= f = None
+
+-- x where the test passes, else None.
+abbrev pub given : {A : Type 0} → Bool → A → Option A
+given b x = cond b (Some x) None
+
+-- Where an offset, by its 30 bits, leads from position p of a segment of n words: it is signed and counts from the
+-- word after the pointer, and the object may start anywhere from word 0 to the segment's end, inclusive ("Structs").
+abbrev pub offset_leads : ℕ → ℕ → ℕ → Option ℕ
+offset_leads n p bits =
+    let there = p + 1 + bits in
+    cond (nat_lt bits (2 ^ 29)) (given (nat_le there n) there) (given (nat_le (2 ^ 30) there && nat_le there (n + 2 ^ 30)) (there - 2 ^ 30))
+
+-- Where a word x leads that is not a far pointer, and is read at a place after so many words of pads.
+abbrev pub near : Segments → ℕ → ℕ → ℕ → ℕ → Option Target
+near S s p x pads = offset_leads (length (segment S s)) p (offset_bits x) >>= λ b. Some (record { word = x; segment = s; start = b; pads = pads })
+
+-- The first word of the landing pad of the far pointer x, where it and n words behind it lie in their segment.
+abbrev pub pad : Segments → ℕ → ℕ → Option ℕ
+pad S x n = given (nat_lt (far_position x + n) (length (segment S (upper_half x)))) (word_at S (upper_half x) (far_position x))
+
+-- Where the far pointer x leads ("Inter-Segment Pointers"). By one pad word: it is an ordinary pointer, read at the
+-- pad's own place. By two: the first names segment and position of the object in a far pointer's form, its kind and
+-- flag not being looked at; the second is a tag that describes the object, its offset not being used. The segment
+-- that the first names has to exist. Neither the pad of one word nor the tag may itself be a far pointer.
+abbrev pub far : Segments → ℕ → ℕ → Option Target
+far S x zero =
+    pad S x 0 >>= λ w.
+    cond (nat_eq (kind w) 2) None (near S (upper_half x) (far_position x) w 1)
+far S x (suc _) =
+    pad S x 1 >>= λ f.
+    let w = word_at S (upper_half x) (far_position x + 1) in
+    cond (nat_eq (kind w) 2) None (given (nat_lt (upper_half f) (length S)) (record { word = w; segment = upper_half f; start = far_position f; pads = 2 }))
+
+-- Where the word at a place leads, which is not zero.
+abbrev pub leads : Segments → ℕ → ℕ → Option Target
+leads S s p = let x = word_at S s p in cond (nat_eq (kind x) 2) (far S x (is_double x)) (near S s p x 0)

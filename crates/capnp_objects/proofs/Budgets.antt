@@ -1,0 +1,103 @@
+-- Budgets, step after step.
+-- Lemmas on `Means` name all its arguments: it is defined by recursion on the value, and the checker finds none of them from a premise.
+use Rattle.std.proofs.Common.{◌≡◌, ℕ, pred, ◌+◌, ◌*◌, ◌≤◌, Bool, true, false, Option, Some, None, refl, ap, ap₂, ◌∙◌, arith}
+use Rattle.capnp_format.specs.Segments.{Segments, Target}
+use Rattle.capnp_format.specs.Tree.{Tree, Null, Capability, Struct, Flat, Pointers, Structs, Trees, no_trees, tree, Elements, no_elements, element, count, element_count}
+use Rattle.capnp_format.specs.Means.{Means, MeansAll, MeansElements}
+use Rattle.capnp_words.specs.Meter.{Meter, FitsIn, less, Affords}
+use Rattle.capnp_objects.specs.Spending.{raised, after, pointers_in, pointers_in_all, pointers_in_elements}
+use Rattle.capnp_words.specs.declared.wire_pointer.StructSize.{StructSize}
+use Rattle.capnp_objects.specs.Demands.{own}
+use Rattle.capnp_objects.specs.Outcomes.{Reads, ReadsAll, ReadsElements, Entered}
+use Rattle.capnp_objects.specs.Reading.{Reading}
+use Rattle.capnp_objects.specs.Wanted.{Form}
+
+pub less_less : (o : Option ℕ) (g h : ℕ) → less (less o g) h ≡ less o (g + h)
+less_less None g h = refl
+less_less (Some x) g h = ap Some (omega arith)
+
+pub less_none : (o : Option ℕ) → less o 0 ≡ o
+less_none None = refl
+less_none (Some x) = ap Some (omega arith)
+
+raised_raised : (f r k : ℕ) → raised (raised f r) k ≡ raised f (r + k)
+raised_raised f r k = omega arith
+
+pub after_after : (charging : Bool) (m : Meter) (g r h k : ℕ) → after charging (after charging m g r) h k ≡ after charging m (g + h) (r + k)
+after_after true m g r h k = ap₂ (λ o f. record { left = o; followed = f }) (less_less m.left g h) (raised_raised m.followed r k)
+after_after false m g r h k = ap (λ f. record { left = m.left; followed = f }) (raised_raised m.followed r k)
+
+pub after_none : (charging : Bool) (m : Meter) → after charging m 0 0 ≡ m
+after_none true m = ap₂ (λ o f. record { left = o; followed = f }) (less_none m.left) (omega arith)
+after_none false m = ap (λ f. record { left = m.left; followed = f }) (omega arith)
+
+fits_both : (o : Option ℕ) (g h : ℕ) → FitsIn o g → FitsIn (less o g) h → FitsIn o (g + h)
+fits_both None g h a b = tt
+fits_both (Some x) g h a b = omega arith
+
+fits_rest : (o : Option ℕ) (g h c : ℕ) → g + h ≤ c → FitsIn o c → FitsIn (less o g) h
+fits_rest None g h c le a = tt
+fits_rest (Some x) g h c le a = omega arith
+
+-- from m to m', g words were granted and r pointers followed
+pub record Paid (charging : Bool) (m m' : Meter) (g r : ℕ) : Type 0 where
+  pub covers : Affords charging m g
+  pub spent : m' ≡ after charging m g r
+
+-- after g words were granted, h more are
+pub affords_both : {charging : Bool} {m m' : Meter} {g r : ℕ} (h : ℕ) → Paid charging m m' g r → Affords charging m' h → Affords charging m (g + h)
+affords_both {charging = true} {m} {m'} {g} {r} h a b = fits_both m.left g h a.covers (let e : m'.left ≡ less m.left g = ap (λ y. y.left) a.spent in rw e at b)
+affords_both {charging = false} h a b = tt
+
+pub paid_both : {charging : Bool} {m m' m'' : Meter} {g r h k : ℕ} → Paid charging m m' g r → Paid charging m' m'' h k → Paid charging m m'' (g + h) (r + k)
+paid_both {charging} {m} {m'} {m''} {g} {r} {h} {k} a b = record {
+  covers = affords_both h a b.covers;
+  spent = b.spent ∙ ap (λ x. after charging x h k) a.spent ∙ after_after charging m g r h k;
+}
+
+-- what is covered as a whole is covered in its parts
+pub affords_rest : {charging : Bool} {m m' : Meter} {g r : ℕ} (h c : ℕ) → Paid charging m m' g r → g + h ≤ c → Affords charging m c → Affords charging m' h
+affords_rest {charging = true} {m} {m'} {g} {r} h c a le whole = let e : m'.left ≡ less m.left g = ap (λ y. y.left) a.spent in rw e (fits_rest m.left g h c le whole)
+affords_rest {charging = false} h c a le whole = tt
+
+pub affords_none : (charging : Bool) (m : Meter) → Affords charging m 0
+affords_none true m = go m.left
+  where
+    go : (o : Option ℕ) → FitsIn o 0
+    go None = tt
+    go (Some x) = omega arith
+affords_none false m = tt
+
+-- what a reading paid
+pub paid_own : {r : Reading} {m m' : Meter} {a : Target} → Entered r m m' a → Paid r.charging m m' (own r.segments a) 1
+paid_own o = record { covers = o.covers; spent = o.spent }
+
+pub paid_one : {form : Form} {r : Reading} {m m' : Meter} {t : Tree} (x : Reads form r m m' t) → Paid r.charging m m' x.cost (pointers_in t)
+paid_one x = record { covers = x.covers; spent = x.spent }
+
+pub paid_all : {form : Form} {r : Reading} {m m' : Meter} {ts : Trees} (x : ReadsAll form r m m' ts) → Paid r.charging m m' x.cost (pointers_in_all ts)
+paid_all x = record { covers = x.covers; spent = x.spent }
+
+pub paid_elements : {form : Form} {r : Reading} {size : StructSize} {m m' : Meter} {es : Elements} (x : ReadsElements form r size m m' es) → Paid r.charging m m' x.cost (pointers_in_elements es)
+paid_elements x = record { covers = x.covers; spent = x.spent }
+
+-- each pointer but the first is a word that is paid for
+mutual
+  pub pointers_within : (S : Segments) (n s p : ℕ) (t : Tree) (x : (c : ℕ) × Means S n s p t c) → pointers_in t ≤ x.0 + 1
+  pointers_within S n s p Null (c, h) = omega arith
+  pointers_within S n s p (Capability i) (c, h) = omega arith
+  pointers_within S n s p (Struct ws ts) (c, (a, k, some, o, claim, e, all, g)) = omega (arith, pointers_within_all S (pred n) a.segment _ ts k all)
+  pointers_within S n s p (Flat size ns) (c, h) = omega arith
+  pointers_within S n s p (Pointers ts) (c, (a, k, some, o, claim, all, g)) = omega (arith, pointers_within_all S (pred n) a.segment _ ts k all)
+  pointers_within S n s p (Structs d q es) (c, (a, m, k, some, o, claim, tag, fits, all, g)) =
+      let few : element_count es * q ≤ element_count es * (d + q) = grind arith in
+      omega (arith, pointers_within_elements S (pred n) a.segment _ d q es k all, few)
+
+  pub pointers_within_all : (S : Segments) (n s p : ℕ) (ts : Trees) (c : ℕ) → MeansAll S n s p ts c → pointers_in_all ts ≤ c + count ts
+  pointers_within_all S n s p no_trees c h = omega arith
+  pointers_within_all S n s p (tree t ts) c (k, l, one, rest, g) = omega (arith, pointers_within S n s p t (k, one), pointers_within_all S n s _ ts l rest)
+
+  pub pointers_within_elements : (S : Segments) (n s p d q : ℕ) (es : Elements) (c : ℕ) → MeansElements S n s p d q es c → pointers_in_elements es ≤ c + element_count es * q
+  pointers_within_elements S n s p d q no_elements c h = omega arith
+  pointers_within_elements S n s p d q (element ws ts es) c (k, l, long, len, e, all, rest, g) =
+      omega (arith, pointers_within_all S n s _ ts k all, pointers_within_elements S n s _ d q es l rest)

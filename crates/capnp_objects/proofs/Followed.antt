@@ -1,0 +1,84 @@
+-- A pointer leads somewhere exactly where following it does, to no far word.
+use Rattle.std.proofs.Common.{◌≡◌, ◌≢◌, ℕ, zero, suc, ◌+◌, ◌<◌, ◌≤◌, Bool, true, false, cond, nat_eq, nat_lt, Option, Some, None, Result, Ok, Err, [], length, get_or, refl, sym, ap, ◌∙◌, arith, eqb-true}
+use Rattle.std.proofs.lemmas.Bool.{eqb-false, ltb-true}
+use Rattle.std.proofs.lemmas.List.{get_or_past}
+use Rattle.capnp_words.specs.declared.error.ErrorKind.{ErrorKind}
+use Rattle.capnp_words.specs.declared.error.ErrorKind.TheVariants.{InvalidSegmentId, MessageContainsOutOfBoundsPointer}
+use Rattle.capnp_format.specs.Word.{kind, upper_half, far_position, is_double, offset_bits}
+use Rattle.capnp_format.specs.Segments.{Segments, segment, word_at, Target, ◌>>=◌, given, offset_leads, near, pad, far, leads}
+use Rattle.capnp_objects.specs.Follow.{◌>=>◌, or_named, follow_far, follow, Follows}
+use Rattle.capnp_format.specs.Means.{Leads}
+
+-- an option and a result that agree on every target whose word is of no far kind
+record Agrees (o : Option Target) (r : Result Target ErrorKind) : Type 0 where
+  there : (a : Target) → o ≡ Some a → (r ≡ Ok a) × (kind a.word ≢ 2)
+  back : (a : Target) → r ≡ Ok a → kind a.word ≢ 2 → o ≡ Some a
+
+by_choice : {o q : Option Target} {r t : Result Target ErrorKind} (b : Bool) → (b ≡ true → Agrees o r) → (b ≡ false → Agrees q t) → Agrees (cond b o q) (cond b r t)
+by_choice true h k = h refl
+by_choice false h k = k refl
+
+by_name : (k : ErrorKind) (o : Option Target) → ((a : Target) → o ≡ Some a → kind a.word ≢ 2) → Agrees o (or_named k o)
+by_name k (Some x) h = record { there = λ a e. (cc e, h a e); back = λ a e _. cc e }
+by_name k None h = record { there = λ a e. absurd (cc e); back = λ a e _. absurd (cc e) }
+
+by_pad : (k : ErrorKind) (o : Option ℕ) (f : ℕ → Option Target) (g : ℕ → Result Target ErrorKind) → ((w : ℕ) → o ≡ Some w → Agrees (f w) (g w)) → Agrees (o >>= f) (or_named k o >=> g)
+by_pad k (Some w) f g h = h w refl
+by_pad k None f g h = record { there = λ a e. absurd (cc e); back = λ a e _. absurd (cc e) }
+
+by_existing : {o : Option Target} {r : Result Target ErrorKind} (b : Bool) (x : ℕ) (k : ErrorKind) → (b ≡ false → o ≡ None) → Agrees o r → Agrees o (cond b (Ok x) (Err k) >=> λ _. r)
+by_existing true x k h agree = agree
+by_existing false x k h agree = record { there = λ a e. let g = h refl in absurd (cc (e, g)); back = λ a e _. absurd (cc e) }
+
+by_kind : (w : ℕ) (k : ErrorKind) (o : Option Target) → ((a : Target) → o ≡ Some a → a.word ≡ w) → Agrees (cond (nat_eq (kind w) 2) None o) (or_named k o)
+by_kind w k o same = go (nat_eq (kind w) 2) o (eqb-true (kind w) 2) (eqb-false (kind w) 2) same
+  where
+    go : (b : Bool) (o : Option Target) → (b ≡ true → kind w ≡ 2) → (b ≡ false → kind w ≢ 2) → ((a : Target) → o ≡ Some a → a.word ≡ w) → Agrees (cond b None o) (or_named k o)
+    go true None two other_kind same = record { there = λ a e. absurd (cc e); back = λ a e _. absurd (cc e) }
+    go true (Some x) two other_kind same = record { there = λ a e. absurd (cc e); back = λ a e other. absurd (other (ap kind (same a (cc e)) ∙ two refl)) }
+    go false o two other_kind same = by_name k o (λ a e is_far. other_kind refl (sym (ap kind (same a e)) ∙ is_far))
+
+by_tag : (t : Target) (b c : Bool) (k : ErrorKind) → (b ≡ true → kind t.word ≡ 2) → (b ≡ false → kind t.word ≢ 2) → Agrees (cond b None (given c t)) (cond c (Ok t) (Err k))
+by_tag t true true k two other_kind = record { there = λ a e. absurd (cc e); back = λ a e other. absurd (other (let s : t ≡ a = cc e in rw (sym s) (two refl))) }
+by_tag t true false k two other_kind = record { there = λ a e. absurd (cc e); back = λ a e _. absurd (cc e) }
+by_tag t false true k two other_kind = record { there = λ a e. (cc e, let s : t ≡ a = cc e in rw (sym s) (other_kind refl)); back = λ a e _. cc e }
+by_tag t false false k two other_kind = record { there = λ a e. absurd (cc e); back = λ a e _. absurd (cc e) }
+
+pub near_word : {a : Target} (S : Segments) (s p x pads : ℕ) → near S s p x pads ≡ Some a → a.word ≡ x
+near_word {a} S s p x pads e = go (offset_leads (length (segment S s)) p (offset_bits x)) e
+  where
+    go : (o : Option ℕ) → (o >>= λ b. Some (record { word = x; segment = s; start = b; pads = pads })) ≡ Some a → a.word ≡ x
+    go (Some b) e = let q : record { word = x; segment = s; start = b; pads = pads } ≡ a = cc e in sym (ap (λ c. c.word) q)
+    go None e = absurd (cc e)
+
+no_pad : (S : Segments) (x n : ℕ) → nat_lt (upper_half x) (length S) ≡ false → pad S x n ≡ None
+no_pad S x n h =
+    let none : segment S (upper_half x) ≡ [] = get_or_past S (upper_half x) [] (let q : length S ≤ upper_half x = grind (arith, h) in q) in
+    ap (λ ws. given {A = ℕ} (nat_lt (far_position x + n) (length ws)) (get_or ws (far_position x) 0)) none ∙ go (nat_lt (far_position x + n) 0) (ltb-true (far_position x + n) 0)
+  where
+    go : (b : Bool) → (b ≡ true → far_position x + n < 0) → given {A = ℕ} b (get_or [] (far_position x) 0) ≡ None
+    go true h = absurd (omega (arith, h refl))
+    go false h = refl
+
+far_agrees : (S : Segments) (x double : ℕ) → Agrees (far S x double) (follow_far S x double)
+far_agrees S x zero =
+    by_existing (nat_lt (upper_half x) (length S)) x (InvalidSegmentId (upper_half x)) (λ e. ap (λ o. o >>= λ w. cond (nat_eq (kind w) 2) None (near S (upper_half x) (far_position x) w 1)) (no_pad S x 0 e))
+    (by_pad MessageContainsOutOfBoundsPointer (pad S x 0) _ _ (λ w e.
+    by_kind w MessageContainsOutOfBoundsPointer (near S (upper_half x) (far_position x) w 1) (λ a. near_word S (upper_half x) (far_position x) w 1)))
+far_agrees S x (suc d) =
+    let w = word_at S (upper_half x) (far_position x + 1) in
+    by_existing (nat_lt (upper_half x) (length S)) x (InvalidSegmentId (upper_half x)) (λ e. ap (λ o. o >>= λ f. cond (nat_eq (kind w) 2) None (given (nat_lt (upper_half f) (length S)) (record { word = w; segment = upper_half f; start = far_position f; pads = 2 }))) (no_pad S x 1 e))
+    (by_pad MessageContainsOutOfBoundsPointer (pad S x 1) _ _ (λ f e.
+    by_tag (record { word = w; segment = upper_half f; start = far_position f; pads = 2 }) (nat_eq (kind w) 2) (nat_lt (upper_half f) (length S)) (InvalidSegmentId (upper_half f)) (eqb-true (kind w) 2) (eqb-false (kind w) 2)))
+
+leads_agrees : (S : Segments) (s p : ℕ) → Agrees (leads S s p) (follow S s p)
+leads_agrees S s p =
+    let x = word_at S s p in
+    by_choice (nat_eq (kind x) 2) (λ _. far_agrees S x (is_double x))
+    (λ b. by_name MessageContainsOutOfBoundsPointer (near S s p x 0) (λ a e is_far. eqb-false (kind x) 2 b (sym (ap kind (near_word S s p x 0 e)) ∙ is_far)))
+
+pub leads_follows : (S : Segments) (s p : ℕ) (a : Target) → Leads S s p a → Follows S s p a × (kind a.word ≢ 2)
+leads_follows S s p a (some, l) = let r = (leads_agrees S s p).there a l in ((some, r.0), r.1)
+
+pub follows_leads : (S : Segments) (s p : ℕ) (a : Target) → Follows S s p a → kind a.word ≢ 2 → Leads S s p a
+follows_leads S s p a (some, f) other = (some, (leads_agrees S s p).back a f other)

@@ -1,0 +1,12 @@
+pub mod Budgets
+pub mod Copies
+pub mod Decided
+pub mod Defaults
+pub mod Faultless
+pub mod Followed
+pub mod Landings
+pub mod Limits
+pub mod Objects
+pub mod Parts
+pub mod Stops
+pub mod Truths

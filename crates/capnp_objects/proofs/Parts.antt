@@ -1,0 +1,145 @@
+-- What a place's meaning says of the object there and of its pointers, the same for every kind.
+-- Lemmas on `Means` name all its arguments: it is defined by recursion on the value, and the checker finds none of them from a premise.
+use Rattle.std.proofs.Common.{◌≡◌, ◌⊎◌, inl, inr, ℕ, zero, suc, pred, ◌+◌, ◌%◌, ◌^◌, ◌<◌, ◌≤◌, cond, nat_eq, length, refl, sym, ap, ◌∙◌, subst, arith}
+use Rattle.capnp_format.specs.Word.{kind, offset_bits, data_words, pointer_count, element_size, list_count}
+use Rattle.capnp_format.specs.Numbers.{words_for}
+use Rattle.capnp_format.specs.Segments.{Segments, Target}
+use Rattle.capnp_format.specs.Tree.{Tree, Null, Capability, Struct, Flat, Pointers, Structs, Trees, no_trees, tree, Elements, no_elements, element, count, element_count, capabilities, capabilities_all, capabilities_elements}
+use Rattle.capnp_format.specs.Means.{Claims, count_cost}
+use Rattle.capnp_words.specs.declared.wire_pointer.StructSize.{StructSize}
+use Rattle.capnp_objects.specs.Demands.{list_claim, claim, tag, amplified, own, Meets}
+use Rattle.capnp_objects.specs.Faults.{LeadsTo, child_at, IsPointer, of_struct, of_list, of_element}
+use Rattle.capnp_objects.specs.Outcomes.{MeansThere, MeanThere, ElementsMean}
+use Rattle.capnp_objects.specs.Reading.{Reading, word_of, behind, pointers_of}
+
+pub claim_struct : (w : ℕ) → kind w ≡ 0 → claim w ≡ data_words w + pointer_count w
+claim_struct w e = ap (λ k. cond (nat_eq k 0) (data_words w + pointer_count w) (list_claim (element_size w) (list_count w))) e
+
+pub claim_list : (w size : ℕ) → kind w ≡ 1 → element_size w ≡ size → claim w ≡ list_claim size (list_count w)
+claim_list w size e f = ap (λ k. cond (nat_eq k 0) (data_words w + pointer_count w) (list_claim (element_size w) (list_count w))) e ∙ ap (λ i. list_claim i (list_count w)) f
+
+pub claim_flat : (size n : ℕ) → size ≤ 5 → list_claim size n ≡ words_for size n
+claim_flat zero n h = refl
+claim_flat (suc zero) n h = refl
+claim_flat (suc (suc zero)) n h = refl
+claim_flat (suc (suc (suc zero))) n h = refl
+claim_flat (suc (suc (suc (suc zero)))) n h = refl
+claim_flat (suc (suc (suc (suc (suc zero))))) n h = refl
+claim_flat (suc (suc (suc (suc (suc (suc k)))))) n h = absurd (omega arith)
+
+-- what elements of no bits cost, by the kind and the size
+abbrev extra : Segments → Target → ℕ → ℕ → ℕ
+extra S a k size = cond (nat_eq k 0) 0 (cond (nat_eq size 7) (count_cost (data_words (tag S a) + pointer_count (tag S a)) (offset_bits (tag S a))) (count_cost size (list_count a.word)))
+
+pub extra_struct : (S : Segments) (a : Target) → kind a.word ≡ 0 → amplified S a ≡ 0
+extra_struct S a e = ap (λ k. extra S a k (element_size a.word)) e
+
+pub extra_list : (S : Segments) (a : Target) (size : ℕ) → kind a.word ≡ 1 → element_size a.word ≡ size → amplified S a ≡ extra S a 1 size
+extra_list S a size e f = ap (λ k. extra S a k (element_size a.word)) e ∙ ap (extra S a 1) f
+
+pub extra_flat : (S : Segments) (a : Target) (size : ℕ) → size ≤ 5 → extra S a 1 size ≡ count_cost size (list_count a.word)
+extra_flat S a zero h = refl
+extra_flat S a (suc zero) h = refl
+extra_flat S a (suc (suc zero)) h = refl
+extra_flat S a (suc (suc (suc zero))) h = refl
+extra_flat S a (suc (suc (suc (suc zero)))) h = refl
+extra_flat S a (suc (suc (suc (suc (suc zero))))) h = refl
+extra_flat S a (suc (suc (suc (suc (suc (suc k)))))) h = absurd (omega arith)
+
+-- some value stands at a place, with at most m capabilities
+abbrev pub Meant : Reading → ℕ → Type 0
+Meant r m = (u : Tree) × (k : ℕ) × MeansThere r u k × (capabilities u ≤ m)
+
+-- the position q is one of the n from a place on, or one of the pointers of n elements
+abbrev pub IsAmong : Reading → ℕ → ℕ → Type 0
+IsAmong r n q = (r.at ≤ q) × (q < r.at + n)
+
+abbrev pub IsAmongElements : Reading → StructSize → ℕ → ℕ → Type 0
+IsAmongElements r size n q = (j : ℕ) × (j < n) × IsAmong (pointers_of r size j) size.pointers q
+
+pub first_or_later : (p q : ℕ) → p ≤ q → (q ≡ p) ⊎ (p + 1 ≤ q)
+first_or_later zero zero h = inl refl
+first_or_later zero (suc q) h = inr (omega arith)
+first_or_later (suc p) zero h = absurd (omega arith)
+first_or_later (suc p) (suc q) h = elim (first_or_later p q (omega arith)) [ inl e ↦ inl (ap suc e) | inr f ↦ inr (omega arith) ]
+
+pub child_means : (r : Reading) (ts : Trees) (c q : ℕ) → MeanThere r ts c → IsAmong r (count ts) q → Meant (record r { at = q }) (capabilities_all ts)
+child_means r no_trees c q h (low, high) = absurd (omega arith)
+child_means r (tree t ts) c q (k, l, one, rest, g) (low, high) = elim (first_or_later r.at q low) [
+  | inl e ↦ (t, k, rw e one, omega arith)
+  | inr f ↦ let x = child_means (behind r 1) ts l q rest (f, omega arith) in (x.0, x.1, x.2, omega (arith, x.3))
+]
+
+pub element_means : (r : Reading) (size : StructSize) (es : Elements) (q : ℕ) → (c : ℕ) × ElementsMean r size es c → IsAmongElements r size (element_count es) q → Meant (record r { at = q }) (capabilities_elements es)
+element_means r size no_elements q x i = absurd (omega (arith, i.1))
+element_means r size (element ws ts es) q (c, (k, l, long, len, e, all, rest, g)) (zero, inside, (low, high)) =
+    let x = child_means (behind r size.data_words) ts k q all (omega arith, omega (arith, len)) in (x.0, x.1, x.2, omega (arith, x.3))
+element_means r size (element ws ts es) q (c, (k, l, long, len, e, all, rest, g)) (suc j, inside, (low, high)) =
+    let x = element_means (behind (behind r size.data_words) size.pointers) size es q (l, rest) (j, omega arith, (omega arith, omega arith)) in (x.0, x.1, x.2, omega (arith, x.3))
+
+-- an object that meets its demands, what it costs by itself, and its children
+pub record Inner (r : Reading) (a : Target) (m c : ℕ) : Type 0 where
+  pub meets : Meets r.segments r.levels a
+  pub cost : own r.segments a ≤ c
+  pub children : (q : ℕ) → IsPointer r.segments a q → Meant (child_at r a (pred r.levels) q) m
+
+-- a place with at most m capabilities, whose value costs c: it is null, or leads to a capability or to an object
+pub data Parts (r : Reading) (m c : ℕ) : Type 0 where
+  is_null : word_of r ≡ 0 → Parts r m c
+  is_capability : (a : Target) → LeadsTo r a → a.word % 2 ^ 32 ≡ 3 → 1 ≤ m → c ≡ a.pads → Parts r m c
+  is_inner : (a : Target) → LeadsTo r a → Inner r a m c → Parts r m c
+
+pub means_parts : (r : Reading) (t : Tree) (c : ℕ) → MeansThere r t c → Parts r (capabilities t) c
+means_parts r Null c h = is_null h.0
+means_parts r (Capability i) c (a, l, e, g) = is_capability a l (omega arith) (omega arith) g
+means_parts r (Struct ws ts) c (a, k, some, o, claims, e, all, g) =
+    is_inner a o.leads_to (record {
+      meets = record { levels = some; is_object = omega (arith, o.is_struct); claims = omega (arith, claim_struct a.word o.is_struct, o.data_of, o.pointers, claims); tagged = λ l. absurd (omega (arith, l.0, o.is_struct)) };
+      cost = omega (arith, claim_struct a.word o.is_struct, extra_struct r.segments a o.is_struct, o.data_of, o.pointers);
+      children = λ q. elim [
+        | of_struct z low high ↦ child_means (child_at r a (pred r.levels) (a.start + length ws)) ts k q all (omega (arith, o.data_of), omega (arith, o.data_of, o.pointers))
+        | of_list z size low high ↦ absurd (omega (arith, o.is_struct))
+        | of_element j z inside low high ↦ absurd (omega (arith, o.is_struct, z.0))
+      ];
+    })
+means_parts r (Flat size ns) c (a, some, small, o, claims, e, g) =
+    is_inner a o.leads_to (record {
+      meets = record {
+        levels = some;
+        is_object = omega (arith, o.is_list);
+        claims = subst (Claims r.segments a) (ap (words_for size) (sym o.counts) ∙ sym (claim_flat size (list_count a.word) small) ∙ sym (claim_list a.word size o.is_list o.is_size)) claims;
+        tagged = λ l. absurd (omega (arith, l.1, o.is_size));
+      };
+      cost = rw (claim_list a.word size o.is_list o.is_size, claim_flat size (list_count a.word) small, extra_list r.segments a size o.is_list o.is_size, extra_flat r.segments a size small, o.counts) (omega (arith, g));
+      children = λ q. elim [
+        | of_struct z low high ↦ absurd (omega (arith, o.is_list))
+        | of_list z six low high ↦ absurd (omega (arith, o.is_size, small))
+        | of_element j z inside low high ↦ absurd (omega (arith, o.is_size, z.1, small))
+      ];
+    })
+means_parts r (Pointers ts) c (a, k, some, o, claims, all, g) =
+    is_inner a o.leads_to (record {
+      meets = record { levels = some; is_object = omega (arith, o.is_list); claims = omega (arith, claim_list a.word 6 o.is_list o.is_size, o.counts, claims); tagged = λ l. absurd (omega (arith, l.1, o.is_size)) };
+      cost = omega (arith, claim_list a.word 6 o.is_list o.is_size, extra_list r.segments a 6 o.is_list o.is_size, o.counts, g);
+      children = λ q. elim [
+        | of_struct z low high ↦ absurd (omega (arith, o.is_list))
+        | of_list z six low high ↦ child_means (child_at r a (pred r.levels) a.start) ts k q all (low, omega (arith, o.counts))
+        | of_element j z inside low high ↦ absurd (omega (arith, o.is_size, z.1))
+      ];
+    })
+means_parts r (Structs d q es) c (a, m, k, some, o, claims, t, fits, all, g) =
+    is_inner a o.leads_to (record {
+      meets = record {
+        levels = some;
+        is_object = omega (arith, o.is_list);
+        claims = omega (arith, claim_list a.word 7 o.is_list o.is_size, o.counts, claims);
+        tagged = λ l. (t.is_struct, rw (t.counts, t.data_of, t.pointers, o.counts) fits);
+      };
+      cost = rw (claim_list a.word 7 o.is_list o.is_size, extra_list r.segments a 7 o.is_list o.is_size, t.counts, t.data_of, t.pointers, o.counts) (omega (arith, g));
+      children = λ p. elim [
+        | of_struct z low high ↦ absurd (omega (arith, o.is_list))
+        | of_list z six low high ↦ absurd (omega (arith, o.is_size))
+        | of_element j z inside low high ↦
+            element_means (child_at r a (pred r.levels) (a.start + 1)) (record { data_words = d; pointers = q }) es p (k, all) (j, omega (arith, t.counts), (rw (t.data_of, t.pointers) at low, rw (t.data_of, t.pointers) at high))
+      ];
+    })

@@ -1,0 +1,40 @@
+-- What an object claims and charges, and the demands that every object meets, by the word that describes it.
+use Rattle.std.specs.Prelude.{◌≡◌, ℕ, ◌+◌, ◌*◌, ◌<◌, ◌≤◌, cond, nat_eq}
+use Rattle.capnp_format.specs.Word.{kind, offset_bits, data_words, pointer_count, element_size, list_count}
+use Rattle.capnp_format.specs.Numbers.{words_for}
+use Rattle.capnp_format.specs.Segments.{Segments, word_at, Target}
+use Rattle.capnp_format.specs.Means.{Claims, count_cost}
+
+-- the words that an object claims, by the word that describes it
+abbrev pub list_claim : ℕ → ℕ → ℕ
+list_claim size n = cond (nat_eq size 7) (n + 1) (cond (nat_eq size 6) n (words_for size n))
+
+abbrev pub claim : ℕ → ℕ
+claim w = cond (nat_eq (kind w) 0) (data_words w + pointer_count w) (list_claim (element_size w) (list_count w))
+
+abbrev pub IsStructList : ℕ → Type 0
+IsStructList w = (kind w ≡ 1) × (element_size w ≡ 7)
+
+-- the first word of an object, which is the tag in a list of structs
+abbrev pub tag : Segments → Target → ℕ
+tag S a = word_at S a.segment a.start
+
+abbrev pub element_words : ℕ → ℕ
+element_words g = offset_bits g * (data_words g + pointer_count g)
+
+-- what is charged for elements of no bits
+abbrev pub amplified : Segments → Target → ℕ
+amplified S a =
+    cond (nat_eq (kind a.word) 0) 0
+    (cond (nat_eq (element_size a.word) 7) (count_cost (data_words (tag S a) + pointer_count (tag S a)) (offset_bits (tag S a))) (count_cost (element_size a.word) (list_count a.word)))
+
+-- what reading an object charges, without its children
+abbrev pub own : Segments → Target → ℕ
+own S a = a.pads + claim a.word + amplified S a
+
+-- an object that meets all demands but those on children
+pub record Meets (S : Segments) (n : ℕ) (a : Target) : Type 0 where
+  pub levels : 0 < n
+  pub is_object : kind a.word < 2
+  pub claims : Claims S a (claim a.word)
+  pub tagged : IsStructList a.word → (kind (tag S a) ≡ 0) × (element_words (tag S a) ≤ list_count a.word)

@@ -1,0 +1,10 @@
+pub mod Follow
+pub mod Demands
+pub mod Source
+pub mod Reading
+pub mod Wanted
+pub mod Spending
+pub mod Faults
+pub mod Outcomes
+pub mod Objects
+pub mod Landings

@@ -1,0 +1,55 @@
+-- A place that is read, and the place that a source is read at.
+use Rattle.std.specs.Prelude.{ℕ, ℤ, Bool, List, ◌+◌, ◌*◌}
+use Rattle.capnp_format.specs.Segments.{Segments, Target, segment, word_at, words_at}
+use Rattle.capnp_format.specs.Word.{data_words, pointer_count}
+use Rattle.capnp_arena.specs.declared.arena.reader_arena.ReaderArena.{Ghosts}
+use Rattle.capnp_words.specs.declared.wire_pointer.StructSize.{StructSize}
+use Rattle.capnp_objects.specs.declared.object.Place.{Place}
+use Rattle.capnp_objects.specs.declared.source.Source.{Source}
+use Rattle.capnp_objects.specs.Source.{source_segments, source_charging, levels}
+
+-- A place that is read: its message, whether reading there is charged, how many levels of structs and lists may be
+-- entered from it, and its segment and word position.
+pub record Reading : Type 0 where
+  pub segments : Segments
+  pub charging : Bool
+  pub levels : ℕ
+  pub segment : ℕ
+  pub at : ℕ
+
+-- The place of a source that is read within a nesting limit.
+abbrev pub reading_at : {A : Type 0} (g : Ghosts A) → Source A → Place → ℤ → Reading
+reading_at g source place nesting = record {
+  segments = source_segments g.segments source;
+  charging = source_charging g.charging source;
+  levels = levels nesting;
+  segment = place.segment;
+  at = place.at;
+}
+
+-- The word there.
+abbrev pub word_of : Reading → ℕ
+word_of r = word_at r.segments r.segment r.at
+
+-- The place so many words behind.
+abbrev pub behind : Reading → ℕ → Reading
+behind r n = record r { at = r.at + n }
+
+-- The words of its segment, and the n words from the place on.
+abbrev pub row : Reading → List ℕ
+row r = segment r.segments r.segment
+
+abbrev pub words_from : Reading → ℕ → List ℕ
+words_from r n = words_at r.segments r.segment r.at n
+
+-- The pointers of element number j of a list of structs of this size, whose elements start at the place.
+abbrev pub pointers_of : Reading → StructSize → ℕ → Reading
+pointers_of r size j = record r { at = r.at + j * (size.data_words + size.pointers) + size.data_words }
+
+-- The size of d data words and q pointers.
+abbrev pub sized : ℕ → ℕ → StructSize
+sized d q = record { data_words = d; pointers = q }
+
+-- The size of the elements of the list of structs that a describes, by its tag.
+abbrev pub tag_size : Segments → Target → StructSize
+tag_size S a = record { data_words = data_words (word_at S a.segment a.start); pointers = pointer_count (word_at S a.segment a.start) }

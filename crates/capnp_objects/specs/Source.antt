@@ -1,0 +1,42 @@
+-- The message that a source shows.
+use Rattle.std.specs.Prelude.{ℕ, ℤ, pos, negsuc, List, [], ◌∷◌, ◌++◌, Bool, false, ◌^◌, replicate}
+use Rattle.capnp_format.specs.Segments.{Segments}
+use Rattle.capnp_format.specs.Bytes.{words_of, message}
+use Rattle.capnp_words.specs.declared.error.ErrorKind.{ErrorKind}
+use Rattle.capnp_words.specs.declared.error.ErrorKind.TheVariants.{MessageContainsOutOfBoundsPointer, TriedToReadFromNullArena}
+use Rattle.capnp_objects.specs.declared.source.Source.{Source}
+use Rattle.capnp_objects.specs.declared.source.Source.TheVariants.{Arena, Default, Nothing}
+
+-- How many levels a nesting limit leaves: none where it is below zero.
+abbrev pub levels : ℤ → ℕ
+levels (pos n) = n
+levels (negsuc n) = 0
+
+-- The segment of a default: its number is beyond those that a far pointer can name.
+abbrev pub default_segment : ℕ
+default_segment = 2 ^ 32
+
+-- So many empty segments, and behind them one of these bytes.
+unfoldable pub behind_empty : ℕ → List ℕ → Segments
+behind_empty n bytes = replicate n [] ++ words_of bytes ∷ []
+
+-- A default, behind so many empty segments that no far pointer leads anywhere in it.
+unfoldable pub default_segments : List ℕ → Segments
+default_segments bytes = behind_empty default_segment bytes
+
+-- The segments of a source.
+abbrev pub source_segments : {A : Type 0} → (A → List (List ℕ)) → Source A → Segments
+source_segments segments (Arena a) = message (segments a.now)
+source_segments segments (Default d) = default_segments d.now
+source_segments segments Nothing = []
+
+-- Whether reading is charged.
+abbrev pub source_charging : {A : Type 0} → (A → Bool) → Source A → Bool
+source_charging charging (Arena a) = charging a.now
+source_charging charging (Default d) = false
+source_charging charging Nothing = false
+
+-- The fault that a refusal names. A far pointer of a default leads out of every segment, and is refused by a name of its own.
+abbrev pub fault : {A : Type 0} → ErrorKind → Source A → ErrorKind
+fault TriedToReadFromNullArena (Default d) = MessageContainsOutOfBoundsPointer
+fault k source = k

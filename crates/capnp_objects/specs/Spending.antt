@@ -1,0 +1,33 @@
+-- What reading takes of a limiter: words of its budget, and pointers that it counts as followed.
+use Rattle.std.specs.Prelude.{ℕ, Bool, true, false, ◌+◌, ◌-◌, ◌^◌, min, max}
+use Rattle.capnp_words.specs.Meter.{Meter, less}
+use Rattle.capnp_format.specs.Tree.{Tree, Null, Capability, Struct, Flat, Pointers, Structs, Trees, no_trees, tree, Elements, no_elements, element}
+
+-- r pointers more, up to the greatest u64
+abbrev pub raised : ℕ → ℕ → ℕ
+raised f r = max f (min (f + r) (2 ^ 64 - 1))
+
+-- after g words were granted, which an arena that doesn't charge takes from nothing, and r pointers followed
+abbrev pub after : Bool → Meter → ℕ → ℕ → Meter
+after true m g r = record { left = less m.left g; followed = raised m.followed r }
+after false m g r = record { left = m.left; followed = raised m.followed r }
+
+-- the subtrees that are not Null, the value counted, each as often as it occurs
+abbrev mutual
+  pub pointers_in : Tree → ℕ
+  pointers_in Null = 0
+  pointers_in (Capability i) = 1
+  pointers_in (Struct ws ts) = 1 + pointers_in_all ts
+  pointers_in (Flat size ns) = 1
+  pointers_in (Pointers ts) = 1 + pointers_in_all ts
+  pointers_in (Structs d q es) = 1 + pointers_in_elements es
+
+  -- of all children
+  pub pointers_in_all : Trees → ℕ
+  pointers_in_all no_trees = 0
+  pointers_in_all (tree t ts) = pointers_in t + pointers_in_all ts
+
+  -- of the children of all elements
+  pub pointers_in_elements : Elements → ℕ
+  pointers_in_elements no_elements = 0
+  pointers_in_elements (element ws ts es) = pointers_in_all ts + pointers_in_elements es

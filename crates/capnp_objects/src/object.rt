@@ -1,0 +1,83 @@
+//! What stands at a place of a message: the objects of the encoding specification's sections
+//! "Structs", "Lists" and "Capabilities (Interfaces)", one level at a time.
+
+ghost use Rattle.std.specs.Prelude.{◌≡◌, ◌<◌, ◌*◌, ◌^◌, length, slice_index};
+ghost use Rattle.capnp_format.specs.Bytes.{words_of};
+
+use capnp_words::wire_pointer::{ElementSize, StructSize, WirePointer};
+use capnp_words::words::word_at;
+
+/// A word of a segment, with the segment's bytes at hand.
+#[derive(Clone, Copy)]
+pub struct Place<'a> {
+    /// The number of the segment, below 2^32 in an arena; a default is the segment of number
+    /// 2^32, so that no far pointer leads into it.
+    pub segment: u64,
+    /// All whole words of the segment.
+    pub bytes: &'a [u8],
+    /// The position in the segment, in words.
+    pub at: u32,
+}
+
+impl<'a> Place<'a> {
+    /// How many whole words the segment has.
+    pub fn length(self) -> u32
+        requires { length self.bytes.now < 8 * 2 ^ 32 }
+        ensures { result ≡ length (words_of self.entry.bytes.now) }
+    {
+        (self.bytes.len() / 8) as u32
+    }
+
+    /// The pointer word at the place, zero beyond the segment.
+    pub fn word(self) -> WirePointer
+        ensures { result.0 ≡ slice_index (words_of self.entry.bytes.now) self.entry.at }
+    {
+        let at = self.at as usize;
+        if at < self.bytes.len() / 8 {
+            WirePointer(word_at(self.bytes, at))
+        } else {
+            WirePointer::null()
+        }
+    }
+}
+
+/// One object, whose own words are checked and charged; of its children nothing is known.
+#[derive(Clone, Copy)]
+pub enum Object<'a> {
+    /// Nothing: the pointer is zero.
+    Null,
+    /// A capability, by its index.
+    Capability(u32),
+    /// A struct, its data section first.
+    Struct {
+        /// The first word of the data section.
+        start: Place<'a>,
+        /// Its two sections.
+        size: StructSize,
+    },
+    /// A list of elements without pointers, from `Void` to `EightBytes`.
+    Flat {
+        /// The first word of the elements.
+        start: Place<'a>,
+        /// How wide an element is.
+        size: ElementSize,
+        /// How many elements, fewer than 2^29.
+        count: u32,
+    },
+    /// A list of pointers.
+    Pointers {
+        /// The first pointer.
+        start: Place<'a>,
+        /// How many pointers, fewer than 2^29.
+        count: u32,
+    },
+    /// A list of structs.
+    Structs {
+        /// The first word behind the tag.
+        start: Place<'a>,
+        /// The two sections of each element.
+        size: StructSize,
+        /// How many elements, fewer than 2^30.
+        count: u32,
+    },
+}

@@ -1,0 +1,418 @@
+//! Where readers read: an arena, a default, or nothing. A pointer is read in two steps: it is
+//! followed to where it leads, and the object there is entered, each with its checks and charges.
+ghost use Rattle.std.specs.Prelude.{◌≡◌, ◌<◌, ◌≤◌, ◌+◌, ◌*◌, ◌^◌, ◌↔◌, ℕ, false, IsTrue, IfOk, IsOk, OnOk, OnErr, IfErr, length};
+ghost use Rattle.capnp_format.specs.Word.{kind, element_size, is_double};
+ghost use Rattle.capnp_format.specs.Segments.{segment, word_at};
+ghost use Rattle.capnp_format.specs.Means.{count_cost};
+ghost use Rattle.capnp_words.specs.Meter.{Affords, charged};
+ghost use Rattle.capnp_words.specs.declared.error.ErrorKind.TheVariants.{ReadLimitExceeded};
+ghost use Rattle.capnp_objects.specs.Source.{source_segments, source_charging, fault, levels};
+ghost use Rattle.capnp_objects.specs.Follow.{follow, follow_far};
+ghost use Rattle.capnp_words.specs.Sizes.{size_number};
+ghost use Rattle.capnp_objects.specs.Demands.{claim};
+ghost use Rattle.capnp_objects.specs.Reading.{reading_at};
+ghost use Rattle.capnp_objects.specs.Wanted.{plain};
+ghost use Rattle.capnp_objects.specs.Objects.{IsObject, IsHeld, IsFew};
+ghost use Rattle.capnp_objects.specs.Outcomes.{Refused};
+ghost use Rattle.capnp_objects.specs.Landings.{target, IsSegment, NoSegment, IsPad, FollowsPointer, FailsPointer, FollowsFar, FailsFar, IsClaimed, NotEntered, IsOpened};
+
+use crate::object::{Object, Place};
+use capnp_arena::arena::ReaderArena;
+use capnp_words::error::ErrorKind;
+use capnp_words::read_limiter::ReadLimiter;
+use capnp_words::wire_pointer::{ElementSize, WirePointer, WirePointerKind, data_bits_per_element};
+
+/// Where a reader reads.
+#[derive_where(Clone, Copy)]
+pub enum Source<'a, A> {
+    /// A message.
+    Arena(&'a A),
+    /// The bytes of a default, which are one segment; it is free of charge, and has no far
+    /// pointers.
+    Default(&'a [u8]),
+    /// Nothing: a field that its struct doesn't have.
+    Nothing,
+}
+
+// Where a pointer leads, its landing pads read.
+#[derive(Clone, Copy)]
+struct Landing<'a> {
+    // The word that describes the object: the pointer itself, its landing pad, or the pad's tag.
+    word: WirePointer,
+    // Where the object starts.
+    start: Place<'a>,
+    // How many words the landing pads have.
+    pads: u32,
+}
+
+impl<'a, A: ReaderArena> Source<'a, A> {
+    /// Reads the object that the pointer at a place leads to, and nothing below it ("Structs",
+    /// "Lists", "Inter-Segment Pointers" and "Capabilities (Interfaces)" of the encoding
+    /// specification).
+    ///
+    /// A word of zero is `Null`, as is a place beyond its segment; nothing is counted or charged
+    /// then. Else the pointer is counted as followed, and charged in words, each before it is read:
+    /// its landing pads, the words that the object claims, and for elements without width their
+    /// number. A capability takes neither a level nor words of its own; a struct and a list take a
+    /// level, so the nesting limit must be at least 1.
+    ///
+    /// A refusal is named by the first fault that is met: `InvalidSegmentId`,
+    /// `MessageContainsOutOfBoundsPointer`, `MalformedDoubleFarPointer`, `UnknownPointerType`,
+    /// `MessageIsTooDeeplyNestedOrContainsCycles`,
+    /// `InlineCompositeListsOfNonStructTypeAreNotSupported`,
+    /// `InlineCompositeListsElementsOverrunItsWordCount`, `TriedToReadFromNullArena` for a far
+    /// pointer of a default, or `ReadLimitExceeded`. What was charged before it stays charged.
+    pub fn read_object(
+        self,
+        place: Place<'a>,
+        nesting_limit: i32,
+        lim: &mut ReadLimiter,
+    ) -> Result<Object<'a>, ErrorKind>
+        requires held { IsHeld (source_segments A.segments self) place }
+        ensures object { IfOk result (IsObject (reading_at A.ReaderArena self.entry place.entry nesting_limit) lim.old lim.new) }
+        ensures few { IfOk result IsFew }
+        ensures refused { IfErr result (λ k. Refused plain (reading_at A.ReaderArena self.entry place.entry nesting_limit) lim.old lim.new (fault k self.entry)) }
+    {
+        let word = place.word();
+        if word.is_null() {
+            return Ok(Object::Null);
+        }
+        lim.count();
+        let landing = match self.follow(place, word, lim) {
+            Ok(landing) => landing,
+            Err(k) => return Err(k),
+        };
+        self.enter(landing, depth_of(nesting_limit), lim)
+    }
+
+    // The bytes of a segment that a far pointer names.
+    fn segment(self, id: u32) -> Result<&'a [u8], ErrorKind>
+        requires some { 0 < length (source_segments A.segments self) }
+        ensures there { IfOk result (λ b. IsSegment (source_segments A.segments self.entry) id b.now) }
+        ensures absent { IfErr result (λ k. NoSegment (source_segments A.segments self.entry) id (fault k self.entry)) }
+    {
+        match self {
+            Source::Arena(arena) => arena.get_segment(id),
+            Source::Default(_) | Source::Nothing => Err(ErrorKind::TriedToReadFromNullArena),
+        }
+    }
+
+    // Charges words, which only an arena does.
+    fn charge(self, words: u64, lim: &mut ReadLimiter) -> Result<(), ErrorKind>
+        ensures exactly { IsOk result ↔ Affords (source_charging A.charging self.entry) lim.old words }
+        ensures granted { OnOk result (lim.new ≡ charged (source_charging A.charging self.entry) lim.old words) }
+        ensures refused { OnErr result (lim.new ≡ lim.old) }
+        ensures named { IfErr result (λ k. k ≡ ReadLimitExceeded) }
+    {
+        match self {
+            Source::Arena(arena) => arena.amplified_read(words, lim),
+            Source::Default(_) | Source::Nothing => Ok(()),
+        }
+    }
+
+    // Follows the word at a place, which is not zero.
+    fn follow(
+        self,
+        place: Place<'a>,
+        word: WirePointer,
+        lim: &mut ReadLimiter,
+    ) -> Result<Landing<'a>, ErrorKind>
+        requires some { 0 < length (source_segments A.segments self) }
+        requires held { IsHeld (source_segments A.segments self) place }
+        requires there { word.0 ≡ word_at (source_segments A.segments self) place.segment place.at }
+        ensures followed { IfOk result (λ l. FollowsPointer A.ReaderArena self.entry place.entry lim.old lim.new l) }
+        ensures refused { IfErr result (λ k. FailsPointer A.ReaderArena self.entry place.entry word.0 lim.old lim.new k) }
+    {
+        if word.kind() == WirePointerKind::Far {
+            return self.follow_far(word, lim);
+        }
+        match word.target(place.at, place.length()) {
+            Some(at) => Ok(Landing {
+                word,
+                start: Place { at, ..place },
+                pads: 0,
+            }),
+            None => Err(ErrorKind::MessageContainsOutOfBoundsPointer),
+        }
+    }
+
+    // Follows a far pointer.
+    fn follow_far(self, far: WirePointer, lim: &mut ReadLimiter) -> Result<Landing<'a>, ErrorKind>
+        requires some { 0 < length (source_segments A.segments self) }
+        requires is_far { kind far.0 ≡ 2 }
+        ensures followed { IfOk result (λ l. FollowsFar A.ReaderArena self.entry far.0 lim.old lim.new l) }
+        ensures refused { IfErr result (λ k. FailsFar A.ReaderArena self.entry far.0 lim.old lim.new k) }
+    {
+        let pad = match self.pad(far, lim) {
+            Ok(pad) => pad,
+            Err(k) => return Err(k),
+        };
+        let word = pad.word();
+        if far.is_double_far() {
+            let tag = Place {
+                at: pad.at + 1,
+                ..pad
+            };
+            let id = word.far_segment_id();
+            match self.segment(id) {
+                Ok(bytes) => Ok(Landing {
+                    word: tag.word(),
+                    start: Place {
+                        segment: u64::from(id),
+                        bytes,
+                        at: word.far_position_in_segment(),
+                    },
+                    pads: 2,
+                }),
+                Err(k) => Err(k),
+            }
+        } else {
+            match word.target(pad.at, pad.length()) {
+                Some(at) => Ok(Landing {
+                    word,
+                    start: Place { at, ..pad },
+                    pads: 1,
+                }),
+                None => Err(ErrorKind::MessageContainsOutOfBoundsPointer),
+            }
+        }
+    }
+
+    // The landing pad of a far pointer, one word or two, checked and charged.
+    fn pad(self, far: WirePointer, lim: &mut ReadLimiter) -> Result<Place<'a>, ErrorKind>
+        requires some { 0 < length (source_segments A.segments self) }
+        requires is_far { kind far.0 ≡ 2 }
+        ensures pad { IfOk result (λ q. IsPad (source_segments A.segments self.entry) (source_charging A.charging self.entry) far.0 lim.old lim.new q) }
+        ensures refused { IfErr result (λ k. FailsFar A.ReaderArena self.entry far.0 lim.old lim.new k) }
+    {
+        let id = far.far_segment_id();
+        let bytes = match self.segment(id) {
+            Ok(bytes) => bytes,
+            Err(k) => return Err(k),
+        };
+        let at = far.far_position_in_segment();
+        let words: u32 = if far.is_double_far() { 2 } else { 1 };
+        if (at + words) as usize > bytes.len() / 8 {
+            return Err(ErrorKind::MessageContainsOutOfBoundsPointer);
+        }
+        match self.charge(u64::from(words), lim) {
+            Ok(()) => Ok(Place {
+                segment: u64::from(id),
+                bytes,
+                at,
+            }),
+            Err(k) => Err(k),
+        }
+    }
+
+    // Enters the object that a pointer leads to, which takes one of `depth` levels.
+    fn enter(
+        self,
+        landing: Landing<'a>,
+        depth: u32,
+        lim: &mut ReadLimiter,
+    ) -> Result<Object<'a>, ErrorKind>
+        requires held { IsHeld (source_segments A.segments self) landing.start }
+        ensures object { IfOk result (λ x. IsOpened (source_segments A.segments self.entry) (source_charging A.charging self.entry) depth (target landing.entry) lim.old lim.new x) }
+        ensures few { IfOk result IsFew }
+        ensures refused { IfErr result (λ k. NotEntered (source_segments A.segments self.entry) (source_charging A.charging self.entry) depth (target landing.entry) lim.old lim.new (fault k self.entry)) }
+    {
+        match landing.word.kind() {
+            WirePointerKind::Struct => self.enter_struct(landing, depth, lim),
+            WirePointerKind::List => self.enter_list(landing, depth, lim),
+            WirePointerKind::Far => Err(ErrorKind::MalformedDoubleFarPointer),
+            WirePointerKind::Other => {
+                if landing.word.is_capability() {
+                    Ok(Object::Capability(landing.word.cap_index()))
+                } else {
+                    Err(ErrorKind::UnknownPointerType)
+                }
+            }
+        }
+    }
+
+    // Checks and charges the words that an object claims.
+    fn claim(
+        self,
+        landing: Landing<'a>,
+        words: u32,
+        depth: u32,
+        lim: &mut ReadLimiter,
+    ) -> Result<(), ErrorKind>
+        requires held { IsHeld (source_segments A.segments self) landing.start }
+        requires is_object { kind landing.word.0 < 2 }
+        requires claimed { words ≡ claim landing.word.0 }
+        ensures claimed { OnOk result (IsClaimed (source_segments A.segments self.entry) (source_charging A.charging self.entry) depth (target landing.entry) lim.old lim.new) }
+        ensures refused { IfErr result (λ k. NotEntered (source_segments A.segments self.entry) (source_charging A.charging self.entry) depth (target landing.entry) lim.old lim.new (fault k self.entry)) }
+    {
+        if depth == 0 {
+            return Err(ErrorKind::MessageIsTooDeeplyNestedOrContainsCycles);
+        }
+        let end = u64::from(landing.start.at) + u64::from(words);
+        if end > u64::from(landing.start.length()) {
+            return Err(ErrorKind::MessageContainsOutOfBoundsPointer);
+        }
+        self.charge(u64::from(words), lim)
+    }
+
+    // Enters a struct.
+    fn enter_struct(
+        self,
+        landing: Landing<'a>,
+        depth: u32,
+        lim: &mut ReadLimiter,
+    ) -> Result<Object<'a>, ErrorKind>
+        requires held { IsHeld (source_segments A.segments self) landing.start }
+        requires is_struct { kind landing.word.0 ≡ 0 }
+        ensures object { IfOk result (λ x. IsOpened (source_segments A.segments self.entry) (source_charging A.charging self.entry) depth (target landing.entry) lim.old lim.new x) }
+        ensures few { IfOk result IsFew }
+        ensures refused { IfErr result (λ k. NotEntered (source_segments A.segments self.entry) (source_charging A.charging self.entry) depth (target landing.entry) lim.old lim.new (fault k self.entry)) }
+    {
+        match self.claim(landing, landing.word.struct_word_size(), depth, lim) {
+            Ok(()) => Ok(Object::Struct {
+                start: landing.start,
+                size: landing.word.struct_size(),
+            }),
+            Err(k) => Err(k),
+        }
+    }
+
+    // Enters a list.
+    fn enter_list(
+        self,
+        landing: Landing<'a>,
+        depth: u32,
+        lim: &mut ReadLimiter,
+    ) -> Result<Object<'a>, ErrorKind>
+        requires held { IsHeld (source_segments A.segments self) landing.start }
+        requires is_list { kind landing.word.0 ≡ 1 }
+        ensures object { IfOk result (λ x. IsOpened (source_segments A.segments self.entry) (source_charging A.charging self.entry) depth (target landing.entry) lim.old lim.new x) }
+        ensures few { IfOk result IsFew }
+        ensures refused { IfErr result (λ k. NotEntered (source_segments A.segments self.entry) (source_charging A.charging self.entry) depth (target landing.entry) lim.old lim.new (fault k self.entry)) }
+    {
+        match landing.word.list_element_size() {
+            ElementSize::InlineComposite => self.enter_structs(landing, depth, lim),
+            ElementSize::Pointer => self.enter_pointers(landing, depth, lim),
+            size => self.enter_flat(landing, size, depth, lim),
+        }
+    }
+
+    // Enters a list of elements without pointers.
+    fn enter_flat(
+        self,
+        landing: Landing<'a>,
+        size: ElementSize,
+        depth: u32,
+        lim: &mut ReadLimiter,
+    ) -> Result<Object<'a>, ErrorKind>
+        requires held { IsHeld (source_segments A.segments self) landing.start }
+        requires is_list { kind landing.word.0 ≡ 1 }
+        requires is_size { size_number size ≡ element_size landing.word.0 }
+        requires is_flat { size_number size ≤ 5 }
+        ensures object { IfOk result (λ x. IsOpened (source_segments A.segments self.entry) (source_charging A.charging self.entry) depth (target landing.entry) lim.old lim.new x) }
+        ensures few { IfOk result IsFew }
+        ensures refused { IfErr result (λ k. NotEntered (source_segments A.segments self.entry) (source_charging A.charging self.entry) depth (target landing.entry) lim.old lim.new (fault k self.entry)) }
+    {
+        let count = landing.word.list_element_count();
+        let bits = data_bits_per_element(size);
+        let words = (u64::from(count) * u64::from(bits) + 63) / 64;
+        match self.claim(landing, words as u32, depth, lim) {
+            Ok(()) => {}
+            Err(k) => return Err(k),
+        }
+        match self.charge_count(bits, count, lim) {
+            Ok(()) => Ok(Object::Flat {
+                start: landing.start,
+                size,
+                count,
+            }),
+            Err(k) => Err(k),
+        }
+    }
+
+    // Enters a list of pointers.
+    fn enter_pointers(
+        self,
+        landing: Landing<'a>,
+        depth: u32,
+        lim: &mut ReadLimiter,
+    ) -> Result<Object<'a>, ErrorKind>
+        requires held { IsHeld (source_segments A.segments self) landing.start }
+        requires is_list { kind landing.word.0 ≡ 1 }
+        requires of_pointers { element_size landing.word.0 ≡ 6 }
+        ensures object { IfOk result (λ x. IsOpened (source_segments A.segments self.entry) (source_charging A.charging self.entry) depth (target landing.entry) lim.old lim.new x) }
+        ensures few { IfOk result IsFew }
+        ensures refused { IfErr result (λ k. NotEntered (source_segments A.segments self.entry) (source_charging A.charging self.entry) depth (target landing.entry) lim.old lim.new (fault k self.entry)) }
+    {
+        let count = landing.word.list_element_count();
+        match self.claim(landing, count, depth, lim) {
+            Ok(()) => Ok(Object::Pointers {
+                start: landing.start,
+                count,
+            }),
+            Err(k) => Err(k),
+        }
+    }
+
+    // Enters a list of structs, whose first word is their tag.
+    fn enter_structs(
+        self,
+        landing: Landing<'a>,
+        depth: u32,
+        lim: &mut ReadLimiter,
+    ) -> Result<Object<'a>, ErrorKind>
+        requires held { IsHeld (source_segments A.segments self) landing.start }
+        requires is_list { kind landing.word.0 ≡ 1 }
+        requires of_structs { element_size landing.word.0 ≡ 7 }
+        ensures object { IfOk result (λ x. IsOpened (source_segments A.segments self.entry) (source_charging A.charging self.entry) depth (target landing.entry) lim.old lim.new x) }
+        ensures few { IfOk result IsFew }
+        ensures refused { IfErr result (λ k. NotEntered (source_segments A.segments self.entry) (source_charging A.charging self.entry) depth (target landing.entry) lim.old lim.new (fault k self.entry)) }
+    {
+        let words = landing.word.list_inline_composite_word_count();
+        match self.claim(landing, words + 1, depth, lim) {
+            Ok(()) => {}
+            Err(k) => return Err(k),
+        }
+        let tag = landing.start.word();
+        if tag.kind() != WirePointerKind::Struct {
+            return Err(ErrorKind::InlineCompositeListsOfNonStructTypeAreNotSupported);
+        }
+        let count = tag.inline_composite_list_element_count();
+        let width = tag.struct_word_size();
+        if u64::from(count) * u64::from(width) > u64::from(words) {
+            return Err(ErrorKind::InlineCompositeListsElementsOverrunItsWordCount);
+        }
+        match self.charge_count(width, count, lim) {
+            Ok(()) => Ok(Object::Structs {
+                start: Place {
+                    at: landing.start.at + 1,
+                    ..landing.start
+                },
+                size: tag.struct_size(),
+                count,
+            }),
+            Err(k) => Err(k),
+        }
+    }
+
+    // Charges the number of a list's elements where these have no width.
+    fn charge_count(self, width: u32, count: u32, lim: &mut ReadLimiter) -> Result<(), ErrorKind>
+        ensures exactly { IsOk result ↔ Affords (source_charging A.charging self.entry) lim.old (count_cost width count) }
+        ensures granted { OnOk result (lim.new ≡ charged (source_charging A.charging self.entry) lim.old (count_cost width count)) }
+        ensures refused { OnErr result (lim.new ≡ lim.old) }
+        ensures named { IfErr result (λ k. k ≡ ReadLimitExceeded) }
+    {
+        if width == 0 {
+            self.charge(u64::from(count), lim)
+        } else {
+            Ok(())
+        }
+    }
+}
+
+// How many levels a nesting limit leaves.
+fn depth_of(nesting_limit: i32) -> u32
+    ensures { result ≡ levels nesting_limit }
+{
+    nesting_limit.max(0) as u32
+}

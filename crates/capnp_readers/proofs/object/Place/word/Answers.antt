@@ -1,9 +1,0 @@
-use Rattle.std.proofs.Common.{sym, ◌∙◌, arith}
-use Rattle.std.proofs.lemmas.List.{get_or_past}
-use Rattle.capnp_words.specs.Bytes.{words_of}
-use Rattle.capnp_words.proofs.WordsOf.{words}
-use Rattle.capnp_readers.proofs.object.Place.word.Goals as goal
-
-pub returns-else-at-self : goal.returns-else-at-self
-returns-else-at-self c =
-    c.null.ensures ∙ sym (get_or_past (words_of c.args.self.bytes.now) c.args.self.at 0 (omega (arith, words c.args.self.bytes.now)))

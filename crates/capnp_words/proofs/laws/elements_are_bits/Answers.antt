@@ -1,6 +1,0 @@
--- The words of a list are its bytes.
-use Rattle.capnp_words.proofs.laws.elements_are_bits.Goals as goal
-use Rattle.capnp_words.proofs.BytesLemmas.{words_are_bytes}
-
-pub returns-clause-bytes : goal.returns-clause-bytes
-returns-clause-bytes c = words_are_bytes

@@ -1,0 +1,100 @@
+//! Worked messages, as hex digits, and the first steps of reading them.
+use capnp_arena::arena::{ReaderArena, ReaderArenaImpl, ReaderOptions};
+use capnp_readers::readers::{ListReader, PointerReader, StructReader, Target};
+use capnp_words::read_limiter::ReadLimiter;
+use std::alloc::Global;
+use std::process::Abort;
+use test_support::{Message, arena_of};
+
+pub const NULL_ROOT: &str = "0000000000000000";
+
+pub const STRUCT_OF_DATA: &str =
+    "0000000003000000 1111111111111111 0000000000000080 0000000000000000";
+
+pub const CAPABILITY: &str = "0300000005000000";
+
+pub const TWO_CHILDREN: &str =
+    "0000000000000200 0400000001000000 fcffffff00000000 eeeeeeeeeeeeeeee";
+
+pub const FAR: &str = "0200000001000000, 0000000001000000 0001020304050607";
+
+pub const DOUBLE_FAR: &str = "0e00000000000000 0800000000000000 0000000002000000";
+
+pub const STRUCTS: &str = "0100000017000000 0400000001000100 0900000000000000 0300000007000000";
+
+pub const SHORTS: &str =
+    "0100000027000000 0800000001000100 0000000000000000 0000000000000000 aaaaaaaaaaaaaaaa 0000000000000000";
+
+pub const NUMBERS: &str = "010000000d000000 0102030405060708";
+
+pub const POINTERS: &str =
+    "010000001e000000 0000000000000000 0400000002000000 0000000000000000 0900000000000000 0000000000000000";
+
+pub const MANY_VOIDS: &str = "01000000f8ffffff";
+
+pub const EMPTY_STRUCTS: &str = "0100000007000000 fcffffff00000000";
+
+/// The arena of a message, under the options by default.
+pub fn arena(rt: &impl Abort, alloc: Global, text: &str) -> ReaderArenaImpl<Message> {
+    arena_of(alloc, text, ReaderOptions::default()).expect(rt, "a message")
+}
+
+pub fn root<'a, A: ReaderArena>(
+    rt: &impl Abort,
+    arena: &'a A,
+    lim: &mut ReadLimiter,
+) -> PointerReader<'a, A> {
+    PointerReader::get_root_from_arena(arena, lim).expect(rt, "a root")
+}
+
+/// The struct that a pointer leads to.
+pub fn structure<'a, A: ReaderArena>(
+    rt: &impl Abort,
+    pointer: PointerReader<'a, A>,
+    lim: &mut ReadLimiter,
+) -> StructReader<'a, A> {
+    let Target::Struct(found) = pointer.next(lim).expect(rt, "an object") else {
+        panic!(rt; "a struct was expected");
+    };
+    found
+}
+
+/// The list that a pointer leads to.
+pub fn list<'a, A: ReaderArena>(
+    rt: &impl Abort,
+    pointer: PointerReader<'a, A>,
+    lim: &mut ReadLimiter,
+) -> ListReader<'a, A> {
+    let Target::List(found) = pointer.next(lim).expect(rt, "an object") else {
+        panic!(rt; "a list was expected");
+    };
+    found
+}
+
+/// The struct that the root leads to.
+pub fn root_struct<'a, A: ReaderArena>(
+    rt: &impl Abort,
+    arena: &'a A,
+    lim: &mut ReadLimiter,
+) -> StructReader<'a, A> {
+    let pointer = root(rt, arena, lim);
+    structure(rt, pointer, lim)
+}
+
+/// The list that the root leads to.
+pub fn root_list<'a, A: ReaderArena>(
+    rt: &impl Abort,
+    arena: &'a A,
+    lim: &mut ReadLimiter,
+) -> ListReader<'a, A> {
+    let pointer = root(rt, arena, lim);
+    list(rt, pointer, lim)
+}
+
+/// The name of a refusal.
+pub fn refusal<T: Copy, E>(read: Result<T, E>) -> Option<E> {
+    match read {
+        Ok(_) => None,
+        Err(kind) => Some(kind),
+    }
+}

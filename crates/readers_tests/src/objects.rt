@@ -1,0 +1,78 @@
+//! The objects that one pointer leads to, by the module that the readers stand on.
+use crate::messages::*;
+use capnp_arena::arena::ReaderArena;
+use capnp_readers::object::{Object, Place};
+use capnp_readers::readers::{DEFAULT_SEGMENT, PointerReader};
+use capnp_readers::source::Source;
+use capnp_words::error::ErrorKind;
+use capnp_words::read_limiter::ReadLimiter;
+
+/// Reads the object that a pointer leads to.
+fn object<'a, A: ReaderArena>(
+    pointer: PointerReader<'a, A>,
+    lim: &mut ReadLimiter,
+) -> Result<Object<'a>, ErrorKind> {
+    let source: Source<'a, A> = pointer.source;
+    let place: Place<'a> = pointer.place;
+    source.read_object(place, pointer.nesting_limit, lim)
+}
+
+/// A letter of an object, where it starts, and how many words, pointers or elements it has.
+fn shown(object: Object<'_>) -> (char, u32, u32) {
+    match object {
+        Object::Null => ('n', 0, 0),
+        Object::Capability(index) => ('c', 0, index),
+        Object::Struct { start, size } => ('s', start.at, size.total()),
+        Object::Flat {
+            start,
+            size: _,
+            count,
+        } => ('f', start.at, count),
+        Object::Pointers { start, count } => ('p', start.at, count),
+        Object::Structs {
+            start,
+            size: _,
+            count,
+        } => ('l', start.at, count),
+    }
+}
+
+#[test]
+fn of_each_kind(rt: HostRuntime) {
+    for (message, want) in [
+        (NULL_ROOT, ('n', 0, 0)),
+        (CAPABILITY, ('c', 0, 5)),
+        (STRUCT_OF_DATA, ('s', 1, 3)),
+        (FAR, ('s', 1, 1)),
+        (NUMBERS, ('f', 1, 1)),
+        (POINTERS, ('p', 1, 3)),
+        (STRUCTS, ('l', 2, 1)),
+    ] {
+        let arena = arena(&rt, rt.alloc(), message);
+        let mut lim = ReadLimiter::new(None);
+        let pointer = root(&rt, &arena, &mut lim);
+        let found = object(pointer, &mut lim).expect(&rt, "an object");
+        assert!(rt; shown(found) == want, "{message}");
+    }
+}
+
+#[test]
+fn where_pointers_are_read(rt: HostRuntime) {
+    let arena = arena(&rt, rt.alloc(), NUMBERS);
+    let pointer = root(&rt, &arena, &mut ReadLimiter::new(None));
+    assert!(rt; matches!(pointer.source, Source::Arena(_)));
+    assert!(rt; pointer.place.segment == 0);
+    assert!(rt; pointer.place.word().0 == 0x0000_000d_0000_0001);
+    assert!(rt; pointer.place.bytes.len() == 16);
+}
+
+#[test]
+fn where_a_default_is_read(rt: HostRuntime) {
+    let words = [0u8; 16];
+    let pointer: PointerReader<'_, capnp_arena::arena::NullArena> = PointerReader::from_default(
+        &words,
+    ).expect(&rt, "a default");
+    assert!(rt; matches!(pointer.source, Source::Default(_)));
+    assert!(rt; pointer.place.segment == DEFAULT_SEGMENT);
+    assert!(rt; pointer.place.length() == 2);
+}

@@ -1,0 +1,120 @@
+//! An allocator that refuses memory where a test wants it.
+ghost use Rattle.std.specs.Prelude.{◌≡◌};
+
+use capnp_arena::arena::{Allocator, HeapAllocator, HeapSegment, MAX_SEGMENT_WORDS, Segment};
+use capnp_words::error::ErrorKind;
+use std::cell::Cell;
+
+/// Which requests for memory are granted, as long as the heap has it.
+#[derive(Clone, Copy)]
+pub enum Granted {
+    /// The first so many requests, whether for segments or for rows.
+    Requests(u64),
+    /// All segments, and the first so many rows.
+    Rows(u64),
+}
+
+/// Makes segments on the heap. It counts what it grants and refuses, and notes what comes back.
+#[derive(Drop)]
+pub struct TestAllocator<'a> {
+    heap: HeapAllocator,
+    granted: Granted,
+    returned: &'a Cell<u64>,
+    refused: u64,
+}
+
+impl<'a> TestAllocator<'a> {
+    /// An allocator that has refused nothing yet. `returned` is to hold the words of each segment
+    /// that comes back, as two decimal digits behind those of the earlier ones.
+    pub fn new(heap: HeapAllocator, granted: Granted, returned: &'a Cell<u64>) -> Self
+        ensures { result.refused ≡ 0 }
+    {
+        TestAllocator {
+            heap,
+            granted,
+            returned,
+            refused: 0,
+        }
+    }
+
+    // Whether a segment is granted.
+    fn grants_segment(&mut self) -> bool
+        ensures heap { self.new.heap ≡ self.old.heap }
+        ensures refused { self.new.refused ≡ self.old.refused }
+    {
+        match self.granted {
+            Granted::Requests(0) => false,
+            Granted::Requests(n) => {
+                self.granted = Granted::Requests(n - 1);
+                true
+            }
+            Granted::Rows(_) => true,
+        }
+    }
+
+    // Whether a row is granted.
+    fn grants_row(&mut self) -> bool
+        ensures heap { self.new.heap ≡ self.old.heap }
+        ensures refused { self.new.refused ≡ self.old.refused }
+    {
+        match self.granted {
+            Granted::Requests(0) | Granted::Rows(0) => false,
+            Granted::Requests(n) => {
+                self.granted = Granted::Requests(n - 1);
+                true
+            }
+            Granted::Rows(n) => {
+                self.granted = Granted::Rows(n - 1);
+                true
+            }
+        }
+    }
+}
+
+impl Allocator for TestAllocator<'_> {
+    type Segment = HeapSegment;
+
+    ghost refusals = { λ a. a.refused };
+
+    ghost offers = { λ a. ⟦<HeapAllocator as Allocator>⟧.offers a.heap };
+
+    fn allocate_segment(&mut self, min_words: u32) -> Result<HeapSegment, ErrorKind> {
+        if min_words > MAX_SEGMENT_WORDS {
+            return Err(ErrorKind::MessageTooLarge(min_words as usize));
+        }
+        if self.grants_segment() {
+            if let Ok(segment) = self.heap.allocate_segment(min_words) {
+                return Ok(segment);
+            }
+        }
+        self.refused = self.refused.saturating_add(1);
+        Err(ErrorKind::AllocationFailed)
+    }
+
+    fn deallocate_segment(&mut self, segment: HeapSegment, _used_words: u32) {
+        let words = (segment.bytes().len() / 8) as u64;
+        let returned = self.returned.get();
+        self.returned
+            .set(returned.wrapping_mul(100).wrapping_add(words));
+        drop(segment);
+    }
+
+    fn keep<T>(&mut self, list: &mut Vec<T>, row: T) -> Option<T> {
+        if !self.grants_row() {
+            self.refused = self.refused.saturating_add(1);
+            return Some(row);
+        }
+        match list.push(row) {
+            Ok(()) => None,
+            Err(e) => {
+                self.refused = self.refused.saturating_add(1);
+                let row = e.value;
+                Some(row)
+            }
+        }
+    }
+
+    fn refused(&self) -> u64 {
+        self.refused
+    }
+}
