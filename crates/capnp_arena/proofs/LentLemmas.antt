@@ -21,9 +21,9 @@ module _ {S : Type 0} (g : Ghosts S) where
 
 module _ {X Y : Type 0} (a : Allocates X Y) (g : Ghosts Y) where
   -- an arena of which a row was lent
-  pub lent_arena : (b : BuilderArenaImpl X Y a g) (i : ℕ) (r : Row Y g) (ws : List ℕ) → i < length b.rows.items → r ≡ get_or b.rows.items i r → (few : length (with_item b.rows i (with_allocated g r ws)).items ≤ max_segments) →
+  pub lent_arena : (b : BuilderArenaImpl X Y a g) (i : ℕ) {r : Row Y g} (ws : List ℕ) → i < length b.rows.items → r ≡ get_or b.rows.items i r → (few : length (with_item b.rows i (with_allocated g r ws)).items ≤ max_segments) →
       (let B : Type 0 = BuilderArenaImpl X Y a g in ◌≡◌ {A = B} (record { alloc = b.alloc; allocator = b.allocator; rows = with_item b.rows i (with_allocated g r ws); few = few }) (record { alloc = b.alloc; allocator = b.allocator; rows = with_row g b.rows i ws; few = few_with_row g b.rows i ws b.few }))
-  lent_arena b i r ws l e few =
+  lent_arena b i {r} ws l e few =
       let B : Type 0 = BuilderArenaImpl X Y a g in
       let lent : Vec (Row Y g) = with_item b.rows i (with_allocated g r ws) in
       subst (λ (v : Vec (Row Y g)). (k : length v.items ≤ max_segments) → ◌≡◌ {A = B} (record { alloc = b.alloc; allocator = b.allocator; rows = lent; few = few }) (record { alloc = b.alloc; allocator = b.allocator; rows = v; few = k }))

@@ -48,9 +48,8 @@ pub ruleset taking = (more_row, more_words)
 
 module _ {S : Type 0} (g : Ghosts S) where
   -- a segment that ends with other bytes
-  pub content_row : (s : S) (used : ℕ) (bytes new : List ℕ) → IsRow used (g.content s) → bytes ≡ g.content s → length new ≡ length bytes → drop (8 * used) new ≡ drop (8 * used) bytes → IsRow used (g.content (g.with_content s new))
-  content_row s used bytes new row same l e =
-      subst (IsRow used) (sym (g.holds s new (l ∙ ap length same))) (same_row used (g.content s) new row (l ∙ ap length same) (e ∙ ap (drop (8 * used)) same))
+  pub content_row : (s : S) (used : ℕ) (new : List ℕ) → IsRow used (g.content s) → length new ≡ length (g.content s) → drop (8 * used) new ≡ drop (8 * used) (g.content s) → IsRow used (g.content (g.with_content s new))
+  content_row s used new row l e = subst (IsRow used) (sym (g.holds s new l)) (same_row used (g.content s) new row l e)
 
   pub content_is : (s : S) (bytes new : List ℕ) → bytes ≡ g.content s → length new ≡ length bytes → g.content (g.with_content s new) ≡ new
   content_is s bytes new same l = g.holds s new (l ∙ ap length same)

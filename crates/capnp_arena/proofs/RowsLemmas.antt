@@ -1,11 +1,9 @@
 -- The rows of a builder arena: one read, one changed, one more.
-use Rattle.std.proofs.Common.{◌≡◌, ℕ, ◌+◌, ◌/◌, ◌<◌, ◌≤◌, List, [], ◌∷◌, zero, suc, ◌++◌, length, get_or, set, map, take, refl, sym, ap, ◌∙◌, arith, slice_get, Some, ◌^◌}
+use Rattle.std.proofs.Common.{◌≡◌, ℕ, ◌+◌, ◌/◌, ◌<◌, ◌≤◌, List, [], ◌∷◌, zero, suc, ◌++◌, length, get_or, set, take, refl, sym, ap, ◌∙◌, arith, slice_get, Some, ◌^◌}
 use Rattle.capnp_format.specs.Bytes.{words_of, message}
 use Rattle.capnp_format.specs.Segments.{segment}
 use Rattle.capnp_format.proofs.WordsOf.{words}
 use Rattle.capnp_arena.specs.Row.{allocated, capacity, shown, capacity_at}
-use Rattle.std.specs.Borrow.{Bor}
-use Rattle.std.proofs.lemmas.List.{map-append}
 use Rattle.capnp_arena.specs.Allocations.{max_segments}
 use Rattle.capnp_arena.specs.Limits.{IsSmall}
 use Rattle.capnp_arena.specs.Checks.{total_words}
@@ -77,21 +75,16 @@ module _ {S : Type 0} (g : Ghosts S) where
   row_small r = omega (arith, r.clear.0, r.clear.1)
 
   -- one row more goes out
-  pub shown_more : (rows : List (Row S g)) (i : ℕ) (r : Row S g) (segments : List (Bor (List ℕ))) (s : Bor (List ℕ)) → i < length rows → r ≡ get_or rows i r → s.now ≡ allocated g r →
-      map (λ (b : Bor (List ℕ)). b.now) segments ≡ take i (shown g rows) → map (λ (b : Bor (List ℕ)). b.now) (segments ++ s ∷ []) ≡ take (i + 1) (shown g rows)
-  shown_more rows i r segments s l e same before =
-      map-append (λ (b : Bor (List ℕ)). b.now) segments (s ∷ [])
-      ∙ ap (λ (B : List (List ℕ)). B ++ s.now ∷ []) before
-      ∙ ap (λ (x : List ℕ). take i (shown g rows) ++ x ∷ []) (same ∙ ap (allocated g) e)
-      ∙ sym (go rows i r l ∙ refl)
+  pub shown_more : (rows : List (Row S g)) (i : ℕ) {r : Row S g} → i < length rows → r ≡ get_or rows i r → take (i + 1) (shown g rows) ≡ take i (shown g rows) ++ allocated g r ∷ []
+  shown_more rows i {r} l e =
+      ap (λ n. take n (shown g rows)) (let next : i + 1 ≡ suc i = omega arith in next)
+      ∙ step rows i r l
+      ∙ ap (λ (q : Row S g). take i (shown g rows) ++ allocated g q ∷ []) (sym e)
     where
-      go : (rows : List (Row S g)) (i : ℕ) (d : Row S g) → i < length rows → take (i + 1) (shown g rows) ≡ take i (shown g rows) ++ allocated g (get_or rows i d) ∷ []
-      go rows i d l = ap (λ n. take n (shown g rows)) (let next : i + 1 ≡ suc i = omega arith in next) ∙ step rows i d l
-        where
-          step : (rows : List (Row S g)) (i : ℕ) (d : Row S g) → i < length rows → take (suc i) (shown g rows) ≡ take i (shown g rows) ++ allocated g (get_or rows i d) ∷ []
-          step [] i d l = absurd (omega arith)
-          step (r ∷ rows) zero d l = refl
-          step (r ∷ rows) (suc i) d l = ap (λ B. allocated g r ∷ B) (step rows i d (omega arith))
+      step : (rows : List (Row S g)) (i : ℕ) (d : Row S g) → i < length rows → take (suc i) (shown g rows) ≡ take i (shown g rows) ++ allocated g (get_or rows i d) ∷ []
+      step [] i d l = absurd (omega arith)
+      step (r ∷ rows) zero d l = refl
+      step (r ∷ rows) (suc i) d l = ap (λ B. allocated g r ∷ B) (step rows i d (omega arith))
 
   -- the segments of rows keep a reader's limits
   pub shown_small : (rows : List (Row S g)) → length rows ≤ max_segments → IsSmall (shown g rows)

@@ -48,8 +48,8 @@ message-append (b ∷ B) C = ap (λ M. words_of b ∷ M) (message-append B C)
 pub ruleset pushed = (shown_pushed, room_pushed, room_below)
 
 -- words taken in the segment that was put behind the others
-pub taken_another : (B C D : List (List ℕ)) (n amount : ℕ) → C ≡ B ++ [] ∷ [] → n ≡ length B → message D ≡ extended (message C) n (replicate amount 0) → message D ≡ with_another (message B) amount
-taken_another B C D n amount pushed e taken =
+pub taken_another : (B : List (List ℕ)) {C : List (List ℕ)} (D : List (List ℕ)) {n : ℕ} (amount : ℕ) → C ≡ B ++ [] ∷ [] → n ≡ length B → message D ≡ extended (message C) n (replicate amount 0) → message D ≡ with_another (message B) amount
+taken_another B D {n} amount pushed e taken =
     taken ∙ ap (λ M. extended M n (replicate amount 0)) (ap message pushed ∙ message-append B ([] ∷ []))
     ∙ ap (λ i. extended (message B ++ [] ∷ []) i (replicate amount 0)) (e ∙ sym (length-message B))
     ∙ extended_another (message B) (replicate amount 0)

@@ -27,12 +27,12 @@ pointers-with_last k ts u =
 pub bodies-with_last : (ts : Trees) (u : Tree) → bodies (with_last ts u) ≡ bodies ts ++ body u
 bodies-with_last ts u = ap bodies (with_last-append ts u) ∙ bodies-append ts (tree u no_trees) ∙ ap (λ ws. bodies ts ++ ws) (append-nil (body u))
 
-put_between : (F P R B U : List ℕ) (y x n : ℕ) → length (F ++ P) ≡ n → set (F ++ P ++ (y ∷ R) ++ B ++ U) n x ≡ F ++ (P ++ x ∷ []) ++ R ++ (B ++ U)
-put_between F P R B U y x n l =
-    let rest = R ++ (B ++ U) in
-    let before : F ++ P ++ (y ∷ R) ++ B ++ U ≡ F ++ P ++ (y ∷ rest) = simp append_assoc in
-    let after : F ++ P ++ (x ∷ rest) ≡ F ++ (P ++ x ∷ []) ++ R ++ (B ++ U) = simp append_assoc in
-    ap (λ ws. set ws n x) before ∙ set_at (F ++ P) y rest x n l ∙ after
+-- a word between others, behind the words before it or as their last
+opened : (F P R B U : List ℕ) (x : ℕ) → F ++ P ++ (x ∷ R) ++ B ++ U ≡ F ++ P ++ (x ∷ (R ++ (B ++ U)))
+opened F P R B U x = simp append_assoc
+
+closed : (F P R B U : List ℕ) (x : ℕ) → F ++ P ++ (x ∷ (R ++ (B ++ U))) ≡ F ++ (P ++ x ∷ []) ++ R ++ (B ++ U)
+closed F P R B U x = simp append_assoc
 
 heads : (ws : List ℕ) (at k : ℕ) (ts : Trees) → at ≤ length ws → length (take at ws ++ pointers k ts) ≡ at + count ts
 heads ws at k ts l = omega (arith, length-append (take at ws) (pointers k ts), length-take at ws, length-pointers k ts)
@@ -55,9 +55,9 @@ length_children ws at ts v l =
     )
 
 -- the next child copied, with its pointer behind those that are there
-pub child_added : (ws : List ℕ) (at : ℕ) (ts : Trees) (u : Tree) → AreShaped ts → at + count ts < length ws → length (with_children ws at ts) < 2 ^ 29 →
+pub child_added : (ws : List ℕ) (at : ℕ) (ts : Trees) (u : Tree) → AreShaped ts → (at + count ts < length ws) × (length (with_children ws at ts) < 2 ^ 29) →
     copied (with_children ws at ts) (at + count ts) u ≡ with_children ws at (with_last ts u)
-child_added ws at ts u v l small =
+child_added ws at ts u v (l, small) =
     let p = at + count ts in
     let k = length ws - (p + 1) in
     let more : length ws - p ≡ suc k = omega arith in
@@ -73,7 +73,9 @@ child_added ws at ts u v l small =
     ap (λ i. pointers i ts ++ pointer u (k + word_count_all ts) ∷ []) more ∙ sym (pointers-with_last k ts u) in
     let n : at + count (with_last ts u) ≡ p + 1 = omega (arith, count-with_last ts u) in
     ap₂ (λ xs y. set xs p y) shape x
-    ∙ put_between F P R (bodies ts) (body u) (get_or ws p 0) (pointer u (k + word_count_all ts)) p (heads ws at (length ws - p) ts (omega arith))
+    ∙ ap (λ xs. set xs p (pointer u (k + word_count_all ts))) (opened F P R (bodies ts) (body u) (get_or ws p 0))
+    ∙ set_at (F ++ P) (get_or ws p 0) (R ++ (bodies ts ++ body u)) (pointer u (k + word_count_all ts)) p (heads ws at (length ws - p) ts (omega arith))
+    ∙ closed F P R (bodies ts) (body u) (pointer u (k + word_count_all ts))
     ∙ ap₂ (λ xs ys. F ++ xs ++ R ++ ys) first (sym (bodies-with_last ts u))
     ∙ ap (λ i. F ++ pointers (length ws - i) (with_last ts u) ++ drop i ws ++ bodies (with_last ts u)) (sym n)
 

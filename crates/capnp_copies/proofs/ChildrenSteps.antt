@@ -14,8 +14,7 @@ use Rattle.capnp_objects.specs.Outcomes.{Reads, Refused, Spends}
 use Rattle.capnp_objects.specs.Reading.{Reading, behind}
 use Rattle.capnp_objects.specs.Wanted.{canonical}
 use Rattle.capnp_objects.proofs.Copies.{read_none, read_more, read_stop, spends_on}
-use Rattle.capnp_objects.proofs.Budgets.{pointers_within_all}
-use Rattle.capnp_objects.specs.Spending.{pointers_in_all}
+use Rattle.capnp_objects.proofs.Budgets.{pointers_within_all, paid_all}
 use Rattle.capnp_copies.specs.Copied.{copied, with_children}
 use Rattle.capnp_copies.specs.Frames.{KeepsLimits}
 use Rattle.capnp_copies.specs.Parts.{Call, call_of, CopiesValue, StopsAtValue, CopiesChildren, StopsAtChildren}
@@ -35,7 +34,7 @@ no_child r v id at m = record {
 }
 
 shaped : {r : Reading} {i at : ℕ} {c : Call} (first : CopiesChildren r i c at) → AreShaped (trim_each first.children)
-shaped {r} first = trim_each-shaped first.children (all_shaped r.segments r.levels r.segment r.at first.children first.are_read.cost first.are_read.means)
+shaped {r} first = trim_each-shaped first.children (all_shaped r first.children first.are_read.cost first.are_read.means)
 
 -- the words of the segment, once the first children are copied
 now : {r : Reading} {old mid : View} {id i at : ℕ} {m m' : Meter} → IsPlace old.words id (at + i) → (first : CopiesChildren r i (call_of old mid id m m') at) → segment mid.words id ≡ with_children (segment old.words id) at (trim_each first.children)
@@ -61,9 +60,9 @@ child_copied {r} {old} {mid} {new} {id} {i} {at} {m} {m'} {m''} place few first 
       counts = count-with_last ts u ∙ omega arith;
       are_read = read_more first.are_read here;
       made =
-          then_written old.words mid.words new.words id X (λ xs. copied xs (at + count ts) (trim u)) (there old.words id (at + i) place) first.made put
+          then_written old.words id X (λ xs. copied xs (at + count ts) (trim u)) (there old.words id (at + i) place, first.made) put
           ∙ ap (with_segment old.words id)
-          (ap (λ j. copied X j (trim u)) (sym n) ∙ child_added W at (trim_each ts) (trim u) (shaped first) (omega arith) fits ∙ ap (with_children W at) (sym (trim_each-with_last ts u)));
+          (ap (λ j. copied X j (trim u)) (sym n) ∙ child_added W at (trim_each ts) (trim u) (shaped first) (omega arith, fits) ∙ ap (with_children W at) (sym (trim_each-with_last ts u)));
     }
 
 -- the words behind the pointers that are set are as before
@@ -82,7 +81,7 @@ child_stops {r} {old} {mid} {new} {id} {i} {at} {n} {m} {m'} {m''} {name} {k} pl
     let fewer : count ts < n = omega (arith, first.counts) in
     record {
       why = elim one [
-        | inl x ↦ inl (x.0, x.1, x.2, too_large_child r n (length (segment old.words id)) (old.room id) ts first.are_read.cost first.are_read.means fewer (subst (λ y. IsTooLarge (behind r (count ts)) y (old.room id)) long x.3))
+        | inl x ↦ inl (x.0, x.1, x.2, too_large_child n (length (segment old.words id)) (old.room id) first.are_read fewer (subst (λ y. IsTooLarge (behind r (count ts)) y (old.room id)) long x.3))
         | inr x ↦ inr (read_stop n first.are_read fewer x)
       ];
     }
@@ -91,7 +90,7 @@ pub child_spends : {r : Reading} {old mid : View} {id i at n : ℕ} {m m' : Mete
 child_spends {r} {n = n} {m = m} {m' = m'} m'' less first spent =
     let ts : Trees = first.children in
     let read = first.are_read in
-    spends_on r.charging m m' m'' read.cost (pointers_in_all ts) (count ts) 1 n read.covers read.spent (pointers_within_all r.segments r.levels r.segment r.at ts read.cost read.means) (omega (arith, first.counts)) spent
+    spends_on (count ts) 1 (paid_all read) (pointers_within_all r ts read.cost read.means) (omega (arith, first.counts)) spent
 
 pub child_kept : {r : Reading} {old mid : View} {L : Segments} {id i at : ℕ} {m m' : Meter} → IsPlace old.words id (at + i) → CopiesChildren r i (call_of old mid id m m') at → IsSameBelow mid.words L id (length (segment mid.words id)) → IsSameBelow old.words L id at
 child_kept {r} {old} {mid} {L} {id} {i} {at} place first (more, below) =
@@ -102,6 +101,6 @@ child_kept {r} {old} {mid} {L} {id} {i} {at} place first (more, below) =
     let shape : X ≡ take at W ++ rest = simp append_assoc in
     let whole : take (length X) X ≡ take at W ++ rest = take_all (length X) X (omega arith) ∙ shape in (
       rest ++ more,
-      then_written old.words mid.words L id X (λ xs. take (length xs) xs ++ more) (there old.words id (at + i) place) first.made below
+      then_written old.words id X (λ xs. take (length xs) xs ++ more) (there old.words id (at + i) place, first.made) below
           ∙ ap (λ xs. with_segment old.words id xs) (ap (λ xs. xs ++ more) whole ∙ append_assoc (take at W) rest more),
     )

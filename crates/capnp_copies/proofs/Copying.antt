@@ -9,11 +9,11 @@ use Rattle.capnp_words.specs.Meter.{Meter}
 use Rattle.capnp_arena.specs.Written.{with_segment, extended}
 use Rattle.capnp_copies.specs.Copied.{copied}
 use Rattle.capnp_copies.proofs.Shapes.{means_shaped, trim-shaped, length-body}
-use Rattle.capnp_arena.specs.View.{View}
 use Rattle.capnp_objects.specs.Outcomes.{Reads, Refused}
 use Rattle.capnp_objects.specs.Reading.{Reading}
 use Rattle.capnp_objects.specs.Wanted.{canonical}
 use Rattle.capnp_copies.specs.Copies.{IsCopied, CanBeCopied}
+use Rattle.capnp_copies.specs.Parts.{Call, CopiesValue, StopsAtValue}
 use Rattle.capnp_copies.specs.Rooms.{IsTooLarge, LacksRoom}
 
 -- segments
@@ -39,14 +39,16 @@ pub length-copied : (ws : List ℕ) (p : ℕ) (t : Tree) → length (copied ws p
 length-copied ws p t = length-set (ws ++ body t) p (pointer t (offset_to p (length ws))) ∙ length-append ws (body t)
 
 -- how long the segment of a copy is
-pub length-made : (M M' : Segments) (id at : ℕ) (t : Tree) → IsPlace M id at → IsCopied M M' id at t → length (segment M' id) ≡ length (segment M id) + length (body (trim t))
-length-made M M' id at t l e =
+pub length-made : {M' : Segments} (M : Segments) (id at : ℕ) (t : Tree) → IsPlace M id at → IsCopied M M' id at t → length (segment M' id) ≡ length (segment M id) + length (body (trim t))
+length-made M id at t l e =
     ap (λ S. length (segment S id)) e ∙ ap length (segment_written M id (copied (segment M id) at (trim t)) (there M id at l)) ∙ length-copied (segment M id) at (trim t)
 
 -- a copy that was made is one that can be
-pub can_be_copied : {r : Reading} {m m' : Meter} (M M' : Segments) (id at room : ℕ) → IsPlace M id at → length (segment M' id) ≤ room → (t : Tree) × Reads canonical r m m' t × IsCopied M M' id at t → CanBeCopied r m (length (segment M id)) room
-can_be_copied {r} M M' id at room l fits (t, a, made) =
-    (t, a.cost, a.means, a.takes tt, a.covers, omega (arith, length-made M M' id at t l made, length-body (trim t) (trim-shaped t (means_shaped r.segments r.levels r.segment r.at t a.cost a.means))))
+pub can_be_copied : {r : Reading} {c : Call} {at : ℕ} → CopiesValue r c at → IsPlace c.old.words c.id at → length (segment c.new.words c.id) ≤ c.old.room c.id → CanBeCopied r c.before (length (segment c.old.words c.id)) (c.old.room c.id)
+can_be_copied {r} {c} {at} copies l fits =
+    let t : Tree = copies.value in
+    let a = copies.is_read in
+    (t, a.cost, a.means, a.takes tt, a.covers, omega (arith, length-made c.old.words c.id at t l copies.made, length-body (trim t) (trim-shaped t (means_shaped r t a.cost a.means))))
 
 -- one that can be is not refused
 pub not_too_large : (r : Reading) (m : Meter) (used room : ℕ) → CanBeCopied r m used room → IsTooLarge r used room → ⊥
@@ -56,24 +58,37 @@ pub not_refused : {r : Reading} {m m' : Meter} {k : ErrorKind} (used room : ℕ)
 not_refused used room (t, c, means, free, covers, fits) refused = refused.only t c means (λ e. free) covers
 
 -- a copy into one fresh word is the canonical words
-pub fresh_made : (M M' : Segments) (id at : ℕ) (t : Tree) → IsPlace M id at → segment M id ≡ 0 ∷ [] → IsCopied M M' id at t → segment M' id ≡ encoding (trim t)
-fresh_made M M' id at t l one e =
+pub fresh_made : {M' : Segments} (M : Segments) (id at : ℕ) (t : Tree) → IsPlace M id at × (segment M id ≡ 0 ∷ []) → IsCopied M M' id at t → segment M' id ≡ encoding (trim t)
+fresh_made M id at t (l, one) e =
     let first : at ≡ 0 = omega (arith, ap length one) in
     ap (λ S. segment S id) e ∙ segment_written M id (copied (segment M id) at (trim t)) (there M id at l) ∙ ap₂ (λ ws p. copied ws p (trim t)) one first
 
 -- the same of a result
-pub fresh_exactly : {X : Type 0} (r : Result X ErrorKind) (P : Tree → Type 0) (M M' : Segments) (id at : ℕ) → IsPlace M id at → segment M id ≡ 0 ∷ [] → IfOk r (λ _. (t : Tree) × P t × IsCopied M M' id at t) →
-    IfOk r (λ _. (t : Tree) × P t × (segment M' id ≡ encoding (trim t)))
-fresh_exactly (Ok x) P M M' id at l one (t, is, made) = (t, is, fresh_made M M' id at t l one made)
-fresh_exactly (Err k) P M M' id at l one made = tt
+pub fresh_exactly : {X : Type 0} (P : Tree → Type 0) (o : Result X ErrorKind) (c : Call) (at : ℕ) → IsPlace c.old.words c.id at × (segment c.old.words c.id ≡ 0 ∷ []) →
+    IfOk o (λ _. (t : Tree) × P t × IsCopied c.old.words c.new.words c.id at t) → IfOk o (λ _. (t : Tree) × P t × (segment c.new.words c.id ≡ encoding (trim t)))
+fresh_exactly P (Ok x) c at one (t, is, made) = (t, is, fresh_made c.old.words c.id at t one made)
+fresh_exactly P (Err k) c at one made = tt
 
-refused_rightly : {r : Reading} {m m' : Meter} (B C : View) (id : ℕ) (k name : ErrorKind) → CanBeCopied r m (length (segment B.words id)) (B.room id) → LacksRoom B C id k (IsTooLarge r) ⊎ Refused canonical r m m' name → ⊥
-refused_rightly {r} {m} {m'} B C id k name can (inl (w, e, full, large)) = not_too_large r m (length (segment B.words id)) (B.room id) can large
-refused_rightly B C id k name can (inr x) = not_refused (length (segment B.words id)) (B.room id) can x
+-- How a copy to a place that is there ended: it is made, within the room, or refused.
+pub record CopyEnds (X : Type 0) (o : Result X ErrorKind) (r : Reading) (c : Call) (at : ℕ) (name : ErrorKind → ErrorKind) : Type 0 where
+  pub place : IsPlace c.old.words c.id at
+  pub fits : length (segment c.new.words c.id) ≤ c.old.room c.id
+  pub made : IfOk o (λ _. (t : Tree) × Reads canonical r c.before c.after t × IsCopied c.old.words c.new.words c.id at t)
+  pub refused : IfErr o (λ k. LacksRoom c.old c.new c.id k (IsTooLarge r) ⊎ Refused canonical r c.before c.after (name k))
+
+refused_rightly : {r : Reading} {c : Call} {name : ErrorKind → ErrorKind} {k : ErrorKind} → StopsAtValue r c name k → CanBeCopied r c.before (length (segment c.old.words c.id)) (c.old.room c.id) → ⊥
+refused_rightly {r} {c} stop can =
+    elim stop.why [
+      | inl x ↦ not_too_large r c.before (length (segment c.old.words c.id)) (c.old.room c.id) can x.3
+      | inr x ↦ not_refused (length (segment c.old.words c.id)) (c.old.room c.id) can x
+    ]
 
 -- a copy is made exactly where there can be one
-pub copied_exactly : {X : Type 0} (r : Reading) (m m' : Meter) (o : Result X ErrorKind) (B C : View) (id at : ℕ) (name : ErrorKind → ErrorKind) → IsPlace B.words id at → length (segment C.words id) ≤ B.room id →
-    IfOk o (λ _. (t : Tree) × Reads canonical r m m' t × IsCopied B.words C.words id at t) → IfErr o (λ k. LacksRoom B C id k (IsTooLarge r) ⊎ Refused canonical r m m' (name k)) →
-    IsOk o ↔ CanBeCopied r m (length (segment B.words id)) (B.room id)
-copied_exactly r m m' (Ok x) B C id at name l fits made refused = (λ _. can_be_copied B.words C.words id at (B.room id) l fits made, λ _. refl)
-copied_exactly r m m' (Err k) B C id at name l fits made refused = (λ f. absurd (cc f), λ can. absurd (refused_rightly B C id k (name k) can refused))
+pub copied_exactly : {X : Type 0} (o : Result X ErrorKind) {r : Reading} {c : Call} {at : ℕ} {name : ErrorKind → ErrorKind} → CopyEnds X o r c at name →
+    IsOk o ↔ CanBeCopied r c.before (length (segment c.old.words c.id)) (c.old.room c.id)
+copied_exactly (Ok x) {r} {c} {at} ends =
+    let copies : CopiesValue r c at = record { value = ends.made.0; is_read = ends.made.1; made = ends.made.2 } in
+    (λ _. can_be_copied copies ends.place ends.fits, λ _. refl)
+copied_exactly (Err k) {r} {c} {at} {name} ends =
+    let stop : StopsAtValue r c name k = record { why = ends.refused } in
+    (λ f. absurd (cc f), λ can. absurd (refused_rightly stop can))

@@ -14,8 +14,7 @@ use Rattle.capnp_arena.specs.Written.{with_segment, with_words, overwritten}
 use Rattle.capnp_objects.specs.Outcomes.{ReadsAll, ReadsElements, RefusedAll, Spends}
 use Rattle.capnp_objects.specs.Reading.{Reading, behind, row, words_from, pointers_of, sized}
 use Rattle.capnp_objects.specs.Wanted.{canonical}
-use Rattle.capnp_objects.specs.Spending.{pointers_in_elements}
-use Rattle.capnp_objects.proofs.Budgets.{pointers_within_elements}
+use Rattle.capnp_objects.proofs.Budgets.{pointers_within_elements, paid_elements}
 use Rattle.capnp_objects.proofs.Copies.{spends_on, read_none, read_no_element, read_element_stop, with_last_element}
 use Rattle.capnp_copies.specs.Copied.{with_children, rows_laid}
 use Rattle.capnp_copies.specs.Frames.{KeepsLimits}
@@ -24,8 +23,8 @@ use Rattle.capnp_copies.specs.Rooms.{IsSameBelow, AreTooLarge, AreTooLargeElemen
 use Rattle.capnp_copies.specs.Widths.{pointers_used}
 use Rattle.capnp_copies.specs.declared.widths.ElementSizes.{ElementSizes}
 use Rattle.capnp_copies.proofs.Copying.{there}
-use Rattle.capnp_copies.proofs.ElementsCopied.{another, pointers_within, element_put}
-use Rattle.capnp_copies.proofs.ElementsLaid.{cut_count, rows_begun, length_laid, row_null, next_element_words, blank_rows, words_taken}
+use Rattle.capnp_copies.proofs.ElementsCopied.{SourceFits, another, pointers_within, element_put}
+use Rattle.capnp_copies.proofs.ElementsLaid.{Laid, cut, cut_count, rows_begun, length_laid, row_null, next_element_words, blank_rows, words_taken}
 use Rattle.capnp_copies.proofs.RoomLemmas.{Wants}
 use Rattle.capnp_copies.proofs.SegmentsWritten.{then_written, words_written, not_written}
 use Rattle.capnp_copies.proofs.UsedChildren.{used_children, take_trees-trim, means_taken, refused_used}
@@ -51,7 +50,7 @@ element_copied {r} {sizes} {old} {mid} {new} {id} {at} {us} put children =
       counts = children.counts;
       are_read = children.are_read;
       made =
-          then_written old.words mid.words new.words id (overwritten W at us) (λ xs. with_children xs (at + e) (trim_each ts)) (there old.words id at put.place) (ap (λ (v : View). v.words) put.writes) children.made
+          then_written old.words id (overwritten W at us) (λ xs. with_children xs (at + e) (trim_each ts)) (there old.words id at put.place, ap (λ (v : View). v.words) put.writes) children.made
           ∙ ap (λ xs. with_segment old.words id (with_children (overwritten W at xs) (at + e) (trim_each ts))) put.are_words;
     }
 
@@ -62,7 +61,7 @@ element_kept {old = old} {mid = mid} {L = L} {id = id} {at = at} {us = us} n put
     let rest : List ℕ = drop (length us) (drop at W) in
     let shape : overwritten W at us ≡ (F ++ us) ++ rest = sym (append_assoc F us rest) in (
       us ++ more,
-      then_written old.words mid.words L id (overwritten W at us) (λ xs. take n xs ++ more) (there old.words id at put.place) (ap (λ (v : View). v.words) put.writes) below
+      then_written old.words id (overwritten W at us) (λ xs. take n xs ++ more) (there old.words id at put.place, ap (λ (v : View). v.words) put.writes) below
           ∙ ap (λ xs. with_segment old.words id (xs ++ more)) (ap (take n) shape ∙ take_at (F ++ us) rest n (omega (arith, put.counts, length-append F us, length-take at W)))
           ∙ ap (with_segment old.words id) (append_assoc F us more),
     )
@@ -94,7 +93,7 @@ no_row {r} {sizes} {n} {v} {id} {at} {m} fits null = record {
   made =
       not_written v.words id
       ∙ ap (with_segment v.words id)
-      (rows_begun (segment v.words id) at n sizes.kept.data_words sizes.kept.pointers fits.room null
+      (rows_begun (segment v.words id) at n sizes.kept fits.room null
       ∙ ap (rows_laid (take at (segment v.words id)) sizes.kept.data_words sizes.kept.pointers no_elements) (let e : n ≡ n - 0 = omega arith in e));
 }
 
@@ -122,7 +121,8 @@ blank_elements : {r : Reading} {sizes : ElementSizes} {n at : ℕ} {W : List ℕ
 blank_elements {r} {sizes} zero m le fits none = record { all = no_elements; counts = refl; are_read = read_no_element canonical r sizes.source m }
 blank_elements {r} {sizes} {n} (suc j) m le fits none =
     let b = blank_elements j m (omega arith) fits none in
-    let a = another (sized 0 0) n b.are_read (omega (arith, b.counts)) fits.inside (omega (arith, fits.used)) refl (omega arith) (read_none canonical (pointers_of r sizes.source (element_count b.all)) m) in
+    let no_pointers : SourceFits r sizes.source (sized 0 0) n = record { inside = fits.inside; used = omega (arith, fits.used); less = omega arith } in
+    let a = another no_pointers b.are_read (omega (arith, b.counts)) refl (read_none canonical (pointers_of r sizes.source (element_count b.all)) m) in
     record { all = a.all; counts = a.counts ∙ ap suc b.counts; are_read = a.are_read }
 
 pub no_width : {r : Reading} {sizes : ElementSizes} {n : ℕ} {v : View} {id at : ℕ} {m : Meter} → ElementsFit r sizes n (segment v.words id) at → sizes.kept.data_words + sizes.kept.pointers ≡ 0 → CopiesElements r sizes n (call_of v v id m m) at
@@ -159,10 +159,6 @@ pub record NextRow (old mid : View) (sizes : ElementSizes) (id at i w : ℕ) (es
   pub room : at + i * w + (sizes.kept.data_words + sizes.kept.pointers) ≤ length (segment mid.words id)
   pub null : (j : ℕ) → j < sizes.kept.pointers → word_at mid.words id (at + i * w + sizes.kept.data_words + j) ≡ 0
 
--- the elements of a list in the sections of its copy
-abbrev pub cut : ElementSizes → Elements → Elements
-cut sizes es = cut_to sizes.kept.data_words sizes.kept.pointers (trim_elements es)
-
 pub next_row : {r : Reading} {sizes : ElementSizes} {n i w id at : ℕ} {old mid : View} {m m' : Meter} (here : AtRow r sizes n i w (call_of old mid id m m') at) → NextRow old mid sizes id at i w (cut sizes here.rows.elements)
 next_row {r} {sizes} {n} {i} {w} {id} {at} {old} {mid} here =
     let M : Segments = old.words in
@@ -178,8 +174,8 @@ next_row {r} {sizes} {n} {i} {w} {id} {at} {old} {mid} here =
     let before : suc i * (e + q) ≤ n * (e + q) = (let less : suc i ≤ n = here.more in grind arith) in
     let id_there : id < length M = there M id at (omega (arith, here.width, here.wide, here.fits.room)) in
     let are_shaped : AreShapedElements e q fs =
-    cut_to-shaped d v e q (trim_elements es) here.fits.less_data here.fits.less_pointers
-    (trim_elements-shaped d v es (elements_shaped r.segments r.levels r.segment r.at d v es here.rows.are_read.cost here.rows.are_read.means)) in
+    cut_to-shaped sizes.source sizes.kept (trim_elements es) here.fits.less_data here.fits.less_pointers
+    (trim_elements-shaped d v es (elements_shaped r sizes.source es here.rows.are_read.cost here.rows.are_read.means)) in
     let count_fs : element_count fs ≡ i = cut_count e q es ∙ here.rows.counts in
     let parts : n * (e + q) ≡ i * (e + q) + k * (e + q) = ap (λ j. j * (e + q)) (let f : n ≡ i + k = omega (arith, here.more) in f) ∙ (let f : (i + k) * (e + q) ≡ i * (e + q) + k * (e + q) = grind arith in f) in
     let fits : at + n * (e + q) ≡ length (segment M id) = here.fits.room in
@@ -190,6 +186,7 @@ next_row {r} {sizes} {n} {i} {w} {id} {at} {old} {mid} here =
     let lx : length X ≡ length F + element_count fs * (e + q) + k * (e + q) + word_count_elements fs = length_laid F e q k fs are_shaped in
     let lk : length (segment mid.words id) ≡ length X = ap length same in
     let row_there : i * (e + q) + (e + q) ≤ n * (e + q) = omega (arith, before) in
+    let laid : Laid = record { front = F; size = sizes.kept; elements = fs; shaped = are_shaped } in
     record {
       there = id_there;
       shaped = are_shaped;
@@ -197,7 +194,7 @@ next_row {r} {sizes} {n} {i} {w} {id} {at} {old} {mid} here =
       starts = omega arith;
       long = omega arith;
       room = omega arith;
-      null = λ j b. ap (λ xs. get_or xs (at + i * w + e + j) 0) same ∙ row_null F e q k (at + i * w + e + j) fs are_shaped (omega arith) (omega arith);
+      null = λ j b. ap (λ xs. get_or xs (at + i * w + e + j) 0) same ∙ row_null laid k (at + i * w + e + j) (omega arith) (omega arith);
     }
 
 pub next_inside : {r : Reading} {sizes : ElementSizes} {n i w at : ℕ} {c : Call} (width : ℕ) → AtRow r sizes n i w c at → width ≡ sizes.source.data_words + sizes.source.pointers → r.at + i * width + (sizes.source.data_words + sizes.source.pointers) ≤ length (row r)
@@ -224,21 +221,23 @@ row_copied {r} {sizes} {n} {i} {w} {id} {at} {old} {mid} {new} {m} {m'} {m''} he
     let left : ℕ = n - (i + 1) in
     let more : n - i ≡ suc left = omega (arith, here.more) in
     let one : ReadsAll canonical (pointers_of r sizes.source (element_count es)) m' m'' ts = rw long next.are_read in
-    let a = another sizes.kept n here.rows.are_read (omega (arith, long, here.more)) here.fits.inside here.fits.used next.counts here.fits.less_pointers one in
+    let fits : SourceFits r sizes.source sizes.kept n = record { inside = here.fits.inside; used = here.fits.used; less = here.fits.less_pointers } in
+    let a = another fits here.rows.are_read (omega (arith, long, here.more)) next.counts one in
     let us : List ℕ = words_at S s (r.at + i * (d + v)) e in
-    let section : take e (words_at S s (r.at + element_count es * (d + v)) d) ≡ us = words_taken S s (r.at + element_count es * (d + v)) (r.at + i * (d + v)) e d here.fits.less_data (rw long refl) in
+    let section : take e (words_at S s (r.at + element_count es * (d + v)) d) ≡ us = words_taken S s (r.at + element_count es * (d + v)) e d here.fits.less_data ∙ ap (λ j. words_at S s (r.at + j * (d + v)) e) long in
     let form : cut_to e q (trim_elements a.all) ≡ with_last_element fs us (trim_each ts) = a.shape ∙ ap (λ xs. with_last_element fs xs (trim_each ts)) section in
     let inside : r.at + i * (d + v) + (d + v) ≤ length (row r) = next_inside (d + v) here refl in
     let count_us : length us ≡ e = length_words S s (r.at + i * (d + v)) e (omega (arith, here.fits.less_data)) in
     let F : List ℕ = take at (segment M id) in
+    let laid : Laid = record { front = F; size = sizes.kept; elements = fs; shaped = x.shaped } in
     let before : mid.words ≡ with_segment M id (rows_laid F e q fs (suc left)) = rw (sym more) here.rows.made in
     record {
       elements = a.all;
       counts = a.counts ∙ omega (arith, long);
       are_read = a.are_read;
       made =
-          then_written M mid.words new.words id (rows_laid F e q fs (suc left)) (λ xs. with_children (overwritten xs (at + i * w) us) (at + i * w + e) (trim_each ts)) x.there before next.made
-          ∙ ap (with_segment M id) (element_put F e q left (at + i * w) fs us (trim_each ts) x.shaped count_us (trim_each-count ts ∙ next.counts) x.starts ∙ ap (λ y. rows_laid F e q y left) (sym form));
+          then_written M id (rows_laid F e q fs (suc left)) (λ xs. with_children (overwritten xs (at + i * w) us) (at + i * w + e) (trim_each ts)) (x.there, before) next.made
+          ∙ ap (with_segment M id) (element_put laid left us (trim_each ts) (count_us, trim_each-count ts ∙ next.counts) x.starts ∙ ap (λ y. rows_laid F e q y left) (sym form));
     }
 
 pub row_stops : {r : Reading} {sizes : ElementSizes} {n i w id at : ℕ} {old mid new : View} {m m' m'' : Meter} {name : ErrorKind → ErrorKind} {k : ErrorKind} → AtRow r sizes n i w (call_of old mid id m m') at → KeepsLimits old mid →
@@ -259,13 +258,13 @@ row_stops {r} {sizes} {n} {i} {w} {id} {at} {old} {mid} {new} {m} {m'} {m''} {na
     let counts : element_count es ≡ i = here.rows.counts in
     let fewer : element_count es < n = omega (arith, here.more) in
     let inside : p + v ≤ length (row r) = rw counts (let f = next_inside (d + v) here refl in omega arith) in
-    let less : used_words (words_at S r.segment p v) ≤ q = omega (arith, here.fits.used, pointers_within (row r) r.at d v n (element_count es) fewer) in
+    let less : used_words (words_at S r.segment p v) ≤ q = omega (arith, here.fits.used, pointers_within (row r) r.at sizes.source n (element_count es) fewer) in
     let long : now ≡ length (segment old.words id) + word_count_elements (cut sizes es) = x.long in
     let too_large : AreTooLarge (pointers_of r sizes.source (element_count es)) q now (old.room id) → AreTooLargeElements r sizes n (length (segment old.words id)) (old.room id) =
     λ large us c len others.
-    (let z = next_element_words S r.levels r.segment r.at d v e q es us here.rows.are_read.cost c here.rows.are_read.means others (omega (arith, len)) in
-    let u = used_children S r.levels r.segment p v (used_words (words_at S r.segment p v)) z.0 z.1 inside z.2 refl z.3 in
-    let b = large (take_trees q z.0) z.1 (take_trees-count q z.0 (omega (arith, z.2, here.fits.less_pointers))) (means_taken S r.levels r.segment p z.0 z.1 q (omega (arith, u)) z.3) in
+    (let z = next_element_words r sizes es us ((here.rows.are_read.cost, here.rows.are_read.means), (c, others)) (omega (arith, len)) in
+    let u = used_children (pointers_of r sizes.source (element_count es)) z.0 z.1 inside z.2 z.3 in
+    let b = large (take_trees q z.0) z.1 (take_trees-count q z.0 (omega (arith, z.2, here.fits.less_pointers))) (means_taken (pointers_of r sizes.source (element_count es)) z.0 z.1 q (omega (arith, u)) z.3) in
     omega (arith, z.4, ap word_count_all (sym (take_trees-trim q z.0)))) in
     record {
       why = elim one [
@@ -290,7 +289,7 @@ row_kept {r} {sizes} {n} {i} {w} {id} {at} {old} {mid} {L} here (more, below) =
     let la : length (F ++ R) ≡ p = omega (arith, x.starts, length-append F R, length-rows e q (k * (e + q)) fs x.shaped) in
     let shape : X ≡ (F ++ R) ++ rest = simp append_assoc in (
       R ++ more,
-      then_written M mid.words L id X (λ xs. take p xs ++ more) x.there here.rows.made below
+      then_written M id X (λ xs. take p xs ++ more) (x.there, here.rows.made) below
           ∙ ap (λ xs. with_segment M id (xs ++ more)) (ap (take p) shape ∙ take_at (F ++ R) rest p la) ∙ ap (with_segment M id) (append_assoc F R more),
     )
 
@@ -302,5 +301,5 @@ row_spends {r} {sizes} {n = n} {i = i} {m = m} {m' = m'} m'' here spent =
     let less : suc i ≤ n = here.more in
     let f : suc i * q ≤ n * q = grind arith in
     let same : element_count es * q ≡ i * q = ap (λ j. j * q) here.rows.counts in
-    spends_on r.charging m m' m'' read.cost (pointers_in_elements es) (element_count es * q) sizes.kept.pointers (n * q) read.covers read.spent
-    (pointers_within_elements r.segments r.levels r.segment r.at sizes.source.data_words q es read.cost read.means) (omega (arith, here.fits.less_pointers)) spent
+    spends_on (element_count es * q) sizes.kept.pointers (paid_elements read)
+    (pointers_within_elements r sizes.source es read.cost read.means) (omega (arith, here.fits.less_pointers)) spent

@@ -10,6 +10,7 @@ use Rattle.capnp_arena.specs.Written.{overwritten}
 use Rattle.capnp_copies.specs.Copied.{with_children, rows_laid}
 use Rattle.capnp_copies.specs.Widths.{pointers_used}
 use Rattle.capnp_copies.proofs.Shapes.{AreShapedElements, length-rows, length-element_bodies}
+use Rattle.capnp_copies.proofs.ElementsLaid.{Laid, rows_end}
 use Rattle.capnp_copies.proofs.UsedChildren.{take_trees-trim, fill_nulls, null_behind}
 use Rattle.capnp_objects.specs.Outcomes.{ReadsAll, ReadsElements}
 use Rattle.capnp_objects.specs.Reading.{Reading, pointers_of, row}
@@ -19,13 +20,18 @@ use Rattle.capnp_words.specs.declared.wire_pointer.StructSize.{StructSize}
 
 -- widths
 
-pub pointers_within : (ws : List ℕ) (p d q n j : ℕ) → j < n → used_words (take q (drop (p + j * (d + q) + d) ws)) ≤ pointers_used ws p d q n
-pointers_within ws p d q zero j l = absurd (omega arith)
-pointers_within ws p d q (suc n) zero l =
+pub pointers_within : (ws : List ℕ) (p : ℕ) (size : StructSize) (n j : ℕ) → j < n →
+    used_words (take size.pointers (drop (p + j * (size.data_words + size.pointers) + size.data_words) ws)) ≤ pointers_used ws p size.data_words size.pointers n
+pointers_within ws p size zero j l = absurd (omega arith)
+pointers_within ws p size (suc n) zero l =
+    let d : ℕ = size.data_words in
+    let q : ℕ = size.pointers in
     let same : used_words (take q (drop (p + 0 * (d + q) + d) ws)) ≡ used_words (take q (drop (p + d) ws)) = ap (λ i. used_words (take q (drop i ws))) (let e : p + 0 * (d + q) + d ≡ p + d = omega arith in e) in
     omega arith
-pointers_within ws p d q (suc n) (suc j) l =
-    let more = pointers_within ws (p + (d + q)) d q n j (omega arith) in
+pointers_within ws p size (suc n) (suc j) l =
+    let d : ℕ = size.data_words in
+    let q : ℕ = size.pointers in
+    let more = pointers_within ws (p + (d + q)) size n j (omega arith) in
     let same : used_words (take q (drop (p + suc j * (d + q) + d) ws)) ≡ used_words (take q (drop (p + (d + q) + j * (d + q) + d) ws)) =
     ap (λ i. used_words (take q (drop i ws))) (let e : p + suc j * (d + q) + d ≡ p + (d + q) + j * (d + q) + d = omega arith in e) in
     omega arith
@@ -45,15 +51,25 @@ pub record Another (r : Reading) (size least : StructSize) (m m' : Meter) (es : 
       cut_to least.data_words least.pointers (trim_elements all)
       ≡ with_last_element (cut_to least.data_words least.pointers (trim_elements es)) (take least.data_words (words_at r.segments r.segment (r.at + element_count es * (size.data_words + size.pointers)) size.data_words)) (trim_each ts)
 
-pub another : {r : Reading} {size : StructSize} {m m' m'' : Meter} {es : Elements} {ts : Trees} (least : StructSize) (i : ℕ) → ReadsElements canonical r size m m' es → element_count es < i → r.at + i * (size.data_words + size.pointers) ≤ length (row r) →
-    pointers_used (row r) r.at size.data_words size.pointers i ≤ least.pointers → count ts ≡ least.pointers → least.pointers ≤ size.pointers → ReadsAll canonical (pointers_of r size (element_count es)) m' m'' ts → Another r size least m m'' es ts
-another {r} {size} {m} {m'} {m''} {es} {ts} least i all less fits used len le one =
+-- The n elements lie in the segment, and the pointers of this size that are kept of each are all that are used.
+pub record SourceFits (r : Reading) (size least : StructSize) (n : ℕ) : Type 0 where
+  pub inside : r.at + n * (size.data_words + size.pointers) ≤ length (row r)
+  pub used : pointers_used (row r) r.at size.data_words size.pointers n ≤ least.pointers
+  pub less : least.pointers ≤ size.pointers
+
+-- how far a row is from the end of all
+row_ends : (j i w : ℕ) → j < i → j * w + w ≤ i * w
+row_ends j i w less = let f : suc j * w ≤ i * w = grind arith in omega (arith, f)
+
+pub another : {r : Reading} {size least : StructSize} {i : ℕ} {m m' m'' : Meter} {es : Elements} {ts : Trees} → SourceFits r size least i → ReadsElements canonical r size m m' es → element_count es < i → count ts ≡ least.pointers →
+    ReadsAll canonical (pointers_of r size (element_count es)) m' m'' ts → Another r size least m m'' es ts
+another {r} {size} {least} {i} {m} {m'} {m''} {es} {ts} fits all less len one =
     let d : ℕ = size.data_words in
     let q : ℕ = size.pointers in
     let j : ℕ = element_count es in
     let at : ℕ = r.at + j * (d + q) + d in
-    let room : at + q ≤ length (row r) = inner r.at j i (d + q) d q (length (row r)) refl less fits in
-    let f = fill_nulls q one (omega arith) (λ k a b. null_behind r.segments r.segment at q k (omega (arith, pointers_within (row r) r.at d q i j less)) b) in
+    let room : at + q ≤ length (row r) = omega (arith, row_ends j i (d + q) less, fits.inside) in
+    let f = fill_nulls q one (omega (arith, fits.less)) (λ k a b. null_behind (pointers_of r size j) q k (omega (arith, pointers_within (row r) r.at size i j less, fits.used)) b) in
     let ws : List ℕ = words_at r.segments r.segment (r.at + j * (d + q)) d in
     record {
       all = with_last_element es ws f.all;
@@ -63,9 +79,6 @@ another {r} {size} {m} {m'} {m''} {es} {ts} least i all less fits used len le on
           cut-with_last least.data_words least.pointers es ws f.all
           ∙ ap (with_last_element (cut_to least.data_words least.pointers (trim_elements es)) (take least.data_words ws)) (take_trees-trim least.pointers f.all ∙ ap trim_each (ap (λ k. take_trees k f.all) (sym len) ∙ f.first));
     }
-  where
-    inner : (p j i w d q l : ℕ) → w ≡ d + q → j < i → p + i * w ≤ l → p + j * w + d + q ≤ l
-    inner p j i w d q l e less fits = let f : suc j * w ≤ i * w = grind arith in omega (arith, f)
 
 -- what stands where elements are laid
 
@@ -89,28 +102,35 @@ words-with_last : (es : Elements) (ws : List ℕ) (ts : Trees) → word_count_el
 words-with_last no_elements ws ts = omega arith
 words-with_last (element vs us es) ws ts = omega (arith, words-with_last es ws ts)
 
-over : (A Z B us : List ℕ) (n : ℕ) → length A ≡ n → length us ≤ length Z → overwritten (A ++ Z ++ B) n us ≡ A ++ us ++ (drop (length us) Z ++ B)
-over A Z B us n l fits =
+over : {n : ℕ} (A Z B us : List ℕ) → length A ≡ n → length us ≤ length Z → overwritten (A ++ Z ++ B) n us ≡ A ++ us ++ (drop (length us) Z ++ B)
+over {n} A Z B us l fits =
     let shape : A ++ Z ++ B ≡ A ++ (Z ++ B) = append_assoc A Z B in
     ap (λ xs. overwritten xs n us) shape
     ∙ ap₂ (λ xs ys. xs ++ (us ++ drop (length us) ys)) (take_at A (Z ++ B) n l) (drop_at A (Z ++ B) n l)
     ∙ ap (λ xs. A ++ (us ++ xs)) (drop-append-le (length us) Z B fits) ∙ sym (append_assoc A us (drop (length us) Z ++ B))
 
-among : (A Z B : List ℕ) (ts : Trees) (n k : ℕ) → length A ≡ n → length Z ≡ count ts + k → with_children (A ++ (Z ++ B)) n ts ≡ A ++ pointers (k + length B) ts ++ (drop (count ts) Z ++ B) ++ bodies ts
-among A Z B ts n k l fits =
+among : (A Z B : List ℕ) (ts : Trees) (k : ℕ) → length Z ≡ count ts + k → with_children (A ++ (Z ++ B)) (length A) ts ≡ A ++ pointers (k + length B) ts ++ (drop (count ts) Z ++ B) ++ bodies ts
+among A Z B ts k fits =
+    let n : ℕ = length A in
     let long : length (A ++ (Z ++ B)) - (n + count ts) ≡ k + length B = omega (arith, length-append A (Z ++ B), length-append Z B) in
     let rest : drop (n + count ts) (A ++ (Z ++ B)) ≡ drop (count ts) Z ++ B =
-    ap (λ i. drop (i + count ts) (A ++ (Z ++ B))) (sym l) ∙ drop-append-add A (Z ++ B) (count ts) ∙ drop-append-le (count ts) Z B (omega arith) in
-    ap₂ (λ xs i. xs ++ pointers i ts ++ drop (n + count ts) (A ++ (Z ++ B)) ++ bodies ts) (take_at A (Z ++ B) n l) long
+    drop-append-add A (Z ++ B) (count ts) ∙ drop-append-le (count ts) Z B (omega arith) in
+    ap₂ (λ xs i. xs ++ pointers i ts ++ drop (n + count ts) (A ++ (Z ++ B)) ++ bodies ts) (take_at A (Z ++ B) n refl) long
     ∙ ap (λ xs. A ++ pointers (k + length B) ts ++ xs ++ bodies ts) rest
 
 rows_length : (front : List ℕ) (d q k : ℕ) (es : Elements) → AreShapedElements d q es → length (front ++ rows d q k es) ≡ length front + element_count es * (d + q)
 rows_length front d q k es v = omega (arith, length-append front (rows d q k es), length-rows d q k es v)
 
 -- the next element, with its words and its children
-pub element_put : (front : List ℕ) (d q m at : ℕ) (es : Elements) (us : List ℕ) (ts : Trees) → AreShapedElements d q es → length us ≡ d → count ts ≡ q → at ≡ length front + element_count es * (d + q) →
-    with_children (overwritten (rows_laid front d q es (suc m)) at us) (at + d) ts ≡ rows_laid front d q (with_last_element es us ts) m
-element_put front d q m at es us ts v long len e =
+pub element_put : {at : ℕ} (x : Laid) (m : ℕ) (us : List ℕ) (ts : Trees) → (length us ≡ x.size.data_words) × (count ts ≡ x.size.pointers) → at ≡ rows_end x →
+    with_children (overwritten (rows_laid x.front x.size.data_words x.size.pointers x.elements (suc m)) at us) (at + x.size.data_words) ts
+    ≡ rows_laid x.front x.size.data_words x.size.pointers (with_last_element x.elements us ts) m
+element_put {at} x m us ts (long, len) e =
+    let front : List ℕ = x.front in
+    let d : ℕ = x.size.data_words in
+    let q : ℕ = x.size.pointers in
+    let es : Elements = x.elements in
+    let v : AreShapedElements d q es = x.shaped in
     let w = d + q in
     let k = m * w in
     let first : suc m * w ≡ k + w = omega arith in
@@ -129,8 +149,8 @@ element_put front d q m at es us ts v long len e =
     let leb : k + length EB ≡ k + word_count_elements es = ap (λ i. k + i) (length-element_bodies d q es v) in
     let P = pointers (k + word_count_elements es) ts in
     let shape : front ++ R ++ us ++ P ++ (replicate k 0 ++ EB) ++ bodies ts ≡ front ++ (R ++ (us ++ P)) ++ replicate k 0 ++ (EB ++ bodies ts) = simp append_assoc in
-    ap (λ xs. with_children xs (at + d) ts) (over A Z EB us at la (omega arith))
-    ∙ among B Y EB ts (at + d) k lb ly
+    ap (λ xs. with_children xs (at + d) ts) (over A Z EB us la (omega arith))
+    ∙ ap (λ i. with_children (B ++ (Y ++ EB)) i ts) (sym lb) ∙ among B Y EB ts k ly
     ∙ ap₂ (λ i xs. B ++ pointers i ts ++ (xs ++ EB) ++ bodies ts) leb last
     ∙ shape
     ∙ ap (λ i. front ++ (rows d q i es ++ (us ++ P)) ++ replicate k 0 ++ (EB ++ bodies ts)) first

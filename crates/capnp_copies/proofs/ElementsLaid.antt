@@ -1,16 +1,22 @@
 -- Rows of elements in a segment, and the next element of a list that is meant.
--- A meaning is defined by recursion on the value, so the lemmas name its place, value and cost, which no premise determines.
 use Rattle.std.proofs.Common.{◌≡◌, ℕ, zero, suc, ◌+◌, ◌-◌, ◌*◌, ◌<◌, ◌≤◌, List, [], ◌∷◌, ◌++◌, length, get_or, take, drop, replicate, refl, sym, ap, ap₂, ◌∙◌, subst, arith, append-nil, length-append, length-drop, get_or-drop}
 use Rattle.std.proofs.lemmas.List.{length-replicate, take-append-drop, get_or_append_left, get_or-append_right}
 use Rattle.std.proofs.lemmas.List.{take-take}
 use Rattle.capnp_format.specs.Segments.{Segments, segment, words_at}
 use Rattle.capnp_format.specs.Tree.{Trees, no_trees, tree, Elements, no_elements, element, count, element_count}
-use Rattle.capnp_format.specs.Means.{MeansAll, MeansElements}
+use Rattle.capnp_words.specs.declared.wire_pointer.StructSize.{StructSize}
+use Rattle.capnp_objects.specs.Outcomes.{MeanThere, ElementsMean}
+use Rattle.capnp_objects.specs.Reading.{Reading, behind, pointers_of}
+use Rattle.capnp_copies.specs.declared.widths.ElementSizes.{ElementSizes}
 use Rattle.capnp_format.specs.Canonical.{take_trees, cut_to, trim_each, trim_elements, word_count_all, word_count_elements, rows, element_bodies}
 use Rattle.capnp_format.proofs.Levels.{one_value}
 use Rattle.capnp_format.proofs.Trimming.{cut_to-count, trim_elements-count}
 use Rattle.capnp_copies.specs.Copied.{rows_laid}
 use Rattle.capnp_copies.proofs.Shapes.{AreShapedElements, length-rows, length-element_bodies}
+
+-- the elements of a list in the sections of its copy
+abbrev pub cut : ElementSizes → Elements → Elements
+cut sizes es = cut_to sizes.kept.data_words sizes.kept.pointers (trim_elements es)
 
 pub cut_count : (e r : ℕ) (es : Elements) → element_count (cut_to e r (trim_elements es)) ≡ element_count es
 cut_count e r es = cut_to-count e r (trim_elements es) ∙ trim_elements-count es
@@ -21,14 +27,24 @@ all_zero : (xs : List ℕ) → ((i : ℕ) → get_or xs i 0 ≡ 0) → xs ≡ re
 all_zero [] z = refl
 all_zero (x ∷ xs) z = ap₂ (λ y ys. y ∷ ys) (z 0) (all_zero xs (λ i. z (suc i)))
 
-pub rows_begun : (ws : List ℕ) (at n d q : ℕ) → at + n * (d + q) ≡ length ws → ((i : ℕ) → at ≤ i → get_or ws i 0 ≡ 0) → ws ≡ rows_laid (take at ws) d q no_elements n
-rows_begun ws at n d q l z =
+pub rows_begun : (ws : List ℕ) (at n : ℕ) (size : StructSize) → at + n * (size.data_words + size.pointers) ≡ length ws → ((i : ℕ) → at ≤ i → get_or ws i 0 ≡ 0) →
+    ws ≡ rows_laid (take at ws) size.data_words size.pointers no_elements n
+rows_begun ws at n size l z =
+    let d : ℕ = size.data_words in
+    let q : ℕ = size.pointers in
     let rest : drop at ws ≡ replicate (n * (d + q)) 0 =
     all_zero (drop at ws) (λ i. get_or-drop at ws i 0 ∙ z (at + i) (omega arith)) ∙ ap (λ i. replicate i 0) (let e : length (drop at ws) ≡ n * (d + q) = omega (arith, length-drop at ws) in e) in
     sym (take-append-drop at ws) ∙ ap (λ xs. take at ws ++ xs) rest
     ∙ sym (append-nil (take at ws ++ [] ++ replicate (n * (d + q)) 0) ∙ ap (λ xs. xs ++ replicate (n * (d + q)) 0) (append-nil (take at ws)))
 
 -- one more
+
+-- Elements of one size, whose rows stand behind the words front.
+pub record Laid : Type 0 where
+  pub front : List ℕ
+  pub size : StructSize
+  pub elements : Elements
+  pub shaped : AreShapedElements size.data_words size.pointers elements
 
 pub length_laid : (front : List ℕ) (d q n : ℕ) (es : Elements) → AreShapedElements d q es → length (rows_laid front d q es n) ≡ length front + element_count es * (d + q) + n * (d + q) + word_count_elements es
 length_laid front d q n es v =
@@ -49,8 +65,17 @@ get_or-zeros zero i = refl
 get_or-zeros (suc n) zero = refl
 get_or-zeros (suc n) (suc i) = get_or-zeros n i
 
-pub row_null : (front : List ℕ) (d q n i : ℕ) (es : Elements) → AreShapedElements d q es → length front + element_count es * (d + q) ≤ i → i < length front + element_count es * (d + q) + n * (d + q) → get_or (rows_laid front d q es n) i 0 ≡ 0
-row_null front d q n i es v l m =
+-- where the rows that are laid end
+abbrev pub rows_end : Laid → ℕ
+rows_end x = length x.front + element_count x.elements * (x.size.data_words + x.size.pointers)
+
+pub row_null : (x : Laid) (n i : ℕ) → rows_end x ≤ i → i < rows_end x + n * (x.size.data_words + x.size.pointers) → get_or (rows_laid x.front x.size.data_words x.size.pointers x.elements n) i 0 ≡ 0
+row_null x n i l m =
+    let front : List ℕ = x.front in
+    let d : ℕ = x.size.data_words in
+    let q : ℕ = x.size.pointers in
+    let es : Elements = x.elements in
+    let v = x.shaped in
     let A = front ++ rows d q (n * (d + q)) es in
     let Z : List ℕ = replicate (n * (d + q)) 0 in
     let la : length A ≡ length front + element_count es * (d + q) = omega (arith, length-append front (rows d q (n * (d + q)) es), length-rows d q (n * (d + q)) es v) in
@@ -59,27 +84,35 @@ row_null front d q n i es v l m =
 
 -- refusals
 
-one_row : (S : Segments) (n s p : ℕ) (ts us : Trees) (k c : ℕ) → MeansAll S n s p ts k → MeansAll S n s p us c → count ts ≡ count us → ts ≡ us
-one_row S n s p no_trees no_trees k c h g len = refl
-one_row S n s p no_trees (tree u us) k c h g len = absurd (omega arith)
-one_row S n s p (tree t ts) no_trees k c h g len = absurd (omega arith)
-one_row S n s p (tree t ts) (tree u us) k c (x, y, first, others, f) (a, b, one, rest, g) len =
-    ap₂ tree (one_value S n n s p t u x a first one).0 (one_row S n s (p + 1) ts us y b others rest (omega arith))
+one_row : (r : Reading) (ts us : Trees) → (k : ℕ) × MeanThere r ts k → (c : ℕ) × MeanThere r us c → count ts ≡ count us → ts ≡ us
+one_row r no_trees no_trees h g len = refl
+one_row r no_trees (tree u us) h g len = absurd (omega arith)
+one_row r (tree t ts) no_trees h g len = absurd (omega arith)
+one_row r (tree t ts) (tree u us) (k, (x, y, first, others, f)) (c, (a, b, one, rest, g)) len =
+    ap₂ tree (one_value r.segments r.levels r.levels r.segment r.at t u x a first one).0 (one_row (behind r 1) ts us (y, others) (b, rest) (omega arith))
+
+-- both lists of elements are meant at one place
+abbrev pub BothMeant : Reading → StructSize → Elements → Elements → Type 0
+BothMeant r size es us = ((k : ℕ) × ElementsMean r size es k) × ((c : ℕ) × ElementsMean r size us c)
 
 -- the element behind the first ones, in any longer meaning of the same place
-pub next_element_words : (S : Segments) (n s p d q e r : ℕ) (es us : Elements) (k c : ℕ) → MeansElements S n s p d q es k → MeansElements S n s p d q us c → element_count es < element_count us →
-    (ts : Trees) × (x : ℕ) × (count ts ≡ q) × MeansAll S n s (p + element_count es * (d + q) + d) ts x
-    × (word_count_elements (cut_to e r (trim_elements es)) + word_count_all (take_trees r (trim_each ts)) ≤ word_count_elements (cut_to e r (trim_elements us)))
-next_element_words S n s p d q e r es no_elements k c h g lt = absurd (omega arith)
-next_element_words S n s p d q e r no_elements (element ws ts us) k c h (a, b, long, len, has, one, rest, g) lt =
-    (ts, a, len, subst (λ i. MeansAll S n s i ts a) (let f : p + d ≡ p + 0 * (d + q) + d = omega arith in f) one, omega arith)
-next_element_words S n s p d q e r (element vs ts es) (element ws us os) k c (x, y, long', len', has', first, others, f) (a, b, long, len, has, one, rest, g) lt =
-    let same = ap (λ v. word_count_all (take_trees r (trim_each v))) (one_row S n s (p + d) ts us x a first one (len' ∙ sym len)) in
-    let z = next_element_words S n s (p + d + q) d q e r es os y b others rest (omega arith) in (
+pub next_element_words : (r : Reading) (sizes : ElementSizes) (es us : Elements) → BothMeant r sizes.source es us → element_count es < element_count us →
+    (ts : Trees) × (x : ℕ) × (count ts ≡ sizes.source.pointers) × MeanThere (pointers_of r sizes.source (element_count es)) ts x
+    × (word_count_elements (cut sizes es) + word_count_all (take_trees sizes.kept.pointers (trim_each ts)) ≤ word_count_elements (cut sizes us))
+next_element_words r sizes es no_elements h lt = absurd (omega arith)
+next_element_words r sizes no_elements (element ws ts us) (h, (c, (a, b, long, len, has, one, rest, g))) lt =
+    let d : ℕ = sizes.source.data_words in
+    let q : ℕ = sizes.source.pointers in
+    (ts, a, len, subst (λ i. MeanThere (record r { at = i }) ts a) (let f : r.at + d ≡ r.at + 0 * (d + q) + d = omega arith in f) one, omega arith)
+next_element_words r sizes (element vs ts es) (element ws us os) ((k, (x, y, long', len', has', first, others, f)), (c, (a, b, long, len, has, one, rest, g))) lt =
+    let d : ℕ = sizes.source.data_words in
+    let q : ℕ = sizes.source.pointers in
+    let same = ap (λ v. word_count_all (take_trees sizes.kept.pointers (trim_each v))) (one_row (behind r d) ts us (x, first) (a, one) (len' ∙ sym len)) in
+    let z = next_element_words (record r { at = r.at + d + q }) sizes es os ((y, others), (b, rest)) (omega arith) in (
       z.0,
       z.1,
       z.2,
-      subst (λ i. MeansAll S n s (i + d) z.0 z.1) (let h : p + d + q + element_count es * (d + q) ≡ p + suc (element_count es) * (d + q) = omega arith in h) z.3,
+      subst (λ i. MeanThere (record r { at = i + d }) z.0 z.1) (let h : r.at + d + q + element_count es * (d + q) ≡ r.at + suc (element_count es) * (d + q) = omega arith in h) z.3,
       omega (arith, same, z.4),
     )
 
@@ -96,5 +129,5 @@ blank_rows e q front es sum =
     let none = no_rows 0 (trim_elements es) in
     rw (no_data, no_pointers) (ap₂ (λ xs ys. front ++ xs ++ [] ++ ys) none.0 none.1 ∙ append-nil (front ++ [] ++ []) ∙ append-nil (front ++ []) ∙ append-nil front)
 
-pub words_taken : (S : Segments) (s p p' e d : ℕ) → e ≤ d → p ≡ p' → take e (words_at S s p d) ≡ words_at S s p' e
-words_taken S s p p' e d le same = take-take e d (drop p (segment S s)) le ∙ ap (λ i. words_at S s i e) same
+pub words_taken : (S : Segments) (s p e d : ℕ) → e ≤ d → take e (words_at S s p d) ≡ words_at S s p e
+words_taken S s p e d le = take-take e d (drop p (segment S s)) le

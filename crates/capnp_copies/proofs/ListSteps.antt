@@ -43,8 +43,8 @@ trimmed_list {r} {size} {least} {i} es c inside is_least len all =
     let of_data : data_used (row r) r.at d q (element_count es) ≡ least.data_words = rw len (sym is_least.of_data) in
     let of_pointers : pointers_used (row r) r.at d q (element_count es) ≡ least.pointers = rw len (sym is_least.of_pointers) in
     trim-structs d q es
-    ∙ ap₂ (λ j k. Structs j k (cut_to j k (trim_elements es))) (data_where_meant r.segments r.levels r.segment r.at d q es c all ∙ of_data)
-    (pointers_where_meant r.segments r.levels r.segment r.at d q es c (rw len inside) all ∙ of_pointers)
+    ∙ ap₂ (λ j k. Structs j k (cut_to j k (trim_elements es))) (data_where_meant r size es c all ∙ of_data)
+    (pointers_where_meant r size es c (rw len inside) all ∙ of_pointers)
 
 words_of_list : {r : Reading} {size least : StructSize} {i : ℕ} (es : Elements) (c : ℕ) → r.at + i * (size.data_words + size.pointers) ≤ length (row r) → AreLeast r size least i → element_count es ≡ i → ElementsMean r size es c →
     word_count (trim (Structs size.data_words size.pointers es)) ≡ 1 + i * (least.data_words + least.pointers) + word_count_elements (cut_to least.data_words least.pointers (trim_elements es))
@@ -97,13 +97,13 @@ list_is_copied {r} {size} {least} {i} {old} {mid} {last} {new} {id} {at} {head} 
     let laid : rows_laid (W ++ tag ∷ []) e q es 0 ≡ W ++ ((tag ∷ rows e q 0 es) ++ element_bodies es) =
     ap (λ j. W ++ tag ∷ [] ++ rows e q j es ++ replicate j 0 ++ element_bodies es) (let z : 0 * (e + q) ≡ 0 = omega arith in z) ∙ simp (append_assoc, append-nil) in
     let same : x ≡ pointer (Structs e q es) (offset_to at (length W)) = word ∙ ap (λ j. list_word (offset_to at (length W)) 7 (j * (e + q))) (sym len) in
-    let second = then_written M mid.words last.words id (W ++ (tag ∷ Z)) (λ xs. rows_laid (take (length W + 1) xs) e q es 0) id_there (ap (λ (v : View). v.words) begun.taken.extends) put in
+    let second = then_written M id (W ++ (tag ∷ Z)) (λ xs. rows_laid (take (length W + 1) xs) e q es 0) (id_there, ap (λ (v : View). v.words) begun.taken.extends) put in
     record {
       elements = elements.elements;
       counts = elements.counts;
       are_read = elements.are_read;
       made =
-          then_written M last.words new.words id (rows_laid (take (length W + 1) (W ++ (tag ∷ Z))) e q es 0) (λ xs. set xs at x) id_there second (ap (λ (v : View). v.words) writes)
+          then_written M id (rows_laid (take (length W + 1) (W ++ (tag ∷ Z))) e q es 0) (λ xs. set xs at x) (id_there, second) (ap (λ (v : View). v.words) writes)
           ∙ ap (with_segment M id) (ap₂ (λ xs y. set xs at y) (ap (λ xs. rows_laid xs e q es 0) front ∙ laid ∙ ap (λ j. W ++ ((struct_word j e q ∷ rows e q 0 es) ++ element_bodies es)) (sym len)) same)
           ∙ ap (λ t. with_segment M id (copied W at t)) (sym form);
     }

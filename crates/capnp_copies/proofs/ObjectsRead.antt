@@ -1,5 +1,4 @@
 -- What a pointer means, where its object was read, and what a copy of its parts spends.
--- A meaning is defined by recursion on the value, so the lemmas name its place, value and cost, which no premise determines.
 use Rattle.std.proofs.Common.{◌≡◌, inl, inr, ℕ, pred, ◌+◌, ◌*◌, ◌≤◌, List, refl, sym, ap, ◌∙◌, subst, arith}
 use Rattle.capnp_words.specs.declared.error.ErrorKind.{ErrorKind}
 use Rattle.capnp_words.specs.declared.error.ErrorKind.TheVariants.{CannotCreateACanonicalMessageWithACapability, InlineCompositeListsElementsOverrunItsWordCount, InlineCompositeListsOfNonStructTypeAreNotSupported, MalformedDoubleFarPointer, MessageContainsOutOfBoundsPointer, MessageIsTooDeeplyNestedOrContainsCycles, UnknownPointerType}
@@ -11,17 +10,18 @@ use Rattle.capnp_format.specs.Bytes.{words_of}
 use Rattle.capnp_words.specs.Sizes.{size_number}
 use Rattle.capnp_format.specs.Segments.{Segments, segment, words_at, Target}
 use Rattle.capnp_format.specs.Tree.{Tree, Null, Capability, Struct, Flat, Structs, Pointers, Trees, Elements, count, element_count}
-use Rattle.capnp_format.specs.Means.{Leads, Means, MeansAll, MeansElements}
+use Rattle.capnp_format.specs.Means.{MeansAll, MeansElements}
 use Rattle.capnp_words.specs.Meter.{Meter}
 use Rattle.capnp_objects.specs.declared.object.Place.{Place}
 use Rattle.capnp_objects.specs.declared.object.Object.TheVariants.{Null as ObjectNull, Capability as ObjectCapability, Struct as ObjectStruct, Flat as ObjectFlat, Pointers as ObjectPointers, Structs as ObjectStructs}
 use Rattle.capnp_objects.specs.Objects.{IsObject}
+use Rattle.capnp_objects.proofs.Budgets.{paid_own}
 use Rattle.capnp_objects.proofs.Followed.{leads_follows}
 use Rattle.capnp_objects.proofs.Faultless.{same_target}
 use Rattle.capnp_objects.proofs.Stops.{object_spends, refused_here}
-use Rattle.capnp_objects.specs.Demands.{tag, own}
-use Rattle.capnp_objects.specs.Faults.{Fails, Somewhere, here, below, child_at, one_less}
-use Rattle.capnp_objects.specs.Outcomes.{Spends, Reads, Refused}
+use Rattle.capnp_objects.specs.Demands.{tag}
+use Rattle.capnp_objects.specs.Faults.{LeadsTo, Fails, Somewhere, here, below, child_at, one_less}
+use Rattle.capnp_objects.specs.Outcomes.{MeansThere, Spends, Reads, Refused}
 use Rattle.capnp_objects.specs.Reading.{Reading}
 use Rattle.capnp_objects.specs.Wanted.{plain, canonical, an_object, BreaksObject}
 use Rattle.capnp_objects.proofs.Objects.{own_struct, own_pointers, own_structs, read_null, read_flat}
@@ -65,48 +65,48 @@ null_read {r} m m' h = subst (λ x. Reads canonical r m x Null) (sym h.1) (read_
 
 -- what is meant where an object was read
 
-same_word : (S : Segments) (s p : ℕ) (b a : Target) → Leads S s p b → Leads S s p a → b.word ≡ a.word
-same_word S s p b a l m = ap (λ x. x.word) (same_target S s p b a l.1 m.1)
+same_word : (r : Reading) (b a : Target) → LeadsTo r b → LeadsTo r a → b.word ≡ a.word
+same_word r b a l m = ap (λ x. x.word) (same_target r.segments r.segment r.at l.1 m.1)
 
 abbrev pub MeansStruct : Segments → ℕ → Target → Tree → Type 0
 MeansStruct S n a t =
     (ts : Trees) × (k : ℕ) × (count ts ≡ pointer_count a.word) × MeansAll S (pred n) a.segment (a.start + data_words a.word) ts k × (t ≡ Struct (words_at S a.segment a.start (data_words a.word)) ts)
 
-pub means_struct : (S : Segments) (n s p : ℕ) (t : Tree) (c : ℕ) (a : Target) → Means S n s p t c → Leads S s p a → kind a.word ≡ 0 → MeansStruct S n a t
-means_struct S n s p Null c a h l z = absurd (l.0 h.0)
-means_struct S n s p (Capability i) c a (b, lb, e, g) l z = absurd (omega (arith, same_word S s p b a lb l, e, z))
-means_struct S n s p (Struct ws ts) c a (b, k, some, o, claims, e, all, g) l z =
-    subst (λ x. MeansStruct S n x (Struct ws ts)) (same_target S s p b a o.leads_to.1 l.1)
-    (ts, k, sym o.pointers, subst (λ d. MeansAll S (pred n) b.segment (b.start + d) ts k) (sym o.data_of) all, ap (λ vs. Struct vs ts) (sym e ∙ ap (words_at S b.segment b.start) (sym o.data_of)))
-means_struct S n s p (Flat size ns) c a (b, some, small, o, claims, e, g) l z = absurd (omega (arith, same_word S s p b a o.leads_to l, o.is_list, z))
-means_struct S n s p (Pointers ts) c a (b, k, some, o, claims, all, g) l z = absurd (omega (arith, same_word S s p b a o.leads_to l, o.is_list, z))
-means_struct S n s p (Structs d q es) c a (b, m, k, some, o, claims, t, fits, all, g) l z = absurd (omega (arith, same_word S s p b a o.leads_to l, o.is_list, z))
+pub means_struct : (r : Reading) (t : Tree) (a : Target) → (c : ℕ) × MeansThere r t c → LeadsTo r a → kind a.word ≡ 0 → MeansStruct r.segments r.levels a t
+means_struct r Null a (c, h) l z = absurd (l.0 h.0)
+means_struct r (Capability i) a (c, (b, lb, e, g)) l z = absurd (omega (arith, same_word r b a lb l, e, z))
+means_struct r (Struct ws ts) a (c, (b, k, some, o, claims, e, all, g)) l z =
+    subst (λ x. MeansStruct r.segments r.levels x (Struct ws ts)) (same_target r.segments r.segment r.at o.leads_to.1 l.1)
+    (ts, k, sym o.pointers, subst (λ d. MeansAll r.segments (pred r.levels) b.segment (b.start + d) ts k) (sym o.data_of) all, ap (λ vs. Struct vs ts) (sym e ∙ ap (words_at r.segments b.segment b.start) (sym o.data_of)))
+means_struct r (Flat size ns) a (c, (b, some, small, o, claims, e, g)) l z = absurd (omega (arith, same_word r b a o.leads_to l, o.is_list, z))
+means_struct r (Pointers ts) a (c, (b, k, some, o, claims, all, g)) l z = absurd (omega (arith, same_word r b a o.leads_to l, o.is_list, z))
+means_struct r (Structs d q es) a (c, (b, m, k, some, o, claims, t, fits, all, g)) l z = absurd (omega (arith, same_word r b a o.leads_to l, o.is_list, z))
 
 abbrev pub MeansPointers : Segments → ℕ → Target → Tree → Type 0
 MeansPointers S n a t = (ts : Trees) × (k : ℕ) × (count ts ≡ list_count a.word) × MeansAll S (pred n) a.segment a.start ts k × (t ≡ Pointers ts)
 
-pub means_pointers : (S : Segments) (n s p : ℕ) (t : Tree) (c : ℕ) (a : Target) → Means S n s p t c → Leads S s p a → kind a.word ≡ 1 → element_size a.word ≡ 6 → MeansPointers S n a t
-means_pointers S n s p Null c a h l z six = absurd (l.0 h.0)
-means_pointers S n s p (Capability i) c a (b, lb, e, g) l z six = absurd (omega (arith, same_word S s p b a lb l, e, z))
-means_pointers S n s p (Struct ws ts) c a (b, k, some, o, claims, e, all, g) l z six = absurd (omega (arith, same_word S s p b a o.leads_to l, o.is_struct, z))
-means_pointers S n s p (Flat size ns) c a (b, some, small, o, claims, e, g) l z six = absurd (omega (arith, same_word S s p b a o.leads_to l, o.is_size, small, six))
-means_pointers S n s p (Pointers ts) c a (b, k, some, o, claims, all, g) l z six =
-    subst (λ x. MeansPointers S n x (Pointers ts)) (same_target S s p b a o.leads_to.1 l.1) (ts, k, sym o.counts, all, refl)
-means_pointers S n s p (Structs d q es) c a (b, m, k, some, o, claims, t, fits, all, g) l z six = absurd (omega (arith, same_word S s p b a o.leads_to l, o.is_size, six))
+pub means_pointers : (r : Reading) (t : Tree) (a : Target) → (c : ℕ) × MeansThere r t c → LeadsTo r a → (kind a.word ≡ 1) × (element_size a.word ≡ 6) → MeansPointers r.segments r.levels a t
+means_pointers r Null a (c, h) l (z, six) = absurd (l.0 h.0)
+means_pointers r (Capability i) a (c, (b, lb, e, g)) l (z, six) = absurd (omega (arith, same_word r b a lb l, e, z))
+means_pointers r (Struct ws ts) a (c, (b, k, some, o, claims, e, all, g)) l (z, six) = absurd (omega (arith, same_word r b a o.leads_to l, o.is_struct, z))
+means_pointers r (Flat size ns) a (c, (b, some, small, o, claims, e, g)) l (z, six) = absurd (omega (arith, same_word r b a o.leads_to l, o.is_size, small, six))
+means_pointers r (Pointers ts) a (c, (b, k, some, o, claims, all, g)) l (z, six) =
+    subst (λ x. MeansPointers r.segments r.levels x (Pointers ts)) (same_target r.segments r.segment r.at o.leads_to.1 l.1) (ts, k, sym o.counts, all, refl)
+means_pointers r (Structs d q es) a (c, (b, m, k, some, o, claims, t, fits, all, g)) l (z, six) = absurd (omega (arith, same_word r b a o.leads_to l, o.is_size, six))
 
 abbrev pub MeansStructs : Segments → ℕ → Target → Tree → Type 0
 MeansStructs S n a t =
     (es : Elements) × (k : ℕ) × (element_count es ≡ offset_bits (tag S a)) × MeansElements S (pred n) a.segment (a.start + 1) (data_words (tag S a)) (pointer_count (tag S a)) es k
     × (t ≡ Structs (data_words (tag S a)) (pointer_count (tag S a)) es)
 
-pub means_structs : (S : Segments) (n s p : ℕ) (t : Tree) (c : ℕ) (a : Target) → Means S n s p t c → Leads S s p a → kind a.word ≡ 1 → element_size a.word ≡ 7 → MeansStructs S n a t
-means_structs S n s p Null c a h l z seven = absurd (l.0 h.0)
-means_structs S n s p (Capability i) c a (b, lb, e, g) l z seven = absurd (omega (arith, same_word S s p b a lb l, e, z))
-means_structs S n s p (Struct ws ts) c a (b, k, some, o, claims, e, all, g) l z seven = absurd (omega (arith, same_word S s p b a o.leads_to l, o.is_struct, z))
-means_structs S n s p (Flat size ns) c a (b, some, small, o, claims, e, g) l z seven = absurd (omega (arith, same_word S s p b a o.leads_to l, o.is_size, small, seven))
-means_structs S n s p (Pointers ts) c a (b, k, some, o, claims, all, g) l z seven = absurd (omega (arith, same_word S s p b a o.leads_to l, o.is_size, seven))
-means_structs S n s p (Structs d q es) c a (b, m, k, some, o, claims, t, fits, all, g) l z seven =
-    subst (λ x. MeansStructs S n x (Structs d q es)) (same_target S s p b a o.leads_to.1 l.1) (
+pub means_structs : (r : Reading) (t : Tree) (a : Target) → (c : ℕ) × MeansThere r t c → LeadsTo r a → (kind a.word ≡ 1) × (element_size a.word ≡ 7) → MeansStructs r.segments r.levels a t
+means_structs r Null a (c, h) l (z, seven) = absurd (l.0 h.0)
+means_structs r (Capability i) a (c, (b, lb, e, g)) l (z, seven) = absurd (omega (arith, same_word r b a lb l, e, z))
+means_structs r (Struct ws ts) a (c, (b, k, some, o, claims, e, all, g)) l (z, seven) = absurd (omega (arith, same_word r b a o.leads_to l, o.is_struct, z))
+means_structs r (Flat size ns) a (c, (b, some, small, o, claims, e, g)) l (z, seven) = absurd (omega (arith, same_word r b a o.leads_to l, o.is_size, small, seven))
+means_structs r (Pointers ts) a (c, (b, k, some, o, claims, all, g)) l (z, seven) = absurd (omega (arith, same_word r b a o.leads_to l, o.is_size, seven))
+means_structs r (Structs d q es) a (c, (b, m, k, some, o, claims, t, fits, all, g)) l (z, seven) =
+    subst (λ x. MeansStructs r.segments r.levels x (Structs d q es)) (same_target r.segments r.segment r.at o.leads_to.1 l.1) (
       es,
       k,
       sym t.counts,
@@ -118,13 +118,13 @@ means_structs S n s p (Structs d q es) c a (b, m, k, some, o, claims, t, fits, a
 
 pub struct_spent : {r : Reading} {m m' : Meter} (m'' : Meter) (start : Place) (size : StructSize) → IsObject r m m' (ObjectStruct start size) → Spends r.charging m' m'' size.pointers → Spends r.charging m m'' 1
 struct_spent {r} {m} {m'} m'' start size (a, o, z, held, ed, eq) spent =
-    object_spends r.charging m m' m'' (own r.segments a) size.pointers o.covers o.spent (omega (arith, own_struct r.segments a z)) spent
+    object_spends size.pointers (paid_own o) (omega (arith, own_struct r.segments a z)) spent
 
 -- a list of pointers
 
 pub pointers_spent : {r : Reading} {m m' : Meter} (m'' : Meter) (start : Place) (i : ℕ) → IsObject r m m' (ObjectPointers start i) → Spends r.charging m' m'' i → Spends r.charging m m'' 1
 pointers_spent {r} {m} {m'} m'' start i (a, o, z, six, held, ei) spent =
-    object_spends r.charging m m' m'' (own r.segments a) i o.covers o.spent (omega (arith, own_pointers r.segments a z six)) spent
+    object_spends i (paid_own o) (omega (arith, own_pointers r.segments a z six)) spent
 
 -- a list of structs
 
@@ -134,7 +134,7 @@ fewer j d q = grind arith
 pub structs_spent : {r : Reading} {m m' : Meter} (m'' : Meter) (start : Place) (size : StructSize) (i : ℕ) → IsObject r m m' (ObjectStructs start size i) → Spends r.charging m' m'' (i * size.pointers) → Spends r.charging m m'' 1
 structs_spent {r} {m} {m'} m'' start size i (a, o, z, seven, held, ei, ed, eq) spent =
     let fits : i * (size.data_words + size.pointers) ≤ list_count a.word = rw (ei, ed, eq) (o.meets.tagged (z, seven)).1 in
-    object_spends r.charging m m' m'' (own r.segments a) (i * size.pointers) o.covers o.spent (omega (arith, own_structs r.segments a z seven, fits, fewer i size.data_words size.pointers)) spent
+    object_spends (i * size.pointers) (paid_own o) (omega (arith, own_structs r.segments a z seven, fits, fewer i size.data_words size.pointers)) spent
 
 -- a list of numbers
 

@@ -20,8 +20,8 @@ low b d x l = ap (λ y. y % b) (add_comm d (b * x) ∙ ap (λ y. y + d) (mul_com
 high : (b d x : ℕ) → d < b → (d + b * x) / b ≡ x
 high b d x l = ap (λ y. y / b) (add_comm d (b * x) ∙ ap (λ y. y + d) (mul_comm b x)) ∙ div-mul-add x b d l
 
-regrouped : (x b m q r k a : ℕ) → x ≡ a + b * q → q ≡ r + m * k → x ≡ (a + b * r) + (b * m) * k
-regrouped x b m q r k a e f = e ∙ ap (λ y. a + b * y) f ∙ omega arith
+regrouped : (a b m r k : ℕ) → a + b * (r + m * k) ≡ (a + b * r) + (b * m) * k
+regrouped a b m r k = omega arith
 
 within_both : (a b r m : ℕ) → a < b → r < m → a + b * r < b * m
 within_both a b r m l k = omega (arith, mul-le-mul_left b k)
@@ -30,7 +30,7 @@ mod_split : (x b m : ℕ) → 0 < b → 0 < m → x % (b * m) ≡ x % b + b * (x
 mod_split x b m some more =
     let q = x / b in
     let r = x % b + b * (q % m) in
-    ap (λ y. y % (b * m)) (regrouped x b m q (q % m) (q / m) (x % b) (sym (mod-add-div x b)) (sym (mod-add-div q m)))
+    ap (λ y. y % (b * m)) (sym (mod-add-div x b) ∙ ap (λ y. x % b + b * y) (sym (mod-add-div q m)) ∙ regrouped (x % b) b m (q % m) (q / m))
     ∙ low (b * m) r (q / m) (within_both (x % b) b (q % m) m (mod-lt x some) (mod-lt q more))
 
 -- the number of its lowest digits
@@ -89,13 +89,13 @@ mask_is word r l =
     ap (λ x. bit_and word (x - 1)) one ∙ and_mask word r
 
 -- the last word behind a mask, in the form that code has it
-pub last_behind_mask : (bits last word : ℕ) (ws : List ℕ) → AreBelow (2 ^ 64) ws → (bits + 63) / 64 ≡ length ws → bits % 64 ≢ 0 → last ≡ length ws - 1 → word ≡ get_or ws last 0 →
-    set ws last (bit_and word (1 * 2 ^ (bits % 64) % 2 ^ 64 - 1)) ≡ digits (2 ^ 64) (length ws) (from_digits (2 ^ 64) ws % 2 ^ bits)
-last_behind_mask bits last word ws below all some at is =
+pub last_behind_mask : {last : ℕ} (bits : ℕ) (ws : List ℕ) → AreBelow (2 ^ 64) ws → (bits + 63) / 64 ≡ length ws → bits % 64 ≢ 0 → last ≡ length ws - 1 →
+    set ws last (bit_and (get_or ws last 0) (1 * 2 ^ (bits % 64) % 2 ^ 64 - 1)) ≡ digits (2 ^ 64) (length ws) (from_digits (2 ^ 64) ws % 2 ^ bits)
+last_behind_mask {last} bits ws below all some at =
     let r = bits % 64 in
     let long : length ws ≡ suc last = omega arith in
     let split : 64 * last + r ≡ bits = omega arith in
-    ap (set ws last) (mask_is word r (omega arith) ∙ ap (λ x. x % 2 ^ r) is)
+    ap (set ws last) (mask_is (get_or ws last 0) r (omega arith))
     ∙ sym (last_masked last r ws below long)
     ∙ ap₂ (λ n b. digits (2 ^ 64) n (from_digits (2 ^ 64) ws % 2 ^ b)) (sym long) split
 
@@ -114,19 +114,23 @@ with_words_none [] s p = refl
 with_words_none (xs ∷ S) zero p = ap (λ ys. ys ∷ S) (take-append-drop p xs)
 with_words_none (xs ∷ S) (suc s) p = ap (λ T. xs ∷ T) (with_words_none S s p)
 
-word_over : (xs ws : List ℕ) (p j x : ℕ) → p + length ws ≤ length xs → j < length ws → set (overwritten xs p ws) (p + j) x ≡ overwritten xs p (set ws j x)
-word_over xs ws p j x l k =
+-- The words ws have room in xs from position p on.
+pub record HasRoom (xs : List ℕ) (p : ℕ) (ws : List ℕ) : Type 0 where
+  pub fits : p + length ws ≤ length xs
+
+word_over : {xs ws : List ℕ} {p : ℕ} (j x : ℕ) → HasRoom xs p ws → j < length ws → set (overwritten xs p ws) (p + j) x ≡ overwritten xs p (set ws j x)
+word_over {xs} {ws} {p} j x l k =
     let behind = drop (length ws) (drop p xs) in
-    set-append_right (take p xs) (ws ++ behind) p (p + j) x (omega (arith, length-take p xs)) (omega arith)
+    set-append_right (take p xs) (ws ++ behind) p (p + j) x (omega (arith, length-take p xs, l.fits)) (omega arith)
     ∙ ap (λ i. take p xs ++ set (ws ++ behind) i x) (let e : p + j - p ≡ j = omega arith in e)
     ∙ ap (λ ys. take p xs ++ ys) (set-append_left ws behind j x k)
     ∙ ap (λ n. take p xs ++ (set ws j x ++ drop n (drop p xs))) (sym (length-set ws j x))
 
 -- one of the words that were written, written again
-pub with_words_set : (S : Segments) (s p j x : ℕ) (ws : List ℕ) → p + length ws ≤ length (segment S s) → j < length ws → with_word (with_words S s p ws) s (p + j) x ≡ with_words S s p (set ws j x)
-with_words_set [] s p j x ws l k = refl
-with_words_set (xs ∷ S) zero p j x ws l k = ap (λ ys. ys ∷ S) (word_over xs ws p j x l k)
-with_words_set (xs ∷ S) (suc s) p j x ws l k = ap (λ T. xs ∷ T) (with_words_set S s p j x ws l k)
+pub with_words_set : {p : ℕ} {ws : List ℕ} (S : Segments) (s j x : ℕ) → HasRoom (segment S s) p ws → j < length ws → with_word (with_words S s p ws) s (p + j) x ≡ with_words S s p (set ws j x)
+with_words_set [] s j x l k = refl
+with_words_set (xs ∷ S) zero j x l k = ap (λ ys. ys ∷ S) (word_over j x l k)
+with_words_set (xs ∷ S) (suc s) j x l k = ap (λ T. xs ∷ T) (with_words_set S s j x l k)
 
 over_zeros : (xs ws : List ℕ) (p w : ℕ) → p ≡ length xs → length ws ≡ w → overwritten (xs ++ replicate w 0) p ws ≡ xs ++ ws
 over_zeros xs ws p w e f =
@@ -134,9 +138,14 @@ over_zeros xs ws p w e f =
     ∙ ap (λ ys. xs ++ (ws ++ ys)) (drop_all (length ws) (replicate w 0) (omega (arith, length-replicate {A = ℕ} w 0)))
     ∙ ap (λ ys. xs ++ ys) (append-nil ws)
 
--- words taken, all of them written, and a word among those before
-pub appended_and_set : (S : Segments) (s p w at x : ℕ) (ws : List ℕ) → s < length S → p ≡ length (segment S s) → length ws ≡ w →
-    with_word (with_words (extended S s (replicate w 0)) s p ws) s at x ≡ with_segment S s (set (segment S s ++ ws) at x)
-appended_and_set [] s p w at x ws l e f = absurd (omega arith)
-appended_and_set (xs ∷ S) zero p w at x ws l e f = ap (λ ys. set ys at x ∷ S) (over_zeros xs ws p w e f)
-appended_and_set (xs ∷ S) (suc s) p w at x ws l e f = ap (λ T. xs ∷ T) (appended_and_set S s p w at x ws (omega arith) e f)
+-- words taken, all of them written
+pub all_written : {p w : ℕ} (S : Segments) (s : ℕ) (ws : List ℕ) → s < length S → p ≡ length (segment S s) → length ws ≡ w → with_words (extended S s (replicate w 0)) s p ws ≡ extended S s ws
+all_written [] s ws l e f = absurd (omega arith)
+all_written {p} {w} (xs ∷ S) zero ws l e f = ap (λ ys. ys ∷ S) (over_zeros xs ws p w e f)
+all_written (xs ∷ S) (suc s) ws l e f = ap (λ T. xs ∷ T) (all_written S s ws (omega arith) e f)
+
+-- a word of a segment that was written
+pub word_set : (S : Segments) (s : ℕ) (ws : List ℕ) (at x : ℕ) → with_word (with_segment S s ws) s at x ≡ with_segment S s (set ws at x)
+word_set [] s ws at x = refl
+word_set (xs ∷ S) zero ws at x = refl
+word_set (xs ∷ S) (suc s) ws at x = ap (λ T. xs ∷ T) (word_set S s ws at x)

@@ -34,8 +34,11 @@ no_pointers ws p d (suc n) = ap (max 0) (no_pointers ws (p + (d + 0)) d n)
 
 -- one element more is looked at
 
-pub data_more : (ws : List ℕ) (p d q n i least : ℕ) → i < n → max least (data_used ws p d q (n - i)) ≡ max (max least (used_words (take d (drop p ws)))) (data_used ws (p + (d + q)) d q (n - (i + 1)))
-data_more ws p d q n i least l = ap (λ m. max least (data_used ws p d q m)) (let e : n - i ≡ suc (n - (i + 1)) = omega arith in e) ∙ omega arith
+pub one_left : (n i : ℕ) → i < n → n - i ≡ suc (n - (i + 1))
+one_left n i l = omega arith
 
-pub pointers_more : (ws : List ℕ) (p d q n i least : ℕ) → i < n → max least (pointers_used ws p d q (n - i)) ≡ max (max least (used_words (take q (drop (p + d) ws)))) (pointers_used ws (p + (d + q)) d q (n - (i + 1)))
-pointers_more ws p d q n i least l = ap (λ m. max least (pointers_used ws p d q m)) (let e : n - i ≡ suc (n - (i + 1)) = omega arith in e) ∙ omega arith
+pub data_more : (ws : List ℕ) (p d q k least : ℕ) → max least (data_used ws p d q (suc k)) ≡ max (max least (used_words (take d (drop p ws)))) (data_used ws (p + (d + q)) d q k)
+data_more ws p d q k least = omega arith
+
+pub pointers_more : (ws : List ℕ) (p d q k least : ℕ) → max least (pointers_used ws p d q (suc k)) ≡ max (max least (used_words (take q (drop (p + d) ws)))) (pointers_used ws (p + (d + q)) d q k)
+pointers_more ws p d q k least = omega arith

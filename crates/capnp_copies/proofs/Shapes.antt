@@ -1,10 +1,11 @@
 -- Trees whose lists of structs have elements of one size each, which is all that lengths ask of a value; what a place means is of this shape.
--- A meaning is defined by recursion on the value, so the lemmas name its place, value and cost, which no premise determines.
 use Rattle.std.proofs.Common.{◌≡◌, ℕ, zero, suc, pred, ◌+◌, ◌*◌, ◌≤◌, ◌++◌, length, refl, ◌∙◌, arith, length-append, length-take}
 use Rattle.capnp_format.specs.Numbers.{words_for}
-use Rattle.capnp_format.specs.Segments.{Segments}
 use Rattle.capnp_format.specs.Tree.{Tree, Null, Capability, Struct, Flat, Pointers, Structs, Trees, no_trees, tree, Elements, no_elements, element, count, element_count}
-use Rattle.capnp_format.specs.Means.{Means, MeansAll, MeansElements}
+use Rattle.capnp_words.specs.declared.wire_pointer.StructSize.{StructSize}
+use Rattle.capnp_objects.specs.Faults.{child_at}
+use Rattle.capnp_objects.specs.Outcomes.{MeansThere, MeanThere, ElementsMean}
+use Rattle.capnp_objects.specs.Reading.{Reading, behind, sized}
 use Rattle.capnp_format.specs.Canonical.{used_trees, take_trees, data_width, pointer_width, cut_to, trim, trim_each, trim_elements, word_count, word_count_all, word_count_elements, pointers, rows, body, bodies, element_bodies}
 use Rattle.capnp_format.proofs.Digits.{length-digits}
 use Rattle.capnp_format.proofs.Lengths.{length-pointers}
@@ -31,22 +32,22 @@ abbrev mutual
 -- what is meant
 
 mutual
-  pub means_shaped : (S : Segments) (n s p : ℕ) (t : Tree) (c : ℕ) → Means S n s p t c → IsShaped t
-  means_shaped S n s p Null c h = tt
-  means_shaped S n s p (Capability i) c h = tt
-  means_shaped S n s p (Struct ws ts) c (a, k, some, o, claim, e, all, g) = all_shaped S (pred n) a.segment _ ts k all
-  means_shaped S n s p (Flat size ns) c h = tt
-  means_shaped S n s p (Pointers ts) c (a, k, some, o, claim, all, g) = all_shaped S (pred n) a.segment _ ts k all
-  means_shaped S n s p (Structs d q es) c (a, m, k, some, o, claim, tag, fits, all, g) = elements_shaped S (pred n) a.segment _ d q es k all
+  pub means_shaped : (r : Reading) (t : Tree) (c : ℕ) → MeansThere r t c → IsShaped t
+  means_shaped r Null c h = tt
+  means_shaped r (Capability i) c h = tt
+  means_shaped r (Struct ws ts) c (a, k, some, o, claim, e, all, g) = all_shaped (child_at r a (pred r.levels) (a.start + length ws)) ts k all
+  means_shaped r (Flat size ns) c h = tt
+  means_shaped r (Pointers ts) c (a, k, some, o, claim, all, g) = all_shaped (child_at r a (pred r.levels) a.start) ts k all
+  means_shaped r (Structs d q es) c (a, m, k, some, o, claim, tag, fits, all, g) = elements_shaped (child_at r a (pred r.levels) (a.start + 1)) (sized d q) es k all
 
-  pub all_shaped : (S : Segments) (n s p : ℕ) (ts : Trees) (c : ℕ) → MeansAll S n s p ts c → AreShaped ts
-  all_shaped S n s p no_trees c h = tt
-  all_shaped S n s p (tree t ts) c (k, l, one, rest, g) = (means_shaped S n s p t k one, all_shaped S n s _ ts l rest)
+  pub all_shaped : (r : Reading) (ts : Trees) (c : ℕ) → MeanThere r ts c → AreShaped ts
+  all_shaped r no_trees c h = tt
+  all_shaped r (tree t ts) c (k, l, one, rest, g) = (means_shaped r t k one, all_shaped (behind r 1) ts l rest)
 
-  pub elements_shaped : (S : Segments) (n s p d q : ℕ) (es : Elements) (c : ℕ) → MeansElements S n s p d q es c → AreShapedElements d q es
-  elements_shaped S n s p d q no_elements c h = tt
-  elements_shaped S n s p d q (element ws ts es) c (k, l, long, len, e, all, rest, g) =
-      (long, len, all_shaped S n s _ ts k all, elements_shaped S n s (p + d + q) d q es l rest)
+  pub elements_shaped : (r : Reading) (size : StructSize) (es : Elements) (c : ℕ) → ElementsMean r size es c → AreShapedElements size.data_words size.pointers es
+  elements_shaped r size no_elements c h = tt
+  elements_shaped r size (element ws ts es) c (k, l, long, len, e, all, rest, g) =
+      (long, len, all_shaped (behind r size.data_words) ts k all, elements_shaped (record r { at = r.at + size.data_words + size.pointers }) size es l rest)
 
 -- trimmed
 
@@ -55,10 +56,15 @@ take_trees-shaped zero ts v = tt
 take_trees-shaped (suc n) no_trees v = tt
 take_trees-shaped (suc n) (tree t ts) v = (v.0, take_trees-shaped n ts v.1)
 
-pub cut_to-shaped : (d q e r : ℕ) (es : Elements) → e ≤ d → r ≤ q → AreShapedElements d q es → AreShapedElements e r (cut_to e r es)
-cut_to-shaped d q e r no_elements a b v = tt
-cut_to-shaped d q e r (element ws ts es) a b v =
-    (omega (arith, length-take e ws, v.0), take_trees-count r ts (omega (arith, v.1)), take_trees-shaped r ts v.2, cut_to-shaped d q e r es a b v.3)
+pub cut_to-shaped : (size least : StructSize) (es : Elements) → least.data_words ≤ size.data_words → least.pointers ≤ size.pointers → AreShapedElements size.data_words size.pointers es →
+    AreShapedElements least.data_words least.pointers (cut_to least.data_words least.pointers es)
+cut_to-shaped size least no_elements a b v = tt
+cut_to-shaped size least (element ws ts es) a b v = (
+  omega (arith, length-take least.data_words ws, v.0),
+  take_trees-count least.pointers ts (omega (arith, v.1)),
+  take_trees-shaped least.pointers ts v.2,
+  cut_to-shaped size least es a b v.3,
+)
 
 pub widths_shaped : (d q : ℕ) (es : Elements) → AreShapedElements d q es → (data_width (trim_elements es) ≤ d) × (pointer_width (trim_elements es) ≤ q)
 widths_shaped d q no_elements h = (omega arith, omega arith)
@@ -75,7 +81,7 @@ mutual
   trim-shaped (Structs d q es) v =
       let fs = trim_elements es in
       let w = widths_shaped d q es v in
-      cut_to-shaped d q (data_width fs) (pointer_width fs) fs w.0 w.1 (trim_elements-shaped d q es v)
+      cut_to-shaped (sized d q) (sized (data_width fs) (pointer_width fs)) fs w.0 w.1 (trim_elements-shaped d q es v)
 
   pub trim_each-shaped : (ts : Trees) → AreShaped ts → AreShaped (trim_each ts)
   trim_each-shaped no_trees v = tt

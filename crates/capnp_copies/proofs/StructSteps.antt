@@ -37,7 +37,7 @@ below_kept {old} {mid} {L} {id} {at} {head} {n} {more} place taken le (ws, below
     let cut : take n (W ++ more) ≡ W ++ take (n - length W) more =
     ap (λ i. take i (W ++ more)) (let f : n ≡ length W + (n - length W) = omega (arith, taken.starts) in f) ∙ take-append-add W more (n - length W) in (
       rest,
-      then_written old.words mid.words L id (W ++ more) (λ xs. take n xs ++ ws) (there old.words id at place) (ap (λ (v : View). v.words) taken.extends) below
+      then_written old.words id (W ++ more) (λ xs. take n xs ++ ws) (there old.words id at place, ap (λ (v : View). v.words) taken.extends) below
           ∙ ap (with_segment old.words id) (ap (λ xs. xs ++ ws) cut ∙ append_assoc W (take (n - length W) more) ws ∙ ap (λ xs. xs ++ rest) (sym (take_all (length W) W (omega arith)))),
     )
 
@@ -73,13 +73,13 @@ pointers_are_copied {r} {old} {mid} {last} {new} {id} {at} {head} {q} {x} place 
     let len : count ts ≡ q = trim_each-count children.children ∙ children.counts in
     let put : last.words ≡ with_segment mid.words id (with_children (segment mid.words id) (length W) ts) = rw (sym taken.starts) children.made in
     let is : x ≡ pointer (Pointers ts) (offset_to at (length W)) = word ∙ ap (list_word (offset_to at (length W)) 6) (sym len) in
-    let second = then_written M mid.words last.words id (W ++ replicate q 0) (λ xs. with_children xs (length W) ts) id_there (ap (λ (v : View). v.words) taken.extends) put in
+    let second = then_written M id (W ++ replicate q 0) (λ xs. with_children xs (length W) ts) (id_there, ap (λ (v : View). v.words) taken.extends) put in
     record {
       children = children.children;
       counts = children.counts;
       are_read = children.are_read;
       made =
-          then_written M last.words new.words id (with_children (W ++ replicate q 0) (length W) ts) (λ xs. set xs at x) id_there second (ap (λ (v : View). v.words) writes)
+          then_written M id (with_children (W ++ replicate q 0) (length W) ts) (λ xs. set xs at x) (id_there, second) (ap (λ (v : View). v.words) writes)
           ∙ ap (with_segment M id) (ap₂ (λ xs y. set xs at y) (object_children W q ts len) is);
     }
 
@@ -92,7 +92,7 @@ pub trimmed_struct : {r : Reading} {size used : StructSize} (us : Trees) (c : �
 trimmed_struct {r} {size} {used} us c inside uses len all =
     let ws : List ℕ = words_from r size.data_words in
     trim-struct ws us
-    ∙ ap (λ i. Struct (take (used_words ws) ws) (trim_each (take_trees i us))) (used_children r.segments r.levels r.segment (r.at + size.data_words) size.pointers used.pointers us c (omega arith) len uses.of_pointers all)
+    ∙ ap (λ i. Struct (take (used_words ws) ws) (trim_each (take_trees i us))) (used_children (behind r size.data_words) us c (omega arith) len all ∙ sym uses.of_pointers)
 
 words_of_struct : {r : Reading} {size used : StructSize} (us : Trees) (c : ℕ) → r.at + (size.data_words + size.pointers) ≤ length (row r) → Uses r size used → count us ≡ size.pointers → MeanThere (behind r size.data_words) us c →
     word_count (trim (Struct (words_from r size.data_words) us)) ≡ used.data_words + used.pointers + word_count_all (trim_each (take_trees used.pointers us))
@@ -111,7 +111,7 @@ pub record FilledStruct (r : Reading) (size : StructSize) (m m' : Meter) (ts : T
 pub struct_filled : {r : Reading} {size used : StructSize} {m m' : Meter} {ts : Trees} → r.at + (size.data_words + size.pointers) ≤ length (row r) → Uses r size used → count ts ≡ used.pointers → ReadsAll canonical (behind r size.data_words) m m' ts → FilledStruct r size m m' ts
 struct_filled {r} {size} {used} {m} {m'} {ts} inside uses len all =
     let ws : List ℕ = words_from r size.data_words in
-    let f = fill_nulls size.pointers all (omega (arith, uses.less_pointers)) (λ i a b. null_behind r.segments r.segment (r.at + size.data_words) size.pointers i (omega (arith, uses.of_pointers, len)) b) in
+    let f = fill_nulls size.pointers all (omega (arith, uses.less_pointers)) (λ i a b. null_behind (behind r size.data_words) size.pointers i (omega (arith, uses.of_pointers, len)) b) in
     record {
       all = f.all;
       counts = f.counts;
@@ -167,8 +167,8 @@ struct_stops {r} {size} {used} {old} {mid} {new} {id} {at} {head} {m} {m'} {name
     let inside : r.at + d + size.pointers ≤ length (row r) = omega (arith, begun.inside) in
     let too_large : AreTooLarge (behind r d) q (length (segment mid.words id)) (old.room id) → IsTooLargeStruct r size (length (segment old.words id)) (old.room id) =
     λ large us c len all.
-    (let u = used_children r.segments r.levels r.segment (r.at + d) size.pointers q us c inside len begun.uses.of_pointers all in
-    let b = large (take_trees q us) c (take_trees-count q us (omega (arith, len, begun.uses.less_pointers))) (means_taken r.segments r.levels r.segment (r.at + d) us c q (omega (arith, u)) all) in
+    (let u = used_children (behind r d) us c inside len all ∙ sym begun.uses.of_pointers in
+    let b = large (take_trees q us) c (take_trees-count q us (omega (arith, len, begun.uses.less_pointers))) (means_taken (behind r d) us c q (omega (arith, u)) all) in
     omega (arith, words_of_struct us c begun.inside begun.uses len all)) in
     record {
       why = elim one [
@@ -192,7 +192,7 @@ struct_is_copied {r} {size} {used} {old} {mid} {last} {new} {id} {at} {head} {x}
     let long : length us ≡ used.data_words = data_long begun in
     let len : count ts ≡ q = trim_each-count children.children ∙ children.counts in
     let f = struct_filled begun.inside begun.uses children.counts children.are_read in
-    let section : take (used_words ws) ws ≡ us = ap (λ i. take i ws) (sym begun.uses.of_data) ∙ words_taken r.segments r.segment r.at r.at used.data_words size.data_words begun.uses.less_data refl in
+    let section : take (used_words ws) ws ≡ us = ap (λ i. take i ws) (sym begun.uses.of_data) ∙ words_taken r.segments r.segment r.at used.data_words size.data_words begun.uses.less_data in
     let form : trim (Struct ws f.all) ≡ Struct us ts = f.form ∙ ap (λ xs. Struct xs ts) section in
     let put : last.words ≡ with_segment mid.words id (with_children (segment mid.words id) (length W + length us) ts) = rw (long, sym begun.taken.starts) children.made in
     let shape : W ++ (us ++ zeros) ≡ front ++ zeros = simp append_assoc in
@@ -201,12 +201,12 @@ struct_is_copied {r} {size} {used} {old} {mid} {last} {new} {id} {at} {head} {x}
     let whole : front ++ (pointers 0 ts ++ bodies ts) ≡ W ++ (us ++ pointers 0 ts ++ bodies ts) = simp append_assoc in
     let is : x ≡ pointer (Struct us ts) (offset_to at (length W)) =
     word ∙ ap₂ (struct_word (offset_to at (length W))) (sym long) (sym len) ∙ sym (struct_pointer us ts (offset_to at (length W)) (omega (arith, len, long))) in
-    let second = then_written M mid.words last.words id (W ++ (us ++ zeros)) (λ xs. with_children xs (length W + length us) ts) id_there (ap (λ (v : View). v.words) begun.taken.extends) put in
+    let second = then_written M id (W ++ (us ++ zeros)) (λ xs. with_children xs (length W + length us) ts) (id_there, ap (λ (v : View). v.words) begun.taken.extends) put in
     record {
       children = f.all;
       counts = f.counts;
       are_read = f.are_read;
       made =
-          then_written M last.words new.words id (with_children (W ++ (us ++ zeros)) (length W + length us) ts) (λ xs. set xs at x) id_there second (ap (λ (v : View). v.words) writes)
+          then_written M id (with_children (W ++ (us ++ zeros)) (length W + length us) ts) (λ xs. set xs at x) (id_there, second) (ap (λ (v : View). v.words) writes)
           ∙ ap (with_segment M id) (ap₂ (λ xs y. set xs at y) (filled ∙ whole) is) ∙ ap (λ t. with_segment M id (copied W at t)) (sym form);
     }

@@ -1,9 +1,8 @@
 -- Children and words that are used, as the words of the source tell them; the Nulls behind them.
--- A meaning is defined by recursion on the value, so the lemmas name its place, value and cost, which no premise determines.
 use Rattle.std.proofs.Common.{◌≡◌, ℕ, zero, suc, ◌+◌, ◌-◌, ◌<◌, ◌≤◌, max, true, nat_eq, List, [], ◌∷◌, length, get_or, take, drop, refl, sym, ap, ap₂, ◌∙◌, subst, arith, eqb-true, get_or-take, get_or-drop}
 use Rattle.capnp_format.specs.Segments.{Segments, segment, word_at, words_at}
 use Rattle.capnp_format.specs.Tree.{Tree, Null, Capability, Struct, Flat, Pointers, Structs, Trees, no_trees, tree, Elements, no_elements, element, count, capabilities_all}
-use Rattle.capnp_format.specs.Means.{Means, MeansAll}
+use Rattle.capnp_format.specs.Means.{MeansAll}
 use Rattle.capnp_format.specs.Canonical.{used_from, used_words, is_null, used_trees, take_trees, data_width, pointer_width, trim, trim_each, trim_elements, cut_to}
 use Rattle.capnp_words.specs.declared.error.ErrorKind.{ErrorKind}
 use Rattle.capnp_words.specs.Meter.{Meter}
@@ -11,8 +10,8 @@ use Rattle.capnp_format.proofs.Trimming.{used_from-rest, used_from-past, take_tr
 use Rattle.capnp_format.proofs.Appending.{append_trees, count-append, means_joined}
 use Rattle.capnp_copies.proofs.LeastWidths.{used_where_meant}
 use Rattle.capnp_objects.specs.Spending.{after, pointers_in_all}
-use Rattle.capnp_objects.specs.Outcomes.{ReadsAll, RefusedAll}
-use Rattle.capnp_objects.specs.Reading.{Reading, row, words_from}
+use Rattle.capnp_objects.specs.Outcomes.{MeansThere, MeanThere, ReadsAll, RefusedAll}
+use Rattle.capnp_objects.specs.Reading.{Reading, behind, row, words_from}
 use Rattle.capnp_objects.specs.Wanted.{canonical}
 
 -- nothing is used behind the used words
@@ -24,13 +23,12 @@ behind_used (x ∷ xs) (suc i) l = behind_used xs i (used_from-rest (nat_eq x 0)
 pub word_of : (S : Segments) (s p n i : ℕ) → i < n → get_or (words_at S s p n) i 0 ≡ word_at S s (p + i)
 word_of S s p n i l = get_or-take n (drop p (segment S s)) i 0 l ∙ get_or-drop p (segment S s) i 0
 
-pub null_behind : (S : Segments) (s p n i : ℕ) → used_words (words_at S s p n) ≤ i → i < n → word_at S s (p + i) ≡ 0
-null_behind S s p n i u l = sym (word_of S s p n i l) ∙ behind_used (words_at S s p n) i u
+pub null_behind : (r : Reading) (n i : ℕ) → used_words (words_from r n) ≤ i → i < n → word_at r.segments r.segment (r.at + i) ≡ 0
+null_behind r n i u l = sym (word_of r.segments r.segment r.at n i l) ∙ behind_used (words_from r n) i u
 
 -- the children that are used are as many as the used words of the pointers
-pub used_children : (S : Segments) (n s p q r : ℕ) (ts : Trees) (c : ℕ) → p + q ≤ length (segment S s) → count ts ≡ q → r ≡ used_words (words_at S s p q) → MeansAll S n s p ts c → used_trees ts ≡ r
-used_children S n s p q r ts c l len e all =
-    sym (used_where_meant S n s p ts c (omega (arith, len)) all) ∙ ap (λ i. used_words (words_at S s p i)) len ∙ sym e
+pub used_children : {q : ℕ} (r : Reading) (ts : Trees) (c : ℕ) → r.at + q ≤ length (row r) → count ts ≡ q → MeanThere r ts c → used_trees ts ≡ used_words (words_from r q)
+used_children r ts c l len all = sym (used_where_meant r ts c (omega (arith, len)) all) ∙ ap (λ i. used_words (words_from r i)) len
 
 -- trimming the children first changes no width
 
@@ -72,25 +70,25 @@ take_trees-trim n ts = sym (trim_each-take n ts)
 
 -- Nulls at the end
 
-null_costs : (S : Segments) (n s p : ℕ) (t : Tree) (c : ℕ) → is_null t ≡ true → Means S n s p t c → c ≡ 0
-null_costs S n s p Null c e h = h.1
-null_costs S n s p (Capability i) c e h = absurd (cc e)
-null_costs S n s p (Struct ws ts) c e h = absurd (cc e)
-null_costs S n s p (Flat size ns) c e h = absurd (cc e)
-null_costs S n s p (Pointers ts) c e h = absurd (cc e)
-null_costs S n s p (Structs d q es) c e h = absurd (cc e)
+null_costs : (r : Reading) (t : Tree) (c : ℕ) → is_null t ≡ true → MeansThere r t c → c ≡ 0
+null_costs r Null c e h = h.1
+null_costs r (Capability i) c e h = absurd (cc e)
+null_costs r (Struct ws ts) c e h = absurd (cc e)
+null_costs r (Flat size ns) c e h = absurd (cc e)
+null_costs r (Pointers ts) c e h = absurd (cc e)
+null_costs r (Structs d q es) c e h = absurd (cc e)
 
-nulls_cost : (S : Segments) (n s p : ℕ) (ts : Trees) (c : ℕ) → used_trees ts ≤ 0 → MeansAll S n s p ts c → c ≡ 0
-nulls_cost S n s p no_trees c l h = h
-nulls_cost S n s p (tree t ts) c l (k, m, one, rest, g) =
+nulls_cost : (r : Reading) (ts : Trees) (c : ℕ) → used_trees ts ≤ 0 → MeanThere r ts c → c ≡ 0
+nulls_cost r no_trees c l h = h
+nulls_cost r (tree t ts) c l (k, m, one, rest, g) =
     let e = used_from-past (is_null t) (used_trees ts) l in
-    omega (arith, null_costs S n s p t k e.0 one, nulls_cost S n s (p + 1) ts m (omega (arith, e.1)) rest)
+    omega (arith, null_costs r t k e.0 one, nulls_cost (behind r 1) ts m (omega (arith, e.1)) rest)
 
 -- reading the used children alone costs as much as reading them all
-pub means_taken : (S : Segments) (n s p : ℕ) (ts : Trees) (c m : ℕ) → used_trees ts ≤ m → MeansAll S n s p ts c → MeansAll S n s p (take_trees m ts) c
-means_taken S n s p ts c zero l h = nulls_cost S n s p ts c l h
-means_taken S n s p no_trees c (suc m) l h = h
-means_taken S n s p (tree t ts) c (suc m) l (a, b, one, rest, g) = (a, b, one, means_taken S n s (p + 1) ts b m (used_from-rest (is_null t) (used_trees ts) m l) rest, g)
+pub means_taken : (r : Reading) (ts : Trees) (c m : ℕ) → used_trees ts ≤ m → MeanThere r ts c → MeanThere r (take_trees m ts) c
+means_taken r ts c zero l h = nulls_cost r ts c l h
+means_taken r no_trees c (suc m) l h = h
+means_taken r (tree t ts) c (suc m) l (a, b, one, rest, g) = (a, b, one, means_taken (behind r 1) ts b m (used_from-rest (is_null t) (used_trees ts) m l) rest, g)
 
 abbrev nulls : ℕ → Trees
 nulls zero = no_trees
@@ -159,11 +157,10 @@ capabilities-take (suc n) (tree t ts) = omega (arith, capabilities-take n ts)
 -- a refusal among the first pointers, of which the others are Null, is one of them all
 pub refused_used : {r : Reading} {m m' : Meter} {k : ErrorKind} (q used : ℕ) → r.at + q ≤ length (row r) → used_words (words_from r q) ≤ used → used ≤ q → RefusedAll canonical r used m m' k → RefusedAll canonical r q m m' k
 refused_used {r} q used l e le h =
-    let S : Segments = r.segments in
     record {
       named = (h.named.0, h.named.1, (let b = h.named.2 in omega arith), h.named.3);
       only = λ us c len all free covers.
-          let u = used_children S r.levels r.segment r.at q (used_words (words_from r q)) us c l len refl all in
-          h.only (take_trees used us) c (take_trees-count used us (omega (arith, len))) (means_taken S r.levels r.segment r.at us c used (omega (arith, u)) all) (λ t. omega (arith, capabilities-take used us, free t)) covers;
+          let u = used_children r us c l len all in
+          h.only (take_trees used us) c (take_trees-count used us (omega (arith, len))) (means_taken r us c used (omega (arith, u)) all) (λ t. omega (arith, capabilities-take used us, free t)) covers;
       spent = (let (g, f, a, b, few) = h.spent in (g, f, a, b, omega arith));
     }

@@ -64,7 +64,7 @@ struct_value_stops {r} {old} {new} {id} {levels} {m} {m'} {m''} {size} {name} {k
     let too_large : IsTooLargeStruct (inside r levels start) size used (old.room id) → IsTooLarge r used (old.room id) =
     λ large t c h.
     (let l : IsTooLargeStruct (child_at r a (pred r.levels) a.start) (sized (data_words a.word) (pointer_count a.word)) used (old.room id) = rw (en, es, e, ed, eq) at large in
-    let x = means_struct r.segments r.levels r.segment r.at t c a h o.leads_to z in
+    let x = means_struct r t a (c, h) o.leads_to z in
     rw (x.4) (l x.0 x.1 x.2 x.3)) in
     record { why = elim stop.why [ inl x ↦ inl (x.0, x.1, x.2, too_large x.3) | inr x ↦ inr (stopped_struct o z (rw (en, es, e, ed, eq) at x)) ] }
 
@@ -86,7 +86,7 @@ pointers_value_stops {r} {old} {new} {id} {levels} {i} {m} {m'} {m''} {name} {k}
     let too_large : IsTooLargePointers (inside r levels start) i used (old.room id) → IsTooLarge r used (old.room id) =
     λ large t c h.
     (let l : IsTooLargePointers (child_at r a (pred r.levels) a.start) (list_count a.word) used (old.room id) = rw (en, es, e, ei) at large in
-    let x = means_pointers r.segments r.levels r.segment r.at t c a h o.leads_to z six in
+    let x = means_pointers r t a (c, h) o.leads_to (z, six) in
     rw (x.4) (l x.0 x.1 x.2 x.3)) in
     record { why = elim stop.why [ inl x ↦ inl (x.0, x.1, x.2, too_large x.3) | inr x ↦ inr (stopped_pointers o z six (rw (en, es, e, ei) at x)) ] }
 
@@ -112,7 +112,7 @@ structs_value_stops {r} {old} {new} {id} {levels} {i} {m} {m'} {m''} {size} {nam
     let too_large : IsTooLargeList (inside r levels start) size i used (old.room id) → IsTooLarge r used (old.room id) =
     λ large t c h.
     (let l : IsTooLargeList (child_at r a (pred r.levels) (a.start + 1)) (tag_size r.segments a) (offset_bits (tag r.segments a)) used (old.room id) = rw (en, eu, e, ed, eq, ei) at large in
-    let x = means_structs r.segments r.levels r.segment r.at t c a h o.leads_to z seven in
+    let x = means_structs r t a (c, h) o.leads_to (z, seven) in
     rw (x.4) (l x.0 x.1 x.2 x.3)) in
     record { why = elim stop.why [ inl x ↦ inl (x.0, x.1, x.2, too_large x.3) | inr x ↦ inr (stopped_structs o z seven (rw (en, eu, e, ed, eq, ei) at x)) ] }
 

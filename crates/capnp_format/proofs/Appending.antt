@@ -1,8 +1,10 @@
 -- Children in two parts, as a loop has them.
+-- `means_joined` takes its arguments one by one: another crate cites it so.
 use Rattle.std.proofs.Common.{◌≡◌, ℕ, suc, ◌+◌, ◌∷◌, ◌++◌, refl, sym, ap, ap₂, ◌∙◌, subst, arith, append_assoc}
 use Rattle.capnp_format.specs.Segments.{Segments}
 use Rattle.capnp_format.specs.Tree.{Trees, no_trees, tree, count}
 use Rattle.capnp_format.specs.Means.{MeansAll}
+use Rattle.capnp_format.proofs.Meant.{AllMeant}
 use Rattle.capnp_format.specs.Canonical.{word_count, word_count_all, pointer, pointers, body, bodies}
 
 abbrev pub append_trees : Trees → Trees → Trees
@@ -35,8 +37,9 @@ means_joined S n s p no_trees us k l h m =
 means_joined S n s p (tree t ts) us k l (a, b, one, rest, g) m =
     (a, b + l, one, means_joined S n s (p + 1) ts us b l rest (subst (λ q. MeansAll S n s q us l) (let e : p + suc (count ts) ≡ p + 1 + count ts = omega arith in e) m), omega arith)
 
-pub means_parted : (S : Segments) (n s p : ℕ) (ts us : Trees) (c : ℕ) → MeansAll S n s p (append_trees ts us) c → (k : ℕ) × (l : ℕ) × MeansAll S n s p ts k × MeansAll S n s (p + count ts) us l × (c ≡ k + l)
-means_parted S n s p no_trees us c h = (0, c, refl, subst (λ q. MeansAll S n s q us c) (let e : p ≡ p + 0 = omega arith in e) h, omega arith)
-means_parted S n s p (tree t ts) us c (a, b, one, rest, g) =
-    let r = means_parted S n s (p + 1) ts us b rest in
+pub means_parted : {S : Segments} {n s p c : ℕ} (ts us : Trees) → AllMeant S n s p (append_trees ts us) c → (k : ℕ) × (l : ℕ) × MeansAll S n s p ts k × MeansAll S n s (p + count ts) us l × (c ≡ k + l)
+means_parted {S = S} {n = n} {s = s} {p = p} {c = c} no_trees us h = (0, c, refl, subst (λ q. MeansAll S n s q us c) (let e : p ≡ p + 0 = omega arith in e) h.means, omega arith)
+means_parted {S = S} {n = n} {s = s} {p = p} (tree t ts) us h =
+    let (a, b, one, rest, g) = h.means in
+    let r = means_parted {p = p + 1} {c = b} ts us (record { means = rest }) in
     (a + r.0, r.1, (a, r.0, one, r.2, refl), subst (λ q. MeansAll S n s q us r.1) (let e : p + 1 + count ts ≡ p + suc (count ts) = omega arith in e) r.3, omega (arith, r.4))

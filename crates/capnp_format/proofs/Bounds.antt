@@ -1,36 +1,45 @@
 -- How many words a value has, against what it costs; and that what is meant is a value.
-use Rattle.std.proofs.Common.{ℕ, zero, suc, pred, ◌+◌, ◌*◌, ◌/◌, ◌^◌, ◌<◌, ◌≤◌, Bool, true, false, cond, nat_eq, nat_lt, Option, None, List, [], ◌∷◌, length, get_or, take, drop, Some, IfSome, sym, subst, arith, mod-lt, pow_pos, get_or-drop}
+-- `means_value` takes its arguments one by one: it is the answer to a law.
+use Rattle.std.proofs.Common.{ℕ, zero, suc, ◌+◌, ◌*◌, ◌/◌, ◌^◌, ◌<◌, ◌≤◌, Bool, true, false, cond, nat_eq, nat_lt, Option, None, List, [], ◌∷◌, length, get_or, take, drop, Some, IfSome, sym, subst, arith, mod-lt, pow_pos, get_or-drop}
 use Rattle.capnp_format.specs.Word.{kind, is_double, far_position, upper_half, offset_bits}
 use Rattle.capnp_format.specs.Numbers.{digits, element_bits}
 pub use Rattle.capnp_format.specs.Segments.{AreWords}
 use Rattle.capnp_format.specs.Segments.{Segments, segment, word_at, words_at, Target, leads, near, far, given, offset_leads}
 use Rattle.capnp_format.specs.Tree.{Tree, Null, Capability, Struct, Flat, Pointers, Structs, Trees, no_trees, tree, Elements, no_elements, element, element_count}
-use Rattle.capnp_format.specs.Means.{Means, MeansAll, MeansElements}
+use Rattle.capnp_format.specs.Means.{Means}
 use Rattle.capnp_format.specs.Canonical.{word_count, word_count_all, word_count_elements}
 use Rattle.capnp_format.specs.Value.{AreBelow, IsValue, AreValues, AreElements}
+use Rattle.capnp_format.proofs.Meant.{Meant, AllMeant, ElementsMeant}
 use Rattle.capnp_format.proofs.Sound.{if_bind, if_given, at_some}
 
 mutual
-  pub words_within_cost : (S : Segments) (n s p : ℕ) (t : Tree) (c : ℕ) → Means S n s p t c → word_count t ≤ c
-  words_within_cost S n s p Null c h = omega arith
-  words_within_cost S n s p (Capability i) c h = omega arith
-  words_within_cost S n s p (Struct ws ts) c (a, k, some, o, claim, e, all, g) =
-      omega (arith, words_within_cost_all S (pred n) a.segment _ ts k all)
-  words_within_cost S n s p (Flat size ns) c (a, some, small, o, claim, e, g) = omega arith
-  words_within_cost S n s p (Pointers ts) c (a, k, some, o, claim, all, g) =
-      omega (arith, words_within_cost_all S (pred n) a.segment _ ts k all)
-  words_within_cost S n s p (Structs d q es) c (a, m, k, some, o, claim, tag, fits, all, g) =
-      omega (arith, words_within_cost_elements S (pred n) a.segment _ d q es k all)
+  pub words_within_cost : {S : Segments} {n s p c : ℕ} (t : Tree) → Meant S n s p t c → word_count t ≤ c
+  words_within_cost Null h = omega arith
+  words_within_cost (Capability i) h = omega arith
+  words_within_cost (Struct ws ts) h =
+      let (a, k, some, o, claim, e, all, g) = h.means in
+      omega (arith, words_within_cost_all ts (record { means = all }))
+  words_within_cost (Flat size ns) h =
+      let (a, some, small, o, claim, e, g) = h.means in
+      omega arith
+  words_within_cost (Pointers ts) h =
+      let (a, k, some, o, claim, all, g) = h.means in
+      omega (arith, words_within_cost_all ts (record { means = all }))
+  words_within_cost (Structs d q es) h =
+      let (a, m, k, some, o, claim, tag, fits, all, g) = h.means in
+      omega (arith, words_within_cost_elements es (record { means = all }))
 
-  words_within_cost_all : (S : Segments) (n s p : ℕ) (ts : Trees) (c : ℕ) → MeansAll S n s p ts c → word_count_all ts ≤ c
-  words_within_cost_all S n s p no_trees c h = omega arith
-  words_within_cost_all S n s p (tree t ts) c (k, l, one, rest, g) =
-      omega (arith, words_within_cost S n s p t k one, words_within_cost_all S n s _ ts l rest)
+  words_within_cost_all : {S : Segments} {n s p c : ℕ} (ts : Trees) → AllMeant S n s p ts c → word_count_all ts ≤ c
+  words_within_cost_all no_trees h = omega arith
+  words_within_cost_all (tree t ts) h =
+      let (k, l, one, rest, g) = h.means in
+      omega (arith, words_within_cost t (record { means = one }), words_within_cost_all ts (record { means = rest }))
 
-  words_within_cost_elements : (S : Segments) (n s p d q : ℕ) (es : Elements) (c : ℕ) → MeansElements S n s p d q es c → word_count_elements es ≤ c
-  words_within_cost_elements S n s p d q no_elements c h = omega arith
-  words_within_cost_elements S n s p d q (element ws ts es) c (k, l, long, len, e, all, rest, g) =
-      omega (arith, words_within_cost_all S n s _ ts k all, words_within_cost_elements S n s _ d q es l rest)
+  words_within_cost_elements : {S : Segments} {n s p d q c : ℕ} (es : Elements) → ElementsMeant S n s p d q es c → word_count_elements es ≤ c
+  words_within_cost_elements no_elements h = omega arith
+  words_within_cost_elements (element ws ts es) h =
+      let (k, l, long, len, e, all, rest, g) = h.means in
+      omega (arith, words_within_cost_all ts (record { means = all }), words_within_cost_elements es (record { means = rest }))
 
 near_word_below : (S : Segments) (s p x pads : ℕ) → x < 2 ^ 64 → IfSome (near S s p x pads) (λ a. a.word < 2 ^ 64)
 near_word_below S s p x pads small = if_bind (λ (a : Target). a.word < 2 ^ 64) (offset_leads (length (segment S s)) p (offset_bits x)) (λ b. Some (record { word = x; segment = s; start = b; pads = pads })) (λ b e. small)
@@ -83,24 +92,27 @@ mutual
         omega (arith, o.data_of),
         omega (arith, o.pointers),
         rw e at (words_below S a.segment a.start (length ws) w),
-        all_values S (pred n) a.segment _ ts k w all,
+        all_values ts w (record { means = all }),
       )
   means_value S n s p (Flat size ns) c w (a, some, small, o, claim, e, g) =
       let below = at_some _ _ a o.leads_to.1 (leads_word S s p w) in
       (small, omega (arith, o.counts), subst (AreBelow (2 ^ element_bits size)) (sym e) (digits_below (2 ^ element_bits size) (length ns) _ (pow_pos (element_bits size))))
   means_value S n s p (Pointers ts) c w (a, k, some, o, claim, all, g) =
       let small = at_some _ _ a o.leads_to.1 (leads_word S s p w) in
-      (omega (arith, o.counts), all_values S (pred n) a.segment _ ts k w all)
+      (omega (arith, o.counts), all_values ts w (record { means = all }))
   means_value S n s p (Structs d q es) c w (a, m, k, some, o, claim, tag, fits, all, g) =
       let small = at_some _ _ a o.leads_to.1 (leads_word S s p w) in
       let g_small = w a.segment a.start in
-      (omega (arith, tag.data_of), omega (arith, tag.pointers), omega (arith, tag.counts), omega (arith, o.counts), elements_values S (pred n) a.segment _ d q es k w (omega arith) all)
+      (omega (arith, tag.data_of), omega (arith, tag.pointers), omega (arith, tag.counts), omega (arith, o.counts), elements_values es w (omega arith) (record { means = all }))
 
-  all_values : (S : Segments) (n s p : ℕ) (ts : Trees) (c : ℕ) → AreWords S → MeansAll S n s p ts c → AreValues ts
-  all_values S n s p no_trees c w h = tt
-  all_values S n s p (tree t ts) c w (k, l, one, rest, g) = (means_value S n s p t k w one, all_values S n s _ ts l w rest)
+  all_values : {S : Segments} {n s p c : ℕ} (ts : Trees) → AreWords S → AllMeant S n s p ts c → AreValues ts
+  all_values no_trees w h = tt
+  all_values (tree t ts) w h =
+      let (k, l, one, rest, g) = h.means in
+      (means_value _ _ _ _ t k w one, all_values ts w (record { means = rest }))
 
-  elements_values : (S : Segments) (n s p d q : ℕ) (es : Elements) (c : ℕ) → AreWords S → p + element_count es * (d + q) ≤ length (segment S s) → MeansElements S n s p d q es c → AreElements d q es
-  elements_values S n s p d q no_elements c w fits h = tt
-  elements_values S n s p d q (element ws ts es) c w fits (k, l, long, len, e, all, rest, g) =
-      (long, len, rw e at (words_below S s p (length ws) w), all_values S n s _ ts k w all, elements_values S n s (p + d + q) d q es l w (omega arith) rest)
+  elements_values : {S : Segments} {n s p d q c : ℕ} (es : Elements) → AreWords S → p + element_count es * (d + q) ≤ length (segment S s) → ElementsMeant S n s p d q es c → AreElements d q es
+  elements_values no_elements w fits h = tt
+  elements_values {S = S} {s = s} {p = p} (element ws ts es) w fits h =
+      let (k, l, long, len, e, all, rest, g) = h.means in
+      (long, len, rw e at (words_below S s p (length ws) w), all_values ts w (record { means = all }), elements_values es w (omega arith) (record { means = rest }))

@@ -13,18 +13,13 @@ digit_at base (suc n) x (suc i) l =
     digit_at base n (x / base) i (omega arith)
     ∙ ap (λ y. y % base) (div-div-eq-div-mul x base (base ^ i) ∙ ap (λ y. x / y) (mul_comm base (base ^ i) ∙ sym (pow-suc base i)))
 
--- eight bytes are a word's digits
-eight : (a b c d e f g h : ℕ) → from_le_bytes w64 (a ∷ b ∷ c ∷ d ∷ e ∷ f ∷ g ∷ h ∷ []) ≡ from_digits 256 (a ∷ b ∷ c ∷ d ∷ e ∷ f ∷ g ∷ h ∷ [])
-eight a b c d e f g h = omega arith
-
--- the words as one number are the bytes as one number
-grouped : (a b c d e f g h x : ℕ) → from_digits 256 (a ∷ b ∷ c ∷ d ∷ e ∷ f ∷ g ∷ h ∷ []) + 2 ^ 64 * x ≡ a + 256 * (b + 256 * (c + 256 * (d + 256 * (e + 256 * (f + 256 * (g + 256 * (h + 256 * x)))))))
-grouped a b c d e f g h x = omega arith
-
+-- eight bytes are a word's digits; the words as one number are the bytes as one number
 pub words_are_bytes : WordsAreBytes
 words_are_bytes zero [] l = refl
 words_are_bytes (suc n) (a ∷ b ∷ c ∷ d ∷ e ∷ f ∷ g ∷ h ∷ rest) l =
-    ap₂ (λ x y. x + 2 ^ 64 * y) (eight a b c d e f g h) (words_are_bytes n rest (omega arith))
-    ∙ grouped a b c d e f g h (from_digits 256 rest)
+    let x = from_digits 256 rest in
+    let digits_of : from_le_bytes w64 (a ∷ b ∷ c ∷ d ∷ e ∷ f ∷ g ∷ h ∷ []) ≡ from_digits 256 (a ∷ b ∷ c ∷ d ∷ e ∷ f ∷ g ∷ h ∷ []) = omega arith in
+    let grouped : from_digits 256 (a ∷ b ∷ c ∷ d ∷ e ∷ f ∷ g ∷ h ∷ []) + 2 ^ 64 * x ≡ a + 256 * (b + 256 * (c + 256 * (d + 256 * (e + 256 * (f + 256 * (g + 256 * (h + 256 * x))))))) = omega arith in
+    ap₂ (λ x y. x + 2 ^ 64 * y) digits_of (words_are_bytes n rest (omega arith)) ∙ grouped
 words_are_bytes zero (x ∷ xs) l = absurd (omega arith)
 words_are_bytes (suc n) _ l = absurd (omega arith)

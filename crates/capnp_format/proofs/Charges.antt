@@ -1,11 +1,12 @@
 -- Canonical words cost no more than their source.
-use Rattle.std.proofs.Common.{◌≡◌, ℕ, zero, suc, pred, ◌+◌, ◌*◌, ◌<◌, ◌≤◌, inl, inr, cond, ap, ◌∙◌, arith, eq-eqb, ne_eqb, length-take}
+use Rattle.std.proofs.Common.{◌≡◌, ℕ, zero, suc, ◌+◌, ◌*◌, ◌<◌, ◌≤◌, inl, inr, cond, ap, ◌∙◌, arith, eq-eqb, ne_eqb, length-take}
 use Rattle.std.proofs.lemmas.Bool.{cases_eq}
 use Rattle.capnp_format.specs.Segments.{Segments}
 use Rattle.capnp_format.specs.Tree.{Tree, Null, Capability, Struct, Flat, Pointers, Structs, Trees, no_trees, tree, Elements, no_elements, element, element_count}
-use Rattle.capnp_format.specs.Means.{count_cost, Means, MeansAll, MeansElements}
+use Rattle.capnp_format.specs.Means.{count_cost}
 use Rattle.capnp_format.specs.Canonical.{used_words, used_trees, take_trees, data_width, pointer_width, cut_to, trim, trim_each, trim_elements, charge, charge_all, charge_elements}
 use Rattle.capnp_format.specs.Value.{IsValue, AreValues, AreElements}
+use Rattle.capnp_format.proofs.Meant.{Meant, AllMeant, ElementsMeant}
 use Rattle.capnp_format.proofs.Trimming.{used_words-le, used_trees-le, take_trees-count, cut_to-count, trim_each-count, trim_elements-count, widths-le}
 
 take_trees-charge : (n : ℕ) (ts : Trees) → charge_all (take_trees n ts) ≤ charge_all ts
@@ -80,19 +81,30 @@ mutual
   trim_elements-charge d q (element ws ts es) v = omega (arith, trim_each-charge ts v.3, trim_elements-charge d q es v.4)
 
 mutual
-  pub charge_within : (S : Segments) (n s p : ℕ) (t : Tree) (c : ℕ) → Means S n s p t c → charge t ≤ c
-  charge_within S n s p Null c h = omega arith
-  charge_within S n s p (Capability i) c h = omega arith
-  charge_within S n s p (Struct ws ts) c (a, k, some, o, claim, e, all, g) = omega (arith, charge_within_all S (pred n) a.segment _ ts k all)
-  charge_within S n s p (Flat size ns) c (a, some, small, o, claim, e, g) = omega arith
-  charge_within S n s p (Pointers ts) c (a, k, some, o, claim, all, g) = omega (arith, charge_within_all S (pred n) a.segment _ ts k all)
-  charge_within S n s p (Structs d q es) c (a, m, k, some, o, claim, tag, fits, all, g) = omega (arith, charge_within_elements S (pred n) a.segment _ d q es k all)
+  pub charge_within : {S : Segments} {n s p c : ℕ} (t : Tree) → Meant S n s p t c → charge t ≤ c
+  charge_within Null h = omega arith
+  charge_within (Capability i) h = omega arith
+  charge_within (Struct ws ts) h =
+      let (a, k, some, o, claim, e, all, g) = h.means in
+      omega (arith, charge_within_all ts (record { means = all }))
+  charge_within (Flat size ns) h =
+      let (a, some, small, o, claim, e, g) = h.means in
+      omega arith
+  charge_within (Pointers ts) h =
+      let (a, k, some, o, claim, all, g) = h.means in
+      omega (arith, charge_within_all ts (record { means = all }))
+  charge_within (Structs d q es) h =
+      let (a, m, k, some, o, claim, tag, fits, all, g) = h.means in
+      omega (arith, charge_within_elements es (record { means = all }))
 
-  charge_within_all : (S : Segments) (n s p : ℕ) (ts : Trees) (c : ℕ) → MeansAll S n s p ts c → charge_all ts ≤ c
-  charge_within_all S n s p no_trees c h = omega arith
-  charge_within_all S n s p (tree t ts) c (k, l, one, rest, g) = omega (arith, charge_within S n s p t k one, charge_within_all S n s _ ts l rest)
+  charge_within_all : {S : Segments} {n s p c : ℕ} (ts : Trees) → AllMeant S n s p ts c → charge_all ts ≤ c
+  charge_within_all no_trees h = omega arith
+  charge_within_all (tree t ts) h =
+      let (k, l, one, rest, g) = h.means in
+      omega (arith, charge_within t (record { means = one }), charge_within_all ts (record { means = rest }))
 
-  charge_within_elements : (S : Segments) (n s p d q : ℕ) (es : Elements) (c : ℕ) → MeansElements S n s p d q es c → charge_elements es ≤ c
-  charge_within_elements S n s p d q no_elements c h = omega arith
-  charge_within_elements S n s p d q (element ws ts es) c (k, l, long, len, e, all, rest, g) =
-      omega (arith, charge_within_all S n s _ ts k all, charge_within_elements S n s _ d q es l rest)
+  charge_within_elements : {S : Segments} {n s p d q c : ℕ} (es : Elements) → ElementsMeant S n s p d q es c → charge_elements es ≤ c
+  charge_within_elements no_elements h = omega arith
+  charge_within_elements (element ws ts es) h =
+      let (k, l, long, len, e, all, rest, g) = h.means in
+      omega (arith, charge_within_all ts (record { means = all }), charge_within_elements es (record { means = rest }))

@@ -1,4 +1,5 @@
 -- Children read one after another.
+-- `means_more` takes its arguments one by one: another crate cites it so.
 use Rattle.std.proofs.Common.{◌≡◌, ℕ, suc, ◌+◌, refl, ap, subst, arith}
 use Rattle.capnp_format.specs.Segments.{Segments}
 use Rattle.capnp_format.specs.Tree.{Tree, Trees, no_trees, tree, count}

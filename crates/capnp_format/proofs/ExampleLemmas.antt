@@ -18,17 +18,17 @@ use Rattle.capnp_format.proofs.ManyEmpty.{many_means}
 abbrev words_and_cost : Option (Tree × ℕ) → Option (List ℕ × ℕ)
 words_and_cost o = option_map {U = List ℕ × ℕ} (λ x. (encoding (trim x.0), x.1)) o
 
-from_read : (S : Segments) (n c : ℕ) (words : List ℕ) (o : Option (Tree × ℕ)) → decode S n 0 0 ≡ o → words_and_cost o ≡ Some (words, c) → HasCanonicalWords S n c words
-from_read S n c words (Some x) e h =
+from_read : {c : ℕ} {words : List ℕ} (S : Segments) (n : ℕ) (o : Option (Tree × ℕ)) → decode S n 0 0 ≡ o → words_and_cost o ≡ Some (words, c) → HasCanonicalWords S n c words
+from_read {c = c} {words = words} S n (Some x) e h =
     let both = some_pair_parts (encoding (trim x.0)) words x.1 c h in
     (x.0, subst (λ k. Means S n 0 0 x.0 k) both.1 (at_some _ (decode S n 0 0) x e (decode_means S n 0 0)), both.0)
-from_read S n c words None e h = absurd (cc h)
+from_read S n None e h = absurd (cc h)
 
 canonical_words : (S : Segments) (n c : ℕ) (words : List ℕ) → words_and_cost (decode S n 0 0) ≡ Some (words, c) → HasCanonicalWords S n c words
-canonical_words S n c words h = from_read S n c words (decode S n 0 0) refl h
+canonical_words S n c words h = from_read S n (decode S n 0 0) refl h
 
 means_nothing : (S : Segments) (n : ℕ) → decode S n 0 0 ≡ None → MeansNothing S n
-means_nothing S n e t c h = decode_none S n 0 0 t c e h
+means_nothing S n e t c h = decode_none {S = S} {n = n} {s = 0} {p = 0} {c = c} {t = t} e (record { means = h })
 
 pub worked_messages : WorkedMessages
 unfolding decode

@@ -27,63 +27,63 @@ pub offset_at : (n p bits b : ℕ) → b ≤ n → IsOffsetTo p bits b → offse
 offset_at n p bits b le h = grind (arith, nat_tests)
 
 -- the same test passes, or another one, and what follows does too
-pub bind_kept : {A B : Type 0} (o r : Option A) (f g : A → Option B) (y : B) → ((x : A) → o ≡ Some x → r ≡ Some x) → ((x : A) → o ≡ Some x → f x ≡ Some y → g x ≡ Some y) →
+pub bind_kept : {A B : Type 0} {r : Option A} {y : B} (o : Option A) (f g : A → Option B) → ((x : A) → o ≡ Some x → r ≡ Some x) → ((x : A) → o ≡ Some x → f x ≡ Some y → g x ≡ Some y) →
     (o >>= f) ≡ Some y → (r >>= g) ≡ Some y
-bind_kept (Some x) r f g y same more h = ap (λ o. o >>= g) (same x refl) ∙ more x refl h
-bind_kept None r f g y same more h = cc
+bind_kept (Some x) f g same more h = ap (λ o. o >>= g) (same x refl) ∙ more x refl h
+bind_kept None f g same more h = cc
 
-pub given_kept : {A : Type 0} (b c : Bool) (x z y : A) → (b ≡ true → (c ≡ true) × (z ≡ x)) → given b x ≡ Some y → given c z ≡ Some y
-given_kept true c x z y same h = ap (λ r. given r z) (same refl).0 ∙ ap Some (same refl).1 ∙ h
-given_kept false c x z y same h = cc
+pub given_kept : {A : Type 0} {y : A} (b c : Bool) (x z : A) → (b ≡ true → (c ≡ true) × (z ≡ x)) → given b x ≡ Some y → given c z ≡ Some y
+given_kept true c x z same h = ap (λ r. given r z) (same refl).0 ∙ ap Some (same refl).1 ∙ h
+given_kept false c x z same h = cc
 
-near_kept : (S R : Segments) (s p x pads : ℕ) (a : Target) → Grows S R → near S s p x pads ≡ Some a → near R s p x pads ≡ Some a
-near_kept S R s p x pads a grows h =
-    bind_kept _ _ _ (λ b. Some (record { word = x; segment = s; start = b; pads = pads })) a
+near_kept : {S R : Segments} {a : Target} (s p x pads : ℕ) → Grows S R → near S s p x pads ≡ Some a → near R s p x pads ≡ Some a
+near_kept {S = S} {R = R} s p x pads grows h =
+    bind_kept _ _ (λ b. Some (record { word = x; segment = s; start = b; pads = pads }))
     (λ b e. let o = offset_is (length (segment S s)) p (offset_bits x) b e in offset_at (length (segment R s)) p (offset_bits x) b (le_trans o.0 (grows.words s)) o.1) (λ b e k. k) h
 
-choice_kept : {A : Type 0} (b : Bool) (o r q s : Option A) (a : A) → (b ≡ true → o ≡ Some a → q ≡ Some a) → (r ≡ Some a → s ≡ Some a) → cond b o r ≡ Some a → cond b q s ≡ Some a
-choice_kept true o r q s a f g h = f refl h
-choice_kept false o r q s a f g h = g h
+choice_kept : {A : Type 0} {o r q s : Option A} {a : A} (b : Bool) → (b ≡ true → o ≡ Some a → q ≡ Some a) → (r ≡ Some a → s ≡ Some a) → cond b o r ≡ Some a → cond b q s ≡ Some a
+choice_kept true f g h = f refl h
+choice_kept false f g h = g h
 
 if_kept : {A : Type 0} (b : Bool) (o r : Option A) (a : A) → (o ≡ Some a → r ≡ Some a) → cond b None o ≡ Some a → cond b None r ≡ Some a
 if_kept true o r a f h = h
 if_kept false o r a f h = f h
 
-pad_kept : (S R : Segments) (x n w : ℕ) → Grows S R → word_at R (upper_half x) (far_position x + 0) ≡ word_at S (upper_half x) (far_position x + 0) → pad S x n ≡ Some w → pad R x n ≡ Some w
-pad_kept S R x n w grows same h =
-    given_kept (nat_lt (far_position x + n) (length (segment S (upper_half x)))) _ _ _ w (λ t.
+pad_kept : {S R : Segments} {w : ℕ} (x n : ℕ) → Grows S R → word_at R (upper_half x) (far_position x + 0) ≡ word_at S (upper_half x) (far_position x + 0) → pad S x n ≡ Some w → pad R x n ≡ Some w
+pad_kept {S = S} x n grows same h =
+    given_kept (nat_lt (far_position x + n) (length (segment S (upper_half x)))) _ _ _ (λ t.
     (lt-ltb _ _ (lt_of_lt_of_le (ltb-true (far_position x + n) (length (segment S (upper_half x))) t) (grows.words (upper_half x))), (rw add-zero at same))) h
 
-double_kept : (S R : Segments) (f v w : ℕ) (a : Target) → Grows S R → v ≡ w →
+double_kept : {S R : Segments} {v w : ℕ} {a : Target} (f : ℕ) → Grows S R → v ≡ w →
     cond (nat_eq (kind w) 2) None (given (nat_lt (upper_half f) (length S)) (record { word = w; segment = upper_half f; start = far_position f; pads = 2 })) ≡ Some a →
     cond (nat_eq (kind v) 2) None (given (nat_lt (upper_half f) (length R)) (record { word = v; segment = upper_half f; start = far_position f; pads = 2 })) ≡ Some a
-double_kept S R f v w a grows e h =
+double_kept {S = S} {R = R} {w = w} {a = a} f grows e h =
     ap (λ w. cond (nat_eq (kind w) 2) None (given (nat_lt (upper_half f) (length R)) (record { word = w; segment = upper_half f; start = far_position f; pads = 2 }))) e
-    ∙ if_kept (nat_eq (kind w) 2) _ _ a (given_kept (nat_lt (upper_half f) (length S)) _ _ _ a (λ t. (lt-ltb _ _ (lt_of_lt_of_le (ltb-true (upper_half f) (length S) t) grows.segments), refl))) h
+    ∙ if_kept (nat_eq (kind w) 2) _ _ a (given_kept (nat_lt (upper_half f) (length S)) _ _ _ (λ t. (lt-ltb _ _ (lt_of_lt_of_le (ltb-true (upper_half f) (length S) t) grows.segments), refl))) h
 
-far_kept : (S R : Segments) (x k : ℕ) (a : Target) → Grows S R →
+far_kept : {S R : Segments} {a : Target} (x k : ℕ) → Grows S R →
     ((i : ℕ) → i < 1 + k → word_at R (upper_half x) (far_position x + i) ≡ word_at S (upper_half x) (far_position x + i)) →
     far S x k ≡ Some a → far R x k ≡ Some a
-far_kept S R x zero a grows same h =
-    bind_kept (pad S x 0) (pad R x 0) _ (λ w. cond (nat_eq (kind w) 2) None (near R (upper_half x) (far_position x) w 1)) a
-    (λ w e. pad_kept S R x 0 w grows (same 0 (omega arith)) e)
-    (λ w e k. if_kept (nat_eq (kind w) 2) _ _ a (near_kept S R (upper_half x) (far_position x) w 1 a grows) k) h
-far_kept S R x (suc k) a grows same h =
+far_kept {S = S} {R = R} {a = a} x zero grows same h =
+    bind_kept (pad S x 0) _ (λ w. cond (nat_eq (kind w) 2) None (near R (upper_half x) (far_position x) w 1))
+    (λ w e. pad_kept x 0 grows (same 0 (omega arith)) e)
+    (λ w e k. if_kept (nat_eq (kind w) 2) _ _ a (near_kept (upper_half x) (far_position x) w 1 grows) k) h
+far_kept {S = S} {R = R} x (suc k) grows same h =
     let v = word_at R (upper_half x) (far_position x + 1) in
     let w = word_at S (upper_half x) (far_position x + 1) in
     let tag : v ≡ w = same 1 (omega arith) in
-    bind_kept (pad S x 1) (pad R x 1) _ (λ f. cond (nat_eq (kind v) 2) None (given (nat_lt (upper_half f) (length R)) (record { word = v; segment = upper_half f; start = far_position f; pads = 2 }))) a
-    (λ f e. pad_kept S R x 1 f grows (same 0 (omega arith)) e)
-    (λ f e k. double_kept S R f v w a grows tag k) h
+    bind_kept (pad S x 1) _ (λ f. cond (nat_eq (kind v) 2) None (given (nat_lt (upper_half f) (length R)) (record { word = v; segment = upper_half f; start = far_position f; pads = 2 })))
+    (λ f e. pad_kept x 1 grows (same 0 (omega arith)) e)
+    (λ f e k. double_kept f grows tag k) h
 
-word_leads_kept : (S R : Segments) (s p x : ℕ) (a : Target) → Grows S R →
+word_leads_kept : {S R : Segments} {a : Target} (s p x : ℕ) → Grows S R →
     ((i : ℕ) → kind x ≡ 2 → i < 1 + is_double x → word_at R (upper_half x) (far_position x + i) ≡ word_at S (upper_half x) (far_position x + i)) →
     cond (nat_eq (kind x) 2) (far S x (is_double x)) (near S s p x 0) ≡ Some a → cond (nat_eq (kind x) 2) (far R x (is_double x)) (near R s p x 0) ≡ Some a
-word_leads_kept S R s p x a grows pads h =
-    choice_kept (nat_eq (kind x) 2) _ _ _ _ a (λ t. far_kept S R x (is_double x) a grows (λ i l. pads i (eqb-true _ _ t) l)) (near_kept S R s p x 0 a grows) h
+word_leads_kept s p x grows pads h =
+    choice_kept (nat_eq (kind x) 2) (λ t. far_kept x (is_double x) grows (λ i l. pads i (eqb-true _ _ t) l)) (near_kept s p x 0 grows) h
 
-pub leads_kept : (S R : Segments) (s p : ℕ) (a : Target) → Grows S R → word_at R s p ≡ word_at S s p →
+pub leads_kept : {S R : Segments} {a : Target} (s p : ℕ) → Grows S R → word_at R s p ≡ word_at S s p →
     ((i : ℕ) → kind (word_at S s p) ≡ 2 → i < 1 + is_double (word_at S s p) →
     word_at R (upper_half (word_at S s p)) (far_position (word_at S s p) + i) ≡ word_at S (upper_half (word_at S s p)) (far_position (word_at S s p) + i)) →
     leads S s p ≡ Some a → leads R s p ≡ Some a
-leads_kept S R s p a grows same pads h = ap (λ y. cond (nat_eq (kind y) 2) (far R y (is_double y)) (near R s p y 0)) same ∙ word_leads_kept S R s p (word_at S s p) a grows pads h
+leads_kept {S = S} {R = R} s p grows same pads h = ap (λ y. cond (nat_eq (kind y) 2) (far R y (is_double y)) (near R s p y 0)) same ∙ word_leads_kept s p (word_at S s p) grows pads h

@@ -19,16 +19,16 @@ use Rattle.capnp_format.proofs.Bounds.{words_within_cost, means_value}
 use Rattle.capnp_format.proofs.BytesLemmas.{digit_at}
 use Rattle.capnp_format.proofs.Lengths.{length-body}
 use Rattle.capnp_format.proofs.Lies.{pow_pow}
-use Rattle.capnp_format.proofs.Unique.{encoding_means, one_encoding, one_stands as only_one}
+use Rattle.capnp_format.proofs.Unique.{encoding_means, BeginsWith, one_encoding, Standing, one_stands as only_one}
 use Rattle.capnp_format.proofs.Trimming.{used_from-rest, used_from-past, trim-trim, trim-words}
 use Rattle.capnp_format.proofs.Trimmed.{trim-value, trim-depth, trim-capabilities}
 use Rattle.capnp_format.proofs.Charges.{trim-charge, charge_within}
 
 pub levels_from_depth : LevelsFromDepth
-levels_from_depth S n m s p t c h = (λ k. depth_within S m s p t c k, λ l. other_levels S n m s p t c l h)
+levels_from_depth S n m s p t c h = (λ k. depth_within t (record { means = k }), λ l. other_levels m t l (record { means = h }))
 
 pub decode_agrees : DecodeAgrees
-decode_agrees S n s p t c = (λ e. at_some _ (decode S n s p) (t, c) e (decode_means S n s p), λ h. decode_finds S n s p t c h)
+decode_agrees S n s p t c = (λ e. at_some _ (decode S n s p) (t, c) e (decode_means S n s p), λ h. decode_finds S n s p t h)
 
 -- where an option has no value
 no_value : {A : Type 0} (o : Option A) → ((x : A) → o ≡ Some x → ⊥) → o ≡ None
@@ -37,7 +37,7 @@ no_value None h = refl
 
 pub decode_refuses : DecodeRefuses
 decode_refuses S n s p = (
-  λ e t c. decode_none S n s p t c e,
+  λ e t c h. decode_none {S = S} {n = n} {s = s} {p = p} {c = c} {t = t} e (record { means = h }),
   λ h. no_value (decode S n s p) (λ x e. h x.0 x.1 (at_some _ (decode S n s p) x e (decode_means S n s p))),
 )
 
@@ -45,10 +45,13 @@ pub body_length : BodyLength
 body_length t v = length-body t v
 
 pub canonical_words_mean : CanonicalWordsMean
-canonical_words_mean t more n v f l = other_levels _ (depth t) n 0 0 t (charge t) l (encoding_means t more v f)
+canonical_words_mean t more n v f l = other_levels n t l (record { means = encoding_means t more v f })
 
 pub encodings_differ : EncodingsDiffer
-encodings_differ t u v f w g e = one_encoding t u [] [] v f w g (ap (λ ws. ws ++ []) e)
+encodings_differ t u v f w g e =
+    let a : BeginsWith (encoding u ++ []) t = record { is_value = v; encodable = f; more = []; begins = ap (λ ws. ws ++ []) e } in
+    let b : BeginsWith (encoding u ++ []) u = record { is_value = w; encodable = g; more = []; begins = refl } in
+    one_encoding a b
 
 append_itself : (xs ys : List ℕ) → xs ++ ys ≡ xs → ys ≡ []
 append_itself xs [] e = refl
@@ -57,7 +60,9 @@ append_itself xs (y ∷ ys) e = absurd (omega (arith, length-append xs (y ∷ ys
 pub no_encoding_begins : NoEncodingBegins
 no_encoding_begins t u more v f w g e =
     let nothing : encoding u ++ [] ≡ encoding u = append-nil (encoding u) in
-    let same : t ≡ u = one_encoding t u more [] v f w g (e ∙ sym nothing) in
+    let a : BeginsWith (encoding u ++ []) t = record { is_value = v; encodable = f; more = more; begins = e ∙ sym nothing } in
+    let b : BeginsWith (encoding u ++ []) u = record { is_value = w; encodable = g; more = []; begins = refl } in
+    let same : t ≡ u = one_encoding a b in
     append_itself (encoding t) more (e ∙ ap encoding (sym same))
 
 pub same_canonical_words : SameCanonicalWords
@@ -67,12 +72,12 @@ same_canonical_words S R n s p m u q c e t v wS wR h k f g = (
 )
 
 pub canonical_cost : CanonicalCost
-canonical_cost S n s p t c w h = le_trans (trim-charge t (means_value S n s p t c w h)) (charge_within S n s p t c h)
+canonical_cost S n s p t c w h = le_trans (trim-charge t (means_value S n s p t c w h)) (charge_within t (record { means = h }))
 
 pub canonical_length : CanonicalLength
 canonical_length S n s p t c w h =
     let v = means_value S n s p t c w h in
-    omega (arith, length-body (trim t) (trim-value t v), trim-words t v, words_within_cost S n s p t c h)
+    omega (arith, length-body (trim t) (trim-value t v), trim-words t v, words_within_cost t (record { means = h }))
 
 pub trim_twice : TrimTwice
 trim_twice t = trim-trim t
@@ -90,8 +95,9 @@ empty_past : (S : Segments) (s h : ℕ) (ws : List ℕ) → length (segment S s)
 empty_past S s h ws past e = sym e ∙ ap (take (length ws)) (drop_of_length-le (segment S s) past) ∙ take-nil (length ws)
 
 -- then the segment may be thought longer
-longer : (S : Segments) (s p h : ℕ) (t : Tree) → length (segment S s) ≤ h → Stands S s p h t → Stands ((segment S s ++ replicate h 0) ∷ []) 0 p h t
-longer S s p h t past a =
+longer : {S : Segments} {s p h : ℕ} {t : Tree} → length (segment S s) ≤ h → Standing S s p h t → Stands ((segment S s ++ replicate h 0) ∷ []) 0 p h t
+longer {S = S} {s = s} {p = p} {h = h} {t = t} past standing =
+    let a = standing.stands in
     let R : Segments = (segment S s ++ replicate h 0) ∷ [] in
     let nothing : body t ≡ [] = empty_past S s h (body t) past a.5.2 in
     let here : word_at R 0 p ≡ word_at S s p = get_or-append (segment S s) (replicate h 0) 0 p a.0 in (
@@ -104,12 +110,15 @@ longer S s p h t past a =
     )
 
 pub one_stands : OneStands
-one_stands S s p h t u a b = elim (cases_lt h (length (segment S s))) [
-  | inl l ↦ only_one S s p h t u (omega arith) a b
-  | inr l ↦ only_one ((segment S s ++ replicate h 0) ∷ []) 0 p h t u
-      (omega (arith, length-append (segment S s) (replicate h 0), length-replicate {A = ℕ} h 0))
-      (longer S s p h t (omega arith) a) (longer S s p h u (omega arith) b)
-]
+one_stands S s p h t u a b =
+    let left : Standing S s p h t = record { stands = a } in
+    let right : Standing S s p h u = record { stands = b } in
+    elim (cases_lt h (length (segment S s))) [
+      | inl l ↦ only_one (omega arith) left right
+      | inr l ↦ only_one (omega (arith, length-append (segment S s) (replicate h 0), length-replicate {A = ℕ} h 0))
+          (let r : Standing ((segment S s ++ replicate h 0) ∷ []) 0 p h t = record { stands = longer (omega arith) left } in r)
+          (let r : Standing ((segment S s ++ replicate h 0) ∷ []) 0 p h u = record { stands = longer (omega arith) right } in r)
+    ]
 
 -- the least widths
 

@@ -14,6 +14,7 @@ pub mod Levels
 pub mod Lies
 pub mod ManyEmpty
 pub mod Meanings
+pub mod Meant
 pub mod Nulls
 pub mod Reading
 pub mod Slices

@@ -1,4 +1,5 @@
 -- What a place means, from the widths that its words say.
+-- These lemmas take each part of a meaning by itself: other crates cite them so.
 use Rattle.std.proofs.Common.{◌≡◌, ℕ, pred, ◌+◌, ◌<◌, ◌≤◌, List, length, sym, ◌∙◌, arith}
 use Rattle.capnp_format.specs.Numbers.{words_for, unpacked}
 use Rattle.capnp_format.specs.Segments.{Segments, words_at, Target}

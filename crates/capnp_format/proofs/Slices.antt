@@ -1,4 +1,5 @@
 -- Words one behind the other in a segment.
+-- `moved` takes its arguments one by one: another crate cites it so.
 use Rattle.std.proofs.Common.{◌≡◌, ℕ, suc, ◌+◌, ◌≤◌, List, [], ◌∷◌, ◌++◌, length, get_or, take, drop, refl, sym, ap, ◌∙◌, subst, arith, length-append, length-take, length-drop, take-take, take_at, drop_at, drop-drop, get_or-take, get_or-drop}
 use Rattle.std.proofs.lemmas.List.{drop-take}
 use Rattle.capnp_format.specs.Segments.{Segments, segment, word_at, words_at, HasWords}

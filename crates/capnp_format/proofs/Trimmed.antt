@@ -4,7 +4,7 @@ use Rattle.capnp_format.specs.Tree.{Tree, Null, Capability, Struct, Flat, Pointe
 use Rattle.capnp_format.specs.Canonical.{is_null, used_words, used_trees, take_trees, data_width, pointer_width, cut_to, trim, trim_each, trim_elements, word_count, word_count_all, word_count_elements, OffsetsFit, RowsFit, IsEncodable, AreEncodable, AreEncodableElements}
 use Rattle.capnp_format.specs.Value.{IsValue, AreValues, AreElements}
 use Rattle.capnp_format.proofs.Bounds.{below_take}
-use Rattle.capnp_format.proofs.Trimming.{used_from-rest, used_from-past, used_trees-le, take_trees-count, cut_to-count, trim_each-count, trim_elements-count, widths-le, rows-le}
+use Rattle.capnp_format.proofs.Trimming.{used_from-rest, used_from-past, used_trees-le, take_trees-count, cut_to-count, trim_each-count, trim_elements-count, widths-le, Narrower, rows-le}
 use Rattle.capnp_format.proofs.Unique.{for_offset}
 
 take_trees-values : (n : ℕ) (ts : Trees) → AreValues ts → AreValues (take_trees n ts)
@@ -12,10 +12,10 @@ take_trees-values zero ts v = tt
 take_trees-values (suc n) no_trees v = tt
 take_trees-values (suc n) (tree t ts) v = (v.0, take_trees-values n ts v.1)
 
-cut_to-values : (d q e r : ℕ) (es : Elements) → e ≤ d → r ≤ q → AreElements d q es → AreElements e r (cut_to e r es)
-cut_to-values d q e r no_elements a b v = tt
-cut_to-values d q e r (element ws ts es) a b v =
-    (omega (arith, length-take e ws, v.0), take_trees-count r ts (omega (arith, v.1)), below_take (2 ^ 64) e ws v.2, take_trees-values r ts v.3, cut_to-values d q e r es a b v.4)
+cut_to-values : {e r d q : ℕ} (es : Elements) → Narrower e r d q → AreElements d q es → AreElements e r (cut_to e r es)
+cut_to-values no_elements n v = tt
+cut_to-values {e = e} {r = r} (element ws ts es) n v =
+    (omega (arith, length-take e ws, v.0, n.data_words), take_trees-count r ts (omega (arith, v.1, n.pointers)), below_take (2 ^ 64) e ws v.2, take_trees-values r ts v.3, cut_to-values es n v.4)
 
 mutual
   pub trim-value : (t : Tree) → IsValue t → IsValue (trim t)
@@ -36,8 +36,8 @@ mutual
         omega (arith, v.0, w.0),
         omega (arith, v.1, w.1),
         omega (arith, v.2, same),
-        omega (arith, v.3, ap (λ n. n * (data_width fs + pointer_width fs)) same, rows-le (element_count es) d q (data_width fs) (pointer_width fs) w.0 w.1),
-        cut_to-values d q (data_width fs) (pointer_width fs) fs w.0 w.1 (trim_elements-values d q es v.4),
+        omega (arith, v.3, ap (λ n. n * (data_width fs + pointer_width fs)) same, rows-le (element_count es) (let n : Narrower (data_width fs) (pointer_width fs) d q = record { data_words = w.0; pointers = w.1 } in n)),
+        cut_to-values fs (let n : Narrower (data_width fs) (pointer_width fs) d q = record { data_words = w.0; pointers = w.1 } in n) (trim_elements-values d q es v.4),
       )
 
   trim_each-values : (ts : Trees) → AreValues ts → AreValues (trim_each ts)

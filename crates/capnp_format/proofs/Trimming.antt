@@ -137,8 +137,16 @@ widths-le d q no_elements h = (omega arith, omega arith)
 widths-le d q (element ws ts es) h =
     (omega (arith, used_words-le ws, (widths-le d q es h.4).0), omega (arith, used_trees-le (trim_each ts), trim_each-count ts, (widths-le d q es h.4).1))
 
-pub rows-le : (n d q e r : ℕ) → e ≤ d → r ≤ q → n * (e + r) ≤ n * (d + q)
-rows-le n d q e r a b = grind arith
+-- e data words and r pointers are no more than d and q
+pub record Narrower (e r d q : ℕ) : Type 0 where
+  pub data_words : e ≤ d
+  pub pointers : r ≤ q
+
+pub rows-le : {e r d q : ℕ} (n : ℕ) → Narrower e r d q → n * (e + r) ≤ n * (d + q)
+rows-le {e = e} {r = r} {d = d} {q = q} n narrower =
+    let a : e ≤ d = narrower.data_words in
+    let b : r ≤ q = narrower.pointers in
+    grind arith
 
 mutual
   pub trim-words : (t : Tree) → IsValue t → word_count (trim t) ≤ word_count t
@@ -163,7 +171,7 @@ mutual
       omega (
         arith,
         ap (λ n. n * (data_width fs + pointer_width fs)) (cut_to-count (data_width fs) (pointer_width fs) fs ∙ trim_elements-count es),
-        rows-le (element_count es) d q (data_width fs) (pointer_width fs) w.0 w.1,
+        rows-le (element_count es) (let n : Narrower (data_width fs) (pointer_width fs) d q = record { data_words = w.0; pointers = w.1 } in n),
         cut_to-words (data_width fs) (pointer_width fs) fs,
         trim_elements-words d q es v.4,
       )

@@ -1,11 +1,12 @@
 -- Words determine the value whose canonical words they are.
-use Rattle.std.proofs.Common.{◌≡◌, ℕ, ◌≤◌, List, [], ◌∷◌, ◌++◌, length, refl, sym, subst, arith, take_at}
+use Rattle.std.proofs.Common.{◌≡◌, ℕ, ◌≤◌, List, [], ◌∷◌, ◌++◌, length, refl, subst, arith, take_at}
 use Rattle.capnp_format.specs.Segments.{Segments, segment}
 use Rattle.capnp_format.specs.Tree.{Tree, Null, Capability, Struct, Flat, Pointers, Structs, no_trees, tree, depth}
 use Rattle.capnp_format.specs.Canonical.{body, encoding, ForOffset, IsEncodable, Reaches, Stands, charge}
 use Rattle.capnp_format.specs.Value.{IsValue}
 use Rattle.capnp_format.specs.Means.{Means}
-use Rattle.capnp_format.proofs.Lies.{lies_means}
+use Rattle.capnp_format.specs.Laws.{StandingMeans}
+use Rattle.capnp_format.proofs.Lies.{LiesAt, lies_means}
 use Rattle.capnp_format.proofs.Levels.{one_value}
 
 pub for_offset : (t : Tree) (P : Type 0) → P → ForOffset t P
@@ -21,20 +22,38 @@ for_offset (Structs d q es) P h = h
 -- canonical words at the front of a segment mean their value
 pub encoding_means : (t : Tree) (more : List ℕ) → IsValue t → IsEncodable t → Means ((encoding t ++ more) ∷ []) (depth t) 0 0 t (charge t)
 encoding_means t more v f =
-    lies_means ((encoding t ++ more) ∷ []) (depth t) 0 0 1 t v f (omega arith) (omega arith) (omega arith)
-    (for_offset t (Reaches 0 1) (omega arith, omega arith), refl, take_at (body t) more (length (body t)) refl)
+    let at : LiesAt ((encoding t ++ more) ∷ []) 0 0 1 t = record {
+      place = omega arith;
+      inside = omega arith;
+      lies = (for_offset t (Reaches 0 1) (omega arith, omega arith), refl, take_at (body t) more (length (body t)) refl);
+    } in
+    lies_means (depth t) t v f (omega arith) at
+
+-- the canonical words of a value that is encodable begin these words
+pub record BeginsWith (ws : List ℕ) (t : Tree) : Type 0 where
+  pub is_value : IsValue t
+  pub encodable : IsEncodable t
+  pub more : List ℕ
+  pub begins : encoding t ++ more ≡ ws
 
 -- no value's canonical words begin another one's
-pub one_encoding : (t u : Tree) (xs ys : List ℕ) → IsValue t → IsEncodable t → IsValue u → IsEncodable u → encoding t ++ xs ≡ encoding u ++ ys → t ≡ u
-one_encoding t u xs ys v f w g e =
-    (one_value ((encoding t ++ xs) ∷ []) (depth t) (depth u) 0 0 t u (charge t) (charge u) (encoding_means t xs v f)
-    (subst (λ ws. Means (ws ∷ []) (depth u) 0 0 u (charge u)) (sym e) (encoding_means u ys w g))).0
+pub one_encoding : {ws : List ℕ} {t u : Tree} → BeginsWith ws t → BeginsWith ws u → t ≡ u
+one_encoding {ws = ws} {t = t} {u = u} a b =
+    (one_value (ws ∷ []) (depth t) (depth u) 0 0 t u (charge t) (charge u)
+    (subst (λ vs. Means (vs ∷ []) (depth t) 0 0 t (charge t)) a.begins (encoding_means t a.more a.is_value a.encodable))
+    (subst (λ vs. Means (vs ∷ []) (depth u) 0 0 u (charge u)) b.begins (encoding_means u b.more b.is_value b.encodable))).0
 
 -- canonical words mean their value, at the cost that their value has
-pub stands_means : (S : Segments) (n s p h : ℕ) (t : Tree) → depth t ≤ n → h ≤ length (segment S s) → Stands S s p h t → Means S n s p t (charge t)
-stands_means S n s p h t levels l a = lies_means S n s p h t a.1 a.4 levels a.0 l a.5
+pub stands_means : StandingMeans
+stands_means S n s p h t levels l a =
+    let at : LiesAt S s p h t = record { place = a.0; inside = l; lies = a.5 } in
+    lies_means n t a.1 a.4 levels at
+
+-- a value stands at a place and a head
+pub record Standing (S : Segments) (s p h : ℕ) (t : Tree) : Type 0 where
+  pub stands : Stands S s p h t
 
 -- at most one value stands at a place
-pub one_stands : (S : Segments) (s p h : ℕ) (t u : Tree) → h ≤ length (segment S s) → Stands S s p h t → Stands S s p h u → t ≡ u
-one_stands S s p h t u l a b =
-    (one_value S (depth t) (depth u) s p t u (charge t) (charge u) (stands_means S (depth t) s p h t (omega arith) l a) (stands_means S (depth u) s p h u (omega arith) l b)).0
+pub one_stands : {S : Segments} {s p h : ℕ} {t u : Tree} → h ≤ length (segment S s) → Standing S s p h t → Standing S s p h u → t ≡ u
+one_stands {S = S} {s = s} {p = p} {h = h} {t = t} {u = u} l a b =
+    (one_value S (depth t) (depth u) s p t u (charge t) (charge u) (stands_means S (depth t) s p h t (omega arith) l a.stands) (stands_means S (depth u) s p h u (omega arith) l b.stands)).0

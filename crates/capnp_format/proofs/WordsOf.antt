@@ -1,4 +1,5 @@
 -- The words of bytes: joined, cut, one read, some written.
+-- The lemmas on words put and cut keep their arguments one by one: other crates cite them so, by name and in rule sets.
 use Rattle.std.proofs.Common.{◌≡◌, ℕ, zero, suc, ◌+◌, ◌*◌, ◌/◌, ◌^◌, ◌<◌, ◌≤◌, List, [], ◌∷◌, ◌++◌, length, get_or, set, take, drop, replicate, refl, sym, ap, ◌∙◌, arith, length-take, length-drop, take-append-drop, take_at, drop_at, drop-drop, get_or-drop, add-zero}
 use Rattle.std.proofs.lemmas.List.{set_split, length-replicate}
 use Rattle.std.proofs.lemmas.Nat.{from_le_bytes-to_le_bytes_8}
@@ -63,8 +64,8 @@ words_of-put_mid a k bs ys l m =
     ∙ ap (λ ws. take a (words_of bs) ++ (words_of ys ++ ws)) (words_of-drop k (drop (8 * a) bs) (omega (arith, length-drop (8 * a) bs)) ∙ ap (drop k) (words_of-drop a bs (omega arith)))
 
 -- one word written
-pub words_of-put : (a w : ℕ) (bs ys : List ℕ) → 8 * a + 8 ≤ length bs → w < 2 ^ 64 → ys ≡ to_le_bytes w64 w → words_of (put_mid (8 * a) 8 bs ys) ≡ set (words_of bs) a w
-words_of-put a w bs ys l m e =
+pub words_of-put : {ys : List ℕ} (a w : ℕ) (bs : List ℕ) → 8 * a + 8 ≤ length bs → w < 2 ^ 64 → ys ≡ to_le_bytes w64 w → words_of (put_mid (8 * a) 8 bs ys) ≡ set (words_of bs) a w
+words_of-put {ys = ys} a w bs l m e =
     words_of-put_mid a 1 bs ys (omega arith) (ap length e)
     ∙ ap (λ zs. put_mid a 1 (words_of bs) (words_of zs)) e
     ∙ ap (λ v. put_mid a 1 (words_of bs) (v ∷ [])) (from_le_bytes-to_le_bytes_8 w m)
@@ -73,7 +74,7 @@ words_of-put a w bs ys l m e =
 
 -- the same in the form that code has it
 pub words_of-put_at : (a w start k : ℕ) (bs ys : List ℕ) → start ≡ 8 * a → k ≡ 8 → 8 * a + 8 ≤ length bs → w < 2 ^ 64 → ys ≡ to_le_bytes w64 w → words_of (put_mid start k bs ys) ≡ set (words_of bs) a w
-words_of-put_at a w start k bs ys s e l m b = rw (s, e) (words_of-put a w bs ys l m b)
+words_of-put_at a w start k bs ys s e l m b = rw (s, e) (words_of-put a w bs l m b)
 
 pub words_of-put_mid_at : (a n start k : ℕ) (bs ys : List ℕ) → start ≡ 8 * a → k ≡ 8 * n → 8 * (a + n) ≤ length bs → length ys ≡ 8 * n → words_of (put_mid start k bs ys) ≡ put_mid a n (words_of bs) (words_of ys)
 words_of-put_mid_at a n start k bs ys s e l m = rw (s, e) (words_of-put_mid a n bs ys l m)

@@ -1,5 +1,5 @@
 -- What a refused copy says of the message that was read.
-use Rattle.std.proofs.Common.{◌≡◌, ◌⊎◌, inl, inr, map, zero, suc, Some, None, ℕ, ◌+◌, ◌≤◌, List, [], ◌∷◌, length, Bool, true, false, Option, Result, Ok, Err, IfErr, IfOk, IfSome, IsNone, refl, ap, sym, ◌∙◌, subst, arith}
+use Rattle.std.proofs.Common.{◌≡◌, ◌⊎◌, inl, inr, map, zero, suc, Some, None, ℕ, ◌+◌, ◌≤◌, List, [], ◌∷◌, length, Bool, true, false, Option, IfSome, IsNone, refl, ap, sym, ◌∙◌, subst, arith}
 use Rattle.capnp_words.specs.declared.error.ErrorKind.{ErrorKind}
 use Rattle.capnp_words.specs.declared.error.ErrorKind.TheVariants.{InvalidSegmentId, ReadLimitExceeded, TriedToReadFromNullArena}
 use Rattle.capnp_format.specs.Segments.{Segments, segment, word_at, IsPlace}
@@ -23,6 +23,8 @@ use Rattle.capnp_arena.specs.Limits.{whole}
 use Rattle.capnp_arena.proofs.MessageLemmas.{words_of-whole}
 use Rattle.capnp_format.specs.Bytes.{words_of, message}
 use Rattle.capnp_layout.specs.Sources.{IsArena}
+use Rattle.capnp_layout.specs.Messages.{segments_in}
+use Rattle.capnp_layout.specs.declared.tool.lines.Message.{Message}
 
 -- a message names its faults itself
 pub fault-arena : {A : Type 0} (k : ErrorKind) (source : Source A) → IsArena source → fault k source ≡ k
@@ -34,48 +36,56 @@ fault-arena k (Arena a) h = elim k as (λ k. fault k (Arena a) ≡ k) [ TriedToR
 pub null_root : (M : Segments) (id at : ℕ) → M ≡ (0 ∷ []) ∷ [] → id ≡ 0 → at ≡ 0 → word_at M id at ≡ 0
 null_root M id at root first start = rw (root, first, start) refl
 
+-- A place in a fresh message: its only segment has one word, which is zero, and so much room.
+pub record IsFresh (B : Building) (room : ℕ) : Type 0 where
+  pub null : B.segments ≡ (0 ∷ []) ∷ []
+  pub first : B.segment ≡ 0
+  pub holds : B.room ≡ room
+
 -- a copy to the root of a fresh message is refused
-pub refused_copy : {A : Type 0} (r : Reading) (left : Option ℕ) (B C : Building) (room : ℕ) (lim m : Meter) (source : Source A) (o : Result (Unit {0}) ErrorKind) → B.segments ≡ (0 ∷ []) ∷ [] → B.segment ≡ 0 → B.room ≡ room → lim ≡ unused left → IsArena source →
-    IfErr o (λ k. LacksWords r B C k ⊎ Refused canonical r lim m (fault k source)) → IfErr o (RefusesCopy r left room)
-refused_copy r left B C room lim m source (Ok x) root first same fresh arena h = h
-refused_copy r left B C room lim m source (Err k) root first same fresh arena (inl (w, named, most, large)) =
-    let used : length (segment B.segments B.segment) ≡ 1 = ap (λ i. length (segment B.segments i)) first ∙ ap (λ (R : Segments). length (segment R 0)) root in
-    inl (w, named, subst (λ u. IsTooLarge r u room) used (subst (IsTooLarge r (length (segment B.segments B.segment))) same large))
-refused_copy r left B C room lim m source (Err k) root first same fresh arena (inr refused) =
+pub refused_copy : {A : Type 0} {r : Reading} {left : Option ℕ} {B : Building} {room : ℕ} {lim m : Meter} {k : ErrorKind} (C : Building) (source : Source A)
+    → IsFresh B room → lim ≡ unused left → IsArena source → LacksWords r B C k ⊎ Refused canonical r lim m (fault k source) → RefusesCopy r left room k
+refused_copy {r = r} {B = B} {room = room} C source place fresh arena (inl (w, named, most, large)) =
+    let used : length (segment B.segments B.segment) ≡ 1 = ap (λ i. length (segment B.segments i)) place.first ∙ ap (λ (R : Segments). length (segment R 0)) place.null in
+    inl (w, named, subst (λ u. IsTooLarge r u room) used (subst (IsTooLarge r (length (segment B.segments B.segment))) place.holds large))
+refused_copy {r = r} {lim = lim} {m = m} {k = k} C source place fresh arena (inr refused) =
     inr (m, subst (λ (l : Meter). Refused canonical r l m k) fresh (subst (λ (e : ErrorKind). Refused canonical r lim m e) (fault-arena k source arena) refused))
 
 -- words that are taken, if there is room for them, leave the limits
-pub limits_kept : (o : Option ℕ) (old new : View) (P : ℕ → Type 0) (words : Segments) → IfSome o (λ at. P at × (new ≡ record old { words = words })) → (IsNone o → new ≡ old) → (new.room ≡ old.room) × (new.refusals ≡ old.refusals)
-limits_kept (Some at) old new P words some none = (ap (λ (v : View). v.room) some.1, ap (λ (v : View). v.refusals) some.1)
-limits_kept None old new P words some none = (ap (λ (v : View). v.room) (none refl), ap (λ (v : View). v.refusals) (none refl))
+pub limits_kept : (o : Option ℕ) {old new : View} (P : ℕ → Type 0) (words : Segments) → IfSome o (λ at. P at × (new ≡ record old { words = words })) → (IsNone o → new ≡ old) → (new.room ≡ old.room) × (new.refusals ≡ old.refusals)
+limits_kept (Some at) P words some none = (ap (λ (v : View). v.room) some.1, ap (λ (v : View). v.refusals) some.1)
+limits_kept None P words some none = (ap (λ (v : View). v.room) (none refl), ap (λ (v : View). v.refusals) (none refl))
 
 -- a copy that needs more words than there are needs more than fewer
-pub refused_try : (r : Reading) (left : Option ℕ) (more room old new : ℕ) (o : Result (Unit {0}) ErrorKind) → room ≤ more → new ≡ old → IfErr o (RefusesCopy r left more) → IfErr o (λ k. LacksMemoryOr old new k (RefusesCopy r left room k))
-refused_try r left more room old new (Ok x) least same h = h
-refused_try r left more room old new (Err k) least same (inl (w, named, large)) = inr (inl (w, named, λ t c means. (let beyond = large t c means in omega arith)), same)
-refused_try r left more room old new (Err k) least same (inr refused) = inr (inr refused, same)
+pub refused_try : {r : Reading} {left : Option ℕ} (more room : ℕ) {old new : ℕ} {k : ErrorKind} → room ≤ more → new ≡ old → RefusesCopy r left more k → LacksMemoryOr old new k (RefusesCopy r left room k)
+refused_try more room least same (inl (w, named, large)) = inr (inl (w, named, λ t c means. (let beyond = large t c means in omega arith)), same)
+refused_try more room least same (inr refused) = inr (inr refused, same)
 
 -- the last try speaks for all room there can be
-pub last_try : (r : Reading) (left : Option ℕ) (room old new : ℕ) (k : ErrorKind) → (room ≡ max_segment_words) ⊎ (is_message_too_large k ≡ false) → LacksMemoryOr old new k (RefusesCopy r left room k) → LacksMemoryOr old new k (RefusesCopy r left max_segment_words k)
-last_try r left room old new k last (inl memory) = inl memory
-last_try r left room old new k last (inr (inr refused, same)) = inr (inr refused, same)
-last_try r left room old new k (inl most) (inr (inl (w, named, large), same)) = inr (inl (w, named, subst (IsTooLarge r 1) most large), same)
-last_try r left room old new k (inr other) (inr (inl (w, named, large), same)) = absurd (let wrong : true ≡ false = sym (ap is_message_too_large named) ∙ other in cc)
+pub last_try : {r : Reading} {left : Option ℕ} {room old new : ℕ} {k : ErrorKind} → (room ≡ max_segment_words) ⊎ (is_message_too_large k ≡ false) → LacksMemoryOr old new k (RefusesCopy r left room k) → LacksMemoryOr old new k (RefusesCopy r left max_segment_words k)
+last_try last (inl memory) = inl memory
+last_try last (inr (inr refused, same)) = inr (inr refused, same)
+last_try {r = r} (inl most) (inr (inl (w, named, large), same)) = inr (inl (w, named, subst (IsTooLarge r 1) most large), same)
+last_try (inr other) (inr (inl (w, named, large), same)) = absurd (let wrong : true ≡ false = sym (ap is_message_too_large named) ∙ other in cc)
 
 -- a try that is repeated was not refused for want of memory
 pub repeated_try : (old new : ℕ) (k : ErrorKind) (P : Type 0) → is_message_too_large k ≡ true → LacksMemoryOr old new k P → new ≡ old
 repeated_try old new k P large (inl (named, risen)) = absurd (let wrong : false ≡ true = sym (ap is_message_too_large named) ∙ large in cc)
 repeated_try old new k P large (inr (refused, same)) = same
 
-pub moved_try : (old new old' new' : ℕ) (k : ErrorKind) (P : Type 0) → old ≡ old' → new' ≡ new → LacksMemoryOr old new k P → LacksMemoryOr old' new' k P
-moved_try old new old' new' k P before after (inl (named, risen)) = inl (named, after ∙ risen ∙ ap one_more before)
-moved_try old new old' new' k P before after (inr (refused, same)) = inr (refused, after ∙ same ∙ before)
+pub moved_try : {old new old' new' : ℕ} {k : ErrorKind} {P : Type 0} → old ≡ old' → new' ≡ new → LacksMemoryOr old new k P → LacksMemoryOr old' new' k P
+moved_try before after (inl (named, risen)) = inl (named, after ∙ risen ∙ ap one_more before)
+moved_try before after (inr (refused, same)) = inr (refused, after ∙ same ∙ before)
 
 -- the whole words of segments are the message that the segments are
 pub message-whole : (segments : List (List ℕ)) → message (map whole segments) ≡ message segments
 message-whole [] = refl
 message-whole (s ∷ segments) =
     ap (λ (ws : List ℕ). ws ∷ message (map whole segments)) (words_of-whole s) ∙ ap (λ (S : Segments). words_of s ∷ S) (message-whole segments)
+
+-- a message that was given to a reader has the same words there
+pub message_read : {read given : Message} → read ≡ given → message (map whole (segments_in read)) ≡ message (segments_in given)
+message_read {read = read} e = message-whole (segments_in read) ∙ ap (λ (m : Message). message (segments_in m)) e
 
 -- what the budget covers beside the word of the root pointer
 pub covers_root : (budget : Option ℕ) (c : ℕ) → FitsIn budget 1 → FitsIn (less budget 1) c → FitsIn budget (1 + c)
@@ -96,8 +106,8 @@ root_held [] place = absurd (omega arith)
 root_held (s ∷ S) place = (omega arith, place)
 
 -- a reading of the root of a message is that of the root
-pub root_reading : (r : Reading) (S : Segments) (n : ℕ) → r.segments ≡ S → r.charging ≡ true → r.levels ≡ n → r.segment ≡ 0 → r.at ≡ 0 → r ≡ root_of S n
-root_reading r S n a b c d e =
+pub root_reading : (r : Reading) {S : Segments} {n : ℕ} → r.segments ≡ S → r.charging ≡ true → r.levels ≡ n → r.segment ≡ 0 → r.at ≡ 0 → r ≡ root_of S n
+root_reading r {S = S} {n = n} a b c d e =
     ap (λ (x : Segments). record { segments = x; charging = r.charging; levels = r.levels; segment = r.segment; at = r.at }) a
     ∙ ap (λ (x : Bool). record { segments = S; charging = x; levels = r.levels; segment = r.segment; at = r.at }) b
     ∙ ap (λ (x : ℕ). record { segments = S; charging = true; levels = x; segment = r.segment; at = r.at }) c
@@ -105,25 +115,24 @@ root_reading r S n a b c d e =
     ∙ ap (λ (x : ℕ). record { segments = S; charging = true; levels = n; segment = 0; at = x }) e
 
 -- what is read with what the budget leaves behind the root pointer
-pub value_read : {T E : Type 0} (Q : T → Tree → Type 0) (r : Reading) (S : Segments) (n : ℕ) (left budget : Option ℕ) (o : Result T E) → r ≡ root_of S n → left ≡ less budget 1 → IsPlace S 0 0 → FitsIn budget 1 →
-    IfOk o (λ made. (t : Tree) × IsWithin r left t × Q made t) → IfOk o (λ made. (t : Tree) × HasValue S n budget t × Q made t)
-value_read Q r S n left budget (Err k) same rest place one h = h
-value_read Q r S n left budget (Ok made) same rest place one (t, within, q) =
+pub value_read : {Q : Tree → Type 0} {r : Reading} {S : Segments} {n : ℕ} {left budget : Option ℕ} → r ≡ root_of S n → left ≡ less budget 1 → IsPlace S 0 0 → FitsIn budget 1
+    → (t : Tree) × IsWithin r left t × Q t → (t : Tree) × HasValue S n budget t × Q t
+value_read {S = S} {n = n} {left = left} {budget = budget} same rest place one (t, within, q) =
     let (c, means, free, covered) : IsWithin (root_of S n) (less budget 1) t = subst (λ (x : Option ℕ). IsWithin (root_of S n) x t) rest (subst (λ (x : Reading). IsWithin x left t) same within) in
     (t, record { root = place; cost = c; means = means; free = free; covered = covers_root budget c one covered }, q)
 
-pub copy_refused : {T A : Type 0} (refusals : A → ℕ) (r : Reading) (segments : List (List ℕ)) (n : ℕ) (left budget : Option ℕ) (old : ℕ) (o : Result T (ErrorKind × A)) → r ≡ root_of (message segments) n → left ≡ less budget 1 →
-    IfErr o (λ e. LacksMemoryOr old (refusals e.1) e.0 (RefusesCopy r left max_segment_words e.0)) → IfErr o (λ e. LacksMemoryOr old (refusals e.1) e.0 (Refuses segments n budget e.0))
-copy_refused refusals r segments n left budget old (Ok x) same rest h = h
-copy_refused refusals r segments n left budget old (Err e) same rest (inl memory) = inl memory
-copy_refused refusals r segments n left budget old (Err e) same rest (inr (refused, kept)) =
-    inr (no_copy (subst (λ (x : Option ℕ). RefusesCopy (root_of (message segments) n) x max_segment_words e.0) rest (subst (λ (x : Reading). RefusesCopy x left max_segment_words e.0) same refused)), kept)
+-- what refuses a copy of the root refuses the message
+pub copy_refused : {r : Reading} {segments : List (List ℕ)} {n : ℕ} {left budget : Option ℕ} {old new : ℕ} {k : ErrorKind} → r ≡ root_of (message segments) n → left ≡ less budget 1
+    → LacksMemoryOr old new k (RefusesCopy r left max_segment_words k) → LacksMemoryOr old new k (Refuses segments n budget k)
+copy_refused same rest (inl memory) = inl memory
+copy_refused {segments = segments} {n = n} {left = left} {k = k} same rest (inr (refused, kept)) =
+    inr (no_copy (subst (λ (x : Option ℕ). RefusesCopy (root_of (message segments) n) x max_segment_words k) rest (subst (λ (x : Reading). RefusesCopy x left max_segment_words k) same refused)), kept)
 
 -- the root pointer is refused
-pub root_refused : (segments : List (List ℕ)) (S : Segments) (n : ℕ) (budget : Option ℕ) (k : ErrorKind) (old : ℕ)
+pub root_refused : {segments : List (List ℕ)} {S : Segments} {n : ℕ} {budget : Option ℕ} {k : ErrorKind} {old : ℕ}
     → S ≡ message segments → (Holds S 0 0 1 → FitsIn budget 1 → ⊥) → ((Holds S 0 0 1 → ⊥) → k ≡ misplaced S 0 (InvalidSegmentId 0)) → (Holds S 0 0 1 → k ≡ ReadLimitExceeded)
     → LacksMemoryOr old old k (Refuses segments n budget k)
-root_refused segments S n budget k old same refused outside budgeted =
+root_refused {segments = segments} {S = S} {budget = budget} same refused outside budgeted =
     elim (cases_lt 0 (length (segment S 0))) [
       | inl there ↦ let holds = root_held S there in inr (no_budget (budgeted holds) (no_word_left budget (refused holds)), refl)
       | inr short ↦

@@ -56,24 +56,27 @@ no_feed xs e = let most = prefix_len-le (λ c. not (feed c)) xs in grind (arith,
     prefix_len-le p [] = omega arith
     prefix_len-le p (y ∷ ys) = elim (p y) as (λ v. cond v (1 + prefix_len p ys) 0 ≤ suc (length ys)) [ true ↦ omega (arith, prefix_len-le p ys) | false ↦ omega arith ]
 
--- one line is read, and the others are still to be read
-pub next_line : (done : List (List ℕ)) (line segment : List ℕ) (rest : List ℕ) (all : Option (List (List ℕ))) (text : List ℕ)
-    → all ≡ in_front done (segments_of text) → lines_of text ≡ line ∷ lines_of rest → decode_of line ≡ Ok segment
-    → all ≡ in_front (done ++ segment ∷ []) (segments_of rest)
+-- All segments are these and those of a text, whose first line is known, and so what stands behind it.
+pub record AtLine (done : List (List ℕ)) (line rest text : List ℕ) (all : Option (List (List ℕ))) : Type 0 where
+  pub read : all ≡ in_front done (segments_of text)
+  pub lines : lines_of text ≡ line ∷ lines_of rest
+
+at_line : {done : List (List ℕ)} {line rest text : List ℕ} {all : Option (List (List ℕ))} → AtLine done line rest text all → all ≡ in_front done (onto_segments (decode_of line) (segments_of rest))
 unfolding segments_of_lines
-next_line done line segment rest all text e lines decoded =
-    e ∙ ap (λ (ls : List (List ℕ)). in_front done (segments_of_lines ls)) lines ∙ ap (λ r. in_front done (onto_segments r (segments_of rest))) decoded ∙ step (segments_of rest)
+at_line {done = done} h = h.read ∙ ap (λ (ls : List (List ℕ)). in_front done (segments_of_lines ls)) h.lines
+
+-- one line is read, and the others are still to be read
+pub next_line : {done : List (List ℕ)} {line segment rest text : List ℕ} {all : Option (List (List ℕ))} → AtLine done line rest text all → decode_of line ≡ Ok segment → all ≡ in_front (done ++ segment ∷ []) (segments_of rest)
+next_line {done = done} {segment = segment} {rest = rest} h decoded =
+    at_line h ∙ ap (λ r. in_front done (onto_segments r (segments_of rest))) decoded ∙ step (segments_of rest)
   where
     step : (o : Option (List (List ℕ))) → in_front done (onto_segments (Ok segment) o) ≡ in_front (done ++ segment ∷ []) o
     step (Some more) = grind (arith, common_steps)
     step None = refl
 
 -- a line that is not pairs of hex digits spoils the text
-pub bad_line : (done : List (List ℕ)) (line : List ℕ) (rest : List ℕ) (all : Option (List (List ℕ))) (text : List ℕ)
-    → all ≡ in_front done (segments_of text) → lines_of text ≡ line ∷ lines_of rest → IsErr (decode_of line) → all ≡ None
-unfolding segments_of_lines
-bad_line done line rest all text e lines bad =
-    e ∙ ap (λ (ls : List (List ℕ)). in_front done (segments_of_lines ls)) lines ∙ ap (in_front done) (spoiled (decode_of line) bad)
+pub bad_line : {done : List (List ℕ)} {line rest text : List ℕ} {all : Option (List (List ℕ))} → AtLine done line rest text all → IsErr (decode_of line) → all ≡ None
+bad_line {done = done} {line = line} {rest = rest} h bad = at_line h ∙ ap (in_front done) (spoiled (decode_of line) bad)
   where
     spoiled : (r : Result (List ℕ) FromHexError) → IsErr r → onto_segments r (segments_of rest) ≡ None
     spoiled (Ok x) bad = absurd (search rules)
@@ -96,13 +99,10 @@ no_lines text = same (segments_of text)
     same (Some more) = refl
     same None = refl
 
--- the same, for a segment that was put behind the others
-pub kept_line : {A : Type 0} (f : A → List ℕ) (rows new : List A) (row : A) (line rest text : List ℕ) (all : Option (List (List ℕ)))
-    → new ≡ rows ++ row ∷ [] → all ≡ in_front (map f rows) (segments_of text) → lines_of text ≡ line ∷ lines_of rest → decode_of line ≡ Ok (f row)
-    → all ≡ in_front (map f new) (segments_of rest)
-kept_line {A} f rows new row line rest text all e read lines decoded =
-    next_line (map f rows) line (f row) rest all text read lines decoded
-    ∙ ap (λ (xs : List (List ℕ)). in_front xs (segments_of rest)) (sym (ap (map f) e ∙ snoc rows))
+-- a line is read, and its segment was put behind the others
+pub kept_line : {A : Type 0} (f : A → List ℕ) (rows : List A) {new : List A} (row : A) {line rest text : List ℕ} {all : Option (List (List ℕ))}
+    → new ≡ rows ++ row ∷ [] → AtLine (map f rows) line rest text all → decode_of line ≡ Ok (f row) → all ≡ in_front (map f new) (segments_of rest)
+kept_line {A} f rows row {rest = rest} e h decoded = next_line h decoded ∙ ap (λ (xs : List (List ℕ)). in_front xs (segments_of rest)) (sym (ap (map f) e ∙ snoc rows))
   where
     snoc : (xs : List A) → map f (xs ++ row ∷ []) ≡ map f xs ++ f row ∷ []
     snoc [] = refl

@@ -20,20 +20,20 @@ covers_rest None c h = tt
 covers_rest (Some b) c h = omega arith
 
 -- a message is not refused of which the root means a value whose canonical words fit a segment
-pub not_refused : (segments : List (List ℕ)) (n : ℕ) (budget : Option ℕ) (k : ErrorKind) (t : Tree)
+pub not_refused : {segments : List (List ℕ)} {n : ℕ} {budget : Option ℕ} {k : ErrorKind} {t : Tree}
     → IsSmall segments → HasValue (message segments) n budget t → 1 + word_count (trim t) ≤ max_segment_words → Refuses segments n budget k → ⊥
-not_refused segments n budget k t small value fits (beyond_limits w named large) = large small
-not_refused segments n budget k t small value fits (no_root named none) = none value.root
-not_refused segments n budget k t small value fits (no_budget named none) =
+not_refused small value fits (beyond_limits w named large) = large small
+not_refused small value fits (no_root named none) = none value.root
+not_refused small value fits (no_budget named none) =
     absurd (let covered : FitsIn (Some 0) (1 + value.cost) = subst (λ (b : Option ℕ). FitsIn b (1 + value.cost)) none value.covered in omega arith)
-not_refused segments n budget k t small value fits (no_copy (inl (w, named, large))) =
+not_refused {t = t} small value fits (no_copy (inl (w, named, large))) =
     absurd (let more = large t value.cost value.means in omega arith)
-not_refused segments n budget k t small value fits (no_copy (inr (m, refused))) =
+not_refused {budget = budget} {t = t} small value fits (no_copy (inr (m, refused))) =
     refused.only t value.cost value.means (λ _. value.free) (covers_rest budget value.cost value.covered)
 
 -- such a message is refused for want of memory alone
-pub only_memory : (segments : List (List ℕ)) (n : ℕ) (budget : Option ℕ) (old new : ℕ) (k : ErrorKind) (t : Tree)
+pub only_memory : {segments : List (List ℕ)} {n : ℕ} {budget : Option ℕ} {old new : ℕ} {k : ErrorKind} {t : Tree}
     → IsSmall segments → HasValue (message segments) n budget t → 1 + word_count (trim t) ≤ max_segment_words → LacksMemoryOr old new k (Refuses segments n budget k)
     → (k ≡ AllocationFailed) × (new ≡ one_more old)
-only_memory segments n budget old new k t small value fits (inl memory) = memory
-only_memory segments n budget old new k t small value fits (inr (refused, same)) = absurd (not_refused segments n budget k t small value fits refused)
+only_memory small value fits (inl memory) = memory
+only_memory small value fits (inr (refused, same)) = absurd (not_refused small value fits refused)

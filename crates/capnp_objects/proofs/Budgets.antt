@@ -9,7 +9,7 @@ use Rattle.capnp_objects.specs.Spending.{raised, after, pointers_in, pointers_in
 use Rattle.capnp_words.specs.declared.wire_pointer.StructSize.{StructSize}
 use Rattle.capnp_objects.specs.Demands.{own}
 use Rattle.capnp_objects.specs.Outcomes.{Reads, ReadsAll, ReadsElements, Entered}
-use Rattle.capnp_objects.specs.Reading.{Reading}
+use Rattle.capnp_objects.specs.Reading.{Reading, sized}
 use Rattle.capnp_objects.specs.Wanted.{Form}
 
 pub less_less : (o : Option ℕ) (g h : ℕ) → less (less o g) h ≡ less o (g + h)
@@ -81,23 +81,32 @@ paid_all x = record { covers = x.covers; spent = x.spent }
 pub paid_elements : {form : Form} {r : Reading} {size : StructSize} {m m' : Meter} {es : Elements} (x : ReadsElements form r size m m' es) → Paid r.charging m m' x.cost (pointers_in_elements es)
 paid_elements x = record { covers = x.covers; spent = x.spent }
 
+-- a place, of which it doesn't matter whether reading is charged
+abbrev place : Segments → ℕ → ℕ → ℕ → Reading
+place S n s p = record { segments = S; charging = false; levels = n; segment = s; at = p }
+
 -- each pointer but the first is a word that is paid for
 mutual
   pub pointers_within : (S : Segments) (n s p : ℕ) (t : Tree) (x : (c : ℕ) × Means S n s p t c) → pointers_in t ≤ x.0 + 1
   pointers_within S n s p Null (c, h) = omega arith
   pointers_within S n s p (Capability i) (c, h) = omega arith
-  pointers_within S n s p (Struct ws ts) (c, (a, k, some, o, claim, e, all, g)) = omega (arith, pointers_within_all S (pred n) a.segment _ ts k all)
+  pointers_within S n s p (Struct ws ts) (c, (a, k, some, o, claim, e, all, g)) = omega (arith, pointers_within_all (place S (pred n) a.segment _) ts k all)
   pointers_within S n s p (Flat size ns) (c, h) = omega arith
-  pointers_within S n s p (Pointers ts) (c, (a, k, some, o, claim, all, g)) = omega (arith, pointers_within_all S (pred n) a.segment _ ts k all)
+  pointers_within S n s p (Pointers ts) (c, (a, k, some, o, claim, all, g)) = omega (arith, pointers_within_all (place S (pred n) a.segment _) ts k all)
   pointers_within S n s p (Structs d q es) (c, (a, m, k, some, o, claim, tag, fits, all, g)) =
       let few : element_count es * q ≤ element_count es * (d + q) = grind arith in
-      omega (arith, pointers_within_elements S (pred n) a.segment _ d q es k all, few)
+      omega (arith, pointers_within_elements (place S (pred n) a.segment _) (sized d q) es k all, few)
 
-  pub pointers_within_all : (S : Segments) (n s p : ℕ) (ts : Trees) (c : ℕ) → MeansAll S n s p ts c → pointers_in_all ts ≤ c + count ts
-  pointers_within_all S n s p no_trees c h = omega arith
-  pointers_within_all S n s p (tree t ts) c (k, l, one, rest, g) = omega (arith, pointers_within S n s p t (k, one), pointers_within_all S n s _ ts l rest)
+  pub pointers_within_all : (r : Reading) (ts : Trees) (c : ℕ) → MeansAll r.segments r.levels r.segment r.at ts c → pointers_in_all ts ≤ c + count ts
+  pointers_within_all r no_trees c h = omega arith
+  pointers_within_all r (tree t ts) c (k, l, one, rest, g) =
+      omega (arith, pointers_within r.segments r.levels r.segment r.at t (k, one), pointers_within_all (place r.segments r.levels r.segment _) ts l rest)
 
-  pub pointers_within_elements : (S : Segments) (n s p d q : ℕ) (es : Elements) (c : ℕ) → MeansElements S n s p d q es c → pointers_in_elements es ≤ c + element_count es * q
-  pointers_within_elements S n s p d q no_elements c h = omega arith
-  pointers_within_elements S n s p d q (element ws ts es) c (k, l, long, len, e, all, rest, g) =
-      omega (arith, pointers_within_all S n s _ ts k all, pointers_within_elements S n s _ d q es l rest)
+  pub pointers_within_elements : (r : Reading) (size : StructSize) (es : Elements) (c : ℕ) → MeansElements r.segments r.levels r.segment r.at size.data_words size.pointers es c →
+      pointers_in_elements es ≤ c + element_count es * size.pointers
+  pointers_within_elements r size no_elements c h = omega arith
+  pointers_within_elements r size (element ws ts es) c (k, l, long, len, e, all, rest, g) = omega (
+    arith,
+    pointers_within_all (place r.segments r.levels r.segment _) ts k all,
+    pointers_within_elements (place r.segments r.levels r.segment _) size es l rest,
+  )

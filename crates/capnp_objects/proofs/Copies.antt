@@ -5,7 +5,7 @@ use Rattle.capnp_words.specs.declared.error.ErrorKind.{ErrorKind}
 use Rattle.capnp_format.specs.Segments.{segment, words_at, HasWords}
 use Rattle.capnp_format.specs.Tree.{Tree, Trees, no_trees, tree, Elements, no_elements, element, count, element_count, capabilities, capabilities_all, capabilities_elements}
 use Rattle.capnp_format.specs.Means.{Means, MeansAll}
-use Rattle.capnp_words.specs.Meter.{Meter, Affords}
+use Rattle.capnp_words.specs.Meter.{Meter}
 use Rattle.capnp_objects.specs.Spending.{after, pointers_in, pointers_in_all, pointers_in_elements}
 use Rattle.capnp_objects.specs.Outcomes.{MeansThere, MeanThere, ElementsMean, Spends, Reads, ReadsAll, ReadsElements, Refused, RefusedAll, RefusedElements}
 use Rattle.capnp_objects.specs.Wanted.{Form}
@@ -64,9 +64,8 @@ next_child r (tree t ts) (tree u us) (k, (x, y, first, others, f)) (c, (a, b, on
       omega (arith, z.4),
     )
 
-pub spends_on : (charging : Bool) (m m' m'' : Meter) (c r0 i l limit : ℕ) → Affords charging m c → m' ≡ after charging m c r0 → r0 ≤ c + i → i + l ≤ limit → Spends charging m' m'' l → Spends charging m m'' limit
-spends_on charging m m' m'' c r0 i l limit covers e few le (g, r, covers', e', few') =
-    let first : Paid charging m m' c r0 = record { covers = covers; spent = e } in
+pub spends_on : {charging : Bool} {m m' m'' : Meter} {c r0 limit : ℕ} (i l : ℕ) → Paid charging m m' c r0 → r0 ≤ c + i → i + l ≤ limit → Spends charging m' m'' l → Spends charging m m'' limit
+spends_on {charging} {m} {m'} {m''} {c} {r0} i l first few le (g, r, covers', e', few') =
     let then : Paid charging m' m'' g r = record { covers = covers'; spent = e' } in
     let paid = paid_both first then in
     (c + g, r0 + r, paid.covers, paid.spent, omega arith)
@@ -79,7 +78,7 @@ read_stop {form} {r} {m} {m'} {m''} {ts} i all lt refused = record {
       let x = next_child r ts us (all.cost, all.means) (d, others) (omega (arith, len)) in
       refused.only x.0 x.1 x.2 (λ t. omega (arith, takes t, x.4)) (affords_rest x.1 d (paid_all all) x.3 covers);
   spent =
-      spends_on r.charging m m' m'' all.cost (pointers_in_all ts) (count ts) 1 i all.covers all.spent (pointers_within_all r.segments r.levels r.segment r.at ts all.cost all.means) (omega arith) refused.spent;
+      spends_on (count ts) 1 (paid_all all) (pointers_within_all r ts all.cost all.means) (omega arith) refused.spent;
 }
 
 -- elements
@@ -198,8 +197,8 @@ read_element_stop {form} {r} {size} {m} {m'} {m''} {es} i all lt refused =
           let o = next_element r size es (all.cost, all.means) (us, x, others) (omega (arith, len)) in
           refused.only o.0 o.1 o.2 o.3 (λ t. omega (arith, takes t, o.5)) (affords_rest o.1 x (paid_elements all) o.4 covers);
       spent =
-          spends_on r.charging m m' m'' all.cost (pointers_in_elements es) (element_count es * q) q (i * q) all.covers all.spent
-          (pointers_within_elements r.segments r.levels r.segment r.at d q es all.cost all.means) (row (element_count es) i q lt) refused.spent;
+          spends_on (element_count es * q) q (paid_elements all)
+          (pointers_within_elements r size es all.cost all.means) (row (element_count es) i q lt) refused.spent;
     }
   where
     row : (j i q : ℕ) → j < i → j * q + q ≤ i * q

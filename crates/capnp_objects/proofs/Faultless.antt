@@ -34,8 +34,8 @@ not_refused InlineCompositeListsElementsOverrunItsWordCount (sound_capability lo
 not_refused InlineCompositeListsElementsOverrunItsWordCount (sound_object o) h = omega (arith, h.3, (o.tagged h.0).1)
 not_refused _ sound h = absurd h
 
-pub same_target : (S : Segments) (s p : ℕ) (a b : Target) → leads S s p ≡ Some a → leads S s p ≡ Some b → a ≡ b
-same_target S s p a b l m = let e = sym l ∙ m in cc e
+pub same_target : (S : Segments) (s p : ℕ) {a b : Target} → leads S s p ≡ Some a → leads S s p ≡ Some b → a ≡ b
+same_target S s p l m = let e = sym l ∙ m in cc e
 
 target_sound : {r : Reading} {a : Target} (form : Form) (k : ErrorKind) → LeadsTo r a → Sound form r a → BreaksAt (an_object form) k r → ⊥
 target_sound {r} {a} form k l s (some, inl refused) = let f = (leads_follows r.segments r.segment r.at a l).0.1 in absurd (cc (f, refused))
@@ -52,8 +52,8 @@ not_broken {r} form k takes (is_inner a l i) b = target_sound {r = r} form k l (
 inner_child : {r : Reading} {m c : ℕ} {b : Target} {q : ℕ} → Parts r m c → LeadsTo r b → Meets r.segments r.levels b → IsPointer r.segments b q → Meant (child_at r b (pred r.levels) q) m
 inner_child (is_null z) l o i = absurd (l.0 z)
 inner_child {r} {m} {c} {b} {q} (is_capability a la low one g) l o i =
-    absurd (let e = same_target r.segments r.segment r.at a b la.1 l.1 in let w : a.word % 2 ^ 32 ≡ b.word % 2 ^ 32 = ap (λ x. x.word % 2 ^ 32) e in omega (arith, w, low, o.is_object))
-inner_child {r} {m} {c} {b} {q} (is_inner a la h) l o i = let e : b ≡ a = sym (same_target r.segments r.segment r.at a b la.1 l.1) in rw e (h.children q (rw (sym e) i))
+    absurd (let e = same_target r.segments r.segment r.at la.1 l.1 in let w : a.word % 2 ^ 32 ≡ b.word % 2 ^ 32 = ap (λ x. x.word % 2 ^ 32) e in omega (arith, w, low, o.is_object))
+inner_child {r} {m} {c} {b} {q} (is_inner a la h) l o i = let e : b ≡ a = sym (same_target r.segments r.segment r.at la.1 l.1) in rw e (h.children q (rw (sym e) i))
 
 pub no_fault : (form : Form) (k : ErrorKind) {r : Reading} → Somewhere one_less (BreaksAt (an_object form) k) r → (m : ℕ) → Takes form m → Meant r m → ⊥
 no_fault form k {r} (here b) m takes (t, c, h, le) = not_broken form k (λ e. omega (arith, takes e, le)) (means_parts r t c h) b

@@ -9,7 +9,6 @@ use Rattle.capnp_format.specs.Tree.{Tree, Null, Capability, Struct, Flat, Pointe
 use Rattle.capnp_format.specs.Means.{Claims, ListAt, MeansAll}
 use Rattle.capnp_objects.specs.Follow.{Follows}
 use Rattle.capnp_words.specs.Meter.{Meter, Affords}
-use Rattle.capnp_objects.specs.Spending.{after}
 use Rattle.capnp_objects.specs.Demands.{claim, tag, amplified, own, Meets}
 use Rattle.capnp_objects.specs.Faults.{of_struct, of_list, of_element, here, below, Charges, LeadsTo, child_at, of_pads, of_object, of_elements}
 use Rattle.capnp_objects.specs.Wanted.{BreaksAt}
@@ -42,7 +41,7 @@ InStructs r a m c =
     × (m ≡ capabilities_elements es) × (own r.segments a + k ≤ c)
 
 same_there : (r : Reading) (b a : Target) → LeadsTo r b → LeadsTo r a → b ≡ a
-same_there r b a l m = same_target r.segments r.segment r.at b a l.1 m.1
+same_there r b a l m = same_target r.segments r.segment r.at l.1 m.1
 
 same_word : (r : Reading) (b a : Target) → LeadsTo r b → LeadsTo r a → b.word ≡ a.word
 same_word r b a l m = ap (λ x. x.word) (same_there r b a l m)
@@ -84,9 +83,8 @@ in_structs r {a} (Structs d q es) c l (b, m, k, some, o, claims, t, fits, all, g
     )
 
 -- an object's own words, then at most as many pointers as it has
-pub object_spends : (charging : Bool) (m m' m'' : Meter) (g i : ℕ) → Affords charging m g → m' ≡ after charging m g 1 → i ≤ g → Spends charging m' m'' i → Spends charging m m'' 1
-object_spends charging m m' m'' g i covers e le (x, r, covers', e', few) =
-    let first : Paid charging m m' g 1 = record { covers = covers; spent = e } in
+pub object_spends : {charging : Bool} {m m' m'' : Meter} {g : ℕ} (i : ℕ) → Paid charging m m' g 1 → i ≤ g → Spends charging m' m'' i → Spends charging m m'' 1
+object_spends {charging} {m} {m'} {m''} {g} i first le (x, r, covers', e', few) =
     let then : Paid charging m' m'' x r = record { covers = covers'; spent = e' } in
     let paid = paid_both first then in
     (g + x, 1 + r, paid.covers, paid.spent, omega arith)
@@ -98,7 +96,7 @@ stopped_struct {form} {r} {m} {m'} {m''} {a} o z refused = record {
   only = λ t c h takes covers.
       let i = in_struct r {a = a} t c o.leads_to z h in
       refused.only i.0 i.1 i.2 i.3 (λ e. omega (arith, takes e, i.4)) (affords_rest i.1 c (paid_own o) i.5 covers);
-  spent = object_spends r.charging m m' m'' (own r.segments a) (pointer_count a.word) o.covers o.spent (omega (arith, own_struct r.segments a z)) refused.spent;
+  spent = object_spends (pointer_count a.word) (paid_own o) (omega (arith, own_struct r.segments a z)) refused.spent;
 }
 
 pub stopped_pointers : {form : Form} {r : Reading} {m m' m'' : Meter} {a : Target} {k : ErrorKind} → Entered r m m' a → kind a.word ≡ 1 → element_size a.word ≡ 6 →
@@ -108,7 +106,7 @@ stopped_pointers {form} {r} {m} {m'} {m''} {a} o z six refused = record {
   only = λ t c h takes covers.
       let i = in_pointers r {a = a} t c (record { leads_to = o.leads_to; is_list = z; is_size = six; counts = refl }) h in
       refused.only i.0 i.1 i.2 i.3 (λ e. omega (arith, takes e, i.4)) (affords_rest i.1 c (paid_own o) i.5 covers);
-  spent = object_spends r.charging m m' m'' (own r.segments a) (list_count a.word) o.covers o.spent (omega (arith, own_pointers r.segments a z six)) refused.spent;
+  spent = object_spends (list_count a.word) (paid_own o) (omega (arith, own_pointers r.segments a z six)) refused.spent;
 }
 
 pub stopped_structs : {form : Form} {r : Reading} {m m' m'' : Meter} {a : Target} {k : ErrorKind} → Entered r m m' a → kind a.word ≡ 1 → element_size a.word ≡ 7 →
@@ -123,7 +121,7 @@ stopped_structs {form} {r} {m} {m'} {m''} {a} o z seven refused =
       spent =
           let fits = (o.meets.tagged (z, seven)).1 in
           let few = fewer (offset_bits (tag S a)) (data_words (tag S a)) (pointer_count (tag S a)) in
-          object_spends r.charging m m' m'' (own S a) (offset_bits (tag S a) * pointer_count (tag S a)) o.covers o.spent (omega (arith, own_structs S a z seven, fits, few)) refused.spent;
+          object_spends (offset_bits (tag S a) * pointer_count (tag S a)) (paid_own o) (omega (arith, own_structs S a z seven, fits, few)) refused.spent;
     }
   where
     fewer : (j d q : ℕ) → j * q ≤ j * (d + q)

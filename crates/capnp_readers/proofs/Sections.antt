@@ -13,8 +13,10 @@ use Rattle.capnp_words.specs.declared.wire_pointer.ElementSize.TheVariants.{Void
 use Rattle.capnp_words.specs.declared.wire_pointer.StructSize.{StructSize}
 use Rattle.capnp_objects.specs.Objects.{IsHeld}
 use Rattle.capnp_objects.specs.declared.object.Place.{Place}
-use Rattle.capnp_readers.specs.Sections.{IsInside, IsPart, bytes_for, HasRoom, HoldsPointer, list_words, pointers_behind}
+use Rattle.capnp_readers.specs.Sections.{IsInside, IsPart, bytes_for, HoldsPointer, list_words, pointers_behind}
 use Rattle.capnp_objects.specs.Source.{default_segments}
+use Rattle.capnp_arena.specs.declared.arena.reader_arena.ReaderArena.{Ghosts}
+use Rattle.capnp_readers.specs.declared.readers.list_reader.ListReader.{ListReader}
 use Rattle.capnp_objects.proofs.Defaults.{default_at}
 
 -- all bytes of a default's whole words
@@ -46,11 +48,9 @@ pointers_within TwoBytes sections count i h l = absurd h
 pointers_within FourBytes sections count i h l = absurd h
 pointers_within EightBytes sections count i h l = absurd h
 
--- they have a position of 32 bits
-pub struct_pointers : (S : Segments) (start : Place) (size : ElementSize) (sections : StructSize) (count i : ℕ) → IsHeld S start → HasRoom S start (list_words size count (sections.data_words + sections.pointers)) → HoldsPointer size sections → i < count → size ≡ InlineComposite →
-    i * (sections.data_words + sections.pointers) + sections.data_words < 2 ^ 32
-struct_pointers S start size sections count i (words_are, whole, small) room h l is =
-    omega (arith, rw is at (pointers_within size sections count i h l), rw is at room, whole, small)
+-- the words of a held segment are counted in 32 bits
+pub held_words : (S : Segments) (start : Place) → IsHeld S start → length (segment S start.segment) < 2 ^ 32
+held_words S start (words_are, whole, small) = omega (arith, whole, small)
 
 -- an element of a number of words lies among all
 pub words_within : (width count i : ℕ) → i < count → i * width + width ≤ count * width
@@ -100,19 +100,24 @@ part_of_part bs a L f n h =
     ∙ take-take n m (drop f (drop a bs)) (omega arith)
     ∙ ap (take n) (drop-drop f a bs)
 
--- the bytes of a number are bytes of its segment
-pub number_part : (here : Place) (size : ElementSize) (count width i bits at : ℕ) (content : List ℕ) → IsPart here (8 * here.at) (64 * list_words size count width) content → size_number size ≤ 5 → size_number size ≢ 1 → i < count →
-    bits ≡ element_bits (size_number size) → at ≡ here.at →
-    IsPart here (8 * at + i * (bits / 8)) bits (take (i * (bits / 8) + bits / 8 - i * (bits / 8)) (drop (i * (bits / 8)) content))
-number_part here size count width i bits at content (is, long) flat whole l e f =
-    rw (e, f) (
-    let b = element_bits (size_number size) / 8 in
-    let n : i * b + b - i * b ≡ b = omega arith in
-    let words : bytes_for (64 * list_words size count width) ≡ 8 * words_for (size_number size) count = omega (arith, flat_words size count width flat) in
-    let room : i * b + b ≤ bytes_for (64 * list_words size count width) = omega (arith, words, number_within size count i flat l) in
-    let bytes = number_bytes size whole in
-    let same : take b (drop (i * b) content) ≡ take b (drop (8 * here.at + i * b) here.bytes.now) = ap (λ c. take b (drop (i * b) c)) is ∙ part_of_part here.bytes.now (8 * here.at) _ (i * b) b room in
-    rw (n, bytes) (same, omega (arith, length-take b (drop (i * b) content), length-drop (i * b) content, long, room))
-    )
+module _ {A : Type 0} (g : Ghosts A) where
+  -- the bytes of a number of a list are bytes of its segment
+  pub number_part : (list : ListReader A g) (i : ℕ) {bits : ℕ} → size_number list.element_size ≤ 5 → size_number list.element_size ≢ 1 → i < list.count → bits ≡ element_bits (size_number list.element_size) →
+      IsPart list.start (8 * list.start.at + i * (bits / 8)) bits (take (i * (bits / 8) + bits / 8 - i * (bits / 8)) (drop (i * (bits / 8)) list.content.now))
+  number_part list i flat whole l e =
+      rw e (
+      let size = list.element_size in
+      let width = list.struct_size.data_words + list.struct_size.pointers in
+      let all = bytes_for (64 * list_words size list.count width) in
+      let b = element_bits (size_number size) / 8 in
+      let n : i * b + b - i * b ≡ b = omega arith in
+      let words : all ≡ 8 * words_for (size_number size) list.count = omega (arith, flat_words size list.count width flat) in
+      let room : i * b + b ≤ all = omega (arith, words, number_within size list.count i flat l) in
+      let xs = list.content.now in
+      let ys = list.start.bytes.now in
+      let first = 8 * list.start.at in
+      let same : take b (drop (i * b) xs) ≡ take b (drop (first + i * b) ys) = ap (λ c. take b (drop (i * b) c)) list.content_is.0 ∙ part_of_part ys first all (i * b) b room in
+      rw (n, number_bytes size whole) (same, omega (arith, length-take b (drop (i * b) xs), length-drop (i * b) xs, list.content_is.1, room))
+      )
 
-pub ruleset elements = (pointers_within, struct_pointers, words_within, struct_within)
+pub ruleset elements = (pointers_within, words_within, struct_within)

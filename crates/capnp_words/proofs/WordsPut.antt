@@ -2,34 +2,31 @@
 use Rattle.std.proofs.Common.{◌≡◌, ℕ, ◌+◌, ◌-◌, suc, ◌*◌, ◌^◌, ◌<◌, ◌≤◌, List, [], ◌∷◌, ◌++◌, length, set, take, drop, refl, sym, ap, ◌∙◌, arith, length-take, length-drop, drop-drop, append_assoc}
 use Rattle.std.proofs.lemmas.List.{set_split}
 use Rattle.std.proofs.lemmas.Simd.{put_chunk_is}
-use Rattle.std.specs.Int.{from_le_bytes, w64}
 use Rattle.std.specs.List.{copy_within}
 use borrow.Rule.Slice.PartMut.{put_mid}
 use lib.Lanes.{put_chunk}
 use Rattle.capnp_format.specs.Bytes.{words_of}
-use Rattle.capnp_format.specs.Numbers.{from_digits, digits}
+use Rattle.capnp_format.specs.Numbers.{digits}
 use Rattle.capnp_format.proofs.Digits.{from_digits-digits}
+use Rattle.capnp_words.proofs.LittleEndian.{eight_bytes}
 use Rattle.capnp_format.proofs.WordsOf.{words, words_of-put_mid, words_of-put_mid_at, words_of-part}
 
-eight_bytes : (a b c d e f g h : ℕ) → from_le_bytes w64 (a ∷ b ∷ c ∷ d ∷ e ∷ f ∷ g ∷ h ∷ []) ≡ from_digits 256 (a ∷ b ∷ c ∷ d ∷ e ∷ f ∷ g ∷ h ∷ [])
-eight_bytes a b c d e f g h = omega arith
-
 word_of_digits : (w : ℕ) → w < 2 ^ 64 → words_of (digits 256 8 w) ≡ w ∷ []
-word_of_digits w l = ap (λ v. v ∷ []) (eight_bytes _ _ _ _ _ _ _ _ ∙ from_digits-digits 256 8 w (omega arith) l)
+word_of_digits w l = ap (λ v. v ∷ []) (eight_bytes (digits 256 8 w) refl ∙ from_digits-digits 256 8 w (omega arith) l)
 
 -- one word written over another
-pub words_of-put_word : (a w : ℕ) (bs ys : List ℕ) → 8 * a + 8 ≤ length bs → length ys ≡ 8 → words_of ys ≡ w ∷ [] → words_of (put_mid (8 * a) 8 bs ys) ≡ set (words_of bs) a w
-words_of-put_word a w bs ys l m e =
+pub words_of-put_word : (a : ℕ) {w : ℕ} (bs ys : List ℕ) → 8 * a + 8 ≤ length bs → length ys ≡ 8 → words_of ys ≡ w ∷ [] → words_of (put_mid (8 * a) 8 bs ys) ≡ set (words_of bs) a w
+words_of-put_word a {w} bs ys l m e =
     words_of-put_mid a 1 bs ys (omega arith) m
     ∙ ap (put_mid a 1 (words_of bs)) e
     ∙ ap (λ ws. take a (words_of bs) ++ (w ∷ ws)) (drop-drop 1 a (words_of bs) ∙ ap (λ n. drop n (words_of bs)) (let q : a + 1 ≡ suc a = omega arith in q))
     ∙ sym (set_split (words_of bs) a w (omega (arith, words bs)))
 
-pub words_of-put_chunk : (a w x : ℕ) (bs : List ℕ) → x ≡ w → 8 * a + 8 ≤ length bs → w < 2 ^ 64 → words_of (put_chunk (8 * a) bs (digits 256 8 x)) ≡ set (words_of bs) a w
-words_of-put_chunk a w x bs e l m =
+pub words_of-put_chunk : (a w : ℕ) {x : ℕ} (bs : List ℕ) → x ≡ w → 8 * a + 8 ≤ length bs → w < 2 ^ 64 → words_of (put_chunk (8 * a) bs (digits 256 8 x)) ≡ set (words_of bs) a w
+words_of-put_chunk a w bs e l m =
     ap (λ v. words_of (put_chunk (8 * a) bs (digits 256 8 v))) e
     ∙ ap words_of (put_chunk_is (8 * a) bs (digits 256 8 w) (omega arith))
-    ∙ words_of-put_word a w bs (digits 256 8 w) l refl (word_of_digits w m)
+    ∙ words_of-put_word a bs (digits 256 8 w) l refl (word_of_digits w m)
 
 -- words copied to another place of the same list
 pub words_of-copy_within : (f t n : ℕ) (bs : List ℕ) → 8 * (f + n) ≤ length bs → 8 * (t + n) ≤ length bs → words_of (copy_within bs (8 * f) (8 * (f + n)) (8 * t)) ≡ put_mid t n (words_of bs) (take n (drop f (words_of bs)))

@@ -186,7 +186,7 @@ lists::copy_pointers-returns-clause-copied g t c =
 pub lists::copy_pointers-returns-clause-longer : goal.lists::copy_pointers-returns-clause-longer
 lists::copy_pointers-returns-clause-longer g t c =
     let done = lists::copy_pointers-returns-clause-copied g t c in
-    omega (arith, length-made (g.A.BuilderArena.view c.args.arena.now).words (g.A.BuilderArena.view c.set_word.new.self).words c.args.id c.args.at (Pointers done.children) c.requires.place done.made)
+    omega (arith, length-made (g.A.BuilderArena.view c.args.arena.now).words c.args.id c.args.at (Pointers done.children) c.requires.place done.made)
 
 pub structs::copy_struct-returns-then-total-eq0-clause-copied : goal.structs::copy_struct-returns-then-total-eq0-clause-copied
 structs::copy_struct-returns-then-total-eq0-clause-copied g t c =
@@ -234,7 +234,7 @@ structs::copy_struct-returns-clause-copied g t c =
 pub structs::copy_struct-returns-clause-longer : goal.structs::copy_struct-returns-clause-longer
 structs::copy_struct-returns-clause-longer g t c =
     let done = structs::copy_struct-returns-clause-copied g t c in
-    omega (arith, length-made (g.A.BuilderArena.view c.args.arena.now).words (g.A.BuilderArena.view c.set_word-2.new.self).words c.args.id c.args.at (Struct (words_from (reading g.B.ReaderArena c.args.from) c.args.size.data_words) done.children) c.requires.place done.made)
+    omega (arith, length-made (g.A.BuilderArena.view c.args.arena.now).words c.args.id c.args.at (Struct (words_from (reading g.B.ReaderArena c.args.from) c.args.size.data_words) done.children) c.requires.place done.made)
 
 pub elements::copy_element-returns-clause-copied : goal.elements::copy_element-returns-clause-copied
 elements::copy_element-returns-clause-copied g t c =

@@ -8,7 +8,7 @@ use Rattle.capnp_copies.proofs.copy.copy_value.Goals as goal
 pub returns-in-Err-clause-cleared : goal.returns-in-Err-clause-cleared
 returns-in-Err-clause-cleared g c =
     let old = (g.A.BuilderArena.view c.args.arena.now).words in
-    cleared old (g.A.BuilderArena.view c.copy_object.new.arena).words (g.A.BuilderArena.view c.clear_from.new.arena).words c.args.id (there old c.args.id c.args.at c.requires.place) c.in-Err.ensures.kept (rw (← c.length_of-words.ensures) (ap (λ (v : View). v.words) c.clear_from.ensures.words))
+    cleared old c.args.id (there old c.args.id c.args.at c.requires.place) c.in-Err.ensures.kept (rw (← c.length_of-words.ensures) (ap (λ (v : View). v.words) c.clear_from.ensures.words))
 
 pub returns-in-Ok-clause-copied : goal.returns-in-Ok-clause-copied
 returns-in-Ok-clause-copied g c = (c.in-Ok.ensures.copied.value, c.in-Ok.ensures.copied.is_read, c.in-Ok.ensures.copied.made)

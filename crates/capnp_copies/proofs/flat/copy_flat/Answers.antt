@@ -13,7 +13,7 @@ use Rattle.capnp_format.specs.Canonical.{offset_to}
 use Rattle.capnp_format.proofs.Digits.{length-digits}
 use Rattle.capnp_arena.specs.Written.{with_segment, with_words, with_word}
 use Rattle.capnp_copies.proofs.Copying.{there, length-made}
-use Rattle.capnp_copies.proofs.Padding.{packed_again, appended_and_set}
+use Rattle.capnp_copies.proofs.Padding.{packed_again, all_written, word_set}
 use Rattle.capnp_copies.proofs.flat.copy_flat.Goals as goal
 
 pub returns-clause-copied : goal.returns-clause-copied
@@ -43,12 +43,12 @@ returns-clause-copied g c =
     ap words_of_view c.set_word.ensures
     ∙ ap (λ N. with_word N id at x) (ap words_of_view c.put_elements.ensures)
     ∙ ap (λ N. with_word (with_words N id start D) id at x) (ap words_of_view c.in-Some.ensures.taken.1)
-    ∙ appended_and_set M id start c.count-n.result at x D (there M id at c.requires.place) here (length-digits (2 ^ 64) (length ws) (f % 2 ^ bits) ∙ sym c.count-n.ensures)
+    ∙ ap (λ N. with_word N id at x) (all_written M id D (there M id at c.requires.place) here (length-digits (2 ^ 64) (length ws) (f % 2 ^ bits) ∙ sym c.count-n.ensures))
+    ∙ word_set M id (words ++ D) at x
     ∙ ap₂ (λ ys y. with_segment M id (set (words ++ ys) at y)) packs points
 
 pub returns-clause-longer : goal.returns-clause-longer
 returns-clause-longer g c =
     let M = (g.A.BuilderArena.view c.args.arena.now).words in
-    let M' = (g.A.BuilderArena.view c.set_word.new.self).words in
     let size = size_number c.args.size in
-    omega (arith, length-made M M' c.args.id c.args.at (Flat size (unpacked size c.args.count (words_of c.args.elements.now))) c.requires.place (returns-clause-copied g c))
+    omega (arith, length-made M c.args.id c.args.at (Flat size (unpacked size c.args.count (words_of c.args.elements.now))) c.requires.place (returns-clause-copied g c))

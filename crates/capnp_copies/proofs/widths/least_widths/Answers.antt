@@ -1,8 +1,8 @@
-use Rattle.std.proofs.Common.{◌≡◌, ◌+◌, ◌-◌, ◌<◌, max, take, drop, sym, ap, ap₂, ◌∙◌, arith}
+use Rattle.std.proofs.Common.{◌≡◌, suc, ◌+◌, ◌-◌, max, take, drop, sym, ap, ap₂, ◌∙◌, arith}
 use Rattle.capnp_format.specs.Bytes.{words_of}
 use Rattle.capnp_format.specs.Canonical.{used_words}
 use Rattle.capnp_copies.specs.Widths.{data_used, pointers_used}
-use Rattle.capnp_copies.proofs.Scanning.{no_data, no_pointers, data_more, pointers_more}
+use Rattle.capnp_copies.proofs.Scanning.{no_data, no_pointers, one_left, data_more, pointers_more}
 use Rattle.capnp_copies.proofs.widths.least_widths.Goals as goal
 
 pub loop-i-preserved : goal.loop-i-preserved
@@ -15,17 +15,17 @@ loop-i-preserved c =
     let at = c.loop-i.at in
     let next : at + c.from-at.result + c.from-at-in-loop-i.result ≡ at + (d + q) = omega arith in
     let behind : at + c.from-at.result ≡ at + d = omega arith in
-    let more : i < n = c.loop-i-test.true in
+    let left : n - i ≡ suc (n - (i + 1)) = one_left n i c.loop-i-test.true in
     record {
       reached = omega arith;
       data_fits = c.widened-least_data.ensures.within;
       pointers_fit = c.widened-least_pointers.ensures.within;
       data_left =
           ap₂ (λ w p. max w (data_used ws p d q (n - (i + 1)))) c.widened-least_data.ensures.value next
-          ∙ sym (data_more ws at d q n i c.loop-i.least_data more) ∙ c.loop-i.invariant.data_left;
+          ∙ sym (ap (λ k. max c.loop-i.least_data (data_used ws at d q k)) left ∙ data_more ws at d q (n - (i + 1)) c.loop-i.least_data) ∙ c.loop-i.invariant.data_left;
       pointers_left =
           ap₂ (λ w p. max w (pointers_used ws p d q (n - (i + 1)))) (c.widened-least_pointers.ensures.value ∙ ap (λ p. max c.loop-i.least_pointers (used_words (take q (drop p ws)))) behind) next
-          ∙ sym (pointers_more ws at d q n i c.loop-i.least_pointers more) ∙ c.loop-i.invariant.pointers_left;
+          ∙ sym (ap (λ k. max c.loop-i.least_pointers (pointers_used ws at d q k)) left ∙ pointers_more ws at d q (n - (i + 1)) c.loop-i.least_pointers) ∙ c.loop-i.invariant.pointers_left;
     }
 
 pub returns-else-total-gt0-clause-data_words : goal.returns-else-total-gt0-clause-data_words

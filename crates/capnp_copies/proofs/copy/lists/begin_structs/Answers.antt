@@ -14,5 +14,5 @@ returns-clause-taken g c =
       starts = e;
       extends =
           c.set_word.ensures ∙ ap₂ (λ (v : View) (T : Segments). record v { words = T }) m
-          (ap (λ (i : ℕ). with_word K c.args.id i c.args.tag) e ∙ tagged M K _ c.args.id c.args.words c.args.tag c.requires.there (ap (λ (v : View). v.words) m) refl);
+          (ap (λ (i : ℕ). with_word K c.args.id i c.args.tag) e ∙ tagged M c.args.id c.args.words c.args.tag (c.requires.there, ap (λ (v : View). v.words) m) refl);
     }

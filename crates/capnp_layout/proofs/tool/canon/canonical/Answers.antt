@@ -1,13 +1,12 @@
-use Rattle.std.proofs.Common.{rules, ◌≡◌, ◌∙◌, ◌^◌, ◌-◌, ◌∷◌, [], inr, refl, IsTrue, ℕ, map, vec_items, ap, Global, true, IsOk, sym, subst}
+use Rattle.std.proofs.Common.{rules, ◌≡◌, ◌∙◌, ◌^◌, ◌-◌, inr, refl, IsTrue, ap, true, IsOk, sym, subst}
+use Rattle.std.proofs.lemmas.Result.{IfOk-weaker, IfErr-weaker}
 use Rattle.capnp_format.specs.Bytes.{message}
 use Rattle.capnp_format.specs.Segments.{Segments, IsPlace}
-use Rattle.capnp_format.specs.Canonical.{trim, encoding}
 use Rattle.capnp_words.specs.Meter.{Meter, FitsIn, less}
-use Rattle.capnp_arena.specs.Limits.{whole}
-use Rattle.capnp_arena.specs.Row.{shown}
 use Rattle.capnp_objects.specs.Source.{source_segments, source_charging, levels}
 use Rattle.capnp_readers.specs.Readers.{reading}
-use Rattle.capnp_layout.proofs.CanonLemmas.{message-whole, value_read, copy_refused, root_reading, root_refused, root_there}
+use Rattle.capnp_layout.proofs.CanonLemmas.{message_read, value_read, copy_refused, root_reading, root_refused, root_there}
+use Rattle.capnp_layout.specs.Messages.{segments_in}
 use Rattle.capnp_layout.specs.Answers.Refuses.{beyond_limits}
 use Rattle.capnp_layout.proofs.tool.canon.canonical.Goals as goal
 
@@ -17,33 +16,29 @@ returns-then-not-is_small-clause-refused g c =
 
 pub returns-in-Ok-clause-value : goal.returns-in-Ok-clause-value
 returns-in-Ok-clause-value g c =
-    let same : message (map whole (map (vec_items {X = ℕ} {Z = Global}) c.new-arena.result.segments.segments.items)) ≡ message (map vec_items c.args.source.segments.items) =
-    message-whole (map vec_items c.new-arena.result.segments.segments.items) ∙ ap (λ m. message (map vec_items m.segments.items)) c.new-arena.ensures.segments in
+    let same = message_read c.new-arena.ensures.segments in
     let left : c.left.result ≡ less c.args.options.traversal_limit_in_words 1 =
     c.left.ensures ∙ ap (λ (m : Meter). m.left) c.in-Ok.ensures.granted ∙ ap (λ (m : Meter). less m.left 1) c.new-lim.ensures in
     let read : IsOk c.get_root_from_arena.result = search rules in
     let granted = c.get_root_from_arena.ensures.exactly.0 read in
-    let root : IsPlace (message (map (vec_items {X = ℕ} {Z = Global}) c.args.source.segments.items)) 0 0 = subst (λ (S : Segments). IsPlace S 0 0) same (root_there _ granted.0) in
+    let root : IsPlace (message (segments_in c.args.source)) 0 0 = subst (λ (S : Segments). IsPlace S 0 0) same (root_there _ granted.0) in
     let one : FitsIn c.args.options.traversal_limit_in_words 1 = subst (λ (m : Meter). FitsIn m.left 1) c.new-lim.ensures granted.1 in
-    let at_root = root_reading (reading _ c.in-Ok.root) (message (map vec_items c.args.source.segments.items)) (levels c.args.options.nesting_limit) (ap (source_segments _) c.in-Ok.ensures.source ∙ same) (ap (source_charging (λ _. true)) c.in-Ok.ensures.source)
+    let at_root = root_reading (reading _ c.in-Ok.root) (ap (source_segments _) c.in-Ok.ensures.source ∙ same) (ap (source_charging (λ _. true)) c.in-Ok.ensures.source)
     (ap levels (c.in-Ok.ensures.nesting ∙ c.new-arena.ensures.nesting)) c.in-Ok.ensures.place.0 c.in-Ok.ensures.place.1 in
-    value_read (λ made t. message (shown g.A.Segment.Segment made.rows.items) ≡ encoding (trim t) ∷ []) _ (message (map vec_items c.args.source.segments.items)) (levels c.args.options.nesting_limit) _ c.args.options.traversal_limit_in_words c.copy_in_tries.result at_root left root one
-    c.copy_in_tries.ensures.copied
+    IfOk-weaker c.copy_in_tries.result _ _ (λ made. value_read at_root left root one) c.copy_in_tries.ensures.copied
 
 pub returns-in-Ok-clause-refused : goal.returns-in-Ok-clause-refused
 returns-in-Ok-clause-refused g c =
-    let same : message (map whole (map (vec_items {X = ℕ} {Z = Global}) c.new-arena.result.segments.segments.items)) ≡ message (map vec_items c.args.source.segments.items) =
-    message-whole (map vec_items c.new-arena.result.segments.segments.items) ∙ ap (λ m. message (map vec_items m.segments.items)) c.new-arena.ensures.segments in
+    let same = message_read c.new-arena.ensures.segments in
     let left : c.left.result ≡ less c.args.options.traversal_limit_in_words 1 =
     c.left.ensures ∙ ap (λ (m : Meter). m.left) c.in-Ok.ensures.granted ∙ ap (λ (m : Meter). less m.left 1) c.new-lim.ensures in
-    let at_root = root_reading (reading _ c.in-Ok.root) (message (map vec_items c.args.source.segments.items)) (levels c.args.options.nesting_limit) (ap (source_segments _) c.in-Ok.ensures.source ∙ same) (ap (source_charging (λ _. true)) c.in-Ok.ensures.source)
+    let at_root = root_reading (reading _ c.in-Ok.root) (ap (source_segments _) c.in-Ok.ensures.source ∙ same) (ap (source_charging (λ _. true)) c.in-Ok.ensures.source)
     (ap levels (c.in-Ok.ensures.nesting ∙ c.new-arena.ensures.nesting)) c.in-Ok.ensures.place.0 c.in-Ok.ensures.place.1 in
-    copy_refused g.A.Allocator.refusals _ (map vec_items c.args.source.segments.items) (levels c.args.options.nesting_limit) _ c.args.options.traversal_limit_in_words _ c.copy_in_tries.result at_root left c.copy_in_tries.ensures.refused
+    IfErr-weaker c.copy_in_tries.result _ _ (λ e. copy_refused at_root left) c.copy_in_tries.ensures.refused
 
 pub returns-clause-refused : goal.returns-clause-refused
 returns-clause-refused g c =
-    let same : message (map whole (map (vec_items {X = ℕ} {Z = Global}) c.new-arena.result.segments.segments.items)) ≡ message (map vec_items c.args.source.segments.items) =
-    message-whole (map vec_items c.new-arena.result.segments.segments.items) ∙ ap (λ m. message (map vec_items m.segments.items)) c.new-arena.ensures.segments in
-    root_refused _ _ _ _ _ _ same
+    let same = message_read c.new-arena.ensures.segments in
+    root_refused same
     (λ holds fits. (let read : IsOk c.get_root_from_arena.result = c.get_root_from_arena.ensures.exactly.1 (holds, subst (λ (m : Meter). FitsIn m.left 1) (sym c.new-lim.ensures) fits) in absurd (search rules)))
     c.in-Err.ensures.outside c.in-Err.ensures.budget

@@ -7,13 +7,13 @@ loop-rest-preserved g c =
     let none : IsNone c.keep.result = search rules in
     let kept = c.keep.ensures.kept none in
     record {
-      read = kept_line vec_items _ _ _ _ _ _ _ kept.0 c.loop-rest.invariant.read c.first_line.ensures.lines c.in-Ok.ensures.bytes;
+      read = kept_line vec_items _ _ kept.0 (record { read = c.loop-rest.invariant.read; lines = c.first_line.ensures.lines }) c.in-Ok.ensures.bytes;
       granted = kept.1 ∙ c.in-Ok.ensures.kept ∙ c.loop-rest.invariant.granted;
     }
 
 pub returns-in-Err-clause-bad : goal.returns-in-Err-clause-bad
 returns-in-Err-clause-bad g c =
-    λ bad. bad_line _ _ _ _ _ c.loop-rest.invariant.read c.first_line.ensures.lines (c.in-Err.ensures.bad bad)
+    λ bad. bad_line (record { read = c.loop-rest.invariant.read; lines = c.first_line.ensures.lines }) (c.in-Err.ensures.bad bad)
 
 pub returns-clause-segments : goal.returns-clause-segments
 returns-clause-segments g c =

@@ -1,4 +1,5 @@
-use Rattle.std.proofs.Common.{◌≡◌, ◌<◌, ◌≤◌, ◌++◌, ◌∷◌, [], length, get_or, map, ap, sym, ◌∙◌, subst, arith, ℕ, List, true}
+use Rattle.std.proofs.Common.{◌≡◌, ◌<◌, ◌≤◌, ◌++◌, ◌∷◌, [], length, get_or, map, take, ap, sym, ◌∙◌, subst, arith, ℕ, List, true}
+use Rattle.std.proofs.lemmas.List.{map-append}
 use Rattle.std.specs.Borrow.{Bor}
 use Rattle.std.specs.Result.{is_ok}
 use Rattle.capnp_arena.specs.Row.{shown}
@@ -15,7 +16,10 @@ loop-row-preserved g c =
     let there : c.loop-row.row-index < length rows = omega (arith, c.loop-row-test.true, ap length c.deref-row-items.ensures.value) in
     let e : c.row-item.result ≡ get_or rows c.loop-row.row-index c.row-item.result = cc (c.row-item.is, c.deref-row-items.ensures.value) in
     ap (map (λ (s : Bor (List ℕ)). s.now)) pushed
-    ∙ shown_more g.A.Segment.Segment rows c.loop-row.row-index c.row-item.result c.loop-row.segments.items c.allocated-in-loop-row.result there e c.allocated-in-loop-row.ensures c.loop-row.invariant
+    ∙ map-append (λ (s : Bor (List ℕ)). s.now) c.loop-row.segments.items (c.allocated-in-loop-row.result ∷ [])
+    ∙ ap (λ (B : List (List ℕ)). B ++ c.allocated-in-loop-row.result.now ∷ []) c.loop-row.invariant
+    ∙ ap (λ (bytes : List ℕ). take c.loop-row.row-index (shown g.A.Segment.Segment rows) ++ bytes ∷ []) c.allocated-in-loop-row.ensures
+    ∙ sym (shown_more g.A.Segment.Segment rows c.loop-row.row-index there e)
 
 pub returns-after-loop-row-clause-small : goal.returns-after-loop-row-clause-small
 returns-after-loop-row-clause-small g c =

@@ -37,4 +37,4 @@ returns-clause-taken g c =
     let B = shown g.A.Segment.Segment c.args.self.now.rows.items in
     let n : c.len-id.result ≡ length B = omega (arith, length_shown g.A.Segment.Segment c.args.self.now.rows.items, c.len-id.ensures) in
     let words : View → Segments = λ v. v.words in
-    taken_another B _ _ c.len-id.result c.args.amount c.in_ok-allocate_segment.ensures.made n (ap words c.take-at.ensures.taken)
+    taken_another B _ c.args.amount c.in_ok-allocate_segment.ensures.made n (ap words c.take-at.ensures.taken)

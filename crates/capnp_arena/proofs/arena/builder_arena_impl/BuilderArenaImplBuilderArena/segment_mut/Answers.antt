@@ -11,6 +11,6 @@ returns g c =
     let row = c.index_mut-row.result.now in
     let there : c.args.id < length rows.items = omega (arith, length_shown seg rows.items, c.requires) in
     let e : row ≡ get_or rows.items c.args.id row = c.index_mut-row.ensures.value in (
-      (refl, λ w. lent_arena g.A.Allocator seg c.args.self.now c.args.id row w there e _),
+      (refl, λ w. lent_arena g.A.Allocator seg c.args.self.now c.args.id w there e _),
       record { lends = tt; bytes = shown_at seg rows.items c.args.id row there ∙ ap (λ q. Some (allocated seg q)) (sym e) ∙ ap Some (sym c.allocated_mut.ensures.now) },
     )
