@@ -1,12 +1,13 @@
 //! Callers that know an arena by its contracts alone.
 #![tactic(auto)]
 
-ghost use Rattle.std.specs.Prelude.{◌≡◌, ◌<◌, ◌≤◌, ◌+◌, ◌^◌, ◌↔◌, ◌++◌, ◌∷◌, [], length, IsTrue, IsOk, IsSome, IsNone, IfSome, OnOk, OnErr, slice_set, slice_index_or, replicate};
+ghost use Rattle.std.specs.Prelude.{◌≡◌, ◌≢◌, ◌<◌, ◌≤◌, ◌+◌, ◌^◌, ◌↔◌, ◌++◌, ◌∷◌, [], length, IsTrue, IsOk, IsSome, IsNone, IfSome, IfErr, OnOk, OnErr, slice_set, slice_index_or, replicate};
 ghost use Rattle.std.specs.Bool.{OnTrue, OnFalse};
 ghost use Rattle.capnp_format.specs.Bytes.{message};
 ghost use Rattle.capnp_format.specs.Segments.{segment};
 ghost use Rattle.capnp_words.specs.Meter.{Affords, charged};
-ghost use Rattle.capnp_arena.specs.Checks.{Holds};
+ghost use Rattle.capnp_words.specs.declared.error.ErrorKind.TheVariants.{ReadLimitExceeded};
+ghost use Rattle.capnp_arena.specs.Checks.{Holds, misplaced};
 ghost use Rattle.capnp_arena.specs.Written.{with_more, with_segment, with_word};
 
 use capnp_arena::arena::{BuilderArena, ReaderArena};
@@ -51,11 +52,11 @@ pub fn put_two<A: BuilderArena>(arena: &mut A, id: u32, first: u64, second: u64)
     arena.set_word(id, 1, second);
 }
 
-/// The same, of which only the room is said.
+/// Writes the second word of a segment and gives 1. The word 7 isn't written, and gives 0.
 pub fn put_either<A: BuilderArena>(arena: &mut A, id: u32, word: u64) -> u32
     requires { 2 ≤ length (segment (A.view arena.old).words id) }
-    ensures length { length (segment (A.view arena.new).words id) ≡ length (segment (A.view arena.old).words id) }
-    ensures room { (A.view arena.new).room ≡ (A.view arena.old).room }
+    ensures kept { word ≡ 7 → (result ≡ 0) × (A.view arena.new ≡ A.view arena.old) }
+    ensures written { word ≢ 7 → (result ≡ 1) × (A.view arena.new ≡ record (A.view arena.old) { words = with_word (A.view arena.old).words id 1 word }) }
 {
     if word == 7 {
         return 0;
@@ -64,11 +65,13 @@ pub fn put_either<A: BuilderArena>(arena: &mut A, id: u32, word: u64) -> u32
     1
 }
 
-/// Takes a word and writes it, or says that it is not there.
+/// Takes a word of a segment, writes it and gives its position. `None` where the segment has no room for it.
+#[tactic(auto, using(crate::proofs::Extending::extending))]
 pub fn try_append<A: BuilderArena>(arena: &mut A, id: u32, word: u64) -> Option<u32>
     requires { id < length (A.view arena.old).words }
-    ensures length { IfSome result (λ at. length (segment (A.view arena.new).words id) ≡ at + 1) }
-    ensures room { (A.view arena.new).room ≡ (A.view arena.old).room }
+    ensures exactly { IsSome result ↔ (length (segment (A.view arena.old).words id) + 1 ≤ (A.view arena.old).room id) }
+    ensures position { IfSome result (λ at. at ≡ length (segment (A.view arena.old).words id)) }
+    ensures words { IsSome result → A.view arena.new ≡ with_more (A.view arena.old) id (word ∷ []) }
     ensures none { IsNone result → A.view arena.new ≡ A.view arena.old }
 {
     let at = arena.allocate(id, 1)?;
@@ -85,7 +88,7 @@ pub fn clear<A: BuilderArena>(arena: &mut A, id: u32)
     arena.segment_mut(id).fill(0);
 }
 
-/// Grants an interval, and says exactly when and what is left.
+/// Grants the first words of segment 0, and says exactly when, what is left, and by which name it refuses.
 pub fn granted<A: ReaderArena>(
     arena: &A,
     words: u32,
@@ -94,6 +97,8 @@ pub fn granted<A: ReaderArena>(
     ensures exactly { IsOk result ↔ Holds (message (A.segments arena.now)) 0 0 words × Affords (A.charging arena.now) lim.old words }
     ensures left { OnOk result (lim.new ≡ charged (A.charging arena.now) lim.old words) }
     ensures refused { OnErr result (lim.new ≡ lim.old) }
+    ensures outside { IfErr result (λ e. (Holds (message (A.segments arena.now)) 0 0 words → ⊥) → e ≡ misplaced (message (A.segments arena.now)) 0 (A.absent arena.now 0)) }
+    ensures budget { IfErr result (λ e. Holds (message (A.segments arena.now)) 0 0 words → e ≡ ReadLimitExceeded) }
 {
     arena.contains_interval(0, 0, words as usize, lim)
 }

@@ -124,6 +124,37 @@ fn words_given_out(rt: HostRuntime) -> Result<(), ErrorKind> {
 }
 
 #[test]
+fn empty_parts_change_nothing(rt: HostRuntime) -> Result<(), ErrorKind> {
+    let mut arena = BuilderArenaImpl::new(rt.alloc(), HeapAllocator::new(rt.alloc(), 2));
+    arena.allocate_segment(1)?;
+    assert!(rt; arena.allocate(0, 1) == Some(0));
+    arena.set_word(0, 0, 0x0807_0605_0403_0201);
+    arena.copy_words(0, 0, &[]);
+    arena.copy_words(0, 1, &[]);
+    arena.zero_words(0, 0, 0);
+    arena.zero_words(0, 1, 0);
+    arena.copy_words(FAR, 0, &[]);
+    arena.zero_words(FAR, 0, 0);
+    assert!(rt; arena.get_segment(0) == Ok(&[1, 2, 3, 4, 5, 6, 7, 8][..]));
+    assert!(rt; arena.size_in_words() == 1);
+    Ok(())
+}
+
+#[test]
+fn numbers_beyond_the_segments(rt: HostRuntime) -> Result<(), ErrorKind> {
+    let mut arena = BuilderArenaImpl::new(rt.alloc(), HeapAllocator::new(rt.alloc(), 1));
+    assert!(rt; arena.get_segment(0).err() == Some(ErrorKind::InvalidSegmentId(0)));
+    arena.allocate_segment(1)?;
+    for id in [1, FAR] {
+        assert!(rt;
+            arena.get_segment(id).err() == Some(ErrorKind::InvalidSegmentId(id)),
+            "{id}"
+        );
+    }
+    Ok(())
+}
+
+#[test]
 fn words_lent(rt: HostRuntime) -> Result<(), ErrorKind> {
     let mut arena = BuilderArenaImpl::new(rt.alloc(), HeapAllocator::new(rt.alloc(), 4));
     arena.allocate_segment(0)?;

@@ -54,6 +54,21 @@ fn no_segments(rt: HostRuntime) {
 }
 
 #[test]
+fn numbers_beyond_the_segments(rt: HostRuntime) {
+    let bytes = [0u8; 8];
+    let segments = [&bytes[..]];
+    let array = SegmentArray::new(&segments).expect(&rt, "small");
+    let arena = ReaderArenaImpl::new(array, ReaderOptions::default());
+    for id in [1, FAR] {
+        assert!(rt;
+            arena.get_segment(id).err() == Some(ErrorKind::InvalidSegmentId(id)),
+            "{id}"
+        );
+        assert!(rt; NullArena.get_segment(id).err() == Some(NULL), "{id}");
+    }
+}
+
+#[test]
 fn offsets_at_the_ends(rt: HostRuntime) {
     let bytes = [0u8; 24];
     let segments = [&bytes[..]];
@@ -118,7 +133,7 @@ fn amplified_reads(rt: HostRuntime) {
 #[test]
 fn nothing_in_the_null_arena(rt: HostRuntime) {
     let mut lim = ReadLimiter::new(Some(1));
-    assert!(rt; NullArena.get_segment(0).is_err());
+    assert!(rt; NullArena.get_segment(0).err() == Some(NULL));
     assert!(rt; NullArena.check_offset(0, 0, 0) == Err(NULL));
     assert!(rt; NullArena.contains_interval(0, 0, 0, &mut lim) == Err(NULL));
     assert!(rt; NullArena.amplified_read(9, &mut lim).is_ok());

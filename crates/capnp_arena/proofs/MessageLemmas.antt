@@ -43,9 +43,6 @@ message_wholes (b ∷ B) = ap (λ ws. ws ∷ message (map whole B)) (words_of-wh
 pub length-whole : (bs : List ℕ) → length (whole bs) ≡ 8 * (length bs / 8)
 length-whole bs = omega (arith, length-take (8 * (length bs / 8)) bs)
 
-pub length-segment : (B : List (List ℕ)) (id : ℕ) (s : List ℕ) → slice_get B id ≡ Some s → length (segment (message B) id) ≡ length s / 8
-length-segment B id s e = ap length (segment-message B id s e) ∙ words s
-
 -- the segments of whole words
 pub words-wholes : (B : List (List ℕ)) (id : ℕ) (s : List ℕ) → slice_get B id ≡ Some s → words_of (whole s) ≡ segment (message (map whole B)) id
 words-wholes [] id s e = cc

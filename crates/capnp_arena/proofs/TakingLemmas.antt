@@ -1,8 +1,8 @@
 -- Words taken in a message: the first segment with room, and a segment behind the others.
-use Rattle.std.proofs.Common.{◌≡◌, ℕ, zero, suc, ◌<◌, inl, inr, List, [], ◌∷◌, ◌++◌, length, replicate, refl, sym, ap, ◌∙◌, arith, length-append}
+use Rattle.std.proofs.Common.{◌≡◌, ℕ, zero, suc, ◌<◌, inl, inr, List, [], ◌∷◌, ◌++◌, length, replicate, refl, sym, ap, ◌∙◌, arith}
 use Rattle.std.proofs.lemmas.Bool.{cases_lt}
 use Rattle.capnp_format.specs.Bytes.{words_of, message}
-use Rattle.capnp_format.specs.Segments.{Segments, segment}
+use Rattle.capnp_format.specs.Segments.{Segments}
 use Rattle.capnp_arena.proofs.MessageLemmas.{length-message}
 use Rattle.capnp_arena.specs.Row.{allocated, capacity, shown, capacity_at}
 use Rattle.capnp_arena.specs.Taking.{IsFull, IsFirstFit, with_another}
@@ -53,19 +53,6 @@ taken_another B D {n} amount pushed e taken =
     taken ∙ ap (λ M. extended M n (replicate amount 0)) (ap message pushed ∙ message-append B ([] ∷ []))
     ∙ ap (λ i. extended (message B ++ [] ∷ []) i (replicate amount 0)) (e ∙ sym (length-message B))
     ∙ extended_another (message B) (replicate amount 0)
-
-pub none_there : (B C : List (List ℕ)) (n : ℕ) → C ≡ B ++ [] ∷ [] → n ≡ length B → (n < length C) × (length (segment (message C) n) ≡ 0)
-none_there B C n pushed e = (
-  omega (arith, ap length pushed, length-append B ([] ∷ [])),
-  ap (λ M. length (segment M n)) (ap message pushed ∙ message-append B ([] ∷ [])) ∙ go (message B) n (e ∙ sym (length-message B)),
-)
-  where
-    go : (M : Segments) (n : ℕ) → n ≡ length M → length (segment (M ++ [] ∷ []) n) ≡ 0
-    go M n e = rw e (last M)
-      where
-        last : (M : Segments) → length (segment (M ++ [] ∷ []) (length M)) ≡ 0
-        last [] = refl
-        last (s ∷ M) = last M
 
 pub ruleset another = (taken_another, length-message)
 

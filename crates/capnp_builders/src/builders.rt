@@ -6,8 +6,8 @@ ghost use Rattle.capnp_format.specs.Segments.{segment, word_at, IsPlace};
 ghost use Rattle.capnp_format.specs.Tree.{Tree};
 ghost use Rattle.capnp_words.specs.declared.error.ErrorKind.TheVariants.{UnknownPointerType};
 ghost use Rattle.capnp_builders.specs.Reads.{IsArenaOf};
-ghost use Rattle.capnp_objects.specs.Outcomes.{Reads, Refused, Spends};
-ghost use Rattle.capnp_objects.specs.Source.{fault};
+ghost use Rattle.capnp_objects.specs.Outcomes.{Reads, Spends};
+ghost use Rattle.capnp_objects.specs.Refusals.{Refused};
 ghost use Rattle.capnp_objects.specs.Wanted.{canonical};
 ghost use Rattle.capnp_readers.specs.Readers.{reading};
 
@@ -120,7 +120,7 @@ impl<'a, A: BuilderArena> PointerBuilder<'a, A> {
             IsOk result ↔ Fits (reading B.ReaderArena from.entry) lim.old (built A.view self.old) }
         ensures refused { IsTrue canonicalize → IsNull (built A.view self.old) → IfErr result (λ k.
             LacksWords (reading B.ReaderArena from.entry) (built A.view self.old) (built A.view self.new) k
-            ⊎ Refused canonical (reading B.ReaderArena from.entry) lim.old lim.new (fault k from.entry.source)) }
+            ⊎ Refused canonical (reading B.ReaderArena from.entry) lim.old lim.new k) }
         ensures unbuilt { canonicalize ≡ false ⊎ ¬ IsNull (built A.view self.old) →
             (result ≡ Err UnknownPointerType) × (A.view self.new.arena.now ≡ A.view self.old.arena.now) × (lim.new ≡ lim.old) }
         ensures spent { OnErr result (Spends (reading B.ReaderArena from.entry).charging lim.old lim.new 1) }

@@ -10,10 +10,11 @@ use Rattle.capnp_format.proofs.Children.{with_last, count-with_last}
 use Rattle.capnp_format.proofs.Trimming.{trim_each-count}
 use Rattle.capnp_arena.specs.View.{View}
 use Rattle.capnp_arena.specs.Written.{with_segment}
-use Rattle.capnp_objects.specs.Outcomes.{Reads, Refused, Spends}
+use Rattle.capnp_objects.specs.Outcomes.{Reads, Spends}
+use Rattle.capnp_objects.specs.Refusals.{Refused}
 use Rattle.capnp_objects.specs.Reading.{Reading, behind}
 use Rattle.capnp_objects.specs.Wanted.{canonical}
-use Rattle.capnp_objects.proofs.Copies.{read_none, read_more, read_stop, spends_on}
+use Rattle.capnp_objects.proofs.Copies.{read_none, read_more, spends_on}
 use Rattle.capnp_objects.proofs.Budgets.{pointers_within_all, paid_all}
 use Rattle.capnp_copies.specs.Copied.{copied, with_children}
 use Rattle.capnp_copies.specs.Frames.{KeepsLimits}
@@ -71,18 +72,18 @@ child_ahead {r} {old} {new} {id} {i} {at} j first le place =
     ap (λ ws. get_or ws (at + j) 0) (words_written old.words new.words id (with_children (segment old.words id) at (trim_each first.children)) (there old.words id (at + j) place) first.made)
     ∙ word_ahead (segment old.words id) at (at + j) (trim_each first.children) (omega (arith, first.counts, trim_each-count first.children)) place
 
-pub child_stops : {r : Reading} {old mid new : View} {id i at n : ℕ} {m m' m'' : Meter} {name : ErrorKind → ErrorKind} {k : ErrorKind} → IsPlace old.words id (at + i) → i < n → KeepsLimits old mid → CopiesChildren r i (call_of old mid id m m') at → StopsAtValue (behind r i) (call_of mid new id m' m'') name k → StopsAtChildren r n (call_of old new id m m'') name k
-child_stops {r} {old} {mid} {new} {id} {i} {at} {n} {m} {m'} {m''} {name} {k} place less limits first stop =
+pub child_stops : {r : Reading} {old mid new : View} {id i at n : ℕ} {m m' m'' : Meter} {k : ErrorKind} → IsPlace old.words id (at + i) → i < n → KeepsLimits old mid → CopiesChildren r i (call_of old mid id m m') at → StopsAtValue (behind r i) (call_of mid new id m' m'') k → StopsAtChildren r n (call_of old new id m m'') k
+child_stops {r} {old} {mid} {new} {id} {i} {at} {n} {m} {m'} {m''} {k} place less limits first stop =
     let ts : Trees = first.children in
     let same : mid.room id ≡ old.room id = ap (λ (v : View). v.room id) limits in
     let long : length (segment mid.words id) ≡ length (segment old.words id) + word_count_all (trim_each ts) = ap length (now place first) ∙ now_long (omega arith) first in
-    let one : Wants new.words id (old.room id) k (IsTooLarge (behind r (count ts)) (length (segment mid.words id)) (old.room id)) (Refused canonical (behind r (count ts)) m' m'' (name k)) =
+    let one : Wants new.words id (old.room id) k (IsTooLarge (behind r (count ts)) (length (segment mid.words id)) (old.room id)) (Refused canonical (behind r (count ts)) m' m'' k) =
     rw (first.counts, sym same) stop.why in
     let fewer : count ts < n = omega (arith, first.counts) in
     record {
       why = elim one [
         | inl x ↦ inl (x.0, x.1, x.2, too_large_child n (length (segment old.words id)) (old.room id) first.are_read fewer (subst (λ y. IsTooLarge (behind r (count ts)) y (old.room id)) long x.3))
-        | inr x ↦ inr (read_stop n first.are_read fewer x)
+        | inr x ↦ inr (record { first = ts; fewer = fewer; mid = m'; are_read = first.are_read; refused = x })
       ];
     }
 

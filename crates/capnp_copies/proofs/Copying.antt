@@ -1,5 +1,5 @@
 -- What a copy leaves: how long its segment is, what else is kept, and when there is one.
-use Rattle.std.proofs.Common.{◌≡◌, ℕ, zero, suc, ◌+◌, ◌<◌, ◌≤◌, List, [], ◌∷◌, ◌++◌, ◌⊎◌, inl, inr, ◌↔◌, Result, Ok, Err, IsOk, IfOk, IfErr, length, refl, ap, ap₂, ◌∙◌, arith, length-append, append-nil}
+use Rattle.std.proofs.Common.{◌≡◌, ℕ, zero, suc, ◌+◌, ◌<◌, ◌≤◌, List, [], ◌∷◌, ◌++◌, inl, inr, Result, Ok, Err, IfOk, length, refl, ap, ap₂, ◌∙◌, arith, length-append, append-nil}
 use Rattle.std.proofs.lemmas.List.{length-set}
 use Rattle.capnp_words.specs.declared.error.ErrorKind.{ErrorKind}
 use Rattle.capnp_format.specs.Segments.{Segments, segment, IsPlace}
@@ -9,12 +9,13 @@ use Rattle.capnp_words.specs.Meter.{Meter}
 use Rattle.capnp_arena.specs.Written.{with_segment, extended}
 use Rattle.capnp_copies.specs.Copied.{copied}
 use Rattle.capnp_copies.proofs.Shapes.{means_shaped, trim-shaped, length-body}
-use Rattle.capnp_objects.specs.Outcomes.{Reads, Refused}
+use Rattle.capnp_objects.specs.Refusals.{Refused}
+use Rattle.capnp_objects.proofs.Refusals.{unreadable}
 use Rattle.capnp_objects.specs.Reading.{Reading}
 use Rattle.capnp_objects.specs.Wanted.{canonical}
 use Rattle.capnp_copies.specs.Copies.{IsCopied, CanBeCopied}
 use Rattle.capnp_copies.specs.Parts.{Call, CopiesValue, StopsAtValue}
-use Rattle.capnp_copies.specs.Rooms.{IsTooLarge, LacksRoom}
+use Rattle.capnp_copies.specs.Rooms.{IsTooLarge}
 
 -- segments
 
@@ -55,7 +56,7 @@ pub not_too_large : (r : Reading) (m : Meter) (used room : ℕ) → CanBeCopied 
 not_too_large r m used room (t, c, means, free, covers, fits) large = let l = large t c means in omega arith
 
 pub not_refused : {r : Reading} {m m' : Meter} {k : ErrorKind} (used room : ℕ) → CanBeCopied r m used room → Refused canonical r m m' k → ⊥
-not_refused used room (t, c, means, free, covers, fits) refused = refused.only t c means (λ e. free) covers
+not_refused used room (t, c, means, free, covers, fits) refused = (unreadable refused).only t c means (λ e. free) covers
 
 -- a copy into one fresh word is the canonical words
 pub fresh_made : {M' : Segments} (M : Segments) (id at : ℕ) (t : Tree) → IsPlace M id at × (segment M id ≡ 0 ∷ []) → IsCopied M M' id at t → segment M' id ≡ encoding (trim t)
@@ -69,26 +70,10 @@ pub fresh_exactly : {X : Type 0} (P : Tree → Type 0) (o : Result X ErrorKind) 
 fresh_exactly P (Ok x) c at one (t, is, made) = (t, is, fresh_made c.old.words c.id at t one made)
 fresh_exactly P (Err k) c at one made = tt
 
--- How a copy to a place that is there ended: it is made, within the room, or refused.
-pub record CopyEnds (X : Type 0) (o : Result X ErrorKind) (r : Reading) (c : Call) (at : ℕ) (name : ErrorKind → ErrorKind) : Type 0 where
-  pub place : IsPlace c.old.words c.id at
-  pub fits : length (segment c.new.words c.id) ≤ c.old.room c.id
-  pub made : IfOk o (λ _. (t : Tree) × Reads canonical r c.before c.after t × IsCopied c.old.words c.new.words c.id at t)
-  pub refused : IfErr o (λ k. LacksRoom c.old c.new c.id k (IsTooLarge r) ⊎ Refused canonical r c.before c.after (name k))
-
-refused_rightly : {r : Reading} {c : Call} {name : ErrorKind → ErrorKind} {k : ErrorKind} → StopsAtValue r c name k → CanBeCopied r c.before (length (segment c.old.words c.id)) (c.old.room c.id) → ⊥
+-- one that can be does not stop
+pub refused_rightly : {r : Reading} {c : Call} {k : ErrorKind} → StopsAtValue r c k → CanBeCopied r c.before (length (segment c.old.words c.id)) (c.old.room c.id) → ⊥
 refused_rightly {r} {c} stop can =
     elim stop.why [
       | inl x ↦ not_too_large r c.before (length (segment c.old.words c.id)) (c.old.room c.id) can x.3
       | inr x ↦ not_refused (length (segment c.old.words c.id)) (c.old.room c.id) can x
     ]
-
--- a copy is made exactly where there can be one
-pub copied_exactly : {X : Type 0} (o : Result X ErrorKind) {r : Reading} {c : Call} {at : ℕ} {name : ErrorKind → ErrorKind} → CopyEnds X o r c at name →
-    IsOk o ↔ CanBeCopied r c.before (length (segment c.old.words c.id)) (c.old.room c.id)
-copied_exactly (Ok x) {r} {c} {at} ends =
-    let copies : CopiesValue r c at = record { value = ends.made.0; is_read = ends.made.1; made = ends.made.2 } in
-    (λ _. can_be_copied copies ends.place ends.fits, λ _. refl)
-copied_exactly (Err k) {r} {c} {at} {name} ends =
-    let stop : StopsAtValue r c name k = record { why = ends.refused } in
-    (λ f. absurd (cc f), λ can. absurd (refused_rightly stop can))

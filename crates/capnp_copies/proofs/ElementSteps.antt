@@ -2,7 +2,7 @@
 use Rattle.std.proofs.Common.{◌≡◌, inl, inr, ℕ, zero, suc, ◌+◌, ◌-◌, ◌*◌, ◌<◌, ◌≤◌, ◌++◌, List, get_or, length, take, drop, replicate, refl, sym, ap, ◌∙◌, arith, append_assoc, length-append, length-take, take_at}
 use Rattle.std.proofs.lemmas.List.{take_all}
 use Rattle.capnp_words.specs.declared.error.ErrorKind.{ErrorKind}
-use Rattle.capnp_words.specs.declared.wire_pointer.StructSize.{StructSize}
+use Rattle.capnp_pointers.specs.declared.wire_pointer.StructSize.{StructSize}
 use Rattle.capnp_words.specs.Meter.{Meter}
 use Rattle.capnp_format.specs.Segments.{Segments, segment, word_at, words_at, IsPlace}
 use Rattle.capnp_format.specs.Tree.{Trees, Elements, no_elements, element_count}
@@ -11,11 +11,12 @@ use Rattle.capnp_format.proofs.Slices.{length_words}
 use Rattle.capnp_format.proofs.Trimming.{trim_each-count, take_trees-count}
 use Rattle.capnp_arena.specs.View.{View}
 use Rattle.capnp_arena.specs.Written.{with_segment, with_words, overwritten}
-use Rattle.capnp_objects.specs.Outcomes.{ReadsAll, ReadsElements, RefusedAll, Spends}
+use Rattle.capnp_objects.specs.Outcomes.{ReadsAll, ReadsElements, Spends}
+use Rattle.capnp_objects.specs.Refusals.{RefusedAll}
 use Rattle.capnp_objects.specs.Reading.{Reading, behind, row, words_from, pointers_of, sized}
 use Rattle.capnp_objects.specs.Wanted.{canonical}
 use Rattle.capnp_objects.proofs.Budgets.{pointers_within_elements, paid_elements}
-use Rattle.capnp_objects.proofs.Copies.{spends_on, read_none, read_no_element, read_element_stop, with_last_element}
+use Rattle.capnp_objects.proofs.Copies.{spends_on, read_none, read_no_element, with_last_element}
 use Rattle.capnp_copies.specs.Copied.{with_children, rows_laid}
 use Rattle.capnp_copies.specs.Frames.{KeepsLimits}
 use Rattle.capnp_copies.specs.Parts.{Call, call_of, CopiesChildren, CopiesElement, StopsAtElement, CopiesElements, StopsAtElements}
@@ -240,9 +241,9 @@ row_copied {r} {sizes} {n} {i} {w} {id} {at} {old} {mid} {new} {m} {m'} {m''} he
           ∙ ap (with_segment M id) (element_put laid left us (trim_each ts) (count_us, trim_each-count ts ∙ next.counts) x.starts ∙ ap (λ y. rows_laid F e q y left) (sym form));
     }
 
-pub row_stops : {r : Reading} {sizes : ElementSizes} {n i w id at : ℕ} {old mid new : View} {m m' m'' : Meter} {name : ErrorKind → ErrorKind} {k : ErrorKind} → AtRow r sizes n i w (call_of old mid id m m') at → KeepsLimits old mid →
-    StopsAtElement (behind r (i * (sizes.source.data_words + sizes.source.pointers))) sizes (call_of mid new id m' m'') name k → StopsAtElements r sizes n (call_of old new id m m'') name k
-row_stops {r} {sizes} {n} {i} {w} {id} {at} {old} {mid} {new} {m} {m'} {m''} {name} {k} here limits stop =
+pub row_stops : {r : Reading} {sizes : ElementSizes} {n i w id at : ℕ} {old mid new : View} {m m' m'' : Meter} {k : ErrorKind} → AtRow r sizes n i w (call_of old mid id m m') at → KeepsLimits old mid →
+    StopsAtElement (behind r (i * (sizes.source.data_words + sizes.source.pointers))) sizes (call_of mid new id m' m'') k → StopsAtElements r sizes n (call_of old new id m m'') k
+row_stops {r} {sizes} {n} {i} {w} {id} {at} {old} {mid} {new} {m} {m'} {m''} {k} here limits stop =
     let S : Segments = r.segments in
     let d : ℕ = sizes.source.data_words in
     let v : ℕ = sizes.source.pointers in
@@ -252,7 +253,7 @@ row_stops {r} {sizes} {n} {i} {w} {id} {at} {old} {mid} {new} {m} {m'} {m''} {na
     let now : ℕ = length (segment mid.words id) in
     let same : mid.room id ≡ old.room id = ap (λ (u : View). u.room id) limits in
     let x = next_row here in
-    let one : Wants new.words id (old.room id) k (AreTooLarge (pointers_of r sizes.source (element_count es)) q now (old.room id)) (RefusedAll canonical (pointers_of r sizes.source (element_count es)) q m' m'' (name k)) =
+    let one : Wants new.words id (old.room id) k (AreTooLarge (pointers_of r sizes.source (element_count es)) q now (old.room id)) (RefusedAll canonical (pointers_of r sizes.source (element_count es)) q m' m'' k) =
     rw (here.rows.counts, sym same) stop.why in
     let p : ℕ = r.at + element_count es * (d + v) + d in
     let counts : element_count es ≡ i = here.rows.counts in
@@ -269,7 +270,7 @@ row_stops {r} {sizes} {n} {i} {w} {id} {at} {old} {mid} {new} {m} {m'} {m''} {na
     record {
       why = elim one [
         | inl y ↦ inl (y.0, y.1, y.2, too_large y.3)
-        | inr y ↦ inr (read_element_stop n here.rows.are_read fewer (refused_used v q inside less here.fits.less_pointers y))
+        | inr y ↦ inr (record { first = es; fewer = fewer; mid = m'; are_read = here.rows.are_read; refused = refused_used here.fits.less_pointers y })
       ];
     }
 

@@ -4,7 +4,7 @@ use Rattle.std.proofs.lemmas.List.{length-replicate}
 use Rattle.std.proofs.Math.Seq.{take-append-add}
 use Rattle.capnp_words.specs.declared.error.ErrorKind.{ErrorKind}
 use Rattle.capnp_words.specs.declared.error.ErrorKind.TheVariants.{MessageTooLarge}
-use Rattle.capnp_words.specs.declared.wire_pointer.StructSize.{StructSize}
+use Rattle.capnp_pointers.specs.declared.wire_pointer.StructSize.{StructSize}
 use Rattle.capnp_words.specs.Meter.{Meter}
 use Rattle.capnp_format.specs.Word.{struct_word, list_word}
 use Rattle.capnp_format.specs.Segments.{Segments, segment, IsPlace}
@@ -12,7 +12,8 @@ use Rattle.capnp_format.specs.Tree.{Structs, Elements, element_count}
 use Rattle.capnp_format.specs.Canonical.{trim, trim_elements, cut_to, word_count, word_count_elements, pointer, rows, element_bodies, offset_to}
 use Rattle.capnp_arena.specs.View.{View}
 use Rattle.capnp_arena.specs.Written.{with_segment, with_word}
-use Rattle.capnp_objects.specs.Outcomes.{RefusedElements, ElementsMean}
+use Rattle.capnp_objects.specs.Outcomes.{ElementsMean}
+use Rattle.capnp_objects.specs.Refusals.{RefusedElements}
 use Rattle.capnp_objects.specs.Reading.{Reading, row}
 use Rattle.capnp_objects.specs.Wanted.{canonical}
 use Rattle.capnp_copies.specs.Copied.{copied, rows_laid}
@@ -53,8 +54,8 @@ words_of_list {r} {size} {least} {i} es c inside is_least len all =
     let q : ℕ = least.pointers in
     ap word_count (trimmed_list es c inside is_least len all) ∙ ap (λ j. 1 + j * (e + q) + word_count_elements (cut_to e q (trim_elements es))) (cut_count e q es ∙ len)
 
-pub list_lacks_room : {r : Reading} {size least : StructSize} {old new : View} {id i n : ℕ} {m : Meter} {name : ErrorKind → ErrorKind} → r.at + i * (size.data_words + size.pointers) ≤ length (row r) → AreLeast r size least i → n ≡ 1 + i * (least.data_words + least.pointers) → new ≡ old →
-    old.room id < length (segment old.words id) + n → StopsAtStructs r size i (call_of old new id m m) name (MessageTooLarge n)
+pub list_lacks_room : {r : Reading} {size least : StructSize} {old new : View} {id i n : ℕ} {m : Meter} → r.at + i * (size.data_words + size.pointers) ≤ length (row r) → AreLeast r size least i → n ≡ 1 + i * (least.data_words + least.pointers) → new ≡ old →
+    old.room id < length (segment old.words id) + n → StopsAtStructs r size i (call_of old new id m m) (MessageTooLarge n)
 list_lacks_room {r} {size} {least} {old} {new} {id} {i} {n} inside is_least is same full =
     let now : length (segment new.words id) ≡ length (segment old.words id) = ap (λ (v : View). length (segment v.words id)) same in
     record { why = inl (n, refl, omega arith, λ es c len all. omega (arith, words_of_list es c inside is_least len all)) }
@@ -66,12 +67,12 @@ pub record ListBegun (r : Reading) (size least : StructSize) (i : ℕ) (old mid 
   pub place : IsPlace old.words id at
   pub taken : TakesWords old mid id head (struct_word i least.data_words least.pointers ∷ replicate (i * (least.data_words + least.pointers)) 0)
 
-pub list_stops : {r : Reading} {size least : StructSize} {i : ℕ} {old mid new : View} {id at head : ℕ} {m m' : Meter} {name : ErrorKind → ErrorKind} {k : ErrorKind} → ListBegun r size least i old mid id at head →
-    StopsAtElements r (record { source = size; kept = least }) i (call_of mid new id m m') name k → StopsAtStructs r size i (call_of old new id m m') name k
-list_stops {r} {size} {least} {i} {old} {mid} {new} {id} {at} {head} {m} {m'} {name} {k} begun stop =
+pub list_stops : {r : Reading} {size least : StructSize} {i : ℕ} {old mid new : View} {id at head : ℕ} {m m' : Meter} {k : ErrorKind} → ListBegun r size least i old mid id at head →
+    StopsAtElements r (record { source = size; kept = least }) i (call_of mid new id m m') k → StopsAtStructs r size i (call_of old new id m m') k
+list_stops {r} {size} {least} {i} {old} {mid} {new} {id} {at} {head} {m} {m'} {k} begun stop =
     let used : ℕ = length (segment old.words id) in
     let now : ℕ = length (segment mid.words id) in
-    let one : Wants new.words id (old.room id) k (AreTooLargeElements r (record { source = size; kept = least }) i now (old.room id)) (RefusedElements canonical r size i m m' (name k)) =
+    let one : Wants new.words id (old.room id) k (AreTooLargeElements r (record { source = size; kept = least }) i now (old.room id)) (RefusedElements canonical r size i m m' k) =
     rw (sym (same_room begun.taken)) stop.why in
     let long : now ≡ used + (1 + i * (least.data_words + least.pointers)) =
     omega (arith, now_long begun.place begun.taken, length-replicate {A = ℕ} (i * (least.data_words + least.pointers)) 0) in

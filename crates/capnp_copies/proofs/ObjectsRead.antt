@@ -1,29 +1,31 @@
 -- What a pointer means, where its object was read, and what a copy of its parts spends.
-use Rattle.std.proofs.Common.{◌≡◌, inl, inr, ℕ, pred, ◌+◌, ◌*◌, ◌≤◌, List, refl, sym, ap, ◌∙◌, subst, arith}
+use Rattle.std.proofs.Common.{◌≡◌, ℕ, pred, ◌+◌, ◌*◌, ◌≤◌, List, refl, sym, ap, ◌∙◌, subst, arith}
 use Rattle.capnp_words.specs.declared.error.ErrorKind.{ErrorKind}
 use Rattle.capnp_words.specs.declared.error.ErrorKind.TheVariants.{CannotCreateACanonicalMessageWithACapability, InlineCompositeListsElementsOverrunItsWordCount, InlineCompositeListsOfNonStructTypeAreNotSupported, MalformedDoubleFarPointer, MessageContainsOutOfBoundsPointer, MessageIsTooDeeplyNestedOrContainsCycles, UnknownPointerType}
-use Rattle.capnp_words.specs.declared.wire_pointer.StructSize.{StructSize}
-use Rattle.capnp_words.specs.declared.wire_pointer.ElementSize.{ElementSize}
+use Rattle.capnp_pointers.specs.declared.wire_pointer.StructSize.{StructSize}
+use Rattle.capnp_pointers.specs.declared.wire_pointer.ElementSize.{ElementSize}
 use Rattle.capnp_format.specs.Word.{kind, offset_bits, data_words, pointer_count, element_size, list_count}
 use Rattle.capnp_format.specs.Numbers.{words_for, unpacked}
 use Rattle.capnp_format.specs.Bytes.{words_of}
-use Rattle.capnp_words.specs.Sizes.{size_number}
+use Rattle.capnp_pointers.specs.Sizes.{size_number}
 use Rattle.capnp_format.specs.Segments.{Segments, segment, words_at, Target}
 use Rattle.capnp_format.specs.Tree.{Tree, Null, Capability, Struct, Flat, Structs, Pointers, Trees, Elements, count, element_count}
 use Rattle.capnp_format.specs.Means.{MeansAll, MeansElements}
-use Rattle.capnp_words.specs.Meter.{Meter}
+use Rattle.capnp_words.specs.Meter.{Meter, Affords}
 use Rattle.capnp_objects.specs.declared.object.Place.{Place}
 use Rattle.capnp_objects.specs.declared.object.Object.TheVariants.{Null as ObjectNull, Capability as ObjectCapability, Struct as ObjectStruct, Flat as ObjectFlat, Pointers as ObjectPointers, Structs as ObjectStructs}
 use Rattle.capnp_objects.specs.Objects.{IsObject}
 use Rattle.capnp_objects.proofs.Budgets.{paid_own}
-use Rattle.capnp_objects.proofs.Followed.{leads_follows}
+use Rattle.capnp_objects.proofs.Followed.{leads_to}
 use Rattle.capnp_objects.proofs.Faultless.{same_target}
-use Rattle.capnp_objects.proofs.Stops.{object_spends, refused_here}
+use Rattle.capnp_objects.proofs.Stops.{object_spends}
 use Rattle.capnp_objects.specs.Demands.{tag}
-use Rattle.capnp_objects.specs.Faults.{LeadsTo, Fails, Somewhere, here, below, child_at, one_less}
-use Rattle.capnp_objects.specs.Outcomes.{MeansThere, Spends, Reads, Refused}
+use Rattle.capnp_objects.specs.Faults.{LeadsTo}
+use Rattle.capnp_objects.specs.Outcomes.{MeansThere, Spends, Reads}
+use Rattle.capnp_objects.specs.Refusals.{Stopped, pads_exceed, nowhere, broken, claim_exceeds, count_exceeds, Refused, here}
 use Rattle.capnp_objects.specs.Reading.{Reading}
-use Rattle.capnp_objects.specs.Wanted.{plain, canonical, an_object, BreaksObject}
+use Rattle.capnp_objects.specs.Spending.{after}
+use Rattle.capnp_objects.specs.Wanted.{plain, canonical, BreaksObject}
 use Rattle.capnp_objects.proofs.Objects.{own_struct, own_pointers, own_structs, read_null, read_flat}
 
 -- the start of an object, with so many levels
@@ -42,23 +44,17 @@ still_refused S n a InlineCompositeListsOfNonStructTypeAreNotSupported h = h
 still_refused S n a InlineCompositeListsElementsOverrunItsWordCount h = h
 still_refused S n a _ h = absurd h
 
-still_fails : (m : Meter) (k : ErrorKind) (r : Reading) → Somewhere one_less (Fails (an_object plain) m k) r → Somewhere one_less (Fails (an_object canonical) m k) r
-still_fails m k r (here (inl (some, inl f))) = here (inl (some, inl f))
-still_fails m k r (here (inl (some, inr (a, f, h)))) = here (inl (some, inr (a, f, still_refused r.segments r.levels a k h)))
-still_fails m k r (here (inr h)) = here (inr h)
-still_fails m k r (below a q l o i rest) = below a q l o i (still_fails m k (child_at r a (pred r.levels) q) rest)
-
-pub refused_plain : {r : Reading} {m m' : Meter} {k : ErrorKind} → Refused plain r m m' k → Refused canonical r m m' k
-refused_plain {r} {m} {m'} {k} refused = record {
-  named = still_fails m' k r refused.named;
-  only = λ t c h takes covers. refused.only t c h (λ e. absurd e) covers;
-  spent = refused.spent;
-}
+pub refused_plain : {r : Reading} {m m' : Meter} {k : ErrorKind} → Stopped plain r m m' k → Refused canonical r m m' k
+refused_plain (pads_exceed some short paid named) = here (pads_exceed some short paid named)
+refused_plain (nowhere some h paid) = here (nowhere some h paid)
+refused_plain {r} {k = k} (broken a f h paid) = here (broken a f (still_refused r.segments r.levels a k h) paid)
+refused_plain (claim_exceeds a f level object claims short paid named) = here (claim_exceeds a f level object claims short paid named)
+refused_plain (count_exceeds a f meets short paid named) = here (count_exceeds a f meets short paid named)
 
 pub capability_refused : {r : Reading} (m m' : Meter) (i : ℕ) → IsObject r m m' (ObjectCapability i) → Refused canonical r m m' CannotCreateACanonicalMessageWithACapability
 capability_refused {r} m m' i (a, l, low, e, covers, spent) =
-    let f = (leads_follows r.segments r.segment r.at a l).0 in
-    refused_here m m' (f.0, inr (a, f.1, (tt, low))) (a.pads, 1, covers, spent, omega arith)
+    let none : a.pads ≡ a.pads + 0 = omega arith in
+    here (broken a (leads_to r a l) (tt, low) (record { covers = subst (Affords r.charging m) none covers; spent = spent ∙ ap (λ g. after r.charging m g 1) none }))
 
 pub null_read : {r : Reading} (m m' : Meter) → IsObject r m m' ObjectNull → Reads canonical r m m' Null
 null_read {r} m m' h = subst (λ x. Reads canonical r m x Null) (sym h.1) (read_null m h.0)

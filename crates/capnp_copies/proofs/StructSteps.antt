@@ -4,7 +4,7 @@ use Rattle.std.proofs.lemmas.List.{length-replicate, take_all}
 use Rattle.std.proofs.Math.Seq.{take-append-add}
 use Rattle.capnp_words.specs.declared.error.ErrorKind.{ErrorKind}
 use Rattle.capnp_words.specs.declared.error.ErrorKind.TheVariants.{MessageTooLarge}
-use Rattle.capnp_words.specs.declared.wire_pointer.StructSize.{StructSize}
+use Rattle.capnp_pointers.specs.declared.wire_pointer.StructSize.{StructSize}
 use Rattle.capnp_words.specs.Meter.{Meter}
 use Rattle.capnp_format.specs.Word.{struct_word, list_word}
 use Rattle.capnp_format.specs.Segments.{Segments, segment, IsPlace}
@@ -14,7 +14,8 @@ use Rattle.capnp_format.proofs.Slices.{length_words}
 use Rattle.capnp_format.proofs.Trimming.{trim_each-count, used_words-le, take_trees-count}
 use Rattle.capnp_arena.specs.View.{View}
 use Rattle.capnp_arena.specs.Written.{with_segment, with_word}
-use Rattle.capnp_objects.specs.Outcomes.{ReadsAll, RefusedAll, MeanThere}
+use Rattle.capnp_objects.specs.Outcomes.{ReadsAll, MeanThere}
+use Rattle.capnp_objects.specs.Refusals.{RefusedAll}
 use Rattle.capnp_objects.specs.Reading.{Reading, behind, row, words_from}
 use Rattle.capnp_objects.specs.Wanted.{canonical}
 use Rattle.capnp_objects.proofs.Copies.{read_none}
@@ -50,16 +51,16 @@ same_room {id = id} taken = ap (λ (v : View). v.room id) taken.extends
 
 -- a list of pointers
 
-pub pointers_lack_room : {r : Reading} {old new : View} {id q : ℕ} {m : Meter} {name : ErrorKind → ErrorKind} → new ≡ old → old.room id < length (segment old.words id) + q → StopsAtPointers r q (call_of old new id m m) name (MessageTooLarge q)
+pub pointers_lack_room : {r : Reading} {old new : View} {id q : ℕ} {m : Meter} → new ≡ old → old.room id < length (segment old.words id) + q → StopsAtPointers r q (call_of old new id m m) (MessageTooLarge q)
 pointers_lack_room {r} {old} {new} {id} {q} same full =
     let now : length (segment new.words id) ≡ length (segment old.words id) = ap (λ (v : View). length (segment v.words id)) same in
     record { why = inl (q, refl, omega arith, λ us c len all. omega (arith, trim_each-count us, len)) }
 
-pub pointers_stop : {r : Reading} {old mid new : View} {id at head q : ℕ} {m m' : Meter} {name : ErrorKind → ErrorKind} {k : ErrorKind} → IsPlace old.words id at → TakesWords old mid id head (replicate q 0) → StopsAtChildren r q (call_of mid new id m m') name k → StopsAtPointers r q (call_of old new id m m') name k
-pointers_stop {r} {old} {mid} {new} {id} {at} {head} {q} {m} {m'} {name} {k} place taken stop =
+pub pointers_stop : {r : Reading} {old mid new : View} {id at head q : ℕ} {m m' : Meter} {k : ErrorKind} → IsPlace old.words id at → TakesWords old mid id head (replicate q 0) → StopsAtChildren r q (call_of mid new id m m') k → StopsAtPointers r q (call_of old new id m m') k
+pointers_stop {r} {old} {mid} {new} {id} {at} {head} {q} {m} {m'} {k} place taken stop =
     let used : ℕ = length (segment old.words id) in
     let now : ℕ = length (segment mid.words id) in
-    let one : Wants new.words id (old.room id) k (AreTooLarge r q now (old.room id)) (RefusedAll canonical r q m m' (name k)) = rw (sym (same_room taken)) stop.why in
+    let one : Wants new.words id (old.room id) k (AreTooLarge r q now (old.room id)) (RefusedAll canonical r q m m' k) = rw (sym (same_room taken)) stop.why in
     let long : now ≡ used + q = omega (arith, now_long place taken, length-replicate {A = ℕ} q 0) in
     record { why = elim one [ inl x ↦ inl (x.0, x.1, x.2, λ us c len all. (let large = x.3 us c len all in omega (arith, trim_each-count us, len))) | inr x ↦ inr x ] }
 
@@ -137,8 +138,8 @@ empty_copied {r} {size} {used} {old} {new} {id} {at} {m} inside uses none writes
           ∙ ap (λ t. with_segment old.words id (copied W at t)) (sym form);
     }
 
-pub struct_lacks_room : {r : Reading} {size used : StructSize} {old new : View} {id n : ℕ} {m : Meter} {name : ErrorKind → ErrorKind} → r.at + (size.data_words + size.pointers) ≤ length (row r) → Uses r size used → n ≡ used.data_words + used.pointers → new ≡ old → old.room id < length (segment old.words id) + n →
-    StopsAtStruct r size (call_of old new id m m) name (MessageTooLarge n)
+pub struct_lacks_room : {r : Reading} {size used : StructSize} {old new : View} {id n : ℕ} {m : Meter} → r.at + (size.data_words + size.pointers) ≤ length (row r) → Uses r size used → n ≡ used.data_words + used.pointers → new ≡ old → old.room id < length (segment old.words id) + n →
+    StopsAtStruct r size (call_of old new id m m) (MessageTooLarge n)
 struct_lacks_room {r} {size} {used} {old} {new} {id} {n} inside uses is same full =
     let now : length (segment new.words id) ≡ length (segment old.words id) = ap (λ (v : View). length (segment v.words id)) same in
     record { why = inl (n, refl, omega arith, λ us c len all. omega (arith, words_of_struct us c inside uses len all)) }
@@ -153,14 +154,14 @@ pub record StructBegun (r : Reading) (size used : StructSize) (old mid : View) (
 data_long : {r : Reading} {size used : StructSize} {old mid : View} {id at head : ℕ} → StructBegun r size used old mid id at head → length (words_from r used.data_words) ≡ used.data_words
 data_long {r} {size} {used} begun = length_words r.segments r.segment r.at used.data_words (omega (arith, begun.inside, begun.uses.less_data))
 
-pub struct_stops : {r : Reading} {size used : StructSize} {old mid new : View} {id at head : ℕ} {m m' : Meter} {name : ErrorKind → ErrorKind} {k : ErrorKind} → StructBegun r size used old mid id at head → StopsAtChildren (behind r size.data_words) used.pointers (call_of mid new id m m') name k →
-    StopsAtStruct r size (call_of old new id m m') name k
-struct_stops {r} {size} {used} {old} {mid} {new} {id} {at} {head} {m} {m'} {name} {k} begun stop =
+pub struct_stops : {r : Reading} {size used : StructSize} {old mid new : View} {id at head : ℕ} {m m' : Meter} {k : ErrorKind} → StructBegun r size used old mid id at head → StopsAtChildren (behind r size.data_words) used.pointers (call_of mid new id m m') k →
+    StopsAtStruct r size (call_of old new id m m') k
+struct_stops {r} {size} {used} {old} {mid} {new} {id} {at} {head} {m} {m'} {k} begun stop =
     let d : ℕ = size.data_words in
     let q : ℕ = used.pointers in
     let ws : List ℕ = words_from r used.data_words in
     let zeros : List ℕ = replicate q 0 in
-    let one : Wants new.words id (old.room id) k (AreTooLarge (behind r d) q (length (segment mid.words id)) (old.room id)) (RefusedAll canonical (behind r d) q m m' (name k)) =
+    let one : Wants new.words id (old.room id) k (AreTooLarge (behind r d) q (length (segment mid.words id)) (old.room id)) (RefusedAll canonical (behind r d) q m m' k) =
     rw (sym (same_room begun.taken)) stop.why in
     let long : length (segment mid.words id) ≡ length (segment old.words id) + (used.data_words + q) =
     omega (arith, now_long begun.place begun.taken, data_long begun, length-append ws zeros, length-replicate {A = ℕ} q 0) in
@@ -173,7 +174,7 @@ struct_stops {r} {size} {used} {old} {mid} {new} {id} {at} {head} {m} {m'} {name
     record {
       why = elim one [
         | inl x ↦ inl (x.0, x.1, x.2, too_large x.3)
-        | inr x ↦ inr (refused_used size.pointers q inside (omega (arith, begun.uses.of_pointers)) begun.uses.less_pointers x)
+        | inr x ↦ inr (refused_used begun.uses.less_pointers x)
       ];
     }
 

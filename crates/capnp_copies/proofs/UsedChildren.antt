@@ -6,11 +6,12 @@ use Rattle.capnp_format.specs.Means.{MeansAll}
 use Rattle.capnp_format.specs.Canonical.{used_from, used_words, is_null, used_trees, take_trees, data_width, pointer_width, trim, trim_each, trim_elements, cut_to}
 use Rattle.capnp_words.specs.declared.error.ErrorKind.{ErrorKind}
 use Rattle.capnp_words.specs.Meter.{Meter}
-use Rattle.capnp_format.proofs.Trimming.{used_from-rest, used_from-past, take_trees-count}
+use Rattle.capnp_format.proofs.Trimming.{used_from-rest, used_from-past}
 use Rattle.capnp_format.proofs.Appending.{append_trees, count-append, means_joined}
 use Rattle.capnp_copies.proofs.LeastWidths.{used_where_meant}
 use Rattle.capnp_objects.specs.Spending.{after, pointers_in_all}
-use Rattle.capnp_objects.specs.Outcomes.{MeansThere, MeanThere, ReadsAll, RefusedAll}
+use Rattle.capnp_objects.specs.Outcomes.{MeansThere, MeanThere, ReadsAll}
+use Rattle.capnp_objects.specs.Refusals.{RefusedAll}
 use Rattle.capnp_objects.specs.Reading.{Reading, behind, row, words_from}
 use Rattle.capnp_objects.specs.Wanted.{canonical}
 
@@ -154,13 +155,6 @@ capabilities-take zero ts = omega arith
 capabilities-take (suc n) no_trees = omega arith
 capabilities-take (suc n) (tree t ts) = omega (arith, capabilities-take n ts)
 
--- a refusal among the first pointers, of which the others are Null, is one of them all
-pub refused_used : {r : Reading} {m m' : Meter} {k : ErrorKind} (q used : ℕ) → r.at + q ≤ length (row r) → used_words (words_from r q) ≤ used → used ≤ q → RefusedAll canonical r used m m' k → RefusedAll canonical r q m m' k
-refused_used {r} q used l e le h =
-    record {
-      named = (h.named.0, h.named.1, (let b = h.named.2 in omega arith), h.named.3);
-      only = λ us c len all free covers.
-          let u = used_children r us c l len all in
-          h.only (take_trees used us) c (take_trees-count used us (omega (arith, len))) (means_taken r us c used (omega (arith, u)) all) (λ t. omega (arith, capabilities-take used us, free t)) covers;
-      spent = (let (g, f, a, b, few) = h.spent in (g, f, a, b, omega arith));
-    }
+-- a refusal among the first pointers is one of them all
+pub refused_used : {r : Reading} {m m' : Meter} {k : ErrorKind} {q used : ℕ} → used ≤ q → RefusedAll canonical r used m m' k → RefusedAll canonical r q m m' k
+refused_used le h = record { first = h.first; fewer = omega (arith, h.fewer, le); mid = h.mid; are_read = h.are_read; refused = h.refused }

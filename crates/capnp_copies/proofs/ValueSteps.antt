@@ -6,22 +6,23 @@ use mir.Val.{SFits, to_z, of_z}
 use lib.IntN.{◌-ℤ◌}
 use Rattle.capnp_words.specs.declared.error.ErrorKind.{ErrorKind}
 use Rattle.capnp_words.specs.declared.error.ErrorKind.TheVariants.{MessageTooLarge}
-use Rattle.capnp_words.specs.declared.wire_pointer.ElementSize.{ElementSize}
-use Rattle.capnp_words.specs.Sizes.{size_number}
+use Rattle.capnp_pointers.specs.declared.wire_pointer.ElementSize.{ElementSize}
+use Rattle.capnp_pointers.specs.Sizes.{size_number}
 use Rattle.capnp_format.specs.Bytes.{words_of}
 use Rattle.capnp_format.specs.Numbers.{words_for, unpacked}
-use Rattle.capnp_words.specs.declared.wire_pointer.StructSize.{StructSize}
+use Rattle.capnp_pointers.specs.declared.wire_pointer.StructSize.{StructSize}
 use Rattle.capnp_words.specs.Meter.{Meter}
 use Rattle.capnp_format.specs.Segments.{segment, word_at, words_at}
 use Rattle.capnp_format.specs.Tree.{Null, Struct, Flat, Pointers, Structs}
 use Rattle.capnp_arena.specs.View.{View}
 use Rattle.capnp_objects.specs.Objects.{IsObject}
-use Rattle.capnp_objects.specs.Outcomes.{Reads, Refused}
+use Rattle.capnp_objects.specs.Outcomes.{Reads}
+use Rattle.capnp_objects.specs.Refusals.{Refused}
 use Rattle.capnp_objects.specs.Reading.{Reading, sized, tag_size}
 use Rattle.capnp_objects.specs.Demands.{tag}
 use Rattle.capnp_objects.specs.Faults.{child_at}
 use Rattle.capnp_objects.proofs.Objects.{read_struct, read_pointers, read_structs}
-use Rattle.capnp_objects.proofs.Stops.{stopped_struct, stopped_pointers, stopped_structs}
+use Rattle.capnp_objects.proofs.Refusals.{struct_refused, pointers_refused, structs_refused}
 use Rattle.capnp_format.specs.Word.{offset_bits, data_words, pointer_count, list_count}
 use Rattle.capnp_format.specs.Canonical.{trim, word_count}
 use Rattle.capnp_format.proofs.Levels.{one_value}
@@ -55,9 +56,9 @@ struct_copied {r} {levels = levels} {size = size} start less (a, o, z, (held, es
       made = struct.made;
     }
 
-pub struct_value_stops : {r : Reading} {old new : View} {id levels : ℕ} {m m' m'' : Meter} {size : StructSize} {name : ErrorKind → ErrorKind} {k : ErrorKind} (start : Place) → (0 < r.levels → levels ≡ pred r.levels) → IsObject r m m' (ObjectStruct start size) →
-    StopsAtStruct (inside r levels start) size (call_of old new id m' m'') name k → StopsAtValue r (call_of old new id m m'') name k
-struct_value_stops {r} {old} {new} {id} {levels} {m} {m'} {m''} {size} {name} {k} start less (a, o, z, (held, es, eb), ed, eq) stop =
+pub struct_value_stops : {r : Reading} {old new : View} {id levels : ℕ} {m m' m'' : Meter} {size : StructSize} {k : ErrorKind} (start : Place) → (0 < r.levels → levels ≡ pred r.levels) → IsObject r m m' (ObjectStruct start size) →
+    StopsAtStruct (inside r levels start) size (call_of old new id m' m'') k → StopsAtValue r (call_of old new id m m'') k
+struct_value_stops {r} {old} {new} {id} {levels} {m} {m'} {m''} {size} {k} start less (a, o, z, (held, es, eb), ed, eq) stop =
     let used : ℕ = length (segment old.words id) in
     let en = less o.meets.levels in
     let e : start.at ≡ a.start = omega arith in
@@ -66,7 +67,7 @@ struct_value_stops {r} {old} {new} {id} {levels} {m} {m'} {m''} {size} {name} {k
     (let l : IsTooLargeStruct (child_at r a (pred r.levels) a.start) (sized (data_words a.word) (pointer_count a.word)) used (old.room id) = rw (en, es, e, ed, eq) at large in
     let x = means_struct r t a (c, h) o.leads_to z in
     rw (x.4) (l x.0 x.1 x.2 x.3)) in
-    record { why = elim stop.why [ inl x ↦ inl (x.0, x.1, x.2, too_large x.3) | inr x ↦ inr (stopped_struct o z (rw (en, es, e, ed, eq) at x)) ] }
+    record { why = elim stop.why [ inl x ↦ inl (x.0, x.1, x.2, too_large x.3) | inr x ↦ inr (struct_refused o z (rw (en, es, e, ed, eq) at x)) ] }
 
 -- a list of pointers
 
@@ -77,9 +78,9 @@ pointers_copied {r} {levels = levels} {i = i} start less (a, o, z, six, (held, e
     let e : start.at ≡ a.start = omega arith in
     record { value = Pointers list.children; is_read = read_pointers o z six (list.counts ∙ ei) (rw (en, es, e) at list.are_read); made = list.made }
 
-pub pointers_value_stops : {r : Reading} {old new : View} {id levels i : ℕ} {m m' m'' : Meter} {name : ErrorKind → ErrorKind} {k : ErrorKind} (start : Place) → (0 < r.levels → levels ≡ pred r.levels) → IsObject r m m' (ObjectPointers start i) →
-    StopsAtPointers (inside r levels start) i (call_of old new id m' m'') name k → StopsAtValue r (call_of old new id m m'') name k
-pointers_value_stops {r} {old} {new} {id} {levels} {i} {m} {m'} {m''} {name} {k} start less (a, o, z, six, (held, es, eb), ei) stop =
+pub pointers_value_stops : {r : Reading} {old new : View} {id levels i : ℕ} {m m' m'' : Meter} {k : ErrorKind} (start : Place) → (0 < r.levels → levels ≡ pred r.levels) → IsObject r m m' (ObjectPointers start i) →
+    StopsAtPointers (inside r levels start) i (call_of old new id m' m'') k → StopsAtValue r (call_of old new id m m'') k
+pointers_value_stops {r} {old} {new} {id} {levels} {i} {m} {m'} {m''} {k} start less (a, o, z, six, (held, es, eb), ei) stop =
     let used : ℕ = length (segment old.words id) in
     let en = less o.meets.levels in
     let e : start.at ≡ a.start = omega arith in
@@ -88,7 +89,7 @@ pointers_value_stops {r} {old} {new} {id} {levels} {i} {m} {m'} {m''} {name} {k}
     (let l : IsTooLargePointers (child_at r a (pred r.levels) a.start) (list_count a.word) used (old.room id) = rw (en, es, e, ei) at large in
     let x = means_pointers r t a (c, h) o.leads_to (z, six) in
     rw (x.4) (l x.0 x.1 x.2 x.3)) in
-    record { why = elim stop.why [ inl x ↦ inl (x.0, x.1, x.2, too_large x.3) | inr x ↦ inr (stopped_pointers o z six (rw (en, es, e, ei) at x)) ] }
+    record { why = elim stop.why [ inl x ↦ inl (x.0, x.1, x.2, too_large x.3) | inr x ↦ inr (pointers_refused o z six (rw (en, es, e, ei) at x)) ] }
 
 -- a list of structs
 
@@ -103,9 +104,9 @@ structs_copied {r} {levels = levels} {i = i} {size = size} start less (a, o, z, 
       made = list.made;
     }
 
-pub structs_value_stops : {r : Reading} {old new : View} {id levels i : ℕ} {m m' m'' : Meter} {size : StructSize} {name : ErrorKind → ErrorKind} {k : ErrorKind} (start : Place) → (0 < r.levels → levels ≡ pred r.levels) → IsObject r m m' (ObjectStructs start size i) →
-    StopsAtStructs (inside r levels start) size i (call_of old new id m' m'') name k → StopsAtValue r (call_of old new id m m'') name k
-structs_value_stops {r} {old} {new} {id} {levels} {i} {m} {m'} {m''} {size} {name} {k} start less (a, o, z, seven, (held, eu, eb), ei, ed, eq) stop =
+pub structs_value_stops : {r : Reading} {old new : View} {id levels i : ℕ} {m m' m'' : Meter} {size : StructSize} {k : ErrorKind} (start : Place) → (0 < r.levels → levels ≡ pred r.levels) → IsObject r m m' (ObjectStructs start size i) →
+    StopsAtStructs (inside r levels start) size i (call_of old new id m' m'') k → StopsAtValue r (call_of old new id m m'') k
+structs_value_stops {r} {old} {new} {id} {levels} {i} {m} {m'} {m''} {size} {k} start less (a, o, z, seven, (held, eu, eb), ei, ed, eq) stop =
     let used : ℕ = length (segment old.words id) in
     let en = less o.meets.levels in
     let e : start.at ≡ a.start + 1 = omega arith in
@@ -114,7 +115,7 @@ structs_value_stops {r} {old} {new} {id} {levels} {i} {m} {m'} {m''} {size} {nam
     (let l : IsTooLargeList (child_at r a (pred r.levels) (a.start + 1)) (tag_size r.segments a) (offset_bits (tag r.segments a)) used (old.room id) = rw (en, eu, e, ed, eq, ei) at large in
     let x = means_structs r t a (c, h) o.leads_to (z, seven) in
     rw (x.4) (l x.0 x.1 x.2 x.3)) in
-    record { why = elim stop.why [ inl x ↦ inl (x.0, x.1, x.2, too_large x.3) | inr x ↦ inr (stopped_structs o z seven (rw (en, eu, e, ed, eq, ei) at x)) ] }
+    record { why = elim stop.why [ inl x ↦ inl (x.0, x.1, x.2, too_large x.3) | inr x ↦ inr (structs_refused o z seven (rw (en, eu, e, ed, eq, ei) at x)) ] }
 
 -- a list of numbers
 
@@ -128,10 +129,10 @@ flat_is_read {r} {m} {m'} {i} {n} {ws} start size object words part long = recor
   long = long ∙ words;
 }
 
-pub flat_stops : {r : Reading} {size i : ℕ} {ws : List ℕ} (o : Result (Unit {0}) ErrorKind) (c : Call) (name : ErrorKind → ErrorKind) → IsFlatRead r c.before c.after size i ws → IsOk o ↔ (length (segment c.old.words c.id) + length ws ≤ c.old.room c.id) →
-    IfErr o (λ k. (k ≡ MessageTooLarge (length ws)) × (c.new ≡ c.old)) → IfErr o (StopsAtValue r c name)
-flat_stops (Ok x) c name flat exactly refused = tt
-flat_stops {r} {size} {i} {ws} (Err k) c name flat exactly (named, same) =
+pub flat_stops : {r : Reading} {size i : ℕ} {ws : List ℕ} (o : Result (Unit {0}) ErrorKind) (c : Call) → IsFlatRead r c.before c.after size i ws → IsOk o ↔ (length (segment c.old.words c.id) + length ws ≤ c.old.room c.id) →
+    IfErr o (λ k. (k ≡ MessageTooLarge (length ws)) × (c.new ≡ c.old)) → IfErr o (StopsAtValue r c)
+flat_stops (Ok x) c flat exactly refused = tt
+flat_stops {r} {size} {i} {ws} (Err k) c flat exactly (named, same) =
     let used : ℕ = length (segment c.old.words c.id) in
     let one = flat.is_read in
     let no : (used + length ws ≤ c.old.room c.id) → ⊥ = λ h. (let e = exactly.1 h in cc e) in
@@ -144,5 +145,5 @@ flat_stops {r} {size} {i} {ws} (Err k) c name flat exactly (named, same) =
     record { why = inl (length ws, named, omega arith, too_large) }
 
 -- where the words behind are cleared, a copy that found no room still has none
-pub still_stops : {r : Reading} {old mid : View} {id : ℕ} {m m' : Meter} {name : ErrorKind → ErrorKind} {k : ErrorKind} (new : View) → length (segment new.words id) ≡ length (segment mid.words id) → StopsAtValue r (call_of old mid id m m') name k → LacksRoom old new id k (IsTooLarge r) ⊎ Refused canonical r m m' (name k)
-still_stops {r} {old} {mid} {id} {m} {m'} {name} {k} new same stop = elim stop.why [ inl x ↦ inl (x.0, x.1, omega (arith, x.2), x.3) | inr x ↦ inr x ]
+pub still_stops : {r : Reading} {old mid : View} {id : ℕ} {m m' : Meter} {k : ErrorKind} (new : View) → length (segment new.words id) ≡ length (segment mid.words id) → StopsAtValue r (call_of old mid id m m') k → LacksRoom old new id k (IsTooLarge r) ⊎ Refused canonical r m m' k
+still_stops {r} {old} {mid} {id} {m} {m'} {k} new same stop = elim stop.why [ inl x ↦ inl (x.0, x.1, omega (arith, x.2), x.3) | inr x ↦ inr x ]

@@ -1,6 +1,6 @@
 -- The words of a segment while a value is copied behind them.
 use Rattle.std.specs.Prelude.{ℕ, ◌+◌, ◌-◌, ◌*◌, ◌%◌, ◌^◌, List, ◌++◌, length, take, drop, set, replicate}
-use Rattle.capnp_words.specs.declared.wire_pointer.StructSize.{StructSize}
+use Rattle.capnp_pointers.specs.declared.wire_pointer.StructSize.{StructSize}
 use Rattle.capnp_format.specs.Numbers.{from_digits, digits}
 use Rattle.capnp_format.specs.Tree.{Tree, Trees, count, Elements}
 use Rattle.capnp_format.specs.Canonical.{pointer, pointers, rows, body, bodies, element_bodies, offset_to, trim_elements, cut_to}

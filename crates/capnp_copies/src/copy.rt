@@ -1,17 +1,17 @@
 //! The canonical copy of what a pointer means ("Canonicalization").
-ghost use Rattle.std.specs.Prelude.{◌≡◌, ◌⊎◌, ◌+◌, ◌-◌, ◌<◌, ◌≤◌, ◌^◌, length, IfOk, IfErr, OnErr};
+ghost use Rattle.std.specs.Prelude.{◌≡◌, ◌⊎◌, ◌+◌, ◌-◌, ◌<◌, ◌↔◌, ◌≤◌, ◌^◌, length, IsOk, IfOk, IfErr, OnErr};
 ghost use Rattle.capnp_format.specs.Segments.{segment, word_at, IsPlace};
 ghost use Rattle.capnp_format.specs.Numbers.{words_for};
-ghost use Rattle.capnp_words.specs.Sizes.{size_number};
+ghost use Rattle.capnp_pointers.specs.Sizes.{size_number};
 ghost use Rattle.capnp_format.specs.Tree.{Tree};
 ghost use Rattle.capnp_arena.specs.Written.{with_segment};
-ghost use Rattle.capnp_objects.specs.Outcomes.{Reads, Refused, Spends};
-ghost use Rattle.capnp_objects.specs.Source.{fault};
+ghost use Rattle.capnp_objects.specs.Outcomes.{Reads, Spends};
+ghost use Rattle.capnp_objects.specs.Refusals.{Refused};
 ghost use Rattle.capnp_objects.specs.Wanted.{canonical};
 ghost use Rattle.capnp_readers.specs.Readers.{reading};
 ghost use Rattle.capnp_copies.specs.Copied.{zeroed_from};
 ghost use Rattle.capnp_copies.specs.Parts.{CopiesValue, StopsAtValue, call_of};
-ghost use Rattle.capnp_copies.specs.Copies.{IsCopied, IsCleared};
+ghost use Rattle.capnp_copies.specs.Copies.{IsCopied, IsCleared, CanBeCopied};
 ghost use Rattle.capnp_copies.specs.Frames.{KeepsLimits};
 ghost use Rattle.capnp_copies.specs.Rooms.{IsSameBelow, IsTooLarge, LacksRoom};
 
@@ -47,8 +47,9 @@ pub fn copy_value<A: BuilderArena, B: ReaderArena>(
     requires null { word_at (A.view arena.old).words id at ≡ 0 }
     ensures copied { IfOk result (λ _. (t : Tree) × Reads canonical (reading B.ReaderArena from.entry) lim.old lim.new t
         × IsCopied (A.view arena.old).words (A.view arena.new).words id at t) }
+    ensures exactly { IsOk result ↔ CanBeCopied (reading B.ReaderArena from.entry) lim.old (length (segment (A.view arena.old).words id)) ((A.view arena.old).room id) }
     ensures refused { IfErr result (λ k. LacksRoom (A.view arena.old) (A.view arena.new) id k (IsTooLarge (reading B.ReaderArena from.entry))
-        ⊎ Refused canonical (reading B.ReaderArena from.entry) lim.old lim.new (fault k from.entry.source)) }
+        ⊎ Refused canonical (reading B.ReaderArena from.entry) lim.old lim.new k) }
     ensures spent { OnErr result (Spends (reading B.ReaderArena from.entry).charging lim.old lim.new 1) }
     ensures cleared { OnErr result (IsCleared (A.view arena.old).words (A.view arena.new).words id) }
     ensures longer { length (segment (A.view arena.old).words id) ≤ length (segment (A.view arena.new).words id) }
@@ -82,9 +83,7 @@ fn clear_from<A: BuilderArena>(arena: &mut A, id: u32, at: u32)
     ensures length { length (segment (A.view arena.new).words id) ≡ length (segment (A.view arena.old).words id) }
 {
     let end = length_of(arena, id);
-    if end > at {
-        arena.zero_words(id, at, end - at);
-    }
+    arena.zero_words(id, at, end - at);
 }
 
 /// Does what `copy_value` does, but leaves the words that it took where it is refused.
@@ -99,7 +98,7 @@ fn copy_object<A: BuilderArena, B: ReaderArena>(
     requires place { IsPlace (A.view arena.old).words id at }
     requires null { word_at (A.view arena.old).words id at ≡ 0 }
     ensures copied { IfOk result (λ _. CopiesValue (reading B.ReaderArena from.entry) (call_of (A.view arena.old) (A.view arena.new) id lim.old lim.new) at) }
-    ensures refused { IfErr result (StopsAtValue (reading B.ReaderArena from.entry) (call_of (A.view arena.old) (A.view arena.new) id lim.old lim.new) (λ k. fault k from.entry.source)) }
+    ensures refused { IfErr result (StopsAtValue (reading B.ReaderArena from.entry) (call_of (A.view arena.old) (A.view arena.new) id lim.old lim.new)) }
     ensures spent { OnErr result (Spends (reading B.ReaderArena from.entry).charging lim.old lim.new 1) }
     ensures kept { OnErr result (IsSameBelow (A.view arena.old).words (A.view arena.new).words id (length (segment (A.view arena.old).words id))) }
     ensures longer { length (segment (A.view arena.old).words id) ≤ length (segment (A.view arena.new).words id) }

@@ -3,7 +3,7 @@ ghost use Rattle.std.specs.Prelude.{◌≡◌, ◌+◌, ◌*◌, ◌/◌, ◌%�
 ghost use Rattle.capnp_format.specs.Bytes.{words_of};
 ghost use Rattle.capnp_format.specs.Numbers.{words_for, unpacked};
 ghost use Rattle.capnp_format.specs.Segments.{segment, word_at, IsPlace};
-ghost use Rattle.capnp_words.specs.Sizes.{size_number};
+ghost use Rattle.capnp_pointers.specs.Sizes.{size_number};
 ghost use Rattle.capnp_format.specs.Tree.{Flat};
 ghost use Rattle.capnp_words.specs.declared.error.ErrorKind.TheVariants.{MessageTooLarge};
 ghost use Rattle.capnp_arena.specs.Written.{with_words};
@@ -56,9 +56,6 @@ fn put_elements<A: BuilderArena>(arena: &mut A, id: u32, start: u32, elements: &
     requires all { (bits + 63) / 64 ≡ length (words_of elements.now) }
     ensures { A.view arena.new ≡ record (A.view arena.old) { words = with_words (A.view arena.old).words id start (low_bits (words_of elements.now) bits) } }
 {
-    if elements.is_empty() {
-        return;
-    }
     arena.copy_words(id, start, elements);
     let used = bits % 64;
     if used != 0 {

@@ -23,5 +23,4 @@ pub mod Trimmed
 pub mod Trimming
 pub mod Unique
 pub mod UsedUp
-pub mod WordLemmas
 pub mod WordsOf

@@ -1,5 +1,5 @@
 -- Where a value's pointer and body lie, the place means the value.
-use Rattle.std.proofs.Common.{◌≡◌, ◌≢◌, inl, inr, ℕ, zero, suc, pred, ◌+◌, ◌-◌, ◌*◌, ◌^◌, ◌<◌, ◌≤◌, cond, nat_eq, List, [], ◌∷◌, ◌++◌, length, Some, refl, sym, ap, ◌∙◌, subst, arith, length-append, pow-add, pow_mono, pow_pos, pow-suc, lt_of_lt_of_le, ne_eqb, mul-zero}
+use Rattle.std.proofs.Common.{◌≡◌, ◌≢◌, inl, inr, ℕ, zero, suc, pred, ◌+◌, ◌-◌, ◌*◌, ◌^◌, ◌<◌, ◌≤◌, cond, nat_eq, List, [], ◌∷◌, ◌++◌, length, Some, refl, sym, ap, ◌∙◌, subst, arith, length-append, pow-add, pow_mono, pow-suc, lt_of_lt_of_le, ne_eqb, mul-zero}
 use Rattle.std.proofs.lemmas.Bool.{cases_lt}
 use Rattle.std.proofs.Math.Nat.{pow-zero}
 use Rattle.capnp_format.specs.Word.{kind, offset_bits, capability_word, struct_word, list_word, is_double}
@@ -9,7 +9,7 @@ use Rattle.capnp_format.specs.Tree.{Tree, Null, Capability, Struct, Flat, Pointe
 use Rattle.capnp_format.specs.Means.{Leads, StructAt, ListAt, IsTag, Means, MeansAll, MeansElements}
 use Rattle.capnp_format.specs.Canonical.{word_count, word_count_all, pointer, pointers, rows, body, bodies, element_bodies, ForOffset, OffsetsFit, RowsFit, IsEncodable, AreEncodable, AreEncodableElements, offset_to, Reaches, Lies, charge, charge_all, charge_elements}
 use Rattle.capnp_format.specs.Value.{AreBelow, IsValue, AreValues, AreElements}
-use Rattle.capnp_format.proofs.Digits.{length-digits, digits-from_digits, from_digits-below, from_digits-digits, digits_again}
+use Rattle.capnp_format.proofs.Digits.{length-digits, digits-from_digits, from_digits-below, from_digits-digits}
 use Rattle.capnp_format.proofs.Lengths.{length-body, length-bodies, length-pointers, length-rows}
 use Rattle.capnp_format.proofs.Slices.{has_words_first, has_words_rest, has_words_head, has_words_tail, has_words_within, moved}
 use Rattle.capnp_format.proofs.Following.{IsOffsetTo, offset_at}
@@ -58,15 +58,6 @@ unpacked-packed size ns h =
     let fits : x < (2 ^ 64) ^ words_for size (length ns) = rw (pow_pow 64 (words_for size (length ns))) (lt_of_lt_of_le small (pow_mono room)) in
     ap (digits (2 ^ element_bits size) (length ns)) (from_digits-digits (2 ^ 64) (words_for size (length ns)) x (omega arith) fits)
     ∙ digits-from_digits (2 ^ element_bits size) ns h
-
--- where the padding is zero, packing the elements again gives the words
-pub packed-unpacked : (size n : ℕ) (ws : List ℕ) → AreBelow (2 ^ 64) ws → length ws ≡ words_for size n → from_digits (2 ^ 64) ws < 2 ^ (element_bits size * n) → packed size (unpacked size n ws) ≡ ws
-packed-unpacked size n ws h e small =
-    let x = from_digits (2 ^ 64) ws in
-    let fits : x < (2 ^ element_bits size) ^ n = rw pow_pow small in
-    let same : from_digits (2 ^ element_bits size) (unpacked size n ws) ≡ x = from_digits-digits (2 ^ element_bits size) n x (pow_pos (element_bits size)) fits in
-    ap (λ m. digits (2 ^ 64) (words_for size m) (from_digits (2 ^ element_bits size) (unpacked size n ws))) (length-digits (2 ^ element_bits size) n x)
-    ∙ ap (digits (2 ^ 64) (words_for size n)) same ∙ digits_again (2 ^ 64) (words_for size n) ws h e
 
 -- the pointer of a value h words along is the one whose bits are k
 offset_ahead : (p k : ℕ) → k < 2 ^ 29 → offset_to p (p + 1 + k) ≡ k

@@ -104,7 +104,4 @@ pub words_of-part : (a n i j : ℕ) (bs : List ℕ) → i ≡ 8 * a → j ≡ 8 
 words_of-part a n i j bs e f l =
     rw (e, f) (words_of-take n (drop (8 * a) bs) (omega (arith, length-drop (8 * a) bs)) ∙ ap (take n) (words_of-drop a bs (omega arith)))
 
-pub length-words_of-whole : (n : ℕ) (bs : List ℕ) → length bs ≡ 8 * n → length (words_of bs) ≡ n
-length-words_of-whole n bs l = length-words_of n bs (omega arith) (omega arith)
-
 pub ruleset part_words = (words_of-part, words)

@@ -1,13 +1,10 @@
 -- What a refused copy says of the message that was read.
 use Rattle.std.proofs.Common.{◌≡◌, ◌⊎◌, inl, inr, map, zero, suc, Some, None, ℕ, ◌+◌, ◌≤◌, List, [], ◌∷◌, length, Bool, true, false, Option, IfSome, IsNone, refl, ap, sym, ◌∙◌, subst, arith}
 use Rattle.capnp_words.specs.declared.error.ErrorKind.{ErrorKind}
-use Rattle.capnp_words.specs.declared.error.ErrorKind.TheVariants.{InvalidSegmentId, ReadLimitExceeded, TriedToReadFromNullArena}
+use Rattle.capnp_words.specs.declared.error.ErrorKind.TheVariants.{InvalidSegmentId, ReadLimitExceeded}
 use Rattle.capnp_format.specs.Segments.{Segments, segment, word_at, IsPlace}
 use Rattle.capnp_words.specs.Meter.{Meter, unused, less, FitsIn}
-use Rattle.capnp_objects.specs.declared.source.Source.{Source}
-use Rattle.capnp_objects.specs.declared.source.Source.TheVariants.{Arena, Default, Nothing}
-use Rattle.capnp_objects.specs.Source.{fault}
-use Rattle.capnp_objects.specs.Outcomes.{Refused}
+use Rattle.capnp_objects.specs.Refusals.{Refused}
 use Rattle.capnp_objects.specs.Reading.{Reading}
 use Rattle.capnp_objects.specs.Wanted.{canonical}
 use Rattle.capnp_copies.specs.Rooms.{IsTooLarge}
@@ -22,15 +19,8 @@ use Rattle.capnp_arena.specs.Checks.{Holds, misplaced}
 use Rattle.capnp_arena.specs.Limits.{whole}
 use Rattle.capnp_arena.proofs.MessageLemmas.{words_of-whole}
 use Rattle.capnp_format.specs.Bytes.{words_of, message}
-use Rattle.capnp_layout.specs.Sources.{IsArena}
 use Rattle.capnp_layout.specs.Messages.{segments_in}
 use Rattle.capnp_layout.specs.declared.tool.lines.Message.{Message}
-
--- a message names its faults itself
-pub fault-arena : {A : Type 0} (k : ErrorKind) (source : Source A) → IsArena source → fault k source ≡ k
-fault-arena k (Default d) h = absurd h
-fault-arena k Nothing h = absurd h
-fault-arena k (Arena a) h = elim k as (λ k. fault k (Arena a) ≡ k) [ TriedToReadFromNullArena ↦ refl | _ ↦ refl ]
 
 -- the root of a fresh message is null
 pub null_root : (M : Segments) (id at : ℕ) → M ≡ (0 ∷ []) ∷ [] → id ≡ 0 → at ≡ 0 → word_at M id at ≡ 0
@@ -43,13 +33,13 @@ pub record IsFresh (B : Building) (room : ℕ) : Type 0 where
   pub holds : B.room ≡ room
 
 -- a copy to the root of a fresh message is refused
-pub refused_copy : {A : Type 0} {r : Reading} {left : Option ℕ} {B : Building} {room : ℕ} {lim m : Meter} {k : ErrorKind} (C : Building) (source : Source A)
-    → IsFresh B room → lim ≡ unused left → IsArena source → LacksWords r B C k ⊎ Refused canonical r lim m (fault k source) → RefusesCopy r left room k
-refused_copy {r = r} {B = B} {room = room} C source place fresh arena (inl (w, named, most, large)) =
+pub refused_copy : {r : Reading} {left : Option ℕ} {B : Building} {room : ℕ} {lim m : Meter} {k : ErrorKind} (C : Building)
+    → IsFresh B room → lim ≡ unused left → LacksWords r B C k ⊎ Refused canonical r lim m k → RefusesCopy r left room k
+refused_copy {r = r} {B = B} {room = room} C place fresh (inl (w, named, most, large)) =
     let used : length (segment B.segments B.segment) ≡ 1 = ap (λ i. length (segment B.segments i)) place.first ∙ ap (λ (R : Segments). length (segment R 0)) place.null in
     inl (w, named, subst (λ u. IsTooLarge r u room) used (subst (IsTooLarge r (length (segment B.segments B.segment))) place.holds large))
-refused_copy {r = r} {lim = lim} {m = m} {k = k} C source place fresh arena (inr refused) =
-    inr (m, subst (λ (l : Meter). Refused canonical r l m k) fresh (subst (λ (e : ErrorKind). Refused canonical r lim m e) (fault-arena k source arena) refused))
+refused_copy {r = r} {lim = lim} {m = m} {k = k} C place fresh (inr refused) =
+    inr (m, subst (λ (l : Meter). Refused canonical r l m k) fresh refused)
 
 -- words that are taken, if there is room for them, leave the limits
 pub limits_kept : (o : Option ℕ) {old new : View} (P : ℕ → Type 0) (words : Segments) → IfSome o (λ at. P at × (new ≡ record old { words = words })) → (IsNone o → new ≡ old) → (new.room ≡ old.room) × (new.refusals ≡ old.refusals)
@@ -67,11 +57,6 @@ last_try last (inl memory) = inl memory
 last_try last (inr (inr refused, same)) = inr (inr refused, same)
 last_try {r = r} (inl most) (inr (inl (w, named, large), same)) = inr (inl (w, named, subst (IsTooLarge r 1) most large), same)
 last_try (inr other) (inr (inl (w, named, large), same)) = absurd (let wrong : true ≡ false = sym (ap is_message_too_large named) ∙ other in cc)
-
--- a try that is repeated was not refused for want of memory
-pub repeated_try : (old new : ℕ) (k : ErrorKind) (P : Type 0) → is_message_too_large k ≡ true → LacksMemoryOr old new k P → new ≡ old
-repeated_try old new k P large (inl (named, risen)) = absurd (let wrong : false ≡ true = sym (ap is_message_too_large named) ∙ large in cc)
-repeated_try old new k P large (inr (refused, same)) = same
 
 pub moved_try : {old new old' new' : ℕ} {k : ErrorKind} {P : Type 0} → old ≡ old' → new' ≡ new → LacksMemoryOr old new k P → LacksMemoryOr old' new' k P
 moved_try before after (inl (named, risen)) = inl (named, after ∙ risen ∙ ap one_more before)
@@ -106,13 +91,14 @@ root_held [] place = absurd (omega arith)
 root_held (s ∷ S) place = (omega arith, place)
 
 -- a reading of the root of a message is that of the root
-pub root_reading : (r : Reading) {S : Segments} {n : ℕ} → r.segments ≡ S → r.charging ≡ true → r.levels ≡ n → r.segment ≡ 0 → r.at ≡ 0 → r ≡ root_of S n
-root_reading r {S = S} {n = n} a b c d e =
-    ap (λ (x : Segments). record { segments = x; charging = r.charging; levels = r.levels; segment = r.segment; at = r.at }) a
-    ∙ ap (λ (x : Bool). record { segments = S; charging = x; levels = r.levels; segment = r.segment; at = r.at }) b
-    ∙ ap (λ (x : ℕ). record { segments = S; charging = true; levels = x; segment = r.segment; at = r.at }) c
-    ∙ ap (λ (x : ℕ). record { segments = S; charging = true; levels = n; segment = x; at = r.at }) d
-    ∙ ap (λ (x : ℕ). record { segments = S; charging = true; levels = n; segment = 0; at = x }) e
+pub root_reading : (r : Reading) {S : Segments} {n : ℕ} → r.segments ≡ S → r.charging ≡ true → r.of_default ≡ false → r.levels ≡ n → r.segment ≡ 0 → r.at ≡ 0 → r ≡ root_of S n
+root_reading r {S = S} {n = n} a b m c d e =
+    ap (λ (x : Segments). record r { segments = x }) a
+    ∙ ap (λ (x : Bool). record r { segments = S; charging = x }) b
+    ∙ ap (λ (x : Bool). record r { segments = S; charging = true; of_default = x }) m
+    ∙ ap (λ (x : ℕ). record r { segments = S; charging = true; of_default = false; levels = x }) c
+    ∙ ap (λ (x : ℕ). record { segments = S; charging = true; of_default = false; levels = n; segment = x; at = r.at }) d
+    ∙ ap (λ (x : ℕ). record { segments = S; charging = true; of_default = false; levels = n; segment = 0; at = x }) e
 
 -- what is read with what the budget leaves behind the root pointer
 pub value_read : {Q : Tree → Type 0} {r : Reading} {S : Segments} {n : ℕ} {left budget : Option ℕ} → r ≡ root_of S n → left ≡ less budget 1 → IsPlace S 0 0 → FitsIn budget 1
@@ -122,11 +108,11 @@ value_read {S = S} {n = n} {left = left} {budget = budget} same rest place one (
     (t, record { root = place; cost = c; means = means; free = free; covered = covers_root budget c one covered }, q)
 
 -- what refuses a copy of the root refuses the message
-pub copy_refused : {r : Reading} {segments : List (List ℕ)} {n : ℕ} {left budget : Option ℕ} {old new : ℕ} {k : ErrorKind} → r ≡ root_of (message segments) n → left ≡ less budget 1
+pub copy_refused : {r : Reading} {segments : List (List ℕ)} {n : ℕ} {left budget : Option ℕ} {old new : ℕ} {k : ErrorKind} → r ≡ root_of (message segments) n → left ≡ less budget 1 → IsPlace (message segments) 0 0 → FitsIn budget 1
     → LacksMemoryOr old new k (RefusesCopy r left max_segment_words k) → LacksMemoryOr old new k (Refuses segments n budget k)
-copy_refused same rest (inl memory) = inl memory
-copy_refused {segments = segments} {n = n} {left = left} {k = k} same rest (inr (refused, kept)) =
-    inr (no_copy (subst (λ (x : Option ℕ). RefusesCopy (root_of (message segments) n) x max_segment_words k) rest (subst (λ (x : Reading). RefusesCopy x left max_segment_words k) same refused)), kept)
+copy_refused same rest place one (inl memory) = inl memory
+copy_refused {segments = segments} {n = n} {left = left} {k = k} same rest place one (inr (refused, kept)) =
+    inr (no_copy place one (subst (λ (x : Option ℕ). RefusesCopy (root_of (message segments) n) x max_segment_words k) rest (subst (λ (x : Reading). RefusesCopy x left max_segment_words k) same refused)), kept)
 
 -- the root pointer is refused
 pub root_refused : {segments : List (List ℕ)} {S : Segments} {n : ℕ} {budget : Option ℕ} {k : ErrorKind} {old : ℕ}
@@ -134,7 +120,7 @@ pub root_refused : {segments : List (List ℕ)} {S : Segments} {n : ℕ} {budget
     → LacksMemoryOr old old k (Refuses segments n budget k)
 root_refused {segments = segments} {S = S} {budget = budget} same refused outside budgeted =
     elim (cases_lt 0 (length (segment S 0))) [
-      | inl there ↦ let holds = root_held S there in inr (no_budget (budgeted holds) (no_word_left budget (refused holds)), refl)
+      | inl there ↦ let holds = root_held S there in inr (no_budget (budgeted holds) (subst (λ (R : Segments). IsPlace R 0 0) same there) (no_word_left budget (refused holds)), refl)
       | inr short ↦
           let none : Holds S 0 0 1 → ⊥ = λ holds. absurd (let there = holds.1 in omega arith) in
           inr (no_root (outside none ∙ ap (λ (R : Segments). misplaced R 0 (InvalidSegmentId 0)) same) (λ place. none (subst (λ (R : Segments). Holds R 0 0 1) (sym same) (root_held (message segments) place))), refl)

@@ -92,13 +92,6 @@ all_lines done all [] e none = e ∙ ap Some (append-nil done)
     append-nil (x ∷ xs) = ap (λ (ys : List (List ℕ)). x ∷ ys) (append-nil xs)
 all_lines done all (c ∷ rest) e none = absurd (omega arith)
 
-pub no_lines : (text : List ℕ) → segments_of text ≡ in_front [] (segments_of text)
-no_lines text = same (segments_of text)
-  where
-    same : (o : Option (List (List ℕ))) → o ≡ in_front [] o
-    same (Some more) = refl
-    same None = refl
-
 -- a line is read, and its segment was put behind the others
 pub kept_line : {A : Type 0} (f : A → List ℕ) (rows : List A) {new : List A} (row : A) {line rest text : List ℕ} {all : Option (List (List ℕ))}
     → new ≡ rows ++ row ∷ [] → AtLine (map f rows) line rest text all → decode_of line ≡ Ok (f row) → all ≡ in_front (map f new) (segments_of rest)

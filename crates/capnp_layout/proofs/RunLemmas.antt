@@ -8,6 +8,7 @@ use Rattle.capnp_format.specs.Canonical.{trim, word_count}
 use Rattle.capnp_words.specs.Meter.{FitsIn, less}
 use Rattle.capnp_arena.specs.Allocations.{max_segment_words, one_more}
 use Rattle.capnp_arena.specs.Limits.{IsSmall}
+use Rattle.capnp_objects.proofs.Refusals.{unreadable}
 use Rattle.capnp_layout.specs.Answers.{HasValue, LacksMemoryOr, Refuses}
 use Rattle.capnp_layout.specs.Answers.Refuses.{beyond_limits, no_root, no_budget, no_copy}
 
@@ -24,12 +25,12 @@ pub not_refused : {segments : List (List ℕ)} {n : ℕ} {budget : Option ℕ} {
     → IsSmall segments → HasValue (message segments) n budget t → 1 + word_count (trim t) ≤ max_segment_words → Refuses segments n budget k → ⊥
 not_refused small value fits (beyond_limits w named large) = large small
 not_refused small value fits (no_root named none) = none value.root
-not_refused small value fits (no_budget named none) =
+not_refused small value fits (no_budget named root none) =
     absurd (let covered : FitsIn (Some 0) (1 + value.cost) = subst (λ (b : Option ℕ). FitsIn b (1 + value.cost)) none value.covered in omega arith)
-not_refused {t = t} small value fits (no_copy (inl (w, named, large))) =
+not_refused {t = t} small value fits (no_copy root one (inl (w, named, large))) =
     absurd (let more = large t value.cost value.means in omega arith)
-not_refused {budget = budget} {t = t} small value fits (no_copy (inr (m, refused))) =
-    refused.only t value.cost value.means (λ _. value.free) (covers_rest budget value.cost value.covered)
+not_refused {budget = budget} {t = t} small value fits (no_copy root one (inr (m, refused))) =
+    (unreadable refused).only t value.cost value.means (λ _. value.free) (covers_rest budget value.cost value.covered)
 
 -- such a message is refused for want of memory alone
 pub only_memory : {segments : List (List ℕ)} {n : ℕ} {budget : Option ℕ} {old new : ℕ} {k : ErrorKind} {t : Tree}

@@ -19,7 +19,8 @@ use Rattle.capnp_arena.specs.declared.arena.reader_arena_impl.ReaderOptions.{Rea
 use Rattle.capnp_layout.specs.declared.tool.engine.Outcome.{Outcome}
 use Rattle.capnp_layout.specs.declared.tool.engine.Outcome.TheVariants.{Done, Refused as RefusedOutcome, WriteFailed}
 use Rattle.capnp_objects.specs.Source.{levels}
-use Rattle.capnp_objects.specs.Outcomes.{MeansThere, Refused}
+use Rattle.capnp_objects.specs.Outcomes.{MeansThere}
+use Rattle.capnp_objects.specs.Refusals.{Refused}
 use Rattle.capnp_objects.specs.Reading.{Reading}
 use Rattle.capnp_objects.specs.Wanted.{canonical}
 use Rattle.capnp_copies.specs.Rooms.{IsTooLarge}
@@ -65,7 +66,7 @@ LacksMemoryIn view old new P k = LacksMemoryOr (view old).refusals (view new).re
 
 -- The root of a message, where reading is charged and n levels may be entered.
 abbrev pub root_of : Segments → ℕ → Reading
-root_of S n = record { segments = S; charging = true; levels = n; segment = 0; at = 0 }
+root_of S n = record { segments = S; charging = true; of_default = false; levels = n; segment = 0; at = 0 }
 
 -- The root of a message means a value t without capabilities within n levels, and the budget covers what reading it costs, and one word for the root pointer.
 pub record HasValue (S : Segments) (n : ℕ) (budget : Option ℕ) (t : Tree) : Type 0 where
@@ -81,10 +82,11 @@ pub data Refuses (segments : List (List ℕ)) (n : ℕ) (budget : Option ℕ) (k
   beyond_limits : (w : ℕ) → k ≡ MessageTooLarge w → (IsSmall segments → ⊥) → Refuses segments n budget k
   -- there is no root pointer
   no_root : k ≡ misplaced (message segments) 0 (InvalidSegmentId 0) → (IsPlace (message segments) 0 0 → ⊥) → Refuses segments n budget k
-  -- the budget doesn't cover the root pointer
-  no_budget : k ≡ ReadLimitExceeded → budget ≡ Some 0 → Refuses segments n budget k
-  -- what the root means is refused, with what the budget has left for it, or its canonical words are more than a segment holds
-  no_copy : RefusesCopy (root_of (message segments) n) (less budget 1) max_segment_words k → Refuses segments n budget k
+  -- there is a root pointer, and the budget doesn't cover it
+  no_budget : k ≡ ReadLimitExceeded → IsPlace (message segments) 0 0 → budget ≡ Some 0 → Refuses segments n budget k
+  -- the budget covers the root pointer; what it means is refused, with what the budget has left for it, or its canonical
+  -- words are more than a segment holds
+  no_copy : IsPlace (message segments) 0 0 → FitsIn budget 1 → RefusesCopy (root_of (message segments) n) (less budget 1) max_segment_words k → Refuses segments n budget k
 
 -- A message that was made has one segment, the canonical words of t.
 abbrev pub IsMade : View → Tree → Type 0

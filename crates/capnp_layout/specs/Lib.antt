@@ -3,5 +3,4 @@ pub mod Writing
 pub mod Lines
 pub mod Messages
 pub mod Answers
-pub mod Sources
 pub mod Runs

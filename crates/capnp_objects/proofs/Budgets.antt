@@ -4,9 +4,9 @@ use Rattle.std.proofs.Common.{◌≡◌, ℕ, pred, ◌+◌, ◌*◌, ◌≤◌,
 use Rattle.capnp_format.specs.Segments.{Segments, Target}
 use Rattle.capnp_format.specs.Tree.{Tree, Null, Capability, Struct, Flat, Pointers, Structs, Trees, no_trees, tree, Elements, no_elements, element, count, element_count}
 use Rattle.capnp_format.specs.Means.{Means, MeansAll, MeansElements}
-use Rattle.capnp_words.specs.Meter.{Meter, FitsIn, less, Affords}
-use Rattle.capnp_objects.specs.Spending.{raised, after, pointers_in, pointers_in_all, pointers_in_elements}
-use Rattle.capnp_words.specs.declared.wire_pointer.StructSize.{StructSize}
+use Rattle.capnp_words.specs.Meter.{Meter, FitsIn, less, raised, Affords}
+use Rattle.capnp_objects.specs.Spending.{after, Paid, pointers_in, pointers_in_all, pointers_in_elements}
+use Rattle.capnp_pointers.specs.declared.wire_pointer.StructSize.{StructSize}
 use Rattle.capnp_objects.specs.Demands.{own}
 use Rattle.capnp_objects.specs.Outcomes.{Reads, ReadsAll, ReadsElements, Entered}
 use Rattle.capnp_objects.specs.Reading.{Reading, sized}
@@ -25,11 +25,11 @@ raised_raised f r k = omega arith
 
 pub after_after : (charging : Bool) (m : Meter) (g r h k : ℕ) → after charging (after charging m g r) h k ≡ after charging m (g + h) (r + k)
 after_after true m g r h k = ap₂ (λ o f. record { left = o; followed = f }) (less_less m.left g h) (raised_raised m.followed r k)
-after_after false m g r h k = ap (λ f. record { left = m.left; followed = f }) (raised_raised m.followed r k)
+after_after false m g r h k = refl
 
 pub after_none : (charging : Bool) (m : Meter) → after charging m 0 0 ≡ m
 after_none true m = ap₂ (λ o f. record { left = o; followed = f }) (less_none m.left) (omega arith)
-after_none false m = ap (λ f. record { left = m.left; followed = f }) (omega arith)
+after_none false m = refl
 
 fits_both : (o : Option ℕ) (g h : ℕ) → FitsIn o g → FitsIn (less o g) h → FitsIn o (g + h)
 fits_both None g h a b = tt
@@ -38,11 +38,6 @@ fits_both (Some x) g h a b = omega arith
 fits_rest : (o : Option ℕ) (g h c : ℕ) → g + h ≤ c → FitsIn o c → FitsIn (less o g) h
 fits_rest None g h c le a = tt
 fits_rest (Some x) g h c le a = omega arith
-
--- from m to m', g words were granted and r pointers followed
-pub record Paid (charging : Bool) (m m' : Meter) (g r : ℕ) : Type 0 where
-  pub covers : Affords charging m g
-  pub spent : m' ≡ after charging m g r
 
 -- after g words were granted, h more are
 pub affords_both : {charging : Bool} {m m' : Meter} {g r : ℕ} (h : ℕ) → Paid charging m m' g r → Affords charging m' h → Affords charging m (g + h)
@@ -83,7 +78,7 @@ paid_elements x = record { covers = x.covers; spent = x.spent }
 
 -- a place, of which it doesn't matter whether reading is charged
 abbrev place : Segments → ℕ → ℕ → ℕ → Reading
-place S n s p = record { segments = S; charging = false; levels = n; segment = s; at = p }
+place S n s p = record { segments = S; charging = false; of_default = false; levels = n; segment = s; at = p }
 
 -- each pointer but the first is a word that is paid for
 mutual

@@ -6,15 +6,16 @@ use Rattle.capnp_format.specs.Segments.{segment, words_at, HasWords}
 use Rattle.capnp_format.specs.Tree.{Tree, Trees, no_trees, tree, Elements, no_elements, element, count, element_count, capabilities, capabilities_all, capabilities_elements}
 use Rattle.capnp_format.specs.Means.{Means, MeansAll}
 use Rattle.capnp_words.specs.Meter.{Meter}
-use Rattle.capnp_objects.specs.Spending.{after, pointers_in, pointers_in_all, pointers_in_elements}
-use Rattle.capnp_objects.specs.Outcomes.{MeansThere, MeanThere, ElementsMean, Spends, Reads, ReadsAll, ReadsElements, Refused, RefusedAll, RefusedElements}
+use Rattle.capnp_objects.specs.Spending.{Paid, after, pointers_in, pointers_in_all, pointers_in_elements}
+use Rattle.capnp_objects.specs.Outcomes.{MeansThere, MeanThere, ElementsMean, Spends, Reads, ReadsAll, ReadsElements}
+use Rattle.capnp_objects.proofs.Unreadable.{Unreadable, UnreadableAll, UnreadableElements}
 use Rattle.capnp_objects.specs.Wanted.{Form}
 use Rattle.capnp_objects.specs.Reading.{Reading, behind, pointers_of}
-use Rattle.capnp_words.specs.declared.wire_pointer.StructSize.{StructSize}
+use Rattle.capnp_pointers.specs.declared.wire_pointer.StructSize.{StructSize}
 use Rattle.capnp_format.proofs.Levels.{one_value}
 use Rattle.capnp_format.proofs.Children.{with_last, means_more}
 use Rattle.capnp_format.proofs.Slices.{length_words}
-use Rattle.capnp_objects.proofs.Budgets.{Paid, after_none, affords_rest, affords_none, paid_both, paid_one, paid_all, paid_elements, pointers_within_all, pointers_within_elements}
+use Rattle.capnp_objects.proofs.Budgets.{after_none, affords_rest, affords_none, paid_both, paid_one, paid_all, paid_elements, pointers_within_all, pointers_within_elements}
 
 capabilities-with_last : (ts : Trees) (u : Tree) → capabilities_all (with_last ts u) ≡ capabilities_all ts + capabilities u
 capabilities-with_last no_trees u = omega arith
@@ -71,7 +72,7 @@ spends_on {charging} {m} {m'} {m''} {c} {r0} i l first few le (g, r, covers', e'
     (c + g, r0 + r, paid.covers, paid.spent, omega arith)
 
 -- the next child is refused
-pub read_stop : {form : Form} {r : Reading} {m m' m'' : Meter} {ts : Trees} {k : ErrorKind} (i : ℕ) → ReadsAll form r m m' ts → count ts < i → Refused form (behind r (count ts)) m' m'' k → RefusedAll form r i m m'' k
+pub read_stop : {form : Form} {r : Reading} {m m' m'' : Meter} {ts : Trees} {k : ErrorKind} (i : ℕ) → ReadsAll form r m m' ts → count ts < i → Unreadable form (behind r (count ts)) m' m'' k → UnreadableAll form r i m m'' k
 read_stop {form} {r} {m} {m'} {m''} {ts} i all lt refused = record {
   named = (r.at + count ts, omega arith, omega arith, refused.named);
   only = λ us d len others takes covers.
@@ -187,7 +188,7 @@ next_element r size (element vs ts es) (k, (x, y, long', len', has', first, othe
 
 -- a child of the next element is refused
 pub read_element_stop : {form : Form} {r : Reading} {size : StructSize} {m m' m'' : Meter} {es : Elements} {k : ErrorKind} (i : ℕ) → ReadsElements form r size m m' es → element_count es < i →
-    RefusedAll form (pointers_of r size (element_count es)) size.pointers m' m'' k → RefusedElements form r size i m m'' k
+    UnreadableAll form (pointers_of r size (element_count es)) size.pointers m' m'' k → UnreadableElements form r size i m m'' k
 read_element_stop {form} {r} {size} {m} {m'} {m''} {es} i all lt refused =
     let d : ℕ = size.data_words in
     let q : ℕ = size.pointers in

@@ -8,15 +8,15 @@ use Rattle.capnp_format.specs.Numbers.{words_for, unpacked}
 use Rattle.capnp_format.specs.Segments.{Segments, segment, words_at, Target}
 use Rattle.capnp_format.specs.Tree.{Tree, Null, Capability, Struct, Flat, Pointers, Structs, Trees, no_trees, tree, Elements, no_elements, element, count, element_count, capabilities, capabilities_all, capabilities_elements}
 use Rattle.capnp_format.specs.Means.{Claims, count_cost}
-use Rattle.capnp_words.specs.declared.wire_pointer.StructSize.{StructSize}
-use Rattle.capnp_objects.specs.Follow.{follow, Follows}
+use Rattle.capnp_pointers.specs.declared.wire_pointer.StructSize.{StructSize}
+use Rattle.capnp_objects.specs.Refusals.{FollowsTo}
 use Rattle.capnp_objects.specs.Demands.{claim, tag, element_words}
 use Rattle.capnp_objects.specs.Faults.{of_struct, of_list, of_element, here, below, LeadsTo, child_at, one_less, Among, AmongElements, HasFault}
 use Rattle.capnp_objects.specs.Outcomes.{MeansThere, MeanThere, ElementsMean}
-use Rattle.capnp_objects.specs.Wanted.{BreaksObject, BreaksAt, Takes}
+use Rattle.capnp_objects.specs.Wanted.{BreaksObject, BreaksAt, Takes, follow_at}
 use Rattle.capnp_objects.specs.Wanted.{Form, an_object, plain, canonical}
 use Rattle.capnp_objects.specs.Reading.{Reading, word_of, behind, row, words_from, tag_size}
-use Rattle.capnp_objects.proofs.Followed.{leads_follows, follows_leads}
+use Rattle.capnp_objects.proofs.Followed.{leads_to, leads_there}
 use Rattle.capnp_objects.proofs.Parts.{claim_struct, claim_list, claim_flat}
 use Rattle.capnp_format.proofs.Slices.{length_words}
 use Rattle.capnp_format.proofs.Digits.{length-digits}
@@ -29,7 +29,7 @@ same_or_not a b = go (nat_eq a b) refl
     go true e = inl (eqb-true a b e)
     go false e = inr (eqb-false a b e)
 
-within_or_not : (a b : ℕ) → (a ≤ b) ⊎ (b < a)
+pub within_or_not : (a b : ℕ) → (a ≤ b) ⊎ (b < a)
 within_or_not zero b = inl (omega arith)
 within_or_not (suc a) zero = inr (omega arith)
 within_or_not (suc a) (suc b) = elim (within_or_not a b) [ inl h ↦ inl (omega arith) | inr h ↦ inr (omega arith) ]
@@ -130,20 +130,20 @@ choose_pointers {r} {a} form o z six h =
       | inr f ↦ inr (f.0, below a f.1.0 o.leads_to (record { levels = o.levels; is_object = omega (arith, z); claims = o.claims; tagged = λ e. absurd (omega (arith, e.1, six)) }) (of_list z six f.1.1 f.1.2) f.1.3)
     ]
 
-at_place : (form : Form) (r : Reading) (a : Target) (k : ErrorKind) → Follows r.segments r.segment r.at a → BreaksObject form r.segments r.levels a k → Choice form r
+at_place : (form : Form) (r : Reading) (a : Target) (k : ErrorKind) → FollowsTo r a → BreaksObject form r.segments r.levels a k → Choice form r
 at_place form r a k f h = inr (k, here (f.0, inr (a, f.1, h)))
 
 choose_structs : {r : Reading} {a : Target} (form : Form) → IsWhole r a → kind a.word ≡ 1 → element_size a.word ≡ 7 → Below form r a → Choice form r
 choose_structs {r} {a} form o z seven h = elim (same_or_not (kind (tag r.segments a)) 0) [
-  | inr other ↦ at_place form r a InlineCompositeListsOfNonStructTypeAreNotSupported follows ((z, seven), o.claims, other)
+  | inr other ↦ at_place form r a InlineCompositeListsOfNonStructTypeAreNotSupported follows (o.levels, ((z, seven), o.claims, other))
   | inl is_tag ↦ elim (within_or_not (element_words (tag r.segments a)) (list_count a.word)) [
-    | inr over ↦ at_place form r a InlineCompositeListsElementsOverrunItsWordCount follows ((z, seven), o.claims, is_tag, over)
+    | inr over ↦ at_place form r a InlineCompositeListsElementsOverrunItsWordCount follows (o.levels, ((z, seven), o.claims, is_tag), over)
     | inl fits ↦ inside is_tag fits
   ]
 ]
   where
-    follows : Follows r.segments r.segment r.at a
-    follows = (leads_follows r.segments r.segment r.at a o.leads_to).0
+    follows : FollowsTo r a
+    follows = leads_to r a o.leads_to
 
     inside : kind (tag r.segments a) ≡ 0 → element_words (tag r.segments a) ≤ list_count a.word → Choice form r
     inside is_tag fits =
@@ -186,12 +186,12 @@ choose_list {r} {a} form o z h = elim (within_or_not (element_size a.word) 5) [
   ]
 ]
 
-choose_object : (form : Form) (r : Reading) (a : Target) → Follows r.segments r.segment r.at a → kind a.word < 2 → (0 < r.levels → Below form r a) → Choice form r
+choose_object : (form : Form) (r : Reading) (a : Target) → FollowsTo r a → kind a.word < 2 → (0 < r.levels → Below form r a) → Choice form r
 choose_object form r a f object h = elim (same_or_not r.levels 0) [
   | inl none ↦ at_place form r a MessageIsTooDeeplyNestedOrContainsCycles f (object, none)
   | inr some ↦ elim (within_or_not (a.start + claim a.word) (length (segment r.segments a.segment))) [
-    | inr outside ↦ at_place form r a MessageContainsOutOfBoundsPointer f (object, outside)
-    | inl claims ↦ whole (record { leads_to = follows_leads r.segments r.segment r.at a f (λ e. omega (arith, object)); levels = omega (arith, some); claims = claims })
+    | inr outside ↦ at_place form r a MessageContainsOutOfBoundsPointer f (object, omega (arith, some), outside)
+    | inl claims ↦ whole (record { leads_to = leads_there r a f (λ e. omega (arith, object)); levels = omega (arith, some); claims = claims })
   ]
 ]
   where
@@ -201,11 +201,11 @@ choose_object form r a f object h = elim (same_or_not r.levels 0) [
       | inr z ↦ choose_list form o (omega (arith, z, object)) (h o.levels)
     ]
 
-choose_capability : (form : Form) (r : Reading) (a : Target) → Follows r.segments r.segment r.at a → a.word % 2 ^ 32 ≡ 3 → Choice form r
+choose_capability : (form : Form) (r : Reading) (a : Target) → FollowsTo r a → a.word % 2 ^ 32 ≡ 3 → Choice form r
 choose_capability canonical r a f low = at_place canonical r a CannotCreateACanonicalMessageWithACapability f (tt, low)
-choose_capability plain r a f low = inl (Capability (upper_half a.word), a.pads, (a, follows_leads r.segments r.segment r.at a f (λ e. omega arith), omega arith, refl), λ e. absurd e)
+choose_capability plain r a f low = inl (Capability (upper_half a.word), a.pads, (a, leads_there r a f (λ e. omega arith), omega arith, refl), λ e. absurd e)
 
-choose_target : (form : Form) (r : Reading) (a : Target) → Follows r.segments r.segment r.at a → (0 < r.levels → Below form r a) → Choice form r
+choose_target : (form : Form) (r : Reading) (a : Target) → FollowsTo r a → (0 < r.levels → Below form r a) → Choice form r
 choose_target form r a f h = elim (same_or_not (kind a.word) 2) [
   | inl is_far ↦ at_place form r a MalformedDoubleFarPointer f is_far
   | inr near ↦ elim (same_or_not (a.word % 2 ^ 32) 3) [
@@ -218,9 +218,9 @@ choose_target form r a f h = elim (same_or_not (kind a.word) 2) [
 ]
 
 choose_place : (form : Form) (r : Reading) → ((a : Target) → 0 < r.levels → Below form r a) → Choice form r
-choose_place form r h = elim (same_or_not (word_of r) 0) [ inl z ↦ inl (Null, 0, (z, refl), λ e. refl) | inr some ↦ go some (follow r.segments r.segment r.at) refl ]
+choose_place form r h = elim (same_or_not (word_of r) 0) [ inl z ↦ inl (Null, 0, (z, refl), λ e. refl) | inr some ↦ go some (follow_at r) refl ]
   where
-    go : word_of r ≢ 0 → (result : Result Target ErrorKind) → follow r.segments r.segment r.at ≡ result → Choice form r
+    go : word_of r ≢ 0 → (result : Result Target ErrorKind) → follow_at r ≡ result → Choice form r
     go some (Ok a) e = choose_target form r a (some, e) (h a)
     go some (Err k) e = inr (k, here (some, inl e))
 

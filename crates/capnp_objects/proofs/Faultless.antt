@@ -9,7 +9,7 @@ use Rattle.capnp_objects.specs.Faults.{IsPointer, Somewhere, here, below, LeadsT
 use Rattle.capnp_objects.specs.Wanted.{BreaksObject, BreaksAt, IsCanonical, Takes}
 use Rattle.capnp_objects.specs.Wanted.{Form, an_object}
 use Rattle.capnp_objects.specs.Reading.{Reading}
-use Rattle.capnp_objects.proofs.Followed.{leads_follows}
+use Rattle.capnp_objects.proofs.Followed.{leads_to}
 use Rattle.capnp_objects.proofs.Parts.{Meant, Parts, is_null, is_capability, is_inner, means_parts}
 
 -- a capability that the form takes, or an object that meets its demands
@@ -27,20 +27,20 @@ not_refused CannotCreateACanonicalMessageWithACapability (sound_object o) h = om
 not_refused MessageIsTooDeeplyNestedOrContainsCycles (sound_capability low other) h = omega (arith, h.0, low)
 not_refused MessageIsTooDeeplyNestedOrContainsCycles (sound_object o) h = omega (arith, h.1, o.levels)
 not_refused MessageContainsOutOfBoundsPointer (sound_capability low other) h = omega (arith, h.0, low)
-not_refused MessageContainsOutOfBoundsPointer (sound_object o) h = omega (arith, h.1, o.claims)
-not_refused InlineCompositeListsOfNonStructTypeAreNotSupported (sound_capability low other) h = omega (arith, h.0.0, low)
-not_refused InlineCompositeListsOfNonStructTypeAreNotSupported (sound_object o) h = h.2 (o.tagged h.0).0
-not_refused InlineCompositeListsElementsOverrunItsWordCount (sound_capability low other) h = omega (arith, h.0.0, low)
-not_refused InlineCompositeListsElementsOverrunItsWordCount (sound_object o) h = omega (arith, h.3, (o.tagged h.0).1)
+not_refused MessageContainsOutOfBoundsPointer (sound_object o) h = omega (arith, h.2, o.claims)
+not_refused InlineCompositeListsOfNonStructTypeAreNotSupported (sound_capability low other) h = omega (arith, h.1.0.0, low)
+not_refused InlineCompositeListsOfNonStructTypeAreNotSupported (sound_object o) h = h.1.2 (o.tagged h.1.0).0
+not_refused InlineCompositeListsElementsOverrunItsWordCount (sound_capability low other) h = omega (arith, h.1.0.0, low)
+not_refused InlineCompositeListsElementsOverrunItsWordCount (sound_object o) h = omega (arith, h.2, (o.tagged h.1.0).1)
 not_refused _ sound h = absurd h
 
 pub same_target : (S : Segments) (s p : ℕ) {a b : Target} → leads S s p ≡ Some a → leads S s p ≡ Some b → a ≡ b
 same_target S s p l m = let e = sym l ∙ m in cc e
 
-target_sound : {r : Reading} {a : Target} (form : Form) (k : ErrorKind) → LeadsTo r a → Sound form r a → BreaksAt (an_object form) k r → ⊥
-target_sound {r} {a} form k l s (some, inl refused) = let f = (leads_follows r.segments r.segment r.at a l).0.1 in absurd (cc (f, refused))
+pub target_sound : {r : Reading} {a : Target} (form : Form) (k : ErrorKind) → LeadsTo r a → Sound form r a → BreaksAt (an_object form) k r → ⊥
+target_sound {r} {a} form k l s (some, inl refused) = let f = (leads_to r a l).1 in absurd (cc (f, refused))
 target_sound {r} {a} form k l s (some, inr (b, f, h)) =
-    let e = sym (leads_follows r.segments r.segment r.at a l).0.1 ∙ f in
+    let e = sym (leads_to r a l).1 ∙ f in
     let q : a ≡ b = cc e in
     not_refused k s (rw q h)
 

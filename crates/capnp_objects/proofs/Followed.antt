@@ -1,5 +1,5 @@
 -- A pointer leads somewhere exactly where following it does, to no far word.
-use Rattle.std.proofs.Common.{◌≡◌, ◌≢◌, ℕ, zero, suc, ◌+◌, ◌<◌, ◌≤◌, Bool, true, false, cond, nat_eq, nat_lt, Option, Some, None, Result, Ok, Err, [], length, get_or, refl, sym, ap, ◌∙◌, arith, eqb-true}
+use Rattle.std.proofs.Common.{◌≡◌, ◌≢◌, ℕ, zero, suc, ◌+◌, ◌<◌, ◌≤◌, Bool, true, false, ◌&&◌, cond, nat_eq, nat_lt, Option, Some, None, Result, Ok, Err, [], length, get_or, refl, sym, ap, ◌∙◌, arith, eqb-true}
 use Rattle.std.proofs.lemmas.Bool.{eqb-false, ltb-true}
 use Rattle.std.proofs.lemmas.List.{get_or_past}
 use Rattle.capnp_words.specs.declared.error.ErrorKind.{ErrorKind}
@@ -8,6 +8,10 @@ use Rattle.capnp_format.specs.Word.{kind, upper_half, far_position, is_double, o
 use Rattle.capnp_format.specs.Segments.{Segments, segment, word_at, Target, ◌>>=◌, given, offset_leads, near, pad, far, leads}
 use Rattle.capnp_objects.specs.Follow.{◌>=>◌, or_named, follow_far, follow, Follows}
 use Rattle.capnp_format.specs.Means.{Leads}
+use Rattle.capnp_objects.specs.Faults.{LeadsTo}
+use Rattle.capnp_objects.specs.Reading.{Reading, word_of}
+use Rattle.capnp_objects.specs.Refusals.{FollowsTo}
+use Rattle.capnp_objects.specs.Wanted.{far_named}
 
 -- an option and a result that agree on every target whose word is of no far kind
 record Agrees (o : Option Target) (r : Result Target ErrorKind) : Type 0 where
@@ -82,3 +86,25 @@ leads_follows S s p a (some, l) = let r = (leads_agrees S s p).there a l in ((so
 
 pub follows_leads : (S : Segments) (s p : ℕ) (a : Target) → Follows S s p a → kind a.word ≢ 2 → Leads S s p a
 follows_leads S s p a (some, f) other = (some, (leads_agrees S s p).back a f other)
+
+-- the same of a place that is read, whose far pointers have a name of their own in a default
+named_ok : {a : Target} (b : Bool) (result : Result Target ErrorKind) → result ≡ Ok a → far_named b result ≡ Ok a
+named_ok true (Ok x) e = e
+named_ok false (Ok x) e = e
+named_ok true (Err k) e = absurd (cc e)
+named_ok false (Err k) e = e
+
+unnamed_ok : {a : Target} (b : Bool) (result : Result Target ErrorKind) → far_named b result ≡ Ok a → result ≡ Ok a
+unnamed_ok true (Ok x) e = e
+unnamed_ok false (Ok x) e = e
+unnamed_ok true (Err k) e = absurd (cc e)
+unnamed_ok false (Err k) e = e
+
+abbrev is_named : Reading → Bool
+is_named r = r.of_default && nat_eq (kind (word_of r)) 2
+
+pub leads_to : (r : Reading) (a : Target) → LeadsTo r a → FollowsTo r a
+leads_to r a l = let f = (leads_follows r.segments r.segment r.at a l).0 in (f.0, named_ok (is_named r) (follow r.segments r.segment r.at) f.1)
+
+pub leads_there : (r : Reading) (a : Target) → FollowsTo r a → kind a.word ≢ 2 → LeadsTo r a
+leads_there r a (some, f) other = follows_leads r.segments r.segment r.at a (some, unnamed_ok (is_named r) (follow r.segments r.segment r.at) f) other

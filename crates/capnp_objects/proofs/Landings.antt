@@ -1,43 +1,41 @@
 -- From the steps of a reading to its outcome: pointers that are followed, objects that are entered, and the refusals of both.
-use Rattle.std.proofs.Common.{◌≡◌, ◌≢◌, ◌⊎◌, inl, inr, ℕ, zero, suc, ◌+◌, ◌^◌, ◌<◌, ◌≤◌, Bool, true, false, cond, nat_lt, Some, None, Result, Ok, Err, IfOk, IfErr, List, length, get_or, refl, sym, ap, ap₂, ◌∙◌, subst, arith, lt-ltb}
-use Rattle.std.proofs.lemmas.Bool.{ne_eqb}
+use Rattle.std.proofs.Common.{◌≡◌, ◌≢◌, ◌⊎◌, inl, inr, ℕ, ℤ, zero, suc, ◌+◌, ◌^◌, ◌<◌, ◌≤◌, Bool, true, false, ◌&&◌, cond, nat_eq, nat_lt, Some, None, Result, Ok, Err, IfOk, IfErr, List, [], length, get_or, refl, sym, ap, ap₂, ◌∙◌, subst, arith, lt-ltb, eq-eqb}
+use Rattle.std.proofs.lemmas.Bool.{ne_eqb, false≢true}
+use Rattle.std.proofs.lemmas.List.{get_or_past}
 use Rattle.std.proofs.lemmas.Bool.Decides.{nat_tests}
 use Rattle.capnp_words.specs.declared.error.ErrorKind.{ErrorKind}
-use Rattle.capnp_words.specs.declared.error.ErrorKind.TheVariants.{InvalidSegmentId, MessageContainsOutOfBoundsPointer, TriedToReadFromNullArena}
+use Rattle.capnp_words.specs.declared.error.ErrorKind.TheVariants.{InvalidSegmentId, MessageContainsOutOfBoundsPointer, ReadLimitExceeded, TriedToReadFromNullArena}
 use Rattle.capnp_format.specs.Word.{kind, offset_bits, upper_half, far_position, is_double}
 use Rattle.capnp_format.specs.Segments.{Segments, segment, word_at, Target, ◌>>=◌, given, offset_leads, near, pad}
-use Rattle.capnp_words.specs.Meter.{Meter, less, Affords, charged, counted}
+use Rattle.capnp_words.specs.Meter.{Meter, less, raised, Affords, charged, counted_once}
 use Rattle.capnp_objects.specs.declared.object.Object.{Object}
 use Rattle.capnp_objects.specs.declared.object.Object.TheVariants.{Null as ObjectNull, Capability as ObjectCapability, Struct as ObjectStruct, Flat as ObjectFlat, Pointers as ObjectPointers, Structs as ObjectStructs}
+use Rattle.capnp_arena.specs.declared.arena.reader_arena.ReaderArena.{Ghosts}
 use Rattle.capnp_objects.specs.declared.source.Source.{Source}
 use Rattle.capnp_objects.specs.declared.source.Source.TheVariants.{Arena, Default, Nothing}
 use Rattle.std.specs.Borrow.{Bor}
 use Rattle.capnp_objects.specs.declared.source.Landing.{Landing}
 use Rattle.capnp_objects.specs.declared.object.Place.{Place}
-use Rattle.capnp_words.specs.declared.wire_pointer.WirePointer.{WirePointer}
-use Rattle.capnp_format.specs.Bytes.{words_of}
-use Rattle.capnp_objects.specs.Spending.{after}
-use Rattle.capnp_objects.specs.Source.{source_segments, fault}
+use Rattle.capnp_pointers.specs.declared.wire_pointer.WirePointer.{WirePointer}
+use Rattle.capnp_format.specs.Bytes.{words_of, message}
+use Rattle.capnp_arena.specs.Checks.{IsUnknown}
+use Rattle.capnp_arena.proofs.MessageLemmas.{length-message}
+use Rattle.capnp_objects.proofs.Decided.{within_or_not}
+use Rattle.capnp_objects.specs.Spending.{after, Paid}
+use Rattle.capnp_objects.specs.Source.{default_segments, source_segments}
 use Rattle.capnp_objects.specs.Follow.{◌>=>◌, or_named, existing, follow_far, follow}
 use Rattle.capnp_objects.specs.Demands.{claim, amplified, own}
-use Rattle.capnp_objects.specs.Wanted.{BreaksObject}
+use Rattle.capnp_objects.specs.Wanted.{BreaksObject, far_named, follow_at}
 use Rattle.capnp_objects.specs.Objects.{IsObject, IsHeld}
-use Rattle.capnp_objects.specs.Outcomes.{Entered, Refused}
-use Rattle.capnp_objects.specs.Landings.{target, NoSegment, absent, empty, IsPad, IsFollowed, NotFollowed, nowhere, pads_exceed, IsEntered, NotEntered, broken, claim_exceeds, elements_exceed, IsOpened}
+use Rattle.capnp_objects.specs.Outcomes.{Entered}
+use Rattle.capnp_objects.specs.Refusals.{if_there, landing_words, granted_before, Stopped, pads_exceed as stopped_pads, nowhere as stopped_nowhere, broken as stopped_broken, claim_exceeds as stopped_claim, count_exceeds as stopped_count}
+use Rattle.capnp_objects.specs.Landings.{target, IsPad, IsFollowed, NotFollowed, nowhere, pads_exceed, FollowsPointer, FailsPointer, IsEntered, NotEntered, broken, claim_exceeds, elements_exceed, IsOpened}
 use Rattle.capnp_objects.specs.Wanted.{plain}
-use Rattle.capnp_objects.specs.Reading.{Reading, word_of}
-use Rattle.capnp_objects.proofs.Budgets.{Paid, less_none, affords_none, paid_both}
-use Rattle.capnp_objects.proofs.Followed.{follows_leads}
-use Rattle.capnp_objects.proofs.Stops.{Reached, refused_here, refused_pads, refused_claim, refused_elements}
+use Rattle.capnp_objects.specs.Reading.{Reading, reading_at, word_of}
+use Rattle.capnp_objects.proofs.Budgets.{less_none, affords_none, affords_rest, paid_both}
+use Rattle.capnp_objects.proofs.Followed.{leads_there}
+use Rattle.capnp_objects.proofs.Stops.{Reached}
 use Rattle.capnp_objects.proofs.Defaults.{default_before, length-default}
-
--- no far pointer leads anywhere in a default
-pub no_segment : {A : Type 0} (segments : A → List (List ℕ)) (source : Source A) (id : ℕ) → ((d : Bor (List ℕ)) × (source ≡ Default d)) ⊎ (source ≡ Nothing) → 0 < length (source_segments segments source) → id < 2 ^ 32 →
-    NoSegment (source_segments segments source) id (fault TriedToReadFromNullArena source)
-no_segment segments (Arena a) id (inl w) some small = absurd (let e = w.1 in cc)
-no_segment segments (Arena a) id (inr e) some small = absurd cc
-no_segment segments (Default d) id e some small = empty (omega (arith, length-default d.now)) (default_before d.now) refl
-no_segment segments Nothing id e some small = absurd (omega arith)
 
 -- what charging and counting pay
 charged_none : (charging : Bool) (m : Meter) → charged charging m 0 ≡ m
@@ -46,21 +44,47 @@ charged_none false m = refl
 
 charged_after : (charging : Bool) (m : Meter) (g : ℕ) → charged charging m g ≡ after charging m g 0
 charged_after true m g = ap (λ f. record { left = less m.left g; followed = f }) (omega arith)
-charged_after false m g = ap (λ f. record { left = m.left; followed = f }) (omega arith)
+charged_after false m g = refl
 
-counted_after : (charging : Bool) (m : Meter) → m.followed < 2 ^ 64 → counted m ≡ after charging m 0 1
-counted_after true m h = ap₂ (λ o f. record { left = o; followed = f }) (sym (less_none m.left)) (omega arith)
-counted_after false m h = ap (λ f. record { left = m.left; followed = f }) (omega arith)
+counted_after : (charging : Bool) (m : Meter) → counted_once charging m ≡ after charging m 0 1
+counted_after true m = ap (λ o. record { left = o; followed = raised m.followed 1 }) (sym (less_none m.left))
+counted_after false m = refl
 
 paid_charged : {charging : Bool} {m m' : Meter} {g : ℕ} → Affords charging m g → m' ≡ charged charging m g → Paid charging m m' g 0
 paid_charged {charging} {m} {m'} {g} covers e = record { covers = covers; spent = e ∙ charged_after charging m g }
 
 -- a demand is broken before anything is charged
-pub refuses_at_once : {S : Segments} {charging : Bool} {n : ℕ} {a : Target} {m : Meter} {k : ErrorKind} → BreaksObject plain S n a k → NotEntered S charging n a m m k
-refuses_at_once {S} {charging} {n} {a} {m} {k} h = broken 0 h (affords_none charging m) (sym (charged_none charging m))
+pub refuses_at_once : {S : Segments} {charging : Bool} {n : ℕ} {a : Target} {m : Meter} {k : ErrorKind} → BreaksObject plain S n a k → granted_before a k ≡ 0 → NotEntered S charging n a m m k
+refuses_at_once {S} {charging} {n} {a} {m} {k} h none =
+    broken h (subst (Affords charging m) (sym none) (affords_none charging m)) (sym (charged_none charging m) ∙ ap (charged charging m) (sym none))
 
-leads_nowhere : {S : Segments} {charging : Bool} {x : ℕ} {r : Result Target ErrorKind} {m : Meter} {k : ErrorKind} → r ≡ Err k → NotFollowed S charging x r m m k
-leads_nowhere {S} {charging} {x} {r} {m} {k} h = nowhere 0 h (affords_none charging m) (sym (charged_none charging m))
+leads_nowhere : {S : Segments} {charging : Bool} {x : ℕ} {r : Result Target ErrorKind} {m : Meter} {k : ErrorKind} → r ≡ Err k → landing_words S x ≡ 0 → NotFollowed S charging x r m m k
+leads_nowhere {S} {charging} {x} {r} {m} {k} h none =
+    nowhere h (subst (Affords charging m) (sym none) (affords_none charging m)) (sym (charged_none charging m) ∙ ap (charged charging m) (sym none))
+
+-- an unknown number, where there are segments
+pub known : {B : List (List ℕ)} {id : ℕ} {k : ErrorKind} → 0 < length (message B) → IsUnknown B id k → k ≡ InvalidSegmentId id
+known {B} {id} {k} some (inl named) = named
+known {B} {id} {k} some (inr (none, named)) = absurd (omega (arith, length-message B, ap length none))
+
+-- a number beyond the segments
+pub beyond : (B : List (List ℕ)) (id : ℕ) → (id < length B → false ≡ true) → length (message B) ≤ id
+beyond B id h = elim (within_or_not (length B) id) [ inl le ↦ omega (arith, length-message B, le) | inr lt ↦ absurd (false≢true (h lt)) ]
+
+-- the words of the landing pads
+no_pads_near : (S : Segments) (x : ℕ) → kind x ≢ 2 → landing_words S x ≡ 0
+no_pads_near S x other = ap (λ b. cond b (if_there (pad S x (is_double x)) (1 + is_double x)) 0) (ne_eqb (kind x) 2 other)
+
+no_pads : (S : Segments) (x : ℕ) → pad S x (is_double x) ≡ None → landing_words S x ≡ 0
+no_pads S x none = ap (λ o. cond (nat_eq (kind x) 2) (if_there o (1 + is_double x)) 0) none ∙ go (nat_eq (kind x) 2) 0
+  where
+    go : (b : Bool) (z : ℕ) → cond b z z ≡ z
+    go true z = refl
+    go false z = refl
+
+pads_there : {w : ℕ} (S : Segments) (x : ℕ) → kind x ≡ 2 → pad S x (is_double x) ≡ Some w → landing_words S x ≡ 1 + is_double x
+pads_there {w} S x is_far there =
+    ap (λ b. cond b (if_there (pad S x (is_double x)) (1 + is_double x)) 0) (eq-eqb (kind x) 2 is_far) ∙ ap (λ o. if_there o (1 + is_double x)) there
 
 -- a segment that has to exist
 at_existing : (S : Segments) (u x : ℕ) (f : ℕ → Result Target ErrorKind) → u < length S → (existing S u x >=> f) ≡ f x
@@ -80,6 +104,9 @@ pad_out : (S : Segments) (x n : ℕ) → length (segment S (upper_half x)) ≤ f
 pad_out S x n h =
     ap (λ b. given b (word_at S (upper_half x) (far_position x))) (let e : nat_lt (far_position x + n) (length (segment S (upper_half x))) ≡ false = grind (arith, nat_tests) in e)
 
+absent_pad : (S : Segments) (x n : ℕ) → length S ≤ upper_half x → pad S x n ≡ None
+absent_pad S x n h = let none : segment S (upper_half x) ≡ [] = get_or_past S (upper_half x) [] h in pad_out S x n (let z : length (segment S (upper_half x)) ≡ 0 = ap length none in omega (arith, z))
+
 far_absent : (S : Segments) (x d : ℕ) → length S ≤ upper_half x → follow_far S x d ≡ Err (InvalidSegmentId (upper_half x))
 far_absent S x zero h = at_absent S (upper_half x) x _ h
 far_absent S x (suc d) h = at_absent S (upper_half x) x _ h
@@ -98,27 +125,40 @@ near_some S s p w pads h = ap (λ o. o >>= λ b. Some (record { word = w; segmen
 near_none : (S : Segments) (s p w pads : ℕ) → offset_leads (length (segment S s)) p (offset_bits w) ≡ None → near S s p w pads ≡ None
 near_none S s p w pads h = ap (λ o. o >>= λ b. Some (record { word = w; segment = s; start = b; pads = pads })) h
 
+unnamed : (result : Result Target ErrorKind) → far_named false result ≡ result
+unnamed (Ok x) = refl
+unnamed (Err k) = refl
+
 follow_near : (S : Segments) (s p w : ℕ) → w ≡ word_at S s p → kind w ≢ 2 → follow S s p ≡ or_named MessageContainsOutOfBoundsPointer (near S s p w 0)
 follow_near S s p w e other =
     rw e (ap (λ b. cond b (follow_far S (word_at S s p) (is_double (word_at S s p))) (or_named MessageContainsOutOfBoundsPointer (near S s p (word_at S s p) 0))) (ne_eqb (kind (word_at S s p)) 2 (rw e at other)))
 
+near_named : (r : Reading) (w : ℕ) → w ≡ word_of r → kind w ≢ 2 → follow_at r ≡ follow r.segments r.segment r.at
+near_named r w e other = ap (λ b. far_named (r.of_default && b) (follow r.segments r.segment r.at)) (ne_eqb (kind (word_of r)) 2 (rw e at other)) ∙ go r.of_default
+  where
+    go : (b : Bool) → far_named (b && false) (follow r.segments r.segment r.at) ≡ follow r.segments r.segment r.at
+    go true = unnamed (follow r.segments r.segment r.at)
+    go false = unnamed (follow r.segments r.segment r.at)
+
 -- a near pointer that leads nowhere
-pub near_nowhere : {S : Segments} {charging : Bool} {w : ℕ} {m : Meter} (q : Place) → w ≡ word_at S q.segment q.at → kind w ≢ 2 → offset_leads (length (segment S q.segment)) q.at (offset_bits w) ≡ None →
-    NotFollowed S charging w (follow S q.segment q.at) m m MessageContainsOutOfBoundsPointer
-near_nowhere {S} {charging} {w} {m} q e other h =
-    leads_nowhere (follow_near S q.segment q.at w e other ∙ ap (or_named MessageContainsOutOfBoundsPointer) (near_none S q.segment q.at w 0 h))
+pub near_nowhere : {charging : Bool} {w : ℕ} {m : Meter} (r : Reading) → w ≡ word_of r → kind w ≢ 2 → offset_leads (length (segment r.segments r.segment)) r.at (offset_bits w) ≡ None →
+    NotFollowed r.segments charging (word_of r) (follow_at r) m m MessageContainsOutOfBoundsPointer
+near_nowhere {charging} {w} {m} r e other h =
+    leads_nowhere (near_named r w e other ∙ follow_near r.segments r.segment r.at w e other ∙ ap (or_named MessageContainsOutOfBoundsPointer) (near_none r.segments r.segment r.at w 0 h)) (no_pads_near r.segments (word_of r) (rw e at other))
 
 -- a far pointer whose pad is in no segment, or out of it, or isn't covered
-pub pad_absent : {S : Segments} {charging : Bool} {x u : ℕ} {m : Meter} {k : ErrorKind} → u ≡ upper_half x → u < 2 ^ 32 → NoSegment S u k → NotFollowed S charging x (follow_far S x (is_double x)) m m k
-pad_absent {S} {charging} {x} {u} {m} {k} e small (absent h named) =
-    leads_nowhere (far_absent S x (is_double x) (omega (arith, e)) ∙ ap (λ i. Err (InvalidSegmentId i)) (sym e) ∙ ap Err (sym named))
-pad_absent {S} {charging} {x} {u} {m} {k} e small (empty there none named) =
-    leads_nowhere
-    (far_out S x (is_double x) (omega arith) (omega (arith, e)) (let z : length (segment S (upper_half x)) ≡ 0 = ap length (none (upper_half x) (omega (arith, e))) in omega (arith, z)) ∙ ap Err (sym named))
+pub pad_absent : {S : Segments} {charging : Bool} {x u : ℕ} {m : Meter} {k : ErrorKind} → u ≡ upper_half x → length S ≤ u → k ≡ InvalidSegmentId u → NotFollowed S charging x (follow_far S x (is_double x)) m m k
+pad_absent {S} {charging} {x} {u} {m} {k} e h named =
+    leads_nowhere (far_absent S x (is_double x) (omega (arith, h, e)) ∙ ap (λ i. Err (InvalidSegmentId i)) (sym e) ∙ ap Err (sym named)) (no_pads S x (absent_pad S x (is_double x) (omega (arith, h, e))))
 
 pub pad_beyond : {S : Segments} {charging : Bool} {x : ℕ} {m : Meter} → upper_half x < length S → length (segment S (upper_half x)) ≤ far_position x + is_double x →
     NotFollowed S charging x (follow_far S x (is_double x)) m m MessageContainsOutOfBoundsPointer
-pad_beyond {S} {charging} {x} {m} there h = leads_nowhere (far_out S x (is_double x) (omega arith) there h)
+pad_beyond {S} {charging} {x} {m} there h = leads_nowhere (far_out S x (is_double x) (omega arith) there h) (no_pads S x (pad_out S x (is_double x) h))
+
+pub pad_exceeds : {S : Segments} {charging : Bool} {x : ℕ} {m m' : Meter} {k : ErrorKind} → kind x ≡ 2 → far_position x + is_double x < length (segment S (upper_half x)) → (Affords charging m (1 + is_double x) → ⊥) → m' ≡ m → k ≡ ReadLimitExceeded →
+    NotFollowed S charging x (follow_far S x (is_double x)) m m' k
+pad_exceeds {S} {charging} {x} {m} is_far inside short same named =
+    pads_exceed (λ h. short (subst (Affords charging m) (pads_there S x is_far (pad_there S x (is_double x) inside)) h)) same named
 
 -- the word that stands where a pad is
 abbrev At : Place → ℕ → ℕ
@@ -161,38 +201,64 @@ single_followed {S} {charging} {x} {m} {m'} {q} {w} {b} o z e h =
       paid = o.paid ∙ ap (charged charging m) one;
     }
 
-pub single_nowhere : {S : Segments} {charging : Bool} {x : ℕ} {m m' : Meter} {q : Place} (w : ℕ) → IsPad S charging x m m' q → is_double x ≡ 0 → w ≡ At q q.at →
+-- the pads of a far pointer are granted
+pads_paid : {S : Segments} {charging : Bool} {x : ℕ} {m m' : Meter} {q : Place} → kind x ≡ 2 → IsPad S charging x m m' q → landing_words S x ≡ 1 + is_double x
+pads_paid {S} {charging} {x} {m} {m'} {q} is_far o =
+    pads_there S x is_far (pad_there S x (is_double x) (rw (← o.segment_of, ← o.position_of) o.inside))
+
+pub single_nowhere : {S : Segments} {charging : Bool} {x : ℕ} {m m' : Meter} {q : Place} (w : ℕ) → kind x ≡ 2 → IsPad S charging x m m' q → is_double x ≡ 0 → w ≡ At q q.at →
     offset_leads (length (words_of q.bytes.now)) q.at (offset_bits w) ≡ None → NotFollowed S charging x (follow_far S x (is_double x)) m m' MessageContainsOutOfBoundsPointer
-single_nowhere {S} {charging} {x} {m} {m'} {q} w o z e h =
-    nowhere (1 + is_double x) (single w o z e ∙ ap (or_named MessageContainsOutOfBoundsPointer) (near_none S q.segment q.at w 1 (rw o.held.0 at h))) o.covers o.paid
+single_nowhere {S} {charging} {x} {m} {m'} {q} w is_far o z e h =
+    let pads = pads_paid is_far o in
+    nowhere (single w o z e ∙ ap (or_named MessageContainsOutOfBoundsPointer) (near_none S q.segment q.at w 1 (rw o.held.0 at h))) (subst (Affords charging m) (sym pads) o.covers) (o.paid ∙ ap (charged charging m) (sym pads))
 
 -- a far pointer with two pads, of which the first names a segment that isn't there
-pub double_absent : {S : Segments} {charging : Bool} {x : ℕ} {m m' : Meter} {q : Place} {u : ℕ} {k : ErrorKind} (f : ℕ) → IsPad S charging x m m' q → is_double x ≡ 1 → f ≡ At q q.at → u ≡ upper_half f → NoSegment S u k →
+pub double_absent : {S : Segments} {charging : Bool} {x : ℕ} {m m' : Meter} {q : Place} {u : ℕ} {k : ErrorKind} (f : ℕ) → kind x ≡ 2 → IsPad S charging x m m' q → is_double x ≡ 1 → f ≡ At q q.at → u ≡ upper_half f → length S ≤ u → k ≡ InvalidSegmentId u →
     NotFollowed S charging x (follow_far S x (is_double x)) m m' k
-double_absent {S} {charging} {x} {m} {m'} {q} {u} {k} f o one e named (absent h fault) =
-    nowhere (1 + is_double x)
-    (double f o one e
+double_absent {S} {charging} {x} {m} {m'} {q} {u} {k} f is_far o one e named h fault =
+    let pads = pads_paid is_far o in
+    nowhere (
+    double f o one e
     ∙ target_absent S (upper_half f) (record { word = word_at S q.segment (q.at + 1); segment = upper_half f; start = far_position f; pads = 2 }) (omega (arith, h, named))
-    ∙ ap (λ i. Err (InvalidSegmentId i)) (sym named) ∙ ap Err (sym fault)) o.covers o.paid
-double_absent {S} {charging} {x} {m} {m'} {q} {u} {k} f o one e named (empty there none fault) =
-    let z : length (segment S (upper_half x)) ≡ 0 = ap length (none (upper_half x) o.number) in
-    let inside : q.at + is_double x < length (segment S (upper_half x)) = rw (← o.segment_of) o.inside in
-    absurd (omega (arith, z, inside))
+    ∙ ap (λ i. Err (InvalidSegmentId i)) (sym named) ∙ ap Err (sym fault)
+    ) (subst (Affords charging m) (sym pads) o.covers) (o.paid ∙ ap (charged charging m) (sym pads))
+
+-- a far pointer of a default: all segments that it could name are empty
+pub default_far : {charging : Bool} {m : Meter} (r : Reading) (bytes : List ℕ) → r.segments ≡ default_segments bytes → r.of_default ≡ true → kind (word_of r) ≡ 2 → word_of r < 2 ^ 64 →
+    NotFollowed r.segments charging (word_of r) (follow_at r) m m TriedToReadFromNullArena
+default_far {charging} {m} r bytes segments default is_far small =
+    let S : Segments = r.segments in
+    let x : ℕ = word_of r in
+    let none : segment S (upper_half x) ≡ [] = ap (λ T. segment T (upper_half x)) segments ∙ default_before bytes (upper_half x) (omega arith) in
+    let z : length (segment S (upper_half x)) ≡ 0 = ap length none in
+    let many : length S ≡ suc (2 ^ 32) = ap length segments ∙ length-default bytes in
+    let out : follow_far S x (is_double x) ≡ Err MessageContainsOutOfBoundsPointer = far_out S x (is_double x) (omega arith) (omega (arith, many)) (omega (arith, z)) in
+    let far : follow S r.segment r.at ≡ follow_far S x (is_double x) = ap (λ b. cond b (follow_far S x (is_double x)) (or_named MessageContainsOutOfBoundsPointer (near S r.segment r.at x 0))) (eq-eqb (kind x) 2 is_far) in
+    let name : (r.of_default && nat_eq (kind x) 2) ≡ true = ap₂ (λ b c. b && c) default (eq-eqb (kind x) 2 is_far) in
+    leads_nowhere (ap₂ far_named name (far ∙ out)) (no_pads S x (pad_out S x (is_double x) (omega (arith, z))))
+
+pub default_refused : {A : Type 0} (g : Ghosts A) {source : Source A} (here : Place) (m : Meter) (nesting : ℤ) → ((d : Bor (List ℕ)) × (source ≡ Default d)) ⊎ (source ≡ Nothing) → 0 < length (source_segments g.segments source) →
+    kind (word_of (reading_at g source here nesting)) ≡ 2 → word_of (reading_at g source here nesting) < 2 ^ 64 → FailsPointer (reading_at g source here nesting) m m TriedToReadFromNullArena
+default_refused g {source = Arena a} here m nesting (inl w) some is_far small = absurd (let e = w.1 in cc)
+default_refused g {source = Arena a} here m nesting (inr e) some is_far small = absurd cc
+default_refused g {source = Default d} here m nesting e some is_far small = default_far (reading_at g (Default d) here nesting) d.now refl refl is_far small
+default_refused g {source = Nothing} here m nesting e some is_far small = absurd (omega arith)
 
 -- The word at a place is not zero, and its pointer is counted as followed, from m to m'.
 pub record IsCounted (r : Reading) (m m' : Meter) : Type 0 where
   pub some : word_of r ≢ 0
-  pub small : m.followed < 2 ^ 64
-  pub by_one : m' ≡ counted m
+  pub by_one : m' ≡ counted_once r.charging m
+
+paid_one : {r : Reading} {m m' : Meter} → IsCounted r m m' → Paid r.charging m m' 0 1
+paid_one {r} {m} {m'} o = record { covers = affords_none r.charging m; spent = o.by_one ∙ counted_after r.charging m }
 
 -- words that are charged after the pointer was counted
 charged_first : {r : Reading} {m m' m'' : Meter} {g : ℕ} → IsCounted r m m' → Paid r.charging m' m'' g 0 → Paid r.charging m m'' g 1
 charged_first {r} {m} {m'} {m''} {g} o paid =
-    let first : Paid r.charging m m' 0 1 = record { covers = affords_none r.charging m; spent = o.by_one ∙ counted_after r.charging m o.small } in
     let none : 0 + g ≡ g = omega arith in
-    subst (λ i. Paid r.charging m m'' i 1) none (paid_both first paid)
+    subst (λ i. Paid r.charging m m'' i 1) none (paid_both (paid_one o) paid)
 
-reached : {r : Reading} {m m' m'' : Meter} {l : Landing} → IsCounted r m m' → IsFollowed r.segments r.charging (follow r.segments r.segment r.at) m' m'' l → Reached r m m'' (target l)
+reached : {r : Reading} {m m' m'' : Meter} {l : Landing} → IsCounted r m m' → FollowsPointer r m' m'' l → Reached r m m'' (target l)
 reached {r} {m} {m'} {m''} {l} o f = record { follows = (o.some, f.leads_to); paid = charged_first o (paid_charged f.covers f.paid) }
 
 entered : {r : Reading} {m m' m'' : Meter} {a : Target} → Reached r m m' a → IsEntered r.segments r.charging r.levels a m' m'' → Entered r m m'' a
@@ -201,7 +267,7 @@ entered {r} {m} {m'} {m''} {a} o e =
     let all : a.pads + (claim a.word + amplified r.segments a) ≡ own r.segments a = omega arith in
     let paid = subst (λ i. Paid r.charging m m'' i 1) all (paid_both o.paid more) in
     record {
-      leads_to = follows_leads r.segments r.segment r.at a o.follows (λ f. let i = e.meets.is_object in omega arith);
+      leads_to = leads_there r a o.follows (λ f. let i = e.meets.is_object in omega arith);
       meets = e.meets;
       covers = paid.covers;
       spent = paid.spent;
@@ -210,38 +276,34 @@ entered {r} {m} {m'} {m''} {a} o e =
 opened : {r : Reading} {m m' : Meter} {a : Target} (m'' : Meter) (x : Object) → Reached r m m' a → IsOpened r.segments r.charging r.levels a m' m'' x → IsObject r m m'' x
 opened m'' ObjectNull o h = absurd h
 opened {r} {m} {m'} {a} m'' (ObjectCapability i) o (low, index, e) =
-    (a, follows_leads r.segments r.segment r.at a o.follows (λ f. omega arith), low, index, o.paid.covers, e ∙ o.paid.spent)
+    (a, leads_there r a o.follows (λ f. omega arith), low, index, o.paid.covers, e ∙ o.paid.spent)
 opened {r} {m} {m'} {a} m'' (ObjectStruct start size) o (e, z, there, d, q) = (a, entered o e, z, there, d, q)
 opened {r} {m} {m'} {a} m'' (ObjectFlat start size count) o (e, z, small, there, wide, len) = (a, entered o e, z, small, there, wide, len)
 opened {r} {m} {m'} {a} m'' (ObjectPointers start count) o (e, z, six, there, len) = (a, entered o e, z, six, there, len)
 opened {r} {m} {m'} {a} m'' (ObjectStructs start size count) o (e, z, seven, there, len, d, q) = (a, entered o e, z, seven, there, len, d, q)
 
-pub object_opened : {r : Reading} {m m₁ m₂ : Meter} {l : Landing} (m₃ : Meter) (x : Object) → IsCounted r m m₁ → IsFollowed r.segments r.charging (follow r.segments r.segment r.at) m₁ m₂ l →
+pub object_opened : {r : Reading} {m m₁ m₂ : Meter} {l : Landing} (m₃ : Meter) (x : Object) → IsCounted r m m₁ → FollowsPointer r m₁ m₂ l →
     IsOpened r.segments r.charging r.levels (target l) m₂ m₃ x → IsObject r m m₃ x
 object_opened m₃ x o f h = opened m₃ x (reached o f) h
 
 -- the refusals
-pub refused_following : {r : Reading} {m m' m'' : Meter} {k : ErrorKind} → IsCounted r m m' → NotFollowed r.segments r.charging (word_of r) (follow r.segments r.segment r.at) m' m'' k → Refused plain r m m'' k
-refused_following {r} {m} {m'} {m''} {k} o (nowhere g h covers paid) =
-    let p : Paid r.charging m m'' g 1 = charged_first o (paid_charged covers paid) in
-    refused_here m m'' (o.some, inl h) (g, 1, p.covers, p.spent, omega arith)
-refused_following {r} {m} {m'} {m''} {k} o (pads_exceed f two there short same named) =
-    let p : Paid r.charging m m' 0 1 = charged_first o (paid_charged (affords_none r.charging m') (sym (charged_none r.charging m'))) in
-    rw (named, same) (refused_pads two there p short)
+pub stops_following : {r : Reading} {m m' m'' : Meter} {k : ErrorKind} → IsCounted r m m' → FailsPointer r m' m'' k → Stopped plain r m m'' k
+stops_following {r} {m} {m'} {m''} {k} o (nowhere h covers paid) = stopped_nowhere o.some h (charged_first o (paid_charged covers paid))
+stops_following {r} {m} {m'} {m''} {k} o (pads_exceed short same named) =
+    let w : ℕ = landing_words r.segments (word_of r) in
+    stopped_pads o.some (λ h. short (affords_rest w w (paid_one o) (omega arith) h)) (subst (λ y. Paid r.charging m y 0 1) (sym same) (paid_one o)) named
 
-refused_entering : {r : Reading} {m m' m'' : Meter} {a : Target} {k : ErrorKind} → Reached r m m' a → NotEntered r.segments r.charging r.levels a m' m'' k → Refused plain r m m'' k
-refused_entering {r} {m} {m'} {m''} {a} {k} o (broken g h covers paid) =
-    let more : Paid r.charging m' m'' g 0 = paid_charged covers paid in
-    let p = paid_both o.paid more in
-    refused_here m m'' (o.follows.0, inr (a, o.follows.1, h)) (a.pads + g, 1, p.covers, p.spent, omega arith)
-refused_entering {r} {m} {m'} {m''} {a} {k} o (claim_exceeds level object claims short same named) = rw (named, same) (refused_claim o level object claims short)
-refused_entering {r} {m} {m'} {m''} {a} {k} o (elements_exceed meets covers paid short named) =
-    let more : Paid r.charging m' m'' (claim a.word) 0 = paid_charged covers paid in
-    rw named (refused_elements (follows_leads r.segments r.segment r.at a o.follows (λ f. let i = meets.is_object in omega arith)) meets (paid_both o.paid more) short)
+stops_entering : {r : Reading} {m m' m'' : Meter} {a : Target} {k : ErrorKind} → Reached r m m' a → NotEntered r.segments r.charging r.levels a m' m'' k → Stopped plain r m m'' k
+stops_entering {r} {m} {m'} {m''} {a} {k} o (broken h covers paid) = stopped_broken a o.follows h (paid_both o.paid (paid_charged covers paid))
+stops_entering {r} {m} {m'} {m''} {a} {k} o (claim_exceeds level object claims short same named) =
+    stopped_claim a o.follows level object claims (λ h. short (affords_rest (claim a.word) (a.pads + claim a.word) o.paid (omega arith) h)) (subst (λ y. Paid r.charging m y a.pads 1) (sym same) o.paid) named
+stops_entering {r} {m} {m'} {m''} {a} {k} o (elements_exceed meets covers paid short named) =
+    let more : Paid r.charging m m'' (a.pads + claim a.word) 1 = paid_both o.paid (paid_charged covers paid) in
+    stopped_count a o.follows meets (λ h. short (affords_rest (amplified r.segments a) (own r.segments a) more (omega arith) h)) more named
 
-pub object_refused : {r : Reading} {m m₁ m₂ m₃ : Meter} {l : Landing} {k : ErrorKind} → IsCounted r m m₁ → IsFollowed r.segments r.charging (follow r.segments r.segment r.at) m₁ m₂ l →
-    NotEntered r.segments r.charging r.levels (target l) m₂ m₃ k → Refused plain r m m₃ k
-object_refused o f h = refused_entering (reached o f) h
+pub object_refused : {r : Reading} {m m₁ m₂ m₃ : Meter} {l : Landing} {k : ErrorKind} → IsCounted r m m₁ → FollowsPointer r m₁ m₂ l →
+    NotEntered r.segments r.charging r.levels (target l) m₂ m₃ k → Stopped plain r m m₃ k
+object_refused o f h = stops_entering (reached o f) h
 
 -- what is true of a result is true of it in other words
 pub if_ok : {A E : Type 0} (r : Result A E) (P Q : A → Type 0) → ((x : A) → P x → Q x) → IfOk r P → IfOk r Q

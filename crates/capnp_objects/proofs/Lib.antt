@@ -10,3 +10,5 @@ pub mod Objects
 pub mod Parts
 pub mod Stops
 pub mod Truths
+pub mod Refusals
+pub mod Unreadable

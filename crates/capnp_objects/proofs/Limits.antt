@@ -1,5 +1,5 @@
 -- Following never names the read limit, so that name is a charge's alone.
-use Rattle.std.proofs.Common.{◌≡◌, ◌≢◌, inl, inr, ℕ, zero, suc, Bool, true, false, cond, nat_eq, nat_lt, Option, Some, None, Result, Ok, Err, IfErr, length, refl, subst}
+use Rattle.std.proofs.Common.{◌≡◌, inl, inr, ℕ, zero, suc, Bool, true, false, ◌&&◌, cond, nat_eq, nat_lt, Option, Some, None, Result, Ok, Err, IfErr, length, refl, subst}
 use Rattle.capnp_words.specs.declared.error.ErrorKind.{ErrorKind}
 use Rattle.capnp_words.specs.declared.error.ErrorKind.TheVariants.{InvalidSegmentId, MessageContainsOutOfBoundsPointer, ReadLimitExceeded}
 use Rattle.capnp_format.specs.Word.{kind, upper_half, far_position, is_double}
@@ -7,9 +7,9 @@ use Rattle.capnp_format.specs.Segments.{Segments, word_at, Target, near, pad}
 use Rattle.capnp_objects.specs.Follow.{◌>=>◌, or_named, existing, follow_far, follow}
 use Rattle.capnp_objects.specs.Faults.{Somewhere, here, below, one_less, HasFault, Exceeds}
 use Rattle.capnp_words.specs.Meter.{Meter}
-use Rattle.capnp_objects.specs.Outcomes.{Refused}
-use Rattle.capnp_objects.specs.Wanted.{Form}
-use Rattle.capnp_objects.specs.Reading.{Reading}
+use Rattle.capnp_objects.proofs.Unreadable.{Unreadable}
+use Rattle.capnp_objects.specs.Wanted.{Form, far_named}
+use Rattle.capnp_objects.specs.Reading.{Reading, word_of}
 use Rattle.capnp_objects.proofs.Truths.{named_truly}
 
 abbrev Other : {A : Type 0} → Result A ErrorKind → Type 0
@@ -41,15 +41,17 @@ other_choice false r t h g = g
 other_follow : (S : Segments) (s p : ℕ) → Other (follow S s p)
 other_follow S s p = let x = word_at S s p in other_choice (nat_eq (kind x) 2) (follow_far S x (is_double x)) (or_named MessageContainsOutOfBoundsPointer (near S s p x 0)) (other_far S x (is_double x)) (other_named (near S s p x 0))
 
+other_named_far : (b : Bool) (result : Result Target ErrorKind) → Other result → Other (far_named b result)
+other_named_far true (Ok x) h = tt
+other_named_far false (Ok x) h = tt
+other_named_far true (Err k) h = λ e. absurd (cc e)
+other_named_far false (Err k) h = h
+
 no_limit_fault : (form : Form) {r : Reading} → HasFault form r ReadLimitExceeded → ⊥
-no_limit_fault form {r} (here (some, inl f)) = (subst Other f (other_follow r.segments r.segment r.at)) refl
+no_limit_fault form {r} (here (some, inl f)) = (subst Other f (other_named_far (r.of_default && nat_eq (kind (word_of r)) 2) (follow r.segments r.segment r.at) (other_follow r.segments r.segment r.at))) refl
 no_limit_fault form (here (some, inr (a, f, h))) = h
 no_limit_fault form (below a q l o i rest) = no_limit_fault form rest
 
 -- the read limit is named only where some reached place charges more than is left
-pub limit_named : {form : Form} {r : Reading} {m m' : Meter} → Refused form r m m' ReadLimitExceeded → Somewhere one_less (Exceeds m') r
+pub limit_named : {form : Form} {r : Reading} {m m' : Meter} → Unreadable form r m m' ReadLimitExceeded → Somewhere one_less (Exceeds m') r
 limit_named {form} refused = elim (named_truly refused) [ inl f ↦ absurd (no_limit_fault form f) | inr f ↦ f.1 ]
-
--- any other name is a fault's
-pub fault_named : {form : Form} {r : Reading} {m m' : Meter} {k : ErrorKind} → k ≢ ReadLimitExceeded → Refused form r m m' k → HasFault form r k
-fault_named other refused = elim (named_truly refused) [ inl f ↦ f | inr f ↦ absurd (other f.0) ]

@@ -1,17 +1,16 @@
 -- From an object's children to the object, copied or refused; and the refusals at the place itself.
-use Rattle.std.proofs.Common.{◌≡◌, ℕ, pred, ◌+◌, ◌*◌, ◌%◌, ◌^◌, ◌≤◌, refl, sym, ap, ap₂, ◌∙◌, subst, arith}
-use Rattle.capnp_format.specs.Word.{kind, offset_bits, data_words, pointer_count, element_size, list_count, upper_half}
+use Rattle.std.proofs.Common.{◌≡◌, ℕ, pred, ◌+◌, ◌*◌, ◌≤◌, refl, sym, ap, ap₂, ◌∙◌, subst, arith}
+use Rattle.capnp_format.specs.Word.{kind, offset_bits, data_words, pointer_count, element_size, list_count}
 use Rattle.capnp_format.specs.Numbers.{words_for, unpacked}
 use Rattle.capnp_format.specs.Segments.{Segments, words_at, Target}
-use Rattle.capnp_format.specs.Tree.{Null, Capability, Struct, Flat, Pointers, Structs, Trees, Elements, count, element_count}
+use Rattle.capnp_format.specs.Tree.{Null, Struct, Flat, Pointers, Structs, Trees, Elements, count, element_count}
 use Rattle.capnp_format.specs.Means.{Claims, count_cost}
-use Rattle.capnp_words.specs.Meter.{Meter, Affords}
-use Rattle.capnp_objects.specs.Spending.{after}
+use Rattle.capnp_words.specs.Meter.{Meter}
 use Rattle.capnp_objects.specs.Demands.{tag, own}
 use Rattle.capnp_objects.specs.Outcomes.{Reads, ReadsAll, ReadsElements, Entered}
-use Rattle.capnp_objects.specs.Faults.{LeadsTo, child_at}
+use Rattle.capnp_objects.specs.Faults.{child_at}
 use Rattle.capnp_objects.specs.Reading.{Reading, word_of, tag_size}
-use Rattle.capnp_objects.specs.Wanted.{Form, plain}
+use Rattle.capnp_objects.specs.Wanted.{Form}
 use Rattle.capnp_objects.proofs.Parts.{claim_struct, claim_list, claim_flat, extra_struct, extra_list, extra_flat}
 use Rattle.capnp_format.proofs.Slices.{length_words}
 use Rattle.capnp_format.proofs.Digits.{length-digits}
@@ -20,9 +19,6 @@ use Rattle.capnp_objects.proofs.Budgets.{after_none, affords_none, paid_both, pa
 
 pub read_null : {form : Form} {r : Reading} (m : Meter) → word_of r ≡ 0 → Reads form r m m Null
 read_null {form} {r} m z = record { cost = 0; means = (z, refl); takes = λ e. refl; covers = affords_none r.charging m; spent = sym (after_none r.charging m) }
-
-pub read_capability : {r : Reading} {m m' : Meter} (a : Target) → LeadsTo r a → a.word % 2 ^ 32 ≡ 3 → Affords r.charging m a.pads → m' ≡ after r.charging m a.pads 1 → Reads plain r m m' (Capability (upper_half a.word))
-read_capability a l low covers e = record { cost = a.pads; means = (a, l, omega arith, refl); takes = λ f. absurd f; covers = covers; spent = e }
 
 pub own_struct : (S : Segments) (a : Target) → kind a.word ≡ 0 → own S a ≡ a.pads + (data_words a.word + pointer_count a.word)
 own_struct S a z = omega (arith, claim_struct a.word z, extra_struct S a z)

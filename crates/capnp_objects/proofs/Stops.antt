@@ -7,24 +7,26 @@ use Rattle.capnp_format.specs.Word.{kind, offset_bits, data_words, pointer_count
 use Rattle.capnp_format.specs.Segments.{Segments, segment, word_at, Target, given, offset_leads, pad, near, far, leads}
 use Rattle.capnp_format.specs.Tree.{Tree, Null, Capability, Struct, Flat, Pointers, Structs, Trees, Elements, count, element_count, capabilities, capabilities_all, capabilities_elements}
 use Rattle.capnp_format.specs.Means.{Claims, ListAt, MeansAll}
-use Rattle.capnp_objects.specs.Follow.{Follows}
+use Rattle.capnp_objects.specs.Refusals.{FollowsTo}
 use Rattle.capnp_words.specs.Meter.{Meter, Affords}
 use Rattle.capnp_objects.specs.Demands.{claim, tag, amplified, own, Meets}
 use Rattle.capnp_objects.specs.Faults.{of_struct, of_list, of_element, here, below, Charges, LeadsTo, child_at, of_pads, of_object, of_elements}
 use Rattle.capnp_objects.specs.Wanted.{BreaksAt}
-use Rattle.capnp_objects.specs.Outcomes.{MeansThere, MeanThere, ElementsMean, Spends, Entered, Refused, RefusedAll, RefusedElements}
+use Rattle.capnp_objects.specs.Outcomes.{MeansThere, MeanThere, ElementsMean, Spends, Entered}
+use Rattle.capnp_objects.proofs.Unreadable.{Unreadable, UnreadableAll, UnreadableElements}
 use Rattle.capnp_objects.specs.Wanted.{Form, an_object}
+use Rattle.capnp_objects.specs.Spending.{Paid}
 use Rattle.capnp_objects.specs.Reading.{Reading, tag_size, word_of}
 use Rattle.capnp_format.proofs.Sound.{if_bind, at_some}
 use Rattle.capnp_objects.proofs.Parts.{is_null, is_capability, is_inner, means_parts}
-use Rattle.capnp_objects.proofs.Followed.{follows_leads}
+use Rattle.capnp_objects.proofs.Followed.{leads_there}
 use Rattle.capnp_objects.proofs.Faultless.{same_target, no_fault}
 use Rattle.capnp_objects.proofs.Objects.{own_struct, own_pointers, own_structs}
-use Rattle.capnp_objects.proofs.Budgets.{Paid, paid_both, paid_own, affords_rest}
+use Rattle.capnp_objects.proofs.Budgets.{paid_both, paid_own, affords_rest}
 
 -- The word at a place is followed to a, and its pads are paid, from m to m', the pointer counted.
 pub record Reached (r : Reading) (m m' : Meter) (a : Target) : Type 0 where
-  pub follows : Follows r.segments r.segment r.at a
+  pub follows : FollowsTo r a
   pub paid : Paid r.charging m m' a.pads 1
 
 abbrev InStruct : Reading → Target → ℕ → ℕ → Type 0
@@ -90,7 +92,7 @@ object_spends {charging} {m} {m'} {m''} {g} i first le (x, r, covers', e', few) 
     (g + x, 1 + r, paid.covers, paid.spent, omega arith)
 
 pub stopped_struct : {form : Form} {r : Reading} {m m' m'' : Meter} {a : Target} {k : ErrorKind} → Entered r m m' a → kind a.word ≡ 0 →
-    RefusedAll form (child_at r a (pred r.levels) (a.start + data_words a.word)) (pointer_count a.word) m' m'' k → Refused form r m m'' k
+    UnreadableAll form (child_at r a (pred r.levels) (a.start + data_words a.word)) (pointer_count a.word) m' m'' k → Unreadable form r m m'' k
 stopped_struct {form} {r} {m} {m'} {m''} {a} o z refused = record {
   named = below a refused.named.0 o.leads_to o.meets (of_struct z refused.named.1 refused.named.2) refused.named.3;
   only = λ t c h takes covers.
@@ -100,7 +102,7 @@ stopped_struct {form} {r} {m} {m'} {m''} {a} o z refused = record {
 }
 
 pub stopped_pointers : {form : Form} {r : Reading} {m m' m'' : Meter} {a : Target} {k : ErrorKind} → Entered r m m' a → kind a.word ≡ 1 → element_size a.word ≡ 6 →
-    RefusedAll form (child_at r a (pred r.levels) a.start) (list_count a.word) m' m'' k → Refused form r m m'' k
+    UnreadableAll form (child_at r a (pred r.levels) a.start) (list_count a.word) m' m'' k → Unreadable form r m m'' k
 stopped_pointers {form} {r} {m} {m'} {m''} {a} o z six refused = record {
   named = below a refused.named.0 o.leads_to o.meets (of_list z six refused.named.1 refused.named.2) refused.named.3;
   only = λ t c h takes covers.
@@ -110,7 +112,7 @@ stopped_pointers {form} {r} {m} {m'} {m''} {a} o z six refused = record {
 }
 
 pub stopped_structs : {form : Form} {r : Reading} {m m' m'' : Meter} {a : Target} {k : ErrorKind} → Entered r m m' a → kind a.word ≡ 1 → element_size a.word ≡ 7 →
-    RefusedElements form (child_at r a (pred r.levels) (a.start + 1)) (tag_size r.segments a) (offset_bits (tag r.segments a)) m' m'' k → Refused form r m m'' k
+    UnreadableElements form (child_at r a (pred r.levels) (a.start + 1)) (tag_size r.segments a) (offset_bits (tag r.segments a)) m' m'' k → Unreadable form r m m'' k
 stopped_structs {form} {r} {m} {m'} {m''} {a} o z seven refused =
     let S : Segments = r.segments in
     record {
@@ -128,7 +130,7 @@ stopped_structs {form} {r} {m} {m'} {m''} {a} o z seven refused =
     fewer j d q = grind arith
 
 -- a demand is broken at the place itself
-pub refused_here : {form : Form} {r : Reading} (m m' : Meter) {k : ErrorKind} → BreaksAt (an_object form) k r → Spends r.charging m m' 1 → Refused form r m m' k
+pub refused_here : {form : Form} {r : Reading} (m m' : Meter) {k : ErrorKind} → BreaksAt (an_object form) k r → Spends r.charging m m' 1 → Unreadable form r m m' k
 refused_here {form} {r} m m' {k} b spent = record {
   named = here (inl b);
   only = λ t c h takes covers. no_fault form k {r = r} (here b) (capabilities t) takes (t, c, h, omega arith);
@@ -137,7 +139,7 @@ refused_here {form} {r} m m' {k} b spent = record {
 
 -- a charge of the place itself, after g words, is not covered
 refused_charge : {form : Form} {r : Reading} {m m' : Meter} {x g : ℕ} → Charges r x → Paid r.charging m m' g 1 → (Affords r.charging m' x → ⊥) → ((t : Tree) (c : ℕ) → MeansThere r t c → g + x ≤ c) →
-    Refused form r m m' ReadLimitExceeded
+    Unreadable form r m m' ReadLimitExceeded
 refused_charge {form} {r} {m} {m'} {x} {g} h paid short least = record {
   named = here (inr (refl, (x, h, short)));
   only = λ t c mean takes whole. short (affords_rest x c paid (least t c mean) whole);
@@ -154,14 +156,14 @@ own_within r {a} t c l object h = elim (means_parts r t c h) [
 
 -- the object's claim is not covered
 pub refused_claim : {form : Form} {r : Reading} {m m' : Meter} {a : Target} → Reached r m m' a → 0 < r.levels → kind a.word < 2 → Claims r.segments a (claim a.word) → (Affords r.charging m' (claim a.word) → ⊥) →
-    Refused form r m m' ReadLimitExceeded
+    Unreadable form r m m' ReadLimitExceeded
 refused_claim {form} {r} {m} {m'} {a} o some object claims short =
-    let l = follows_leads r.segments r.segment r.at a o.follows (λ e. omega (arith, object)) in
+    let l = leads_there r a o.follows (λ e. omega (arith, object)) in
     refused_charge (of_object a l some object claims refl) o.paid short (λ t c h. omega (arith, own_within r {a = a} t c l object h))
 
 -- the count of elements of no bits is not covered
 pub refused_elements : {form : Form} {r : Reading} {m m' : Meter} {a : Target} → LeadsTo r a → Meets r.segments r.levels a → Paid r.charging m m' (a.pads + claim a.word) 1 → (Affords r.charging m' (amplified r.segments a) → ⊥) →
-    Refused form r m m' ReadLimitExceeded
+    Unreadable form r m m' ReadLimitExceeded
 refused_elements {form} {r} {m} {m'} {a} l o paid short = refused_charge (of_elements a l o refl) paid short (λ t c h. own_within r {a = a} t c l o.is_object h)
 
 if_other : {A : Type 0} (P : A → Type 0) (b : Bool) (o : Option A) → IfSome o P → IfSome (cond b None o) P
@@ -190,7 +192,7 @@ leads_pads S s p a l two =
 
 -- the pads are not covered
 pub refused_pads : {form : Form} {r : Reading} {m m' : Meter} {f : ℕ} → kind (word_of r) ≡ 2 → pad r.segments (word_of r) (is_double (word_of r)) ≡ Some f → Paid r.charging m m' 0 1 →
-    (Affords r.charging m' (1 + is_double (word_of r)) → ⊥) → Refused form r m m' ReadLimitExceeded
+    (Affords r.charging m' (1 + is_double (word_of r)) → ⊥) → Unreadable form r m m' ReadLimitExceeded
 refused_pads {form} {r} {m} {m'} {f} two there paid short =
     refused_charge (of_pads f two there refl) paid short (λ t c h. elim (means_parts r t c h) [
       | is_null z ↦ absurd (omega (arith, z, two))

@@ -6,5 +6,7 @@ pub mod Wanted
 pub mod Spending
 pub mod Faults
 pub mod Outcomes
+pub mod Refusals
 pub mod Objects
 pub mod Landings
+pub mod Laws

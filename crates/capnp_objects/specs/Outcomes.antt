@@ -1,16 +1,15 @@
 -- What a reading of whole values gives and spends, and what is true where it is refused.
-use Rattle.std.specs.Prelude.{◌≡◌, ℕ, ◌+◌, ◌*◌, ◌≤◌, Bool}
-use Rattle.capnp_words.specs.declared.error.ErrorKind.{ErrorKind}
-use Rattle.capnp_words.specs.declared.wire_pointer.StructSize.{StructSize}
+use Rattle.std.specs.Prelude.{◌≡◌, ℕ, ◌+◌, ◌≤◌, Bool}
+use Rattle.capnp_pointers.specs.declared.wire_pointer.StructSize.{StructSize}
 use Rattle.capnp_words.specs.Meter.{Meter, Affords}
 use Rattle.capnp_format.specs.Segments.{Target}
-use Rattle.capnp_format.specs.Tree.{Tree, Trees, Elements, count, element_count, capabilities, capabilities_all, capabilities_elements}
+use Rattle.capnp_format.specs.Tree.{Tree, Trees, Elements, capabilities, capabilities_all, capabilities_elements}
 use Rattle.capnp_format.specs.Means.{Means, MeansAll, MeansElements}
 use Rattle.capnp_objects.specs.Demands.{own, Meets}
-use Rattle.capnp_objects.specs.Faults.{LeadsTo, Somewhere, Among, AmongElements, one_less, Fails}
+use Rattle.capnp_objects.specs.Faults.{LeadsTo}
 use Rattle.capnp_objects.specs.Reading.{Reading}
 use Rattle.capnp_objects.specs.Spending.{after, pointers_in, pointers_in_all, pointers_in_elements}
-use Rattle.capnp_objects.specs.Wanted.{Form, an_object, Takes}
+use Rattle.capnp_objects.specs.Wanted.{Form, Takes}
 
 -- The place means t within the levels, at a cost; pointers one behind the other mean ts; elements of this size mean es.
 abbrev pub MeansThere : Reading → Tree → ℕ → Type 0
@@ -56,22 +55,3 @@ pub record Entered (r : Reading) (m m' : Meter) (a : Target) : Type 0 where
   pub meets : Meets r.segments r.levels a
   pub covers : Affords r.charging m (own r.segments a)
   pub spent : m' ≡ after r.charging m (own r.segments a) 1
-
--- A reading is refused by the name k: some reached place fails so, there is no value within both limits, and at most
--- what was granted is spent.
-pub record Refused (form : Form) (r : Reading) (m m' : Meter) (k : ErrorKind) : Type 0 where
-  pub named : Somewhere one_less (Fails (an_object form) m' k) r
-  pub only : (t : Tree) (c : ℕ) → MeansThere r t c → Takes form (capabilities t) → Affords r.charging m c → ⊥
-  pub spent : Spends r.charging m m' 1
-
--- So is that of i pointers from a place on.
-pub record RefusedAll (form : Form) (r : Reading) (i : ℕ) (m m' : Meter) (k : ErrorKind) : Type 0 where
-  pub named : Among one_less (Fails (an_object form) m' k) r i
-  pub only : (ts : Trees) (c : ℕ) → count ts ≡ i → MeanThere r ts c → Takes form (capabilities_all ts) → Affords r.charging m c → ⊥
-  pub spent : Spends r.charging m m' i
-
--- So is that of i elements.
-pub record RefusedElements (form : Form) (r : Reading) (size : StructSize) (i : ℕ) (m m' : Meter) (k : ErrorKind) : Type 0 where
-  pub named : AmongElements one_less (Fails (an_object form) m' k) r size i
-  pub only : (es : Elements) (c : ℕ) → element_count es ≡ i → ElementsMean r size es c → Takes form (capabilities_elements es) → Affords r.charging m c → ⊥
-  pub spent : Spends r.charging m m' (i * size.pointers)

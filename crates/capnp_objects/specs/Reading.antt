@@ -3,16 +3,17 @@ use Rattle.std.specs.Prelude.{ℕ, ℤ, Bool, List, ◌+◌, ◌*◌}
 use Rattle.capnp_format.specs.Segments.{Segments, Target, segment, word_at, words_at}
 use Rattle.capnp_format.specs.Word.{data_words, pointer_count}
 use Rattle.capnp_arena.specs.declared.arena.reader_arena.ReaderArena.{Ghosts}
-use Rattle.capnp_words.specs.declared.wire_pointer.StructSize.{StructSize}
+use Rattle.capnp_pointers.specs.declared.wire_pointer.StructSize.{StructSize}
 use Rattle.capnp_objects.specs.declared.object.Place.{Place}
 use Rattle.capnp_objects.specs.declared.source.Source.{Source}
-use Rattle.capnp_objects.specs.Source.{source_segments, source_charging, levels}
+use Rattle.capnp_objects.specs.Source.{source_segments, source_charging, is_default, levels}
 
--- A place that is read: its message, whether reading there is charged, how many levels of structs and lists may be
--- entered from it, and its segment and word position.
+-- A place that is read: its message, whether reading there is charged, whether it is a default's, how many levels of
+-- structs and lists may be entered from it, and its segment and word position.
 pub record Reading : Type 0 where
   pub segments : Segments
   pub charging : Bool
+  pub of_default : Bool
   pub levels : ℕ
   pub segment : ℕ
   pub at : ℕ
@@ -22,6 +23,7 @@ abbrev pub reading_at : {A : Type 0} (g : Ghosts A) → Source A → Place → �
 reading_at g source place nesting = record {
   segments = source_segments g.segments source;
   charging = source_charging g.charging source;
+  of_default = is_default source;
   levels = levels nesting;
   segment = place.segment;
   at = place.at;

@@ -1,9 +1,7 @@
 -- The message that a source shows.
-use Rattle.std.specs.Prelude.{ℕ, ℤ, pos, negsuc, List, [], ◌∷◌, ◌++◌, Bool, false, ◌^◌, replicate}
+use Rattle.std.specs.Prelude.{ℕ, ℤ, pos, negsuc, List, [], ◌∷◌, ◌++◌, Bool, true, false, ◌^◌, replicate}
 use Rattle.capnp_format.specs.Segments.{Segments}
 use Rattle.capnp_format.specs.Bytes.{words_of, message}
-use Rattle.capnp_words.specs.declared.error.ErrorKind.{ErrorKind}
-use Rattle.capnp_words.specs.declared.error.ErrorKind.TheVariants.{MessageContainsOutOfBoundsPointer, TriedToReadFromNullArena}
 use Rattle.capnp_objects.specs.declared.source.Source.{Source}
 use Rattle.capnp_objects.specs.declared.source.Source.TheVariants.{Arena, Default, Nothing}
 
@@ -36,7 +34,7 @@ source_charging charging (Arena a) = charging a.now
 source_charging charging (Default d) = false
 source_charging charging Nothing = false
 
--- The fault that a refusal names. A far pointer of a default leads out of every segment, and is refused by a name of its own.
-abbrev pub fault : {A : Type 0} → ErrorKind → Source A → ErrorKind
-fault TriedToReadFromNullArena (Default d) = MessageContainsOutOfBoundsPointer
-fault k source = k
+-- Whether it is a default.
+abbrev pub is_default : {A : Type 0} → Source A → Bool
+is_default (Default d) = true
+is_default source = false

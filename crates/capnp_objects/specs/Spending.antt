@@ -1,16 +1,17 @@
 -- What reading takes of a limiter: words of its budget, and pointers that it counts as followed.
-use Rattle.std.specs.Prelude.{ℕ, Bool, true, false, ◌+◌, ◌-◌, ◌^◌, min, max}
-use Rattle.capnp_words.specs.Meter.{Meter, less}
+use Rattle.std.specs.Prelude.{◌≡◌, ℕ, Bool, true, false, ◌+◌}
+use Rattle.capnp_words.specs.Meter.{Meter, less, raised, Affords}
 use Rattle.capnp_format.specs.Tree.{Tree, Null, Capability, Struct, Flat, Pointers, Structs, Trees, no_trees, tree, Elements, no_elements, element}
 
--- r pointers more, up to the greatest u64
-abbrev pub raised : ℕ → ℕ → ℕ
-raised f r = max f (min (f + r) (2 ^ 64 - 1))
-
--- after g words were granted, which an arena that doesn't charge takes from nothing, and r pointers followed
+-- after g words were granted and r pointers followed; where nothing is charged, nothing is counted either
 abbrev pub after : Bool → Meter → ℕ → ℕ → Meter
 after true m g r = record { left = less m.left g; followed = raised m.followed r }
-after false m g r = record { left = m.left; followed = raised m.followed r }
+after false m g r = m
+
+-- From m to m', g words were granted and r pointers followed.
+pub record Paid (charging : Bool) (m m' : Meter) (g r : ℕ) : Type 0 where
+  pub covers : Affords charging m g
+  pub spent : m' ≡ after charging m g r
 
 -- the subtrees that are not Null, the value counted, each as often as it occurs
 abbrev mutual

@@ -1,10 +1,10 @@
 -- What a call wants of the place that it reads: which demands it makes there, and by what name each is refused where it is
 -- broken ("Structs", "Lists", "Capabilities (Interfaces)").
-use Rattle.std.specs.Prelude.{◌≡◌, ◌≢◌, ◌⊎◌, ℕ, ◌+◌, ◌-◌, ◌*◌, ◌/◌, ◌%◌, ◌^◌, ◌<◌, ◌≤◌, Ok, Err, length}
+use Rattle.std.specs.Prelude.{◌≡◌, ◌≢◌, ◌⊎◌, ℕ, ◌+◌, ◌-◌, ◌*◌, ◌/◌, ◌%◌, ◌^◌, ◌<◌, ◌≤◌, Bool, true, ◌&&◌, nat_eq, Result, Ok, Err, length}
 use Rattle.capnp_words.specs.declared.error.ErrorKind.{ErrorKind}
-use Rattle.capnp_words.specs.declared.error.ErrorKind.TheVariants.{CannotCreateACanonicalMessageWithACapability, ExpectedAPointerListButGotAListOfDataOnlyStructs, ExpectedAPrimitiveListButGotAListOfPointerOnlyStructs, FoundBitListWhereStructListWasExpected, FoundStructListWhereBitListWasExpected, InlineCompositeListsElementsOverrunItsWordCount, InlineCompositeListsOfNonStructTypeAreNotSupported, MalformedDoubleFarPointer, MessageContainsListPointerOfNonBytesWhereDataWasExpected, MessageContainsListPointerOfNonBytesWhereTextWasExpected, MessageContainsListWithIncompatibleElementType, MessageContainsNonCapabilityPointerWhereCapabilityPointerWasExpected, MessageContainsNonListPointerWhereDataWasExpected, MessageContainsNonListPointerWhereListPointerWasExpected, MessageContainsNonListPointerWhereTextWasExpected, MessageContainsNonStructPointerWhereStructPointerWasExpected, MessageContainsNullCapabilityPointer, MessageContainsOutOfBoundsPointer, MessageContainsTextThatIsNotNULTerminated, MessageIsTooDeeplyNestedOrContainsCycles, NestingLimitExceeded, UnknownPointerType}
-use Rattle.capnp_words.specs.declared.wire_pointer.ElementSize.{ElementSize}
-use Rattle.capnp_words.specs.Sizes.{size_number}
+use Rattle.capnp_words.specs.declared.error.ErrorKind.TheVariants.{CannotCreateACanonicalMessageWithACapability, ExpectedAPointerListButGotAListOfDataOnlyStructs, ExpectedAPrimitiveListButGotAListOfPointerOnlyStructs, FoundBitListWhereStructListWasExpected, FoundStructListWhereBitListWasExpected, InlineCompositeListsElementsOverrunItsWordCount, InlineCompositeListsOfNonStructTypeAreNotSupported, MalformedDoubleFarPointer, MessageContainsListPointerOfNonBytesWhereDataWasExpected, MessageContainsListPointerOfNonBytesWhereTextWasExpected, MessageContainsListWithIncompatibleElementType, MessageContainsNonCapabilityPointerWhereCapabilityPointerWasExpected, MessageContainsNonListPointerWhereDataWasExpected, MessageContainsNonListPointerWhereListPointerWasExpected, MessageContainsNonListPointerWhereTextWasExpected, MessageContainsNonStructPointerWhereStructPointerWasExpected, MessageContainsNullCapabilityPointer, MessageContainsOutOfBoundsPointer, MessageContainsTextThatIsNotNULTerminated, MessageIsTooDeeplyNestedOrContainsCycles, NestingLimitExceeded, TriedToReadFromNullArena, UnknownPointerType}
+use Rattle.capnp_pointers.specs.declared.wire_pointer.ElementSize.{ElementSize}
+use Rattle.capnp_pointers.specs.Sizes.{size_number}
 use Rattle.capnp_format.specs.Word.{kind, data_words, pointer_count, element_size, list_count, lower_half}
 use Rattle.capnp_format.specs.Numbers.{element_bits}
 use Rattle.capnp_format.specs.Segments.{Segments, segment, word_at, Target}
@@ -43,15 +43,16 @@ HasNoTag S a = IsStructList a.word × Claims S a (claim a.word) × (kind (tag S 
 abbrev pub HasTag : Segments → Target → Type 0
 HasTag S a = IsStructList a.word × Claims S a (claim a.word) × (kind (tag S a) ≡ 0)
 
--- Any object: a demand that is refused by the name k is broken, with n levels, by what a pointer leads to.
+-- Any object: a demand that is refused by the name k is broken, with n levels, by what a pointer leads to. A demand is
+-- looked at where those before it hold, so that an object breaks one at most.
 abbrev pub BreaksObject : Form → Segments → ℕ → Target → ErrorKind → Type 0
 BreaksObject form S n a MalformedDoubleFarPointer = kind a.word ≡ 2
 BreaksObject form S n a UnknownPointerType = (kind a.word ≡ 3) × (a.word % 2 ^ 32 ≢ 3)
 BreaksObject form S n a CannotCreateACanonicalMessageWithACapability = IsCanonical form × (a.word % 2 ^ 32 ≡ 3)
 BreaksObject form S n a MessageIsTooDeeplyNestedOrContainsCycles = (kind a.word < 2) × (n ≡ 0)
-BreaksObject form S n a MessageContainsOutOfBoundsPointer = (kind a.word < 2) × IsOutside S a
-BreaksObject form S n a InlineCompositeListsOfNonStructTypeAreNotSupported = HasNoTag S a
-BreaksObject form S n a InlineCompositeListsElementsOverrunItsWordCount = IsStructList a.word × Claims S a (claim a.word) × (kind (tag S a) ≡ 0) × (list_count a.word < element_words (tag S a))
+BreaksObject form S n a MessageContainsOutOfBoundsPointer = (kind a.word < 2) × (0 < n) × IsOutside S a
+BreaksObject form S n a InlineCompositeListsOfNonStructTypeAreNotSupported = (0 < n) × HasNoTag S a
+BreaksObject form S n a InlineCompositeListsElementsOverrunItsWordCount = (0 < n) × HasTag S a × (list_count a.word < element_words (tag S a))
 BreaksObject form S n a _ = ⊥
 
 -- A struct.
@@ -102,10 +103,18 @@ BreaksCapability x MessageContainsNullCapabilityPointer = x ≡ 0
 BreaksCapability x MessageContainsNonCapabilityPointerWhereCapabilityPointerWasExpected = (x ≢ 0) × (lower_half x ≢ 3)
 BreaksCapability x _ = ⊥
 
+-- A far pointer of a default, which leads nowhere, is refused by a name of its own.
+abbrev pub far_named : Bool → Result Target ErrorKind → Result Target ErrorKind
+far_named true (Err k) = Err TriedToReadFromNullArena
+far_named _ result = result
+
+-- What following the pointer at a place gives.
+abbrev pub follow_at : Reading → Result Target ErrorKind
+follow_at r = far_named (r.of_default && nat_eq (kind (word_of r)) 2) (follow r.segments r.segment r.at)
+
 -- The pointer at a place can't be followed, for the reason k; or what it leads to breaks a demand of this name.
 abbrev pub FailsThere : Reading → (Target → ErrorKind → Type 0) → ErrorKind → Type 0
-FailsThere r breaks k =
-    (follow r.segments r.segment r.at ≡ Err k) ⊎ ((a : Target) × (follow r.segments r.segment r.at ≡ Ok a) × breaks a k)
+FailsThere r breaks k = (follow_at r ≡ Err k) ⊎ ((a : Target) × (follow_at r ≡ Ok a) × breaks a k)
 
 -- No level is left, which is refused by the name k.
 abbrev pub IsTooDeep : ErrorKind → Reading → ErrorKind → Type 0

@@ -2,5 +2,6 @@
 //! claims is checked and charged before it is believed.
 #![tactic(auto)]
 
+pub mod laws;
 pub mod object;
 pub mod source;

@@ -30,7 +30,8 @@ impl<'a> Place<'a> {
 
     /// The pointer word at the place, zero beyond the segment.
     pub fn word(self) -> WirePointer
-        ensures { result.0 ≡ slice_index (words_of self.entry.bytes.now) self.entry.at }
+        ensures value { result.0 ≡ slice_index (words_of self.entry.bytes.now) self.entry.at }
+        ensures small { result.0 < 2 ^ 64 }
     {
         let at = self.at as usize;
         if at < self.bytes.len() / 8 {

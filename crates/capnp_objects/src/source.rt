@@ -4,17 +4,17 @@ ghost use Rattle.std.specs.Prelude.{◌≡◌, ◌<◌, ◌≤◌, ◌+◌, ◌*
 ghost use Rattle.capnp_format.specs.Word.{kind, element_size, is_double};
 ghost use Rattle.capnp_format.specs.Segments.{segment, word_at};
 ghost use Rattle.capnp_format.specs.Means.{count_cost};
-ghost use Rattle.capnp_words.specs.Meter.{Affords, charged};
+ghost use Rattle.capnp_words.specs.Meter.{Affords, charged, counted_once};
 ghost use Rattle.capnp_words.specs.declared.error.ErrorKind.TheVariants.{ReadLimitExceeded};
-ghost use Rattle.capnp_objects.specs.Source.{source_segments, source_charging, fault, levels};
-ghost use Rattle.capnp_objects.specs.Follow.{follow, follow_far};
-ghost use Rattle.capnp_words.specs.Sizes.{size_number};
+ghost use Rattle.capnp_objects.specs.Source.{source_segments, source_charging, levels};
+ghost use Rattle.capnp_format.specs.Bytes.{message};
+ghost use Rattle.capnp_pointers.specs.Sizes.{size_number};
 ghost use Rattle.capnp_objects.specs.Demands.{claim};
 ghost use Rattle.capnp_objects.specs.Reading.{reading_at};
 ghost use Rattle.capnp_objects.specs.Wanted.{plain};
 ghost use Rattle.capnp_objects.specs.Objects.{IsObject, IsHeld, IsFew};
-ghost use Rattle.capnp_objects.specs.Outcomes.{Refused};
-ghost use Rattle.capnp_objects.specs.Landings.{target, IsSegment, NoSegment, IsPad, FollowsPointer, FailsPointer, FollowsFar, FailsFar, IsClaimed, NotEntered, IsOpened};
+ghost use Rattle.capnp_objects.specs.Refusals.{Stopped, CanBeRead};
+ghost use Rattle.capnp_objects.specs.Landings.{target, IsPad, FollowsPointer, FailsPointer, FollowsFar, FailsFar, IsClaimed, NotEntered, IsOpened};
 
 use crate::object::{Object, Place};
 use capnp_arena::arena::ReaderArena;
@@ -53,8 +53,9 @@ impl<'a, A: ReaderArena> Source<'a, A> {
     /// A word of zero is `Null`, as is a place beyond its segment; nothing is counted or charged
     /// then. Else the pointer is counted as followed, and charged in words, each before it is read:
     /// its landing pads, the words that the object claims, and for elements without width their
-    /// number. A capability takes neither a level nor words of its own; a struct and a list take a
-    /// level, so the nesting limit must be at least 1.
+    /// number. Where the source isn't charged, nothing is counted either. A capability takes neither
+    /// a level nor words of its own; a struct and a list take a level, so the nesting limit must be
+    /// at least 1.
     ///
     /// A refusal is named by the first fault that is met: `InvalidSegmentId`,
     /// `MessageContainsOutOfBoundsPointer`, `MalformedDoubleFarPointer`, `UnknownPointerType`,
@@ -71,29 +72,32 @@ impl<'a, A: ReaderArena> Source<'a, A> {
         requires held { IsHeld (source_segments A.segments self) place }
         ensures object { IfOk result (IsObject (reading_at A.ReaderArena self.entry place.entry nesting_limit) lim.old lim.new) }
         ensures few { IfOk result IsFew }
-        ensures refused { IfErr result (λ k. Refused plain (reading_at A.ReaderArena self.entry place.entry nesting_limit) lim.old lim.new (fault k self.entry)) }
+        ensures exactly { IsOk result ↔ CanBeRead (reading_at A.ReaderArena self.entry place.entry nesting_limit) lim.old }
+        ensures refused { IfErr result (Stopped plain (reading_at A.ReaderArena self.entry place.entry nesting_limit) lim.old lim.new) }
     {
         let word = place.word();
         if word.is_null() {
             return Ok(Object::Null);
         }
-        lim.count();
-        let landing = match self.follow(place, word, lim) {
+        self.count(lim);
+        let landing = match self.follow(place, word, nesting_limit, lim) {
             Ok(landing) => landing,
             Err(k) => return Err(k),
         };
         self.enter(landing, depth_of(nesting_limit), lim)
     }
 
-    // The bytes of a segment that a far pointer names.
-    fn segment(self, id: u32) -> Result<&'a [u8], ErrorKind>
-        requires some { 0 < length (source_segments A.segments self) }
-        ensures there { IfOk result (λ b. IsSegment (source_segments A.segments self.entry) id b.now) }
-        ensures absent { IfErr result (λ k. NoSegment (source_segments A.segments self.entry) id (fault k self.entry)) }
+    // Counts a pointer as followed, which only an arena that charges does.
+    fn count(self, lim: &mut ReadLimiter)
+        ensures { lim.new ≡ counted_once (source_charging A.charging self.entry) lim.old }
     {
         match self {
-            Source::Arena(arena) => arena.get_segment(id),
-            Source::Default(_) | Source::Nothing => Err(ErrorKind::TriedToReadFromNullArena),
+            Source::Arena(arena) => {
+                if arena.charges() {
+                    lim.count();
+                }
+            }
+            Source::Default(_) | Source::Nothing => {}
         }
     }
 
@@ -110,21 +114,27 @@ impl<'a, A: ReaderArena> Source<'a, A> {
         }
     }
 
-    // Follows the word at a place, which is not zero.
+    // Follows the word at a place, which is not zero. A default has no segment that a far pointer
+    // could name.
     fn follow(
         self,
         place: Place<'a>,
         word: WirePointer,
+        nesting_limit: i32,
         lim: &mut ReadLimiter,
     ) -> Result<Landing<'a>, ErrorKind>
         requires some { 0 < length (source_segments A.segments self) }
         requires held { IsHeld (source_segments A.segments self) place }
         requires there { word.0 ≡ word_at (source_segments A.segments self) place.segment place.at }
-        ensures followed { IfOk result (λ l. FollowsPointer A.ReaderArena self.entry place.entry lim.old lim.new l) }
-        ensures refused { IfErr result (λ k. FailsPointer A.ReaderArena self.entry place.entry word.0 lim.old lim.new k) }
+        requires small { word.0 < 2 ^ 64 }
+        ensures followed { IfOk result (FollowsPointer (reading_at A.ReaderArena self.entry place.entry nesting_limit) lim.old lim.new) }
+        ensures refused { IfErr result (FailsPointer (reading_at A.ReaderArena self.entry place.entry nesting_limit) lim.old lim.new) }
     {
         if word.kind() == WirePointerKind::Far {
-            return self.follow_far(word, lim);
+            return match self {
+                Source::Arena(arena) => follow_far(arena, word, lim),
+                Source::Default(_) | Source::Nothing => Err(ErrorKind::TriedToReadFromNullArena),
+            };
         }
         match word.target(place.at, place.length()) {
             Some(at) => Ok(Landing {
@@ -133,75 +143,6 @@ impl<'a, A: ReaderArena> Source<'a, A> {
                 pads: 0,
             }),
             None => Err(ErrorKind::MessageContainsOutOfBoundsPointer),
-        }
-    }
-
-    // Follows a far pointer.
-    fn follow_far(self, far: WirePointer, lim: &mut ReadLimiter) -> Result<Landing<'a>, ErrorKind>
-        requires some { 0 < length (source_segments A.segments self) }
-        requires is_far { kind far.0 ≡ 2 }
-        ensures followed { IfOk result (λ l. FollowsFar A.ReaderArena self.entry far.0 lim.old lim.new l) }
-        ensures refused { IfErr result (λ k. FailsFar A.ReaderArena self.entry far.0 lim.old lim.new k) }
-    {
-        let pad = match self.pad(far, lim) {
-            Ok(pad) => pad,
-            Err(k) => return Err(k),
-        };
-        let word = pad.word();
-        if far.is_double_far() {
-            let tag = Place {
-                at: pad.at + 1,
-                ..pad
-            };
-            let id = word.far_segment_id();
-            match self.segment(id) {
-                Ok(bytes) => Ok(Landing {
-                    word: tag.word(),
-                    start: Place {
-                        segment: u64::from(id),
-                        bytes,
-                        at: word.far_position_in_segment(),
-                    },
-                    pads: 2,
-                }),
-                Err(k) => Err(k),
-            }
-        } else {
-            match word.target(pad.at, pad.length()) {
-                Some(at) => Ok(Landing {
-                    word,
-                    start: Place { at, ..pad },
-                    pads: 1,
-                }),
-                None => Err(ErrorKind::MessageContainsOutOfBoundsPointer),
-            }
-        }
-    }
-
-    // The landing pad of a far pointer, one word or two, checked and charged.
-    fn pad(self, far: WirePointer, lim: &mut ReadLimiter) -> Result<Place<'a>, ErrorKind>
-        requires some { 0 < length (source_segments A.segments self) }
-        requires is_far { kind far.0 ≡ 2 }
-        ensures pad { IfOk result (λ q. IsPad (source_segments A.segments self.entry) (source_charging A.charging self.entry) far.0 lim.old lim.new q) }
-        ensures refused { IfErr result (λ k. FailsFar A.ReaderArena self.entry far.0 lim.old lim.new k) }
-    {
-        let id = far.far_segment_id();
-        let bytes = match self.segment(id) {
-            Ok(bytes) => bytes,
-            Err(k) => return Err(k),
-        };
-        let at = far.far_position_in_segment();
-        let words: u32 = if far.is_double_far() { 2 } else { 1 };
-        if (at + words) as usize > bytes.len() / 8 {
-            return Err(ErrorKind::MessageContainsOutOfBoundsPointer);
-        }
-        match self.charge(u64::from(words), lim) {
-            Ok(()) => Ok(Place {
-                segment: u64::from(id),
-                bytes,
-                at,
-            }),
-            Err(k) => Err(k),
         }
     }
 
@@ -215,7 +156,7 @@ impl<'a, A: ReaderArena> Source<'a, A> {
         requires held { IsHeld (source_segments A.segments self) landing.start }
         ensures object { IfOk result (λ x. IsOpened (source_segments A.segments self.entry) (source_charging A.charging self.entry) depth (target landing.entry) lim.old lim.new x) }
         ensures few { IfOk result IsFew }
-        ensures refused { IfErr result (λ k. NotEntered (source_segments A.segments self.entry) (source_charging A.charging self.entry) depth (target landing.entry) lim.old lim.new (fault k self.entry)) }
+        ensures refused { IfErr result (NotEntered (source_segments A.segments self.entry) (source_charging A.charging self.entry) depth (target landing.entry) lim.old lim.new) }
     {
         match landing.word.kind() {
             WirePointerKind::Struct => self.enter_struct(landing, depth, lim),
@@ -243,7 +184,7 @@ impl<'a, A: ReaderArena> Source<'a, A> {
         requires is_object { kind landing.word.0 < 2 }
         requires claimed { words ≡ claim landing.word.0 }
         ensures claimed { OnOk result (IsClaimed (source_segments A.segments self.entry) (source_charging A.charging self.entry) depth (target landing.entry) lim.old lim.new) }
-        ensures refused { IfErr result (λ k. NotEntered (source_segments A.segments self.entry) (source_charging A.charging self.entry) depth (target landing.entry) lim.old lim.new (fault k self.entry)) }
+        ensures refused { IfErr result (NotEntered (source_segments A.segments self.entry) (source_charging A.charging self.entry) depth (target landing.entry) lim.old lim.new) }
     {
         if depth == 0 {
             return Err(ErrorKind::MessageIsTooDeeplyNestedOrContainsCycles);
@@ -266,7 +207,7 @@ impl<'a, A: ReaderArena> Source<'a, A> {
         requires is_struct { kind landing.word.0 ≡ 0 }
         ensures object { IfOk result (λ x. IsOpened (source_segments A.segments self.entry) (source_charging A.charging self.entry) depth (target landing.entry) lim.old lim.new x) }
         ensures few { IfOk result IsFew }
-        ensures refused { IfErr result (λ k. NotEntered (source_segments A.segments self.entry) (source_charging A.charging self.entry) depth (target landing.entry) lim.old lim.new (fault k self.entry)) }
+        ensures refused { IfErr result (NotEntered (source_segments A.segments self.entry) (source_charging A.charging self.entry) depth (target landing.entry) lim.old lim.new) }
     {
         match self.claim(landing, landing.word.struct_word_size(), depth, lim) {
             Ok(()) => Ok(Object::Struct {
@@ -288,7 +229,7 @@ impl<'a, A: ReaderArena> Source<'a, A> {
         requires is_list { kind landing.word.0 ≡ 1 }
         ensures object { IfOk result (λ x. IsOpened (source_segments A.segments self.entry) (source_charging A.charging self.entry) depth (target landing.entry) lim.old lim.new x) }
         ensures few { IfOk result IsFew }
-        ensures refused { IfErr result (λ k. NotEntered (source_segments A.segments self.entry) (source_charging A.charging self.entry) depth (target landing.entry) lim.old lim.new (fault k self.entry)) }
+        ensures refused { IfErr result (NotEntered (source_segments A.segments self.entry) (source_charging A.charging self.entry) depth (target landing.entry) lim.old lim.new) }
     {
         match landing.word.list_element_size() {
             ElementSize::InlineComposite => self.enter_structs(landing, depth, lim),
@@ -311,7 +252,7 @@ impl<'a, A: ReaderArena> Source<'a, A> {
         requires is_flat { size_number size ≤ 5 }
         ensures object { IfOk result (λ x. IsOpened (source_segments A.segments self.entry) (source_charging A.charging self.entry) depth (target landing.entry) lim.old lim.new x) }
         ensures few { IfOk result IsFew }
-        ensures refused { IfErr result (λ k. NotEntered (source_segments A.segments self.entry) (source_charging A.charging self.entry) depth (target landing.entry) lim.old lim.new (fault k self.entry)) }
+        ensures refused { IfErr result (NotEntered (source_segments A.segments self.entry) (source_charging A.charging self.entry) depth (target landing.entry) lim.old lim.new) }
     {
         let count = landing.word.list_element_count();
         let bits = data_bits_per_element(size);
@@ -342,7 +283,7 @@ impl<'a, A: ReaderArena> Source<'a, A> {
         requires of_pointers { element_size landing.word.0 ≡ 6 }
         ensures object { IfOk result (λ x. IsOpened (source_segments A.segments self.entry) (source_charging A.charging self.entry) depth (target landing.entry) lim.old lim.new x) }
         ensures few { IfOk result IsFew }
-        ensures refused { IfErr result (λ k. NotEntered (source_segments A.segments self.entry) (source_charging A.charging self.entry) depth (target landing.entry) lim.old lim.new (fault k self.entry)) }
+        ensures refused { IfErr result (NotEntered (source_segments A.segments self.entry) (source_charging A.charging self.entry) depth (target landing.entry) lim.old lim.new) }
     {
         let count = landing.word.list_element_count();
         match self.claim(landing, count, depth, lim) {
@@ -366,7 +307,7 @@ impl<'a, A: ReaderArena> Source<'a, A> {
         requires of_structs { element_size landing.word.0 ≡ 7 }
         ensures object { IfOk result (λ x. IsOpened (source_segments A.segments self.entry) (source_charging A.charging self.entry) depth (target landing.entry) lim.old lim.new x) }
         ensures few { IfOk result IsFew }
-        ensures refused { IfErr result (λ k. NotEntered (source_segments A.segments self.entry) (source_charging A.charging self.entry) depth (target landing.entry) lim.old lim.new (fault k self.entry)) }
+        ensures refused { IfErr result (NotEntered (source_segments A.segments self.entry) (source_charging A.charging self.entry) depth (target landing.entry) lim.old lim.new) }
     {
         let words = landing.word.list_inline_composite_word_count();
         match self.claim(landing, words + 1, depth, lim) {
@@ -407,6 +348,83 @@ impl<'a, A: ReaderArena> Source<'a, A> {
         } else {
             Ok(())
         }
+    }
+}
+
+// Follows a far pointer of a message.
+fn follow_far<'a, A: ReaderArena>(
+    arena: &'a A,
+    far: WirePointer,
+    lim: &mut ReadLimiter,
+) -> Result<Landing<'a>, ErrorKind>
+    requires some { 0 < length (message (A.segments arena.now)) }
+    requires is_far { kind far.0 ≡ 2 }
+    ensures followed { IfOk result (FollowsFar (message (A.segments arena.now)) (A.charging arena.now) far.0 lim.old lim.new) }
+    ensures refused { IfErr result (FailsFar (message (A.segments arena.now)) (A.charging arena.now) far.0 lim.old lim.new) }
+{
+    let pad = match landing_pad(arena, far, lim) {
+        Ok(pad) => pad,
+        Err(k) => return Err(k),
+    };
+    let word = pad.word();
+    if far.is_double_far() {
+        let tag = Place {
+            at: pad.at + 1,
+            ..pad
+        };
+        let id = word.far_segment_id();
+        match arena.get_segment(id) {
+            Ok(bytes) => Ok(Landing {
+                word: tag.word(),
+                start: Place {
+                    segment: u64::from(id),
+                    bytes,
+                    at: word.far_position_in_segment(),
+                },
+                pads: 2,
+            }),
+            Err(k) => Err(k),
+        }
+    } else {
+        match word.target(pad.at, pad.length()) {
+            Some(at) => Ok(Landing {
+                word,
+                start: Place { at, ..pad },
+                pads: 1,
+            }),
+            None => Err(ErrorKind::MessageContainsOutOfBoundsPointer),
+        }
+    }
+}
+
+// The landing pad of a far pointer, one word or two, checked and charged.
+fn landing_pad<'a, A: ReaderArena>(
+    arena: &'a A,
+    far: WirePointer,
+    lim: &mut ReadLimiter,
+) -> Result<Place<'a>, ErrorKind>
+    requires some { 0 < length (message (A.segments arena.now)) }
+    requires is_far { kind far.0 ≡ 2 }
+    ensures pad { IfOk result (IsPad (message (A.segments arena.now)) (A.charging arena.now) far.0 lim.old lim.new) }
+    ensures refused { IfErr result (FailsFar (message (A.segments arena.now)) (A.charging arena.now) far.0 lim.old lim.new) }
+{
+    let id = far.far_segment_id();
+    let bytes = match arena.get_segment(id) {
+        Ok(bytes) => bytes,
+        Err(k) => return Err(k),
+    };
+    let at = far.far_position_in_segment();
+    let words: u32 = if far.is_double_far() { 2 } else { 1 };
+    if (at + words) as usize > bytes.len() / 8 {
+        return Err(ErrorKind::MessageContainsOutOfBoundsPointer);
+    }
+    match arena.amplified_read(u64::from(words), lim) {
+        Ok(()) => Ok(Place {
+            segment: u64::from(id),
+            bytes,
+            at,
+        }),
+        Err(k) => Err(k),
     }
 }
 

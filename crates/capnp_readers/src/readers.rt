@@ -1,12 +1,12 @@
 //! Readers: pointers, structs and lists of a message, in place.
-ghost use Rattle.std.specs.Prelude.{◌≡◌, ◌<◌, ◌≤◌, ◌+◌, ◌*◌, ◌/◌, ◌^◌, ◌↔◌, ℕ, pos, false, IsTrue, IfOk, IsOk, OnOk, OnErr, IfErr, length};
+ghost use Rattle.std.specs.Prelude.{◌≡◌, ◌<◌, ◌≤◌, ◌+◌, ◌*◌, ◌/◌, ◌^◌, ◌↔◌, ℕ, pos, false, ⊤, IsTrue, IfOk, IsOk, OnOk, OnErr, IfErr, length};
 ghost use Rattle.capnp_format.specs.Bytes.{message};
 ghost use Rattle.capnp_words.specs.Meter.{Affords, charged};
 ghost use Rattle.capnp_format.specs.Segments.{word_at, segment, IsPlace};
 ghost use Rattle.capnp_words.specs.declared.error.ErrorKind.TheVariants.{MessageContainsOutOfBoundsPointer, ReadLimitExceeded};
 ghost use Rattle.capnp_arena.specs.Checks.{Holds, misplaced};
-ghost use Rattle.capnp_objects.specs.Source.{source_segments, source_charging, fault, levels};
-ghost use Rattle.capnp_objects.specs.Outcomes.{Refused};
+ghost use Rattle.capnp_objects.specs.Source.{source_segments, source_charging, default_segment, levels};
+ghost use Rattle.capnp_objects.specs.Refusals.{Stopped, CanBeRead};
 ghost use Rattle.capnp_objects.specs.Objects.{IsHeld};
 ghost use Rattle.capnp_objects.specs.Reading.{word_of};
 ghost use Rattle.capnp_objects.specs.Wanted.{plain};
@@ -56,6 +56,10 @@ pub struct PointerReader<'a, A: ReaderArena> {
 }
 
 impl<'a, A: ReaderArena> Clone for PointerReader<'a, A> {
+    ghost is_clone = { λ x y. y ≡ x };
+
+    ghost is_infallible = { λ _. ⊤ };
+
     fn clone(&self) -> Result<Self, AllocError> {
         Ok(*self)
     }
@@ -86,8 +90,8 @@ impl<'a, A: ReaderArena> PointerReader<'a, A> {
     /// nesting limit is the arena's.
     ///
     /// Where there is no such word it is `MessageContainsOutOfBoundsPointer`, where there is no segment
-    /// the arena's own refusal, and where the limiter doesn't cover a word `ReadLimitExceeded`. A
-    /// refusal leaves the limiter as it was.
+    /// `InvalidSegmentId(0)`, or `TriedToReadFromNullArena` in a `NullArena`, and where the limiter
+    /// doesn't cover a word `ReadLimitExceeded`. A refusal leaves the limiter as it was.
     pub fn get_root_from_arena(arena: &'a A, lim: &mut ReadLimiter) -> Result<Self, ErrorKind>
         ensures exactly { IsOk result ↔ Holds (message (A.segments arena.now)) 0 0 1 × Affords (A.charging arena.now) lim.old 1 }
         ensures granted { OnOk result (lim.new ≡ charged (A.charging arena.now) lim.old 1) }
@@ -136,7 +140,7 @@ impl<'a, A: ReaderArena> PointerReader<'a, A> {
         requires { length bytes.now / 8 < 2 ^ 32 }
         ensures exactly { IsOk result ↔ (8 ≤ length bytes.now) }
         ensures source { IfOk result (λ r. r.source ≡ Source.Default bytes.entry) }
-        ensures place { IfOk result (λ r. (r.place.segment ≡ 2 ^ 32) × (r.place.at ≡ 0)) }
+        ensures place { IfOk result (λ r. (r.place.segment ≡ default_segment) × (r.place.at ≡ 0)) }
         ensures nesting { IfOk result (λ r. r.nesting_limit ≡ i32.MAX) }
         ensures named { IfErr result (λ k. k ≡ MessageContainsOutOfBoundsPointer) }
     {
@@ -176,10 +180,12 @@ impl<'a, A: ReaderArena> PointerReader<'a, A> {
     ///
     /// The pointer is counted as followed unless it is zero. Then the words of its landing pads, its
     /// own words, and for a list of elements without width their number are charged, each before
-    /// it is read. A refusal is named by the first fault that is met; it keeps what was charged.
+    /// it is read. A default and an arena that is built count and charge nothing. A refusal is named
+    /// by the first fault that is met; it keeps what was charged.
     pub fn next(&self, lim: &mut ReadLimiter) -> Result<Target<'a, A>, ErrorKind>
         ensures target { IfOk result (IsTarget A.ReaderArena self.now lim.old lim.new) }
-        ensures refused { IfErr result (λ k. Refused plain (reading A.ReaderArena self.now) lim.old lim.new (fault k self.now.source)) }
+        ensures exactly { IsOk result ↔ CanBeRead (reading A.ReaderArena self.now) lim.old }
+        ensures refused { IfErr result (Stopped plain (reading A.ReaderArena self.now) lim.old lim.new) }
     {
         match self
             .source

@@ -1,3 +1,2 @@
 pub mod Meter
 pub mod Names
-pub mod Sizes

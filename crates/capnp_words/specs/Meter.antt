@@ -1,5 +1,5 @@
 -- What a read limiter holds, and what it grants.
-use Rattle.std.specs.Prelude.{ℕ, Bool, true, false, Option, Some, None, ◌+◌, ◌-◌, ◌^◌, ◌≤◌, min}
+use Rattle.std.specs.Prelude.{ℕ, Bool, true, false, Option, Some, None, ◌+◌, ◌-◌, ◌^◌, ◌≤◌, min, max}
 
 -- a budget of words, and the number of pointers followed so far
 pub record Meter : Type 0 where
@@ -24,8 +24,17 @@ Allows m n = FitsIn m.left n
 abbrev pub spent : Meter → ℕ → Meter
 spent m n = record m { left = less m.left n }
 
+-- r pointers more, up to the greatest u64
+abbrev pub raised : ℕ → ℕ → ℕ
+raised f r = max f (min (f + r) (2 ^ 64 - 1))
+
 abbrev pub counted : Meter → Meter
-counted m = record m { followed = min (m.followed + 1) (2 ^ 64 - 1) }
+counted m = record m { followed = raised m.followed 1 }
+
+-- the limiter after a pointer was followed, which an arena that doesn't charge doesn't count
+abbrev pub counted_once : Bool → Meter → Meter
+counted_once true m = counted m
+counted_once false m = m
 
 -- an arena that charges asks its limiter
 abbrev pub Affords : Bool → Meter → ℕ → Type 0

@@ -57,7 +57,8 @@ impl ReadLimiter {
         self.words
     }
 
-    /// How many pointers that are not null were followed, at most the greatest `u64`.
+    /// How many pointers that are not null were followed where reading is charged, at most the
+    /// greatest `u64`.
     pub fn followed(&self) -> u64
         ensures { result ≡ self.now.followed }
     {

@@ -21,6 +21,7 @@ fn lines_that_are_no_segments(rt: HostRuntime) {
     }
     let no_segment = b"refused InvalidSegmentId\n";
     assert!(rt; answers(&rt, 64, WORDS, b"", Outcome::Refused, no_segment));
+    assert!(rt; answers(&rt, 64, Some(0), b"", Outcome::Refused, no_segment));
     let null = b"0000000000000000\n";
     let unended = b"0000000000000000";
     assert!(rt; answers(&rt, 64, WORDS, unended, Outcome::Done, null));

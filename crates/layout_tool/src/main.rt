@@ -3,43 +3,67 @@
 #![tactic(auto)]
 
 use capnp_layout::devices::{ReaderInput, WriterOutput};
+use capnp_layout::error::ErrorKind;
 use capnp_layout::tool::{self, Args, Outcome};
+use std::alloc::AllocError;
 use std::env;
 use std::io::{self, BufWriter};
 use std::process::ExitCode;
 
 fn main(rt: HostRuntime) -> ExitCode {
-    let Some(args) = arguments(&rt) else {
-        return complain(&rt, "bad arguments");
-    };
-    match run(&rt, &args) {
-        Outcome::Done => ExitCode::SUCCESS,
-        Outcome::Refused => ExitCode::from(1),
-        Outcome::BadInput => complain(&rt, "bad input"),
-        Outcome::WriteFailed => ExitCode::from(2),
+    match answer(&rt) {
+        Ok(code) => code,
+        Err(AllocError) => refuse(&rt, ErrorKind::AllocationFailed),
     }
 }
 
-/// The words behind the program's name.
-fn arguments(rt: &HostRuntime) -> Option<Args> {
+/// Runs the tool as its arguments say. An error is want of memory for the arguments or the output's
+/// buffer; nothing is written then.
+fn answer(rt: &HostRuntime) -> Result<ExitCode, AllocError> {
+    let Some(args) = arguments(rt)? else {
+        return Ok(complain(rt, "bad arguments"));
+    };
+    Ok(match run(rt, &args)? {
+        Outcome::Done => ExitCode::SUCCESS,
+        Outcome::Refused => ExitCode::from(1),
+        Outcome::BadInput => complain(rt, "bad input"),
+        Outcome::WriteFailed => ExitCode::from(2),
+    })
+}
+
+/// What the words behind the program's name ask for.
+fn arguments(rt: &HostRuntime) -> Result<Option<Args>, AllocError> {
+    let given = match env::args(rt) {
+        Ok(given) => given,
+        Err(error) if error.kind() == io::ErrorKind::OutOfMemory => return Err(AllocError),
+        Err(_) => return Ok(None),
+    };
     let mut words = Vec::new(rt.alloc());
-    for word in env::args(rt).ok()?.skip(1) {
-        words.push(word).ok()?;
+    for word in given.skip(1) {
+        words.push(word)?;
     }
-    tool::parse_args(words.as_slice())
+    Ok(tool::parse_args(words.as_slice()))
 }
 
 /// Runs the tool from standard input to standard output.
-fn run(rt: &HostRuntime, args: &Args) -> Outcome {
+fn run(rt: &HostRuntime, args: &Args) -> Result<Outcome, AllocError> {
     let Ok(writer) = BufWriter::new(rt.alloc(), io::writer(rt)) else {
-        return Outcome::WriteFailed;
+        return Err(AllocError);
     };
     let mut input = ReaderInput::new(rt.reader());
     let mut output = WriterOutput::new(writer);
     let outcome = tool::run(rt.alloc(), args, &mut input, &mut output);
-    match output.flush() {
+    Ok(match output.flush() {
         Ok(()) => outcome,
         Err(_) => Outcome::WriteFailed,
+    })
+}
+
+/// Prints the line of a refusal.
+fn refuse(rt: &HostRuntime, kind: ErrorKind) -> ExitCode {
+    match println!(rt; "refused {}", kind.name()) {
+        Ok(()) => ExitCode::from(1),
+        Err(_) => ExitCode::from(2),
     }
 }
 

@@ -14,6 +14,9 @@ const DEFAULT: [u8; 16] = [0, 0, 0, 0, 1, 0, 0, 0, 7, 0, 0, 0, 0, 0, 0, 0];
 
 const FAR_DEFAULT: [u8; 8] = [2, 0, 0, 0, 0, 0, 0, 0];
 
+// A struct of one word, behind the only word of the default.
+const CUT_DEFAULT: [u8; 8] = [0, 0, 0, 0, 1, 0, 0, 0];
+
 #[test]
 fn of_a_struct(rt: HostRuntime) {
     let mut lim = ReadLimiter::new(Some(0));
@@ -45,6 +48,14 @@ fn of_a_far_pointer(rt: HostRuntime) {
     let pointer: Pointer = PointerReader::from_default(&FAR_DEFAULT).expect(&rt, "a default");
     let refused = refusal(pointer.next(&mut lim));
     assert!(rt; refused == Some(ErrorKind::TriedToReadFromNullArena));
+}
+
+#[test]
+fn of_a_near_pointer_out_of_bounds(rt: HostRuntime) {
+    let mut lim = ReadLimiter::new(Some(0));
+    let pointer: Pointer = PointerReader::from_default(&CUT_DEFAULT).expect(&rt, "a default");
+    let refused = refusal(pointer.next(&mut lim));
+    assert!(rt; refused == Some(ErrorKind::MessageContainsOutOfBoundsPointer));
 }
 
 #[test]

@@ -3,7 +3,7 @@ ghost use Rattle.std.specs.Prelude.{◌≡◌, ◌⊎◌, ◌<◌, ◌≤◌, �
 ghost use Rattle.std.specs.Borrow.{sem, Lends, Array, u8 as byte};
 ghost use Rattle.capnp_format.specs.Segments.{segment, IsPlace};
 ghost use Rattle.capnp_format.specs.Bytes.{words_of, message};
-ghost use Rattle.capnp_words.specs.declared.error.ErrorKind.TheVariants.{MessageTooLarge};
+ghost use Rattle.capnp_words.specs.declared.error.ErrorKind.TheVariants.{InvalidSegmentId, MessageTooLarge};
 ghost use Rattle.capnp_arena.specs.Allocations.{max_segments, max_segment_words};
 ghost use Rattle.capnp_arena.specs.View.{View};
 ghost use Rattle.capnp_arena.specs.Taking.{GrowsSegment, IsFull, GainsSegment, IsAllocationRefusal, IsFirstFit, IsTaken, SameRoomBelow};
@@ -40,17 +40,15 @@ pub trait BuilderArena: ReaderArena + sealed::Closed {
         requires { IsPlace (view self.old).words id at }
         ensures { view self.new ≡ record (view self.old) { words = with_word (view self.old).words id at word } };
 
-    /// Writes words over others.
+    /// Writes words over others. There may be none, and then nothing changes.
     fn copy_words(&mut self, id: u32, at: u32, from: &[u8])
         requires whole { length from.now ≡ 8 * length (words_of from.now) }
-        requires some { 0 < length (words_of from.now) }
         requires inside { at + length (words_of from.now) ≤ length (segment (view self.old).words id) }
         ensures { view self.new ≡ record (view self.old) { words = with_words (view self.old).words id at (words_of from.now) } };
 
-    /// Writes n words of zero over others.
+    /// Writes `n` words of zero over others. Where `n` is 0, nothing changes.
     fn zero_words(&mut self, id: u32, at: u32, n: u32)
-        requires some { 0 < n }
-        requires inside { at + n ≤ length (segment (view self.old).words id) }
+        requires { at + n ≤ length (segment (view self.old).words id) }
         ensures { view self.new ≡ record (view self.old) { words = with_words (view self.old).words id at (replicate n 0) } };
 
     /// Takes words at the end of what is allocated of a segment; they are zero.
@@ -81,6 +79,9 @@ pub trait BuilderArena: ReaderArena + sealed::Closed {
     /// How often memory was refused, up to the greatest u64: the `refused` of its allocator.
     fn refused(&self) -> u64
         ensures { result ≡ (view self.now).refusals };
+
+    // An unknown number is refused by its own name.
+    ghost known: { (a : Self) (id : ℕ) → Self.ReaderArena.absent a id ≡ InvalidSegmentId id };
 
     // The words are those of the bytes that are read.
     ghost read: { (a : Self) → (view a).words ≡ message (Self.ReaderArena.segments a) };

@@ -219,7 +219,9 @@ impl<A: Allocator> ReaderArena for BuilderArenaImpl<A> {
 
     ghost absent = { λ _ id. InvalidSegmentId id };
 
-    ghost absent_named = { λ _ _ _. refl };
+    ghost use Rattle.std.proofs.Common.{inl};
+
+    ghost absent_named = { λ _ _. inl refl };
 
     #[tactic(auto, using(crate::proofs::RowsLemmas::reading))]
     fn get_segment(&self, id: u32) -> Result<&[u8], ErrorKind> {
@@ -250,6 +252,8 @@ impl<A: Allocator> Closed for BuilderArenaImpl<A> {}
 
 impl<A: Allocator> BuilderArena for BuilderArenaImpl<A> {
     ghost view = { λ b. view_of (message (shown A.Segment.Segment b.rows.items)) (capacity_at A.Segment.Segment b.rows.items) (A.refusals b.allocator) (A.offers b.allocator) };
+
+    ghost known = { λ _ _. refl };
 
     ghost read = { λ _. refl };
 
@@ -283,14 +287,18 @@ impl<A: Allocator> BuilderArena for BuilderArenaImpl<A> {
 
     #[tactic(auto, using(crate::proofs::RowsLemmas::rows_written))]
     fn copy_words(&mut self, id: u32, at: u32, from: &[u8]) {
-        let row = &mut self.rows[id as usize];
-        row.copy_words(at, from);
+        if !from.is_empty() {
+            let row = &mut self.rows[id as usize];
+            row.copy_words(at, from);
+        }
     }
 
     #[tactic(auto, using(crate::proofs::RowsLemmas::rows_written))]
     fn zero_words(&mut self, id: u32, at: u32, n: u32) {
-        let row = &mut self.rows[id as usize];
-        row.zero_words(at, n);
+        if n > 0 {
+            let row = &mut self.rows[id as usize];
+            row.zero_words(at, n);
+        }
     }
 
     #[tactic(auto, using(crate::proofs::RowsLemmas::counting))]

@@ -1,6 +1,6 @@
 //! The arena of no message.
 ghost use Rattle.std.below.core.specs.declared.int.i32.TheConstants.{MAX};
-ghost use Rattle.std.specs.Prelude.{[], pos, false};
+ghost use Rattle.std.specs.Prelude.{[], pos, false, refl};
 ghost use Rattle.capnp_words.specs.declared.error.ErrorKind.TheVariants.{TriedToReadFromNullArena};
 
 use crate::arena::ReaderArena;
@@ -19,9 +19,9 @@ impl ReaderArena for NullArena {
 
     ghost absent = { λ _ _. TriedToReadFromNullArena };
 
-    ghost use Rattle.std.proofs.Common.{arith};
+    ghost use Rattle.std.proofs.Common.{inr};
 
-    ghost absent_named = { λ a id h. absurd (omega arith) };
+    ghost absent_named = { λ _ _. inr (refl, refl) };
 
     fn get_segment(&self, _id: u32) -> Result<&[u8], ErrorKind> {
         Err(ErrorKind::TriedToReadFromNullArena)

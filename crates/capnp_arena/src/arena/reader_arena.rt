@@ -3,9 +3,9 @@ ghost use Rattle.std.specs.Prelude.{◌≡◌, ◌<◌, ◌≤◌, ◌+◌, ◌*
 ghost use Rattle.capnp_format.specs.Segments.{segment};
 ghost use Rattle.capnp_format.specs.Bytes.{words_of, message};
 ghost use Rattle.capnp_words.specs.Meter.{Affords, charged};
-ghost use Rattle.capnp_arena.specs.Checks.{Holds, LeadsInside, misplaced, total_words};
+ghost use Rattle.capnp_arena.specs.Checks.{Holds, IsUnknown, LeadsInside, misplaced, total_words};
 ghost use Rattle.capnp_words.specs.declared.error.ErrorKind.{ErrorKind};
-ghost use Rattle.capnp_words.specs.declared.error.ErrorKind.TheVariants.{InvalidSegmentId, ReadLimitExceeded};
+ghost use Rattle.capnp_words.specs.declared.error.ErrorKind.TheVariants.{ReadLimitExceeded};
 
 use capnp_words::error::ErrorKind;
 use capnp_words::read_limiter::ReadLimiter;
@@ -23,12 +23,12 @@ pub trait ReaderArena {
     // The refusal of a segment that is not there.
     ghost absent: { Self → ℕ → ErrorKind };
 
-    // Where there are segments at all, a number beyond them is refused by this name.
-    ghost absent_named: { (a : Self) (id : ℕ) → 0 < length (segments a) → absent a id ≡ InvalidSegmentId id };
+    // It names the number, or says that there is no segment at all.
+    ghost absent_named: { (a : Self) (id : ℕ) → IsUnknown (segments a) id (absent a id) };
 
     /// The whole words of segment `id`, as bytes, fewer than 2^35 of them. Segments are numbered from 0.
     ///
-    /// A number that no segment has is `InvalidSegmentId(id)`; in a `NullArena` every number is `TriedToReadFromNullArena`.
+    /// A number that no segment has is `InvalidSegmentId(id)`. Only an arena without any segment may say `TriedToReadFromNullArena` instead, as `NullArena` does.
     fn get_segment(&self, id: u32) -> Result<&[u8], ErrorKind>
         ensures there { IsOk result ↔ (id < length (segments self.now)) }
         ensures bytes { IfOk result (λ s. slice_get (segments self.now) id ≡ Some s.now) }

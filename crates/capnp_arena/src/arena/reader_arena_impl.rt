@@ -83,7 +83,9 @@ impl<S: ReaderSegments> ReaderArena for ReaderArenaImpl<S> {
 
     ghost absent = { λ _ id. InvalidSegmentId id };
 
-    ghost absent_named = { λ _ _ _. refl };
+    ghost use Rattle.std.proofs.Common.{inl};
+
+    ghost absent_named = { λ _ _. inl refl };
 
     #[tactic(auto, using(crate::proofs::MessageLemmas::wholes))]
     fn get_segment(&self, id: u32) -> Result<&[u8], ErrorKind> {

@@ -11,7 +11,6 @@ ghost use Rattle.capnp_objects.specs.Source.{levels};
 ghost use Rattle.capnp_readers.specs.Readers.{reading};
 ghost use Rattle.capnp_layout.specs.Answers.{IsMade, IsWithin, LacksMemoryIn, LacksMemoryOr, RefusesCopy, RefusesMessage, ValueOf, is_message_too_large};
 ghost use Rattle.capnp_layout.specs.Messages.{segments_in};
-ghost use Rattle.capnp_layout.specs.Sources.{IsArena};
 
 use super::lines::Message;
 use capnp_arena::arena::{
@@ -31,7 +30,6 @@ fn copy_root<A: BuilderArena, B: ReaderArena>(
     left: Option<usize>,
 ) -> Result<(), ErrorKind>
     requires root { (A.view arena.old).words ≡ (0 ∷ []) ∷ [] }
-    requires arena { IsArena from.source }
     ensures copied { IfOk result (λ _. (t : Tree) × IsWithin (reading B.ReaderArena from.entry) left t × IsMade (A.view arena.new) t) }
     ensures refused { IfErr result (RefusesCopy (reading B.ReaderArena from.entry) left ((A.view arena.old).room 0)) }
     ensures refusals { (A.view arena.new).refusals ≡ (A.view arena.old).refusals }
@@ -49,7 +47,6 @@ fn copy_to_segment<A: Allocator, B: ReaderArena>(
     room: u32,
 ) -> Result<(), ErrorKind>
     requires empty { ⟦<BuilderArenaImpl<A> as ReaderArena>⟧.segments arena.old ≡ [] }
-    requires arena { IsArena from.source }
     requires some { 1 ≤ room }
     requires most { room ≤ max_segment_words }
     ensures copied { IfOk result (λ _. (t : Tree) × IsWithin (reading B.ReaderArena from.entry) left t × IsMade (⟦<BuilderArenaImpl<A> as BuilderArena>⟧.view arena.new) t) }
@@ -70,7 +67,6 @@ fn copy_to_message<A: Allocator, B: ReaderArena>(
     left: Option<usize>,
     room: u32,
 ) -> Result<BuilderArenaImpl<A>, (ErrorKind, A)>
-    requires arena { IsArena from.source }
     requires some { 1 ≤ room }
     requires most { room ≤ max_segment_words }
     ensures copied { IfOk result (λ made. (t : Tree) × IsWithin (reading B.ReaderArena from.entry) left t × IsMade (⟦<BuilderArenaImpl<A> as BuilderArena>⟧.view made) t) }
@@ -99,7 +95,6 @@ fn copy_in_tries<A: Allocator, B: ReaderArena>(
     left: Option<usize>,
     first_room: u32,
 ) -> Result<BuilderArenaImpl<A>, (ErrorKind, A)>
-    requires arena { IsArena from.source }
     requires some { 1 ≤ first_room }
     requires most { first_room ≤ max_segment_words }
     ensures copied { IfOk result (λ made. (t : Tree) × IsWithin (reading B.ReaderArena from.entry) left t × IsMade (⟦<BuilderArenaImpl<A> as BuilderArena>⟧.view made) t) }

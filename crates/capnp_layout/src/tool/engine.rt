@@ -51,6 +51,8 @@ fn read_message<A: Allocator, R: Input>(
     ensures kept { OnOk result (A.refusals allocator.new ≡ A.refusals allocator.old) }
     ensures bad { IfErr result (λ e. e ≡ InputFault.BadInput → (R.has_failed input.new ≡ true) ⊎ IfSome (R.remaining input.old) (λ text. segments_of text ≡ None)) }
     ensures memory { IfErr result (λ e. e ≡ InputFault.NoMemory → A.refusals allocator.new ≡ one_more (A.refusals allocator.old)) }
+    ensures works { OnOk result (R.has_failed input.new ≡ false) }
+    ensures unfailed { IfErr result (λ e. e ≡ InputFault.NoMemory → R.has_failed input.new ≡ false) }
 {
     let text = read_text(alloc, allocator, input)?;
     read_lines(alloc, allocator, text.as_slice())
@@ -139,7 +141,8 @@ fn canon<A: Allocator, W: Output>(
 /// means as lower case hex digits, each word's lowest byte first, or `refused` and the name of the
 /// refusal. Segments come from an allocator, which keeps what is read, too.
 ///
-/// The refusal `AllocationFailed` is want of memory, which the allocator has counted.
+/// Where a read fails the outcome is `BadInput`, and no other. The refusal `AllocationFailed` is want
+/// of memory, which the allocator has counted.
 pub fn run_with<A: Allocator, R: Input, W: Output>(
     alloc: Global,
     allocator: A,
@@ -155,6 +158,7 @@ pub fn run_with<A: Allocator, R: Input, W: Output>(
     ensures exactly { WhereItFits (R.remaining input.old) args.now (IsDone result.0 ⊎ (R.has_failed input.new ≡ true) ⊎ (W.has_failed output.new ≡ true)
         ⊎ (IsRefused result.0 × WantsMemory (A.refusals allocator) (A.refusals result.1) (Appends (W.contents output.old) (W.contents output.new)))) }
     ensures input { result.0 ≡ Outcome.BadInput → (R.has_failed input.new ≡ true) ⊎ IsNoMessage (R.remaining input.old) }
+    ensures read { result.0 ≢ Outcome.BadInput → R.has_failed input.new ≡ false }
     ensures unwritten { result.0 ≡ Outcome.BadInput → W.contents output.new ≡ W.contents output.old }
     ensures works { result.0 ≢ Outcome.WriteFailed → W.has_failed output.new ≡ false }
     ensures failed { result.0 ≡ Outcome.WriteFailed → W.has_failed output.new ≡ true }
@@ -172,9 +176,10 @@ pub fn run_with<A: Allocator, R: Input, W: Output>(
 /// refusal ("Canonicalization").
 ///
 /// A line of the input is a segment, as pairs of hex digits in either case; no bytes are no
-/// segments. The root pointer costs one word of the traversal limit. The refusal
-/// `AllocationFailed` is want of memory; `MessageTooLarge` says that there are more segments or
-/// words than a reader takes, or more canonical words than the 536,870,911 of a segment.
+/// segments. The root pointer costs one word of the traversal limit. Where a read fails the outcome
+/// is `BadInput`, and no other. The refusal `AllocationFailed` is want of memory; `MessageTooLarge`
+/// says that there are more segments or words than a reader takes, or more canonical words than the
+/// 536,870,911 of a segment.
 pub fn run<R: Input, W: Output>(
     alloc: Global,
     args: &Args,
@@ -188,6 +193,7 @@ pub fn run<R: Input, W: Output>(
     ensures exactly { WhereItFits (R.remaining input.old) args.now (IsDone result ⊎ (R.has_failed input.new ≡ true) ⊎ (W.has_failed output.new ≡ true)
         ⊎ (IsRefused result × Appends (W.contents output.old) (W.contents output.new) (refusal_line AllocationFailed))) }
     ensures input { result ≡ Outcome.BadInput → (R.has_failed input.new ≡ true) ⊎ IsNoMessage (R.remaining input.old) }
+    ensures read { result ≢ Outcome.BadInput → R.has_failed input.new ≡ false }
     ensures unwritten { result ≡ Outcome.BadInput → W.contents output.new ≡ W.contents output.old }
     ensures works { result ≢ Outcome.WriteFailed → W.has_failed output.new ≡ false }
     ensures failed { result ≡ Outcome.WriteFailed → W.has_failed output.new ≡ true }

@@ -1,5 +1,5 @@
 //! Structs of a message, in place.
-ghost use Rattle.std.specs.Prelude.{◌≡◌, ◌<◌, ◌≤◌, ◌+◌, ◌*◌, ◌/◌, ◌^◌, ◌↔◌, ℕ, pos, [], true, false, IsTrue, length, take, drop, slice_range};
+ghost use Rattle.std.specs.Prelude.{◌≡◌, ◌<◌, ◌≤◌, ◌+◌, ◌*◌, ◌/◌, ◌^◌, ◌↔◌, ℕ, pos, [], true, false, ⊤, IsTrue, length, take, drop, slice_range};
 ghost use Rattle.capnp_format.specs.Bytes.{message};
 ghost use Rattle.capnp_format.specs.Segments.{word_at, segment};
 ghost use Rattle.capnp_objects.specs.Source.{source_segments};
@@ -54,6 +54,10 @@ pub struct StructReader<'a, A: ReaderArena> {
 }
 
 impl<'a, A: ReaderArena> Clone for StructReader<'a, A> {
+    ghost is_clone = { λ x y. y ≡ x };
+
+    ghost is_infallible = { λ _. ⊤ };
+
     fn clone(&self) -> Result<Self, AllocError> {
         Ok(*self)
     }

@@ -1,4 +1,5 @@
 //! What a pointer leads to, one level at a time.
+ghost use Rattle.std.specs.Prelude.{◌≡◌, ⊤};
 
 use crate::readers::{ListReader, StructReader};
 use capnp_arena::arena::ReaderArena;
@@ -18,6 +19,10 @@ pub enum Target<'a, A: ReaderArena> {
 }
 
 impl<'a, A: ReaderArena> Clone for Target<'a, A> {
+    ghost is_clone = { λ x y. y ≡ x };
+
+    ghost is_infallible = { λ _. ⊤ };
+
     fn clone(&self) -> Result<Self, AllocError> {
         Ok(*self)
     }

@@ -3,12 +3,12 @@ use Rattle.std.proofs.lemmas.Int.{to_z-of_z}
 use mir.Syntax.{w32}
 use Rattle.capnp_format.specs.Bytes.{words_of}
 use Rattle.capnp_format.specs.Word.{struct_word, list_word, offset_field}
-use Rattle.capnp_words.specs.Sizes.{size_number}
+use Rattle.capnp_pointers.specs.Sizes.{size_number}
 use Rattle.capnp_format.specs.Segments.{segment, word_at, IsPlace}
 use Rattle.capnp_format.specs.Tree.{Struct, Pointers}
 use Rattle.capnp_format.specs.Canonical.{offset_to}
 use Rattle.capnp_objects.specs.Reading.{Reading, row, words_from}
-use Rattle.capnp_objects.specs.Source.{fault}
+use Rattle.capnp_objects.proofs.Refusals.{stopped_spends}
 use Rattle.capnp_readers.specs.Readers.{reading}
 use Rattle.capnp_copies.specs.Frames.{TakesWords}
 use Rattle.capnp_copies.specs.Parts.{call_of}
@@ -64,6 +64,11 @@ pub copy_object-returns-in-Err-clause-refused : goal.copy_object-returns-in-Err-
 copy_object-returns-in-Err-clause-refused g t c =
     let nl = to_z-of_z w32 c.args.from.nesting_limit (search rules) in
     record { why = inr (refused_plain (rw nl at c.in-Err.ensures.refused)) }
+
+pub copy_object-returns-in-Err-clause-spent : goal.copy_object-returns-in-Err-clause-spent
+copy_object-returns-in-Err-clause-spent g t c =
+    let nl = to_z-of_z w32 c.args.from.nesting_limit (search rules) in
+    stopped_spends (rw nl at c.in-Err.ensures.refused)
 
 pub copy_object-returns-in-Null-clause-copied : goal.copy_object-returns-in-Null-clause-copied
 copy_object-returns-in-Null-clause-copied g t c =
@@ -149,7 +154,7 @@ copy_object-returns-in-Flat-clause-refused g t c =
     let object = rw (c.in-Flat.is, nl) at c.in-Ok.ensures.object in
     let flat : IsFlatRead from c.args.lim.now c.read_object.new.lim (size_number c.in-Flat.size) c.in-Flat.count (words_of c.part-elements.result.now) =
     flat_is_read c.in-Flat.start c.in-Flat.size object c.flat_words-words.ensures c.part-elements.ensures.words c.part-elements.ensures.count in
-    flat_stops c.copy_flat.result (call_of (g.A.BuilderArena.view c.args.arena.now) (g.A.BuilderArena.view c.copy_flat.new.arena) c.args.id c.args.lim.now c.read_object.new.lim) (λ k. fault k c.args.from.source) flat c.copy_flat.ensures.exactly c.copy_flat.ensures.refused
+    flat_stops c.copy_flat.result (call_of (g.A.BuilderArena.view c.args.arena.now) (g.A.BuilderArena.view c.copy_flat.new.arena) c.args.id c.args.lim.now c.read_object.new.lim) flat c.copy_flat.ensures.exactly c.copy_flat.ensures.refused
 
 pub copy_object-returns-in-Flat-clause-kept : goal.copy_object-returns-in-Flat-clause-kept
 copy_object-returns-in-Flat-clause-kept g t c =

@@ -6,7 +6,7 @@ use Rattle.capnp_format.specs.Bytes.{words_of}
 use Rattle.capnp_arena.specs.View.{View}
 use Rattle.capnp_format.specs.Numbers.{unpacked, packed, from_digits, digits, element_bits}
 use Rattle.capnp_format.specs.Segments.{Segments, segment}
-use Rattle.capnp_words.specs.Sizes.{size_number}
+use Rattle.capnp_pointers.specs.Sizes.{size_number}
 use Rattle.capnp_format.specs.Tree.{Flat}
 use Rattle.capnp_format.specs.Word.{list_word, offset_field}
 use Rattle.capnp_format.specs.Canonical.{offset_to}

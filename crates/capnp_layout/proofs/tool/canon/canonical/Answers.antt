@@ -3,7 +3,7 @@ use Rattle.std.proofs.lemmas.Result.{IfOk-weaker, IfErr-weaker}
 use Rattle.capnp_format.specs.Bytes.{message}
 use Rattle.capnp_format.specs.Segments.{Segments, IsPlace}
 use Rattle.capnp_words.specs.Meter.{Meter, FitsIn, less}
-use Rattle.capnp_objects.specs.Source.{source_segments, source_charging, levels}
+use Rattle.capnp_objects.specs.Source.{source_segments, source_charging, is_default, levels}
 use Rattle.capnp_readers.specs.Readers.{reading}
 use Rattle.capnp_layout.proofs.CanonLemmas.{message_read, value_read, copy_refused, root_reading, root_refused, root_there}
 use Rattle.capnp_layout.specs.Messages.{segments_in}
@@ -23,7 +23,7 @@ returns-in-Ok-clause-value g c =
     let granted = c.get_root_from_arena.ensures.exactly.0 read in
     let root : IsPlace (message (segments_in c.args.source)) 0 0 = subst (λ (S : Segments). IsPlace S 0 0) same (root_there _ granted.0) in
     let one : FitsIn c.args.options.traversal_limit_in_words 1 = subst (λ (m : Meter). FitsIn m.left 1) c.new-lim.ensures granted.1 in
-    let at_root = root_reading (reading _ c.in-Ok.root) (ap (source_segments _) c.in-Ok.ensures.source ∙ same) (ap (source_charging (λ _. true)) c.in-Ok.ensures.source)
+    let at_root = root_reading (reading _ c.in-Ok.root) (ap (source_segments _) c.in-Ok.ensures.source ∙ same) (ap (source_charging (λ _. true)) c.in-Ok.ensures.source) (ap is_default c.in-Ok.ensures.source)
     (ap levels (c.in-Ok.ensures.nesting ∙ c.new-arena.ensures.nesting)) c.in-Ok.ensures.place.0 c.in-Ok.ensures.place.1 in
     IfOk-weaker c.copy_in_tries.result _ _ (λ made. value_read at_root left root one) c.copy_in_tries.ensures.copied
 
@@ -32,9 +32,13 @@ returns-in-Ok-clause-refused g c =
     let same = message_read c.new-arena.ensures.segments in
     let left : c.left.result ≡ less c.args.options.traversal_limit_in_words 1 =
     c.left.ensures ∙ ap (λ (m : Meter). m.left) c.in-Ok.ensures.granted ∙ ap (λ (m : Meter). less m.left 1) c.new-lim.ensures in
-    let at_root = root_reading (reading _ c.in-Ok.root) (ap (source_segments _) c.in-Ok.ensures.source ∙ same) (ap (source_charging (λ _. true)) c.in-Ok.ensures.source)
+    let read : IsOk c.get_root_from_arena.result = search rules in
+    let granted = c.get_root_from_arena.ensures.exactly.0 read in
+    let root : IsPlace (message (segments_in c.args.source)) 0 0 = subst (λ (S : Segments). IsPlace S 0 0) same (root_there _ granted.0) in
+    let one : FitsIn c.args.options.traversal_limit_in_words 1 = subst (λ (m : Meter). FitsIn m.left 1) c.new-lim.ensures granted.1 in
+    let at_root = root_reading (reading _ c.in-Ok.root) (ap (source_segments _) c.in-Ok.ensures.source ∙ same) (ap (source_charging (λ _. true)) c.in-Ok.ensures.source) (ap is_default c.in-Ok.ensures.source)
     (ap levels (c.in-Ok.ensures.nesting ∙ c.new-arena.ensures.nesting)) c.in-Ok.ensures.place.0 c.in-Ok.ensures.place.1 in
-    IfErr-weaker c.copy_in_tries.result _ _ (λ e. copy_refused at_root left) c.copy_in_tries.ensures.refused
+    IfErr-weaker c.copy_in_tries.result _ _ (λ e. copy_refused at_root left root one) c.copy_in_tries.ensures.refused
 
 pub returns-clause-refused : goal.returns-clause-refused
 returns-clause-refused g c =

@@ -12,5 +12,5 @@ returns-clause-refused g c =
     let room : old.room ≡ (g.A.BuilderArena.view c.args.arena.now).room 0 =
     ap (λ (a : g.row.A.Denot). (g.A.BuilderArena.view a).room c.get_root-root.result.segment) c.get_root-root.ensures.now ∙ ap (g.A.BuilderArena.view c.args.arena.now).room c.get_root-root.ensures.place.0 in
     let place : IsFresh old _ = record { null = root; first = c.get_root-root.ensures.place.0; holds = room } in
-    IfErr-weaker c.copy_from.result _ _ (λ k. refused_copy (built g.A.BuilderArena.view c.copy_from.new.self) c.args.from.source place c.new-lim.ensures c.requires.arena)
+    IfErr-weaker c.copy_from.result _ _ (λ k. refused_copy (built g.A.BuilderArena.view c.copy_from.new.self) place c.new-lim.ensures)
     (c.copy_from.ensures.refused canonical (null_root _ _ _ root c.get_root-root.ensures.place.0 c.get_root-root.ensures.place.1))

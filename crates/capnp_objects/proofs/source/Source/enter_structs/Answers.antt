@@ -1,7 +1,7 @@
 use Rattle.std.proofs.Common.{◌≡◌, ◌≢◌, ◌<◌, get_or, ap, ◌∙◌, rules}
 use Rattle.capnp_format.specs.Word.{kind, list_count}
 use Rattle.capnp_format.specs.Segments.{Segments, Target}
-use Rattle.capnp_objects.specs.Demands.{claim, tag, element_words}
+use Rattle.capnp_objects.specs.Demands.{tag, element_words}
 use Rattle.capnp_objects.specs.Source.{source_segments}
 use Rattle.capnp_objects.specs.Landings.{target, broken}
 use Rattle.capnp_objects.proofs.source.Source.enter_structs.Goals as goal
@@ -13,18 +13,18 @@ pub returns-then-ne-clause-refused : goal.returns-then-ne-clause-refused
 returns-then-ne-clause-refused g c =
     let S : Segments = source_segments g.A.ReaderArena.segments c.args.self in
     let a : Target = target c.args.landing in
-    let word : c.word-tag.result.0 ≡ tag S a = c.word-tag.ensures ∙ ap (λ ws. get_or ws c.args.landing.start.at 0) c.requires.held.0 in
+    let word : c.word-tag.result.0 ≡ tag S a = c.word-tag.ensures.value ∙ ap (λ ws. get_or ws c.args.landing.start.at 0) c.requires.held.0 in
     let other : kind c.word-tag.result.0 ≢ 0 = search rules in
     let paid = c.in-Ok.ensures.claimed in
-    broken (claim a.word) ((c.requires.is_list, c.requires.of_structs), paid.claims, rw word at other) paid.covers paid.paid
+    broken (paid.levels, ((c.requires.is_list, c.requires.of_structs), paid.claims, rw word at other)) paid.covers paid.paid
 
 pub returns-then-from-clause-refused : goal.returns-then-from-clause-refused
 returns-then-from-clause-refused g c =
     let S : Segments = source_segments g.A.ReaderArena.segments c.args.self in
     let a : Target = target c.args.landing in
-    let word : c.word-tag.result.0 ≡ tag S a = c.word-tag.ensures ∙ ap (λ ws. get_or ws c.args.landing.start.at 0) c.requires.held.0 in
+    let word : c.word-tag.result.0 ≡ tag S a = c.word-tag.ensures.value ∙ ap (λ ws. get_or ws c.args.landing.start.at 0) c.requires.held.0 in
     let is_tag : kind c.word-tag.result.0 ≡ 0 = search rules in
     let over : list_count a.word < element_words c.word-tag.result.0 =
     rw (c.from-3.ensures, c.list_inline_composite_word_count-words.ensures.value, c.from.ensures, c.inline_composite_list_element_count-count.ensures.value, c.from-2.ensures, c.struct_word_size-width.ensures) at c.if-from.true in
     let paid = c.in-Ok.ensures.claimed in
-    broken (claim a.word) ((c.requires.is_list, c.requires.of_structs), paid.claims, rw word at is_tag, rw word at over) paid.covers paid.paid
+    broken (paid.levels, ((c.requires.is_list, c.requires.of_structs), paid.claims, rw word at is_tag), rw word at over) paid.covers paid.paid

@@ -1,13 +1,18 @@
 use Rattle.std.proofs.Common.{◌≡◌, ◌≢◌, length, ap, ◌∙◌, sym, rules}
 use Rattle.capnp_format.specs.Word.{kind}
-use Rattle.capnp_format.specs.Segments.{Segments, segment}
-use Rattle.capnp_objects.specs.Source.{source_segments}
-use Rattle.capnp_objects.proofs.Landings.{near_nowhere}
+use Rattle.capnp_format.specs.Segments.{segment}
+use Rattle.capnp_objects.specs.Reading.{Reading, reading_at}
+use Rattle.capnp_objects.proofs.Landings.{near_nowhere, default_refused}
 use Rattle.capnp_objects.proofs.source.Source.follow.Goals as goal
 
 pub returns-in-None-clause-refused : goal.returns-in-None-clause-refused
 returns-in-None-clause-refused g c =
-    let S : Segments = source_segments g.A.ReaderArena.segments c.args.self in
+    let r : Reading = reading_at g.A.ReaderArena c.args.self c.args.place c.args.nesting_limit in
     let other : kind c.args.word.0 ≢ 2 = search rules in
-    let n : c.length.result ≡ length (segment S c.args.place.segment) = c.length.ensures ∙ ap length c.requires.held.0 in
-    near_nowhere c.args.place c.requires.there other (rw n at (sym c.in-None.ensures))
+    let n : c.length.result ≡ length (segment r.segments c.args.place.segment) = c.length.ensures ∙ ap length c.requires.held.0 in
+    near_nowhere r c.requires.there other (rw n at (sym c.in-None.ensures))
+
+pub returns-in-Default : goal.returns-in-Default
+returns-in-Default g c =
+    let is_far : kind c.args.word.0 ≡ 2 = search rules in
+    record { followed = tt; refused = default_refused g.A.ReaderArena c.args.place c.args.lim.now c.args.nesting_limit c.in-Default.is c.requires.some (rw c.requires.there at is_far) (rw c.requires.there at c.requires.small) }

@@ -5,5 +5,5 @@ use Rattle.capnp_arena.proofs.arena.builder_arena_impl.BuilderArenaImplBuilderAr
 pub zero_words-requires : goal.zero_words-requires
 zero_words-requires g c =
     let rows = c.args.self.now.rows.items in
-    let there : c.args.id < length rows = row_there g.A.Segment.Segment rows c.args.id c.args.at (omega (arith, c.requires.some, c.requires.inside)) in
-    omega (arith, row_old g.A.Segment.Segment rows c.args.id c.index_mut-row.result.now there c.index_mut-row.ensures.value, c.requires.inside)
+    let there : c.args.id < length rows = row_there g.A.Segment.Segment rows c.args.id c.args.at (omega (arith, c.requires)) in
+    omega (arith, row_old g.A.Segment.Segment rows c.args.id c.index_mut-row.result.now there c.index_mut-row.ensures.value, c.requires)

@@ -1,0 +1,145 @@
+-- What follows from a refusal: the place can't be read.
+use Rattle.std.proofs.Common.{◌≡◌, ◌⊎◌, ◌↔◌, inl, inr, ℕ, pred, ◌+◌, ◌<◌, ◌≤◌, Bool, true, false, cond, nat_eq, Option, Some, None, Result, Ok, Err, IsOk, IfOk, IfErr, refl, sym, ◌∙◌, subst, arith, eqb-true}
+use Rattle.capnp_words.specs.declared.error.ErrorKind.{ErrorKind}
+use Rattle.capnp_words.specs.Meter.{Meter, FitsIn, Affords}
+use Rattle.capnp_format.specs.Word.{kind, offset_bits, data_words, pointer_count, element_size, list_count, is_double}
+use Rattle.capnp_format.specs.Segments.{Segments, Target, pad}
+use Rattle.capnp_format.specs.Tree.{count, element_count}
+use Rattle.capnp_objects.specs.Demands.{claim, tag, amplified, own}
+use Rattle.capnp_objects.specs.Faults.{LeadsTo, child_at}
+use Rattle.capnp_objects.specs.Objects.{IsObject}
+use Rattle.capnp_objects.specs.declared.object.Object.{Object}
+use Rattle.capnp_objects.specs.declared.object.Object.TheVariants.{Null as ObjectNull, Capability as ObjectCapability, Struct as ObjectStruct, Flat as ObjectFlat, Pointers as ObjectPointers, Structs as ObjectStructs}
+use Rattle.capnp_objects.specs.Outcomes.{Entered, Spends}
+use Rattle.capnp_objects.specs.Reading.{Reading, word_of, pointers_of, tag_size}
+use Rattle.capnp_objects.specs.Refusals.{if_there, landing_words, Stopped, pads_exceed, nowhere, broken, claim_exceeds, count_exceeds, CanBeRead, ReadsBefore, in_struct, in_pointers, in_element, Refused, here, below, RefusedAll, RefusedElements}
+use Rattle.capnp_objects.specs.Spending.{Paid}
+use Rattle.capnp_objects.specs.Wanted.{Form, plain}
+use Rattle.capnp_objects.proofs.Budgets.{affords_none, affords_both}
+use Rattle.capnp_objects.proofs.Copies.{read_stop, read_element_stop}
+use Rattle.capnp_objects.proofs.Faultless.{Sound, sound_capability, sound_object, target_sound, same_target}
+use Rattle.capnp_objects.proofs.Followed.{leads_there}
+use Rattle.capnp_objects.proofs.Stops.{Reached, stopped_struct, stopped_pointers, stopped_structs, refused_here, refused_pads, refused_claim, refused_elements, leads_pads}
+use Rattle.capnp_objects.proofs.Unreadable.{Unreadable}
+
+-- what is granted in one charge
+spends_once : {charging : Bool} {m m' : Meter} {g : ℕ} → Paid charging m m' g 1 → Spends charging m m' 1
+spends_once {g = g} paid = (g, 1, paid.covers, paid.spent, omega arith)
+
+-- the words of landing pads: none, or those of pads that are there
+landing_cases : (S : Segments) (x : ℕ) → (landing_words S x ≡ 0) ⊎ ((kind x ≡ 2) × (f : ℕ) × (pad S x (is_double x) ≡ Some f) × (landing_words S x ≡ 1 + is_double x))
+landing_cases S x = go (nat_eq (kind x) 2) (pad S x (is_double x)) (eqb-true (kind x) 2) refl
+  where
+    go : (b : Bool) (o : Option ℕ) → (b ≡ true → kind x ≡ 2) → pad S x (is_double x) ≡ o → (cond b (if_there o (1 + is_double x)) 0 ≡ 0) ⊎ ((kind x ≡ 2) × (f : ℕ) × (o ≡ Some f) × (cond b (if_there o (1 + is_double x)) 0 ≡ 1 + is_double x))
+    go true (Some f) two e = inr (two refl, f, refl, refl)
+    go true None two e = inl refl
+    go false o two e = inl refl
+
+-- what a reading that stops spends
+pub stopped_spends : {form : Form} {r : Reading} {m m' : Meter} {k : ErrorKind} → Stopped form r m m' k → Spends r.charging m m' 1
+stopped_spends (pads_exceed some short paid named) = spends_once paid
+stopped_spends (nowhere some h paid) = spends_once paid
+stopped_spends (broken a f h paid) = spends_once paid
+stopped_spends (claim_exceeds a f level object claims short paid named) = spends_once paid
+stopped_spends (count_exceeds a f meets short paid named) = spends_once paid
+
+-- at one object
+stopped_here : {form : Form} {r : Reading} {m m' : Meter} {k : ErrorKind} → Stopped form r m m' k → Unreadable form r m m' k
+stopped_here {form} {r} {m} {m'} {k} (pads_exceed some short paid named) = elim (landing_cases r.segments (word_of r)) [
+  | inl none ↦ absurd (short (subst (Affords r.charging m) (sym none) (affords_none r.charging m)))
+  | inr (two, f, there, words) ↦
+      let all : 0 + (1 + is_double (word_of r)) ≡ landing_words r.segments (word_of r) = omega (arith, words) in
+      subst (Unreadable form r m m') (sym named) (refused_pads two there paid (λ h. short (subst (Affords r.charging m) all (affords_both (1 + is_double (word_of r)) paid h))))
+]
+stopped_here {form} {r} {m} {m'} {k} (nowhere some h paid) = refused_here m m' (some, inl h) (spends_once paid)
+stopped_here {form} {r} {m} {m'} {k} (broken a f h paid) = refused_here m m' (f.0, inr (a, f.1, h)) (spends_once paid)
+stopped_here {form} {r} {m} {m'} {k} (claim_exceeds a f level object claims short paid named) =
+    let reached : Reached r m m' a = record { follows = f; paid = paid } in
+    subst (Unreadable form r m m') (sym named) (refused_claim reached level object claims (λ h. short (affords_both (claim a.word) paid h)))
+stopped_here {form} {r} {m} {m'} {k} (count_exceeds a f meets short paid named) =
+    let l : LeadsTo r a = leads_there r a f (λ e. let i = meets.is_object in omega (arith, e, i)) in
+    let all : a.pads + claim a.word + amplified r.segments a ≡ own r.segments a = refl in
+    subst (Unreadable form r m m') (sym named) (refused_elements l meets paid (λ h. short (subst (Affords r.charging m) all (affords_both (amplified r.segments a) paid h))))
+
+-- at one of its pointers
+stopped_below : {form : Form} {r : Reading} {m first mid m' : Meter} {q : ℕ} {a : Target} {k : ErrorKind} → Entered r m first a → ReadsBefore form r a q first mid → Unreadable form (child_at r a (pred r.levels) q) mid m' k → Unreadable form r m m' k
+stopped_below {form} {r} {m} {first} {mid} {m'} {q} {a} {k} o (in_struct ts z fewer e all) child =
+    stopped_struct o z (read_stop _ all fewer (subst (λ y. Unreadable form (child_at r a (pred r.levels) y) mid m' k) e child))
+stopped_below {form} {r} {m} {first} {mid} {m'} {q} {a} {k} o (in_pointers ts z six fewer e all) child =
+    stopped_pointers o z six (read_stop _ all fewer (subst (λ y. Unreadable form (child_at r a (pred r.levels) y) mid m' k) e child))
+stopped_below {form} {r} {m} {first} {mid} {m'} {q} {a} {k} o (in_element es ts between (z, seven) fewer less e rows all) child =
+    stopped_structs o z seven (read_element_stop _ rows fewer (read_stop _ all less (subst (λ y. Unreadable form (child_at r a (pred r.levels) y) mid m' k) e child)))
+
+-- where one of an object's pointers is refused, so is the object
+pub struct_refused : {form : Form} {r : Reading} {m m' m'' : Meter} {a : Target} {k : ErrorKind} → Entered r m m' a → kind a.word ≡ 0 →
+    RefusedAll form (child_at r a (pred r.levels) (a.start + data_words a.word)) (pointer_count a.word) m' m'' k → Refused form r m m'' k
+struct_refused {a = a} o z h = below a (a.start + data_words a.word + count h.first) o (in_struct h.first z h.fewer refl h.are_read) h.refused
+
+pub pointers_refused : {form : Form} {r : Reading} {m m' m'' : Meter} {a : Target} {k : ErrorKind} → Entered r m m' a → kind a.word ≡ 1 → element_size a.word ≡ 6 →
+    RefusedAll form (child_at r a (pred r.levels) a.start) (list_count a.word) m' m'' k → Refused form r m m'' k
+pointers_refused {a = a} o z six h = below a (a.start + count h.first) o (in_pointers h.first z six h.fewer refl h.are_read) h.refused
+
+pub structs_refused : {form : Form} {r : Reading} {m m' m'' : Meter} {a : Target} {k : ErrorKind} → Entered r m m' a → kind a.word ≡ 1 → element_size a.word ≡ 7 →
+    RefusedElements form (child_at r a (pred r.levels) (a.start + 1)) (tag_size r.segments a) (offset_bits (tag r.segments a)) m' m'' k → Refused form r m m'' k
+structs_refused {r = r} {a = a} o z seven h =
+    below a ((pointers_of (child_at r a (pred r.levels) (a.start + 1)) (tag_size r.segments a) (element_count h.first)).at + count h.refused.first) o
+    (in_element h.first h.refused.first h.mid (z, seven) h.fewer h.refused.fewer refl h.are_read h.refused.are_read) h.refused.refused
+
+pub unreadable : {form : Form} {r : Reading} {m m' : Meter} {k : ErrorKind} → Refused form r m m' k → Unreadable form r m m' k
+unreadable (here stopped) = stopped_here stopped
+unreadable (below a q o before rest) = stopped_below o before (unreadable rest)
+
+-- what is covered as a whole is covered in a part
+affords_less : (charging : Bool) (m : Meter) (h c : ℕ) → h ≤ c → Affords charging m c → Affords charging m h
+affords_less false m h c le covers = tt
+affords_less true m h c le covers = go m.left covers
+  where
+    go : (o : Option ℕ) → FitsIn o c → FitsIn o h
+    go None f = tt
+    go (Some x) f = omega (arith, le, f)
+
+-- where an object can be read, its reading isn't stopped
+abbrev IsSound : Reading → Meter → Target → Type 0
+IsSound r m a = LeadsTo r a × Sound plain r a × Affords r.charging m a.pads × (kind a.word < 2 → Affords r.charging m (own r.segments a))
+
+sound_not_stopped : {r : Reading} {m m' : Meter} {b : Target} {k : ErrorKind} → IsSound r m b → Stopped plain r m m' k → ⊥
+sound_not_stopped {r} {m} {m'} {b} (l, sound, pads, whole) (pads_exceed some short paid named) = elim (landing_cases r.segments (word_of r)) [
+  | inl none ↦ short (subst (Affords r.charging m) (sym none) (affords_none r.charging m))
+  | inr (two, f, there, words) ↦ short (subst (Affords r.charging m) (leads_pads r.segments r.segment r.at b l.1 two ∙ sym words) pads)
+]
+sound_not_stopped {r} {k = k} (l, sound, pads, whole) (nowhere some h paid) = target_sound {r = r} plain k l sound (some, inl h)
+sound_not_stopped {r} {k = k} (l, sound, pads, whole) (broken a f h paid) = target_sound {r = r} plain k l sound (f.0, inr (a, f.1, h))
+sound_not_stopped {r} {m} {b = b} (l, sound, pads, whole) (claim_exceeds a f level object claims short paid named) =
+    let e : b ≡ a = same_target r.segments r.segment r.at l.1 (leads_there r a f (λ t. omega (arith, t, object))).1 in
+    short (affords_less r.charging m (a.pads + claim a.word) (own r.segments a) (omega arith) (rw e at (whole (rw e object))))
+sound_not_stopped {r} {m} {b = b} (l, sound, pads, whole) (count_exceeds a f meets short paid named) =
+    let object = meets.is_object in
+    let e : b ≡ a = same_target r.segments r.segment r.at l.1 (leads_there r a f (λ t. omega (arith, t, object))).1 in
+    short (rw e at (whole (rw e object)))
+
+not_stopped_null : {r : Reading} {m m' : Meter} {k : ErrorKind} → word_of r ≡ 0 → Stopped plain r m m' k → ⊥
+not_stopped_null z (pads_exceed some short paid named) = some z
+not_stopped_null z (nowhere some h paid) = some z
+not_stopped_null z (broken a f h paid) = f.0 z
+not_stopped_null z (claim_exceeds a f level object claims short paid named) = f.0 z
+not_stopped_null z (count_exceeds a f meets short paid named) = f.0 z
+
+pub not_stopped : {r : Reading} {m m' : Meter} {k : ErrorKind} → CanBeRead r m → Stopped plain r m m' k → ⊥
+unfolding CanBeRead
+not_stopped (inl z) h = not_stopped_null z h
+not_stopped (inr (inl (a, l, low, covers))) h = sound_not_stopped (l, sound_capability low (λ e. e), covers, λ o. absurd (omega (arith, o, low))) h
+not_stopped {r} {m} (inr (inr (a, l, meets, covers))) h = sound_not_stopped (l, sound_object meets, affords_less r.charging m a.pads (own r.segments a) (omega arith) covers, λ _. covers) h
+
+-- what was read could be read
+pub could_be_read : (r : Reading) (m m' : Meter) (x : Object) → IsObject r m m' x → CanBeRead r m
+unfolding CanBeRead
+could_be_read r m m' ObjectNull h = inl h.0
+could_be_read r m m' (ObjectCapability i) (a, l, low, e, covers, spent) = inr (inl (a, l, low, covers))
+could_be_read r m m' (ObjectStruct start size) (a, o, z, held, ed, eq) = inr (inr (a, o.leads_to, o.meets, o.covers))
+could_be_read r m m' (ObjectFlat start size i) (a, o, z, small, held, ez, ei) = inr (inr (a, o.leads_to, o.meets, o.covers))
+could_be_read r m m' (ObjectPointers start i) (a, o, z, six, held, ei) = inr (inr (a, o.leads_to, o.meets, o.covers))
+could_be_read r m m' (ObjectStructs start size i) (a, o, z, seven, held, ei, ed, eq) = inr (inr (a, o.leads_to, o.meets, o.covers))
+
+pub read_exactly : (r : Reading) (m m' : Meter) (result : Result Object ErrorKind) → IfOk result (IsObject r m m') → IfErr result (Stopped plain r m m') → IsOk result ↔ CanBeRead r m
+read_exactly r m m' (Ok x) good bad = ((λ _. could_be_read r m m' x good), (λ _. refl))
+read_exactly r m m' (Err k) good bad = ((λ e. absurd (cc e)), (λ can. absurd (not_stopped can bad)))

@@ -1,0 +1,5 @@
+use Rattle.capnp_objects.proofs.Refusals.{unreadable}
+use Rattle.capnp_objects.proofs.laws.refused_rightly.Goals as goal
+
+pub returns : goal.returns
+returns c = λ form r m m' k refused. (unreadable refused).only

@@ -1,0 +1,23 @@
+use Rattle.std.proofs.Common.{◌≢◌, ◌∙◌, refl, sym, arith}
+use Rattle.std.proofs.lemmas.Bool.{false≢true}
+use Rattle.capnp_format.specs.Word.{is_double}
+use Rattle.capnp_objects.proofs.Landings.{beyond, known, double_absent, single_followed, single_nowhere}
+use Rattle.capnp_objects.proofs.source.follow_far.Goals as goal
+
+pub returns-in-Err-get_segment-clause-refused : goal.returns-in-Err-get_segment-clause-refused
+returns-in-Err-get_segment-clause-refused g c =
+    let arena = c.args.arena.now in
+    let gone = c.in-Err-get_segment.ensures in
+    let named = gone.named ∙ known c.requires.some (g.A.ReaderArena.absent_named arena c.far_segment_id-id.result) in
+    double_absent c.word-word.result.0 c.requires.is_far c.in-Ok.ensures.pad (c.if-is_double_far.ensures.0 refl) c.word-word.ensures.value c.far_segment_id-id.ensures
+    (beyond (g.A.ReaderArena.segments arena) c.far_segment_id-id.result gone.there.1) named
+
+pub returns-in-Some-clause-followed : goal.returns-in-Some-clause-followed
+returns-in-Some-clause-followed g c =
+    let other : is_double c.args.far.0 ≢ 1 = λ e. false≢true (c.if-is_double_far.ensures.1 e) in
+    single_followed c.in-Ok.ensures.pad (omega (arith, other)) c.word-word.ensures.value (rw c.length.ensures at (sym c.in-Some.ensures))
+
+pub returns-in-None-clause-refused : goal.returns-in-None-clause-refused
+returns-in-None-clause-refused g c =
+    let other : is_double c.args.far.0 ≢ 1 = λ e. false≢true (c.if-is_double_far.ensures.1 e) in
+    single_nowhere c.word-word.result.0 c.requires.is_far c.in-Ok.ensures.pad (omega (arith, other)) c.word-word.ensures.value (rw c.length.ensures at (sym c.in-None.ensures))

@@ -1,0 +1,124 @@
+-- Where a reading stops, by what name, and what it was granted before: the order of checks and charges of one object, and
+-- of a whole value in the order of its pointers (docs/FORMAT.md, "Charges and refusals").
+use Rattle.std.specs.Prelude.{◌≡◌, ◌≢◌, ◌⊎◌, ℕ, pred, ◌+◌, ◌%◌, ◌^◌, ◌<◌, cond, nat_eq, Option, Some, None, Ok, Err}
+use Rattle.capnp_words.specs.declared.error.ErrorKind.{ErrorKind}
+use Rattle.capnp_words.specs.declared.error.ErrorKind.TheVariants.{InlineCompositeListsElementsOverrunItsWordCount, InlineCompositeListsOfNonStructTypeAreNotSupported, ReadLimitExceeded}
+use Rattle.capnp_pointers.specs.declared.wire_pointer.StructSize.{StructSize}
+use Rattle.capnp_words.specs.Meter.{Meter, Affords}
+use Rattle.capnp_format.specs.Word.{kind, offset_bits, data_words, pointer_count, element_size, list_count, is_double}
+use Rattle.capnp_format.specs.Segments.{Segments, Target, pad}
+use Rattle.capnp_format.specs.Tree.{Trees, Elements, count, element_count}
+use Rattle.capnp_format.specs.Means.{Claims}
+use Rattle.capnp_objects.specs.Demands.{claim, tag, own, IsStructList, Meets}
+use Rattle.capnp_objects.specs.Faults.{LeadsTo, child_at}
+use Rattle.capnp_objects.specs.Outcomes.{Entered, ReadsAll, ReadsElements}
+use Rattle.capnp_objects.specs.Reading.{Reading, word_of, behind, pointers_of, tag_size}
+use Rattle.capnp_objects.specs.Spending.{Paid}
+use Rattle.capnp_objects.specs.Wanted.{Form, BreaksObject, follow_at}
+
+-- The words of the landing pads of a pointer word, where they lie in their segment; else, and of a near pointer, none.
+abbrev pub if_there : Option ℕ → ℕ → ℕ
+if_there (Some w) n = n
+if_there None n = 0
+
+abbrev pub landing_words : Segments → ℕ → ℕ
+landing_words S x = cond (nat_eq (kind x) 2) (if_there (pad S x (is_double x)) (1 + is_double x)) 0
+
+-- The words that an object was granted before the demand of this name is looked at: what it claims, for a demand on the
+-- tag of a list of structs; else none.
+abbrev pub granted_before : Target → ErrorKind → ℕ
+granted_before a InlineCompositeListsOfNonStructTypeAreNotSupported = claim a.word
+granted_before a InlineCompositeListsElementsOverrunItsWordCount = claim a.word
+granted_before a k = 0
+
+-- The pointer at a place, which is not null, is followed to a.
+abbrev pub FollowsTo : Reading → Target → Type 0
+FollowsTo r a = (word_of r ≢ 0) × (follow_at r ≡ Ok a)
+
+-- The reading of one object stops, from m to m', by the name k. The pointer is counted, and what was granted is: nothing,
+-- where its landing pads are not covered; these, where it leads nowhere; these and what the object claims, where its tag is
+-- wrong, and else these alone, where it breaks a demand; these, where its claim is not covered; both, where the number of
+-- elements of no width is not.
+pub data Stopped (form : Form) (r : Reading) (m m' : Meter) (k : ErrorKind) : Type 0 where
+  pads_exceed : word_of r ≢ 0 → (Affords r.charging m (landing_words r.segments (word_of r)) → ⊥) → Paid r.charging m m' 0 1 → k ≡ ReadLimitExceeded → Stopped form r m m' k
+  nowhere : word_of r ≢ 0 → follow_at r ≡ Err k → Paid r.charging m m' (landing_words r.segments (word_of r)) 1 → Stopped form r m m' k
+  broken : (a : Target) → FollowsTo r a → BreaksObject form r.segments r.levels a k → Paid r.charging m m' (a.pads + granted_before a k) 1 → Stopped form r m m' k
+  claim_exceeds :
+      (a : Target) →
+      FollowsTo r a →
+      0 < r.levels →
+      kind a.word < 2 →
+      Claims r.segments a (claim a.word) →
+      (Affords r.charging m (a.pads + claim a.word) → ⊥) →
+      Paid r.charging m m' a.pads 1 →
+      k ≡ ReadLimitExceeded →
+      Stopped form r m m' k
+  count_exceeds :
+      (a : Target) →
+      FollowsTo r a →
+      Meets r.segments r.levels a →
+      (Affords r.charging m (own r.segments a) → ⊥) →
+      Paid r.charging m m' (a.pads + claim a.word) 1 →
+      k ≡ ReadLimitExceeded →
+      Stopped form r m m' k
+
+-- One object can be read: the demands at the place itself hold, and m covers what the call charges.
+unfoldable pub CanBeRead : Reading → Meter → Type 0
+CanBeRead r m =
+    (word_of r ≡ 0)
+    ⊎ ((a : Target) × LeadsTo r a × (a.word % 2 ^ 32 ≡ 3) × Affords r.charging m a.pads)
+    ⊎ ((a : Target) × LeadsTo r a × Meets r.segments r.levels a × Affords r.charging m (own r.segments a))
+
+-- The pointers of an object a before its pointer at position q are read, from m to m'.
+pub data ReadsBefore (form : Form) (r : Reading) (a : Target) (q : ℕ) (m m' : Meter) : Type 0 where
+  in_struct :
+      (ts : Trees) →
+      kind a.word ≡ 0 →
+      count ts < pointer_count a.word →
+      q ≡ a.start + data_words a.word + count ts →
+      ReadsAll form (child_at r a (pred r.levels) (a.start + data_words a.word)) m m' ts →
+      ReadsBefore form r a q m m'
+  in_pointers :
+      (ts : Trees) →
+      kind a.word ≡ 1 →
+      element_size a.word ≡ 6 →
+      count ts < list_count a.word →
+      q ≡ a.start + count ts →
+      ReadsAll form (child_at r a (pred r.levels) a.start) m m' ts →
+      ReadsBefore form r a q m m'
+  in_element :
+      (es : Elements) (ts : Trees) (mid : Meter) →
+      IsStructList a.word →
+      element_count es < offset_bits (tag r.segments a) →
+      count ts < pointer_count (tag r.segments a) →
+      q ≡ (pointers_of (child_at r a (pred r.levels) (a.start + 1)) (tag_size r.segments a) (element_count es)).at + count ts →
+      ReadsElements form (child_at r a (pred r.levels) (a.start + 1)) (tag_size r.segments a) m mid es →
+      ReadsAll form (pointers_of (child_at r a (pred r.levels) (a.start + 1)) (tag_size r.segments a) (element_count es)) mid m' ts →
+      ReadsBefore form r a q m m'
+
+-- The reading of a whole value is refused by the name k, from m to m': at its own object, or at that of one of its pointers,
+-- when the object and the pointers before that one were read.
+pub data Refused (form : Form) : Reading → Meter → Meter → ErrorKind → Type 0 where
+  here : {r : Reading} {m m' : Meter} {k : ErrorKind} → Stopped form r m m' k → Refused form r m m' k
+  below :
+      {r : Reading} {m first mid m' : Meter} {k : ErrorKind} (a : Target) (q : ℕ) →
+      Entered r m first a →
+      ReadsBefore form r a q first mid →
+      Refused form (child_at r a (pred r.levels) q) mid m' k →
+      Refused form r m m' k
+
+-- So is that of one of i pointers from a place on.
+pub record RefusedAll (form : Form) (r : Reading) (i : ℕ) (m m' : Meter) (k : ErrorKind) : Type 0 where
+  pub first : Trees
+  pub fewer : count first < i
+  pub mid : Meter
+  pub are_read : ReadsAll form r m mid first
+  pub refused : Refused form (behind r (count first)) mid m' k
+
+-- So is that of a pointer of one of i elements.
+pub record RefusedElements (form : Form) (r : Reading) (size : StructSize) (i : ℕ) (m m' : Meter) (k : ErrorKind) : Type 0 where
+  pub first : Elements
+  pub fewer : element_count first < i
+  pub mid : Meter
+  pub are_read : ReadsElements form r size m mid first
+  pub refused : RefusedAll form (pointers_of r size (element_count first)) size.pointers mid m' k

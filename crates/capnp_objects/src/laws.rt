@@ -1,0 +1,31 @@
+//! What a refusal tells. Each function does nothing: its contract is the law, proved for all messages and limits. How a
+//! refusal is stated in contracts is in `specs/Refusals.antt`, and docs/FORMAT.md has it in plain words.
+
+ghost use Rattle.capnp_objects.specs.Laws.{RefusedTruly, LimitOfCharges, RefusedRightly, RefusedUnlimited, ValueOrFault, FewFollowed};
+
+/// A refusal names a demand that a reached place breaks, or the read limit, where a reached place charges more than is
+/// left; and the read limit is named for nothing else.
+pub fn refused_truly()
+    ensures named { RefusedTruly }
+    ensures limit { LimitOfCharges }
+{}
+
+/// Where a reading is refused there is no value within both limits.
+pub fn refused_rightly()
+    ensures { RefusedRightly }
+{}
+
+/// Where there is no limit, or nothing is charged, each refusal names a demand that a reached place breaks.
+pub fn refused_unlimited()
+    ensures { RefusedUnlimited }
+{}
+
+/// A place means a value within its levels, or some reached place breaks a demand.
+pub fn value_or_fault()
+    ensures { ValueOrFault }
+{}
+
+/// Under a budget of x words a reading, refused or not, follows at most x + 1 pointers.
+pub fn few_followed()
+    ensures { FewFollowed }
+{}
