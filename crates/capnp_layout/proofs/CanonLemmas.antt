@@ -1,4 +1,5 @@
 -- What a refused copy says of the message that was read.
+-- `root_reading` takes seven arguments: the reading, and an equation for each of its fields.
 use Rattle.std.proofs.Common.{◌≡◌, ◌⊎◌, inl, inr, map, zero, suc, Some, None, ℕ, ◌+◌, ◌≤◌, List, [], ◌∷◌, length, Bool, true, false, Option, IfSome, IsNone, refl, ap, sym, ◌∙◌, subst, arith}
 use Rattle.capnp_words.specs.declared.error.ErrorKind.{ErrorKind}
 use Rattle.capnp_words.specs.declared.error.ErrorKind.TheVariants.{InvalidSegmentId, ReadLimitExceeded}

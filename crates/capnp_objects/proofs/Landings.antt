@@ -1,4 +1,5 @@
 -- From the steps of a reading to its outcome: pointers that are followed, objects that are entered, and the refusals of both.
+-- `double_absent` and `default_refused` take eight arguments: each is a fact that the one answer which cites it has at hand.
 use Rattle.std.proofs.Common.{◌≡◌, ◌≢◌, ◌⊎◌, inl, inr, ℕ, ℤ, zero, suc, ◌+◌, ◌^◌, ◌<◌, ◌≤◌, Bool, true, false, ◌&&◌, cond, nat_eq, nat_lt, Some, None, Result, Ok, Err, IfOk, IfErr, List, [], length, get_or, refl, sym, ap, ap₂, ◌∙◌, subst, arith, lt-ltb, eq-eqb}
 use Rattle.std.proofs.lemmas.Bool.{ne_eqb, false≢true}
 use Rattle.std.proofs.lemmas.List.{get_or_past}

@@ -1,4 +1,5 @@
 -- From what is read at a place to what its reader shows.
+-- `structs_target` takes seven arguments: what the reading gave, and what the made reader shows, fact by fact.
 use Rattle.std.proofs.Common.{◌≡◌, ℕ, pos, ◌-ℤ◌, ◌≤◌, Result, Ok, Err, IsOk, IsErr, sym, subst, arith}
 use Rattle.capnp_words.specs.Meter.{Meter}
 use Rattle.capnp_format.specs.Segments.{Segments, Target}
