@@ -6,8 +6,8 @@ ghost use Rattle.capnp_format.specs.Segments.{segment, word_at, IsPlace};
 ghost use Rattle.capnp_format.specs.Tree.{Tree};
 ghost use Rattle.capnp_words.specs.declared.error.ErrorKind.TheVariants.{UnknownPointerType};
 ghost use Rattle.capnp_builders.specs.Reads.{IsArenaOf};
-ghost use Rattle.capnp_objects.specs.Outcomes.{Reads, Spends};
-ghost use Rattle.capnp_objects.specs.Refusals.{Refused};
+ghost use Rattle.capnp_objects.specs.Outcomes.{Reads};
+ghost use Rattle.capnp_objects.specs.Refusals.{BreaksOff, Refused};
 ghost use Rattle.capnp_objects.specs.Wanted.{canonical};
 ghost use Rattle.capnp_readers.specs.Readers.{reading};
 
@@ -123,7 +123,7 @@ impl<'a, A: BuilderArena> PointerBuilder<'a, A> {
             ⊎ Refused canonical (reading B.ReaderArena from.entry) lim.old lim.new k) }
         ensures unbuilt { canonicalize ≡ false ⊎ ¬ IsNull (built A.view self.old) →
             (result ≡ Err UnknownPointerType) × (A.view self.new.arena.now ≡ A.view self.old.arena.now) × (lim.new ≡ lim.old) }
-        ensures spent { OnErr result (Spends (reading B.ReaderArena from.entry).charging lim.old lim.new 1) }
+        ensures spent { IsTrue canonicalize → IsNull (built A.view self.old) → OnErr result (BreaksOff canonical (reading B.ReaderArena from.entry) lim.old lim.new) }
         ensures cleared { OnErr result (StaysClear (built A.view self.old) (built A.view self.new)) }
         ensures limits { KeepsLimits (A.view self.old.arena.now) (A.view self.new.arena.now) }
         ensures same { self.new.arena.ghost_name ≡ self.old.arena.ghost_name }

@@ -10,12 +10,11 @@ use Rattle.capnp_format.proofs.Children.{with_last, count-with_last}
 use Rattle.capnp_format.proofs.Trimming.{trim_each-count}
 use Rattle.capnp_arena.specs.View.{View}
 use Rattle.capnp_arena.specs.Written.{with_segment}
-use Rattle.capnp_objects.specs.Outcomes.{Reads, Spends}
-use Rattle.capnp_objects.specs.Refusals.{Refused}
+use Rattle.capnp_objects.specs.Outcomes.{Reads}
+use Rattle.capnp_objects.specs.Refusals.{Refused, BreaksOff, BreaksOffAmong}
 use Rattle.capnp_objects.specs.Reading.{Reading, behind}
 use Rattle.capnp_objects.specs.Wanted.{canonical}
-use Rattle.capnp_objects.proofs.Copies.{read_none, read_more, spends_on}
-use Rattle.capnp_objects.proofs.Budgets.{pointers_within_all, paid_all}
+use Rattle.capnp_objects.proofs.Copies.{read_none, read_more}
 use Rattle.capnp_copies.specs.Copied.{copied, with_children}
 use Rattle.capnp_copies.specs.Frames.{KeepsLimits}
 use Rattle.capnp_copies.specs.Parts.{Call, call_of, CopiesValue, StopsAtValue, CopiesChildren, StopsAtChildren}
@@ -83,15 +82,13 @@ child_stops {r} {old} {mid} {new} {id} {i} {at} {n} {m} {m'} {m''} {k} place les
     record {
       why = elim one [
         | inl x ↦ inl (x.0, x.1, x.2, too_large_child n (length (segment old.words id)) (old.room id) first.are_read fewer (subst (λ y. IsTooLarge (behind r (count ts)) y (old.room id)) long x.3))
-        | inr x ↦ inr (record { first = ts; fewer = fewer; mid = m'; are_read = first.are_read; refused = x })
+        | inr x ↦ inr (record { first = ts; fewer = fewer; mid = m'; are_read = first.are_read; stops = x })
       ];
     }
 
-pub child_spends : {r : Reading} {old mid : View} {id i at n : ℕ} {m m' : Meter} (m'' : Meter) → i < n → CopiesChildren r i (call_of old mid id m m') at → Spends r.charging m' m'' 1 → Spends r.charging m m'' n
-child_spends {r} {n = n} {m = m} {m' = m'} m'' less first spent =
-    let ts : Trees = first.children in
-    let read = first.are_read in
-    spends_on (count ts) 1 (paid_all read) (pointers_within_all r ts read.cost read.means) (omega (arith, first.counts)) spent
+pub child_breaks_off : {r : Reading} {old mid : View} {id i at n : ℕ} {m m' : Meter} (m'' : Meter) → i < n → CopiesChildren r i (call_of old mid id m m') at → BreaksOff canonical (behind r i) m' m'' → BreaksOffAmong canonical r n m m''
+child_breaks_off {r} {m' = m'} m'' less first off =
+    record { first = first.children; fewer = omega (arith, first.counts, less); mid = m'; are_read = first.are_read; stops = rw first.counts off }
 
 pub child_kept : {r : Reading} {old mid : View} {L : Segments} {id i at : ℕ} {m m' : Meter} → IsPlace old.words id (at + i) → CopiesChildren r i (call_of old mid id m m') at → IsSameBelow mid.words L id (length (segment mid.words id)) → IsSameBelow old.words L id at
 child_kept {r} {old} {mid} {L} {id} {i} {at} place first (more, below) =

@@ -11,12 +11,11 @@ use Rattle.capnp_format.proofs.Slices.{length_words}
 use Rattle.capnp_format.proofs.Trimming.{trim_each-count, take_trees-count}
 use Rattle.capnp_arena.specs.View.{View}
 use Rattle.capnp_arena.specs.Written.{with_segment, with_words, overwritten}
-use Rattle.capnp_objects.specs.Outcomes.{ReadsAll, ReadsElements, Spends}
-use Rattle.capnp_objects.specs.Refusals.{RefusedAll}
+use Rattle.capnp_objects.specs.Outcomes.{ReadsAll, ReadsElements}
+use Rattle.capnp_objects.specs.Refusals.{RefusedAll, BreaksOffAmong, BreaksOffAmongElements}
 use Rattle.capnp_objects.specs.Reading.{Reading, behind, row, words_from, pointers_of, sized}
 use Rattle.capnp_objects.specs.Wanted.{canonical}
-use Rattle.capnp_objects.proofs.Budgets.{pointers_within_elements, paid_elements}
-use Rattle.capnp_objects.proofs.Copies.{spends_on, read_none, read_no_element, with_last_element}
+use Rattle.capnp_objects.proofs.Copies.{read_none, read_no_element, with_last_element}
 use Rattle.capnp_copies.specs.Copied.{with_children, rows_laid}
 use Rattle.capnp_copies.specs.Frames.{KeepsLimits}
 use Rattle.capnp_copies.specs.Parts.{Call, call_of, CopiesChildren, CopiesElement, StopsAtElement, CopiesElements, StopsAtElements}
@@ -28,7 +27,7 @@ use Rattle.capnp_copies.proofs.ElementsCopied.{SourceFits, another, pointers_wit
 use Rattle.capnp_copies.proofs.ElementsLaid.{Laid, cut, cut_count, rows_begun, length_laid, row_null, next_element_words, blank_rows, words_taken}
 use Rattle.capnp_copies.proofs.RoomLemmas.{Wants}
 use Rattle.capnp_copies.proofs.SegmentsWritten.{then_written, words_written, not_written}
-use Rattle.capnp_copies.proofs.UsedChildren.{used_children, take_trees-trim, means_taken, refused_used}
+use Rattle.capnp_copies.proofs.UsedChildren.{used_children, take_trees-trim, means_taken, stops_used}
 use Rattle.capnp_copies.proofs.Shapes.{AreShapedElements, elements_shaped, trim_elements-shaped, cut_to-shaped, length-rows}
 
 -- one element
@@ -270,7 +269,7 @@ row_stops {r} {sizes} {n} {i} {w} {id} {at} {old} {mid} {new} {m} {m'} {m''} {k}
     record {
       why = elim one [
         | inl y ↦ inl (y.0, y.1, y.2, too_large y.3)
-        | inr y ↦ inr (record { first = es; fewer = fewer; mid = m'; are_read = here.rows.are_read; refused = refused_used here.fits.less_pointers y })
+        | inr y ↦ inr (record { first = es; fewer = fewer; mid = m'; are_read = here.rows.are_read; stops = stops_used here.fits.less_pointers y })
       ];
     }
 
@@ -294,13 +293,9 @@ row_kept {r} {sizes} {n} {i} {w} {id} {at} {old} {mid} {L} here (more, below) =
           ∙ ap (λ xs. with_segment M id (xs ++ more)) (ap (take p) shape ∙ take_at (F ++ R) rest p la) ∙ ap (with_segment M id) (append_assoc F R more),
     )
 
-pub row_spends : {r : Reading} {sizes : ElementSizes} {n i w id at : ℕ} {old mid : View} {m m' : Meter} (m'' : Meter) → AtRow r sizes n i w (call_of old mid id m m') at → Spends r.charging m' m'' sizes.kept.pointers → Spends r.charging m m'' (n * sizes.source.pointers)
-row_spends {r} {sizes} {n = n} {i = i} {m = m} {m' = m'} m'' here spent =
-    let q : ℕ = sizes.source.pointers in
+pub row_breaks_off : {r : Reading} {sizes : ElementSizes} {n i w id at : ℕ} {old mid : View} {m m' : Meter} (m'' : Meter) → AtRow r sizes n i w (call_of old mid id m m') at →
+    BreaksOffAmong canonical (behind (behind r (i * (sizes.source.data_words + sizes.source.pointers))) sizes.source.data_words) sizes.kept.pointers m' m'' → BreaksOffAmongElements canonical r sizes.source n m m''
+row_breaks_off {r} {sizes} {i = i} {m' = m'} m'' here off =
     let es : Elements = here.rows.elements in
-    let read = here.rows.are_read in
-    let less : suc i ≤ n = here.more in
-    let f : suc i * q ≤ n * q = grind arith in
-    let same : element_count es * q ≡ i * q = ap (λ j. j * q) here.rows.counts in
-    spends_on (element_count es * q) sizes.kept.pointers (paid_elements read)
-    (pointers_within_elements r sizes.source es read.cost read.means) (omega (arith, here.fits.less_pointers)) spent
+    let one : BreaksOffAmong canonical (pointers_of r sizes.source (element_count es)) sizes.kept.pointers m' m'' = rw here.rows.counts off in
+    record { first = es; fewer = omega (arith, here.more, here.rows.counts); mid = m'; are_read = here.rows.are_read; stops = stops_used here.fits.less_pointers one }

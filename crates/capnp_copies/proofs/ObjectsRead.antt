@@ -1,8 +1,7 @@
--- What a pointer means, where its object was read, and what a copy of its parts spends.
-use Rattle.std.proofs.Common.{◌≡◌, ℕ, pred, ◌+◌, ◌*◌, ◌≤◌, List, refl, sym, ap, ◌∙◌, subst, arith}
+-- What a pointer means, where its object was read.
+use Rattle.std.proofs.Common.{◌≡◌, inl, ℕ, pred, ◌+◌, List, refl, sym, ap, ◌∙◌, subst, arith}
 use Rattle.capnp_words.specs.declared.error.ErrorKind.{ErrorKind}
 use Rattle.capnp_words.specs.declared.error.ErrorKind.TheVariants.{CannotCreateACanonicalMessageWithACapability, InlineCompositeListsElementsOverrunItsWordCount, InlineCompositeListsOfNonStructTypeAreNotSupported, MalformedDoubleFarPointer, MessageContainsOutOfBoundsPointer, MessageIsTooDeeplyNestedOrContainsCycles, UnknownPointerType}
-use Rattle.capnp_pointers.specs.declared.wire_pointer.StructSize.{StructSize}
 use Rattle.capnp_pointers.specs.declared.wire_pointer.ElementSize.{ElementSize}
 use Rattle.capnp_format.specs.Word.{kind, offset_bits, data_words, pointer_count, element_size, list_count}
 use Rattle.capnp_format.specs.Numbers.{words_for, unpacked}
@@ -13,20 +12,18 @@ use Rattle.capnp_format.specs.Tree.{Tree, Null, Capability, Struct, Flat, Struct
 use Rattle.capnp_format.specs.Means.{MeansAll, MeansElements}
 use Rattle.capnp_words.specs.Meter.{Meter, Affords}
 use Rattle.capnp_objects.specs.declared.object.Place.{Place}
-use Rattle.capnp_objects.specs.declared.object.Object.TheVariants.{Null as ObjectNull, Capability as ObjectCapability, Struct as ObjectStruct, Flat as ObjectFlat, Pointers as ObjectPointers, Structs as ObjectStructs}
+use Rattle.capnp_objects.specs.declared.object.Object.TheVariants.{Null as ObjectNull, Capability as ObjectCapability, Flat as ObjectFlat}
 use Rattle.capnp_objects.specs.Objects.{IsObject}
-use Rattle.capnp_objects.proofs.Budgets.{paid_own}
 use Rattle.capnp_objects.proofs.Followed.{leads_to}
 use Rattle.capnp_objects.proofs.Faultless.{same_target}
-use Rattle.capnp_objects.proofs.Stops.{object_spends}
 use Rattle.capnp_objects.specs.Demands.{tag}
 use Rattle.capnp_objects.specs.Faults.{LeadsTo}
-use Rattle.capnp_objects.specs.Outcomes.{MeansThere, Spends, Reads}
-use Rattle.capnp_objects.specs.Refusals.{Stopped, pads_exceed, nowhere, broken, claim_exceeds, count_exceeds, Refused, here}
+use Rattle.capnp_objects.specs.Outcomes.{MeansThere, Reads}
+use Rattle.capnp_objects.specs.Refusals.{Stopped, pads_exceed, nowhere, broken, claim_exceeds, count_exceeds, Refused, BreaksOff, here}
 use Rattle.capnp_objects.specs.Reading.{Reading}
 use Rattle.capnp_objects.specs.Spending.{after}
 use Rattle.capnp_objects.specs.Wanted.{plain, canonical, BreaksObject}
-use Rattle.capnp_objects.proofs.Objects.{own_struct, own_pointers, own_structs, read_null, read_flat}
+use Rattle.capnp_objects.proofs.Objects.{read_null, read_flat}
 
 -- the start of an object, with so many levels
 abbrev pub inside : Reading → ℕ → Place → Reading
@@ -44,17 +41,26 @@ still_refused S n a InlineCompositeListsOfNonStructTypeAreNotSupported h = h
 still_refused S n a InlineCompositeListsElementsOverrunItsWordCount h = h
 still_refused S n a _ h = absurd h
 
+pub stopped_plain : {r : Reading} {m m' : Meter} {k : ErrorKind} → Stopped plain r m m' k → Stopped canonical r m m' k
+stopped_plain (pads_exceed some short paid named) = pads_exceed some short paid named
+stopped_plain (nowhere some h paid) = nowhere some h paid
+stopped_plain {r} {k = k} (broken a f h paid) = broken a f (still_refused r.segments r.levels a k h) paid
+stopped_plain (claim_exceeds a f level object claims short paid named) = claim_exceeds a f level object claims short paid named
+stopped_plain (count_exceeds a f meets short paid named) = count_exceeds a f meets short paid named
+
 pub refused_plain : {r : Reading} {m m' : Meter} {k : ErrorKind} → Stopped plain r m m' k → Refused canonical r m m' k
-refused_plain (pads_exceed some short paid named) = here (pads_exceed some short paid named)
-refused_plain (nowhere some h paid) = here (nowhere some h paid)
-refused_plain {r} {k = k} (broken a f h paid) = here (broken a f (still_refused r.segments r.levels a k h) paid)
-refused_plain (claim_exceeds a f level object claims short paid named) = here (claim_exceeds a f level object claims short paid named)
-refused_plain (count_exceeds a f meets short paid named) = here (count_exceeds a f meets short paid named)
+refused_plain stopped = here (stopped_plain stopped)
+
+capability_stopped : {r : Reading} (m m' : Meter) (i : ℕ) → IsObject r m m' (ObjectCapability i) → Stopped canonical r m m' CannotCreateACanonicalMessageWithACapability
+capability_stopped {r} m m' i (a, l, low, e, covers, spent) =
+    let none : a.pads ≡ a.pads + 0 = omega arith in
+    broken a (leads_to r a l) (tt, low) (record { covers = subst (Affords r.charging m) none covers; spent = spent ∙ ap (λ g. after r.charging m g 1) none })
 
 pub capability_refused : {r : Reading} (m m' : Meter) (i : ℕ) → IsObject r m m' (ObjectCapability i) → Refused canonical r m m' CannotCreateACanonicalMessageWithACapability
-capability_refused {r} m m' i (a, l, low, e, covers, spent) =
-    let none : a.pads ≡ a.pads + 0 = omega arith in
-    here (broken a (leads_to r a l) (tt, low) (record { covers = subst (Affords r.charging m) none covers; spent = spent ∙ ap (λ g. after r.charging m g 1) none }))
+capability_refused m m' i object = here (capability_stopped m m' i object)
+
+pub capability_breaks_off : {r : Reading} (m m' : Meter) (i : ℕ) → IsObject r m m' (ObjectCapability i) → BreaksOff canonical r m m'
+capability_breaks_off m m' i object = here (inl (CannotCreateACanonicalMessageWithACapability, capability_stopped m m' i object))
 
 pub null_read : {r : Reading} (m m' : Meter) → IsObject r m m' ObjectNull → Reads canonical r m m' Null
 null_read {r} m m' h = subst (λ x. Reads canonical r m x Null) (sym h.1) (read_null m h.0)
@@ -112,25 +118,9 @@ means_structs r (Structs d q es) a (c, (b, m, k, some, o, claims, t, fits, all, 
 
 -- a struct that was read
 
-pub struct_spent : {r : Reading} {m m' : Meter} (m'' : Meter) (start : Place) (size : StructSize) → IsObject r m m' (ObjectStruct start size) → Spends r.charging m' m'' size.pointers → Spends r.charging m m'' 1
-struct_spent {r} {m} {m'} m'' start size (a, o, z, held, ed, eq) spent =
-    object_spends size.pointers (paid_own o) (omega (arith, own_struct r.segments a z)) spent
-
 -- a list of pointers
 
-pub pointers_spent : {r : Reading} {m m' : Meter} (m'' : Meter) (start : Place) (i : ℕ) → IsObject r m m' (ObjectPointers start i) → Spends r.charging m' m'' i → Spends r.charging m m'' 1
-pointers_spent {r} {m} {m'} m'' start i (a, o, z, six, held, ei) spent =
-    object_spends i (paid_own o) (omega (arith, own_pointers r.segments a z six)) spent
-
 -- a list of structs
-
-fewer : (j d q : ℕ) → j * q ≤ j * (d + q)
-fewer j d q = grind arith
-
-pub structs_spent : {r : Reading} {m m' : Meter} (m'' : Meter) (start : Place) (size : StructSize) (i : ℕ) → IsObject r m m' (ObjectStructs start size i) → Spends r.charging m' m'' (i * size.pointers) → Spends r.charging m m'' 1
-structs_spent {r} {m} {m'} m'' start size i (a, o, z, seven, held, ei, ed, eq) spent =
-    let fits : i * (size.data_words + size.pointers) ≤ list_count a.word = rw (ei, ed, eq) (o.meets.tagged (z, seven)).1 in
-    object_spends (i * size.pointers) (paid_own o) (omega (arith, own_structs r.segments a z seven, fits, fewer i size.data_words size.pointers)) spent
 
 -- a list of numbers
 

@@ -28,7 +28,7 @@ use Rattle.capnp_copies.proofs.ElementsLaid.{words_taken}
 use Rattle.capnp_copies.proofs.RoomLemmas.{Wants}
 use Rattle.capnp_copies.proofs.SegmentsWritten.{grown, then_written}
 use Rattle.capnp_copies.proofs.StructsCopied.{object_children, struct_pointer}
-use Rattle.capnp_copies.proofs.UsedChildren.{used_children, trim-struct, means_taken, refused_used, fill_nulls, null_behind}
+use Rattle.capnp_copies.proofs.UsedChildren.{used_children, trim-struct, means_taken, stops_used, fill_nulls, null_behind}
 
 -- what is written behind the words that an object takes leaves those below it
 pub below_kept : {old mid : View} {L : Segments} {id at head n : ℕ} {more : List ℕ} → IsPlace old.words id at → TakesWords old mid id head more → head ≤ n → IsSameBelow mid.words L id n → IsSameBelow old.words L id (length (segment old.words id))
@@ -174,7 +174,7 @@ struct_stops {r} {size} {used} {old} {mid} {new} {id} {at} {head} {m} {m'} {k} b
     record {
       why = elim one [
         | inl x ↦ inl (x.0, x.1, x.2, too_large x.3)
-        | inr x ↦ inr (refused_used begun.uses.less_pointers x)
+        | inr x ↦ inr (stops_used begun.uses.less_pointers x)
       ];
     }
 

@@ -1,17 +1,14 @@
 -- An object whose children are its last words, the pointer of a struct, and what is left where nothing is copied.
-use Rattle.std.proofs.Common.{◌≡◌, ℕ, ◌+◌, ◌-◌, ◌<◌, Bool, List, [], ◌∷◌, ◌++◌, length, set, take, drop, replicate, refl, sym, ap, ap₂, ◌∙◌, arith, append_assoc, append-nil, length-append, take_at}
+use Rattle.std.proofs.Common.{◌≡◌, ℕ, ◌+◌, ◌-◌, ◌<◌, List, [], ◌∷◌, ◌++◌, length, set, take, drop, replicate, refl, sym, ap, ap₂, ◌∙◌, arith, append_assoc, append-nil, length-append, take_at}
 use Rattle.std.proofs.lemmas.List.{length-replicate, set-get_or, drop_all, take_all}
 use Rattle.capnp_format.specs.Word.{struct_word}
 use Rattle.capnp_format.specs.Segments.{Segments, segment, word_at}
 use Rattle.capnp_format.specs.Tree.{Null, Struct, Trees, no_trees, tree, count}
 use Rattle.capnp_format.specs.Canonical.{pointer, pointers, bodies}
-use Rattle.capnp_words.specs.Meter.{Meter}
 use Rattle.capnp_arena.specs.Written.{with_segment}
-use Rattle.capnp_objects.proofs.Budgets.{affords_none, after_none}
 use Rattle.capnp_copies.specs.Copied.{copied, with_children}
 use Rattle.capnp_copies.specs.Rooms.{IsSameBelow}
 use Rattle.capnp_copies.proofs.SegmentsWritten.{not_written}
-use Rattle.capnp_objects.specs.Outcomes.{Spends}
 
 -- an object whose children are its last words
 pub object_children : (front : List ℕ) (q : ℕ) (ts : Trees) → count ts ≡ q → with_children (front ++ replicate q 0) (length front) ts ≡ front ++ (pointers 0 ts ++ bodies ts)
@@ -35,6 +32,3 @@ null_written M s at z =
 
 pub nothing_kept : (M : Segments) (s : ℕ) → IsSameBelow M M s (length (segment M s))
 nothing_kept M s = ([], not_written M s ∙ ap (with_segment M s) (sym (append-nil (take (length (segment M s)) (segment M s)) ∙ take_all (length (segment M s)) (segment M s) (omega arith))))
-
-pub struct_none_spent : (charging : Bool) (m : Meter) (i : ℕ) → Spends charging m m i
-struct_none_spent charging m i = (0, 0, affords_none charging m, sym (after_none charging m), omega arith)

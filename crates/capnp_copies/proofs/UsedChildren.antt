@@ -4,14 +4,13 @@ use Rattle.capnp_format.specs.Segments.{Segments, segment, word_at, words_at}
 use Rattle.capnp_format.specs.Tree.{Tree, Null, Capability, Struct, Flat, Pointers, Structs, Trees, no_trees, tree, Elements, no_elements, element, count, capabilities_all}
 use Rattle.capnp_format.specs.Means.{MeansAll}
 use Rattle.capnp_format.specs.Canonical.{used_from, used_words, is_null, used_trees, take_trees, data_width, pointer_width, trim, trim_each, trim_elements, cut_to}
-use Rattle.capnp_words.specs.declared.error.ErrorKind.{ErrorKind}
 use Rattle.capnp_words.specs.Meter.{Meter}
 use Rattle.capnp_format.proofs.Trimming.{used_from-rest, used_from-past}
 use Rattle.capnp_format.proofs.Appending.{append_trees, count-append, means_joined}
 use Rattle.capnp_copies.proofs.LeastWidths.{used_where_meant}
 use Rattle.capnp_objects.specs.Spending.{after, pointers_in_all}
 use Rattle.capnp_objects.specs.Outcomes.{MeansThere, MeanThere, ReadsAll}
-use Rattle.capnp_objects.specs.Refusals.{RefusedAll}
+use Rattle.capnp_objects.specs.Refusals.{StopsAmong}
 use Rattle.capnp_objects.specs.Reading.{Reading, behind, row, words_from}
 use Rattle.capnp_objects.specs.Wanted.{canonical}
 
@@ -155,6 +154,6 @@ capabilities-take zero ts = omega arith
 capabilities-take (suc n) no_trees = omega arith
 capabilities-take (suc n) (tree t ts) = omega (arith, capabilities-take n ts)
 
--- a refusal among the first pointers is one of them all
-pub refused_used : {r : Reading} {m m' : Meter} {k : ErrorKind} {q used : ℕ} → used ≤ q → RefusedAll canonical r used m m' k → RefusedAll canonical r q m m' k
-refused_used le h = record { first = h.first; fewer = omega (arith, h.fewer, le); mid = h.mid; are_read = h.are_read; refused = h.refused }
+-- what stops among the first pointers stops among them all
+pub stops_used : {P : Reading → Meter → Meter → Type 0} {r : Reading} {m m' : Meter} {q used : ℕ} → used ≤ q → StopsAmong canonical P r used m m' → StopsAmong canonical P r q m m'
+stops_used le h = record { first = h.first; fewer = omega (arith, h.fewer, le); mid = h.mid; are_read = h.are_read; stops = h.stops }

@@ -1,5 +1,5 @@
 -- The copy of what a pointer means, once its object was read: its parts, and where one stops it.
-use Rattle.std.proofs.Common.{◌≡◌, ◌⊎◌, inl, inr, ℕ, ℤ, pos, pred, ◌+◌, ◌<◌, ◌≤◌, ◌↔◌, Result, IfErr, IsOk, Err, Ok, List, length, take, drop, ap, ap₂, ◌∙◌, arith}
+use Rattle.std.proofs.Common.{◌≡◌, ◌⊎◌, inl, inr, ℕ, ℤ, pos, pred, ◌+◌, ◌<◌, ◌≤◌, ◌↔◌, Result, IfErr, OnErr, IsOk, Err, Ok, List, length, take, drop, sym, subst, ap, ap₂, ◌∙◌, arith}
 use Rattle.std.proofs.lemmas.Int.{to_z-of_z}
 use mir.Syntax.{w32}
 use mir.Val.{SFits, to_z, of_z}
@@ -17,12 +17,12 @@ use Rattle.capnp_format.specs.Tree.{Null, Struct, Flat, Pointers, Structs}
 use Rattle.capnp_arena.specs.View.{View}
 use Rattle.capnp_objects.specs.Objects.{IsObject}
 use Rattle.capnp_objects.specs.Outcomes.{Reads}
-use Rattle.capnp_objects.specs.Refusals.{Refused}
-use Rattle.capnp_objects.specs.Reading.{Reading, sized, tag_size}
+use Rattle.capnp_objects.specs.Refusals.{Refused, BreaksOff, BreaksOffAmong, BreaksOffAmongElements, here}
+use Rattle.capnp_objects.specs.Reading.{Reading, behind, sized, tag_size}
 use Rattle.capnp_objects.specs.Demands.{tag}
 use Rattle.capnp_objects.specs.Faults.{child_at}
 use Rattle.capnp_objects.proofs.Objects.{read_struct, read_pointers, read_structs}
-use Rattle.capnp_objects.proofs.Refusals.{struct_refused, pointers_refused, structs_refused}
+use Rattle.capnp_objects.proofs.Refusals.{stops_struct, stops_pointers, stops_structs}
 use Rattle.capnp_format.specs.Word.{offset_bits, data_words, pointer_count, list_count}
 use Rattle.capnp_format.specs.Canonical.{trim, word_count}
 use Rattle.capnp_format.proofs.Levels.{one_value}
@@ -67,7 +67,7 @@ struct_value_stops {r} {old} {new} {id} {levels} {m} {m'} {m''} {size} {k} start
     (let l : IsTooLargeStruct (child_at r a (pred r.levels) a.start) (sized (data_words a.word) (pointer_count a.word)) used (old.room id) = rw (en, es, e, ed, eq) at large in
     let x = means_struct r t a (c, h) o.leads_to z in
     rw (x.4) (l x.0 x.1 x.2 x.3)) in
-    record { why = elim stop.why [ inl x ↦ inl (x.0, x.1, x.2, too_large x.3) | inr x ↦ inr (struct_refused o z (rw (en, es, e, ed, eq) at x)) ] }
+    record { why = elim stop.why [ inl x ↦ inl (x.0, x.1, x.2, too_large x.3) | inr x ↦ inr (stops_struct o z (rw (en, es, e, ed, eq) at x)) ] }
 
 -- a list of pointers
 
@@ -89,7 +89,7 @@ pointers_value_stops {r} {old} {new} {id} {levels} {i} {m} {m'} {m''} {k} start 
     (let l : IsTooLargePointers (child_at r a (pred r.levels) a.start) (list_count a.word) used (old.room id) = rw (en, es, e, ei) at large in
     let x = means_pointers r t a (c, h) o.leads_to (z, six) in
     rw (x.4) (l x.0 x.1 x.2 x.3)) in
-    record { why = elim stop.why [ inl x ↦ inl (x.0, x.1, x.2, too_large x.3) | inr x ↦ inr (pointers_refused o z six (rw (en, es, e, ei) at x)) ] }
+    record { why = elim stop.why [ inl x ↦ inl (x.0, x.1, x.2, too_large x.3) | inr x ↦ inr (stops_pointers o z six (rw (en, es, e, ei) at x)) ] }
 
 -- a list of structs
 
@@ -115,7 +115,37 @@ structs_value_stops {r} {old} {new} {id} {levels} {i} {m} {m'} {m''} {size} {k} 
     (let l : IsTooLargeList (child_at r a (pred r.levels) (a.start + 1)) (tag_size r.segments a) (offset_bits (tag r.segments a)) used (old.room id) = rw (en, eu, e, ed, eq, ei) at large in
     let x = means_structs r t a (c, h) o.leads_to (z, seven) in
     rw (x.4) (l x.0 x.1 x.2 x.3)) in
-    record { why = elim stop.why [ inl x ↦ inl (x.0, x.1, x.2, too_large x.3) | inr x ↦ inr (structs_refused o z seven (rw (en, eu, e, ed, eq, ei) at x)) ] }
+    record { why = elim stop.why [ inl x ↦ inl (x.0, x.1, x.2, too_large x.3) | inr x ↦ inr (stops_structs o z seven (rw (en, eu, e, ed, eq, ei) at x)) ] }
+
+-- what is spent where the copy of a part is broken off, or its own words find no room
+
+pub struct_breaks_off : {r : Reading} {levels : ℕ} {m m' : Meter} (m'' : Meter) {size : StructSize} (start : Place) → (0 < r.levels → levels ≡ pred r.levels) → IsObject r m m' (ObjectStruct start size) →
+    (m'' ≡ m') ⊎ BreaksOffAmong canonical (behind (inside r levels start) size.data_words) size.pointers m' m'' → BreaksOff canonical r m m''
+struct_breaks_off {r} {m = m} m'' start less (a, o, z, (held, es, eb), ed, eq) (inl same) = subst (BreaksOff canonical r m) (sym same) (here (inr (a, o)))
+struct_breaks_off {r} m'' start less (a, o, z, (held, es, eb), ed, eq) (inr off) =
+    let en = less o.meets.levels in
+    let e : start.at ≡ a.start = omega arith in
+    stops_struct o z (rw (en, es, e, ed, eq) at off)
+
+pub pointers_breaks_off : {r : Reading} {levels i : ℕ} {m m' : Meter} (m'' : Meter) (start : Place) → (0 < r.levels → levels ≡ pred r.levels) → IsObject r m m' (ObjectPointers start i) →
+    (m'' ≡ m') ⊎ BreaksOffAmong canonical (inside r levels start) i m' m'' → BreaksOff canonical r m m''
+pointers_breaks_off {r} {m = m} m'' start less (a, o, z, six, (held, es, eb), ei) (inl same) = subst (BreaksOff canonical r m) (sym same) (here (inr (a, o)))
+pointers_breaks_off {r} m'' start less (a, o, z, six, (held, es, eb), ei) (inr off) =
+    let en = less o.meets.levels in
+    let e : start.at ≡ a.start = omega arith in
+    stops_pointers o z six (rw (en, es, e, ei) at off)
+
+pub structs_breaks_off : {r : Reading} {levels i : ℕ} {m m' : Meter} (m'' : Meter) {size : StructSize} (start : Place) → (0 < r.levels → levels ≡ pred r.levels) → IsObject r m m' (ObjectStructs start size i) →
+    (m'' ≡ m') ⊎ BreaksOffAmongElements canonical (inside r levels start) size i m' m'' → BreaksOff canonical r m m''
+structs_breaks_off {r} {m = m} m'' start less (a, o, z, seven, (held, eu, eb), ei, ed, eq) (inl same) = subst (BreaksOff canonical r m) (sym same) (here (inr (a, o)))
+structs_breaks_off {r} m'' start less (a, o, z, seven, (held, eu, eb), ei, ed, eq) (inr off) =
+    let en = less o.meets.levels in
+    let e : start.at ≡ a.start + 1 = omega arith in
+    stops_structs o z seven (rw (en, eu, e, ed, eq, ei) at off)
+
+pub flat_breaks_off : {r : Reading} {m m' : Meter} (start : Place) (size : ElementSize) (i : ℕ) (o : Result (Unit {0}) ErrorKind) → IsObject r m m' (ObjectFlat start size i) → OnErr o (BreaksOff canonical r m m')
+flat_breaks_off start size i (Ok x) object = tt
+flat_breaks_off start size i (Err k) (a, o, z, small, held, ez, ei) = here (inr (a, o))
 
 -- a list of numbers
 

@@ -5,8 +5,8 @@ ghost use Rattle.capnp_format.specs.Numbers.{words_for};
 ghost use Rattle.capnp_pointers.specs.Sizes.{size_number};
 ghost use Rattle.capnp_format.specs.Tree.{Tree};
 ghost use Rattle.capnp_arena.specs.Written.{with_segment};
-ghost use Rattle.capnp_objects.specs.Outcomes.{Reads, Spends};
-ghost use Rattle.capnp_objects.specs.Refusals.{Refused};
+ghost use Rattle.capnp_objects.specs.Outcomes.{Reads};
+ghost use Rattle.capnp_objects.specs.Refusals.{Refused, BreaksOff};
 ghost use Rattle.capnp_objects.specs.Wanted.{canonical};
 ghost use Rattle.capnp_readers.specs.Readers.{reading};
 ghost use Rattle.capnp_copies.specs.Copied.{zeroed_from};
@@ -50,7 +50,7 @@ pub fn copy_value<A: BuilderArena, B: ReaderArena>(
     ensures exactly { IsOk result ↔ CanBeCopied (reading B.ReaderArena from.entry) lim.old (length (segment (A.view arena.old).words id)) ((A.view arena.old).room id) }
     ensures refused { IfErr result (λ k. LacksRoom (A.view arena.old) (A.view arena.new) id k (IsTooLarge (reading B.ReaderArena from.entry))
         ⊎ Refused canonical (reading B.ReaderArena from.entry) lim.old lim.new k) }
-    ensures spent { OnErr result (Spends (reading B.ReaderArena from.entry).charging lim.old lim.new 1) }
+    ensures spent { OnErr result (BreaksOff canonical (reading B.ReaderArena from.entry) lim.old lim.new) }
     ensures cleared { OnErr result (IsCleared (A.view arena.old).words (A.view arena.new).words id) }
     ensures longer { length (segment (A.view arena.old).words id) ≤ length (segment (A.view arena.new).words id) }
     ensures limits { KeepsLimits (A.view arena.old) (A.view arena.new) }
@@ -99,7 +99,7 @@ fn copy_object<A: BuilderArena, B: ReaderArena>(
     requires null { word_at (A.view arena.old).words id at ≡ 0 }
     ensures copied { IfOk result (λ _. CopiesValue (reading B.ReaderArena from.entry) (call_of (A.view arena.old) (A.view arena.new) id lim.old lim.new) at) }
     ensures refused { IfErr result (StopsAtValue (reading B.ReaderArena from.entry) (call_of (A.view arena.old) (A.view arena.new) id lim.old lim.new)) }
-    ensures spent { OnErr result (Spends (reading B.ReaderArena from.entry).charging lim.old lim.new 1) }
+    ensures spent { OnErr result (BreaksOff canonical (reading B.ReaderArena from.entry) lim.old lim.new) }
     ensures kept { OnErr result (IsSameBelow (A.view arena.old).words (A.view arena.new).words id (length (segment (A.view arena.old).words id))) }
     ensures longer { length (segment (A.view arena.old).words id) ≤ length (segment (A.view arena.new).words id) }
     ensures limits { KeepsLimits (A.view arena.old) (A.view arena.new) }

@@ -1,5 +1,5 @@
 -- What follows from a refusal: the place can't be read.
-use Rattle.std.proofs.Common.{◌≡◌, ◌⊎◌, ◌↔◌, inl, inr, ℕ, pred, ◌+◌, ◌<◌, ◌≤◌, Bool, true, false, cond, nat_eq, Option, Some, None, Result, Ok, Err, IsOk, IfOk, IfErr, refl, sym, ◌∙◌, subst, arith, eqb-true}
+use Rattle.std.proofs.Common.{◌≡◌, ◌⊎◌, ◌↔◌, inl, inr, ℕ, suc, pred, ◌+◌, ◌*◌, ◌<◌, ◌≤◌, Bool, true, false, cond, nat_eq, Option, Some, None, Result, Ok, Err, IsOk, IfOk, IfErr, refl, sym, ◌∙◌, subst, arith, eqb-true}
 use Rattle.capnp_words.specs.declared.error.ErrorKind.{ErrorKind}
 use Rattle.capnp_words.specs.Meter.{Meter, FitsIn, Affords}
 use Rattle.capnp_format.specs.Word.{kind, offset_bits, data_words, pointer_count, element_size, list_count, is_double}
@@ -12,14 +12,15 @@ use Rattle.capnp_objects.specs.declared.object.Object.{Object}
 use Rattle.capnp_objects.specs.declared.object.Object.TheVariants.{Null as ObjectNull, Capability as ObjectCapability, Struct as ObjectStruct, Flat as ObjectFlat, Pointers as ObjectPointers, Structs as ObjectStructs}
 use Rattle.capnp_objects.specs.Outcomes.{Entered, Spends}
 use Rattle.capnp_objects.specs.Reading.{Reading, word_of, pointers_of, tag_size}
-use Rattle.capnp_objects.specs.Refusals.{if_there, landing_words, Stopped, pads_exceed, nowhere, broken, claim_exceeds, count_exceeds, CanBeRead, ReadsBefore, in_struct, in_pointers, in_element, Refused, here, below, RefusedAll, RefusedElements}
+use Rattle.capnp_objects.specs.Refusals.{if_there, landing_words, Stopped, pads_exceed, nowhere, broken, claim_exceeds, count_exceeds, CanBeRead, ReadsBefore, in_struct, in_pointers, in_element, StopsWithin, here, below, StopsAmong, StopsAmongElements, Refused, BreaksOff}
 use Rattle.capnp_objects.specs.Spending.{Paid}
 use Rattle.capnp_objects.specs.Wanted.{Form, plain}
-use Rattle.capnp_objects.proofs.Budgets.{affords_none, affords_both}
-use Rattle.capnp_objects.proofs.Copies.{read_stop, read_element_stop}
+use Rattle.capnp_objects.proofs.Budgets.{affords_none, affords_both, paid_own, paid_all, paid_elements, pointers_within_all, pointers_within_elements}
+use Rattle.capnp_objects.proofs.Copies.{read_stop, read_element_stop, spends_on}
 use Rattle.capnp_objects.proofs.Faultless.{Sound, sound_capability, sound_object, target_sound, same_target}
 use Rattle.capnp_objects.proofs.Followed.{leads_there}
-use Rattle.capnp_objects.proofs.Stops.{Reached, stopped_struct, stopped_pointers, stopped_structs, refused_here, refused_pads, refused_claim, refused_elements, leads_pads}
+use Rattle.capnp_objects.proofs.Stops.{object_spends, Reached, stopped_struct, stopped_pointers, stopped_structs, refused_here, refused_pads, refused_claim, refused_elements, leads_pads}
+use Rattle.capnp_objects.proofs.Objects.{own_struct, own_pointers, own_structs}
 use Rattle.capnp_objects.proofs.Unreadable.{Unreadable}
 
 -- what is granted in one charge
@@ -70,24 +71,50 @@ stopped_below {form} {r} {m} {first} {mid} {m'} {q} {a} {k} o (in_pointers ts z 
 stopped_below {form} {r} {m} {first} {mid} {m'} {q} {a} {k} o (in_element es ts between (z, seven) fewer less e rows all) child =
     stopped_structs o z seven (read_element_stop _ rows fewer (read_stop _ all less (subst (λ y. Unreadable form (child_at r a (pred r.levels) y) mid m' k) e child)))
 
--- where one of an object's pointers is refused, so is the object
-pub struct_refused : {form : Form} {r : Reading} {m m' m'' : Meter} {a : Target} {k : ErrorKind} → Entered r m m' a → kind a.word ≡ 0 →
-    RefusedAll form (child_at r a (pred r.levels) (a.start + data_words a.word)) (pointer_count a.word) m' m'' k → Refused form r m m'' k
-struct_refused {a = a} o z h = below a (a.start + data_words a.word + count h.first) o (in_struct h.first z h.fewer refl h.are_read) h.refused
+-- where the reading of one of an object's pointers stops, so does that of the object
+pub stops_struct : {form : Form} {P : Reading → Meter → Meter → Type 0} {r : Reading} {m m' m'' : Meter} {a : Target} → Entered r m m' a → kind a.word ≡ 0 →
+    StopsAmong form P (child_at r a (pred r.levels) (a.start + data_words a.word)) (pointer_count a.word) m' m'' → StopsWithin form P r m m''
+stops_struct {a = a} o z h = below a (a.start + data_words a.word + count h.first) o (in_struct h.first z h.fewer refl h.are_read) h.stops
 
-pub pointers_refused : {form : Form} {r : Reading} {m m' m'' : Meter} {a : Target} {k : ErrorKind} → Entered r m m' a → kind a.word ≡ 1 → element_size a.word ≡ 6 →
-    RefusedAll form (child_at r a (pred r.levels) a.start) (list_count a.word) m' m'' k → Refused form r m m'' k
-pointers_refused {a = a} o z six h = below a (a.start + count h.first) o (in_pointers h.first z six h.fewer refl h.are_read) h.refused
+pub stops_pointers : {form : Form} {P : Reading → Meter → Meter → Type 0} {r : Reading} {m m' m'' : Meter} {a : Target} → Entered r m m' a → kind a.word ≡ 1 → element_size a.word ≡ 6 →
+    StopsAmong form P (child_at r a (pred r.levels) a.start) (list_count a.word) m' m'' → StopsWithin form P r m m''
+stops_pointers {a = a} o z six h = below a (a.start + count h.first) o (in_pointers h.first z six h.fewer refl h.are_read) h.stops
 
-pub structs_refused : {form : Form} {r : Reading} {m m' m'' : Meter} {a : Target} {k : ErrorKind} → Entered r m m' a → kind a.word ≡ 1 → element_size a.word ≡ 7 →
-    RefusedElements form (child_at r a (pred r.levels) (a.start + 1)) (tag_size r.segments a) (offset_bits (tag r.segments a)) m' m'' k → Refused form r m m'' k
-structs_refused {r = r} {a = a} o z seven h =
-    below a ((pointers_of (child_at r a (pred r.levels) (a.start + 1)) (tag_size r.segments a) (element_count h.first)).at + count h.refused.first) o
-    (in_element h.first h.refused.first h.mid (z, seven) h.fewer h.refused.fewer refl h.are_read h.refused.are_read) h.refused.refused
+pub stops_structs : {form : Form} {P : Reading → Meter → Meter → Type 0} {r : Reading} {m m' m'' : Meter} {a : Target} → Entered r m m' a → kind a.word ≡ 1 → element_size a.word ≡ 7 →
+    StopsAmongElements form P (child_at r a (pred r.levels) (a.start + 1)) (tag_size r.segments a) (offset_bits (tag r.segments a)) m' m'' → StopsWithin form P r m m''
+stops_structs {r = r} {a = a} o z seven h =
+    below a ((pointers_of (child_at r a (pred r.levels) (a.start + 1)) (tag_size r.segments a) (element_count h.first)).at + count h.stops.first) o
+    (in_element h.first h.stops.first h.mid (z, seven) h.fewer h.stops.fewer refl h.are_read h.stops.are_read) h.stops.stops
 
-pub unreadable : {form : Form} {r : Reading} {m m' : Meter} {k : ErrorKind} → Refused form r m m' k → Unreadable form r m m' k
+pub unreadable : {form : Form} {k : ErrorKind} {r : Reading} {m m' : Meter} → Refused form r m m' k → Unreadable form r m m' k
 unreadable (here stopped) = stopped_here stopped
 unreadable (below a q o before rest) = stopped_below o before (unreadable rest)
+
+with_data : (j d q : ℕ) → j * q ≤ j * (d + q)
+with_data j d q = grind arith
+
+one_row_more : (j i q : ℕ) → j < i → j * q + q ≤ i * q
+one_row_more j i q lt = let up : suc j * q ≤ i * q = grind arith in omega (arith, up)
+
+-- what is spent where the reading of a value is broken off
+spends_below : {form : Form} {r : Reading} {m first mid m' : Meter} {q : ℕ} {a : Target} → Entered r m first a → ReadsBefore form r a q first mid → Spends r.charging mid m' 1 → Spends r.charging m m' 1
+spends_below {r = r} {a = a} o (in_struct ts z fewer e all) rest =
+    object_spends (pointer_count a.word) (paid_own o) (omega (arith, own_struct r.segments a z)) (spends_on (count ts) 1 (paid_all all) (pointers_within_all (child_at r a (pred r.levels) (a.start + data_words a.word)) ts all.cost all.means) (omega (arith, fewer)) rest)
+spends_below {r = r} {a = a} o (in_pointers ts z six fewer e all) rest =
+    object_spends (list_count a.word) (paid_own o) (omega (arith, own_pointers r.segments a z six)) (spends_on (count ts) 1 (paid_all all) (pointers_within_all (child_at r a (pred r.levels) a.start) ts all.cost all.means) (omega (arith, fewer)) rest)
+spends_below {r = r} {a = a} o (in_element es ts between (z, seven) fewer less e rows all) rest =
+    let S : Segments = r.segments in
+    let n : ℕ = offset_bits (tag S a) in
+    let q : ℕ = pointer_count (tag S a) in
+    let fits = (o.meets.tagged (z, seven)).1 in
+    object_spends (n * q) (paid_own o) (omega (arith, own_structs S a z seven, fits, with_data n (data_words (tag S a)) q))
+    (spends_on (element_count es * q) q (paid_elements rows) (pointers_within_elements (child_at r a (pred r.levels) (a.start + 1)) (tag_size S a) es rows.cost rows.means) (one_row_more (element_count es) n q fewer)
+    (spends_on (count ts) 1 (paid_all all) (pointers_within_all (pointers_of (child_at r a (pred r.levels) (a.start + 1)) (tag_size S a) (element_count es)) ts all.cost all.means) (omega (arith, less)) rest))
+
+pub breaks_off_spends : {form : Form} {r : Reading} {m m' : Meter} → BreaksOff form r m m' → Spends r.charging m m' 1
+breaks_off_spends (here (inl stopped)) = stopped_spends stopped.1
+breaks_off_spends (here (inr (a, o))) = spends_once (paid_own o)
+breaks_off_spends (below a q o before rest) = spends_below o before (breaks_off_spends rest)
 
 -- what is covered as a whole is covered in a part
 affords_less : (charging : Bool) (m : Meter) (h c : ℕ) → h ≤ c → Affords charging m c → Affords charging m h

@@ -8,7 +8,7 @@ use Rattle.capnp_format.specs.Tree.{Tree, capabilities}
 use Rattle.capnp_objects.specs.Faults.{Somewhere, one_less, Exceeds, HasFault}
 use Rattle.capnp_objects.specs.Outcomes.{MeansThere, Reads}
 use Rattle.capnp_objects.specs.Reading.{Reading}
-use Rattle.capnp_objects.specs.Refusals.{Refused}
+use Rattle.capnp_objects.specs.Refusals.{Refused, BreaksOff}
 use Rattle.capnp_objects.specs.Wanted.{Form, Takes}
 
 -- The demand that is named is broken at a reached place; or the read limit is named, and a reached place charges more than
@@ -39,7 +39,9 @@ abbrev pub ValueOrFault : Type 0
 ValueOrFault =
     (form : Form) (r : Reading) → ((t : Tree) × (c : ℕ) × MeansThere r t c × Takes form (capabilities t)) ⊎ ((k : ErrorKind) × HasFault form r k)
 
--- Under a budget of x words at most x + 1 pointers are followed, whether a value is read or refused.
+-- Under a budget of x words at most x + 1 pointers are followed, whether a value is read, refused, or broken off.
 abbrev pub FewFollowed : Type 0
 FewFollowed =
-    (form : Form) (r : Reading) (m m' : Meter) (x : ℕ) → r.charging ≡ true → m.left ≡ Some x → ((k : ErrorKind) × Refused form r m m' k) ⊎ ((t : Tree) × Reads form r m m' t) → m'.followed ≤ m.followed + (x + 1)
+    (form : Form) (r : Reading) (m m' : Meter) (x : ℕ) → r.charging ≡ true → m.left ≡ Some x
+    → ((t : Tree) × Reads form r m m' t) ⊎ ((k : ErrorKind) × Refused form r m m' k) ⊎ BreaksOff form r m m'
+    → m'.followed ≤ m.followed + (x + 1)

@@ -96,29 +96,54 @@ pub data ReadsBefore (form : Form) (r : Reading) (a : Target) (q : ℕ) (m m' : 
       ReadsAll form (pointers_of (child_at r a (pred r.levels) (a.start + 1)) (tag_size r.segments a) (element_count es)) mid m' ts →
       ReadsBefore form r a q m m'
 
--- The reading of a whole value is refused by the name k, from m to m': at its own object, or at that of one of its pointers,
--- when the object and the pointers before that one were read.
-pub data Refused (form : Form) : Reading → Meter → Meter → ErrorKind → Type 0 where
-  here : {r : Reading} {m m' : Meter} {k : ErrorKind} → Stopped form r m m' k → Refused form r m m' k
+-- The reading of a whole value stops, from m to m', where P says so of one object: at its own object, or at that of one of
+-- its pointers, when the object and the pointers before that one were read.
+pub data StopsWithin (form : Form) (P : Reading → Meter → Meter → Type 0) : Reading → Meter → Meter → Type 0 where
+  here : {r : Reading} {m m' : Meter} → P r m m' → StopsWithin form P r m m'
   below :
-      {r : Reading} {m first mid m' : Meter} {k : ErrorKind} (a : Target) (q : ℕ) →
+      {r : Reading} {m first mid m' : Meter} (a : Target) (q : ℕ) →
       Entered r m first a →
       ReadsBefore form r a q first mid →
-      Refused form (child_at r a (pred r.levels) q) mid m' k →
-      Refused form r m m' k
+      StopsWithin form P (child_at r a (pred r.levels) q) mid m' →
+      StopsWithin form P r m m'
 
--- So is that of one of i pointers from a place on.
-pub record RefusedAll (form : Form) (r : Reading) (i : ℕ) (m m' : Meter) (k : ErrorKind) : Type 0 where
+-- So does that of one of i pointers from a place on.
+pub record StopsAmong (form : Form) (P : Reading → Meter → Meter → Type 0) (r : Reading) (i : ℕ) (m m' : Meter) : Type 0 where
   pub first : Trees
   pub fewer : count first < i
   pub mid : Meter
   pub are_read : ReadsAll form r m mid first
-  pub refused : Refused form (behind r (count first)) mid m' k
+  pub stops : StopsWithin form P (behind r (count first)) mid m'
 
--- So is that of a pointer of one of i elements.
-pub record RefusedElements (form : Form) (r : Reading) (size : StructSize) (i : ℕ) (m m' : Meter) (k : ErrorKind) : Type 0 where
+-- So does that of a pointer of one of i elements.
+pub record StopsAmongElements (form : Form) (P : Reading → Meter → Meter → Type 0) (r : Reading) (size : StructSize) (i : ℕ) (m m' : Meter) : Type 0 where
   pub first : Elements
   pub fewer : element_count first < i
   pub mid : Meter
   pub are_read : ReadsElements form r size m mid first
-  pub refused : RefusedAll form (pointers_of r size (element_count first)) size.pointers mid m' k
+  pub stops : StopsAmong form P (pointers_of r size (element_count first)) size.pointers mid m'
+
+-- The reading of a whole value is refused by the name k: one object is; so of i pointers, and of i elements.
+abbrev pub Refused : Form → Reading → Meter → Meter → ErrorKind → Type 0
+Refused form r m m' k = StopsWithin form (λ s i j. Stopped form s i j k) r m m'
+
+abbrev pub RefusedAll : Form → Reading → ℕ → Meter → Meter → ErrorKind → Type 0
+RefusedAll form r n m m' k = StopsAmong form (λ s i j. Stopped form s i j k) r n m m'
+
+abbrev pub RefusedElements : Form → Reading → StructSize → ℕ → Meter → Meter → ErrorKind → Type 0
+RefusedElements form r size n m m' k = StopsAmongElements form (λ s i j. Stopped form s i j k) r size n m m'
+
+-- The reading of one object stops; or the object was read, and what is made of it finds no room.
+abbrev pub IsTried : Form → Reading → Meter → Meter → Type 0
+IsTried form r m m' = ((k : ErrorKind) × Stopped form r m m' k) ⊎ ((a : Target) × Entered r m m' a)
+
+-- The reading of a whole value is broken off at one object: all before it was read, and it was granted no more than its own
+-- charges. So of i pointers, and of i elements.
+abbrev pub BreaksOff : Form → Reading → Meter → Meter → Type 0
+BreaksOff form r m m' = StopsWithin form (IsTried form) r m m'
+
+abbrev pub BreaksOffAmong : Form → Reading → ℕ → Meter → Meter → Type 0
+BreaksOffAmong form r n m m' = StopsAmong form (IsTried form) r n m m'
+
+abbrev pub BreaksOffAmongElements : Form → Reading → StructSize → ℕ → Meter → Meter → Type 0
+BreaksOffAmongElements form r size n m m' = StopsAmongElements form (IsTried form) r size n m m'

@@ -25,7 +25,7 @@ pub fn value_or_fault()
     ensures { ValueOrFault }
 {}
 
-/// Under a budget of x words a reading, refused or not, follows at most x + 1 pointers.
+/// Under a budget of x words a reading, whether it ends in a value or not, follows at most x + 1 pointers.
 pub fn few_followed()
     ensures { FewFollowed }
 {}

@@ -1,8 +1,9 @@
 //! The canonical copy of pointers one behind the other.
 ghost use Rattle.std.specs.Prelude.{◌≡◌, ℕ, ◌+◌, ◌<◌, ◌≤◌, length, IfOk, IfErr, OnErr};
 ghost use Rattle.capnp_format.specs.Segments.{segment, word_at};
-ghost use Rattle.capnp_objects.specs.Outcomes.{Spends};
 ghost use Rattle.capnp_objects.specs.Reading.{row};
+ghost use Rattle.capnp_objects.specs.Refusals.{BreaksOffAmong};
+ghost use Rattle.capnp_objects.specs.Wanted.{canonical};
 ghost use Rattle.capnp_readers.specs.Readers.{reading};
 ghost use Rattle.capnp_copies.specs.Parts.{CopiesChildren, StopsAtChildren, call_of};
 ghost use Rattle.capnp_copies.specs.Frames.{KeepsLimits};
@@ -30,7 +31,7 @@ pub(crate) fn copy_children<A: BuilderArena, B: ReaderArena>(
     requires inside { from.place.at + count ≤ length (row (reading B.ReaderArena from)) }
     ensures copied { IfOk result (λ _. CopiesChildren (reading B.ReaderArena from.entry) count (call_of (A.view arena.old) (A.view arena.new) id lim.old lim.new) at) }
     ensures refused { IfErr result (StopsAtChildren (reading B.ReaderArena from.entry) count (call_of (A.view arena.old) (A.view arena.new) id lim.old lim.new)) }
-    ensures spent { OnErr result (Spends (reading B.ReaderArena from.entry).charging lim.old lim.new count) }
+    ensures spent { OnErr result (BreaksOffAmong canonical (reading B.ReaderArena from.entry) count lim.old lim.new) }
     ensures kept { OnErr result (IsSameBelow (A.view arena.old).words (A.view arena.new).words id at) }
     ensures longer { length (segment (A.view arena.old).words id) ≤ length (segment (A.view arena.new).words id) }
     ensures limits { KeepsLimits (A.view arena.old) (A.view arena.new) }

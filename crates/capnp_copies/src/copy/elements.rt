@@ -3,8 +3,9 @@ ghost use Rattle.std.specs.Prelude.{◌≡◌, ℕ, ◌+◌, ◌*◌, ◌<◌, �
 ghost use Rattle.capnp_format.specs.Bytes.{words_of};
 ghost use Rattle.capnp_format.specs.Segments.{segment, word_at, IsPlace};
 ghost use Rattle.capnp_arena.specs.Written.{with_words};
-ghost use Rattle.capnp_objects.specs.Outcomes.{Spends};
 ghost use Rattle.capnp_objects.specs.Reading.{behind, row};
+ghost use Rattle.capnp_objects.specs.Refusals.{BreaksOffAmong, BreaksOffAmongElements};
+ghost use Rattle.capnp_objects.specs.Wanted.{canonical};
 ghost use Rattle.capnp_readers.specs.Readers.{reading};
 ghost use Rattle.capnp_copies.specs.Parts.{CopiesElement, CopiesElements, StopsAtElement, StopsAtElements, call_of};
 ghost use Rattle.capnp_copies.specs.Frames.{KeepsLimits};
@@ -41,7 +42,7 @@ pub(crate) fn copy_elements<A: BuilderArena, B: ReaderArena>(
     requires pointers { pointers_used (row (reading B.ReaderArena from)) from.place.at sizes.source.data_words sizes.source.pointers count ≤ sizes.kept.pointers }
     ensures copied { IfOk result (λ _. CopiesElements (reading B.ReaderArena from.entry) sizes count (call_of (A.view arena.old) (A.view arena.new) id lim.old lim.new) at) }
     ensures refused { IfErr result (StopsAtElements (reading B.ReaderArena from.entry) sizes count (call_of (A.view arena.old) (A.view arena.new) id lim.old lim.new)) }
-    ensures spent { OnErr result (Spends (reading B.ReaderArena from.entry).charging lim.old lim.new (count * sizes.source.pointers)) }
+    ensures spent { OnErr result (BreaksOffAmongElements canonical (reading B.ReaderArena from.entry) sizes.source count lim.old lim.new) }
     ensures kept { OnErr result (IsSameBelow (A.view arena.old).words (A.view arena.new).words id at) }
     ensures longer { length (segment (A.view arena.old).words id) ≤ length (segment (A.view arena.new).words id) }
     ensures limits { KeepsLimits (A.view arena.old) (A.view arena.new) }
@@ -87,7 +88,7 @@ fn copy_element<A: BuilderArena, B: ReaderArena>(
     requires less_pointers { sizes.kept.pointers ≤ sizes.source.pointers }
     ensures copied { IfOk result (λ _. CopiesElement (reading B.ReaderArena from.entry) sizes (call_of (A.view arena.old) (A.view arena.new) id lim.old lim.new) at) }
     ensures refused { IfErr result (StopsAtElement (reading B.ReaderArena from.entry) sizes (call_of (A.view arena.old) (A.view arena.new) id lim.old lim.new)) }
-    ensures spent { OnErr result (Spends (reading B.ReaderArena from.entry).charging lim.old lim.new sizes.kept.pointers) }
+    ensures spent { OnErr result (BreaksOffAmong canonical (behind (reading B.ReaderArena from.entry) sizes.source.data_words) sizes.kept.pointers lim.old lim.new) }
     ensures kept { OnErr result (IsSameBelow (A.view arena.old).words (A.view arena.new).words id at) }
     ensures longer { length (segment (A.view arena.old).words id) ≤ length (segment (A.view arena.new).words id) }
     ensures limits { KeepsLimits (A.view arena.old) (A.view arena.new) }

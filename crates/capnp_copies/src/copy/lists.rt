@@ -1,8 +1,9 @@
 //! The canonical copy of lists of pointers and of structs.
-ghost use Rattle.std.specs.Prelude.{◌≡◌, ℕ, ◌+◌, ◌*◌, ◌<◌, ◌≤◌, ◌∷◌, ◌^◌, length, replicate, IsSome, IfSome, IsNone, ◌↔◌, IfOk, IfErr, OnErr};
+ghost use Rattle.std.specs.Prelude.{◌≡◌, ◌⊎◌, ℕ, ◌+◌, ◌*◌, ◌<◌, ◌≤◌, ◌∷◌, ◌^◌, length, replicate, IsSome, IfSome, IsNone, ◌↔◌, IfOk, IfErr, OnErr};
 ghost use Rattle.capnp_format.specs.Segments.{segment, word_at, IsPlace};
-ghost use Rattle.capnp_objects.specs.Outcomes.{Spends};
 ghost use Rattle.capnp_objects.specs.Reading.{row};
+ghost use Rattle.capnp_objects.specs.Refusals.{BreaksOffAmong, BreaksOffAmongElements};
+ghost use Rattle.capnp_objects.specs.Wanted.{canonical};
 ghost use Rattle.capnp_readers.specs.Readers.{reading};
 ghost use Rattle.capnp_copies.specs.Frames.{KeepsLimits, TakesWords};
 ghost use Rattle.capnp_copies.specs.Parts.{CopiesPointers, CopiesStructs, StopsAtPointers, StopsAtStructs, call_of};
@@ -32,7 +33,7 @@ pub(crate) fn copy_pointers<A: BuilderArena, B: ReaderArena>(
     requires inside { from.place.at + count ≤ length (row (reading B.ReaderArena from)) }
     ensures copied { IfOk result (λ _. CopiesPointers (reading B.ReaderArena from.entry) count (call_of (A.view arena.old) (A.view arena.new) id lim.old lim.new) at) }
     ensures refused { IfErr result (StopsAtPointers (reading B.ReaderArena from.entry) count (call_of (A.view arena.old) (A.view arena.new) id lim.old lim.new)) }
-    ensures spent { OnErr result (Spends (reading B.ReaderArena from.entry).charging lim.old lim.new count) }
+    ensures spent { OnErr result ((lim.new ≡ lim.old) ⊎ BreaksOffAmong canonical (reading B.ReaderArena from.entry) count lim.old lim.new) }
     ensures kept { OnErr result (IsSameBelow (A.view arena.old).words (A.view arena.new).words id (length (segment (A.view arena.old).words id))) }
     ensures longer { length (segment (A.view arena.old).words id) ≤ length (segment (A.view arena.new).words id) }
     ensures limits { KeepsLimits (A.view arena.old) (A.view arena.new) }
@@ -67,7 +68,7 @@ pub(crate) fn copy_structs<A: BuilderArena, B: ReaderArena>(
     requires inside { from.place.at + count * (size.data_words + size.pointers) ≤ length (row (reading B.ReaderArena from)) }
     ensures copied { IfOk result (λ _. CopiesStructs (reading B.ReaderArena from.entry) size count (call_of (A.view arena.old) (A.view arena.new) id lim.old lim.new) at) }
     ensures refused { IfErr result (StopsAtStructs (reading B.ReaderArena from.entry) size count (call_of (A.view arena.old) (A.view arena.new) id lim.old lim.new)) }
-    ensures spent { OnErr result (Spends (reading B.ReaderArena from.entry).charging lim.old lim.new (count * size.pointers)) }
+    ensures spent { OnErr result ((lim.new ≡ lim.old) ⊎ BreaksOffAmongElements canonical (reading B.ReaderArena from.entry) size count lim.old lim.new) }
     ensures kept { OnErr result (IsSameBelow (A.view arena.old).words (A.view arena.new).words id (length (segment (A.view arena.old).words id))) }
     ensures longer { length (segment (A.view arena.old).words id) ≤ length (segment (A.view arena.new).words id) }
     ensures limits { KeepsLimits (A.view arena.old) (A.view arena.new) }

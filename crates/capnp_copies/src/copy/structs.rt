@@ -1,9 +1,10 @@
 //! The canonical copy of a struct.
-ghost use Rattle.std.specs.Prelude.{◌≡◌, ℕ, ◌+◌, ◌*◌, ◌<◌, ◌≤◌, ◌++◌, ◌^◌, length, replicate, IsSome, IfSome, IsNone, ◌↔◌, IfOk, IfErr, OnErr};
+ghost use Rattle.std.specs.Prelude.{◌≡◌, ◌⊎◌, ℕ, ◌+◌, ◌*◌, ◌<◌, ◌≤◌, ◌++◌, ◌^◌, length, replicate, IsSome, IfSome, IsNone, ◌↔◌, IfOk, IfErr, OnErr};
 ghost use Rattle.capnp_format.specs.Bytes.{words_of};
 ghost use Rattle.capnp_format.specs.Segments.{segment, word_at, IsPlace};
-ghost use Rattle.capnp_objects.specs.Outcomes.{Spends};
-ghost use Rattle.capnp_objects.specs.Reading.{row};
+ghost use Rattle.capnp_objects.specs.Reading.{behind, row};
+ghost use Rattle.capnp_objects.specs.Refusals.{BreaksOffAmong};
+ghost use Rattle.capnp_objects.specs.Wanted.{canonical};
 ghost use Rattle.capnp_readers.specs.Readers.{reading};
 ghost use Rattle.capnp_copies.specs.Frames.{KeepsLimits, TakesWords};
 ghost use Rattle.capnp_copies.specs.Parts.{CopiesStruct, StopsAtStruct, Uses, call_of};
@@ -33,7 +34,7 @@ pub(crate) fn copy_struct<A: BuilderArena, B: ReaderArena>(
     requires inside { from.place.at + (size.data_words + size.pointers) ≤ length (row (reading B.ReaderArena from)) }
     ensures copied { IfOk result (λ _. CopiesStruct (reading B.ReaderArena from.entry) size (call_of (A.view arena.old) (A.view arena.new) id lim.old lim.new) at) }
     ensures refused { IfErr result (StopsAtStruct (reading B.ReaderArena from.entry) size (call_of (A.view arena.old) (A.view arena.new) id lim.old lim.new)) }
-    ensures spent { OnErr result (Spends (reading B.ReaderArena from.entry).charging lim.old lim.new size.pointers) }
+    ensures spent { OnErr result ((lim.new ≡ lim.old) ⊎ BreaksOffAmong canonical (behind (reading B.ReaderArena from.entry) size.data_words) size.pointers lim.old lim.new) }
     ensures kept { OnErr result (IsSameBelow (A.view arena.old).words (A.view arena.new).words id (length (segment (A.view arena.old).words id))) }
     ensures longer { length (segment (A.view arena.old).words id) ≤ length (segment (A.view arena.new).words id) }
     ensures limits { KeepsLimits (A.view arena.old) (A.view arena.new) }

@@ -1,4 +1,4 @@
-use Rattle.std.proofs.Common.{◌≡◌, inr, ℕ, ◌+◌, ◌*◌, ◌<◌, ◌≤◌, ◌^◌, length, replicate, refl, ap, ap₂, ◌∙◌, arith, rules}
+use Rattle.std.proofs.Common.{◌≡◌, inl, inr, ℕ, ◌+◌, ◌*◌, ◌<◌, ◌≤◌, ◌^◌, length, replicate, refl, ap, ap₂, ◌∙◌, arith, rules}
 use Rattle.std.proofs.lemmas.Int.{to_z-of_z}
 use mir.Syntax.{w32}
 use Rattle.capnp_format.specs.Bytes.{words_of}
@@ -8,7 +8,7 @@ use Rattle.capnp_format.specs.Segments.{segment, word_at, IsPlace}
 use Rattle.capnp_format.specs.Tree.{Struct, Pointers}
 use Rattle.capnp_format.specs.Canonical.{offset_to}
 use Rattle.capnp_objects.specs.Reading.{Reading, row, words_from}
-use Rattle.capnp_objects.proofs.Refusals.{stopped_spends}
+use Rattle.capnp_objects.specs.Refusals.{here}
 use Rattle.capnp_readers.specs.Readers.{reading}
 use Rattle.capnp_copies.specs.Frames.{TakesWords}
 use Rattle.capnp_copies.specs.Parts.{call_of}
@@ -16,13 +16,13 @@ use Rattle.capnp_copies.specs.Widths.{pointers_used}
 use Rattle.capnp_copies.proofs.Copying.{length-made}
 use Rattle.capnp_copies.proofs.SegmentsWritten.{keeps_both}
 use Rattle.capnp_copies.proofs.FlatRead.{ok_so, err_so, on_ok_so, on_err_so, same_kept, flat_kept}
-use Rattle.capnp_copies.proofs.ObjectsRead.{refused_plain, capability_refused, struct_spent, pointers_spent, structs_spent}
-use Rattle.capnp_copies.proofs.StructsCopied.{struct_none_spent}
-use Rattle.capnp_copies.proofs.ChildrenSteps.{no_child, child_copied, child_ahead, child_stops, child_spends, child_kept}
+use Rattle.capnp_copies.proofs.ObjectsRead.{stopped_plain, refused_plain, capability_refused, capability_breaks_off}
+use Rattle.capnp_copies.proofs.UsedChildren.{stops_used}
+use Rattle.capnp_copies.proofs.ChildrenSteps.{no_child, child_copied, child_ahead, child_stops, child_breaks_off, child_kept}
 use Rattle.capnp_copies.proofs.StructSteps.{below_kept, pointers_lack_room, pointers_stop, pointers_are_copied, empty_copied, struct_lacks_room, StructBegun, struct_stops, struct_is_copied}
 use Rattle.capnp_copies.proofs.ListSteps.{AreLeast, list_lacks_room, ListBegun, list_stops, list_is_copied}
-use Rattle.capnp_copies.proofs.ElementSteps.{DataPut, element_copied, element_kept, ElementsFit, no_row, all_rows, no_width, AtRow, next_row, next_inside, row_copied, row_stops, row_kept, row_spends}
-use Rattle.capnp_copies.proofs.ValueSteps.{one_level_in, null_copied, struct_copied, struct_value_stops, pointers_copied, pointers_value_stops, structs_copied, structs_value_stops, IsFlatRead, flat_is_read, flat_stops}
+use Rattle.capnp_copies.proofs.ElementSteps.{DataPut, element_copied, element_kept, ElementsFit, no_row, all_rows, no_width, AtRow, next_row, next_inside, row_copied, row_stops, row_kept, row_breaks_off}
+use Rattle.capnp_copies.proofs.ValueSteps.{one_level_in, null_copied, struct_copied, struct_value_stops, struct_breaks_off, pointers_breaks_off, structs_breaks_off, flat_breaks_off, pointers_copied, pointers_value_stops, structs_copied, structs_value_stops, IsFlatRead, flat_is_read, flat_stops}
 use Rattle.capnp_copies.proofs.copy.+copies.Goals as goal
 
 pub children::copy_children-loop-i-init : goal.children::copy_children-loop-i-init
@@ -54,7 +54,8 @@ children::copy_children-returns-in-Err-clause-refused g t c =
 
 pub children::copy_children-returns-in-Err-clause-spent : goal.children::copy_children-returns-in-Err-clause-spent
 children::copy_children-returns-in-Err-clause-spent g t c =
-    child_spends c.copy_object.new.lim (omega arith) c.loop-i.invariant.copied c.in-Err.ensures.spent
+    let nl = to_z-of_z w32 c.args.from.nesting_limit (search rules) in
+    child_breaks_off c.copy_object.new.lim (omega arith) c.loop-i.invariant.copied (rw nl at c.in-Err.ensures.spent)
 
 pub children::copy_children-returns-in-Err-clause-kept : goal.children::copy_children-returns-in-Err-clause-kept
 children::copy_children-returns-in-Err-clause-kept g t c =
@@ -68,7 +69,7 @@ copy_object-returns-in-Err-clause-refused g t c =
 pub copy_object-returns-in-Err-clause-spent : goal.copy_object-returns-in-Err-clause-spent
 copy_object-returns-in-Err-clause-spent g t c =
     let nl = to_z-of_z w32 c.args.from.nesting_limit (search rules) in
-    stopped_spends (rw nl at c.in-Err.ensures.refused)
+    here (inl (c.in-Err.k, stopped_plain (rw nl at c.in-Err.ensures.refused)))
 
 pub copy_object-returns-in-Null-clause-copied : goal.copy_object-returns-in-Null-clause-copied
 copy_object-returns-in-Null-clause-copied g t c =
@@ -96,7 +97,8 @@ pub copy_object-returns-in-Struct-clause-spent : goal.copy_object-returns-in-Str
 copy_object-returns-in-Struct-clause-spent g t c =
     let nl = to_z-of_z w32 c.args.from.nesting_limit (search rules) in
     let object = rw (c.in-Struct.is, nl) at c.in-Ok.ensures.object in
-    on_err_so c.copy_struct.result _ _ c.copy_struct.ensures.spent (λ spent. struct_spent c.copy_struct.new.lim c.in-Struct.start c.in-Struct.size object spent)
+    let less = one_level_in c.args.from.nesting_limit (search rules) in
+    on_err_so c.copy_struct.result _ _ c.copy_struct.ensures.spent (λ off. struct_breaks_off c.copy_struct.new.lim c.in-Struct.start less object off)
 
 pub copy_object-returns-in-Pointers-clause-copied : goal.copy_object-returns-in-Pointers-clause-copied
 copy_object-returns-in-Pointers-clause-copied g t c =
@@ -116,7 +118,8 @@ pub copy_object-returns-in-Pointers-clause-spent : goal.copy_object-returns-in-P
 copy_object-returns-in-Pointers-clause-spent g t c =
     let nl = to_z-of_z w32 c.args.from.nesting_limit (search rules) in
     let object = rw (c.in-Pointers.is, nl) at c.in-Ok.ensures.object in
-    on_err_so c.copy_pointers.result _ _ c.copy_pointers.ensures.spent (λ spent. pointers_spent c.copy_pointers.new.lim c.in-Pointers.start c.in-Pointers.count object spent)
+    let less = one_level_in c.args.from.nesting_limit (search rules) in
+    on_err_so c.copy_pointers.result _ _ c.copy_pointers.ensures.spent (λ off. pointers_breaks_off c.copy_pointers.new.lim c.in-Pointers.start less object off)
 
 pub copy_object-returns-in-Structs-clause-copied : goal.copy_object-returns-in-Structs-clause-copied
 copy_object-returns-in-Structs-clause-copied g t c =
@@ -136,7 +139,8 @@ pub copy_object-returns-in-Structs-clause-spent : goal.copy_object-returns-in-St
 copy_object-returns-in-Structs-clause-spent g t c =
     let nl = to_z-of_z w32 c.args.from.nesting_limit (search rules) in
     let object = rw (c.in-Structs.is, nl) at c.in-Ok.ensures.object in
-    on_err_so c.copy_structs.result _ _ c.copy_structs.ensures.spent (λ spent. structs_spent c.copy_structs.new.lim c.in-Structs.start c.in-Structs.size c.in-Structs.count object spent)
+    let less = one_level_in c.args.from.nesting_limit (search rules) in
+    on_err_so c.copy_structs.result _ _ c.copy_structs.ensures.spent (λ off. structs_breaks_off c.copy_structs.new.lim c.in-Structs.start less object off)
 
 pub copy_object-returns-in-Flat-clause-copied : goal.copy_object-returns-in-Flat-clause-copied
 copy_object-returns-in-Flat-clause-copied g t c =
@@ -156,6 +160,16 @@ copy_object-returns-in-Flat-clause-refused g t c =
     flat_is_read c.in-Flat.start c.in-Flat.size object c.flat_words-words.ensures c.part-elements.ensures.words c.part-elements.ensures.count in
     flat_stops c.copy_flat.result (call_of (g.A.BuilderArena.view c.args.arena.now) (g.A.BuilderArena.view c.copy_flat.new.arena) c.args.id c.args.lim.now c.read_object.new.lim) flat c.copy_flat.ensures.exactly c.copy_flat.ensures.refused
 
+pub copy_object-returns-in-Capability-clause-spent : goal.copy_object-returns-in-Capability-clause-spent
+copy_object-returns-in-Capability-clause-spent g t c =
+    capability_breaks_off c.args.lim.now c.read_object.new.lim c.in-Capability.field-0 (rw c.in-Capability.is at c.in-Ok.ensures.object)
+
+pub copy_object-returns-in-Flat-clause-spent : goal.copy_object-returns-in-Flat-clause-spent
+copy_object-returns-in-Flat-clause-spent g t c =
+    let nl = to_z-of_z w32 c.args.from.nesting_limit (search rules) in
+    let object = rw (c.in-Flat.is, nl) at c.in-Ok.ensures.object in
+    flat_breaks_off c.in-Flat.start c.in-Flat.size c.in-Flat.count c.copy_flat.result object
+
 pub copy_object-returns-in-Flat-clause-kept : goal.copy_object-returns-in-Flat-clause-kept
 copy_object-returns-in-Flat-clause-kept g t c =
     flat_kept c.copy_flat.result (g.A.BuilderArena.view c.args.arena.now) (g.A.BuilderArena.view c.copy_flat.new.arena) c.args.id _ c.copy_flat.ensures.refused
@@ -174,6 +188,12 @@ lists::copy_pointers-returns-in-Err-clause-kept g t c =
     let taken : TakesWords (g.A.BuilderArena.view c.args.arena.now) (g.A.BuilderArena.view c.allocate.new.self) c.args.id c.in-Some.head (replicate c.args.count 0) =
     record { starts = c.in-Some.ensures.taken.0; extends = c.in-Some.ensures.taken.1 } in
     below_kept c.requires.place taken (omega arith) c.in-Err.ensures.kept
+
+pub lists::copy_pointers-returns-in_default-clause-spent : goal.lists::copy_pointers-returns-in_default-clause-spent
+lists::copy_pointers-returns-in_default-clause-spent g t c = inl refl
+
+pub lists::copy_pointers-returns-in-Err-clause-spent : goal.lists::copy_pointers-returns-in-Err-clause-spent
+lists::copy_pointers-returns-in-Err-clause-spent g t c = inr c.in-Err.ensures.spent
 
 pub lists::copy_pointers-returns-in-Err-clause-refused : goal.lists::copy_pointers-returns-in-Err-clause-refused
 lists::copy_pointers-returns-in-Err-clause-refused g t c =
@@ -204,7 +224,7 @@ structs::copy_struct-returns-in_default-clause-refused g t c =
 
 pub structs::copy_struct-returns-in_default-clause-spent : goal.structs::copy_struct-returns-in_default-clause-spent
 structs::copy_struct-returns-in_default-clause-spent g t c =
-    struct_none_spent (reading g.B.ReaderArena c.args.from).charging c.args.lim.now c.args.size.pointers
+    inl refl
 
 pub structs::copy_struct-returns-in_default-clause-kept : goal.structs::copy_struct-returns-in_default-clause-kept
 structs::copy_struct-returns-in_default-clause-kept g t c =
@@ -219,6 +239,11 @@ structs::copy_struct-returns-in-Err-clause-refused g t c =
     let begun : StructBegun from c.args.size c.used_sections-used.result (g.A.BuilderArena.view c.args.arena.now) (g.A.BuilderArena.view c.begin_struct.new.arena) c.args.id c.args.at c.in-Some.head =
     record { inside = c.requires.inside; uses = c.used_sections-used.ensures; place = c.requires.place; taken = rw (section, c.from-pointers.ensures) at c.in-Some.ensures.taken } in
     struct_stops begun (rw (c.from.ensures, c.from-pointers.ensures, nl) at c.in-Err.ensures.refused)
+
+pub structs::copy_struct-returns-in-Err-clause-spent : goal.structs::copy_struct-returns-in-Err-clause-spent
+structs::copy_struct-returns-in-Err-clause-spent g t c =
+    let nl = to_z-of_z w32 c.args.from.nesting_limit (search rules) in
+    inr (stops_used c.used_sections-used.ensures.less_pointers (rw (c.from.ensures, c.from-pointers.ensures, nl) at c.in-Err.ensures.spent))
 
 pub structs::copy_struct-returns-in-Err-clause-kept : goal.structs::copy_struct-returns-in-Err-clause-kept
 structs::copy_struct-returns-in-Err-clause-kept g t c =
@@ -249,6 +274,11 @@ elements::copy_element-returns-clause-copied g t c =
     let put : DataPut from c.args.sizes (g.A.BuilderArena.view c.args.arena.now) (g.A.BuilderArena.view c.put_words.new.arena) c.args.id c.args.at (words_of c.part-data.result.now) =
     record { place = c.requires.place; are_words = rw (c.from-data_words.ensures, held) at c.part-data.ensures.words; counts = c.part-data.ensures.count ∙ c.from-data_words.ensures; writes = c.put_words.ensures.words } in
     ok_so c.copy_children.result _ _ c.copy_children.ensures.copied (λ x made. element_copied put (rw (c.from.ensures, c.from-2.ensures, c.from-3.ensures, nl) at made))
+
+pub elements::copy_element-returns-clause-spent : goal.elements::copy_element-returns-clause-spent
+elements::copy_element-returns-clause-spent g t c =
+    let nl = to_z-of_z w32 c.args.from.nesting_limit (search rules) in
+    on_err_so c.copy_children.result _ _ c.copy_children.ensures.spent (λ off. rw (c.from.ensures, c.from-3.ensures, nl) at off)
 
 pub elements::copy_element-returns-clause-kept : goal.elements::copy_element-returns-clause-kept
 elements::copy_element-returns-clause-kept g t c =
@@ -304,7 +334,8 @@ elements::copy_elements-returns-in-Err-clause-spent g t c =
     record { room = c.requires.room; inside = c.requires.inside; less_data = c.requires.less_data; less_pointers = c.requires.less_pointers; used = c.requires.pointers } in
     let here : AtRow from c.args.sizes c.args.count c.loop-i.i c.total-least_width.result (call_of (g.A.BuilderArena.view c.args.arena.now) (g.A.BuilderArena.view c.loop-i.arena) c.args.id c.args.lim.now c.loop-i.lim) c.args.at =
     record { fits = fits; width = c.total-least_width.ensures; wide = omega (arith, c.if-least_width-eq0.false); more = c.loop-i-test.true; rows = c.loop-i.invariant.copied } in
-    row_spends c.copy_element.new.lim here c.in-Err.ensures.spent
+    let nl = to_z-of_z w32 c.args.from.nesting_limit (search rules) in
+    row_breaks_off c.copy_element.new.lim here (rw (c.total-width.ensures, nl) at c.in-Err.ensures.spent)
 
 pub elements::copy_elements-returns-in-Err-clause-kept : goal.elements::copy_elements-returns-in-Err-clause-kept
 elements::copy_elements-returns-in-Err-clause-kept g t c =
@@ -340,7 +371,7 @@ lists::copy_structs-returns-in_default-clause-refused g t c =
 
 pub lists::copy_structs-returns-in_default-clause-spent : goal.lists::copy_structs-returns-in_default-clause-spent
 lists::copy_structs-returns-in_default-clause-spent g t c =
-    struct_none_spent (reading g.B.ReaderArena c.args.from).charging c.args.lim.now (c.args.count * c.args.size.pointers)
+    inl refl
 
 pub lists::copy_structs-returns-in_default-clause-kept : goal.lists::copy_structs-returns-in_default-clause-kept
 lists::copy_structs-returns-in_default-clause-kept g t c =
@@ -366,6 +397,9 @@ lists::copy_structs-returns-in-Err-clause-refused g t c =
     let begun : ListBegun from c.args.size c.least_widths-least.result c.args.count (g.A.BuilderArena.view c.args.arena.now) (g.A.BuilderArena.view c.begin_structs.new.arena) c.args.id c.args.at c.in-Some.head =
     record { inside = c.requires.inside; is_least = is_least; place = c.requires.place; taken = rw (words, c.new_tag-tag.ensures.word) at c.in-Some.ensures.taken } in
     list_stops begun c.in-Err.ensures.refused
+
+pub lists::copy_structs-returns-in-Err-clause-spent : goal.lists::copy_structs-returns-in-Err-clause-spent
+lists::copy_structs-returns-in-Err-clause-spent g t c = inr c.in-Err.ensures.spent
 
 pub lists::copy_structs-returns-in-Err-clause-kept : goal.lists::copy_structs-returns-in-Err-clause-kept
 lists::copy_structs-returns-in-Err-clause-kept g t c =
