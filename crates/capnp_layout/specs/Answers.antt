@@ -1,5 +1,6 @@
--- What the program answers to a message, and the line that it then prints.
+-- What the program answers to a message, by its command, and the line that it then prints.
 use Rattle.std.specs.Prelude.{◌≡◌, ◌⊎◌, ℕ, ◌+◌, ◌≤◌, List, [], ◌∷◌, ◌++◌, Bool, true, false, codes, Option, Some}
+use Rattle.std.specs.Fmt.{decimal}
 use Rattle.std.specs.Int.{to_le_bytes, w64}
 use Rattle.hex.specs.Hex.{encode_lower}
 use Rattle.capnp_words.specs.Names.{name_of}
@@ -16,12 +17,15 @@ use Rattle.capnp_arena.specs.Checks.{misplaced}
 use Rattle.capnp_arena.specs.Limits.{IsSmall}
 use Rattle.capnp_arena.specs.View.{View}
 use Rattle.capnp_arena.specs.declared.arena.reader_arena_impl.ReaderOptions.{ReaderOptions}
+use Rattle.capnp_layout.specs.declared.tool.args.Args.{Args}
+use Rattle.capnp_layout.specs.declared.tool.args.Args.TheVariants.{Canon, Size}
 use Rattle.capnp_layout.specs.declared.tool.engine.Outcome.{Outcome}
 use Rattle.capnp_layout.specs.declared.tool.engine.Outcome.TheVariants.{Done, Refused as RefusedOutcome, WriteFailed}
 use Rattle.capnp_objects.specs.Source.{levels}
 use Rattle.capnp_objects.specs.Outcomes.{MeansThere}
 use Rattle.capnp_objects.specs.Refusals.{Refused}
 use Rattle.capnp_objects.specs.Reading.{Reading}
+use Rattle.capnp_objects.specs.Sizing.{Totals, HasSize, SizeRefused}
 use Rattle.capnp_objects.specs.Wanted.{canonical}
 use Rattle.capnp_copies.specs.Rooms.{IsTooLarge}
 
@@ -41,6 +45,20 @@ refusal_line k = codes "refused " ++ name_of k ++ 10 ∷ []
 -- the line of a value's canonical words
 abbrev pub canonical_line : Tree → List ℕ
 canonical_line t = digits_of (encoding (trim t)) ++ 10 ∷ []
+
+-- the line of a size, in decimal digits
+abbrev pub size_line : ℕ → ℕ → List ℕ
+size_line words caps = codes "words " ++ decimal words ++ codes " caps " ++ decimal caps ++ 10 ∷ []
+
+-- the levels that the nesting limit leaves
+abbrev pub levels_of : Args → ℕ
+levels_of (Canon options) = levels options.nesting_limit
+levels_of (Size options) = levels options.nesting_limit
+
+-- the traversal limit in words, if there is one
+abbrev pub budget_of : Args → Option ℕ
+budget_of (Canon options) = options.traversal_limit_in_words
+budget_of (Size options) = options.traversal_limit_in_words
 
 -- whether a refusal says that something would be too large
 abbrev pub is_message_too_large : ErrorKind → Bool
@@ -76,41 +94,82 @@ pub record HasValue (S : Segments) (n : ℕ) (budget : Option ℕ) (t : Tree) : 
   pub free : capabilities t ≡ 0
   pub covered : FitsIn budget (1 + cost)
 
--- Why a message, by the bytes of its segments, is refused by the name k.
-pub data Refuses (segments : List (List ℕ)) (n : ℕ) (budget : Option ℕ) (k : ErrorKind) : Type 0 where
-  -- there are too many segments, or one is too large, for a reader
-  beyond_limits : (w : ℕ) → k ≡ MessageTooLarge w → (IsSmall segments → ⊥) → Refuses segments n budget k
-  -- there is no root pointer
-  no_root : k ≡ misplaced (message segments) 0 (InvalidSegmentId 0) → (IsPlace (message segments) 0 0 → ⊥) → Refuses segments n budget k
-  -- there is a root pointer, and the budget doesn't cover it
-  no_budget : k ≡ ReadLimitExceeded → IsPlace (message segments) 0 0 → budget ≡ Some 0 → Refuses segments n budget k
-  -- the budget covers the root pointer; what it means is refused, with what the budget has left for it, or its canonical
-  -- words are more than a segment holds
-  no_copy : IsPlace (message segments) 0 0 → FitsIn budget 1 → RefusesCopy (root_of (message segments) n) (less budget 1) max_segment_words k → Refuses segments n budget k
+-- A message has a root pointer, and the budget covers its word.
+pub record CoversRoot (S : Segments) (budget : Option ℕ) : Type 0 where
+  pub root : IsPlace S 0 0
+  pub covered : FitsIn budget 1
+
+-- The walk that takes a size gives so many words and capabilities at the root of a message, within n levels, and with what
+-- the budget leaves behind the root pointer. Where the root means a value within the levels, they are the value's.
+pub record HasTotals (S : Segments) (n : ℕ) (budget : Option ℕ) (words caps : ℕ) : Type 0 where
+  pub at_root : CoversRoot S budget
+  pub after : Meter
+  pub totals : Totals (root_of S n) (unused (less budget 1)) after words caps
+  pub of_value : (t : Tree) (m cost : ℕ) → Means S m 0 0 t cost → (words ≡ word_count t) × (caps ≡ capabilities t)
+
+-- The root pointer of a message is refused by the name k.
+pub data RefusesRoot (S : Segments) (budget : Option ℕ) (k : ErrorKind) : Type 0 where
+  -- there is none
+  no_root : k ≡ misplaced S 0 (InvalidSegmentId 0) → (IsPlace S 0 0 → ⊥) → RefusesRoot S budget k
+  -- there is one, and the budget doesn't cover it
+  no_budget : k ≡ ReadLimitExceeded → IsPlace S 0 0 → budget ≡ Some 0 → RefusesRoot S budget k
 
 -- A message that was made has one segment, the canonical words of t.
 abbrev pub IsMade : View → Tree → Type 0
 IsMade made t = made.words ≡ encoding (trim t) ∷ []
 
--- The root of the message of these segments means t, within the limits of a reader's options; or the message is refused
--- within them by the name k.
+-- The root of the message of these segments means t, within the limits of a reader's options; or the walk that takes a size
+-- gives so many words and capabilities there; or it goes to its end, and they fit.
 abbrev pub ValueOf : List (List ℕ) → ReaderOptions → Tree → Type 0
 ValueOf segments options t = HasValue (message segments) (levels options.nesting_limit) options.traversal_limit_in_words t
 
-abbrev pub RefusesMessage : List (List ℕ) → ReaderOptions → ErrorKind → Type 0
-RefusesMessage segments options k = Refuses segments (levels options.nesting_limit) options.traversal_limit_in_words k
+abbrev pub SizeOf : List (List ℕ) → ReaderOptions → ℕ → ℕ → Type 0
+SizeOf segments options words caps = HasTotals (message segments) (levels options.nesting_limit) options.traversal_limit_in_words words caps
 
--- P holds wherever a message is within the limits of a reader, and means a value whose canonical words fit a segment.
-abbrev pub WhereFits : List (List ℕ) → ReaderOptions → Type 0 → Type 0
-WhereFits segments options P = (t : Tree) → IsSmall segments → ValueOf segments options t → 1 + word_count (trim t) ≤ max_segment_words → P
+abbrev pub IsSized : List (List ℕ) → ReaderOptions → Type 0
+IsSized segments options =
+    CoversRoot (message segments) options.traversal_limit_in_words
+    × HasSize (root_of (message segments) (levels options.nesting_limit)) (unused (less options.traversal_limit_in_words 1))
+
+-- P holds of the line that a command answers to a message with.
+abbrev pub Answers : List (List ℕ) → Args → (List ℕ → Type 0) → Type 0
+Answers segments (Canon options) P = (t : Tree) × ValueOf segments options t × P (canonical_line t)
+Answers segments (Size options) P = (words : ℕ) × (caps : ℕ) × SizeOf segments options words caps × P (size_line words caps)
+
+-- There is an answer: a value whose canonical words fit a segment; a size.
+abbrev pub HasAnswer : List (List ℕ) → Args → Type 0
+HasAnswer segments (Canon options) = (t : Tree) × ValueOf segments options t × (1 + word_count (trim t) ≤ max_segment_words)
+HasAnswer segments (Size options) = IsSized segments options
+
+-- P holds wherever a message is within the limits of a reader, and has an answer.
+abbrev pub WhereAnswered : List (List ℕ) → Args → Type 0 → Type 0
+WhereAnswered segments args P = IsSmall segments → HasAnswer segments args → P
+
+-- A command refuses what a root leads to by the name k: the copy is refused, or needs more words than a segment holds; the
+-- walk that takes a size is refused.
+abbrev pub RefusesValue : Args → Reading → Option ℕ → ErrorKind → Type 0
+RefusesValue (Canon options) r left k = RefusesCopy r left max_segment_words k
+RefusesValue (Size options) r left k = (m : Meter) × SizeRefused r (unused left) m k
+
+-- Why a command refuses a message, by the bytes of its segments, by the name k.
+pub data RefusesMessage (segments : List (List ℕ)) (args : Args) (k : ErrorKind) : Type 0 where
+  -- there are too many segments, or one is too large, for a reader
+  beyond_limits : (w : ℕ) → k ≡ MessageTooLarge w → (IsSmall segments → ⊥) → RefusesMessage segments args k
+  -- the root pointer is refused
+  at_root : RefusesRoot (message segments) (budget_of args) k → RefusesMessage segments args k
+  -- the budget covers the root pointer, and what it leads to is refused, with what the budget has left for it
+  below_root :
+      CoversRoot (message segments) (budget_of args) →
+      RefusesValue args (root_of (message segments) (levels_of args)) (less (budget_of args) 1) k →
+      RefusesMessage segments args k
 
 -- Memory was refused once more, from a count to another, and P holds of the line that says so.
 abbrev pub WantsMemory : ℕ → ℕ → (List ℕ → Type 0) → Type 0
 WantsMemory old new P = (new ≡ one_more old) × P (refusal_line AllocationFailed)
 
--- A message is refused within the limits of a reader's options, or memory was, and P holds of the line that names the refusal.
-abbrev pub AnswersRefusal : List (List ℕ) → ReaderOptions → ℕ → ℕ → (List ℕ → Type 0) → Type 0
-AnswersRefusal segments options old new P = (k : ErrorKind) × LacksMemoryOr old new k (RefusesMessage segments options k) × P (refusal_line k)
+-- A message is refused, or memory was, and P holds of the line that names the refusal.
+abbrev pub AnswersRefusal : List (List ℕ) → Args → ℕ → ℕ → (List ℕ → Type 0) → Type 0
+AnswersRefusal segments args old new P = (k : ErrorKind) × LacksMemoryOr old new k (RefusesMessage segments args k) × P (refusal_line k)
 
 -- The words of a message of one segment are written as a line, of which P holds.
 abbrev pub AnswersWords : View → (List ℕ → Type 0) → Type 0

@@ -3,8 +3,9 @@ use Rattle.std.specs.Prelude.{◌≡◌, ℕ, ℤ, pos, neg_ℤ, ◌<◌, ◌^�
 use mir.Val.{SFits as FitsSigned}
 use mir.Syntax.{w32}
 use Rattle.std.specs.Str.Parse.{IsNumeral, digits_value, starts_with_minus}
+use Rattle.capnp_arena.specs.declared.arena.reader_arena_impl.ReaderOptions.{ReaderOptions}
 use Rattle.capnp_layout.specs.declared.tool.args.Args.{Args}
-use Rattle.capnp_layout.specs.declared.tool.args.Args.TheVariants.{Canon}
+use Rattle.capnp_layout.specs.declared.tool.args.Args.TheVariants.{Canon, Size}
 
 -- the digits of a number that may be below zero
 abbrev pub without_minus : List ℕ → List ℕ
@@ -23,8 +24,13 @@ abbrev pub IsBudget : List ℕ → Option ℕ → Type 0
 IsBudget text None = text ≡ codes "none"
 IsBudget text (Some n) = IsNumeral 10 text × (n ≡ digits_value 10 text) × (n < 2 ^ 64)
 
--- the arguments are `canon NESTING BUDGET`
-abbrev pub AreArguments : List (List ℕ) → Args → Type 0
-AreArguments words (Canon options) =
-    (nesting : List ℕ) × (budget : List ℕ) × (words ≡ codes "canon" ∷ nesting ∷ budget ∷ []) × IsNesting nesting options.nesting_limit
+-- the arguments are a command of this name, and the limits of a reader's options
+abbrev pub IsCommand : List ℕ → List (List ℕ) → ReaderOptions → Type 0
+IsCommand name words options =
+    (nesting : List ℕ) × (budget : List ℕ) × (words ≡ name ∷ nesting ∷ budget ∷ []) × IsNesting nesting options.nesting_limit
     × IsBudget budget options.traversal_limit_in_words
+
+-- the arguments are `canon NESTING BUDGET` or `size NESTING BUDGET`
+abbrev pub AreArguments : List (List ℕ) → Args → Type 0
+AreArguments words (Canon options) = IsCommand (codes "canon") words options
+AreArguments words (Size options) = IsCommand (codes "size") words options

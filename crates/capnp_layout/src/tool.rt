@@ -5,6 +5,8 @@ mod canon;
 mod engine;
 mod lines;
 mod reading;
+mod root;
+mod size;
 mod writing;
 
 pub use args::{Args, parse_args};

@@ -1,6 +1,6 @@
 -- Budgets, step after step.
 -- Lemmas on `Means` name all its arguments: it is defined by recursion on the value, and the checker finds none of them from a premise.
-use Rattle.std.proofs.Common.{◌≡◌, ℕ, pred, ◌+◌, ◌*◌, ◌≤◌, Bool, true, false, Option, Some, None, refl, ap, ap₂, ◌∙◌, arith}
+use Rattle.std.proofs.Common.{◌≡◌, ℕ, suc, pred, ◌+◌, ◌*◌, ◌<◌, ◌≤◌, Bool, true, false, Option, Some, None, refl, ap, ap₂, ◌∙◌, arith}
 use Rattle.capnp_format.specs.Segments.{Segments, Target}
 use Rattle.capnp_format.specs.Tree.{Tree, Null, Capability, Struct, Flat, Pointers, Structs, Trees, no_trees, tree, Elements, no_elements, element, count, element_count}
 use Rattle.capnp_format.specs.Means.{Means, MeansAll, MeansElements}
@@ -105,3 +105,10 @@ mutual
     pointers_within_all (place r.segments r.levels r.segment _) ts k all,
     pointers_within_elements (place r.segments r.levels r.segment _) size es l rest,
   )
+
+-- pointers of elements are among their words, and those of a further element among those of all
+pub fewer_than_words : (j d q : ℕ) → j * q ≤ j * (d + q)
+fewer_than_words j d q = grind arith
+
+pub one_element_more : (j i q : ℕ) → j < i → j * q + q ≤ i * q
+one_element_more j i q lt = let up : suc j * q ≤ i * q = grind arith in omega (arith, up)

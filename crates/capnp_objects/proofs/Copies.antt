@@ -15,13 +15,13 @@ use Rattle.capnp_pointers.specs.declared.wire_pointer.StructSize.{StructSize}
 use Rattle.capnp_format.proofs.Levels.{one_value}
 use Rattle.capnp_format.proofs.Children.{with_last, means_more}
 use Rattle.capnp_format.proofs.Slices.{length_words}
-use Rattle.capnp_objects.proofs.Budgets.{after_none, affords_rest, affords_none, paid_both, paid_one, paid_all, paid_elements, pointers_within_all, pointers_within_elements}
+use Rattle.capnp_objects.proofs.Budgets.{one_element_more, after_none, affords_rest, affords_none, paid_both, paid_one, paid_all, paid_elements, pointers_within_all, pointers_within_elements}
 
-capabilities-with_last : (ts : Trees) (u : Tree) → capabilities_all (with_last ts u) ≡ capabilities_all ts + capabilities u
+pub capabilities-with_last : (ts : Trees) (u : Tree) → capabilities_all (with_last ts u) ≡ capabilities_all ts + capabilities u
 capabilities-with_last no_trees u = omega arith
 capabilities-with_last (tree t ts) u = omega (arith, capabilities-with_last ts u)
 
-pointers_in-with_last : (ts : Trees) (u : Tree) → pointers_in_all (with_last ts u) ≡ pointers_in_all ts + pointers_in u
+pub pointers_in-with_last : (ts : Trees) (u : Tree) → pointers_in_all (with_last ts u) ≡ pointers_in_all ts + pointers_in u
 pointers_in-with_last no_trees u = omega arith
 pointers_in-with_last (tree t ts) u = omega (arith, pointers_in-with_last ts u)
 
@@ -91,11 +91,11 @@ pub count-with_last_element : (es : Elements) (ws : List ℕ) (ts : Trees) → e
 count-with_last_element no_elements ws ts = refl
 count-with_last_element (element vs us es) ws ts = ap suc (count-with_last_element es ws ts)
 
-capabilities-with_last_element : (es : Elements) (ws : List ℕ) (ts : Trees) → capabilities_elements (with_last_element es ws ts) ≡ capabilities_elements es + capabilities_all ts
+pub capabilities-with_last_element : (es : Elements) (ws : List ℕ) (ts : Trees) → capabilities_elements (with_last_element es ws ts) ≡ capabilities_elements es + capabilities_all ts
 capabilities-with_last_element no_elements ws ts = omega arith
 capabilities-with_last_element (element vs us es) ws ts = omega (arith, capabilities-with_last_element es ws ts)
 
-pointers_in-with_last_element : (es : Elements) (ws : List ℕ) (ts : Trees) → pointers_in_elements (with_last_element es ws ts) ≡ pointers_in_elements es + pointers_in_all ts
+pub pointers_in-with_last_element : (es : Elements) (ws : List ℕ) (ts : Trees) → pointers_in_elements (with_last_element es ws ts) ≡ pointers_in_elements es + pointers_in_all ts
 pointers_in-with_last_element no_elements ws ts = omega arith
 pointers_in-with_last_element (element vs us es) ws ts = omega (arith, pointers_in-with_last_element es ws ts)
 
@@ -199,8 +199,5 @@ read_element_stop {form} {r} {size} {m} {m'} {m''} {es} i all lt refused =
           refused.only o.0 o.1 o.2 o.3 (λ t. omega (arith, takes t, o.5)) (affords_rest o.1 x (paid_elements all) o.4 covers);
       spent =
           spends_on (element_count es * q) q (paid_elements all)
-          (pointers_within_elements r size es all.cost all.means) (row (element_count es) i q lt) refused.spent;
+          (pointers_within_elements r size es all.cost all.means) (one_element_more (element_count es) i q lt) refused.spent;
     }
-  where
-    row : (j i q : ℕ) → j < i → j * q + q ≤ i * q
-    row j i q lt = let f : suc j * q ≤ i * q = grind arith in omega (arith, f)

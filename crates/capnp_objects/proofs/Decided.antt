@@ -14,7 +14,7 @@ use Rattle.capnp_objects.specs.Demands.{claim, tag, element_words}
 use Rattle.capnp_objects.specs.Faults.{of_struct, of_list, of_element, here, below, LeadsTo, child_at, one_less, Among, AmongElements, HasFault}
 use Rattle.capnp_objects.specs.Outcomes.{MeansThere, MeanThere, ElementsMean}
 use Rattle.capnp_objects.specs.Wanted.{BreaksObject, BreaksAt, Takes, follow_at}
-use Rattle.capnp_objects.specs.Wanted.{Form, an_object, plain, canonical}
+use Rattle.capnp_objects.specs.Wanted.{Form, plain, canonical}
 use Rattle.capnp_objects.specs.Reading.{Reading, word_of, behind, row, words_from, tag_size}
 use Rattle.capnp_objects.proofs.Followed.{leads_to, leads_there}
 use Rattle.capnp_objects.proofs.Parts.{claim_struct, claim_list, claim_flat}
@@ -50,7 +50,7 @@ FoundElements form r size m = (es : Elements) × (c : ℕ) × (element_count es 
 abbrev Everywhere : Form → Reading → Type 0
 Everywhere form r = (q : ℕ) → Choice form (record r { at = q })
 
-choose_all : (form : Form) (r : Reading) → Everywhere form r → (m : ℕ) → FoundAll form r m ⊎ ((k : ErrorKind) × Among one_less (BreaksAt (an_object form) k) r m)
+choose_all : (form : Form) (r : Reading) → Everywhere form r → (m : ℕ) → FoundAll form r m ⊎ ((k : ErrorKind) × Among one_less (BreaksAt form k) r m)
 choose_all form r h zero = inl (no_trees, 0, refl, refl, λ e. refl)
 choose_all form r h (suc m) = elim (h r.at) [
   | inl f ↦ elim (choose_all form (behind r 1) h m) [
@@ -61,7 +61,7 @@ choose_all form r h (suc m) = elim (h r.at) [
 ]
 
 choose_elements : (form : Form) (r : Reading) → Everywhere form r → (size : StructSize) (m : ℕ) → r.at + m * (size.data_words + size.pointers) ≤ length (row r) →
-    FoundElements form r size m ⊎ ((k : ErrorKind) × AmongElements one_less (BreaksAt (an_object form) k) r size m)
+    FoundElements form r size m ⊎ ((k : ErrorKind) × AmongElements one_less (BreaksAt form k) r size m)
 choose_elements form r h size zero fits = inl (no_elements, 0, refl, refl, λ e. refl)
 choose_elements form r h size (suc m) fits = elim (choose_all form (behind r size.data_words) h size.pointers) [
   | inl f ↦ elim (choose_elements form (behind (behind r size.data_words) size.pointers) h size m (omega arith)) [

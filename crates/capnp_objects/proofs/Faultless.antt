@@ -7,7 +7,7 @@ use Rattle.capnp_format.specs.Tree.{capabilities}
 use Rattle.capnp_objects.specs.Demands.{Meets}
 use Rattle.capnp_objects.specs.Faults.{IsPointer, Somewhere, here, below, LeadsTo, child_at, one_less}
 use Rattle.capnp_objects.specs.Wanted.{BreaksObject, BreaksAt, IsCanonical, Takes}
-use Rattle.capnp_objects.specs.Wanted.{Form, an_object}
+use Rattle.capnp_objects.specs.Wanted.{Form}
 use Rattle.capnp_objects.specs.Reading.{Reading}
 use Rattle.capnp_objects.proofs.Followed.{leads_to}
 use Rattle.capnp_objects.proofs.Parts.{Meant, Parts, is_null, is_capability, is_inner, means_parts}
@@ -37,14 +37,14 @@ not_refused _ sound h = absurd h
 pub same_target : (S : Segments) (s p : ℕ) {a b : Target} → leads S s p ≡ Some a → leads S s p ≡ Some b → a ≡ b
 same_target S s p l m = let e = sym l ∙ m in cc e
 
-pub target_sound : {r : Reading} {a : Target} (form : Form) (k : ErrorKind) → LeadsTo r a → Sound form r a → BreaksAt (an_object form) k r → ⊥
+pub target_sound : {r : Reading} {a : Target} (form : Form) (k : ErrorKind) → LeadsTo r a → Sound form r a → BreaksAt form k r → ⊥
 target_sound {r} {a} form k l s (some, inl refused) = let f = (leads_to r a l).1 in absurd (cc (f, refused))
 target_sound {r} {a} form k l s (some, inr (b, f, h)) =
     let e = sym (leads_to r a l).1 ∙ f in
     let q : a ≡ b = cc e in
     not_refused k s (rw q h)
 
-not_broken : {r : Reading} {m c : ℕ} (form : Form) (k : ErrorKind) → Takes form m → Parts r m c → BreaksAt (an_object form) k r → ⊥
+not_broken : {r : Reading} {m c : ℕ} (form : Form) (k : ErrorKind) → Takes form m → Parts r m c → BreaksAt form k r → ⊥
 not_broken form k takes (is_null z) b = b.0 z
 not_broken {r} form k takes (is_capability a l low one g) b = target_sound {r = r} form k l (sound_capability low (λ e. omega (arith, takes e, one))) b
 not_broken {r} form k takes (is_inner a l i) b = target_sound {r = r} form k l (sound_object i.meets) b
@@ -55,7 +55,7 @@ inner_child {r} {m} {c} {b} {q} (is_capability a la low one g) l o i =
     absurd (let e = same_target r.segments r.segment r.at la.1 l.1 in let w : a.word % 2 ^ 32 ≡ b.word % 2 ^ 32 = ap (λ x. x.word % 2 ^ 32) e in omega (arith, w, low, o.is_object))
 inner_child {r} {m} {c} {b} {q} (is_inner a la h) l o i = let e : b ≡ a = sym (same_target r.segments r.segment r.at la.1 l.1) in rw e (h.children q (rw (sym e) i))
 
-pub no_fault : (form : Form) (k : ErrorKind) {r : Reading} → Somewhere one_less (BreaksAt (an_object form) k) r → (m : ℕ) → Takes form m → Meant r m → ⊥
+pub no_fault : (form : Form) (k : ErrorKind) {r : Reading} → Somewhere one_less (BreaksAt form k) r → (m : ℕ) → Takes form m → Meant r m → ⊥
 no_fault form k {r} (here b) m takes (t, c, h, le) = not_broken form k (λ e. omega (arith, takes e, le)) (means_parts r t c h) b
 no_fault form k {r} (below a q l o i rest) m takes (t, c, h, le) =
     no_fault form k rest (capabilities t) (λ e. omega (arith, takes e, le)) (inner_child (means_parts r t c h) l o i)

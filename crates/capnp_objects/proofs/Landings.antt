@@ -29,9 +29,9 @@ use Rattle.capnp_objects.specs.Demands.{claim, amplified, own}
 use Rattle.capnp_objects.specs.Wanted.{BreaksObject, far_named, follow_at}
 use Rattle.capnp_objects.specs.Objects.{IsObject, IsHeld}
 use Rattle.capnp_objects.specs.Outcomes.{Entered}
-use Rattle.capnp_objects.specs.Refusals.{if_there, landing_words, granted_before, Stopped, pads_exceed as stopped_pads, nowhere as stopped_nowhere, broken as stopped_broken, claim_exceeds as stopped_claim, count_exceeds as stopped_count}
+use Rattle.capnp_objects.specs.Refusals.{if_there, landing_words, granted_before, Unfollowed, exceeding, leading_nowhere, Stopped, pads_exceed as stopped_pads, nowhere as stopped_nowhere, broken as stopped_broken, claim_exceeds as stopped_claim, count_exceeds as stopped_count}
 use Rattle.capnp_objects.specs.Landings.{target, IsPad, IsFollowed, NotFollowed, nowhere, pads_exceed, FollowsPointer, FailsPointer, IsEntered, NotEntered, broken, claim_exceeds, elements_exceed, IsOpened}
-use Rattle.capnp_objects.specs.Wanted.{plain}
+use Rattle.capnp_objects.specs.Wanted.{Form, plain}
 use Rattle.capnp_objects.specs.Reading.{Reading, reading_at, word_of}
 use Rattle.capnp_objects.proofs.Budgets.{less_none, affords_none, affords_rest, paid_both}
 use Rattle.capnp_objects.proofs.Followed.{leads_there}
@@ -51,7 +51,7 @@ counted_after : (charging : Bool) (m : Meter) → counted_once charging m ≡ af
 counted_after true m = ap (λ o. record { left = o; followed = raised m.followed 1 }) (sym (less_none m.left))
 counted_after false m = refl
 
-paid_charged : {charging : Bool} {m m' : Meter} {g : ℕ} → Affords charging m g → m' ≡ charged charging m g → Paid charging m m' g 0
+pub paid_charged : {charging : Bool} {m m' : Meter} {g : ℕ} → Affords charging m g → m' ≡ charged charging m g → Paid charging m m' g 0
 paid_charged {charging} {m} {m'} {g} covers e = record { covers = covers; spent = e ∙ charged_after charging m g }
 
 -- a demand is broken before anything is charged
@@ -250,19 +250,19 @@ pub record IsCounted (r : Reading) (m m' : Meter) : Type 0 where
   pub some : word_of r ≢ 0
   pub by_one : m' ≡ counted_once r.charging m
 
-paid_one : {r : Reading} {m m' : Meter} → IsCounted r m m' → Paid r.charging m m' 0 1
+pub paid_one : {r : Reading} {m m' : Meter} → IsCounted r m m' → Paid r.charging m m' 0 1
 paid_one {r} {m} {m'} o = record { covers = affords_none r.charging m; spent = o.by_one ∙ counted_after r.charging m }
 
 -- words that are charged after the pointer was counted
-charged_first : {r : Reading} {m m' m'' : Meter} {g : ℕ} → IsCounted r m m' → Paid r.charging m' m'' g 0 → Paid r.charging m m'' g 1
+pub charged_first : {r : Reading} {m m' m'' : Meter} {g : ℕ} → IsCounted r m m' → Paid r.charging m' m'' g 0 → Paid r.charging m m'' g 1
 charged_first {r} {m} {m'} {m''} {g} o paid =
     let none : 0 + g ≡ g = omega arith in
     subst (λ i. Paid r.charging m m'' i 1) none (paid_both (paid_one o) paid)
 
-reached : {r : Reading} {m m' m'' : Meter} {l : Landing} → IsCounted r m m' → FollowsPointer r m' m'' l → Reached r m m'' (target l)
+pub reached : {r : Reading} {m m' m'' : Meter} {l : Landing} → IsCounted r m m' → FollowsPointer r m' m'' l → Reached r m m'' (target l)
 reached {r} {m} {m'} {m''} {l} o f = record { follows = (o.some, f.leads_to); paid = charged_first o (paid_charged f.covers f.paid) }
 
-entered : {r : Reading} {m m' m'' : Meter} {a : Target} → Reached r m m' a → IsEntered r.segments r.charging r.levels a m' m'' → Entered r m m'' a
+pub entered : {r : Reading} {m m' m'' : Meter} {a : Target} → Reached r m m' a → IsEntered r.segments r.charging r.levels a m' m'' → Entered r m m'' a
 entered {r} {m} {m'} {m''} {a} o e =
     let more : Paid r.charging m' m'' (claim a.word + amplified r.segments a) 0 = paid_charged e.covers e.paid in
     let all : a.pads + (claim a.word + amplified r.segments a) ≡ own r.segments a = omega arith in
@@ -288,11 +288,18 @@ pub object_opened : {r : Reading} {m m₁ m₂ : Meter} {l : Landing} (m₃ : Me
 object_opened m₃ x o f h = opened m₃ x (reached o f) h
 
 -- the refusals
-pub stops_following : {r : Reading} {m m' m'' : Meter} {k : ErrorKind} → IsCounted r m m' → FailsPointer r m' m'' k → Stopped plain r m m'' k
-stops_following {r} {m} {m'} {m''} {k} o (nowhere h covers paid) = stopped_nowhere o.some h (charged_first o (paid_charged covers paid))
-stops_following {r} {m} {m'} {m''} {k} o (pads_exceed short same named) =
+pub unfollowed : {r : Reading} {m m' m'' : Meter} {k : ErrorKind} → IsCounted r m m' → FailsPointer r m' m'' k → Unfollowed r m m'' k
+unfollowed {r} {m} {m'} {m''} {k} o (nowhere h covers paid) = leading_nowhere o.some h (charged_first o (paid_charged covers paid))
+unfollowed {r} {m} {m'} {m''} {k} o (pads_exceed short same named) =
     let w : ℕ = landing_words r.segments (word_of r) in
-    stopped_pads o.some (λ h. short (affords_rest w w (paid_one o) (omega arith) h)) (subst (λ y. Paid r.charging m y 0 1) (sym same) (paid_one o)) named
+    exceeding o.some (λ h. short (affords_rest w w (paid_one o) (omega arith) h)) (subst (λ y. Paid r.charging m y 0 1) (sym same) (paid_one o)) named
+
+pub stops_unfollowed : {form : Form} {r : Reading} {m m' : Meter} {k : ErrorKind} → Unfollowed r m m' k → Stopped form r m m' k
+stops_unfollowed (exceeding some short paid named) = stopped_pads some short paid named
+stops_unfollowed (leading_nowhere some h paid) = stopped_nowhere some h paid
+
+pub stops_following : {r : Reading} {m m' m'' : Meter} {k : ErrorKind} → IsCounted r m m' → FailsPointer r m' m'' k → Stopped plain r m m'' k
+stops_following o h = stops_unfollowed (unfollowed o h)
 
 stops_entering : {r : Reading} {m m' m'' : Meter} {a : Target} {k : ErrorKind} → Reached r m m' a → NotEntered r.segments r.charging r.levels a m' m'' k → Stopped plain r m m'' k
 stops_entering {r} {m} {m'} {m''} {a} {k} o (broken h covers paid) = stopped_broken a o.follows h (paid_both o.paid (paid_charged covers paid))

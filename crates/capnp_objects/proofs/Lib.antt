@@ -12,3 +12,9 @@ pub mod Stops
 pub mod Truths
 pub mod Refusals
 pub mod Unreadable
+pub mod Expecting
+pub mod Typing
+pub mod Measures
+pub mod Sized
+pub mod Walked
+pub mod WalkStops

@@ -1,5 +1,5 @@
 -- What follows from a refusal: the place can't be read.
-use Rattle.std.proofs.Common.{◌≡◌, ◌⊎◌, ◌↔◌, inl, inr, ℕ, suc, pred, ◌+◌, ◌*◌, ◌<◌, ◌≤◌, Bool, true, false, cond, nat_eq, Option, Some, None, Result, Ok, Err, IsOk, IfOk, IfErr, refl, sym, ◌∙◌, subst, arith, eqb-true}
+use Rattle.std.proofs.Common.{◌≡◌, ◌⊎◌, ◌↔◌, inl, inr, ℕ, pred, ◌+◌, ◌*◌, ◌<◌, ◌≤◌, Bool, true, false, cond, nat_eq, Option, Some, None, Result, Ok, Err, IsOk, IfOk, IfErr, refl, sym, ◌∙◌, subst, arith, eqb-true}
 use Rattle.capnp_words.specs.declared.error.ErrorKind.{ErrorKind}
 use Rattle.capnp_words.specs.Meter.{Meter, FitsIn, Affords}
 use Rattle.capnp_format.specs.Word.{kind, offset_bits, data_words, pointer_count, element_size, list_count, is_double}
@@ -12,13 +12,13 @@ use Rattle.capnp_objects.specs.declared.object.Object.{Object}
 use Rattle.capnp_objects.specs.declared.object.Object.TheVariants.{Null as ObjectNull, Capability as ObjectCapability, Struct as ObjectStruct, Flat as ObjectFlat, Pointers as ObjectPointers, Structs as ObjectStructs}
 use Rattle.capnp_objects.specs.Outcomes.{Entered, Spends}
 use Rattle.capnp_objects.specs.Reading.{Reading, word_of, pointers_of, tag_size}
-use Rattle.capnp_objects.specs.Refusals.{if_there, landing_words, Stopped, pads_exceed, nowhere, broken, claim_exceeds, count_exceeds, CanBeRead, ReadsBefore, in_struct, in_pointers, in_element, StopsWithin, here, below, StopsAmong, StopsAmongElements, Refused, BreaksOff}
+use Rattle.capnp_objects.specs.Refusals.{if_there, landing_words, Unfollowed, exceeding, leading_nowhere, Stopped, pads_exceed, nowhere, broken, claim_exceeds, count_exceeds, CanBeRead, ReadsBefore, in_struct, in_pointers, in_element, StopsWithin, here, below, StopsAmong, StopsAmongElements, Refused, BreaksOff}
 use Rattle.capnp_objects.specs.Spending.{Paid}
 use Rattle.capnp_objects.specs.Wanted.{Form, plain}
-use Rattle.capnp_objects.proofs.Budgets.{affords_none, affords_both, paid_own, paid_all, paid_elements, pointers_within_all, pointers_within_elements}
+use Rattle.capnp_objects.proofs.Budgets.{fewer_than_words, one_element_more, affords_none, affords_both, paid_own, paid_all, paid_elements, pointers_within_all, pointers_within_elements}
 use Rattle.capnp_objects.proofs.Copies.{read_stop, read_element_stop, spends_on}
 use Rattle.capnp_objects.proofs.Faultless.{Sound, sound_capability, sound_object, target_sound, same_target}
-use Rattle.capnp_objects.proofs.Followed.{leads_there}
+use Rattle.capnp_objects.proofs.Followed.{leads_to, leads_there}
 use Rattle.capnp_objects.proofs.Stops.{object_spends, Reached, stopped_struct, stopped_pointers, stopped_structs, refused_here, refused_pads, refused_claim, refused_elements, leads_pads}
 use Rattle.capnp_objects.proofs.Objects.{own_struct, own_pointers, own_structs}
 use Rattle.capnp_objects.proofs.Unreadable.{Unreadable}
@@ -28,7 +28,7 @@ spends_once : {charging : Bool} {m m' : Meter} {g : ℕ} → Paid charging m m' 
 spends_once {g = g} paid = (g, 1, paid.covers, paid.spent, omega arith)
 
 -- the words of landing pads: none, or those of pads that are there
-landing_cases : (S : Segments) (x : ℕ) → (landing_words S x ≡ 0) ⊎ ((kind x ≡ 2) × (f : ℕ) × (pad S x (is_double x) ≡ Some f) × (landing_words S x ≡ 1 + is_double x))
+pub landing_cases : (S : Segments) (x : ℕ) → (landing_words S x ≡ 0) ⊎ ((kind x ≡ 2) × (f : ℕ) × (pad S x (is_double x) ≡ Some f) × (landing_words S x ≡ 1 + is_double x))
 landing_cases S x = go (nat_eq (kind x) 2) (pad S x (is_double x)) (eqb-true (kind x) 2) refl
   where
     go : (b : Bool) (o : Option ℕ) → (b ≡ true → kind x ≡ 2) → pad S x (is_double x) ≡ o → (cond b (if_there o (1 + is_double x)) 0 ≡ 0) ⊎ ((kind x ≡ 2) × (f : ℕ) × (o ≡ Some f) × (cond b (if_there o (1 + is_double x)) 0 ≡ 1 + is_double x))
@@ -90,12 +90,6 @@ pub unreadable : {form : Form} {k : ErrorKind} {r : Reading} {m m' : Meter} → 
 unreadable (here stopped) = stopped_here stopped
 unreadable (below a q o before rest) = stopped_below o before (unreadable rest)
 
-with_data : (j d q : ℕ) → j * q ≤ j * (d + q)
-with_data j d q = grind arith
-
-one_row_more : (j i q : ℕ) → j < i → j * q + q ≤ i * q
-one_row_more j i q lt = let up : suc j * q ≤ i * q = grind arith in omega (arith, up)
-
 -- what is spent where the reading of a value is broken off
 spends_below : {form : Form} {r : Reading} {m first mid m' : Meter} {q : ℕ} {a : Target} → Entered r m first a → ReadsBefore form r a q first mid → Spends r.charging mid m' 1 → Spends r.charging m m' 1
 spends_below {r = r} {a = a} o (in_struct ts z fewer e all) rest =
@@ -107,8 +101,8 @@ spends_below {r = r} {a = a} o (in_element es ts between (z, seven) fewer less e
     let n : ℕ = offset_bits (tag S a) in
     let q : ℕ = pointer_count (tag S a) in
     let fits = (o.meets.tagged (z, seven)).1 in
-    object_spends (n * q) (paid_own o) (omega (arith, own_structs S a z seven, fits, with_data n (data_words (tag S a)) q))
-    (spends_on (element_count es * q) q (paid_elements rows) (pointers_within_elements (child_at r a (pred r.levels) (a.start + 1)) (tag_size S a) es rows.cost rows.means) (one_row_more (element_count es) n q fewer)
+    object_spends (n * q) (paid_own o) (omega (arith, own_structs S a z seven, fits, fewer_than_words n (data_words (tag S a)) q))
+    (spends_on (element_count es * q) q (paid_elements rows) (pointers_within_elements (child_at r a (pred r.levels) (a.start + 1)) (tag_size S a) es rows.cost rows.means) (one_element_more (element_count es) n q fewer)
     (spends_on (count ts) 1 (paid_all all) (pointers_within_all (pointers_of (child_at r a (pred r.levels) (a.start + 1)) (tag_size S a) (element_count es)) ts all.cost all.means) (omega (arith, less)) rest))
 
 pub breaks_off_spends : {form : Form} {r : Reading} {m m' : Meter} → BreaksOff form r m m' → Spends r.charging m m' 1
@@ -117,7 +111,7 @@ breaks_off_spends (here (inr (a, o))) = spends_once (paid_own o)
 breaks_off_spends (below a q o before rest) = spends_below o before (breaks_off_spends rest)
 
 -- what is covered as a whole is covered in a part
-affords_less : (charging : Bool) (m : Meter) (h c : ℕ) → h ≤ c → Affords charging m c → Affords charging m h
+pub affords_less : (charging : Bool) (m : Meter) (h c : ℕ) → h ≤ c → Affords charging m c → Affords charging m h
 affords_less false m h c le covers = tt
 affords_less true m h c le covers = go m.left covers
   where
@@ -125,15 +119,24 @@ affords_less true m h c le covers = go m.left covers
     go None f = tt
     go (Some x) f = omega (arith, le, f)
 
+-- landing pads that are granted cover the words of landing pads
+landing_covered : (r : Reading) (m : Meter) (b : Target) → LeadsTo r b → Affords r.charging m b.pads → Affords r.charging m (landing_words r.segments (word_of r))
+landing_covered r m b l pads = elim (landing_cases r.segments (word_of r)) [
+  | inl none ↦ subst (Affords r.charging m) (sym none) (affords_none r.charging m)
+  | inr (two, f, there, words) ↦ subst (Affords r.charging m) (leads_pads r.segments r.segment r.at b l.1 two ∙ sym words) pads
+]
+
+-- where a pointer can be followed, it is
+pub not_unfollowed : {r : Reading} {m m' : Meter} {k : ErrorKind} (b : Target) → LeadsTo r b → Affords r.charging m b.pads → Unfollowed r m m' k → ⊥
+not_unfollowed {r} {m} b l pads (exceeding some short paid named) = short (landing_covered r m b l pads)
+not_unfollowed {r} b l pads (leading_nowhere some h paid) = absurd (let f = (leads_to r b l).1 in cc (f, h))
+
 -- where an object can be read, its reading isn't stopped
 abbrev IsSound : Reading → Meter → Target → Type 0
 IsSound r m a = LeadsTo r a × Sound plain r a × Affords r.charging m a.pads × (kind a.word < 2 → Affords r.charging m (own r.segments a))
 
 sound_not_stopped : {r : Reading} {m m' : Meter} {b : Target} {k : ErrorKind} → IsSound r m b → Stopped plain r m m' k → ⊥
-sound_not_stopped {r} {m} {m'} {b} (l, sound, pads, whole) (pads_exceed some short paid named) = elim (landing_cases r.segments (word_of r)) [
-  | inl none ↦ short (subst (Affords r.charging m) (sym none) (affords_none r.charging m))
-  | inr (two, f, there, words) ↦ short (subst (Affords r.charging m) (leads_pads r.segments r.segment r.at b l.1 two ∙ sym words) pads)
-]
+sound_not_stopped {r} {m} {m'} {b} (l, sound, pads, whole) (pads_exceed some short paid named) = short (landing_covered r m b l pads)
 sound_not_stopped {r} {k = k} (l, sound, pads, whole) (nowhere some h paid) = target_sound {r = r} plain k l sound (some, inl h)
 sound_not_stopped {r} {k = k} (l, sound, pads, whole) (broken a f h paid) = target_sound {r = r} plain k l sound (f.0, inr (a, f.1, h))
 sound_not_stopped {r} {m} {b = b} (l, sound, pads, whole) (claim_exceeds a f level object claims short paid named) =

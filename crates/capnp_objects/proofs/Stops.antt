@@ -14,7 +14,7 @@ use Rattle.capnp_objects.specs.Faults.{of_struct, of_list, of_element, here, bel
 use Rattle.capnp_objects.specs.Wanted.{BreaksAt}
 use Rattle.capnp_objects.specs.Outcomes.{MeansThere, MeanThere, ElementsMean, Spends, Entered}
 use Rattle.capnp_objects.proofs.Unreadable.{Unreadable, UnreadableAll, UnreadableElements}
-use Rattle.capnp_objects.specs.Wanted.{Form, an_object}
+use Rattle.capnp_objects.specs.Wanted.{Form}
 use Rattle.capnp_objects.specs.Spending.{Paid}
 use Rattle.capnp_objects.specs.Reading.{Reading, tag_size, word_of}
 use Rattle.capnp_format.proofs.Sound.{if_bind, at_some}
@@ -22,7 +22,7 @@ use Rattle.capnp_objects.proofs.Parts.{is_null, is_capability, is_inner, means_p
 use Rattle.capnp_objects.proofs.Followed.{leads_there}
 use Rattle.capnp_objects.proofs.Faultless.{same_target, no_fault}
 use Rattle.capnp_objects.proofs.Objects.{own_struct, own_pointers, own_structs}
-use Rattle.capnp_objects.proofs.Budgets.{paid_both, paid_own, affords_rest}
+use Rattle.capnp_objects.proofs.Budgets.{fewer_than_words, paid_both, paid_own, affords_rest}
 
 -- The word at a place is followed to a, and its pads are paid, from m to m', the pointer counted.
 pub record Reached (r : Reading) (m m' : Meter) (a : Target) : Type 0 where
@@ -122,15 +122,12 @@ stopped_structs {form} {r} {m} {m'} {m''} {a} o z seven refused =
           refused.only i.0 i.1 i.2 i.3 (λ e. omega (arith, takes e, i.4)) (affords_rest i.1 c (paid_own o) i.5 covers);
       spent =
           let fits = (o.meets.tagged (z, seven)).1 in
-          let few = fewer (offset_bits (tag S a)) (data_words (tag S a)) (pointer_count (tag S a)) in
+          let few = fewer_than_words (offset_bits (tag S a)) (data_words (tag S a)) (pointer_count (tag S a)) in
           object_spends (offset_bits (tag S a) * pointer_count (tag S a)) (paid_own o) (omega (arith, own_structs S a z seven, fits, few)) refused.spent;
     }
-  where
-    fewer : (j d q : ℕ) → j * q ≤ j * (d + q)
-    fewer j d q = grind arith
 
 -- a demand is broken at the place itself
-pub refused_here : {form : Form} {r : Reading} (m m' : Meter) {k : ErrorKind} → BreaksAt (an_object form) k r → Spends r.charging m m' 1 → Unreadable form r m m' k
+pub refused_here : {form : Form} {r : Reading} (m m' : Meter) {k : ErrorKind} → BreaksAt form k r → Spends r.charging m m' 1 → Unreadable form r m m' k
 refused_here {form} {r} m m' {k} b spent = record {
   named = here (inl b);
   only = λ t c h takes covers. no_fault form k {r = r} (here b) (capabilities t) takes (t, c, h, omega arith);

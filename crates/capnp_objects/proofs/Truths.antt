@@ -9,13 +9,13 @@ use Rattle.capnp_objects.specs.Faults.{Somewhere, here, below, one_less, HasFaul
 use Rattle.capnp_objects.specs.Outcomes.{Spends, Reads}
 use Rattle.capnp_objects.proofs.Unreadable.{Unreadable}
 use Rattle.capnp_objects.specs.Faults.{Fails}
-use Rattle.capnp_objects.specs.Wanted.{Form, an_object}
+use Rattle.capnp_objects.specs.Wanted.{Form}
 use Rattle.capnp_objects.specs.Reading.{Reading}
 use Rattle.capnp_objects.specs.Laws.{IsUnlimited}
 use Rattle.capnp_objects.proofs.Budgets.{pointers_within}
 
 -- a refusal names a fault that stands, or a charge that exceeds what is left
-named_so : (form : Form) (m : Meter) (k : ErrorKind) {r : Reading} → Somewhere one_less (Fails (an_object form) m k) r → HasFault form r k ⊎ ((k ≡ ReadLimitExceeded) × Somewhere one_less (Exceeds m) r)
+named_so : (form : Form) (m : Meter) (k : ErrorKind) {r : Reading} → Somewhere one_less (Fails form m k) r → HasFault form r k ⊎ ((k ≡ ReadLimitExceeded) × Somewhere one_less (Exceeds m) r)
 named_so form m k (here (inl b)) = inl (here b)
 named_so form m k (here (inr x)) = inr (x.0, here x.1)
 named_so form m k (below a q l o i rest) = elim (named_so form m k rest) [

@@ -9,7 +9,7 @@ use Rattle.capnp_format.specs.Segments.{Segments, Target, pad}
 use Rattle.capnp_format.specs.Means.{Leads, Claims}
 use Rattle.capnp_objects.specs.Demands.{claim, tag, amplified, IsStructList, Meets}
 use Rattle.capnp_objects.specs.Reading.{Reading, pointers_of, word_of}
-use Rattle.capnp_objects.specs.Wanted.{Form, Wanted, an_object, BreaksAt}
+use Rattle.capnp_objects.specs.Wanted.{Form, BreaksAt}
 
 -- The word at position q of the object's segment is one of the object's pointers.
 pub data IsPointer (S : Segments) (a : Target) (q : ℕ) : Type 0 where
@@ -60,9 +60,9 @@ abbrev pub Exceeds : Meter → Reading → Type 0
 Exceeds m r = (x : ℕ) × Charges r x × (Affords r.charging m x → ⊥)
 
 -- A place breaks a demand of the name k, or charges more than m has left.
-abbrev pub Fails : Wanted → Meter → ErrorKind → Reading → Type 0
-Fails want m k r = BreaksAt want k r ⊎ (k ≡ ReadLimitExceeded) × Exceeds m r
+abbrev pub Fails : Form → Meter → ErrorKind → Reading → Type 0
+Fails form m k r = BreaksAt form k r ⊎ (k ≡ ReadLimitExceeded) × Exceeds m r
 
 -- Some reached place breaks a demand of the name k.
 abbrev pub HasFault : Form → Reading → ErrorKind → Type 0
-HasFault form r k = Somewhere one_less (BreaksAt (an_object form) k) r
+HasFault form r k = Somewhere one_less (BreaksAt form k) r

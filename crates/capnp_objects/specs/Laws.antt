@@ -1,14 +1,17 @@
--- What a refusal of a whole value tells, as statements. Each is a clause of a function of the module `laws`, and so is
+-- What a refusal of a whole value tells, and what its size is, as statements. Each is a clause of a function of the module `laws`, and so is
 -- proved.
-use Rattle.std.specs.Prelude.{◌≡◌, ◌⊎◌, ℕ, ◌+◌, ◌≤◌, Bool, true, Some}
+use Rattle.std.specs.Prelude.{◌≡◌, ◌⊎◌, ℕ, ◌+◌, ◌<◌, ◌≤◌, Bool, true, Some}
 use Rattle.capnp_words.specs.declared.error.ErrorKind.{ErrorKind}
 use Rattle.capnp_words.specs.declared.error.ErrorKind.TheVariants.{ReadLimitExceeded}
 use Rattle.capnp_words.specs.Meter.{Meter, Affords}
-use Rattle.capnp_format.specs.Tree.{Tree, capabilities}
+use Rattle.capnp_format.specs.Segments.{AreWords}
+use Rattle.capnp_format.specs.Tree.{Tree, depth, capabilities}
+use Rattle.capnp_format.specs.Canonical.{word_count, trim}
 use Rattle.capnp_objects.specs.Faults.{Somewhere, one_less, Exceeds, HasFault}
 use Rattle.capnp_objects.specs.Outcomes.{MeansThere, Reads}
 use Rattle.capnp_objects.specs.Reading.{Reading}
 use Rattle.capnp_objects.specs.Refusals.{Refused, BreaksOff}
+use Rattle.capnp_objects.specs.Sizing.{SizedThere, Totals}
 use Rattle.capnp_objects.specs.Wanted.{Form, Takes}
 
 -- The demand that is named is broken at a reached place; or the read limit is named, and a reached place charges more than
@@ -45,3 +48,20 @@ FewFollowed =
     (form : Form) (r : Reading) (m m' : Meter) (x : ℕ) → r.charging ≡ true → m.left ≡ Some x
     → ((t : Tree) × Reads form r m m' t) ⊎ ((k : ErrorKind) × Refused form r m m' k) ⊎ BreaksOff form r m m'
     → m'.followed ≤ m.followed + (x + 1)
+
+-- The words and capabilities of an answer are those of the value that the place means, whatever the levels of either.
+abbrev pub SizeOfValue : Type 0
+SizeOfValue =
+    (r : Reading) (n : ℕ) (m m' : Meter) (words caps : ℕ) (t : Tree) (c : ℕ) → Totals r m m' words caps → MeansThere (record r { levels = n }) t c
+    → (words ≡ word_count t) × (caps ≡ capabilities t)
+
+-- The canonical words behind the pointer of the value are no more than the words of an answer.
+abbrev pub CanonicalWithinTotal : Type 0
+CanonicalWithinTotal =
+    (r : Reading) (n : ℕ) (m m' : Meter) (words caps : ℕ) (t : Tree) (c : ℕ) → AreWords r.segments → Totals r m m' words caps → MeansThere (record r { levels = n }) t c
+    → word_count (trim t) ≤ words
+
+-- A value is walked over within more levels than its depth, at no greater cost.
+abbrev pub ValuesHaveSizes : Type 0
+ValuesHaveSizes =
+    (r : Reading) (n : ℕ) (t : Tree) (c : ℕ) → MeansThere (record r { levels = n }) t c → depth t < r.levels → (k : ℕ) × (k ≤ c) × SizedThere r t k

@@ -7,6 +7,11 @@ pub mod Spending
 pub mod Faults
 pub mod Outcomes
 pub mod Refusals
+pub mod Expected
+pub mod Types
 pub mod Objects
 pub mod Landings
+pub mod Entering
+pub mod Measures
+pub mod Sizing
 pub mod Laws

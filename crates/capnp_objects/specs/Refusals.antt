@@ -35,6 +35,12 @@ granted_before a k = 0
 abbrev pub FollowsTo : Reading → Target → Type 0
 FollowsTo r a = (word_of r ≢ 0) × (follow_at r ≡ Ok a)
 
+-- The pointer at a place is not followed, from m to m', for the reason k: it is counted, and nothing is granted where its
+-- landing pads are not covered; else it leads nowhere, and these are granted, if they are there.
+pub data Unfollowed (r : Reading) (m m' : Meter) (k : ErrorKind) : Type 0 where
+  exceeding : word_of r ≢ 0 → (Affords r.charging m (landing_words r.segments (word_of r)) → ⊥) → Paid r.charging m m' 0 1 → k ≡ ReadLimitExceeded → Unfollowed r m m' k
+  leading_nowhere : word_of r ≢ 0 → follow_at r ≡ Err k → Paid r.charging m m' (landing_words r.segments (word_of r)) 1 → Unfollowed r m m' k
+
 -- The reading of one object stops, from m to m', by the name k. The pointer is counted, and what was granted is: nothing,
 -- where its landing pads are not covered; these, where it leads nowhere; these and what the object claims, where its tag is
 -- wrong, and else these alone, where it breaks a demand; these, where its claim is not covered; both, where the number of

@@ -1,7 +1,7 @@
-//! What a refusal tells. Each function does nothing: its contract is the law, proved for all messages and limits. How a
+//! What a refusal tells, and what a size is of. Each function does nothing: its contract is the law, proved for all messages and limits. How a
 //! refusal is stated in contracts is in `specs/Refusals.antt`, and docs/FORMAT.md has it in plain words.
 
-ghost use Rattle.capnp_objects.specs.Laws.{RefusedTruly, LimitOfCharges, RefusedRightly, RefusedUnlimited, ValueOrFault, FewFollowed};
+ghost use Rattle.capnp_objects.specs.Laws.{RefusedTruly, LimitOfCharges, RefusedRightly, RefusedUnlimited, ValueOrFault, FewFollowed, SizeOfValue, ValuesHaveSizes, CanonicalWithinTotal};
 
 /// A refusal names a demand that a reached place breaks, or the read limit, where a reached place charges more than is
 /// left; and the read limit is named for nothing else.
@@ -28,4 +28,16 @@ pub fn value_or_fault()
 /// Under a budget of x words a reading, whether it ends in a value or not, follows at most x + 1 pointers.
 pub fn few_followed()
     ensures { FewFollowed }
+{}
+
+/// Where a place means a value, the size of it is that of this value, whatever the levels of either.
+pub fn size_of_value()
+    ensures size { SizeOfValue }
+    ensures canonical { CanonicalWithinTotal }
+{}
+
+/// Where a place means a value there is a walk over it within more levels than its depth, at no
+/// greater cost.
+pub fn values_have_sizes()
+    ensures { ValuesHaveSizes }
 {}

@@ -82,3 +82,17 @@ pub enum Object<'a> {
         count: u32,
     },
 }
+
+/// What a reading call expects a pointer to lead to.
+#[derive(Clone, Copy)]
+pub enum Expected {
+    /// A struct.
+    Struct,
+    /// A list whose elements are at least as wide as those of a size: `Void` and `InlineComposite`
+    /// take elements of any width but one bit.
+    List(ElementSize),
+    /// A list of bytes, the last of which is 0.
+    Text,
+    /// A list of bytes.
+    Data,
+}

@@ -16,6 +16,10 @@ ghost use Rattle.capnp_objects.specs.Objects.{IsObject, IsHeld, IsFew};
 ghost use Rattle.capnp_objects.specs.Refusals.{Stopped, CanBeRead};
 ghost use Rattle.capnp_objects.specs.Landings.{target, IsPad, FollowsPointer, FailsPointer, FollowsFar, FailsFar, IsClaimed, NotEntered, IsOpened};
 
+mod expected;
+mod measure;
+mod types;
+
 use crate::object::{Object, Place};
 use capnp_arena::arena::ReaderArena;
 use capnp_words::error::ErrorKind;
@@ -116,6 +120,7 @@ impl<'a, A: ReaderArena> Source<'a, A> {
 
     // Follows the word at a place, which is not zero. A default has no segment that a far pointer
     // could name.
+    #[inline(always)]
     fn follow(
         self,
         place: Place<'a>,
@@ -147,6 +152,7 @@ impl<'a, A: ReaderArena> Source<'a, A> {
     }
 
     // Enters the object that a pointer leads to, which takes one of `depth` levels.
+    #[inline(always)]
     fn enter(
         self,
         landing: Landing<'a>,
@@ -219,6 +225,7 @@ impl<'a, A: ReaderArena> Source<'a, A> {
     }
 
     // Enters a list.
+    #[inline(always)]
     fn enter_list(
         self,
         landing: Landing<'a>,
@@ -352,6 +359,7 @@ impl<'a, A: ReaderArena> Source<'a, A> {
 }
 
 // Follows a far pointer of a message.
+#[inline(never)]
 fn follow_far<'a, A: ReaderArena>(
     arena: &'a A,
     far: WirePointer,

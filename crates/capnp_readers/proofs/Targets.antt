@@ -1,6 +1,5 @@
 -- From what is read at a place to what its reader shows.
--- `structs_target` takes seven arguments: what the reading gave, and what the made reader shows, fact by fact.
-use Rattle.std.proofs.Common.{◌≡◌, ℕ, pos, ◌-ℤ◌, ◌≤◌, Result, Ok, Err, IsOk, IsErr, sym, subst, arith}
+use Rattle.std.proofs.Common.{◌≡◌, ℕ, pos, ◌-ℤ◌, ◌≤◌, sym, subst, arith}
 use Rattle.capnp_words.specs.Meter.{Meter}
 use Rattle.capnp_format.specs.Segments.{Segments, Target}
 use Rattle.capnp_pointers.specs.Sizes.{size_number}
@@ -14,7 +13,7 @@ use Rattle.capnp_objects.specs.Reading.{Reading}
 use Rattle.capnp_readers.specs.Readers.{ShowsStruct, ShowsList, IsListOf, IsTarget, reading}
 use Rattle.capnp_objects.specs.declared.object.Place.{Place}
 use Rattle.capnp_objects.specs.declared.object.Object.{Object}
-use Rattle.capnp_objects.specs.declared.object.Object.TheVariants.{Struct as ObjectStruct, Flat as ObjectFlat, Pointers as ObjectPointers, Structs as ObjectStructs}
+use Rattle.capnp_objects.specs.declared.object.Object.TheVariants.{Struct as ObjectStruct, Flat as ObjectFlat, Pointers as ObjectPointers}
 use Rattle.capnp_readers.specs.declared.readers.PointerReader.{PointerReader}
 use Rattle.capnp_readers.specs.declared.readers.struct_reader.StructReader.{StructReader}
 use Rattle.capnp_readers.specs.declared.readers.list_reader.ListReader.{ListReader}
@@ -27,9 +26,6 @@ read_within r m m' x e h = subst (λ k. IsObject (record r { levels = k }) m m' 
 module _ {A : Type 0} (g : Ghosts A) where
   shows_struct : {S : Segments} {r : StructReader A g} {s t p i d e q f : ℕ} → ShowsStruct g S r s p d q → s ≡ t → p ≡ i → d ≡ e → q ≡ f → ShowsStruct g S r t i e f
   shows_struct h k l m n = rw (← k, ← l, ← m, ← n) h
-
-  shows_structs : {S : Segments} {r : ListReader A g} {s t p i n k d e q f : ℕ} → ShowsList g S r s p n d q → s ≡ t → p ≡ i → n ≡ k → d ≡ e → q ≡ f → ShowsList g S r t i k e f
-  shows_structs h a b c x y = rw (← a, ← b, ← c, ← x, ← y) h
 
   shows_list : {S : Segments} {r : ListReader A g} {s t p i n k : ℕ} → ShowsList g S r s p n 0 0 → s ≡ t → p ≡ i → n ≡ k → ShowsList g S r t i k 0 0
   shows_list h a b c = rw (← a, ← b, ← c) h
@@ -60,16 +56,3 @@ module _ {A : Type 0} (g : Ghosts A) where
       (r.source ≡ from.source) × (r.nesting_limit ≡ from.nesting_limit -ℤ pos 1) → IsTarget g from m m' (List r)
   pointers_target from start {r} (a, entered, z, six, (held, u, at), counted) wide shows (same, level) =
       (a, entered, z, flat_list r.element_size a (rw wide (omega arith)) (rw wide six) (shows_list shows u (omega arith) counted), same, level)
-
-  pub structs_target : (from : PointerReader A g) {m m' : Meter} (start : Place) (size : StructSize) {count : ℕ} {r : ListReader A g} →
-      IsObject (reading g from) m m' (ObjectStructs start size count) → r.element_size ≡ InlineComposite → ShowsList g (reading g from).segments r start.segment start.at count size.data_words size.pointers →
-      (r.source ≡ from.source) × (r.nesting_limit ≡ from.nesting_limit -ℤ pos 1) → IsTarget g from m m' (List r)
-  structs_target from start size {r = r} (a, entered, z, seven, (held, u, at), counted, d, q) wide shows (same, level) =
-      let S : Segments = (reading g from).segments in
-      let list : IsListOf g InlineComposite S r a = (seven, shows_structs shows u (omega arith) counted d q) in
-      (a, entered, z, subst (λ size. IsListOf g size S r a) (sym wide) list, same, level)
-
--- an error is no success
-pub not_ok : {A E : Type 0} (result : Result A E) → IsErr result → IsOk result → ⊥
-not_ok (Ok x) e o = absurd (cc e)
-not_ok (Err k) e o = absurd (cc o)

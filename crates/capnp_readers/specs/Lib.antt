@@ -1,2 +1,4 @@
 pub mod Sections
 pub mod Readers
+pub mod Sizes
+pub mod Calls

@@ -14,7 +14,9 @@ use Rattle.capnp_objects.specs.Demands.{tag}
 use Rattle.capnp_objects.specs.Faults.{LeadsTo}
 use Rattle.capnp_objects.specs.Reading.{Reading, reading_at, word_of}
 use Rattle.capnp_objects.specs.Outcomes.{Entered}
-use Rattle.capnp_readers.specs.Sections.{bytes_for, list_words}
+use Rattle.capnp_objects.specs.Objects.{IsObject}
+use Rattle.capnp_objects.specs.declared.object.Object.{Object}
+use Rattle.capnp_readers.specs.Sections.{bytes_for, list_words, step_bits}
 use Rattle.capnp_objects.specs.Source.{source_segments}
 use Rattle.capnp_objects.specs.Spending.{after}
 use Rattle.capnp_readers.specs.declared.readers.PointerReader.{PointerReader}
@@ -81,6 +83,10 @@ module _ {A : Type 0} (g : Ghosts A) where
       (element_size a.word ≡ 7) × ShowsList S r a.segment (a.start + 1) (offset_bits (tag S a)) (data_words (tag S a)) (pointer_count (tag S a))
   IsListOf size S r a = (element_size a.word ≡ size_number size) × ShowsList S r a.segment a.start (list_count a.word) 0 0
 
+  -- The bit of a list's words at which element number i starts.
+  abbrev pub element_start : ListReader A g → ℕ → ℕ
+  element_start list i = i * step_bits list.element_size list.struct_size
+
   -- What a pointer reader reads.
   abbrev pub reading : PointerReader A g → Reading
   reading r = reading_at g r.source r.place r.nesting_limit
@@ -99,3 +105,7 @@ module _ {A : Type 0} (g : Ghosts A) where
   IsTarget from m m' (List r) =
       (a : Target) × Entered (reading from) m m' a × (kind a.word ≡ 1) × IsListOf r.element_size (reading from).segments r a
       × (r.source ≡ from.source) × (r.nesting_limit ≡ from.nesting_limit -ℤ pos 1)
+
+  -- An object was read of the pointer.
+  abbrev pub WasRead : PointerReader A g → Object → Type 0
+  WasRead from x = (m : Meter) × (m' : Meter) × IsObject (reading from) m m' x

@@ -1,10 +1,10 @@
 -- Parts of a segment that a reader holds as slices.
-use Rattle.std.specs.Prelude.{◌≡◌, ℕ, List, take, drop, length, ◌+◌, ◌*◌, ◌/◌, ◌%◌, ◌^◌, slice_index, ◌<◌, ◌≤◌}
+use Rattle.std.specs.Prelude.{◌≡◌, ℕ, List, take, drop, length, ◌+◌, ◌*◌, ◌/◌, ◌%◌, ◌^◌, slice_index, slice_range, min, ◌<◌, ◌≤◌}
 use Rattle.capnp_format.specs.Segments.{Segments, segment}
-use Rattle.capnp_format.specs.Numbers.{words_for}
+use Rattle.capnp_format.specs.Numbers.{from_digits, words_for, element_bits}
 use Rattle.capnp_pointers.specs.Sizes.{size_number}
 use Rattle.capnp_pointers.specs.declared.wire_pointer.ElementSize.{ElementSize}
-use Rattle.capnp_pointers.specs.declared.wire_pointer.ElementSize.TheVariants.{Pointer, InlineComposite}
+use Rattle.capnp_pointers.specs.declared.wire_pointer.ElementSize.TheVariants.{Bit, Pointer, InlineComposite}
 use Rattle.capnp_pointers.specs.declared.wire_pointer.StructSize.{StructSize}
 use Rattle.capnp_objects.specs.declared.object.Place.{Place}
 
@@ -48,3 +48,28 @@ HoldsPointer size sections = ⊥
 abbrev pub pointers_behind : ElementSize → StructSize → ℕ → ℕ
 pointers_behind InlineComposite sections i = i * (sections.data_words + sections.pointers) + sections.data_words
 pointers_behind size sections i = i
+
+-- How many bits there are from the start of an element to the start of the next.
+abbrev pub step_bits : ElementSize → StructSize → ℕ
+step_bits InlineComposite sections = 64 * (sections.data_words + sections.pointers)
+step_bits Pointer sections = 64
+step_bits size sections = element_bits (size_number size)
+
+-- How many bits of data an element has: a struct those of its data section, a pointer none.
+abbrev pub data_bits : ElementSize → StructSize → ℕ
+data_bits InlineComposite sections = 64 * sections.data_words
+data_bits size sections = element_bits (size_number size)
+
+-- The lowest 64 data bits of element number i as a number, of its own width where that is less.
+abbrev pub low_data : ElementSize → StructSize → List ℕ → ℕ → ℕ
+low_data Bit sections bytes i = bit_at bytes i
+low_data size sections bytes i =
+    let start = i * step_bits size sections / 8 in
+    from_digits 256 (slice_range bytes start (start + min 64 (data_bits size sections) / 8))
+
+-- Elements are as wide as those of an expected size, or wider: they have at least its bits of data, and a pointer where it is
+-- one; and they are bits only where bits are expected.
+pub record IsWide (expected found : ElementSize) (sections : StructSize) : Type 0 where
+  pub bits : element_bits (size_number expected) ≤ data_bits found sections
+  pub pointers : size_number expected ≡ 6 → HoldsPointer found sections
+  pub whole : size_number found ≡ 1 → size_number expected ≡ 1

@@ -1,7 +1,7 @@
 //! Readers: pointers, structs and lists of a message, in place.
-ghost use Rattle.std.specs.Prelude.{◌≡◌, ◌<◌, ◌≤◌, ◌+◌, ◌*◌, ◌/◌, ◌^◌, ◌↔◌, ℕ, pos, false, ⊤, IsTrue, IfOk, IsOk, OnOk, OnErr, IfErr, length};
+ghost use Rattle.std.specs.Prelude.{◌≡◌, Some, ◌<◌, ◌≤◌, ◌+◌, ◌*◌, ◌/◌, ◌^◌, ◌↔◌, ℕ, pos, false, ⊤, IsTrue, IfOk, IsOk, OnOk, OnErr, IfErr, IfSome, length, take, drop};
 ghost use Rattle.capnp_format.specs.Bytes.{message};
-ghost use Rattle.capnp_words.specs.Meter.{Affords, charged};
+ghost use Rattle.capnp_words.specs.Meter.{Meter, Affords, charged};
 ghost use Rattle.capnp_format.specs.Segments.{word_at, segment, IsPlace};
 ghost use Rattle.capnp_words.specs.declared.error.ErrorKind.TheVariants.{MessageContainsOutOfBoundsPointer, ReadLimitExceeded};
 ghost use Rattle.capnp_arena.specs.Checks.{Holds, misplaced};
@@ -9,19 +9,27 @@ ghost use Rattle.capnp_objects.specs.Source.{source_segments, source_charging, d
 ghost use Rattle.capnp_objects.specs.Refusals.{Stopped, CanBeRead};
 ghost use Rattle.capnp_objects.specs.Objects.{IsHeld};
 ghost use Rattle.capnp_objects.specs.Reading.{word_of};
+ghost use Rattle.capnp_objects.specs.Objects.{IsFew, IsObject};
+ghost use Rattle.capnp_objects.specs.Expected.{null_default, one_level, IsGiven};
+ghost use Rattle.capnp_objects.specs.Types.{IsNoCapability, IsOfType, HasType, HasNoType};
+ghost use Rattle.capnp_format.specs.Word.{lower_half, upper_half};
 ghost use Rattle.capnp_objects.specs.Wanted.{plain};
 
 mod list_reader;
+mod primitive_element;
+mod sizes;
 mod struct_reader;
 mod target;
 
 use capnp_arena::arena::ReaderArena;
-use capnp_objects::object::{Object, Place};
+use capnp_objects::object::{Expected, Object, Place};
 use capnp_objects::source::Source;
 use capnp_words::error::ErrorKind;
 use capnp_words::read_limiter::ReadLimiter;
-use capnp_words::wire_pointer::{ElementSize, StructSize};
+use capnp_words::wire_pointer::{ElementSize, PointerType, StructSize};
 pub use list_reader::{ListPlace, ListReader};
+pub use primitive_element::PrimitiveElement;
+pub use sizes::MessageSize;
 use std::alloc::AllocError;
 pub use struct_reader::{StructPlace, StructReader};
 pub use target::Target;
@@ -68,7 +76,8 @@ impl<'a, A: ReaderArena> Clone for PointerReader<'a, A> {
 impl<'a, A: ReaderArena> Copy for PointerReader<'a, A> {}
 
 impl<'a, A: ReaderArena> PointerReader<'a, A> {
-    ghost use Rattle.capnp_readers.specs.Readers.{IsTarget, reading};
+    ghost use Rattle.capnp_readers.specs.Readers.{IsTarget, WasRead, reading};
+    ghost use Rattle.capnp_readers.specs.Calls.{call, IsRead, IsUnread, IsAnswered, IsRefused, WhereRead, IsStructRead, IsListRead, AreBytesRead};
 
     /// The pointer from nothing, which is null. Its nesting limit is `i32::MAX`.
     pub fn new_default() -> Self
@@ -175,6 +184,245 @@ impl<'a, A: ReaderArena> PointerReader<'a, A> {
         self.place.word().is_null()
     }
 
+    // The pointer of a default, which stands for this one, that is null.
+    #[inline(never)]
+    fn default_of(self, expected: Expected, bytes: &'a [u8]) -> Result<Self, ErrorKind>
+        requires null { word_of (reading A.ReaderArena self) ≡ 0 }
+        requires small { length bytes.now / 8 < 2 ^ 32 }
+        ensures read { IfOk result (λ p. IsRead A.ReaderArena expected self.entry p (Some bytes.entry)) }
+        ensures unread { IfErr result (λ k. IsUnread A.ReaderArena expected self.entry k (Some bytes.entry)) }
+    {
+        let default = match Self::from_default(bytes) {
+            Ok(default) => default,
+            Err(kind) => return Err(kind),
+        };
+        let from = PointerReader {
+            source: default.source,
+            place: default.place,
+            nesting_limit: self.nesting_limit,
+        };
+        if !from.is_null() {
+            return Ok(from);
+        }
+        match name_of_null_default(expected) {
+            Some(kind) => Err(kind),
+            None => Ok(from),
+        }
+    }
+
+    // The pointer that a call reads: this one, or where it is null that of a default.
+    #[inline(always)]
+    fn or_default(self, expected: Expected, default: Option<&'a [u8]>) -> Result<Self, ErrorKind>
+        requires small { IfSome default (λ bytes. length bytes.now / 8 < 2 ^ 32) }
+        ensures read { IfOk result (λ p. IsRead A.ReaderArena expected self.entry p default.entry) }
+        ensures unread { IfErr result (λ k. IsUnread A.ReaderArena expected self.entry k default.entry) }
+    {
+        match default {
+            None => Ok(self),
+            Some(bytes) => {
+                if self.is_null() {
+                    self.default_of(expected, bytes)
+                } else {
+                    Ok(self)
+                }
+            }
+        }
+    }
+
+    // The pointer that a call reads, and what it leads to.
+    #[inline(always)]
+    fn expect(
+        self,
+        expected: Expected,
+        lim: &mut ReadLimiter,
+        default: Option<&'a [u8]>,
+    ) -> Result<(Self, Object<'a>), ErrorKind>
+        requires small { IfSome default (λ bytes. length bytes.now / 8 < 2 ^ 32) }
+        ensures read { IfOk result (λ x. IsRead A.ReaderArena expected self.entry x.0 default.entry) }
+        ensures object { IfOk result (λ x. IsObject (one_level (reading A.ReaderArena x.0)) lim.old lim.new x.1) }
+        ensures given { IfOk result (λ x. IsGiven expected (reading A.ReaderArena x.0).levels x.1) }
+        ensures few { IfOk result (λ x. IsFew x.1) }
+        ensures exactly { IsOk result ↔ IsAnswered A.ReaderArena (call A.ReaderArena self.entry expected default.entry) lim.old }
+        ensures refused { IfErr result (IsRefused A.ReaderArena (call A.ReaderArena self.entry expected default.entry) lim.old lim.new) }
+    {
+        let from = match self.or_default(expected, default) {
+            Ok(from) => from,
+            Err(kind) => return Err(kind),
+        };
+        match from
+            .source
+            .read_expected(expected, from.place, from.nesting_limit, lim)
+        {
+            Ok(object) => Ok((from, object)),
+            Err(kind) => Err(kind),
+        }
+    }
+
+    /// The struct that the pointer leads to ("Structs"). A null pointer gives that of the default; where
+    /// there is none, or its pointer is null, the struct from nothing, which has no sections.
+    ///
+    /// The nesting limit must be at least 1 (`MessageIsTooDeeplyNestedOrContainsCycles`), and the struct's
+    /// is one less. Then the pointer is counted as followed, and its landing pads and the words of the
+    /// struct are charged, each before it is read. An object of another kind is
+    /// `MessageContainsNonStructPointerWhereStructPointerWasExpected`, a place outside of its segment
+    /// `MessageContainsOutOfBoundsPointer`, a segment that isn't there `InvalidSegmentId`, and what the
+    /// limiter doesn't cover `ReadLimitExceeded`; what was charged before stays charged.
+    ///
+    /// A default has fewer than 2^32 words. It is one segment, its pointer in word 0, is read within the
+    /// pointer's own nesting limit, and charges and counts nothing. One of no whole word is
+    /// `MessageContainsOutOfBoundsPointer`, a far pointer in it `TriedToReadFromNullArena`.
+    pub fn get_struct(
+        self,
+        lim: &mut ReadLimiter,
+        default: Option<&'a [u8]>,
+    ) -> Result<StructReader<'a, A>, ErrorKind>
+        requires small { IfSome default (λ bytes. length bytes.now / 8 < 2 ^ 32) }
+        ensures read { IfOk result (λ r. WhereRead A.ReaderArena (call A.ReaderArena self.entry Expected.Struct default.entry) (λ p. IsStructRead A.ReaderArena p lim.old lim.new r)) }
+        ensures exactly { IsOk result ↔ IsAnswered A.ReaderArena (call A.ReaderArena self.entry Expected.Struct default.entry) lim.old }
+        ensures refused { IfErr result (IsRefused A.ReaderArena (call A.ReaderArena self.entry Expected.Struct default.entry) lim.old lim.new) }
+    {
+        let (from, object) = match self.expect(Expected::Struct, lim, default) {
+            Ok(found) => found,
+            Err(kind) => return Err(kind),
+        };
+        match from.target_of(object) {
+            Target::Struct(found) => Ok(found),
+            _ => Ok(StructReader::new_default()),
+        }
+    }
+
+    /// The list that the pointer leads to, whose elements have to be as wide as those of a size or
+    /// wider ("Lists"); it is read by its own step. `Void` and `InlineComposite` take elements of any
+    /// width but one bit. A null pointer gives the list of the default; where there is none, or its
+    /// pointer is null, the list from nothing, a void list of none.
+    ///
+    /// The nesting limit must be at least 1 (`NestingLimitExceeded`), and the list's is one less. Charges
+    /// and refusals are those of `next`, but an object of another kind is
+    /// `MessageContainsNonListPointerWhereListPointerWasExpected` before its words are charged. When all
+    /// is charged, a bit list is `FoundBitListWhereStructListWasExpected` unless bits are expected, other
+    /// elements that are too narrow `MessageContainsListWithIncompatibleElementType`; and structs are
+    /// `FoundStructListWhereBitListWasExpected` where bits are expected,
+    /// `ExpectedAPrimitiveListButGotAListOfPointerOnlyStructs` where numbers are and they have no data,
+    /// `ExpectedAPointerListButGotAListOfDataOnlyStructs` where pointers are and they have none.
+    ///
+    /// For a default see `get_struct`.
+    pub fn get_list(
+        self,
+        lim: &mut ReadLimiter,
+        expected_element_size: ElementSize,
+        default: Option<&'a [u8]>,
+    ) -> Result<ListReader<'a, A>, ErrorKind>
+        requires small { IfSome default (λ bytes. length bytes.now / 8 < 2 ^ 32) }
+        ensures read { IfOk result (λ r.
+            WhereRead A.ReaderArena (call A.ReaderArena self.entry (Expected.List expected_element_size) default.entry) (λ p. IsListRead A.ReaderArena expected_element_size p lim.old lim.new r)) }
+        ensures exactly { IsOk result ↔ IsAnswered A.ReaderArena (call A.ReaderArena self.entry (Expected.List expected_element_size) default.entry) lim.old }
+        ensures refused { IfErr result (IsRefused A.ReaderArena (call A.ReaderArena self.entry (Expected.List expected_element_size) default.entry) lim.old lim.new) }
+    {
+        let expected = Expected::List(expected_element_size);
+        let (from, object) = match self.expect(expected, lim, default) {
+            Ok(found) => found,
+            Err(kind) => return Err(kind),
+        };
+        match from.target_of(object) {
+            Target::List(found) => Ok(found),
+            _ => Ok(ListReader::new_default()),
+        }
+    }
+
+    /// The bytes of a text that the pointer leads to, in place and without its last byte, which is 0
+    /// ("Lists"). A null pointer gives the text of the default, or where there is none no bytes.
+    ///
+    /// No level is taken. The pointer is counted as followed, and its landing pads and the words of the
+    /// bytes are charged, each before it is read. What is no list is
+    /// `MessageContainsNonListPointerWhereTextWasExpected`, a list of other elements
+    /// `MessageContainsListPointerOfNonBytesWhereTextWasExpected`, both before the words are charged; a
+    /// text of no bytes, or whose last byte isn't 0, `MessageContainsTextThatIsNotNULTerminated`, when
+    /// they are. Other refusals are those of `next`.
+    ///
+    /// For a default see `get_struct`; one whose pointer is null is refused as what is no list.
+    pub fn get_text(
+        self,
+        lim: &mut ReadLimiter,
+        default: Option<&'a [u8]>,
+    ) -> Result<&'a [u8], ErrorKind>
+        requires small { IfSome default (λ bytes. length bytes.now / 8 < 2 ^ 32) }
+        ensures read { IfOk result (λ bytes. WhereRead A.ReaderArena (call A.ReaderArena self.entry Expected.Text default.entry) (λ p. AreBytesRead A.ReaderArena Expected.Text p lim.old lim.new bytes.now)) }
+        ensures exactly { IsOk result ↔ IsAnswered A.ReaderArena (call A.ReaderArena self.entry Expected.Text default.entry) lim.old }
+        ensures refused { IfErr result (IsRefused A.ReaderArena (call A.ReaderArena self.entry Expected.Text default.entry) lim.old lim.new) }
+    {
+        let (_, object) = match self.expect(Expected::Text, lim, default) {
+            Ok(found) => found,
+            Err(kind) => return Err(kind),
+        };
+        match object {
+            Object::Flat { start, count, .. } => Ok(bytes_at(start, count - 1)),
+            _ => Ok(&[]),
+        }
+    }
+
+    /// The bytes of data that the pointer leads to, in place ("Lists"). A null pointer gives the data of
+    /// the default, or where there is none no bytes.
+    ///
+    /// It is as `get_text`, but the last byte isn't looked at and is one of the bytes. What is no list is
+    /// `MessageContainsNonListPointerWhereDataWasExpected`, a list of other elements
+    /// `MessageContainsListPointerOfNonBytesWhereDataWasExpected`.
+    pub fn get_data(
+        &self,
+        lim: &mut ReadLimiter,
+        default: Option<&'a [u8]>,
+    ) -> Result<&'a [u8], ErrorKind>
+        requires small { IfSome default (λ bytes. length bytes.now / 8 < 2 ^ 32) }
+        ensures read { IfOk result (λ bytes. WhereRead A.ReaderArena (call A.ReaderArena self.now Expected.Data default.entry) (λ p. AreBytesRead A.ReaderArena Expected.Data p lim.old lim.new bytes.now)) }
+        ensures exactly { IsOk result ↔ IsAnswered A.ReaderArena (call A.ReaderArena self.now Expected.Data default.entry) lim.old }
+        ensures refused { IfErr result (IsRefused A.ReaderArena (call A.ReaderArena self.now Expected.Data default.entry) lim.old lim.new) }
+    {
+        let (_, object) = match self.expect(Expected::Data, lim, default) {
+            Ok(found) => found,
+            Err(kind) => return Err(kind),
+        };
+        match object {
+            Object::Flat { start, count, .. } => Ok(bytes_at(start, count)),
+            _ => Ok(&[]),
+        }
+    }
+
+    /// The capability that the pointer is, by its index in the message's table ("Capabilities
+    /// (Interfaces)"). The pointer is not followed, and nothing is counted or charged.
+    ///
+    /// A null pointer is `MessageContainsNullCapabilityPointer`, any other
+    /// `MessageContainsNonCapabilityPointerWhereCapabilityPointerWasExpected`, a far pointer to a
+    /// capability too.
+    pub fn get_capability(&self) -> Result<u32, ErrorKind>
+        ensures exactly { IsOk result ↔ (lower_half (word_of (reading A.ReaderArena self.now)) ≡ 3) }
+        ensures index { IfOk result (λ i. i ≡ upper_half (word_of (reading A.ReaderArena self.now))) }
+        ensures refused { IfErr result (IsNoCapability (word_of (reading A.ReaderArena self.now))) }
+    {
+        let word = self.place.word();
+        if word.is_null() {
+            return Err(ErrorKind::MessageContainsNullCapabilityPointer);
+        }
+        if !word.is_capability() {
+            return Err(
+                ErrorKind::MessageContainsNonCapabilityPointerWhereCapabilityPointerWasExpected,
+            );
+        }
+        Ok(word.cap_index())
+    }
+
+    /// What the pointer leads to: nothing, a struct, a list or a capability, by the word that describes
+    /// it alone.
+    ///
+    /// A null pointer costs nothing. Any other is counted as followed, and its landing pads are
+    /// charged. A landing pad that is a far pointer again is `UnexpectedFarPointer`, a word of no
+    /// kind `UnknownPointerType`; a pointer that can't be followed is refused as by `next`.
+    pub fn get_pointer_type(&self, lim: &mut ReadLimiter) -> Result<PointerType, ErrorKind>
+        ensures of_type { IfOk result (IsOfType (reading A.ReaderArena self.now) lim.old lim.new) }
+        ensures exactly { IsOk result ↔ HasType (reading A.ReaderArena self.now) lim.old }
+        ensures refused { IfErr result (HasNoType (reading A.ReaderArena self.now) lim.old lim.new) }
+    {
+        self.source.read_type(self.place, self.nesting_limit, lim)
+    }
+
     /// What the pointer leads to, one level of it ("Structs", "Lists", "Inter-Segment Pointers",
     /// "Capabilities (Interfaces)").
     ///
@@ -187,42 +435,70 @@ impl<'a, A: ReaderArena> PointerReader<'a, A> {
         ensures exactly { IsOk result ↔ CanBeRead (reading A.ReaderArena self.now) lim.old }
         ensures refused { IfErr result (Stopped plain (reading A.ReaderArena self.now) lim.old lim.new) }
     {
-        match self
-            .source
-            .read_object(self.place, self.nesting_limit, lim)?
-        {
-            Object::Null => Ok(Target::Null),
-            Object::Capability(index) => Ok(Target::Cap(index)),
-            Object::Struct { start, size } => Ok(Target::Struct(StructReader::of_words(
+        match self.source.read_object(self.place, self.nesting_limit, lim) {
+            Ok(object) => Ok(self.target_of(object)),
+            Err(kind) => Err(kind),
+        }
+    }
+
+    // An object that the pointer leads to, as readers of the same source with one level less.
+    fn target_of(self, object: Object<'a>) -> Target<'a, A>
+        requires read { WasRead A.ReaderArena self object }
+        ensures { (m : Meter) (m' : Meter) → IsObject (reading A.ReaderArena self.entry) m m' object.entry → IsTarget A.ReaderArena self.entry m m' result }
+    {
+        match object {
+            Object::Null => Target::Null,
+            Object::Capability(index) => Target::Cap(index),
+            Object::Struct { start, size } => Target::Struct(StructReader::of_words(
                 self.source,
                 start,
                 size,
                 self.nesting_limit - 1,
-            ))),
-            Object::Flat { start, size, count } => Ok(Target::List(ListReader::of_words(
+            )),
+            Object::Flat { start, size, count } => Target::List(ListReader::of_words(
                 self.source,
                 start,
                 size,
                 NO_SECTIONS,
                 count,
                 self.nesting_limit - 1,
-            ))),
-            Object::Pointers { start, count } => Ok(Target::List(ListReader::of_words(
+            )),
+            Object::Pointers { start, count } => Target::List(ListReader::of_words(
                 self.source,
                 start,
                 ElementSize::Pointer,
                 NO_SECTIONS,
                 count,
                 self.nesting_limit - 1,
-            ))),
-            Object::Structs { start, size, count } => Ok(Target::List(ListReader::of_words(
+            )),
+            Object::Structs { start, size, count } => Target::List(ListReader::of_words(
                 self.source,
                 start,
                 ElementSize::InlineComposite,
                 size,
                 count,
                 self.nesting_limit - 1,
-            ))),
+            )),
         }
+    }
+}
+
+// So many bytes from a place on.
+fn bytes_at<'a>(start: Place<'a>, count: u32) -> &'a [u8]
+    requires { 8 * start.at + count ≤ length start.bytes.now }
+    ensures { result.now ≡ take count (drop (8 * start.entry.at) start.entry.bytes.now) }
+{
+    let first = 8 * start.at as usize;
+    &start.bytes[first..first + count as usize]
+}
+
+// How a default is refused whose pointer is null: to a struct and a list it is as none.
+fn name_of_null_default(expected: Expected) -> Option<ErrorKind>
+    ensures { result ≡ null_default expected }
+{
+    match expected {
+        Expected::Struct | Expected::List(_) => None,
+        Expected::Text => Some(ErrorKind::MessageContainsNonListPointerWhereTextWasExpected),
+        Expected::Data => Some(ErrorKind::MessageContainsNonListPointerWhereDataWasExpected),
     }
 }

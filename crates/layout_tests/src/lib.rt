@@ -18,3 +18,5 @@ mod names;
 mod refusals;
 #[cfg(test)]
 mod runs;
+#[cfg(test)]
+mod sizes;

@@ -20,22 +20,31 @@ pub fn lines(rt: &HostRuntime, segments: &str) -> Option<Vec<u8>> {
     Some(text)
 }
 
-/// Whether a run on this input answers so, and writes this line.
-pub fn answers(
-    rt: &HostRuntime,
-    nesting_limit: i32,
-    traversal_limit_in_words: Option<usize>,
-    input: &[u8],
-    outcome: Outcome,
-    line: &[u8],
-) -> bool {
-    let args = Args::Canon(ReaderOptions {
+/// The limits of a nesting limit and a budget of words.
+pub fn options(nesting_limit: i32, traversal_limit_in_words: Option<usize>) -> ReaderOptions {
+    ReaderOptions {
         traversal_limit_in_words,
         nesting_limit,
-    });
+    }
+}
+
+/// Whether a run on this input answers so, and writes this line.
+pub fn answers(rt: &HostRuntime, args: Args, input: &[u8], outcome: Outcome, line: &[u8]) -> bool {
     let mut from = MemoryInput::new(input);
     let mut to = MemoryOutput::new(rt.alloc());
     run(rt.alloc(), &args, &mut from, &mut to) == outcome && to.bytes() == line
+}
+
+/// Whether a message is refused by this name.
+pub fn refused(rt: &HostRuntime, args: Args, message: &str, name: &str) -> bool {
+    let Some(input) = lines(rt, message) else {
+        return false;
+    };
+    let Ok(line) = format!(in rt.alloc(); "refused {name}\n") else {
+        return false;
+    };
+    let (input, line) = (input.as_slice(), line.as_bytes());
+    answers(rt, args, input, Outcome::Refused, line)
 }
 
 /// Whether a message gives these canonical words.
@@ -46,11 +55,11 @@ pub fn gives(
     message: &str,
     words: &str,
 ) -> bool {
+    let args = Args::Canon(options(nesting, budget));
     match (lines(rt, message), lines(rt, words)) {
         (Some(input), Some(line)) => answers(
             rt,
-            nesting,
-            budget,
+            args,
             input.as_slice(),
             Outcome::Done,
             line.as_slice(),
@@ -59,7 +68,7 @@ pub fn gives(
     }
 }
 
-/// Whether a message is refused by this name.
+/// Whether a message has no canonical words, by this name.
 pub fn refuses(
     rt: &HostRuntime,
     nesting: i32,
@@ -67,18 +76,5 @@ pub fn refuses(
     message: &str,
     name: &str,
 ) -> bool {
-    let Some(input) = lines(rt, message) else {
-        return false;
-    };
-    let Ok(line) = format!(in rt.alloc(); "refused {name}\n") else {
-        return false;
-    };
-    answers(
-        rt,
-        nesting,
-        budget,
-        input.as_slice(),
-        Outcome::Refused,
-        line.as_bytes(),
-    )
+    refused(rt, Args::Canon(options(nesting, budget)), message, name)
 }

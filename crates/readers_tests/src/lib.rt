@@ -3,7 +3,15 @@
 #![tactic(auto)]
 
 #[cfg(test)]
+mod calls;
+#[cfg(test)]
 mod defaults;
+#[cfg(test)]
+mod elements;
+#[cfg(test)]
+mod fields;
+#[cfg(test)]
+mod kinds;
 #[cfg(test)]
 mod lists;
 #[cfg(test)]
@@ -15,6 +23,14 @@ mod objects;
 #[cfg(test)]
 mod places;
 #[cfg(test)]
+mod refusing;
+#[cfg(test)]
 mod roots;
 #[cfg(test)]
+mod sizes;
+#[cfg(test)]
 mod structs;
+#[cfg(test)]
+mod texts;
+#[cfg(test)]
+mod widths;

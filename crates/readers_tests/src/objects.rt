@@ -1,11 +1,12 @@
 //! The objects that one pointer leads to, by the module that the readers stand on.
 use crate::messages::*;
 use capnp_arena::arena::ReaderArena;
-use capnp_readers::object::{Object, Place};
+use capnp_readers::object::{Expected, Object, Place};
 use capnp_readers::readers::{DEFAULT_SEGMENT, PointerReader};
 use capnp_readers::source::Source;
 use capnp_words::error::ErrorKind;
 use capnp_words::read_limiter::ReadLimiter;
+use capnp_words::wire_pointer::{ElementSize, PointerType};
 
 /// Reads the object that a pointer leads to.
 fn object<'a, A: ReaderArena>(
@@ -54,6 +55,36 @@ fn of_each_kind(rt: HostRuntime) {
         let found = object(pointer, &mut lim).expect(&rt, "an object");
         assert!(rt; shown(found) == want, "{message}");
     }
+}
+
+#[test]
+fn of_an_expected_kind(rt: HostRuntime) {
+    for (message, expected, want) in [
+        (NULL_ROOT, Expected::Struct, ('n', 0, 0)),
+        (FAR, Expected::Struct, ('s', 1, 1)),
+        (STRUCTS, Expected::List(ElementSize::Byte), ('l', 2, 1)),
+        (TEXT, Expected::Text, ('f', 1, 8)),
+        (TEXT, Expected::Data, ('f', 1, 8)),
+    ] {
+        let arena = arena(&rt, rt.alloc(), message);
+        let mut lim = ReadLimiter::new(None);
+        let pointer = root(&rt, &arena, &mut lim);
+        let found = pointer
+            .source
+            .read_expected(expected, pointer.place, 1, &mut lim)
+            .expect(&rt, "an object");
+        assert!(rt; shown(found) == want, "{message}");
+    }
+}
+
+#[test]
+fn their_kinds(rt: HostRuntime) {
+    let arena = arena(&rt, rt.alloc(), FAR_NUMBERS);
+    let mut lim = ReadLimiter::new(Some(2));
+    let pointer = root(&rt, &arena, &mut lim);
+    let found = pointer.source.read_type(pointer.place, 0, &mut lim);
+    assert!(rt; found == Ok(PointerType::List));
+    assert!(rt; (lim.left(), lim.followed()) == (Some(0), 1));
 }
 
 #[test]

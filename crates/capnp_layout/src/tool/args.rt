@@ -10,9 +10,13 @@ use capnp_arena::arena::ReaderOptions;
 pub enum Args {
     /// The canonical words of a message ("Canonicalization"), which is read within these limits.
     Canon(ReaderOptions),
+    /// How many words and capabilities a message has without landing pads ("Structs", "Lists"),
+    /// which is read within these limits.
+    Size(ReaderOptions),
 }
 
-/// Reads the words behind the program's name, which are `canon NESTING BUDGET`. All else is `None`.
+/// Reads the words behind the program's name, which are `canon NESTING BUDGET` or
+/// `size NESTING BUDGET`. All else is `None`.
 ///
 /// NESTING is the nesting limit, an `i32` in decimal digits with an optional `-`. BUDGET is the
 /// traversal limit in words, a `u64` in decimal digits, or `none`.
@@ -23,15 +27,17 @@ pub fn parse_args(args: &[String]) -> Option<Args>
     let [command, nesting, budget] = args else {
         return None;
     };
-    if command.as_str() != "canon" {
-        return None;
+    let options = ReaderOptions {
+        nesting_limit: parse_nesting(nesting.as_str())?,
+        traversal_limit_in_words: parse_budget(budget.as_str())?,
+    };
+    if command.as_str() == "canon" {
+        Some(Args::Canon(options))
+    } else if command.as_str() == "size" {
+        Some(Args::Size(options))
+    } else {
+        None
     }
-    let nesting_limit = parse_nesting(nesting.as_str())?;
-    let traversal_limit_in_words = parse_budget(budget.as_str())?;
-    Some(Args::Canon(ReaderOptions {
-        traversal_limit_in_words,
-        nesting_limit,
-    }))
 }
 
 /// Reads an optional `-` and decimal digits; a `+` is refused.

@@ -12,10 +12,11 @@ ghost use Rattle.capnp_readers.specs.Readers.{reading};
 ghost use Rattle.capnp_layout.specs.Answers.{IsMade, IsWithin, LacksMemoryIn, LacksMemoryOr, RefusesCopy, RefusesMessage, ValueOf, is_message_too_large};
 ghost use Rattle.capnp_layout.specs.Messages.{segments_in};
 
+use super::args::Args;
 use super::lines::Message;
+use super::root::{open, read_root};
 use capnp_arena::arena::{
-    Allocator, BuilderArena, BuilderArenaImpl, MAX_SEGMENT_WORDS, ReaderArena, ReaderArenaImpl,
-    ReaderOptions, ReaderSegments,
+    Allocator, BuilderArena, BuilderArenaImpl, MAX_SEGMENT_WORDS, ReaderArena, ReaderOptions,
 };
 use capnp_builders::builders::PointerBuilder;
 use capnp_readers::readers::PointerReader;
@@ -140,15 +141,14 @@ pub(crate) fn canonical<A: Allocator>(
     ensures small { OnOk result (IsSmall (segments_in source)) }
     ensures value { IfOk result (λ made. (t : Tree) × ValueOf (segments_in source) options t × IsMade (⟦<BuilderArenaImpl<A> as BuilderArena>⟧.view made) t) }
     ensures granted { IfOk result (λ made. (⟦<BuilderArenaImpl<A> as BuilderArena>⟧.view made).refusals ≡ A.refusals allocator) }
-    ensures refused { IfErr result (λ e. LacksMemoryOr (A.refusals allocator) (A.refusals e.1) e.0 (RefusesMessage (segments_in source) options e.0)) }
+    ensures refused { IfErr result (λ e. LacksMemoryOr (A.refusals allocator) (A.refusals e.1) e.0 (RefusesMessage (segments_in source) (Args.Canon options) e.0)) }
 {
-    if !source.is_small() {
-        return Err((ErrorKind::MessageTooLarge(usize::MAX), allocator));
-    }
-    let arena = ReaderArenaImpl::new(source, options);
-    let mut lim = ReadLimiter::new(options.traversal_limit_in_words);
-    match PointerReader::get_root_from_arena(&arena, &mut lim) {
-        Ok(root) => {
+    let arena = match open(source, options) {
+        Ok(arena) => arena,
+        Err(kind) => return Err((kind, allocator)),
+    };
+    match read_root(&arena, options.traversal_limit_in_words) {
+        Ok((root, lim)) => {
             let room = first_room(arena.size_in_words());
             copy_in_tries(alloc, allocator, root, lim.left(), room)
         }

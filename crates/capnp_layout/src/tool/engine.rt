@@ -1,24 +1,22 @@
 //! One run of the program: an input is read, and one line is written.
 ghost use Rattle.std.specs.Prelude.{◌≡◌, ◌≢◌, ◌⊎◌, ◌∷◌, ◌++◌, [], ℕ, List, length, ◌≤◌, ◌+◌, true, false, Some, None, IfSome, OnOk, OnErr, IfOk, IfErr};
 ghost use Rattle.std.specs.Io.KnownBytes.{Appends, Keeps};
-ghost use Rattle.capnp_format.specs.Tree.{Tree};
-ghost use Rattle.capnp_arena.specs.Allocations.{max_segment_words, one_more};
+ghost use Rattle.capnp_arena.specs.Allocations.{one_more};
 ghost use Rattle.capnp_layout.specs.Lines.{segments_of};
 ghost use Rattle.capnp_layout.specs.Messages.{segments_in};
 ghost use Rattle.capnp_arena.specs.Limits.{IsSmall};
-ghost use Rattle.capnp_format.specs.Canonical.{trim, word_count};
 ghost use Rattle.capnp_words.specs.declared.error.ErrorKind.{ErrorKind};
 ghost use Rattle.capnp_words.specs.declared.error.ErrorKind.TheVariants.{AllocationFailed};
-ghost use Rattle.capnp_layout.specs.Answers.{AnswersRefusal, AnswersWords, IsDone, IsDoneOr, IsRefused, LacksMemoryOr, RefusesMessage, ValueOf, WhereFits, WantsMemory, canonical_line, digits_of, refusal_line};
-ghost use Rattle.capnp_objects.specs.Source.{levels};
-ghost use Rattle.capnp_layout.specs.Runs.{IsNoMessage, budget_of, levels_of, WhereItFits, WritesCountedRefusal, WritesRefusal, WritesValue};
+ghost use Rattle.capnp_layout.specs.Answers.{Answers, AnswersRefusal, AnswersWords, IsDone, IsDoneOr, IsRefused, LacksMemoryOr, RefusesMessage, ValueOf, WhereAnswered, WantsMemory, canonical_line, digits_of, refusal_line};
+ghost use Rattle.capnp_layout.specs.Runs.{IsNoMessage, WhereItIsAnswered, WritesAnswer, WritesCountedRefusal, WritesRefusal};
 ghost use Rattle.capnp_format.specs.Bytes.{message, words_of};
 
 use super::args::Args;
 use super::canon::canonical;
 use super::lines::{InputFault, Message, read_lines};
 use super::reading::read_text;
-use super::writing::{write_refusal, write_words};
+use super::size::size_of;
+use super::writing::{write_refusal, write_size, write_words};
 use crate::devices::{DeviceFault, Input, Output};
 use capnp_arena::arena::{
     Allocator, BuilderArena, BuilderArenaImpl, HeapAllocator, OutputSegments, ReaderArena,
@@ -98,16 +96,6 @@ fn answer<A: Allocator, W: Output>(output: &mut W, made: &BuilderArenaImpl<A>) -
     }
 }
 
-/// The limits within which a message is read.
-fn options_of(args: &Args) -> ReaderOptions
-    ensures levels { levels result.nesting_limit ≡ levels_of args.now }
-    ensures budget { result.traversal_limit_in_words ≡ budget_of args.now }
-{
-    match *args {
-        Args::Canon(options) => options,
-    }
-}
-
 /// Answers to a message with the line of its canonical words, or of its refusal.
 fn canon<A: Allocator, W: Output>(
     alloc: Global,
@@ -118,11 +106,10 @@ fn canon<A: Allocator, W: Output>(
 ) -> (Outcome, A)
     requires { W.has_failed output.old ≡ false }
     ensures small { result.0 ≡ Outcome.Done → IsSmall (segments_in source) }
-    ensures done { result.0 ≡ Outcome.Done → (t : Tree) × ValueOf (segments_in source) options t
-        × Appends (W.contents output.old) (W.contents output.new) (canonical_line t) }
+    ensures done { result.0 ≡ Outcome.Done → Answers (segments_in source) (Args.Canon options) (Appends (W.contents output.old) (W.contents output.new)) }
     ensures refused { result.0 ≡ Outcome.Refused →
-        AnswersRefusal (segments_in source) options (A.refusals allocator) (A.refusals result.1) (Appends (W.contents output.old) (W.contents output.new)) }
-    ensures exactly { WhereFits (segments_in source) options
+        AnswersRefusal (segments_in source) (Args.Canon options) (A.refusals allocator) (A.refusals result.1) (Appends (W.contents output.old) (W.contents output.new)) }
+    ensures exactly { WhereAnswered (segments_in source) (Args.Canon options)
         (IsDoneOr result.0 (WantsMemory (A.refusals allocator) (A.refusals result.1) (Appends (W.contents output.old) (W.contents output.new)))) }
     ensures input { result.0 ≢ Outcome.BadInput }
     ensures works { result.0 ≢ Outcome.WriteFailed → W.has_failed output.new ≡ false }
@@ -137,12 +124,61 @@ fn canon<A: Allocator, W: Output>(
     }
 }
 
-/// Reads a message from an input, and writes one line to an output: the canonical words of what it
-/// means as lower case hex digits, each word's lowest byte first, or `refused` and the name of the
-/// refusal. Segments come from an allocator, which keeps what is read, too.
+/// Answers to a message with the line of its size, or of its refusal.
+fn size<W: Output>(source: Message, options: ReaderOptions, output: &mut W) -> Outcome
+    requires { W.has_failed output.old ≡ false }
+    ensures small { result ≡ Outcome.Done → IsSmall (segments_in source) }
+    ensures done { result ≡ Outcome.Done → Answers (segments_in source) (Args.Size options) (Appends (W.contents output.old) (W.contents output.new)) }
+    ensures refused { result ≡ Outcome.Refused →
+        (k : ErrorKind) × RefusesMessage (segments_in source) (Args.Size options) k × Appends (W.contents output.old) (W.contents output.new) (refusal_line k) }
+    ensures exactly { WhereAnswered (segments_in source) (Args.Size options) (IsDone result ⊎ (result ≡ Outcome.WriteFailed)) }
+    ensures input { result ≢ Outcome.BadInput }
+    ensures works { result ≢ Outcome.WriteFailed → W.has_failed output.new ≡ false }
+    ensures failed { result ≡ Outcome.WriteFailed → W.has_failed output.new ≡ true }
+{
+    match size_of(source, options) {
+        Ok(size) => match write_size(output, size) {
+            Ok(()) => Outcome::Done,
+            Err(DeviceFault) => Outcome::WriteFailed,
+        },
+        Err(kind) => refuse(output, kind),
+    }
+}
+
+/// Answers to a message with the line that a command prints, or of its refusal.
+fn respond<A: Allocator, W: Output>(
+    alloc: Global,
+    allocator: A,
+    source: Message,
+    args: &Args,
+    output: &mut W,
+) -> (Outcome, A)
+    requires { W.has_failed output.old ≡ false }
+    ensures small { result.0 ≡ Outcome.Done → IsSmall (segments_in source) }
+    ensures done { result.0 ≡ Outcome.Done → Answers (segments_in source) args.now (Appends (W.contents output.old) (W.contents output.new)) }
+    ensures refused { result.0 ≡ Outcome.Refused →
+        AnswersRefusal (segments_in source) args.now (A.refusals allocator) (A.refusals result.1) (Appends (W.contents output.old) (W.contents output.new)) }
+    ensures exactly { WhereAnswered (segments_in source) args.now
+        (IsDoneOr result.0 (WantsMemory (A.refusals allocator) (A.refusals result.1) (Appends (W.contents output.old) (W.contents output.new)))) }
+    ensures input { result.0 ≢ Outcome.BadInput }
+    ensures works { result.0 ≢ Outcome.WriteFailed → W.has_failed output.new ≡ false }
+    ensures failed { result.0 ≡ Outcome.WriteFailed → W.has_failed output.new ≡ true }
+{
+    match *args {
+        Args::Canon(options) => canon(alloc, allocator, source, options, output),
+        Args::Size(options) => (size(source, options, output), allocator),
+    }
+}
+
+/// Reads a message from an input, and writes one line to an output: the answer of a command, or
+/// `refused` and the name of the refusal. Segments come from an allocator, which keeps what is read,
+/// too.
 ///
-/// Where a read fails the outcome is `BadInput`, and no other. The refusal `AllocationFailed` is want
-/// of memory, which the allocator has counted.
+/// `Canon` answers with the canonical words of what the message means as lower case hex digits, each
+/// word's lowest byte first; `Size` with `words N caps M`, the numbers of words and capabilities
+/// that the root leads to, without landing pads, in decimal digits. A size takes no memory but that
+/// for the input. Where a read fails the outcome is `BadInput`, and no other. The refusal
+/// `AllocationFailed` is want of memory, which the allocator has counted.
 pub fn run_with<A: Allocator, R: Input, W: Output>(
     alloc: Global,
     allocator: A,
@@ -152,10 +188,10 @@ pub fn run_with<A: Allocator, R: Input, W: Output>(
 ) -> (Outcome, A)
     requires input { R.has_failed input.old ≡ false }
     requires output { W.has_failed output.old ≡ false }
-    ensures done { result.0 ≡ Outcome.Done → WritesValue (R.remaining input.old) args.now (Appends (W.contents output.old) (W.contents output.new)) }
+    ensures done { result.0 ≡ Outcome.Done → WritesAnswer (R.remaining input.old) args.now (Appends (W.contents output.old) (W.contents output.new)) }
     ensures refused { result.0 ≡ Outcome.Refused →
         WritesCountedRefusal (R.remaining input.old) args.now (A.refusals allocator) (A.refusals result.1) (Appends (W.contents output.old) (W.contents output.new)) }
-    ensures exactly { WhereItFits (R.remaining input.old) args.now (IsDone result.0 ⊎ (R.has_failed input.new ≡ true) ⊎ (W.has_failed output.new ≡ true)
+    ensures exactly { WhereItIsAnswered (R.remaining input.old) args.now (IsDone result.0 ⊎ (R.has_failed input.new ≡ true) ⊎ (W.has_failed output.new ≡ true)
         ⊎ (IsRefused result.0 × WantsMemory (A.refusals allocator) (A.refusals result.1) (Appends (W.contents output.old) (W.contents output.new)))) }
     ensures input { result.0 ≡ Outcome.BadInput → (R.has_failed input.new ≡ true) ⊎ IsNoMessage (R.remaining input.old) }
     ensures read { result.0 ≢ Outcome.BadInput → R.has_failed input.new ≡ false }
@@ -165,21 +201,24 @@ pub fn run_with<A: Allocator, R: Input, W: Output>(
 {
     let mut allocator = allocator;
     match read_message(alloc, &mut allocator, input) {
-        Ok(source) => canon(alloc, allocator, source, options_of(args), output),
+        Ok(source) => respond(alloc, allocator, source, args, output),
         Err(InputFault::BadInput) => (Outcome::BadInput, allocator),
         Err(InputFault::NoMemory) => (refuse(output, ErrorKind::AllocationFailed), allocator),
     }
 }
 
-/// Reads a message from an input, and writes one line to an output: the canonical words of what it
-/// means as lower case hex digits, each word's lowest byte first, or `refused` and the name of the
-/// refusal ("Canonicalization").
+/// Reads a message from an input, and writes one line to an output: the answer of a command, or
+/// `refused` and the name of the refusal. `Canon` answers with the canonical words of what the
+/// message means as lower case hex digits, each word's lowest byte first ("Canonicalization");
+/// `Size` with `words N caps M`, the numbers of words and capabilities that the root leads to,
+/// without landing pads, in decimal digits ("Structs", "Lists").
 ///
 /// A line of the input is a segment, as pairs of hex digits in either case; no bytes are no
 /// segments. The root pointer costs one word of the traversal limit. Where a read fails the outcome
 /// is `BadInput`, and no other. The refusal `AllocationFailed` is want of memory; `MessageTooLarge`
-/// says that there are more segments or words than a reader takes, or more canonical words than the
-/// 536,870,911 of a segment.
+/// says that there are more segments or words than a reader takes, more canonical words than the
+/// 536,870,911 of a segment, or a size whose words don't fit 64 bits or whose capabilities don't fit
+/// 32.
 pub fn run<R: Input, W: Output>(
     alloc: Global,
     args: &Args,
@@ -188,9 +227,9 @@ pub fn run<R: Input, W: Output>(
 ) -> Outcome
     requires input { R.has_failed input.old ≡ false }
     requires output { W.has_failed output.old ≡ false }
-    ensures done { result ≡ Outcome.Done → WritesValue (R.remaining input.old) args.now (Appends (W.contents output.old) (W.contents output.new)) }
+    ensures done { result ≡ Outcome.Done → WritesAnswer (R.remaining input.old) args.now (Appends (W.contents output.old) (W.contents output.new)) }
     ensures refused { result ≡ Outcome.Refused → WritesRefusal (R.remaining input.old) args.now (Appends (W.contents output.old) (W.contents output.new)) }
-    ensures exactly { WhereItFits (R.remaining input.old) args.now (IsDone result ⊎ (R.has_failed input.new ≡ true) ⊎ (W.has_failed output.new ≡ true)
+    ensures exactly { WhereItIsAnswered (R.remaining input.old) args.now (IsDone result ⊎ (R.has_failed input.new ≡ true) ⊎ (W.has_failed output.new ≡ true)
         ⊎ (IsRefused result × Appends (W.contents output.old) (W.contents output.new) (refusal_line AllocationFailed))) }
     ensures input { result ≡ Outcome.BadInput → (R.has_failed input.new ≡ true) ⊎ IsNoMessage (R.remaining input.old) }
     ensures read { result ≢ Outcome.BadInput → R.has_failed input.new ≡ false }

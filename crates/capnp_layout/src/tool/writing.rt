@@ -2,9 +2,11 @@
 ghost use Rattle.std.specs.Prelude.{◌≡◌, ◌+◌, ◌++◌, ◌∷◌, [], false, true, OnOk, OnErr};
 ghost use Rattle.std.specs.Io.KnownBytes.{Appends};
 ghost use Rattle.capnp_format.specs.Bytes.{words_of};
-ghost use Rattle.capnp_layout.specs.Answers.{word_digits, digits_of, refusal_line};
+ghost use Rattle.std.specs.Fmt.{decimal};
+ghost use Rattle.capnp_layout.specs.Answers.{word_digits, digits_of, refusal_line, size_line};
 
 use crate::devices::{DeviceFault, Output, write_all};
+use capnp_readers::readers::MessageSize;
 use capnp_words::error::ErrorKind;
 use capnp_words::words::word_at;
 
@@ -30,6 +32,33 @@ pub(crate) fn write_words<W: Output>(output: &mut W, segment: &[u8]) -> Result<(
     for at in 0..segment.len() / 8 {
         write_word(output, word_at(segment, at))?;
     }
+    write_all(output, b"\n")
+}
+
+/// Writes a number in decimal digits.
+fn write_number<W: Output>(output: &mut W, n: u64) -> Result<(), DeviceFault>
+    requires { W.has_failed output.old ≡ false }
+    ensures written { OnOk result (Appends (W.contents output.old) (W.contents output.new) (decimal n)) }
+    ensures works { OnOk result (W.has_failed output.new ≡ false) }
+    ensures fails { OnErr result (W.has_failed output.new ≡ true) }
+{
+    if n >= 10 {
+        write_number(output, n / 10)?;
+    }
+    write_all(output, &[b'0' + (n % 10) as u8])
+}
+
+/// Writes the line of a size.
+pub(crate) fn write_size<W: Output>(output: &mut W, size: MessageSize) -> Result<(), DeviceFault>
+    requires { W.has_failed output.old ≡ false }
+    ensures written { OnOk result (Appends (W.contents output.old) (W.contents output.new) (size_line size.word_count size.cap_count)) }
+    ensures works { OnOk result (W.has_failed output.new ≡ false) }
+    ensures fails { OnErr result (W.has_failed output.new ≡ true) }
+{
+    write_all(output, b"words ")?;
+    write_number(output, size.word_count)?;
+    write_all(output, b" caps ")?;
+    write_number(output, u64::from(size.cap_count))?;
     write_all(output, b"\n")
 }
 

@@ -1,19 +1,22 @@
 //! Lists of a message, in place.
-ghost use Rattle.std.specs.Prelude.{◌≡◌, ◌≢◌, ◌<◌, ◌≤◌, ◌+◌, ◌*◌, ◌/◌, ◌^◌, ◌↔◌, ℕ, pos, [], ⊤, IsTrue, length, take, drop, slice_range};
+ghost use Rattle.std.specs.Prelude.{◌≡◌, ◌≢◌, ◌<◌, ◌≤◌, ◌+◌, ◌*◌, ◌/◌, ◌^◌, ◌↔◌, ℕ, pos, [], ⊤, IsTrue, length, take, drop, slice_range, nat_eq};
 ghost use Rattle.capnp_format.specs.Bytes.{message};
 ghost use Rattle.capnp_format.specs.Segments.{word_at, segment};
 ghost use Rattle.capnp_pointers.specs.declared.wire_pointer.ElementSize.TheVariants.{Void, InlineComposite};
-ghost use Rattle.capnp_format.specs.Numbers.{element_bits};
+ghost use Rattle.capnp_format.specs.Numbers.{element_bits, from_digits};
 ghost use Rattle.capnp_pointers.specs.Sizes.{size_number};
 ghost use Rattle.capnp_objects.specs.Source.{source_segments};
 ghost use Rattle.capnp_objects.specs.Objects.{IsHeld};
-ghost use Rattle.capnp_readers.specs.Sections.{IsPart, HasRoom, IsSized, HoldsPointer, list_words, pointers_behind};
+ghost use Rattle.capnp_readers.specs.Sections.{IsPart, HasRoom, IsSized, HoldsPointer, list_words, pointers_behind, bit_at, step_bits, data_bits, low_data};
 
 use crate::readers::{NO_SECTIONS, PointerReader, StructReader};
 use capnp_arena::arena::ReaderArena;
 use capnp_objects::object::Place;
 use capnp_objects::source::Source;
-use capnp_words::wire_pointer::{ElementSize, StructSize, data_bits_per_element};
+use capnp_words::primitive::Primitive;
+use capnp_words::wire_pointer::{
+    ElementSize, StructSize, data_bits_per_element, pointers_per_element,
+};
 use std::alloc::AllocError;
 
 /// Where a list is in an arena.
@@ -83,7 +86,7 @@ fn words_of_elements(size: ElementSize, struct_size: StructSize, count: u32) -> 
 }
 
 impl<'a, A: ReaderArena> ListReader<'a, A> {
-    ghost use Rattle.capnp_readers.specs.Readers.{ShowsList, ShowsElement, IsListPlace, one_level_less};
+    ghost use Rattle.capnp_readers.specs.Readers.{ShowsList, ShowsElement, IsListPlace, element_start, one_level_less};
 
     /// The list from nothing: a void list of none. Its nesting limit is `i32::MAX`.
     pub fn new_default() -> Self
@@ -205,6 +208,70 @@ impl<'a, A: ReaderArena> ListReader<'a, A> {
         ensures { result.now ≡ self.now.content.now }
     {
         self.content
+    }
+
+    /// How many bits of data an element has: a struct those of its data section, a pointer none.
+    pub fn element_data_bits(&self) -> u32
+        ensures { result ≡ data_bits self.now.element_size self.now.struct_size }
+    {
+        data_bits_per_element(self.element_size) + 64 * u32::from(self.struct_size.data_words)
+    }
+
+    /// The lowest 64 bits of an element's data, as a number: a number or a bit is its value, a struct its
+    /// first data word, and 0 where an element has no data. There are more elements than `index`.
+    pub fn element_data(&self, index: u32) -> u64
+        requires { index < self.now.count }
+        ensures { result ≡ low_data self.now.element_size self.now.struct_size self.now.content.now index }
+    {
+        match self.element_size {
+            ElementSize::Bit => u64::from(self.bit_at(index)),
+            ElementSize::Byte => u64::from(self.number_at::<u8>(index)),
+            ElementSize::TwoBytes => u64::from(self.number_at::<u16>(index)),
+            ElementSize::FourBytes => u64::from(self.number_at::<u32>(index)),
+            ElementSize::EightBytes => self.number_at(index),
+            ElementSize::InlineComposite if self.struct_size.data_words > 0 => {
+                self.number_at(index)
+            }
+            _ => 0,
+        }
+    }
+
+    // How many bits there are from one element to the next.
+    fn step_bits(&self) -> u32
+        ensures { result ≡ step_bits self.now.element_size self.now.struct_size }
+    {
+        // A sum without a branch: a loop over the elements works it out once.
+        let StructSize {
+            data_words,
+            pointers,
+        } = self.struct_size;
+        let total = u32::from(data_words) + u32::from(pointers);
+        let is_struct = u32::from(self.element_size == ElementSize::InlineComposite);
+        let words = pointers_per_element(self.element_size) + is_struct * total;
+        data_bits_per_element(self.element_size) + 64 * words
+    }
+
+    // The number in the lowest bytes of an element's data.
+    pub(crate) fn number_at<T: Primitive>(&self, index: u32) -> T
+        requires range { index < self.now.count }
+        requires wide { 8 * T.BYTES ≤ data_bits self.now.element_size self.now.struct_size }
+        ensures value { let start = element_start A.ReaderArena self.now index / 8 in result ≡ T.value_of (slice_range self.now.content.now start (start + T.BYTES)) }
+        ensures little_endian { let start = element_start A.ReaderArena self.now index / 8 in T.bits_of result ≡ from_digits 256 (slice_range self.now.content.now start (start + T.BYTES)) }
+    {
+        let n = T::BYTES;
+        let step = self.step_bits() / 8;
+        let start = index as usize * step as usize;
+        T::load(&self.content[start..start + n])
+    }
+
+    // The lowest bit of an element's data.
+    pub(crate) fn bit_at(&self, index: u32) -> bool
+        requires range { index < self.now.count }
+        requires wide { 1 ≤ data_bits self.now.element_size self.now.struct_size }
+        ensures { result ≡ nat_eq (bit_at self.now.content.now (element_start A.ReaderArena self.now index)) 1 }
+    {
+        let at = index as usize * self.step_bits() as usize;
+        self.content[at / 8] >> (at % 8) & 1 == 1
     }
 
     /// A pointer of an element: the element itself, or a struct element's first pointer. The elements

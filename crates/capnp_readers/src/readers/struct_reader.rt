@@ -6,13 +6,13 @@ ghost use Rattle.capnp_objects.specs.Source.{source_segments};
 ghost use Rattle.capnp_objects.specs.Objects.{IsHeld};
 ghost use Rattle.capnp_readers.specs.Sections.{IsPart, IsInside, HasRoom, bit_at, bytes_for};
 
-use crate::readers::PointerReader;
+use crate::readers::{ListReader, NO_SECTIONS, PointerReader};
 use capnp_arena::arena::ReaderArena;
 use capnp_objects::object::Place;
 use capnp_objects::source::Source;
 use capnp_words::mask::Mask;
 use capnp_words::primitive::Primitive;
-use capnp_words::wire_pointer::StructSize;
+use capnp_words::wire_pointer::{ElementSize, StructSize};
 use capnp_words::zero::Zero;
 use std::alloc::AllocError;
 
@@ -66,7 +66,7 @@ impl<'a, A: ReaderArena> Clone for StructReader<'a, A> {
 impl<'a, A: ReaderArena> Copy for StructReader<'a, A> {}
 
 impl<'a, A: ReaderArena> StructReader<'a, A> {
-    ghost use Rattle.capnp_readers.specs.Readers.{ShowsStruct, IsStructPlace};
+    ghost use Rattle.capnp_readers.specs.Readers.{ShowsStruct, ShowsList, IsStructPlace};
 
     /// The struct from nothing, which has no sections. Its nesting limit is `i32::MAX`.
     pub fn new_default() -> Self
@@ -179,6 +179,25 @@ impl<'a, A: ReaderArena> StructReader<'a, A> {
             },
             nesting_limit: self.nesting_limit,
         }
+    }
+
+    /// The pointer section as a list of pointers, under the struct's own nesting limit. Its pointer
+    /// element `i` is the struct's pointer field `i`; a struct without pointers gives a list of none
+    /// ("Structs", "Lists").
+    pub fn get_pointer_section_as_list(&self) -> ListReader<'a, A>
+        ensures source { result.source ≡ self.now.source }
+        ensures size { result.element_size ≡ ElementSize.Pointer }
+        ensures shows { ShowsList A.ReaderArena (source_segments A.segments self.now.source) result self.now.pointers.segment self.now.pointers.at self.now.pointer_count 0 0 }
+        ensures nesting { result.nesting_limit ≡ self.now.nesting_limit }
+    {
+        ListReader::of_words(
+            self.source,
+            self.pointers,
+            ElementSize::Pointer,
+            NO_SECTIONS,
+            u32::from(self.pointer_count),
+            self.nesting_limit,
+        )
     }
 
     /// Whether a pointer of the pointer section is zero, or the section doesn't have so many.

@@ -9,8 +9,8 @@ pub returns-in-Err-clause-refused : goal.returns-in-Err-clause-refused
 returns-in-Err-clause-refused g c = λ refused. (c.in-Err.kind, c.in-Err.ensures.refused, c.refuse.ensures.written refused)
 
 pub returns-in-Err-clause-exactly : goal.returns-in-Err-clause-exactly
-returns-in-Err-clause-exactly g c = λ t small value fits.
-    let memory = only_memory small value fits c.in-Err.ensures.refused in
+returns-in-Err-clause-exactly g c = λ small answered.
+    let memory = only_memory c.args.options small answered c.in-Err.ensures.refused in
     elim c.refuse.ensures.either [
       | inl refused ↦ inr (inr (refused, (memory.1, subst (λ (k : ErrorKind). Appends (g.W.Output.contents c.args.output.now) (g.W.Output.contents c.refuse.new.output) (refusal_line k)) memory.0 (c.refuse.ensures.written refused))))
       | inr failed ↦ inr (inl failed)

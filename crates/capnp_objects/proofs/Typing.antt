@@ -1,0 +1,59 @@
+-- From the steps of asking for the type of a pointer to the outcome.
+use Rattle.std.proofs.Common.{◌≡◌, ◌≢◌, ◌↔◌, ℕ, inl, inr, Result, Ok, Err, IsOk, IfOk, IfErr, refl}
+use Rattle.capnp_words.specs.declared.error.ErrorKind.{ErrorKind}
+use Rattle.capnp_words.specs.declared.error.ErrorKind.TheVariants.{UnexpectedFarPointer}
+use Rattle.capnp_words.specs.Meter.{Meter, Affords}
+use Rattle.capnp_format.specs.Word.{kind}
+use Rattle.capnp_format.specs.Segments.{Target}
+use Rattle.capnp_pointers.specs.declared.wire_pointer.PointerType.{PointerType}
+use Rattle.capnp_objects.specs.declared.source.Landing.{Landing}
+use Rattle.capnp_objects.specs.Landings.{target, FollowsPointer}
+use Rattle.capnp_objects.specs.Reading.{Reading, word_of}
+use Rattle.capnp_objects.specs.Refusals.{FollowsTo, exceeding, leading_nowhere}
+use Rattle.capnp_objects.specs.Types.{type_of, HasType, HasNoType, not_followed, of_no_type}
+use Rattle.capnp_objects.proofs.Followed.{leads_there}
+use Rattle.capnp_objects.proofs.Landings.{IsCounted, reached}
+use Rattle.capnp_objects.proofs.Refusals.{not_unfollowed}
+
+pub null_has_type : (r : Reading) (m : Meter) → word_of r ≡ 0 → HasType r m
+unfolding HasType
+null_has_type r m null = inl null
+
+-- a word that describes something is not far
+not_far : (w : ℕ) (t : PointerType) → type_of w ≡ Ok t → kind w ≢ 2
+not_far w t e two = absurd (let f : type_of w ≡ Err UnexpectedFarPointer = (rw two refl) in cc (e, f))
+
+-- the outcome once the pointer is followed
+pub has_type : {r : Reading} {m m₁ m₂ : Meter} {l : Landing} (t : PointerType) → IsCounted r m m₁ → FollowsPointer r m₁ m₂ l → type_of (target l).word ≡ Ok t → HasType r m
+unfolding HasType
+has_type {l = l} t o f e = let there = reached o f in inr (target l, t, there.follows, e, there.paid.covers)
+
+pub has_no_type : {r : Reading} {m m₁ m₂ : Meter} {l : Landing} {k : ErrorKind} → IsCounted r m m₁ → FollowsPointer r m₁ m₂ l → type_of (target l).word ≡ Err k → HasNoType r m m₂ k
+has_no_type {l = l} o f e = let there = reached o f in of_no_type (target l) there.follows e there.paid
+
+not_untyped_null : {r : Reading} {m m' : Meter} {k : ErrorKind} → word_of r ≡ 0 → HasNoType r m m' k → ⊥
+not_untyped_null null (not_followed (exceeding some short paid named)) = some null
+not_untyped_null null (not_followed (leading_nowhere some h paid)) = some null
+not_untyped_null null (of_no_type a f e paid) = f.0 null
+
+not_untyped_there : {r : Reading} {m m' : Meter} {k : ErrorKind} (a : Target) (t : PointerType) → FollowsTo r a → type_of a.word ≡ Ok t → Affords r.charging m a.pads → HasNoType r m m' k → ⊥
+not_untyped_there {r} a t f e covers (not_followed h) = not_unfollowed a (leads_there r a f (not_far a.word t e)) covers h
+not_untyped_there a t f e covers (of_no_type b g none paid) = absurd (let h = f.1 in let i = g.1 in let same : a ≡ b = cc (h, i) in cc (e, none, same))
+
+pub not_untyped : (r : Reading) (m m' : Meter) (k : ErrorKind) → HasType r m → HasNoType r m m' k → ⊥
+unfolding HasType
+not_untyped r m m' k (inl null) h = not_untyped_null null h
+not_untyped r m m' k (inr (a, t, f, e, covers)) h = not_untyped_there a t f e covers h
+
+pub typed_exactly : (r : Reading) (m m' : Meter) (result : Result PointerType ErrorKind) → IfOk result (λ t. HasType r m) → IfErr result (HasNoType r m m') → IsOk result ↔ HasType r m
+typed_exactly r m m' (Ok t) good bad = ((λ e. good), (λ has. refl))
+typed_exactly r m m' (Err k) good bad = ((λ e. absurd (cc e)), (λ has. absurd (not_untyped r m m' k has bad)))
+
+-- a result by what it is
+pub ok_by : {A E : Type 0} (x result : Result A E) (P : A → Type 0) → x ≡ result → ((y : A) → result ≡ Ok y → P y) → IfOk x P
+ok_by x (Ok y) P e f = rw e (f y refl)
+ok_by x (Err k) P e f = rw e tt
+
+pub err_by : {A E : Type 0} (x result : Result A E) (P : E → Type 0) → x ≡ result → ((k : E) → result ≡ Err k → P k) → IfErr x P
+err_by x (Ok y) P e f = rw e tt
+err_by x (Err k) P e f = rw e (f k refl)

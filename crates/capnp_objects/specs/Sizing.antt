@@ -1,0 +1,202 @@
+-- What the size of a value is taken of: the walk that counts words and capabilities, which reads less than a copy does. It
+-- neither looks where a list of void lies nor charges for elements without width; and a capability takes a level.
+use Rattle.std.specs.Prelude.{◌≡◌, ◌⊎◌, ℕ, pred, ◌+◌, ◌*◌, ◌-◌, ◌%◌, ◌^◌, ◌<◌, ◌≤◌, length}
+use Rattle.capnp_words.specs.declared.error.ErrorKind.{ErrorKind}
+use Rattle.capnp_words.specs.declared.error.ErrorKind.TheVariants.{MessageTooLarge}
+use Rattle.capnp_pointers.specs.declared.wire_pointer.StructSize.{StructSize}
+use Rattle.capnp_words.specs.Meter.{Meter, Affords}
+use Rattle.capnp_format.specs.Word.{kind, offset_bits, data_words, pointer_count, element_size, list_count, capability_word}
+use Rattle.capnp_format.specs.Numbers.{words_for, unpacked}
+use Rattle.capnp_format.specs.Segments.{Segments, word_at, words_at, HasWords, Target}
+use Rattle.capnp_format.specs.Tree.{Tree, Null, Capability, Struct, Flat, Pointers, Structs, Trees, no_trees, tree, Elements, no_elements, element, count, element_count, capabilities, capabilities_all, capabilities_elements}
+use Rattle.capnp_format.specs.Means.{Leads, Claims, StructAt, ListAt, IsTag}
+use Rattle.capnp_format.specs.Canonical.{word_count, word_count_all, word_count_elements}
+use Rattle.capnp_objects.specs.Demands.{tag, IsStructList}
+use Rattle.capnp_objects.specs.Faults.{LeadsTo, child_at}
+use Rattle.capnp_objects.specs.Measures.{counted_words, Measured, NotMeasured}
+use Rattle.capnp_objects.specs.Reading.{Reading, pointers_of, tag_size}
+use Rattle.capnp_objects.specs.Spending.{Paid, pointers_in, pointers_in_all, pointers_in_elements}
+
+-- The walk from a place goes over the value t within n levels, and charges c words. It is `Means` but for three things:
+-- a capability takes a level; a list of void may lie anywhere; elements without width are free.
+abbrev mutual
+  pub Sized : Segments → ℕ → ℕ → ℕ → Tree → ℕ → Type 0
+  Sized S n s p Null c = (word_at S s p ≡ 0) × (c ≡ 0)
+  Sized S n s p (Capability i) c = (a : Target) × (0 < n) × Leads S s p a × (a.word ≡ capability_word i) × (c ≡ a.pads)
+  Sized S n s p (Struct words children) c =
+      (a : Target) × (k : ℕ) × (0 < n) × StructAt S s p a (length words) (count children) × Claims S a (length words + count children)
+      × HasWords S a.segment a.start words × SizedAll S (pred n) a.segment (a.start + length words) children k
+      × (c ≡ a.pads + (length words + count children) + k)
+  Sized S n s p (Flat size numbers) c =
+      (a : Target) × (0 < n) × (size ≤ 5) × ListAt S s p a size (length numbers) × (0 < size → Claims S a (words_for size (length numbers)))
+      × (numbers ≡ unpacked size (length numbers) (words_at S a.segment a.start (words_for size (length numbers))))
+      × (c ≡ a.pads + words_for size (length numbers))
+  Sized S n s p (Pointers children) c =
+      (a : Target) × (k : ℕ) × (0 < n) × ListAt S s p a 6 (count children) × Claims S a (count children)
+      × SizedAll S (pred n) a.segment a.start children k
+      × (c ≡ a.pads + count children + k)
+  Sized S n s p (Structs d q elements) c =
+      (a : Target) × (m : ℕ) × (k : ℕ) × (0 < n) × ListAt S s p a 7 m × Claims S a (m + 1)
+      × IsTag (word_at S a.segment a.start) (element_count elements) d q × (element_count elements * (d + q) ≤ m)
+      × SizedElements S (pred n) a.segment (a.start + 1) d q elements k
+      × (c ≡ a.pads + (m + 1) + k)
+
+  -- Over pointers one behind the other from a place on.
+  pub SizedAll : Segments → ℕ → ℕ → ℕ → Trees → ℕ → Type 0
+  SizedAll S n s p no_trees c = c ≡ 0
+  SizedAll S n s p (tree t ts) c = (k : ℕ) × (l : ℕ) × Sized S n s p t k × SizedAll S n s (p + 1) ts l × (c ≡ k + l)
+
+  -- Over elements one behind the other from a place on.
+  pub SizedElements : Segments → ℕ → ℕ → ℕ → ℕ → ℕ → Elements → ℕ → Type 0
+  SizedElements S n s p d q no_elements c = c ≡ 0
+  SizedElements S n s p d q (element words children es) c =
+      (k : ℕ) × (l : ℕ) × (length words ≡ d) × (count children ≡ q) × HasWords S s p words
+      × SizedAll S n s (p + d) children k × SizedElements S n s (p + d + q) d q es l × (c ≡ k + l)
+
+-- The walk from the place goes over t, and charges c words; over pointers one behind the other; over elements of a size.
+abbrev pub SizedThere : Reading → Tree → ℕ → Type 0
+SizedThere r t c = Sized r.segments r.levels r.segment r.at t c
+
+abbrev pub SizedAllThere : Reading → Trees → ℕ → Type 0
+SizedAllThere r ts c = SizedAll r.segments r.levels r.segment r.at ts c
+
+abbrev pub ElementsSized : Reading → StructSize → Elements → ℕ → Type 0
+ElementsSized r size es c = SizedElements r.segments r.levels r.segment r.at size.data_words size.pointers es c
+
+-- So many words and capabilities fit the numbers that a size has.
+abbrev pub FitSize : ℕ → ℕ → Type 0
+FitSize words caps = (words < 2 ^ 64) × (caps < 2 ^ 32)
+
+-- The walk from a place gives so many words and capabilities, and takes the limiter from m to m'.
+abbrev pub Totals : Reading → Meter → Meter → ℕ → ℕ → Type 0
+Totals r m m' words caps = (t : Tree) × (c : ℕ) × SizedThere r t c × (words ≡ word_count t) × (caps ≡ capabilities t) × Paid r.charging m m' c (pointers_in t)
+
+-- There is a walk from a place that m covers, whose words and capabilities fit.
+abbrev pub HasSize : Reading → Meter → Type 0
+HasSize r m = (t : Tree) × (c : ℕ) × SizedThere r t c × FitSize (word_count t) (capabilities t) × Affords r.charging m c
+
+-- How far a walk has come: the words and capabilities that it has counted, and its limiter.
+pub record Tally : Type 0 where
+  pub words : ℕ
+  pub caps : ℕ
+  pub meter : Meter
+
+abbrev pub tally : ℕ → ℕ → Meter → Tally
+tally words caps m = record { words = words; caps = caps; meter = m }
+
+-- From one tally to another the walk goes over the value at a place.
+pub record Walks (r : Reading) (from to : Tally) (t : Tree) : Type 0 where
+  pub cost : ℕ
+  pub is_sized : SizedThere r t cost
+  pub paid : Paid r.charging from.meter to.meter cost (pointers_in t)
+  pub words_are : to.words ≡ from.words + word_count t
+  pub caps_are : to.caps ≡ from.caps + capabilities t
+
+-- Over those of pointers one behind the other, from the place on.
+pub record WalksAll (r : Reading) (from to : Tally) (ts : Trees) : Type 0 where
+  pub cost : ℕ
+  pub is_sized : SizedAllThere r ts cost
+  pub paid : Paid r.charging from.meter to.meter cost (pointers_in_all ts)
+  pub words_are : to.words ≡ from.words + word_count_all ts
+  pub caps_are : to.caps ≡ from.caps + capabilities_all ts
+
+-- Over those of the pointers of elements of a size.
+pub record WalksElements (r : Reading) (size : StructSize) (from to : Tally) (es : Elements) : Type 0 where
+  pub cost : ℕ
+  pub is_sized : ElementsSized r size es cost
+  pub paid : Paid r.charging from.meter to.meter cost (pointers_in_elements es)
+  pub words_are : to.words ≡ from.words + word_count_elements es
+  pub caps_are : to.caps ≡ from.caps + capabilities_elements es
+
+-- From one tally to another the walk goes over a place; over i pointers; over the pointers of i elements.
+abbrev pub WalksPlace : Reading → Tally → Tally → Type 0
+WalksPlace r from to = (t : Tree) × Walks r from to t
+
+abbrev pub WalksPointers : Reading → ℕ → Tally → Tally → Type 0
+WalksPointers r i from to = (ts : Trees) × (count ts ≡ i) × WalksAll r from to ts
+
+abbrev pub WalksRows : Reading → StructSize → ℕ → Tally → Tally → Type 0
+WalksRows r size i from to = (es : Elements) × (element_count es ≡ i) × WalksElements r size from to es
+
+-- There is a walk over i pointers from a place on that the limiter of a tally covers, and that the sums of the tally have
+-- room for.
+abbrev pub HaveSizes : Reading → ℕ → Tally → Type 0
+HaveSizes r i from =
+    (ts : Trees) × (c : ℕ) × (count ts ≡ i) × SizedAllThere r ts c × FitSize (from.words + word_count_all ts) (from.caps + capabilities_all ts) × Affords r.charging from.meter c
+
+-- The pointers of an object a before its pointer at position q are walked over.
+pub data WalksBefore (r : Reading) (a : Target) (q : ℕ) (from to : Tally) : Type 0 where
+  in_struct :
+      (ts : Trees) →
+      kind a.word ≡ 0 →
+      count ts < pointer_count a.word →
+      q ≡ a.start + data_words a.word + count ts →
+      WalksAll (child_at r a (pred r.levels) (a.start + data_words a.word)) from to ts →
+      WalksBefore r a q from to
+  in_pointers :
+      (ts : Trees) →
+      kind a.word ≡ 1 →
+      element_size a.word ≡ 6 →
+      count ts < list_count a.word →
+      q ≡ a.start + count ts →
+      WalksAll (child_at r a (pred r.levels) a.start) from to ts →
+      WalksBefore r a q from to
+  in_element :
+      (es : Elements) (ts : Trees) (mid : Tally) →
+      IsStructList a.word →
+      element_count es < offset_bits (tag r.segments a) →
+      count ts < pointer_count (tag r.segments a) →
+      q ≡ (pointers_of (child_at r a (pred r.levels) (a.start + 1)) (tag_size r.segments a) (element_count es)).at + count ts →
+      WalksElements (child_at r a (pred r.levels) (a.start + 1)) (tag_size r.segments a) from mid es →
+      WalksAll (pointers_of (child_at r a (pred r.levels) (a.start + 1)) (tag_size r.segments a) (element_count es)) mid to ts →
+      WalksBefore r a q from to
+
+-- The tally with the words that an object counts, once it is measured.
+abbrev pub with_object : Tally → Target → Segments → Meter → Tally
+with_object from a S m = record { words = from.words + counted_words S a; caps = from.caps; meter = m }
+
+-- The walk stops at one object, with the limiter m', by the name k. The sums before it fit. The object can't be measured; or
+-- it is measured, and with its own words, or with it as a capability, the sums are too much.
+pub data SizeStopped (r : Reading) (from : Tally) (m' : Meter) (k : ErrorKind) : Type 0 where
+  unmeasured : NotMeasured r from.meter m' k → SizeStopped r from m' k
+  too_large : (a : Target) → Measured r from.meter m' a → 2 ^ 64 ≤ from.words + counted_words r.segments a → k ≡ MessageTooLarge (2 ^ 64 - 1) → SizeStopped r from m' k
+  too_many :
+      (a : Target) →
+      LeadsTo r a →
+      0 < r.levels →
+      a.word % 2 ^ 32 ≡ 3 →
+      Paid r.charging from.meter m' a.pads 1 →
+      2 ^ 32 ≤ from.caps + 1 →
+      k ≡ MessageTooLarge (2 ^ 64 - 1) →
+      SizeStopped r from m' k
+
+-- The walk from a place stops: at its own object, or at that of one of its pointers, when the object and the pointers before
+-- that one were walked over. The sums before the object that stops it fit.
+pub data SizeStops (k : ErrorKind) : Reading → Tally → Meter → Type 0 where
+  here : {r : Reading} {from : Tally} {m' : Meter} → FitSize from.words from.caps → SizeStopped r from m' k → SizeStops k r from m'
+  below :
+      {r : Reading} {from mid : Tally} {first m' : Meter} (a : Target) (q : ℕ) →
+      Measured r from.meter first a →
+      WalksBefore r a q (with_object from a r.segments first) mid →
+      SizeStops k (child_at r a (pred r.levels) q) mid m' →
+      SizeStops k r from m'
+
+-- So does that from one of i pointers from a place on.
+pub record SizesStop (r : Reading) (i : ℕ) (from : Tally) (m' : Meter) (k : ErrorKind) : Type 0 where
+  pub first : Trees
+  pub fewer : count first < i
+  pub mid : Tally
+  pub are_walked : WalksAll r from mid first
+  pub stops : SizeStops k (record r { at = r.at + count first }) mid m'
+
+-- So does that from a pointer of one of i elements.
+pub record RowsStop (r : Reading) (size : StructSize) (i : ℕ) (from : Tally) (m' : Meter) (k : ErrorKind) : Type 0 where
+  pub first : Elements
+  pub fewer : element_count first < i
+  pub mid : Tally
+  pub are_walked : WalksElements r size from mid first
+  pub stops : SizesStop (pointers_of r size (element_count first)) size.pointers mid m' k
+
+-- The walk from a place is refused by the name k, from m to m'.
+abbrev pub SizeRefused : Reading → Meter → Meter → ErrorKind → Type 0
+SizeRefused r m m' k = SizeStops k r (tally 0 0 m) m'

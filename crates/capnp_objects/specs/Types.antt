@@ -1,0 +1,40 @@
+-- Of which kind the object is that a pointer leads to, by the word that describes it alone.
+use Rattle.std.specs.Prelude.{◌≡◌, ◌≢◌, ◌⊎◌, ℕ, cond, nat_eq, Result, Ok, Err}
+use Rattle.capnp_words.specs.declared.error.ErrorKind.{ErrorKind}
+use Rattle.capnp_words.specs.declared.error.ErrorKind.TheVariants.{MessageContainsNonCapabilityPointerWhereCapabilityPointerWasExpected, MessageContainsNullCapabilityPointer, UnexpectedFarPointer, UnknownPointerType}
+use Rattle.capnp_words.specs.Meter.{Meter, Affords}
+use Rattle.capnp_format.specs.Word.{kind, lower_half}
+use Rattle.capnp_format.specs.Segments.{Target}
+use Rattle.capnp_pointers.specs.declared.wire_pointer.PointerType.{PointerType}
+use Rattle.capnp_pointers.specs.declared.wire_pointer.PointerType.TheVariants.{Null, Struct, List, Capability}
+use Rattle.capnp_objects.specs.Reading.{Reading, word_of}
+use Rattle.capnp_objects.specs.Refusals.{FollowsTo, Unfollowed}
+use Rattle.capnp_objects.specs.Spending.{Paid}
+
+-- What a word describes, or how it is refused that it describes nothing.
+abbrev pub type_of : ℕ → Result PointerType ErrorKind
+type_of w =
+    cond (nat_eq (kind w) 0) (Ok Struct)
+    (cond (nat_eq (kind w) 1) (Ok List) (cond (nat_eq (kind w) 2) (Err UnexpectedFarPointer) (cond (nat_eq (lower_half w) 3) (Ok Capability) (Err UnknownPointerType))))
+
+-- The pointer at a place leads to a word that describes this; its landing pads are granted, from m to m'.
+abbrev pub LeadsToType : Reading → Meter → Meter → PointerType → Type 0
+LeadsToType r m m' t = (a : Target) × FollowsTo r a × (type_of a.word ≡ Ok t) × Paid r.charging m m' a.pads 1
+
+-- What the pointer is: null, at no cost, or what it leads to.
+abbrev pub IsOfType : Reading → Meter → Meter → PointerType → Type 0
+IsOfType r m m' t = ((word_of r ≡ 0) × (t ≡ Null) × (m' ≡ m)) ⊎ LeadsToType r m m' t
+
+-- The call is answered: the pointer is null, or leads to a word that describes something, and m covers its landing pads.
+unfoldable pub HasType : Reading → Meter → Type 0
+HasType r m = (word_of r ≡ 0) ⊎ ((a : Target) × (t : PointerType) × FollowsTo r a × (type_of a.word ≡ Ok t) × Affords r.charging m a.pads)
+
+-- The call is refused, from m to m', by the name k: the pointer is not followed, or leads to a word that describes nothing.
+pub data HasNoType (r : Reading) (m m' : Meter) (k : ErrorKind) : Type 0 where
+  not_followed : Unfollowed r m m' k → HasNoType r m m' k
+  of_no_type : (a : Target) → FollowsTo r a → type_of a.word ≡ Err k → Paid r.charging m m' a.pads 1 → HasNoType r m m' k
+
+-- A capability is read from the pointer's own word, which is not followed.
+pub data IsNoCapability (w : ℕ) : ErrorKind → Type 0 where
+  of_null : w ≡ 0 → IsNoCapability w MessageContainsNullCapabilityPointer
+  of_another : w ≢ 0 → lower_half w ≢ 3 → IsNoCapability w MessageContainsNonCapabilityPointerWhereCapabilityPointerWasExpected

@@ -1,0 +1,205 @@
+//! One object that a call expects to be of a kind: a struct, a list of elements that are wide enough, a text, or data.
+ghost use Rattle.std.specs.Prelude.{◌≡◌, ◌<◌, ◌≤◌, ◌+◌, ◌-◌, ◌*◌, ◌^◌, ◌↔◌, ℕ, IsTrue, IsOk, IfOk, IfErr, length};
+ghost use Rattle.capnp_format.specs.Numbers.{words_for};
+ghost use Rattle.capnp_pointers.specs.Sizes.{size_number};
+ghost use Rattle.capnp_objects.specs.Source.{source_segments, source_charging};
+ghost use Rattle.capnp_objects.specs.Reading.{reading_at};
+ghost use Rattle.capnp_objects.specs.Objects.{IsObject, IsHeld, IsFew};
+ghost use Rattle.capnp_objects.specs.Landings.{target, IsOpened};
+ghost use Rattle.capnp_objects.specs.Expected.{too_deep, another_kind, narrow_elements, narrow_structs, one_level, CanBeGiven, IsGiven, Withheld};
+ghost use Rattle.capnp_objects.specs.Entering.{object_misfit, place_byte, IsAtHand, IsFitting, IsUnsuited};
+
+use super::{Landing, Source, depth_of};
+use crate::object::{Expected, Object, Place};
+use capnp_arena::arena::ReaderArena;
+use capnp_words::error::ErrorKind;
+use capnp_words::read_limiter::ReadLimiter;
+use capnp_words::wire_pointer::{
+    ElementSize, StructSize, WirePointer, WirePointerKind, data_bits_per_element,
+};
+use capnp_words::words::word_at;
+
+impl<'a, A: ReaderArena> Source<'a, A> {
+    /// Reads the object that the pointer at a place leads to, which has to be what a call expects
+    /// ("Structs", "Lists" of the encoding specification).
+    ///
+    /// A word of zero is `Null`, and nothing is counted or charged then. Checks and charges are those
+    /// of `read_object`, but for these: a struct and a list ask for a level, a nesting limit of at
+    /// least 1, before the pointer is followed (`MessageIsTooDeeplyNestedOrContainsCycles` for a
+    /// struct, `NestingLimitExceeded` for a list), and a text and data ask for none; an object of
+    /// another kind is refused when its landing pads are charged and before its own words are; and
+    /// a list whose elements are too narrow, or a text whose last byte isn't 0, when all is charged.
+    #[inline(always)]
+    pub fn read_expected(
+        self,
+        expected: Expected,
+        place: Place<'a>,
+        nesting_limit: i32,
+        lim: &mut ReadLimiter,
+    ) -> Result<Object<'a>, ErrorKind>
+        requires held { IsHeld (source_segments A.segments self) place }
+        ensures object { IfOk result (IsObject (one_level (reading_at A.ReaderArena self.entry place.entry nesting_limit)) lim.old lim.new) }
+        ensures given { IfOk result (IsGiven expected (reading_at A.ReaderArena self.entry place.entry nesting_limit).levels) }
+        ensures few { IfOk result IsFew }
+        ensures exactly { IsOk result ↔ CanBeGiven expected (reading_at A.ReaderArena self.entry place.entry nesting_limit) lim.old }
+        ensures refused { IfErr result (Withheld expected (reading_at A.ReaderArena self.entry place.entry nesting_limit) lim.old lim.new) }
+    {
+        let word = place.word();
+        if word.is_null() {
+            return Ok(Object::Null);
+        }
+        match name_of_depth(expected, depth_of(nesting_limit)) {
+            Some(kind) => return Err(kind),
+            None => {}
+        }
+        self.count(lim);
+        match self.follow(place, word, nesting_limit, lim) {
+            Ok(landing) => self.enter_expected(expected, landing, lim),
+            Err(kind) => Err(kind),
+        }
+    }
+
+    // Enters the object that a pointer leads to, if it is as expected.
+    #[inline(always)]
+    fn enter_expected(
+        self,
+        expected: Expected,
+        landing: Landing<'a>,
+        lim: &mut ReadLimiter,
+    ) -> Result<Object<'a>, ErrorKind>
+        requires held { IsHeld (source_segments A.segments self) landing.start }
+        ensures object { IfOk result (IsOpened (source_segments A.segments self.entry) (source_charging A.charging self.entry) 1 (target landing.entry) lim.old lim.new) }
+        ensures fits { IfOk result (IsFitting expected (target landing.entry)) }
+        ensures few { IfOk result IsFew }
+        ensures refused { IfErr result (IsUnsuited expected (source_segments A.segments self.entry) (source_charging A.charging self.entry) (target landing.entry) lim.old lim.new) }
+    {
+        match name_of_kind(expected, landing.word) {
+            Some(kind) => return Err(kind),
+            None => {}
+        }
+        let object = match self.enter(landing, 1, lim) {
+            Ok(object) => object,
+            Err(kind) => return Err(kind),
+        };
+        match name_of_misfit(expected, object) {
+            Some(kind) => Err(kind),
+            None => Ok(object),
+        }
+    }
+}
+
+// How it is refused that so many levels are left.
+fn name_of_depth(expected: Expected, depth: u32) -> Option<ErrorKind>
+    ensures { result ≡ too_deep expected depth }
+{
+    match expected {
+        Expected::Struct if depth == 0 => Some(ErrorKind::MessageIsTooDeeplyNestedOrContainsCycles),
+        Expected::List(_) if depth == 0 => Some(ErrorKind::NestingLimitExceeded),
+        _ => None,
+    }
+}
+
+// How it is refused that this word describes an object of another kind.
+fn name_of_kind(expected: Expected, word: WirePointer) -> Option<ErrorKind>
+    ensures { result ≡ another_kind expected word.0 }
+{
+    let is_list = word.kind() == WirePointerKind::List;
+    let is_bytes = word.list_element_size() == ElementSize::Byte;
+    match expected {
+        Expected::Struct if word.kind() != WirePointerKind::Struct => {
+            Some(ErrorKind::MessageContainsNonStructPointerWhereStructPointerWasExpected)
+        }
+        Expected::List(_) if !is_list => {
+            Some(ErrorKind::MessageContainsNonListPointerWhereListPointerWasExpected)
+        }
+        Expected::Text if !is_list => {
+            Some(ErrorKind::MessageContainsNonListPointerWhereTextWasExpected)
+        }
+        Expected::Text if !is_bytes => {
+            Some(ErrorKind::MessageContainsListPointerOfNonBytesWhereTextWasExpected)
+        }
+        Expected::Data if !is_list => {
+            Some(ErrorKind::MessageContainsNonListPointerWhereDataWasExpected)
+        }
+        Expected::Data if !is_bytes => {
+            Some(ErrorKind::MessageContainsListPointerOfNonBytesWhereDataWasExpected)
+        }
+        _ => None,
+    }
+}
+
+// How it is refused that an object of the kind is none that was expected.
+fn name_of_misfit(expected: Expected, object: Object) -> Option<ErrorKind>
+    requires { IsAtHand object }
+    ensures { result ≡ object_misfit expected object.entry }
+{
+    match (expected, object) {
+        (Expected::List(size), Object::Flat { size: found, .. }) => {
+            name_of_narrow_elements(size, found)
+        }
+        (Expected::List(size), Object::Pointers { .. }) => {
+            name_of_narrow_elements(size, ElementSize::Pointer)
+        }
+        (Expected::List(size), Object::Structs { size: sections, .. }) => {
+            name_of_narrow_structs(size, sections)
+        }
+        (
+            Expected::Text,
+            Object::Flat {
+                start,
+                size: ElementSize::Byte,
+                count,
+            },
+        ) if !ends_in_zero(start, count) => {
+            Some(ErrorKind::MessageContainsTextThatIsNotNULTerminated)
+        }
+        _ => None,
+    }
+}
+
+// Whether so many bytes from a place on end in a byte of zero.
+fn ends_in_zero(start: Place, count: u32) -> bool
+    requires { 8 * (start.at + words_for 2 count) ≤ length start.bytes.now }
+    ensures { IsTrue result ↔ (0 < count) × (place_byte start.entry (count - 1) ≡ 0) }
+{
+    if count == 0 {
+        return false;
+    }
+    let last = (count - 1) as usize;
+    let word = word_at(start.bytes, start.at as usize + last / 8);
+    word >> (8 * (last % 8)) & 0xff == 0
+}
+
+// How it is refused that a list has elements of a size that is too narrow.
+fn name_of_narrow_elements(expected: ElementSize, found: ElementSize) -> Option<ErrorKind>
+    requires { size_number found < 7 }
+    ensures { result ≡ narrow_elements expected (size_number found) }
+{
+    if found == ElementSize::Bit && expected != ElementSize::Bit {
+        return Some(ErrorKind::FoundBitListWhereStructListWasExpected);
+    }
+    let is_wide = data_bits_per_element(found) >= data_bits_per_element(expected);
+    if is_wide && (expected != ElementSize::Pointer || found == ElementSize::Pointer) {
+        None
+    } else {
+        Some(ErrorKind::MessageContainsListWithIncompatibleElementType)
+    }
+}
+
+// How it is refused that a list has structs of these sections.
+fn name_of_narrow_structs(expected: ElementSize, sections: StructSize) -> Option<ErrorKind>
+    ensures { result ≡ narrow_structs expected sections }
+{
+    match expected {
+        ElementSize::Void | ElementSize::InlineComposite => None,
+        ElementSize::Bit => Some(ErrorKind::FoundStructListWhereBitListWasExpected),
+        ElementSize::Pointer if sections.pointers == 0 => {
+            Some(ErrorKind::ExpectedAPointerListButGotAListOfDataOnlyStructs)
+        }
+        ElementSize::Pointer => None,
+        _ if sections.data_words == 0 => {
+            Some(ErrorKind::ExpectedAPrimitiveListButGotAListOfPointerOnlyStructs)
+        }
+        _ => None,
+    }
+}

@@ -1,0 +1,57 @@
+//! Of which kind the object is that a pointer leads to.
+ghost use Rattle.std.specs.Prelude.{◌≡◌, ◌↔◌, IsOk, IfOk, IfErr};
+ghost use Rattle.capnp_objects.specs.Source.{source_segments};
+ghost use Rattle.capnp_objects.specs.Reading.{reading_at};
+ghost use Rattle.capnp_objects.specs.Objects.{IsHeld};
+ghost use Rattle.capnp_objects.specs.Types.{type_of, IsOfType, HasType, HasNoType};
+
+use super::Source;
+use crate::object::Place;
+use capnp_arena::arena::ReaderArena;
+use capnp_words::error::ErrorKind;
+use capnp_words::read_limiter::ReadLimiter;
+use capnp_words::wire_pointer::{PointerType, WirePointer, WirePointerKind};
+
+impl<'a, A: ReaderArena> Source<'a, A> {
+    /// Of which kind the object is that the pointer at a place leads to, by the word that describes
+    /// it alone: the object itself is neither checked nor charged.
+    ///
+    /// A word of zero is `Null`, and nothing is counted or charged then. Else the pointer is
+    /// counted as followed, and its landing pads are charged. A landing pad that is a far pointer
+    /// again is refused as `UnexpectedFarPointer`, a word of no kind as `UnknownPointerType`; a
+    /// pointer that can't be followed as in `read_object`.
+    pub fn read_type(
+        self,
+        place: Place<'a>,
+        nesting_limit: i32,
+        lim: &mut ReadLimiter,
+    ) -> Result<PointerType, ErrorKind>
+        requires held { IsHeld (source_segments A.segments self) place }
+        ensures of_type { IfOk result (IsOfType (reading_at A.ReaderArena self.entry place.entry nesting_limit) lim.old lim.new) }
+        ensures exactly { IsOk result ↔ HasType (reading_at A.ReaderArena self.entry place.entry nesting_limit) lim.old }
+        ensures refused { IfErr result (HasNoType (reading_at A.ReaderArena self.entry place.entry nesting_limit) lim.old lim.new) }
+    {
+        let word = place.word();
+        if word.is_null() {
+            return Ok(PointerType::Null);
+        }
+        self.count(lim);
+        match self.follow(place, word, nesting_limit, lim) {
+            Ok(landing) => described(landing.word),
+            Err(kind) => Err(kind),
+        }
+    }
+}
+
+// What a word describes.
+fn described(word: WirePointer) -> Result<PointerType, ErrorKind>
+    ensures { result ≡ type_of word.0 }
+{
+    match word.kind() {
+        WirePointerKind::Struct => Ok(PointerType::Struct),
+        WirePointerKind::List => Ok(PointerType::List),
+        WirePointerKind::Far => Err(ErrorKind::UnexpectedFarPointer),
+        WirePointerKind::Other if word.is_capability() => Ok(PointerType::Capability),
+        WirePointerKind::Other => Err(ErrorKind::UnknownPointerType),
+    }
+}

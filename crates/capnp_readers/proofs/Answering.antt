@@ -1,0 +1,157 @@
+-- Where a call reads, and that it is one place: the pointer's own, or a default's.
+use Rattle.std.proofs.Common.{◌≡◌, ◌≢◌, ◌↔◌, inl, inr, ℕ, zero, suc, ◌<◌, ◌≤◌, Bool, true, false, not, ◌&&◌, ◌||◌, cond, nat_eq, nat_lt, eqb-true, eq-eqb, lt-ltb, List, Option, Some, None, refl, sym, ap, ap₂, ◌∙◌, subst, arith}
+use Rattle.std.specs.Borrow.{Bor}
+use Rattle.capnp_words.specs.declared.error.ErrorKind.{ErrorKind}
+use Rattle.capnp_words.specs.Meter.{Meter}
+use Rattle.capnp_arena.specs.declared.arena.reader_arena.ReaderArena.{Ghosts}
+use Rattle.capnp_objects.specs.declared.object.Expected.{Expected}
+use Rattle.capnp_objects.specs.declared.object.Expected.TheVariants.{Struct as ExpectsStruct, List as ExpectsList}
+use Rattle.capnp_objects.specs.declared.object.Object.{Object}
+use Rattle.capnp_pointers.specs.declared.wire_pointer.StructSize.{StructSize}
+use Rattle.capnp_pointers.specs.Sizes.{size_number}
+use Rattle.capnp_objects.proofs.Decided.{within_or_not}
+use Rattle.capnp_pointers.specs.declared.wire_pointer.ElementSize.{ElementSize}
+use Rattle.capnp_pointers.specs.declared.wire_pointer.ElementSize.TheVariants.{Void, Bit, Byte, TwoBytes, FourBytes, EightBytes, Pointer, InlineComposite}
+use Rattle.capnp_objects.specs.Expected.{CanBeGiven, IsGiven, misfit, narrow_elements, narrow_structs}
+use Rattle.capnp_format.specs.Numbers.{element_bits}
+use Rattle.capnp_format.specs.Segments.{word_at}
+use Rattle.capnp_objects.specs.Reading.{word_of, tag_size}
+use Rattle.capnp_objects.specs.Source.{default_segment, default_segments}
+use Rattle.capnp_readers.specs.Readers.{reading, IsListOf, IsTarget}
+use Rattle.capnp_readers.specs.Calls.{IsDefault, IsRead, without_default, not_null, of_default, IsUnread, short_default, of_null_default, call, IsAnswered, IsNull}
+use Rattle.capnp_readers.specs.Sections.{IsWide}
+use Rattle.capnp_readers.specs.declared.readers.PointerReader.{PointerReader}
+use Rattle.capnp_readers.specs.declared.readers.list_reader.ListReader.{ListReader}
+use Rattle.capnp_readers.specs.declared.readers.struct_reader.StructReader.{StructReader}
+use Rattle.capnp_readers.specs.declared.readers.target.Target.{Target as ReadTarget}
+use Rattle.capnp_readers.specs.declared.readers.target.Target.TheVariants.{Null as NullTarget, Cap as CapTarget, Struct as StructTarget, List as ListTarget}
+use Rattle.capnp_objects.proofs.Expecting.{IsReadAt, struct_or_null, list_or_null, given_fits}
+use Rattle.capnp_objects.proofs.Faultless.{same_target}
+
+-- elements and structs that aren't too narrow
+both_none : (k j : ErrorKind) (b c : Bool) → cond b (Some k) (cond c (Some j) None) ≡ None → (b ≡ false) × (c ≡ false)
+both_none k j true c e = absurd (cc e)
+both_none k j false true e = absurd (cc e)
+both_none k j false false e = (refl, refl)
+
+but_not : (b c : Bool) → (b && not c) ≡ false → b ≡ true → c ≡ true
+but_not true true e f = refl
+but_not true false e f = absurd (cc e)
+but_not false c e f = absurd (cc f)
+
+neither : (b c : Bool) → (b || c) ≡ false → (b ≡ false) × (c ≡ false)
+neither false false e = (refl, refl)
+neither false true e = absurd (cc e)
+neither true c e = absurd (cc e)
+
+not_less : (x y : ℕ) → nat_lt x y ≡ false → y ≤ x
+not_less x y e = elim (within_or_not y x) [ inl le ↦ le | inr lt ↦ absurd (let f = lt-ltb x y lt in cc (e, f)) ]
+
+wide_elements : (size : ElementSize) (found : ℕ) → narrow_elements size found ≡ None → (element_bits (size_number size) ≤ element_bits found) × (size_number size ≡ 6 → found ≡ 6) × (found ≡ 1 → size_number size ≡ 1)
+wide_elements size found e =
+    let n : ℕ = size_number size in
+    let off = both_none _ _ (nat_eq found 1 && not (nat_eq n 1)) (nat_lt (element_bits found) (element_bits n) || nat_eq n 6 && not (nat_eq found 6)) e in
+    let two = neither (nat_lt (element_bits found) (element_bits n)) (nat_eq n 6 && not (nat_eq found 6)) off.1 in (
+      not_less (element_bits found) (element_bits n) two.0,
+      (λ six. eqb-true found 6 (but_not (nat_eq n 6) (nat_eq found 6) two.1 (eq-eqb n 6 six))),
+      (λ one. eqb-true n 1 (but_not (nat_eq found 1) (nat_eq n 1) off.0 (eq-eqb found 1 one))),
+    )
+
+some_words : (k : ErrorKind) (n : ℕ) → cond (nat_eq n 0) (Some k) None ≡ None → 0 < n
+some_words k zero e = absurd (cc e)
+some_words k (suc n) e = omega arith
+
+wide_structs : (size : ElementSize) (sections : StructSize) → narrow_structs size sections ≡ None → IsWide size InlineComposite sections
+wide_structs Void sections e = record { bits = omega arith; pointers = λ six. absurd (omega (arith, six)); whole = λ one. absurd (omega (arith, one)) }
+wide_structs Bit sections e = absurd (cc e)
+wide_structs Byte sections e = let some = some_words _ sections.data_words e in record { bits = omega (arith, some); pointers = λ six. absurd (omega (arith, six)); whole = λ one. absurd (omega (arith, one)) }
+wide_structs TwoBytes sections e = let some = some_words _ sections.data_words e in record { bits = omega (arith, some); pointers = λ six. absurd (omega (arith, six)); whole = λ one. absurd (omega (arith, one)) }
+wide_structs FourBytes sections e = let some = some_words _ sections.data_words e in record { bits = omega (arith, some); pointers = λ six. absurd (omega (arith, six)); whole = λ one. absurd (omega (arith, one)) }
+wide_structs EightBytes sections e = let some = some_words _ sections.data_words e in record { bits = omega (arith, some); pointers = λ six. absurd (omega (arith, six)); whole = λ one. absurd (omega (arith, one)) }
+wide_structs Pointer sections e = record { bits = omega arith; pointers = λ six. some_words _ sections.pointers e; whole = λ one. absurd (omega (arith, one)) }
+wide_structs InlineComposite sections e = record { bits = omega arith; pointers = λ six. absurd (omega (arith, six)); whole = λ one. absurd (omega (arith, one)) }
+
+module _ {A : Type 0} (g : Ghosts A) where
+  pub read_own : {expected : Expected} {from : PointerReader A g} {default : Option (Bor (List ℕ))} → default ≡ None → IsRead g expected from from default
+  read_own {expected} {from} e = subst (IsRead g expected from from) (sym e) (without_default refl)
+
+  pub read_some : {expected : Expected} {from : PointerReader A g} {default : Option (Bor (List ℕ))} (bytes : Bor (List ℕ)) → default ≡ Some bytes → word_of (reading g from) ≢ 0 → IsRead g expected from from default
+  read_some {expected} {from} bytes e some = subst (IsRead g expected from from) (sym e) (not_null some refl)
+
+  same_default : {from p q : PointerReader A g} {bytes : Bor (List ℕ)} → IsDefault g from bytes p → IsDefault g from bytes q → reading g p ≡ reading g q
+  same_default h k = rw (h.source, h.segment, h.first, h.nesting, k.source, k.segment, k.first, k.nesting) refl
+
+  -- a call reads at one place
+  pub one_read : {expected : Expected} {from p q : PointerReader A g} {default : Option (Bor (List ℕ))} → IsRead g expected from p default → IsRead g expected from q default → reading g p ≡ reading g q
+  one_read (without_default e) (without_default f) = ap (reading g) (e ∙ sym f)
+  one_read (not_null some e) (not_null there f) = ap (reading g) (e ∙ sym f)
+  one_read (not_null some e) (of_default h may) = absurd (some h.null)
+  one_read (of_default h may) (not_null some e) = absurd (some h.null)
+  one_read (of_default h may) (of_default k might) = same_default h k
+
+  pub not_unread : {expected : Expected} {from p : PointerReader A g} {k : ErrorKind} {default : Option (Bor (List ℕ))} → IsRead g expected from p default → IsUnread g expected from k default → ⊥
+  not_unread (without_default e) u = elim u [ ]
+  not_unread (not_null some e) (short_default null less named) = some null
+  not_unread (of_default h may) (short_default null less named) = let whole = h.whole in omega (arith, whole, less)
+  not_unread (not_null some e) (of_null_default null whole none named) = some null
+  not_unread {p = p} (of_default h may) (of_null_default null whole none named) = elim may [
+    | inl same ↦ absurd (cc (same, named))
+    | inr some ↦ some (let word : word_of (reading g p) ≡ word_at (default_segments _) default_segment 0 = rw (h.source, h.segment, h.first) refl in word ∙ none)
+  ]
+
+  -- so it is answered exactly where it can be answered there
+  pub answered : {expected : Expected} {from p : PointerReader A g} {default : Option (Bor (List ℕ))} (m : Meter) {B : Type 0} → IsRead g expected from p default → (B ↔ CanBeGiven expected (reading g p) m) →
+      B ↔ IsAnswered g (call g from expected default) m
+  answered {expected} {p = p} m there same =
+      ((λ b. (p, there, same.0 b)), (λ (q, here, can). same.1 (subst (λ r. CanBeGiven expected r m) (one_read here there) can)))
+
+  -- what can be given at the pointer that is read
+  pub given_there : {expected : Expected} {from p : PointerReader A g} {default : Option (Bor (List ℕ))} (m : Meter) → IsRead g expected from p default → IsAnswered g (call g from expected default) m →
+      CanBeGiven expected (reading g p) m
+  given_there {expected} m there (q, here, can) = subst (λ r. CanBeGiven expected r m) (one_read here there) can
+
+  -- An object was read of a pointer, from m to m', and is shown as a target.
+  pub record IsShown (p : PointerReader A g) (m m' : Meter) (x : Object) (t : ReadTarget A g) : Type 0 where
+    pub read : IsReadAt (reading g p) m m' x
+    pub target : IsTarget g p m m' t
+
+  -- a target of another kind than the object that was read is null
+  pub no_struct : {p : PointerReader A g} {m m' : Meter} {x : Object} (t : ReadTarget A g) → IsGiven ExpectsStruct (reading g p).levels x → IsShown p m m' x t → ((r : StructReader A g) → t ≡ StructTarget r → ⊥) → IsNull g p m m'
+  no_struct NullTarget given h other = h.target
+  no_struct {p} {x = x} (CapTarget i) given h other = elim (struct_or_null x given h.read) [
+    | inl null ↦ null
+    | inr (b, there, z) ↦ absurd (let same : h.target.0 ≡ b = same_target (reading g p).segments (reading g p).segment (reading g p).at h.target.1.1 there.1 in let k = rw (← same) at z in let low = h.target.2 in omega (arith, k, low))
+  ]
+  no_struct (StructTarget r) given h other = absurd (other r refl)
+  no_struct {p} {x = x} (ListTarget r) given h other = elim (struct_or_null x given h.read) [
+    | inl null ↦ null
+    | inr (b, there, z) ↦ absurd (let same : h.target.0 ≡ b = same_target (reading g p).segments (reading g p).segment (reading g p).at h.target.1.leads_to.1 there.1 in let k = rw (← same) at z in let one = h.target.2 in omega (arith, k, one))
+  ]
+
+  pub no_list : (size : ElementSize) {p : PointerReader A g} {m m' : Meter} {x : Object} (t : ReadTarget A g) → IsGiven (ExpectsList size) (reading g p).levels x → IsShown p m m' x t → ((r : ListReader A g) → t ≡ ListTarget r → ⊥) → IsNull g p m m'
+  no_list size NullTarget given h other = h.target
+  no_list size {p} {x = x} (CapTarget i) given h other = elim (list_or_null size x given h.read) [
+    | inl null ↦ null
+    | inr (b, there, z) ↦ absurd (let same : h.target.0 ≡ b = same_target (reading g p).segments (reading g p).segment (reading g p).at h.target.1.1 there.1 in let k = rw (← same) at z in let low = h.target.2 in omega (arith, k, low))
+  ]
+  no_list size {p} {x = x} (StructTarget r) given h other = elim (list_or_null size x given h.read) [
+    | inl null ↦ null
+    | inr (b, there, z) ↦ absurd (let same : h.target.0 ≡ b = same_target (reading g p).segments (reading g p).segment (reading g p).at h.target.1.leads_to.1 there.1 in let k = rw (← same) at z in let first = h.target.2 in omega (arith, k, first))
+  ]
+  no_list size (ListTarget r) given h other = absurd (other r refl)
+
+  -- the elements of a list that fits are wide enough
+  wide_list : (size : ElementSize) {p : PointerReader A g} {m m' : Meter} {x : Object} {r : ListReader A g} (h : IsShown p m m' x (ListTarget r)) (found : ElementSize) → misfit (ExpectsList size) (reading g p).segments h.target.0 ≡ None →
+      IsListOf g found (reading g p).segments r h.target.0 → IsWide size found r.struct_size
+  wide_list size {p} {r = r} h InlineComposite fits list =
+      (let sections : r.struct_size ≡ tag_size (reading g p).segments h.target.0 = ap₂ (λ i j. record { data_words = i; pointers = j }) list.1.data_of list.1.pointers_of in wide_structs size r.struct_size (rw sections (rw list.0 at fits)))
+  wide_list size h Void fits list = let wide = wide_elements size 0 (rw list.0 at fits) in record { bits = wide.0; pointers = λ six. absurd (omega (arith, wide.1 six)); whole = wide.2 }
+  wide_list size h Bit fits list = let wide = wide_elements size 1 (rw list.0 at fits) in record { bits = wide.0; pointers = λ six. absurd (omega (arith, wide.1 six)); whole = wide.2 }
+  wide_list size h Byte fits list = let wide = wide_elements size 2 (rw list.0 at fits) in record { bits = wide.0; pointers = λ six. absurd (omega (arith, wide.1 six)); whole = wide.2 }
+  wide_list size h TwoBytes fits list = let wide = wide_elements size 3 (rw list.0 at fits) in record { bits = wide.0; pointers = λ six. absurd (omega (arith, wide.1 six)); whole = wide.2 }
+  wide_list size h FourBytes fits list = let wide = wide_elements size 4 (rw list.0 at fits) in record { bits = wide.0; pointers = λ six. absurd (omega (arith, wide.1 six)); whole = wide.2 }
+  wide_list size h EightBytes fits list = let wide = wide_elements size 5 (rw list.0 at fits) in record { bits = wide.0; pointers = λ six. absurd (omega (arith, wide.1 six)); whole = wide.2 }
+  wide_list size h Pointer fits list = let wide = wide_elements size 6 (rw list.0 at fits) in record { bits = wide.0; pointers = λ six. tt; whole = wide.2 }
+
+  pub wide_target : (size : ElementSize) {p : PointerReader A g} {m m' : Meter} {x : Object} {r : ListReader A g} → CanBeGiven (ExpectsList size) (reading g p) m → IsShown p m m' x (ListTarget r) → IsWide size r.element_size r.struct_size
+  wide_target size {p} {m} {r = r} can h = wide_list size h r.element_size (given_fits (ExpectsList size) (reading g p) m h.target.0 can h.target.1.leads_to) h.target.3

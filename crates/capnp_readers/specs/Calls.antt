@@ -1,0 +1,110 @@
+-- What the calls of a pointer reader answer that expect an object of a kind, and where they read: the pointer's own place, or
+-- a default's.
+use Rattle.std.specs.Prelude.{◌≡◌, ◌≢◌, ◌⊎◌, ℕ, pos, ◌-◌, ◌<◌, ◌≤◌, ◌^◌, List, [], take, length, Option, Some, None}
+use Rattle.std.specs.Borrow.{Bor}
+use Rattle.capnp_words.specs.declared.error.ErrorKind.{ErrorKind}
+use Rattle.capnp_words.specs.declared.error.ErrorKind.TheVariants.{MessageContainsOutOfBoundsPointer}
+use Rattle.capnp_words.specs.Meter.{Meter}
+use Rattle.capnp_format.specs.Bytes.{words_of}
+use Rattle.capnp_format.specs.Numbers.{words_for}
+use Rattle.capnp_format.specs.Segments.{Target, word_at, words_at}
+use Rattle.capnp_format.specs.Word.{list_count}
+use Rattle.capnp_pointers.specs.declared.wire_pointer.ElementSize.{ElementSize}
+use Rattle.capnp_pointers.specs.declared.wire_pointer.ElementSize.TheVariants.{Void}
+use Rattle.capnp_arena.specs.declared.arena.reader_arena.ReaderArena.{Ghosts}
+use Rattle.capnp_objects.specs.declared.object.Expected.{Expected}
+use Rattle.capnp_objects.specs.declared.object.Expected.TheVariants.{Text}
+use Rattle.capnp_objects.specs.declared.source.Source.TheVariants.{Default, Nothing}
+use Rattle.capnp_objects.specs.Expected.{null_default, one_level, CanBeGiven, Withheld}
+use Rattle.capnp_objects.specs.Outcomes.{Entered}
+use Rattle.capnp_objects.specs.Reading.{Reading, word_of}
+use Rattle.capnp_objects.specs.Source.{default_segment, default_segments}
+use Rattle.capnp_readers.specs.Readers.{reading, IsTarget}
+use Rattle.capnp_readers.specs.Sections.{IsWide}
+use Rattle.capnp_readers.specs.declared.readers.PointerReader.{PointerReader}
+use Rattle.capnp_readers.specs.declared.readers.struct_reader.StructReader.{StructReader}
+use Rattle.capnp_readers.specs.declared.readers.list_reader.ListReader.{ListReader}
+use Rattle.capnp_readers.specs.declared.readers.target.Target.TheVariants.{Struct as StructTarget, List as ListTarget}
+
+-- The first n bytes of an object of bytes.
+abbrev pub ShowsBytes : Reading → Target → ℕ → List ℕ → Type 0
+ShowsBytes r a n bytes =
+    (all : List ℕ) × (words_of all ≡ words_at r.segments a.segment a.start (words_for 2 (list_count a.word))) × (bytes ≡ take n all) × (length bytes ≡ n)
+
+module _ {A : Type 0} (g : Ghosts A) where
+  -- The default of a pointer is used, since the pointer is null: the pointer in its first word, within the same levels.
+  pub record IsDefault (from : PointerReader A g) (bytes : Bor (List ℕ)) (p : PointerReader A g) : Type 0 where
+    pub null : word_of (reading g from) ≡ 0
+    pub whole : 8 ≤ length bytes.now
+    pub source : p.source ≡ Default bytes
+    pub segment : p.place.segment ≡ default_segment
+    pub first : p.place.at ≡ 0
+    pub nesting : p.nesting_limit ≡ from.nesting_limit
+
+  -- The pointer that a call reads: its own, where it isn't null or there is no default, or the default's. A text and data have
+  -- no null default.
+  pub data IsRead (expected : Expected) (from p : PointerReader A g) : Option (Bor (List ℕ)) → Type 0 where
+    without_default : p ≡ from → IsRead expected from p None
+    not_null : {bytes : Bor (List ℕ)} → word_of (reading g from) ≢ 0 → p ≡ from → IsRead expected from p (Some bytes)
+    of_default : {bytes : Bor (List ℕ)} → IsDefault from bytes p → (null_default expected ≡ None) ⊎ (word_of (reading g p) ≢ 0) → IsRead expected from p (Some bytes)
+
+  -- There is no pointer to read, for the reason k: the default has no whole word, or its pointer is null where it must not be.
+  pub data IsUnread (expected : Expected) (from : PointerReader A g) (k : ErrorKind) : Option (Bor (List ℕ)) → Type 0 where
+    short_default : {bytes : Bor (List ℕ)} → word_of (reading g from) ≡ 0 → length bytes.now < 8 → k ≡ MessageContainsOutOfBoundsPointer → IsUnread expected from k (Some bytes)
+    of_null_default :
+        {bytes : Bor (List ℕ)} →
+        word_of (reading g from) ≡ 0 →
+        8 ≤ length bytes.now →
+        word_at (default_segments bytes.now) default_segment 0 ≡ 0 →
+        null_default expected ≡ Some k →
+        IsUnread expected from k (Some bytes)
+
+  -- A call on a pointer: what it expects there, and the default that it is given.
+  pub record Call : Type 0 where
+    pub from : PointerReader A g
+    pub expected : Expected
+    pub default : Option (Bor (List ℕ))
+
+  abbrev pub call : PointerReader A g → Expected → Option (Bor (List ℕ)) → Call
+  call from expected default = record { from = from; expected = expected; default = default }
+
+  -- P holds of the pointer that a call reads.
+  abbrev pub WhereRead : Call → (PointerReader A g → Type 0) → Type 0
+  WhereRead c P = (p : PointerReader A g) × IsRead c.expected c.from p c.default × P p
+
+  -- A call is answered: there is a pointer to read, and it leads to what is expected, which m covers.
+  abbrev pub IsAnswered : Call → Meter → Type 0
+  IsAnswered c m = WhereRead c (λ p. CanBeGiven c.expected (reading g p) m)
+
+  -- A call is refused, from m to m', by the name k: there is no pointer to read, and nothing is counted or charged; or what it
+  -- expects is withheld there.
+  abbrev pub IsRefused : Call → Meter → Meter → ErrorKind → Type 0
+  IsRefused c m m' k = (IsUnread c.expected c.from k c.default × (m' ≡ m)) ⊎ WhereRead c (λ p. Withheld c.expected (reading g p) m m' k)
+
+  -- The pointer is null, and nothing is counted or charged.
+  abbrev pub IsNull : PointerReader A g → Meter → Meter → Type 0
+  IsNull p m m' = (word_of (reading g p) ≡ 0) × (m' ≡ m)
+
+  -- The struct that a pointer leads to, its words checked and charged, from m to m'; of a null pointer the struct from nothing.
+  abbrev pub IsNoStruct : StructReader A g → Type 0
+  IsNoStruct r = (r.source ≡ Nothing) × (r.bits ≡ 0) × (r.pointer_count ≡ 0) × (r.nesting_limit ≡ pos (2 ^ 31 - 1))
+
+  abbrev pub IsStructRead : PointerReader A g → Meter → Meter → StructReader A g → Type 0
+  IsStructRead p m m' r = (IsNull p m m' × IsNoStruct r) ⊎ IsTarget g p m m' (StructTarget r)
+
+  -- The list that a pointer leads to, of elements that are wide enough; of a null pointer the list from nothing.
+  abbrev pub IsNoList : ListReader A g → Type 0
+  IsNoList r = (r.source ≡ Nothing) × (r.element_size ≡ Void) × (r.count ≡ 0) × (r.nesting_limit ≡ pos (2 ^ 31 - 1))
+
+  abbrev pub IsListRead : ElementSize → PointerReader A g → Meter → Meter → ListReader A g → Type 0
+  IsListRead expected p m m' r = (IsNull p m m' × IsNoList r) ⊎ (IsTarget g p m m' (ListTarget r) × IsWide expected r.element_size r.struct_size)
+
+  -- How many bytes of a list of n bytes are a text's, without its last 0, or are data.
+  abbrev pub bytes_of : Expected → ℕ → ℕ
+  bytes_of Text n = n - 1
+  bytes_of expected n = n
+
+  -- The bytes that a pointer leads to, in place; of a null pointer none.
+  abbrev pub AreBytesRead : Expected → PointerReader A g → Meter → Meter → List ℕ → Type 0
+  AreBytesRead expected p m m' bytes =
+      (IsNull p m m' × (bytes ≡ [])) ⊎ ((a : Target) × Entered (one_level (reading g p)) m m' a × ShowsBytes (reading g p) a (bytes_of expected (list_count a.word)) bytes)

@@ -1,0 +1,30 @@
+-- What sizes are taken of: of the places that a reader's segment has, and of a struct.
+use Rattle.std.specs.Prelude.{ℕ, ◌+◌, ◌/◌}
+use Rattle.capnp_arena.specs.declared.arena.reader_arena.ReaderArena.{Ghosts}
+use Rattle.capnp_words.specs.Meter.{Meter}
+use Rattle.capnp_objects.specs.Reading.{Reading, reading_at}
+use Rattle.capnp_objects.specs.Sizing.{Tally, tally}
+use Rattle.capnp_readers.specs.declared.readers.sizes.MessageSize.{MessageSize}
+use Rattle.capnp_readers.specs.declared.readers.PointerReader.{PointerReader}
+use Rattle.capnp_readers.specs.declared.readers.struct_reader.StructReader.{StructReader}
+
+-- How far a walk has come: these sums, and its limiter.
+abbrev pub so_far : MessageSize → Meter → Tally
+so_far z m = tally z.word_count z.cap_count m
+
+module _ {A : Type 0} (g : Ghosts A) where
+  -- The words of a struct's own: its data section, rounded up, and its pointers.
+  abbrev pub own_words : StructReader A g → ℕ
+  own_words r = (r.bits + 63) / 64 + r.pointer_count
+
+  -- Where the walk over a struct's pointers begins: at the struct's own words.
+  abbrev pub begun : StructReader A g → Meter → Tally
+  begun r m = tally (own_words r) 0 m
+
+  -- The first of a struct's pointers, as it is read.
+  abbrev pub pointers_read : StructReader A g → Reading
+  pointers_read r = reading_at g r.source r.pointers r.nesting_limit
+
+  -- The place at a position of a reader's segment, as it is read.
+  abbrev pub reading_on : PointerReader A g → ℕ → Reading
+  reading_on r at = record (reading_at g r.source r.place r.nesting_limit) { at = at }
