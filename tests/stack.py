@@ -12,7 +12,7 @@ import subprocess
 import sys
 
 STACKS = (1 << 20, 8 << 20)
-COMMANDS = ('canon', 'size')
+COMMANDS = ('canon', 'check', 'size')
 # A struct of one pointer, a list of one pointer, and a list of one such struct, each with what lies in it right behind.
 CHAINS = {
     'structs': [1 << 48],
@@ -28,7 +28,8 @@ def is_answered(binary, command, words, levels, stack):
         resource.setrlimit(resource.RLIMIT_CORE, (0, 0))
 
     message = levels * b''.join(it.to_bytes(8, 'little') for it in words) + bytes(8)
-    run = subprocess.run([binary, command, str(levels + 1), 'none'], input=message.hex().encode(), capture_output=True, preexec_fn=limit)
+    nesting = 2 * levels + 2  # for `check` a list of structs takes two levels
+    run = subprocess.run([binary, command, str(nesting), 'none'], input=message.hex().encode(), capture_output=True, preexec_fn=limit)
     return run.returncode == 0
 
 

@@ -76,8 +76,12 @@ pub below_each : (limit : ℕ) (xs : List ℕ) → ((i : ℕ) → get_or xs i 0 
 below_each limit [] h = tt
 below_each limit (x ∷ xs) h = (h 0, below_each limit xs (λ i. h (suc i)))
 
-pub words_below : (S : Segments) (s p n : ℕ) → AreWords S → AreBelow (2 ^ 64) (words_at S s p n)
-words_below S s p n w = below_take (2 ^ 64) n (drop p (segment S s)) (below_each (2 ^ 64) (drop p (segment S s)) (λ i. rw (get_or-drop p (segment S s) i 0) (w s (p + i))))
+-- Each word of a segment is one of 64 bits.
+abbrev pub HasSmallWords : Segments → ℕ → Type 0
+HasSmallWords S s = (p : ℕ) → word_at S s p < 2 ^ 64
+
+pub words_below : (S : Segments) (s p n : ℕ) → HasSmallWords S s → AreBelow (2 ^ 64) (words_at S s p n)
+words_below S s p n w = below_take (2 ^ 64) n (drop p (segment S s)) (below_each (2 ^ 64) (drop p (segment S s)) (λ i. rw (get_or-drop p (segment S s) i 0) (w (p + i))))
 
 pub digits_below : (base n x : ℕ) → 0 < base → AreBelow base (digits base n x)
 digits_below base zero x h = tt
@@ -91,7 +95,7 @@ mutual
       let small = at_some _ _ a o.leads_to.1 (leads_word S s p w) in (
         omega (arith, o.data_of),
         omega (arith, o.pointers),
-        rw e at (words_below S a.segment a.start (length ws) w),
+        rw e at (words_below S a.segment a.start (length ws) (w a.segment)),
         all_values ts w (record { means = all }),
       )
   means_value S n s p (Flat size ns) c w (a, some, small, o, claim, e, g) =
@@ -115,4 +119,4 @@ mutual
   elements_values no_elements w fits h = tt
   elements_values {S = S} {s = s} {p = p} (element ws ts es) w fits h =
       let (k, l, long, len, e, all, rest, g) = h.means in
-      (long, len, rw e at (words_below S s p (length ws) w), all_values ts w (record { means = all }), elements_values es w (omega arith) (record { means = rest }))
+      (long, len, rw e at (words_below S s p (length ws) (w s)), all_values ts w (record { means = all }), elements_values es w (omega arith) (record { means = rest }))

@@ -131,7 +131,7 @@ used_from-empty : (b : Bool) (k : ℕ) → b ≡ true → k ≤ 0 → used_from 
 used_from-empty b zero e l = rw e (omega arith)
 used_from-empty b (suc k) e l = absurd (omega arith)
 
-null_is : (t : Tree) → is_null t ≡ true → t ≡ Null
+pub null_is : (t : Tree) → is_null t ≡ true → t ≡ Null
 null_is Null e = refl
 null_is (Capability i) e = absurd (cc e)
 null_is (Struct ws ts) e = absurd (cc e)

@@ -6,7 +6,7 @@ use Rattle.capnp_format.specs.Tree.{Structs, element_count}
 use Rattle.capnp_format.specs.Means.{Means, MeansElements}
 use Rattle.capnp_format.specs.Examples.{many_empty_structs}
 
-blank-count : (m : ℕ) → element_count (blank m) ≡ m
+pub blank-count : (m : ℕ) → element_count (blank m) ≡ m
 blank-count zero = refl
 blank-count (suc m) = ap suc (blank-count m)
 

@@ -105,3 +105,9 @@ words_of-part a n i j bs e f l =
     rw (e, f) (words_of-take n (drop (8 * a) bs) (omega (arith, length-drop (8 * a) bs)) ∙ ap (take n) (words_of-drop a bs (omega arith)))
 
 pub ruleset part_words = (words_of-part, words)
+
+-- Each word of bytes is one of 64 bits.
+pub small_word : (bs : List ℕ) → ((i : ℕ) → get_or bs i 0 < 256) → (i : ℕ) → get_or (words_of bs) i 0 < 2 ^ 64
+small_word (a ∷ b ∷ c ∷ d ∷ e ∷ f ∷ g ∷ h ∷ rest) l zero = omega (arith, l 0, l 1, l 2, l 3, l 4, l 5, l 6, l 7)
+small_word (a ∷ b ∷ c ∷ d ∷ e ∷ f ∷ g ∷ h ∷ rest) l (suc i) = small_word rest (λ j. l (suc (suc (suc (suc (suc (suc (suc (suc j))))))))) i
+small_word _ l i = omega arith

@@ -8,12 +8,11 @@ use Rattle.capnp_objects.specs.Reading.{Reading}
 use Rattle.capnp_objects.specs.Wanted.{canonical}
 use Rattle.capnp_copies.specs.Rooms.{IsTooLarge}
 use Rattle.capnp_builders.specs.Building.{Building, LacksWords}
-use Rattle.capnp_layout.specs.Answers.{CoversRoot, HasValue, IsWithin, LacksMemoryOr, RefusesCopy, RefusesMessage, is_message_too_large, root_of}
+use Rattle.capnp_layout.specs.Answers.{CoversRoot, LacksMemoryOr, RefusesCopy, RefusesMessage, is_message_too_large, root_of}
 use Rattle.capnp_layout.specs.Answers.RefusesMessage.{below_root}
 use Rattle.capnp_layout.specs.declared.tool.args.Args.TheVariants.{Canon}
 use Rattle.capnp_arena.specs.declared.arena.reader_arena_impl.ReaderOptions.{ReaderOptions}
 use Rattle.capnp_objects.specs.Source.{levels}
-use Rattle.capnp_format.specs.Tree.{Tree}
 use Rattle.capnp_arena.specs.Allocations.{max_segment_words, one_more}
 use Rattle.capnp_arena.specs.View.{View}
 use Rattle.capnp_format.specs.Bytes.{message}

@@ -1,7 +1,9 @@
 pub mod Three
+pub mod CommandLemmas
 pub mod LineLemmas
 pub mod WritingLemmas
 pub mod CanonLemmas
 pub mod RunLemmas
 pub mod NumberLemmas
 pub mod SizeLemmas
+pub mod CheckLemmas

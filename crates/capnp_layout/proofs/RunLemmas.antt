@@ -21,7 +21,8 @@ pub if_some : {X : Type 0} (P : X → Type 0) (o : Option X) → ((x : X) → P 
 if_some P (Some x) f = f x
 if_some P None f = tt
 
-covers_rest : (budget : Option ℕ) (c : ℕ) → FitsIn budget (1 + c) → FitsIn (less budget 1) c
+-- what the budget covers besides the root pointer it covers behind it
+pub covers_rest : (budget : Option ℕ) (c : ℕ) → FitsIn budget (1 + c) → FitsIn (less budget 1) c
 covers_rest None c h = tt
 covers_rest (Some b) c h = omega arith
 

@@ -10,7 +10,7 @@ use Rattle.capnp_format.specs.Segments.{Segments, IsPlace}
 use Rattle.capnp_format.specs.Bytes.{message}
 use Rattle.capnp_format.specs.Tree.{Tree, capabilities}
 use Rattle.capnp_format.specs.Means.{Means}
-use Rattle.capnp_format.specs.Canonical.{trim, encoding, word_count}
+use Rattle.capnp_format.specs.Canonical.{trim, encoding, word_count, charge, Stands}
 use Rattle.capnp_words.specs.Meter.{Meter, Affords, FitsIn, less, unused}
 use Rattle.capnp_arena.specs.Allocations.{max_segment_words, one_more}
 use Rattle.capnp_arena.specs.Checks.{misplaced}
@@ -18,7 +18,7 @@ use Rattle.capnp_arena.specs.Limits.{IsSmall}
 use Rattle.capnp_arena.specs.View.{View}
 use Rattle.capnp_arena.specs.declared.arena.reader_arena_impl.ReaderOptions.{ReaderOptions}
 use Rattle.capnp_layout.specs.declared.tool.args.Args.{Args}
-use Rattle.capnp_layout.specs.declared.tool.args.Args.TheVariants.{Canon, Size}
+use Rattle.capnp_layout.specs.declared.tool.args.Args.TheVariants.{Canon, Check, Size}
 use Rattle.capnp_layout.specs.declared.tool.engine.Outcome.{Outcome}
 use Rattle.capnp_layout.specs.declared.tool.engine.Outcome.TheVariants.{Done, Refused as RefusedOutcome, WriteFailed}
 use Rattle.capnp_objects.specs.Source.{levels}
@@ -27,6 +27,8 @@ use Rattle.capnp_objects.specs.Refusals.{Refused}
 use Rattle.capnp_objects.specs.Reading.{Reading}
 use Rattle.capnp_objects.specs.Sizing.{Totals, HasSize, SizeRefused}
 use Rattle.capnp_objects.specs.Wanted.{canonical}
+use Rattle.capnp_readers.specs.Standing.{test_levels}
+use Rattle.capnp_readers.specs.Checking.{progress, TestStops}
 use Rattle.capnp_copies.specs.Rooms.{IsTooLarge}
 
 -- the bytes of a word, the lowest first, as lower case hex digits
@@ -46,6 +48,11 @@ refusal_line k = codes "refused " ++ name_of k ++ 10 ∷ []
 abbrev pub canonical_line : Tree → List ℕ
 canonical_line t = digits_of (encoding (trim t)) ++ 10 ∷ []
 
+-- the line of an answer to whether a message is canonical
+abbrev pub check_line : Bool → List ℕ
+check_line true = codes "canonical" ++ 10 ∷ []
+check_line false = codes "not canonical" ++ 10 ∷ []
+
 -- the line of a size, in decimal digits
 abbrev pub size_line : ℕ → ℕ → List ℕ
 size_line words caps = codes "words " ++ decimal words ++ codes " caps " ++ decimal caps ++ 10 ∷ []
@@ -53,11 +60,13 @@ size_line words caps = codes "words " ++ decimal words ++ codes " caps " ++ deci
 -- the levels that the nesting limit leaves
 abbrev pub levels_of : Args → ℕ
 levels_of (Canon options) = levels options.nesting_limit
+levels_of (Check options) = levels options.nesting_limit
 levels_of (Size options) = levels options.nesting_limit
 
 -- the traversal limit in words, if there is one
 abbrev pub budget_of : Args → Option ℕ
 budget_of (Canon options) = options.traversal_limit_in_words
+budget_of (Check options) = options.traversal_limit_in_words
 budget_of (Size options) = options.traversal_limit_in_words
 
 -- whether a refusal says that something would be too large
@@ -99,6 +108,18 @@ pub record CoversRoot (S : Segments) (budget : Option ℕ) : Type 0 where
   pub root : IsPlace S 0 0
   pub covered : FitsIn budget 1
 
+-- The canonical words of t stand at the root of a message, the first object right behind the root pointer. They take no more than
+-- n levels in a test, and the budget covers what reading them costs, and one word for the root pointer.
+pub record IsCanonical (S : Segments) (n : ℕ) (budget : Option ℕ) (t : Tree) : Type 0 where
+  pub stands : Stands S 0 0 1 t
+  pub levels : test_levels t ≤ n
+  pub covered : FitsIn budget (1 + charge t)
+
+-- No canonical words stand there, and the budget covers the word of the root pointer.
+pub record IsNotCanonical (S : Segments) (budget : Option ℕ) : Type 0 where
+  pub at_root : CoversRoot S budget
+  pub none : (t : Tree) → Stands S 0 0 1 t → ⊥
+
 -- The walk that takes a size gives so many words and capabilities at the root of a message, within n levels, and with what
 -- the budget leaves behind the root pointer. Where the root means a value within the levels, they are the value's.
 pub record HasTotals (S : Segments) (n : ℕ) (budget : Option ℕ) (words caps : ℕ) : Type 0 where
@@ -118,6 +139,12 @@ pub data RefusesRoot (S : Segments) (budget : Option ℕ) (k : ErrorKind) : Type
 abbrev pub IsMade : View → Tree → Type 0
 IsMade made t = made.words ≡ encoding (trim t) ∷ []
 
+-- The test of the message of these segments says that canonical words stand at its root, within the limits of a reader's options,
+-- or that none do.
+abbrev pub CheckOf : List (List ℕ) → ReaderOptions → Bool → Type 0
+CheckOf segments options true = (t : Tree) × IsCanonical (message segments) (levels options.nesting_limit) options.traversal_limit_in_words t
+CheckOf segments options false = IsNotCanonical (message segments) options.traversal_limit_in_words
+
 -- The root of the message of these segments means t, within the limits of a reader's options; or the walk that takes a size
 -- gives so many words and capabilities there; or it goes to its end, and they fit.
 abbrev pub ValueOf : List (List ℕ) → ReaderOptions → Tree → Type 0
@@ -134,11 +161,13 @@ IsSized segments options =
 -- P holds of the line that a command answers to a message with.
 abbrev pub Answers : List (List ℕ) → Args → (List ℕ → Type 0) → Type 0
 Answers segments (Canon options) P = (t : Tree) × ValueOf segments options t × P (canonical_line t)
+Answers segments (Check options) P = (yes : Bool) × CheckOf segments options yes × P (check_line yes)
 Answers segments (Size options) P = (words : ℕ) × (caps : ℕ) × SizeOf segments options words caps × P (size_line words caps)
 
--- There is an answer: a value whose canonical words fit a segment; a size.
+-- Wherever this holds there is an answer: there is a value whose canonical words fit a segment; canonical words; a size.
 abbrev pub HasAnswer : List (List ℕ) → Args → Type 0
 HasAnswer segments (Canon options) = (t : Tree) × ValueOf segments options t × (1 + word_count (trim t) ≤ max_segment_words)
+HasAnswer segments (Check options) = CheckOf segments options true
 HasAnswer segments (Size options) = IsSized segments options
 
 -- P holds wherever a message is within the limits of a reader, and has an answer.
@@ -146,9 +175,10 @@ abbrev pub WhereAnswered : List (List ℕ) → Args → Type 0 → Type 0
 WhereAnswered segments args P = IsSmall segments → HasAnswer segments args → P
 
 -- A command refuses what a root leads to by the name k: the copy is refused, or needs more words than a segment holds; the
--- walk that takes a size is refused.
+-- test for canonical form stops, or the walk that takes a size is refused.
 abbrev pub RefusesValue : Args → Reading → Option ℕ → ErrorKind → Type 0
 RefusesValue (Canon options) r left k = RefusesCopy r left max_segment_words k
+RefusesValue (Check options) r left k = (m : Meter) × TestStops k r (progress 1 (unused left)) m
 RefusesValue (Size options) r left k = (m : Meter) × SizeRefused r (unused left) m k
 
 -- Why a command refuses a message, by the bytes of its segments, by the name k.

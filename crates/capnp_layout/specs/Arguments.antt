@@ -5,7 +5,7 @@ use mir.Syntax.{w32}
 use Rattle.std.specs.Str.Parse.{IsNumeral, digits_value, starts_with_minus}
 use Rattle.capnp_arena.specs.declared.arena.reader_arena_impl.ReaderOptions.{ReaderOptions}
 use Rattle.capnp_layout.specs.declared.tool.args.Args.{Args}
-use Rattle.capnp_layout.specs.declared.tool.args.Args.TheVariants.{Canon, Size}
+use Rattle.capnp_layout.specs.declared.tool.args.Args.TheVariants.{Canon, Check, Size}
 
 -- the digits of a number that may be below zero
 abbrev pub without_minus : List ℕ → List ℕ
@@ -30,7 +30,8 @@ IsCommand name words options =
     (nesting : List ℕ) × (budget : List ℕ) × (words ≡ name ∷ nesting ∷ budget ∷ []) × IsNesting nesting options.nesting_limit
     × IsBudget budget options.traversal_limit_in_words
 
--- the arguments are `canon NESTING BUDGET` or `size NESTING BUDGET`
+-- the arguments are `canon NESTING BUDGET`, `check NESTING BUDGET` or `size NESTING BUDGET`
 abbrev pub AreArguments : List (List ℕ) → Args → Type 0
 AreArguments words (Canon options) = IsCommand (codes "canon") words options
+AreArguments words (Check options) = IsCommand (codes "check") words options
 AreArguments words (Size options) = IsCommand (codes "size") words options

@@ -2,6 +2,7 @@
 
 mod args;
 mod canon;
+mod check;
 mod engine;
 mod lines;
 mod reading;

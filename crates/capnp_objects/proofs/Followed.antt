@@ -1,6 +1,6 @@
 -- A pointer leads somewhere exactly where following it does, to no far word.
 use Rattle.std.proofs.Common.{◌≡◌, ◌≢◌, ℕ, zero, suc, ◌+◌, ◌<◌, ◌≤◌, Bool, true, false, ◌&&◌, cond, nat_eq, nat_lt, Option, Some, None, Result, Ok, Err, [], length, get_or, refl, sym, ap, ◌∙◌, arith, eqb-true}
-use Rattle.std.proofs.lemmas.Bool.{eqb-false, ltb-true}
+use Rattle.std.proofs.lemmas.Bool.{eqb-false, ltb-true, ne_eqb}
 use Rattle.std.proofs.lemmas.List.{get_or_past}
 use Rattle.capnp_words.specs.declared.error.ErrorKind.{ErrorKind}
 use Rattle.capnp_words.specs.declared.error.ErrorKind.TheVariants.{InvalidSegmentId, MessageContainsOutOfBoundsPointer}
@@ -9,9 +9,10 @@ use Rattle.capnp_format.specs.Segments.{Segments, segment, word_at, Target, ◌>
 use Rattle.capnp_objects.specs.Follow.{◌>=>◌, or_named, follow_far, follow, Follows}
 use Rattle.capnp_format.specs.Means.{Leads}
 use Rattle.capnp_objects.specs.Faults.{LeadsTo}
+use Rattle.capnp_objects.specs.Measures.{near_at}
 use Rattle.capnp_objects.specs.Reading.{Reading, word_of}
 use Rattle.capnp_objects.specs.Refusals.{FollowsTo}
-use Rattle.capnp_objects.specs.Wanted.{far_named}
+use Rattle.capnp_objects.specs.Wanted.{far_named, follow_at}
 
 -- an option and a result that agree on every target whose word is of no far kind
 record Agrees (o : Option Target) (r : Result Target ErrorKind) : Type 0 where
@@ -108,3 +109,17 @@ leads_to r a l = let f = (leads_follows r.segments r.segment r.at a l).0 in (f.0
 
 pub leads_there : (r : Reading) (a : Target) → FollowsTo r a → kind a.word ≢ 2 → LeadsTo r a
 leads_there r a (some, f) other = follows_leads r.segments r.segment r.at a (some, unnamed_ok (is_named r) (follow r.segments r.segment r.at) f) other
+
+-- a near pointer leads into its own segment
+pub near_landed : (r : Reading) (a : Target) → kind (word_of r) ≢ 2 → follow_at r ≡ Ok a → a ≡ near_at r a.start
+near_landed r a other f =
+    let x : ℕ = word_of r in
+    let n : ℕ = length (segment r.segments r.segment) in
+    let plain : follow r.segments r.segment r.at ≡ Ok a = unnamed_ok (is_named r) (follow r.segments r.segment r.at) f in
+    let choice : follow r.segments r.segment r.at ≡ or_named MessageContainsOutOfBoundsPointer (near r.segments r.segment r.at x 0) =
+    ap (λ b. cond b (follow_far r.segments x (is_double x)) (or_named MessageContainsOutOfBoundsPointer (near r.segments r.segment r.at x 0))) (ne_eqb (kind x) 2 other) in
+    go (offset_leads n r.at (offset_bits x)) (sym choice ∙ plain)
+  where
+    go : (o : Option ℕ) → or_named MessageContainsOutOfBoundsPointer (o >>= λ b. Some (near_at r b)) ≡ Ok a → a ≡ near_at r a.start
+    go (Some b) e = let q : near_at r b ≡ a = cc e in sym q ∙ ap (λ c. near_at r c.start) q
+    go None e = absurd (cc e)

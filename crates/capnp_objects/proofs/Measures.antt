@@ -1,5 +1,5 @@
 -- One object that is read for its size: from its steps to the object or the refusal, and that these exclude one another.
-use Rattle.std.proofs.Common.{◌≡◌, ◌↔◌, inl, inr, ℕ, ◌+◌, ◌%◌, ◌^◌, ◌<◌, Result, Ok, Err, IsOk, IfOk, IfErr, refl, sym, ◌∙◌, subst, arith}
+use Rattle.std.proofs.Common.{◌≡◌, ◌↔◌, inl, inr, ℕ, ◌+◌, ◌%◌, ◌^◌, ◌<◌, Result, Ok, Err, IsOk, IfOk, IfErr, refl, sym, ap, ◌∙◌, subst, arith}
 use Rattle.capnp_words.specs.declared.error.ErrorKind.{ErrorKind}
 use Rattle.capnp_words.specs.declared.error.ErrorKind.TheVariants.{CantHandleNonStructInlineComposite, InlineCompositeListsElementsOverrunItsWordCount, MalformedDoubleFarPointer, MessageContainsOutOfBoundsPointer, UnknownPointerType}
 use Rattle.capnp_words.specs.Meter.{Meter, Affords}
@@ -8,22 +8,29 @@ use Rattle.capnp_format.specs.Segments.{Segments, Target}
 use Rattle.capnp_objects.specs.declared.object.Object.{Object}
 use Rattle.capnp_objects.specs.declared.object.Object.TheVariants.{Null as ObjectNull, Capability as ObjectCapability, Struct as ObjectStruct, Flat as ObjectFlat, Pointers as ObjectPointers, Structs as ObjectStructs}
 use Rattle.capnp_objects.specs.declared.source.Landing.{Landing}
-use Rattle.capnp_objects.specs.Demands.{claim}
+use Rattle.capnp_objects.specs.Demands.{claim, IsStructList}
 use Rattle.capnp_objects.specs.Faults.{LeadsTo}
-use Rattle.capnp_objects.specs.Landings.{target, FollowsPointer, FailsPointer, nowhere as leads_nowhere, pads_exceed as pads_short}
-use Rattle.capnp_objects.specs.Measures.{IsMeasurable, BreaksMeasure, Measured, IsMeasured, CanBeMeasured, NotMeasured, too_deep, pads_exceed, nowhere, broken, claim_exceeds, Step, MeetsMeasure, FailsMeasure, broken_there, claim_exceeds_there, OpensMeasure}
+use Rattle.capnp_objects.specs.Landings.{target, FailsPointer, nowhere as leads_nowhere, pads_exceed as pads_short}
+use Rattle.capnp_objects.specs.Measures.{IsMeasurable, BreaksMeasure, IsReached, Measured, IsMeasured, CanBeMeasured, NotMeasured, near_at, PaysClaim, too_deep, pads_exceed, nowhere, broken, claim_exceeds, Step, MeetsMeasure, FailsMeasure, broken_there, claim_exceeds_there, OpensMeasure}
 use Rattle.capnp_objects.specs.Reading.{Reading, word_of}
 use Rattle.capnp_objects.specs.Refusals.{landing_words}
 use Rattle.capnp_objects.specs.Spending.{Paid}
 use Rattle.capnp_objects.proofs.Budgets.{affords_none, affords_rest, paid_both}
-use Rattle.capnp_objects.proofs.Followed.{leads_to, leads_there}
-use Rattle.capnp_objects.proofs.Landings.{IsCounted, paid_charged, paid_one, charged_first, reached}
+use Rattle.capnp_objects.proofs.Followed.{leads_to, leads_there, near_landed}
+use Rattle.capnp_objects.proofs.Landings.{IsCounted, paid_charged, paid_one, charged_first}
 use Rattle.capnp_objects.proofs.Refusals.{landing_cases, affords_less}
 use Rattle.capnp_objects.proofs.Stops.{Reached, leads_pads}
 use Rattle.capnp_objects.proofs.Faultless.{same_target}
 
 abbrev stepping : Reading → Meter → Meter → Step
 stepping r m m' = record { segments = r.segments; charging = r.charging; from = m; to = m' }
+
+-- a pointer that is followed
+was_reached : {r : Reading} {m m' : Meter} {l : Landing} → IsReached r m m' l → Reached r m m' (target l)
+was_reached o = record { follows = o.follows; paid = o.paid }
+
+pub near_reached : {r : Reading} {m m' : Meter} {l : Landing} → IsReached r m m' l → kind (word_of r) < 2 → target l ≡ near_at r l.start.at
+near_reached {r} {m} {m'} {l} o near = near_landed r (target l) (λ e. omega (arith, e, near)) o.follows.1
 
 -- an object that is entered
 measured : {r : Reading} {m m' m'' : Meter} {a : Target} → Reached r m m' a → 0 < r.levels → MeetsMeasure (stepping r m' m'') a → Measured r m m'' a
@@ -39,9 +46,17 @@ opened {r} {m} {m'} {a} m'' (ObjectFlat start size count) o level (e, z, small, 
 opened {r} {m} {m'} {a} m'' (ObjectPointers start count) o level (e, z, six, there, len) = (a, measured o level e, z, six, there, len)
 opened {r} {m} {m'} {a} m'' (ObjectStructs start size count) o level (e, z, seven, there, len, d, q) = (a, measured o level e, z, seven, there, len, d, q)
 
-pub object_measured : {r : Reading} {m m₁ m₂ : Meter} {l : Landing} (m₃ : Meter) (x : Object) → IsCounted r m m₁ → FollowsPointer r m₁ m₂ l → 0 < r.levels →
-    OpensMeasure (stepping r m₂ m₃) (target l) x → IsMeasured r m m₃ x
-object_measured m₃ x o f level h = opened m₃ x (reached o f) level h
+pub object_measured : {r : Reading} {m m' : Meter} {l : Landing} (m'' : Meter) (x : Object) → IsReached r m m' l → OpensMeasure (stepping r m' m'') (target l) x → IsMeasured r m m'' x
+object_measured m'' x o h = opened m'' x (was_reached o) o.levels h
+
+-- an object that a near pointer leads to
+pub near_measured : {r : Reading} {m m' m'' : Meter} {l : Landing} → IsReached r m m' l → kind (word_of r) < 2 → (IsStructList (word_of r) → ⊥) → PaysClaim (stepping r m' m'') (target l) →
+    Measured r m m'' (near_at r l.start.at)
+near_measured {r} {m} {m'} {m''} {l} o near untagged claimed =
+    let there : target l ≡ near_at r l.start.at = near_reached o near in
+    let word : (target l).word ≡ word_of r = ap (λ a. a.word) there in
+    let meets : IsMeasurable r.segments (target l) = record { is_object = rw word near; claims = λ _. claimed.claims; tagged = λ v. absurd (untagged (rw word at v)) } in
+    subst (Measured r m m'') there (measured (was_reached o) o.levels (record { meets = meets; covers = claimed.covers; paid = claimed.paid }))
 
 -- the refusals
 pub measure_unfollowed : {r : Reading} {m m' m'' : Meter} {k : ErrorKind} → IsCounted r m m' → 0 < r.levels → FailsPointer r m' m'' k → NotMeasured r m m'' k
@@ -55,9 +70,8 @@ unentered {r} {m} {m'} {m''} {a} {k} o level (broken_there h covers paid) = brok
 unentered {r} {m} {m'} {m''} {a} {k} o level (claim_exceeds_there object claims short same named) =
     claim_exceeds a o.follows level object claims (λ h. short (affords_rest (claim a.word) (a.pads + claim a.word) o.paid (omega arith) h)) (subst (λ y. Paid r.charging m y a.pads 1) (sym same) o.paid) named
 
-pub object_unmeasured : {r : Reading} {m m₁ m₂ m₃ : Meter} {l : Landing} {k : ErrorKind} → IsCounted r m m₁ → FollowsPointer r m₁ m₂ l → 0 < r.levels →
-    FailsMeasure (stepping r m₂ m₃) (target l) k → NotMeasured r m m₃ k
-object_unmeasured o f level h = unentered (reached o f) level h
+pub object_unmeasured : {r : Reading} {m m' m'' : Meter} {l : Landing} {k : ErrorKind} → IsReached r m m' l → FailsMeasure (stepping r m' m'') (target l) k → NotMeasured r m m'' k
+object_unmeasured o h = unentered (was_reached o) o.levels h
 
 -- a capability, or an object that meets its demands
 pub data IsSound (S : Segments) (a : Target) : Type 0 where

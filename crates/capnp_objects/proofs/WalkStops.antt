@@ -17,7 +17,7 @@ use Rattle.capnp_objects.specs.Demands.{claim, tag, element_words}
 use Rattle.capnp_objects.specs.Faults.{LeadsTo, child_at}
 use Rattle.capnp_objects.specs.Measures.{counted_words, IsMeasurable, Measured, IsMeasured, CanBeMeasured}
 use Rattle.capnp_objects.specs.Reading.{Reading, behind, pointers_of, tag_size, sized}
-use Rattle.capnp_objects.specs.Sizing.{Sized, SizedAll, SizedThere, SizedAllThere, ElementsSized, FitSize, Tally, tally, WalksAll, WalksElements, WalksPointers, WalksRows, WalksBefore, in_struct, in_pointers, in_element, with_object, SizeStopped, unmeasured, too_large, too_many, SizeStops, here, below, SizesStop, RowsStop}
+use Rattle.capnp_objects.specs.Sizing.{Sized, SizedAll, SizedThere, SizedAllThere, ElementsSized, FitSize, Tally, tally, WalksAll, WalksElements, WalksRows, WalksBefore, in_struct, in_pointers, in_element, with_object, SizeStopped, unmeasured, too_large, too_many, SizeStops, here, below, SizesStop, RowsStop}
 use Rattle.capnp_objects.specs.Spending.{Paid, after}
 use Rattle.capnp_objects.proofs.Budgets.{affords_rest, after_none}
 use Rattle.capnp_objects.proofs.Measures.{can_not}
@@ -33,7 +33,7 @@ pub row_stops : {r : Reading} {size : StructSize} {i : ℕ} {from mid : Tally} {
 row_stops {r} {size} {i} {from} {mid} {m'} {k} j (es, len, all) lt stops =
     record { first = es; fewer = omega (arith, len, lt); mid = mid; are_walked = all; stops = subst (λ x. SizesStop (pointers_of r size x) size.pointers mid m' k) (sym len) stops }
 
-struct_stops_at : {r : Reading} {from : Tally} {m' m'' : Meter} {a : Target} {k : ErrorKind} → Measured r from.meter m' a → kind a.word ≡ 0 →
+pub struct_stops_at : {r : Reading} {from : Tally} {m' m'' : Meter} {a : Target} {k : ErrorKind} → Measured r from.meter m' a → kind a.word ≡ 0 →
     SizesStop (child_at r a (pred r.levels) (a.start + data_words a.word)) (pointer_count a.word) (with_object from a r.segments m') m'' k → SizeStops k r from m''
 struct_stops_at {a = a} o z h = below a (a.start + data_words a.word + count h.first) o (in_struct h.first z h.fewer refl h.are_walked) h.stops
 
@@ -83,7 +83,7 @@ structs_stop {r} {from} {m'} {m''} {k} start size i (a, o, z, seven, (held, seg,
 
 -- sums that are too much at the object itself
 
-beyond_at : {r : Reading} {from : Tally} {m' : Meter} {a : Target} (w : ℕ) → FitSize from.words from.caps → Measured r from.meter m' a → w ≡ counted_words r.segments a → (from.words + w < 2 ^ 64 → ⊥) → SizeStops (MessageTooLarge (2 ^ 64 - 1)) r from m'
+pub beyond_at : {r : Reading} {from : Tally} {m' : Meter} {a : Target} (w : ℕ) → FitSize from.words from.caps → Measured r from.meter m' a → w ≡ counted_words r.segments a → (from.words + w < 2 ^ 64 → ⊥) → SizeStops (MessageTooLarge (2 ^ 64 - 1)) r from m'
 beyond_at {a = a} w fits o counted over = here fits (too_large a o (omega (arith, over, counted)) refl)
 
 pub capability_beyond : {r : Reading} {from : Tally} {m' : Meter} {i : ℕ} → FitSize from.words from.caps → IsMeasured r from.meter m' (ObjectCapability i) → (from.caps + 1 < 2 ^ 32 → ⊥) → SizeStops (MessageTooLarge (2 ^ 64 - 1)) r from m'
@@ -327,9 +327,6 @@ unspent {charging} {m} {m'} {c} z paid = paid.spent ∙ ap (λ i. after charging
 tally_same : {from mid : Tally} → mid.words ≡ from.words → mid.caps ≡ from.caps → mid.meter ≡ from.meter → mid ≡ from
 tally_same {from} {mid} w a m = ap (λ x. tally x mid.caps mid.meter) w ∙ ap (λ x. tally from.words x mid.meter) a ∙ ap (λ x. tally from.words from.caps x) m
 
-no_walk : {r : Reading} {from mid : Tally} → WalksAll r from mid no_trees → mid ≡ from
-no_walk walk = tally_same (omega (arith, walk.words_are)) (omega (arith, walk.caps_are)) (unspent walk.is_sized walk.paid)
-
 no_row_walk : {r : Reading} {size : StructSize} {from mid : Tally} → WalksElements r size from mid no_elements → mid ≡ from
 no_row_walk walk = tally_same (omega (arith, walk.words_are)) (omega (arith, walk.caps_are)) (unspent walk.is_sized walk.paid)
 
@@ -356,17 +353,3 @@ pub structs_rows_stop : {r : Reading} {from : Tally} {m' m'' : Meter} {k : Error
 structs_rows_stop {r} {from} {m'} {m''} {k} start size i object h =
     let there : beginning r start ≡ inside r start 0 = same_place r refl (omega arith) in
     structs_stop {r = r} {from = from} start size i object (subst (λ x. RowsStop x size i (tally (from.words + (1 + i * (size.data_words + size.pointers))) from.caps m') m'' k) there h)
-
-pub row_stops_here : {r : Reading} {i : ℕ} {from : Tally} {m' : Meter} {k : ErrorKind} → RowsStop r (sized 0 i) 1 from m' k → SizesStop r i from m' k
-row_stops_here {r} {i} {from} {m'} {k} h =
-    let again : r.at + 0 ≡ r.at = omega arith in
-    subst (λ p. SizesStop (record r { at = p }) i from m' k) again (one_row_stops h)
-
-pub pointer_stops_here : {r : Reading} {from : Tally} {m' : Meter} {k : ErrorKind} → SizesStop r 1 from m' k → SizeStops k r from m'
-pointer_stops_here {r} {from} {m'} {k} h = go h.first h.mid h.fewer h.are_walked h.stops
-  where
-    go : (ts : Trees) (mid : Tally) → count ts < 1 → WalksAll r from mid ts → SizeStops k (record r { at = r.at + count ts }) mid m' → SizeStops k r from m'
-    go (tree t ts) mid few walk stops = absurd (omega arith)
-    go no_trees mid few walk stops =
-        let again : r.at + 0 ≡ r.at = omega arith in
-        subst (λ x. SizeStops k r x m') (no_walk walk) (subst (λ p. SizeStops k (record r { at = p }) mid m') again stops)

@@ -17,7 +17,7 @@ use Rattle.capnp_objects.specs.Faults.{child_at}
 use Rattle.capnp_objects.specs.Measures.{counted_words, Measured, IsMeasured}
 use Rattle.capnp_objects.specs.Reading.{Reading, behind, row, pointers_of, tag_size, sized}
 use Rattle.capnp_objects.specs.Sizing.{Sized, SizedAll, SizedThere, SizedAllThere, ElementsSized, Tally, tally, Walks, WalksAll, WalksElements, WalksPlace, WalksPointers, WalksRows, with_object}
-use Rattle.capnp_objects.specs.Spending.{Paid, pointers_in, pointers_in_all}
+use Rattle.capnp_objects.specs.Spending.{Paid, pointers_in_all}
 use Rattle.capnp_format.proofs.Children.{with_last, count-with_last}
 use Rattle.capnp_format.proofs.Slices.{length_words}
 use Rattle.capnp_format.proofs.Digits.{length-digits}
@@ -25,11 +25,11 @@ use Rattle.capnp_objects.proofs.Budgets.{affords_none, after_none, paid_both}
 use Rattle.capnp_objects.proofs.Copies.{with_last_element, count-with_last_element, capabilities-with_last, pointers_in-with_last, capabilities-with_last_element, pointers_in-with_last_element}
 use Rattle.capnp_objects.proofs.Parts.{claim_struct, claim_list, claim_flat}
 
-words-with_last : (ts : Trees) (u : Tree) → word_count_all (with_last ts u) ≡ word_count_all ts + word_count u
+pub words-with_last : (ts : Trees) (u : Tree) → word_count_all (with_last ts u) ≡ word_count_all ts + word_count u
 words-with_last no_trees u = omega arith
 words-with_last (tree t ts) u = omega (arith, words-with_last ts u)
 
-words-with_last_element : (es : Elements) (ws : List ℕ) (ts : Trees) → word_count_elements (with_last_element es ws ts) ≡ word_count_elements es + word_count_all ts
+pub words-with_last_element : (es : Elements) (ws : List ℕ) (ts : Trees) → word_count_elements (with_last_element es ws ts) ≡ word_count_elements es + word_count_all ts
 words-with_last_element no_elements ws ts = omega arith
 words-with_last_element (element vs us es) ws ts = omega (arith, words-with_last_element es ws ts)
 
@@ -58,7 +58,7 @@ pub counted_structs : (S : Segments) (a : Target) → kind a.word ≡ 1 → elem
 counted_structs S a z seven = counted_list a 7 (1 + element_words (tag S a)) (claim a.word) z seven
 
 -- nothing is paid yet
-paid_none : (r : Reading) (m : Meter) → Paid r.charging m m 0 0
+pub paid_none : (r : Reading) (m : Meter) → Paid r.charging m m 0 0
 paid_none r m = record { covers = affords_none r.charging m; spent = sym (after_none r.charging m) }
 
 -- pointers one behind the other
@@ -178,9 +178,9 @@ pub capability_walked : {r : Reading} {from : Tally} {m' : Meter} {i : ℕ} → 
 capability_walked {r} {from} {m'} {i} (a, l, some, low, index, paid) =
     (Capability (upper_half a.word), record { cost = a.pads; is_sized = (a, some, l, omega arith, refl); paid = paid; words_are = omega arith; caps_are = refl })
 
-pub flat_walked : {r : Reading} {from : Tally} {m' : Meter} (start : Place) (size : ElementSize) (i : ℕ) → IsMeasured r from.meter m' (ObjectFlat start size i) →
-    WalksPlace r from (tally (from.words + words_for (size_number size) i) from.caps m')
-flat_walked {r} {from} {m'} start size i (a, o, z, small, there, width, len) =
+pub flat_at : {r : Reading} {from : Tally} {m' : Meter} {a : Target} → Measured r from.meter m' a → kind a.word ≡ 1 → element_size a.word ≤ 5 →
+    WalksPlace r from (tally (from.words + words_for (element_size a.word) (list_count a.word)) from.caps m')
+flat_at {r} {from} {m'} {a} o z small =
     let S : Segments = r.segments in
     let kind_of : ℕ = element_size a.word in
     let number : ℕ = list_count a.word in
@@ -201,10 +201,14 @@ flat_walked {r} {from} {m'} start size i (a, o, z, small, there, width, len) =
           ap (λ x. a.pads + x) (claimed ∙ ap (words_for kind_of) (sym long)),
         );
         paid = o.paid;
-        words_are = ap (λ x. from.words + x) (ap₂ words_for width (len ∙ sym long));
+        words_are = ap (λ i. from.words + words_for kind_of i) (sym long);
         caps_are = omega arith;
       },
     )
+
+pub flat_walked : {r : Reading} {from : Tally} {m' : Meter} (start : Place) (size : ElementSize) (i : ℕ) → IsMeasured r from.meter m' (ObjectFlat start size i) →
+    WalksPlace r from (tally (from.words + words_for (size_number size) i) from.caps m')
+flat_walked {r} {from} {m'} start size i (a, o, z, small, there, width, len) = rw (width, len) (flat_at {r = r} {from = from} o z small)
 
 -- The pointers of an object, so many words behind its start.
 abbrev pub inside : Reading → Place → ℕ → Reading
@@ -213,7 +217,7 @@ inside r start i = record r { levels = pred r.levels; segment = start.segment; a
 pub same_place : {s t p q : ℕ} (r : Reading) → s ≡ t → p ≡ q → record r { levels = pred r.levels; segment = s; at = p } ≡ record r { levels = pred r.levels; segment = t; at = q }
 same_place r e f = ap₂ (λ s p. record r { levels = pred r.levels; segment = s; at = p }) e f
 
-struct_at : {r : Reading} {from to : Tally} {m' : Meter} {a : Target} → Measured r from.meter m' a → kind a.word ≡ 0 →
+pub struct_at : {r : Reading} {from to : Tally} {m' : Meter} {a : Target} → Measured r from.meter m' a → kind a.word ≡ 0 →
     WalksPointers (child_at r a (pred r.levels) (a.start + data_words a.word)) (pointer_count a.word) (with_object from a r.segments m') to → WalksPlace r from to
 struct_at {r} {from} {to} {m'} {a} o z (ts, len, all) =
     let S : Segments = r.segments in
@@ -362,12 +366,6 @@ pub struct_row_walked : {r : Reading} {from to : Tally} {m' : Meter} (start : Pl
     WalksRows (beginning r start) size 1 (tally (from.words + (size.data_words + size.pointers)) from.caps m') to → WalksPlace r from to
 struct_row_walked {r} {from} start size object h = struct_walked {r = r} {from = from} start size object (one_row h)
 
-pub bare_struct_walked : {r : Reading} {from : Tally} {m' : Meter} (start : Place) (size : StructSize) → IsMeasured r from.meter m' (ObjectStruct start size) → size.pointers ≡ 0 →
-    WalksPlace r from (tally (from.words + (size.data_words + size.pointers)) from.caps m')
-bare_struct_walked {r} {from} {m'} start size object none =
-    let to : Tally = tally (from.words + (size.data_words + size.pointers)) from.caps m' in
-    struct_walked {r = r} {from = from} start size object (no_trees, sym none, walks_none (inside r start size.data_words) to)
-
 pub pointers_row_walked : {r : Reading} {from to : Tally} {m' : Meter} (start : Place) (i : ℕ) → IsMeasured r from.meter m' (ObjectPointers start i) →
     WalksRows (beginning r start) (sized 0 i) 1 (tally (from.words + i) from.caps m') to → WalksPlace r from to
 pointers_row_walked {r} {from} start i object h = pointers_walked {r = r} {from = from} start i object (one_row h)
@@ -377,30 +375,3 @@ pub structs_rows_walked : {r : Reading} {from to : Tally} {m' : Meter} (start : 
 structs_rows_walked {r} {from} {to} {m'} start size i object h =
     let there : beginning r start ≡ inside r start 0 = same_place r refl (omega arith) in
     structs_walked {r = r} {from = from} start size i object (subst (λ x. WalksRows x size i (tally (from.words + (1 + i * (size.data_words + size.pointers))) from.caps m') to) there h)
-
--- nothing stands before the place
-here_again : (r : Reading) → behind r 0 ≡ r
-here_again r = ap (λ p. record r { at = p }) (omega arith)
-
-pub row_here : {r : Reading} {i : ℕ} {from to : Tally} → WalksRows r (sized 0 i) 1 from to → WalksPointers r i from to
-row_here {r} {i} {from} {to} h = subst (λ x. WalksPointers x i from to) (here_again r) (one_row h)
-
-pub pointer_here : {r : Reading} {from to : Tally} → WalksPointers r 1 from to → WalksPlace r from to
-pointer_here {r} {from} {to} (ts, one, walk) = go ts one walk
-  where
-    go : (ts : Trees) → count ts ≡ 1 → WalksAll r from to ts → WalksPlace r from to
-    go no_trees one walk = absurd (omega arith)
-    go (tree t (tree u ts)) one walk = absurd (omega arith)
-    go (tree t no_trees) one walk =
-        let (k, l, first, rest, g) = walk.is_sized in
-        let cost : walk.cost ≡ k = omega (arith, g, rest) in
-        let none : pointers_in t + 0 ≡ pointers_in t = omega arith in (
-          t,
-          record {
-            cost = k;
-            is_sized = first;
-            paid = subst (λ i. Paid r.charging from.meter to.meter i (pointers_in t)) cost (subst (Paid r.charging from.meter to.meter walk.cost) none walk.paid);
-            words_are = omega (arith, walk.words_are);
-            caps_are = omega (arith, walk.caps_are);
-          },
-        )

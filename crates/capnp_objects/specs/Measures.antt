@@ -13,7 +13,9 @@ use Rattle.capnp_objects.specs.declared.object.Object.TheVariants.{Null as Objec
 use Rattle.capnp_objects.specs.declared.source.Source.{Source}
 use Rattle.capnp_objects.specs.Demands.{claim, tag, element_words, IsStructList}
 use Rattle.capnp_objects.specs.Faults.{LeadsTo}
-use Rattle.capnp_objects.specs.Objects.{StartsAt}
+use Rattle.capnp_objects.specs.declared.source.Landing.{Landing}
+use Rattle.capnp_objects.specs.Landings.{target}
+use Rattle.capnp_objects.specs.Objects.{IsHeld, StartsAt}
 use Rattle.capnp_objects.specs.Reading.{Reading, word_of}
 use Rattle.capnp_objects.specs.Refusals.{landing_words, FollowsTo}
 use Rattle.capnp_objects.specs.Source.{source_segments, source_charging}
@@ -57,6 +59,17 @@ pub record Measured (r : Reading) (m m' : Meter) (a : Target) : Type 0 where
   pub levels : 0 < r.levels
   pub meets : IsMeasurable r.segments a
   pub paid : Paid r.charging m m' (a.pads + claim a.word) 1
+
+-- What the pointer at a place leads to where it is near: an object at a position of the place's own segment.
+abbrev pub near_at : Reading → ℕ → Target
+near_at r at = record { word = word_of r; segment = r.segment; start = at; pads = 0 }
+
+-- The pointer at a place, for which there is a level, is counted and followed to a landing, from m to m'.
+pub record IsReached (r : Reading) (m m' : Meter) (l : Landing) : Type 0 where
+  pub held : IsHeld r.segments l.start
+  pub follows : FollowsTo r (target l)
+  pub levels : 0 < r.levels
+  pub paid : Paid r.charging m m' l.pads 1
 
 -- What the pointer at a place leads to, read for its size: from m to m'.
 abbrev pub IsMeasured : Reading → Meter → Meter → Object → Type 0

@@ -39,6 +39,10 @@ IsObject r m m' (ObjectStructs start size count) =
     (a : Target) × Entered r m m' a × (kind a.word ≡ 1) × (element_size a.word ≡ 7) × StartsAt r.segments a 1 start
     × (count ≡ offset_bits (tag r.segments a)) × (size.data_words ≡ data_words (tag r.segments a)) × (size.pointers ≡ pointer_count (tag r.segments a))
 
+-- The place leads to a struct that starts there: its words are checked and charged, from m to m'.
+abbrev pub EntersStruct : Reading → Meter → Meter → Place → Type 0
+EntersStruct r m m' start = (a : Target) × Entered r m m' a × (kind a.word ≡ 0) × StartsAt r.segments a 0 start
+
 -- A list has so few elements that their number fits its bits of a pointer word.
 abbrev pub IsFew : Object → Type 0
 IsFew (ObjectFlat start size count) = count < 2 ^ 29

@@ -1,6 +1,6 @@
 //! Where readers read: an arena, a default, or nothing. A pointer is read in two steps: it is
 //! followed to where it leads, and the object there is entered, each with its checks and charges.
-ghost use Rattle.std.specs.Prelude.{◌≡◌, ◌<◌, ◌≤◌, ◌+◌, ◌*◌, ◌^◌, ◌↔◌, ℕ, false, IsTrue, IfOk, IsOk, OnOk, OnErr, IfErr, length};
+ghost use Rattle.std.specs.Prelude.{◌≡◌, ◌≢◌, ◌<◌, ◌≤◌, ◌+◌, ◌*◌, ◌^◌, ◌↔◌, ℕ, false, IsTrue, IfOk, IsOk, OnOk, OnErr, IfErr, length};
 ghost use Rattle.capnp_format.specs.Word.{kind, element_size, is_double};
 ghost use Rattle.capnp_format.specs.Segments.{segment, word_at};
 ghost use Rattle.capnp_format.specs.Means.{count_cost};
@@ -10,9 +10,9 @@ ghost use Rattle.capnp_objects.specs.Source.{source_segments, source_charging, l
 ghost use Rattle.capnp_format.specs.Bytes.{message};
 ghost use Rattle.capnp_pointers.specs.Sizes.{size_number};
 ghost use Rattle.capnp_objects.specs.Demands.{claim};
-ghost use Rattle.capnp_objects.specs.Reading.{reading_at};
+ghost use Rattle.capnp_objects.specs.Reading.{reading_at, word_of};
 ghost use Rattle.capnp_objects.specs.Wanted.{plain};
-ghost use Rattle.capnp_objects.specs.Objects.{IsObject, IsHeld, IsFew};
+ghost use Rattle.capnp_objects.specs.Objects.{IsObject, EntersStruct, IsHeld, IsFew};
 ghost use Rattle.capnp_objects.specs.Refusals.{Stopped, CanBeRead};
 ghost use Rattle.capnp_objects.specs.Landings.{target, IsPad, FollowsPointer, FailsPointer, FollowsFar, FailsFar, IsClaimed, NotEntered, IsOpened};
 
@@ -89,6 +89,40 @@ impl<'a, A: ReaderArena> Source<'a, A> {
             Err(k) => return Err(k),
         };
         self.enter(landing, depth_of(nesting_limit), lim)
+    }
+
+    /// Reads the struct that a near pointer leads to, as `read_object` does: where it starts in the
+    /// pointer's own segment, a position in words.
+    #[inline(always)]
+    pub fn read_near_struct(
+        self,
+        place: Place<'a>,
+        word: WirePointer,
+        nesting_limit: i32,
+        lim: &mut ReadLimiter,
+    ) -> Result<u32, ErrorKind>
+        requires held { IsHeld (source_segments A.segments self) place }
+        requires there { word.0 ≡ word_of (reading_at A.ReaderArena self place nesting_limit) }
+        requires small { word.0 < 2 ^ 64 }
+        requires some { word.0 ≢ 0 }
+        requires is_struct { kind word.0 ≡ 0 }
+        ensures object { IfOk result (λ at. EntersStruct (reading_at A.ReaderArena self.entry place.entry nesting_limit) lim.old lim.new (record place.entry { at = at })) }
+        ensures refused { IfErr result (Stopped plain (reading_at A.ReaderArena self.entry place.entry nesting_limit) lim.old lim.new) }
+    {
+        self.count(lim);
+        let landing = match self.follow(place, word, nesting_limit, lim) {
+            Ok(landing) => landing,
+            Err(k) => return Err(k),
+        };
+        match self.claim(
+            landing,
+            word.struct_word_size(),
+            depth_of(nesting_limit),
+            lim,
+        ) {
+            Ok(()) => Ok(landing.start.at),
+            Err(k) => Err(k),
+        }
     }
 
     // Counts a pointer as followed, which only an arena that charges does.

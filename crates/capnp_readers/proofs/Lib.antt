@@ -4,3 +4,14 @@ pub mod Walking
 pub mod Targets
 pub mod Answering
 pub mod Bytes
+pub mod Chains
+pub mod Used
+pub mod Growing
+pub mod Accepts
+pub mod Found
+pub mod Exactly
+pub mod Padding
+pub mod Takes
+pub mod Checks
+pub mod NeverStops
+pub mod Same

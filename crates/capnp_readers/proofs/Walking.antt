@@ -1,5 +1,5 @@
 -- One level less, as a nesting limit counts it; and results that are handed on.
-use Rattle.std.proofs.Common.{◌≡◌, ◌↔◌, ℕ, zero, suc, pred, ◌-◌, ◌^◌, ◌<◌, Result, Ok, Err, IsOk, IfOk, IfErr, ap, sym, refl, subst, ◌∙◌, arith}
+use Rattle.std.proofs.Common.{◌≡◌, ◌↔◌, ℕ, zero, suc, pred, ◌+◌, ◌*◌, ◌-◌, ◌^◌, ◌<◌, ◌≤◌, length, Result, Ok, Err, IsOk, IfOk, IfErr, ap, sym, refl, subst, ◌∙◌, arith, add-zero}
 use Rattle.std.proofs.lemmas.Bool.{false≢true}
 use Rattle.std.proofs.lemmas.Int.{ints, to_z-of_z}
 use mir.Syntax.{w32}
@@ -7,13 +7,21 @@ use mir.Val.{SFits, to_z, of_z}
 use lib.IntN.{ℤ, pos, negsuc, ◌-ℤ◌}
 use Rattle.capnp_words.specs.declared.error.ErrorKind.{ErrorKind}
 use Rattle.capnp_words.specs.declared.error.ErrorKind.TheVariants.{MessageTooLarge}
-use Rattle.capnp_objects.specs.Reading.{Reading, word_of}
-use Rattle.capnp_objects.specs.Sizing.{FitSize, Totals, HasSize, HaveSizes, SizeRefused, SizesStop, Tally, tally, WalksPlace, WalksPointers}
+use Rattle.capnp_format.specs.Segments.{segment}
+use Rattle.capnp_pointers.specs.declared.wire_pointer.StructSize.{StructSize}
+use Rattle.capnp_objects.specs.declared.object.Place.{Place}
+use Rattle.capnp_objects.specs.declared.object.Object.{Object}
+use Rattle.capnp_objects.specs.declared.object.Object.TheVariants.{Null as ObjectNull, Capability as ObjectCapability, Struct as ObjectStruct, Flat as ObjectFlat, Pointers as ObjectPointers, Structs as ObjectStructs}
+use Rattle.capnp_objects.specs.Measures.{IsMeasured}
+use Rattle.capnp_objects.proofs.Parts.{claim_struct, claim_list}
+use Rattle.capnp_objects.specs.Reading.{Reading, row, sized}
+use Rattle.capnp_objects.specs.Sizing.{FitSize, HasSize, HaveSizes, SizeRefused, SizesStop, SizeStops, RowsStop, Tally, tally, WalksPlace, WalksRows}
 use Rattle.capnp_objects.specs.Source.{levels}
-use Rattle.capnp_objects.proofs.Walked.{null_walked}
-use Rattle.capnp_objects.proofs.WalkStops.{stops_never, stop_never}
+use Rattle.capnp_objects.proofs.Walked.{beginning, null_walked, flat_walked, struct_row_walked, pointers_row_walked, structs_rows_walked}
+use Rattle.capnp_objects.proofs.WalkStops.{stops_never, stop_never, struct_row_stops, pointers_row_stops, structs_rows_stop, flat_beyond, struct_beyond, pointers_beyond, structs_beyond}
 use Rattle.capnp_words.specs.Meter.{Meter}
-use Rattle.capnp_readers.specs.declared.readers.sizes.MessageSize.{MessageSize}
+use Rattle.capnp_readers.specs.declared.readers.sizes.Rows.{Rows}
+use Rattle.capnp_readers.specs.Sizes.{object_words, HasRows, HasNoRows}
 
 one_level : (z : ℤ) → SFits w32 z → 0 < levels z → levels (to_z w32 (of_z w32 (z -ℤ pos 1))) ≡ pred (levels z)
 one_level (pos zero) fits some = absurd (omega arith)
@@ -39,30 +47,81 @@ pub beyond_so : {A : Type 0} (r : Result A ErrorKind) {F : Type 0} (Q : ErrorKin
 beyond_so (Ok x) Q exactly named f = tt
 beyond_so (Err k) Q exactly named f = subst Q (sym named) (f (λ h. false≢true (exactly.1 h)))
 
--- Of an answer there is a walk whose sums fit: from a place, and over pointers.
-pub has_size : (r : Reading) (m m' : Meter) (z : Result MessageSize ErrorKind) → IfOk z (λ x. WalksPlace r (tally 0 0 m) (tally x.word_count x.cap_count m')) → IfOk z (λ x. FitSize x.word_count x.cap_count) → IsOk z → HasSize r m
-has_size r m m' (Ok x) (t, walk) fits ok = (t, walk.cost, walk.is_sized, (omega (arith, walk.words_are, fits.0), omega (arith, walk.caps_are, fits.1)), walk.paid.covers)
-has_size r m m' (Err k) walk fits ok = absurd (cc ok)
+-- Where the walk is refused, there is none whose sums fit: from a place, and over pointers.
+pub no_size : {r : Reading} {m m' : Meter} {k : ErrorKind} → SizeRefused r m m' k → HasSize r m → ⊥
+no_size refused h = stops_never refused h.0 h.1 h.2 (omega (arith, h.3.0), omega (arith, h.3.1)) h.4
 
-pub have_sizes : {i : ℕ} (r : Reading) (from : Tally) (m' : Meter) (z : Result MessageSize ErrorKind) → IfOk z (λ x. WalksPointers r i from (tally x.word_count x.cap_count m')) → IfOk z (λ x. FitSize x.word_count x.cap_count) → IsOk z → HaveSizes r i from
-have_sizes r from m' (Ok x) (ts, len, walk) fits ok = (ts, walk.cost, len, walk.is_sized, (omega (arith, walk.words_are, fits.0), omega (arith, walk.caps_are, fits.1)), walk.paid.covers)
-have_sizes r from m' (Err k) walk fits ok = absurd (cc ok)
+pub no_sizes : {r : Reading} {i : ℕ} {from : Tally} {m' : Meter} {k : ErrorKind} → SizesStop r i from m' k → HaveSizes r i from → ⊥
+no_sizes refused h = stop_never refused h.0 h.1 h.2 h.3 h.4 h.5
 
--- Where there is one the answer isn't refused.
-pub not_refused : (r : Reading) (m m' : Meter) (z : Result MessageSize ErrorKind) → IfErr z (SizeRefused r m m') → HasSize r m → IsOk z
-not_refused r m m' (Ok x) refused h = refl
-not_refused r m m' (Err k) refused h = absurd (stops_never refused h.0 h.1 h.2 (omega (arith, h.3.0), omega (arith, h.3.1)) h.4)
+-- An object is measured that has pointers, those of these rows.
+pub record Opened (r : Reading) (m m' : Meter) (x : Object) (rows : Rows) : Type 0 where
+  pub is_measured : IsMeasured r m m' x
+  pub has : HasRows x rows
 
-pub none_refused : {i : ℕ} (r : Reading) (from : Tally) (m' : Meter) (z : Result MessageSize ErrorKind) → IfErr z (SizesStop r i from m') → HaveSizes r i from → IsOk z
-none_refused r from m' (Ok x) refused h = refl
-none_refused r from m' (Err k) refused h = absurd (stop_never refused h.0 h.1 h.2 h.3 h.4 h.5)
+-- There is a level for its pointers, and they lie in their segment.
+pub object_level : {r : Reading} {m m' : Meter} {rows : Rows} (x : Object) → Opened r m m' x rows → 0 < r.levels
+object_level (ObjectStruct start size) o = o.is_measured.1.levels
+object_level (ObjectPointers start i) o = o.is_measured.1.levels
+object_level (ObjectStructs start size i) o = o.is_measured.1.levels
+object_level ObjectNull o = absurd o.has
+object_level (ObjectCapability i) o = absurd o.has
+object_level (ObjectFlat start size i) o = absurd o.has
 
--- a walk from no sums
-pub totals : {r : Reading} {m m' : Meter} {words caps : ℕ} → WalksPlace r (tally 0 0 m) (tally words caps m') → Totals r m m' words caps
-totals (t, walk) = (t, walk.cost, walk.is_sized, omega (arith, walk.words_are), omega (arith, walk.caps_are), walk.paid)
+inside_struct : {r : Reading} {m m' : Meter} (start : Place) (size : StructSize) → IsMeasured r m m' (ObjectStruct start size) → start.at + 1 * (size.data_words + size.pointers) ≤ length (segment r.segments start.segment)
+inside_struct start size (a, o, z, (held, seg, at), wide, many) =
+    let room = o.meets.claims (λ v. omega (arith, v.0, z)) in
+    rw (seg, wide, many) (omega (arith, room, at, claim_struct a.word z))
 
-pub null_totals : (r : Reading) (m : Meter) → word_of r ≡ 0 → Totals r m m 0 0
-null_totals r m z = totals (null_walked {r = r} {from = tally 0 0 m} (z, refl))
+inside_pointers : {r : Reading} {m m' : Meter} (start : Place) (i : ℕ) → IsMeasured r m m' (ObjectPointers start i) → start.at + 1 * (0 + i) ≤ length (segment r.segments start.segment)
+inside_pointers start i (a, o, z, six, (held, seg, at), many) =
+    let room = o.meets.claims (λ v. omega (arith, v.1, six)) in
+    rw seg (omega (arith, room, at, many, claim_list a.word 6 z six))
 
-pub null_has_size : (r : Reading) (m : Meter) → word_of r ≡ 0 → HasSize r m
-null_has_size r m z = has_size r m m (Ok (record { word_count = 0; cap_count = 0 })) (null_walked {r = r} {from = tally 0 0 m} (z, refl)) (omega arith, omega arith) refl
+inside_structs : {r : Reading} {m m' : Meter} (start : Place) (size : StructSize) (i : ℕ) → IsMeasured r m m' (ObjectStructs start size i) → start.at + i * (size.data_words + size.pointers) ≤ length (segment r.segments start.segment)
+inside_structs start size i (a, o, z, seven, (held, seg, at), len, wide, many) =
+    let room = o.meets.claims (λ v. omega (arith, v.1, seven)) in
+    rw (seg, len, wide, many) (omega (arith, room, at, claim_list a.word 7 z seven, (o.meets.tagged (z, seven)).1))
+
+pub object_inside : {r : Reading} {m m' : Meter} {rows : Rows} (x : Object) → Opened r m m' x rows → rows.start.at + rows.count * (rows.data_words + rows.pointers) ≤ length (row (beginning r rows.start))
+object_inside {r} {m} {m'} (ObjectStruct start size) o = rw (o.has.0, o.has.1, o.has.2, o.has.3) (inside_struct {r = r} {m = m} {m' = m'} start size o.is_measured)
+object_inside {r} {m} {m'} (ObjectPointers start i) o = rw (o.has.0, o.has.1, o.has.2, o.has.3) (inside_pointers {r = r} {m = m} {m' = m'} start i o.is_measured)
+object_inside {r} {m} {m'} (ObjectStructs start size i) o = rw (o.has.0, o.has.1, o.has.2, o.has.3) (inside_structs {r = r} {m = m} {m' = m'} start size i o.is_measured)
+object_inside ObjectNull o = absurd o.has
+object_inside (ObjectCapability i) o = absurd o.has
+object_inside (ObjectFlat start size i) o = absurd o.has
+
+-- What a walk finds at an object: its own words and no pointers; the pointers that it goes over, or stops at; too many words.
+pub leaf_walked : {r : Reading} {from : Tally} {m' : Meter} (x : Object) → IsMeasured r from.meter m' x → HasNoRows x → ((i : ℕ) → x ≡ ObjectCapability i → ⊥) → WalksPlace r from (tally (from.words + object_words x) from.caps m')
+leaf_walked {r} {from} {m'} ObjectNull object none other = rw add-zero (null_walked {r = r} {from = from} object)
+leaf_walked {r} {from} {m'} (ObjectCapability i) object none other = absurd (other i refl)
+leaf_walked {r} {from} {m'} (ObjectFlat start size i) object none other = flat_walked {r = r} {from = from} start size i object
+leaf_walked {r} {from} {m'} (ObjectStruct start size) object none other = absurd none
+leaf_walked {r} {from} {m'} (ObjectPointers start i) object none other = absurd none
+leaf_walked {r} {from} {m'} (ObjectStructs start size i) object none other = absurd none
+
+pub object_walked : {r : Reading} {from to : Tally} {m' : Meter} {rows : Rows} (x : Object) → Opened r from.meter m' x rows →
+    WalksRows (beginning r rows.start) (sized rows.data_words rows.pointers) rows.count (tally (from.words + object_words x) from.caps m') to → WalksPlace r from to
+object_walked {r} {from} (ObjectStruct start size) o h = struct_row_walked {r = r} {from = from} start size o.is_measured (rw (o.has.0, o.has.1, o.has.2, o.has.3) at h)
+object_walked {r} {from} (ObjectPointers start i) o h = pointers_row_walked {r = r} {from = from} start i o.is_measured (rw (o.has.0, o.has.1, o.has.2, o.has.3) at h)
+object_walked {r} {from} (ObjectStructs start size i) o h = structs_rows_walked {r = r} {from = from} start size i o.is_measured (rw (o.has.0, o.has.1, o.has.2, o.has.3) at h)
+object_walked ObjectNull o h = absurd o.has
+object_walked (ObjectCapability i) o h = absurd o.has
+object_walked (ObjectFlat start size i) o h = absurd o.has
+
+pub object_stops : {r : Reading} {from : Tally} {m' m'' : Meter} {k : ErrorKind} {rows : Rows} (x : Object) → Opened r from.meter m' x rows →
+    RowsStop (beginning r rows.start) (sized rows.data_words rows.pointers) rows.count (tally (from.words + object_words x) from.caps m') m'' k → SizeStops k r from m''
+object_stops {r} {from} (ObjectStruct start size) o h = struct_row_stops {r = r} {from = from} start size o.is_measured (rw (o.has.0, o.has.1, o.has.2, o.has.3) at h)
+object_stops {r} {from} (ObjectPointers start i) o h = pointers_row_stops {r = r} {from = from} start i o.is_measured (rw (o.has.0, o.has.1, o.has.2, o.has.3) at h)
+object_stops {r} {from} (ObjectStructs start size i) o h = structs_rows_stop {r = r} {from = from} start size i o.is_measured (rw (o.has.0, o.has.1, o.has.2, o.has.3) at h)
+object_stops ObjectNull o h = absurd o.has
+object_stops (ObjectCapability i) o h = absurd o.has
+object_stops (ObjectFlat start size i) o h = absurd o.has
+
+pub object_beyond : {r : Reading} {from : Tally} {m' : Meter} (x : Object) → FitSize from.words from.caps → IsMeasured r from.meter m' x → (from.words + object_words x < 2 ^ 64 → ⊥) → SizeStops (MessageTooLarge (2 ^ 64 - 1)) r from m'
+object_beyond ObjectNull fits object over = absurd (over (omega (arith, fits.0)))
+object_beyond (ObjectCapability i) fits object over = absurd (over (omega (arith, fits.0)))
+object_beyond {r} {from} (ObjectFlat start size i) fits object over = flat_beyond {r = r} {from = from} start size i fits object over
+object_beyond {r} {from} (ObjectStruct start size) fits object over = struct_beyond {r = r} {from = from} start size fits object over
+object_beyond {r} {from} (ObjectPointers start i) fits object over = pointers_beyond {r = r} {from = from} start i fits object over
+object_beyond {r} {from} (ObjectStructs start size i) fits object over = structs_beyond {r = r} {from = from} start size i fits object over

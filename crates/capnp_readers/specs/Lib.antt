@@ -2,3 +2,6 @@ pub mod Sections
 pub mod Readers
 pub mod Sizes
 pub mod Calls
+pub mod Standing
+pub mod Checking
+pub mod Laws

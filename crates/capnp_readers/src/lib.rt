@@ -1,6 +1,7 @@
 //! Readers: pointers, structs and lists of a message, in place.
 #![tactic(auto)]
 
+pub mod laws;
 pub mod readers;
 
 pub use capnp_objects::{object, source};

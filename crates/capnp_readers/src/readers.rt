@@ -15,6 +15,7 @@ ghost use Rattle.capnp_objects.specs.Types.{IsNoCapability, IsOfType, HasType, H
 ghost use Rattle.capnp_format.specs.Word.{lower_half, upper_half};
 ghost use Rattle.capnp_objects.specs.Wanted.{plain};
 
+mod canonical;
 mod list_reader;
 mod primitive_element;
 mod sizes;

@@ -13,6 +13,7 @@ fn read(rt: &HostRuntime, line: &str) -> Option<Option<Read>> {
     }
     let (command, options) = match parse_args(words.as_slice()) {
         Some(Args::Canon(options)) => ("canon", options),
+        Some(Args::Check(options)) => ("check", options),
         Some(Args::Size(options)) => ("size", options),
         None => return Some(None),
     };
@@ -61,7 +62,17 @@ fn arguments(rt: HostRuntime) {
         ("size 1 1 1", None),
         ("Size 1 1", None),
         ("sizes 1 1", None),
-        ("check 1 1", None),
+        ("check 64 8388608", Some(("check", 64, Some(8_388_608)))),
+        ("check 0064 00", Some(("check", 64, Some(0)))),
+        ("check -1 none", Some(("check", -1, None))),
+        ("check 2147483648 1", None),
+        ("check 1 18446744073709551616", None),
+        ("check +1 1", None),
+        ("check 1", None),
+        ("check 1 1 1", None),
+        ("Check 1 1", None),
+        ("checks 1 1", None),
+        ("edit 1 1", None),
         ("", None),
     ] {
         assert!(rt; read(&rt, line) == Some(want), "{line}");

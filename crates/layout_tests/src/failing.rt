@@ -13,10 +13,12 @@ const COPIED: &str =
     "0000000000000200 0400000001000000 0400000001000000 0900000000000000 0900000000000000";
 
 /// The commands, each with the line that it answers with.
-fn commands(rt: &HostRuntime) -> Option<[(Args, Vec<u8>); 2]> {
+fn commands(rt: &HostRuntime) -> Option<[(Args, Vec<u8>); 3]> {
+    let check = Vec::from_slice(rt.alloc(), b"not canonical\n").ok()?;
     let size = Vec::from_slice(rt.alloc(), b"words 4 caps 0\n").ok()?;
     Some([
         (Args::Canon(options(64, WORDS)), lines(rt, COPIED)?),
+        (Args::Check(options(64, WORDS)), check),
         (Args::Size(options(64, WORDS)), size),
     ])
 }

@@ -6,6 +6,7 @@ use capnp_layout::tool::{Args, Outcome};
 fn lines_that_are_no_segments(rt: HostRuntime) {
     let commands = [
         Args::Canon(options(64, WORDS)),
+        Args::Check(options(64, WORDS)),
         Args::Size(options(64, WORDS)),
     ];
     for text in [

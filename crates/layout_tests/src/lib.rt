@@ -7,6 +7,8 @@ mod arguments;
 #[cfg(test)]
 mod canonical;
 #[cfg(test)]
+mod checks;
+#[cfg(test)]
 mod devices;
 #[cfg(test)]
 mod failing;

@@ -1,6 +1,6 @@
-//! The program `layout_tool`: what a message says in canonical form, or how large it is. Its arguments
-//! are `canon NESTING BUDGET` or `size NESTING BUDGET`, its input a line of hex digits for each segment,
-//! its output one line.
+//! The program `layout_tool`: what a message says in canonical form, whether it is in that form, or how
+//! large it is. Its arguments are `canon`, `check` or `size`, and then `NESTING BUDGET`, its input a line
+//! of hex digits for each segment, its output one line.
 #![tactic(auto)]
 
 use capnp_layout::devices::{ReaderInput, WriterOutput};

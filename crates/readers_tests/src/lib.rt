@@ -5,6 +5,10 @@
 #[cfg(test)]
 mod calls;
 #[cfg(test)]
+mod canonical;
+#[cfg(test)]
+mod canonical_structs;
+#[cfg(test)]
 mod defaults;
 #[cfg(test)]
 mod elements;

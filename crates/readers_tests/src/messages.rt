@@ -16,6 +16,14 @@ pub const CAPABILITY: &str = "0300000005000000";
 pub const TWO_CHILDREN: &str =
     "0000000000000200 0400000001000000 fcffffff00000000 eeeeeeeeeeeeeeee";
 
+pub const ONE_CHILD: &str = "0000000001000100 0700000000000000 0000000001000000 0900000000000000";
+
+/// A struct of two pointers, the first of which leads beyond the end; the second is null.
+pub const FIRST_CHILD_OUTSIDE: &str = "0000000000000200 2400000001000000 0000000000000000";
+
+pub const TEXT_BELOW_A_STRUCT: &str =
+    "0000000001000100 0700000000000000 0100000012000000 6100000000000000";
+
 pub const FAR: &str = "0200000001000000, 0000000001000000 0001020304050607";
 
 /// A far pointer to a landing pad of zero, which is an empty struct.
@@ -101,6 +109,21 @@ pub const POINTER_STRUCTS: &str =
 pub const MANY_VOIDS: &str = "01000000f8ffffff";
 
 pub const EMPTY_STRUCTS: &str = "0100000007000000 fcffffff00000000";
+
+/// A list of structs, the only one of which has a pointer to a struct.
+pub const STRUCT_IN_A_LIST: &str =
+    "010000000f000000 0400000000000100 0000000001000000 0100000000000000";
+
+/// A list of two structs of a word and a pointer, to a struct of no words and to a text.
+pub const TWO_ELEMENTS: &str =
+    "0100000027000000 0800000001000100 0700000000000000 fcffffff00000000 0900000000000000 0100000012000000 6100000000000000";
+
+/// A list of pointers, the only one of which leads to a list of none.
+pub const LIST_IN_A_LIST: &str = "010000000e000000 0100000000000000";
+
+/// A list of three pointers, the second of which leads to a struct; the others are null.
+pub const USED_POINTERS: &str =
+    "010000001e000000 0000000000000000 0400000001000000 0000000000000000 0900000000000000";
 
 /// The arena of a message, under the options by default.
 pub fn arena(rt: &impl Abort, alloc: Global, text: &str) -> ReaderArenaImpl<Message> {

@@ -1,5 +1,6 @@
-//! The fields of readers and places that no other test here uses.
+//! The fields of readers and places, and the laws, that no other test here uses.
 use crate::messages::*;
+use capnp_readers::laws::*;
 use capnp_readers::readers::{ListPlace, ListReader, PointerPlace, StructPlace, StructReader};
 use capnp_readers::source::Source;
 use capnp_words::read_limiter::ReadLimiter;
@@ -72,4 +73,11 @@ fn places() {
         },
         count: 0u32,
     };
+}
+
+#[test]
+fn laws() {
+    canonical_is_answered();
+    found_is_meant();
+    same_words();
 }

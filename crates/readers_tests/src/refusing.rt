@@ -36,7 +36,7 @@ pub const NARROW: ErrorKind = ErrorKind::MessageContainsListWithIncompatibleElem
 
 pub const NO_END: ErrorKind = ErrorKind::MessageContainsTextThatIsNotNULTerminated;
 
-const SPENT: ErrorKind = ErrorKind::ReadLimitExceeded;
+pub const SPENT: ErrorKind = ErrorKind::ReadLimitExceeded;
 
 const BITS_FOUND: ErrorKind = ErrorKind::FoundBitListWhereStructListWasExpected;
 
@@ -46,9 +46,9 @@ const NO_NUMBERS: ErrorKind = ErrorKind::ExpectedAPrimitiveListButGotAListOfPoin
 
 const NO_POINTERS: ErrorKind = ErrorKind::ExpectedAPointerListButGotAListOfDataOnlyStructs;
 
-const NO_TAG: ErrorKind = ErrorKind::InlineCompositeListsOfNonStructTypeAreNotSupported;
+pub const NO_TAG: ErrorKind = ErrorKind::InlineCompositeListsOfNonStructTypeAreNotSupported;
 
-const OVERRUN: ErrorKind = ErrorKind::InlineCompositeListsElementsOverrunItsWordCount;
+pub const OVERRUN: ErrorKind = ErrorKind::InlineCompositeListsElementsOverrunItsWordCount;
 
 /// A call that expects a pointer to lead to a kind, or asks for the kind.
 #[derive(Clone, Copy)]

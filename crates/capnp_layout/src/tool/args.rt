@@ -10,13 +10,16 @@ use capnp_arena::arena::ReaderOptions;
 pub enum Args {
     /// The canonical words of a message ("Canonicalization"), which is read within these limits.
     Canon(ReaderOptions),
+    /// Whether a message is in canonical form at its root ("Canonicalization"), which is tested within
+    /// these limits.
+    Check(ReaderOptions),
     /// How many words and capabilities a message has without landing pads ("Structs", "Lists"),
     /// which is read within these limits.
     Size(ReaderOptions),
 }
 
-/// Reads the words behind the program's name, which are `canon NESTING BUDGET` or
-/// `size NESTING BUDGET`. All else is `None`.
+/// Reads the words behind the program's name, which are `canon NESTING BUDGET`,
+/// `check NESTING BUDGET` or `size NESTING BUDGET`. All else is `None`.
 ///
 /// NESTING is the nesting limit, an `i32` in decimal digits with an optional `-`. BUDGET is the
 /// traversal limit in words, a `u64` in decimal digits, or `none`.
@@ -33,6 +36,8 @@ pub fn parse_args(args: &[String]) -> Option<Args>
     };
     if command.as_str() == "canon" {
         Some(Args::Canon(options))
+    } else if command.as_str() == "check" {
+        Some(Args::Check(options))
     } else if command.as_str() == "size" {
         Some(Args::Size(options))
     } else {

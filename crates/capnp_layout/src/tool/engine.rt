@@ -13,10 +13,11 @@ ghost use Rattle.capnp_format.specs.Bytes.{message, words_of};
 
 use super::args::Args;
 use super::canon::canonical;
+use super::check::is_canonical;
 use super::lines::{InputFault, Message, read_lines};
 use super::reading::read_text;
 use super::size::size_of;
-use super::writing::{write_refusal, write_size, write_words};
+use super::writing::{write_check, write_refusal, write_size, write_words};
 use crate::devices::{DeviceFault, Input, Output};
 use capnp_arena::arena::{
     Allocator, BuilderArena, BuilderArenaImpl, HeapAllocator, OutputSegments, ReaderArena,
@@ -124,6 +125,27 @@ fn canon<A: Allocator, W: Output>(
     }
 }
 
+/// Answers to a message with the line that says whether it is canonical, or of its refusal.
+fn check<W: Output>(source: Message, options: ReaderOptions, output: &mut W) -> Outcome
+    requires { W.has_failed output.old ≡ false }
+    ensures small { result ≡ Outcome.Done → IsSmall (segments_in source) }
+    ensures done { result ≡ Outcome.Done → Answers (segments_in source) (Args.Check options) (Appends (W.contents output.old) (W.contents output.new)) }
+    ensures refused { result ≡ Outcome.Refused →
+        (k : ErrorKind) × RefusesMessage (segments_in source) (Args.Check options) k × Appends (W.contents output.old) (W.contents output.new) (refusal_line k) }
+    ensures exactly { WhereAnswered (segments_in source) (Args.Check options) (IsDone result ⊎ (result ≡ Outcome.WriteFailed)) }
+    ensures input { result ≢ Outcome.BadInput }
+    ensures works { result ≢ Outcome.WriteFailed → W.has_failed output.new ≡ false }
+    ensures failed { result ≡ Outcome.WriteFailed → W.has_failed output.new ≡ true }
+{
+    match is_canonical(source, options) {
+        Ok(yes) => match write_check(output, yes) {
+            Ok(()) => Outcome::Done,
+            Err(DeviceFault) => Outcome::WriteFailed,
+        },
+        Err(kind) => refuse(output, kind),
+    }
+}
+
 /// Answers to a message with the line of its size, or of its refusal.
 fn size<W: Output>(source: Message, options: ReaderOptions, output: &mut W) -> Outcome
     requires { W.has_failed output.old ≡ false }
@@ -166,6 +188,7 @@ fn respond<A: Allocator, W: Output>(
 {
     match *args {
         Args::Canon(options) => canon(alloc, allocator, source, options, output),
+        Args::Check(options) => (check(source, options, output), allocator),
         Args::Size(options) => (size(source, options, output), allocator),
     }
 }
@@ -175,9 +198,10 @@ fn respond<A: Allocator, W: Output>(
 /// too.
 ///
 /// `Canon` answers with the canonical words of what the message means as lower case hex digits, each
-/// word's lowest byte first; `Size` with `words N caps M`, the numbers of words and capabilities
-/// that the root leads to, without landing pads, in decimal digits. A size takes no memory but that
-/// for the input. Where a read fails the outcome is `BadInput`, and no other. The refusal
+/// word's lowest byte first; `Check` with `canonical` where such words stand at the message's root,
+/// and else `not canonical`; `Size` with `words N caps M`, the numbers of words and capabilities
+/// that the root leads to, without landing pads, in decimal digits. Checks and sizes take no memory
+/// but that for the input. Where a read fails the outcome is `BadInput`, and no other. The refusal
 /// `AllocationFailed` is want of memory, which the allocator has counted.
 pub fn run_with<A: Allocator, R: Input, W: Output>(
     alloc: Global,
@@ -210,6 +234,8 @@ pub fn run_with<A: Allocator, R: Input, W: Output>(
 /// Reads a message from an input, and writes one line to an output: the answer of a command, or
 /// `refused` and the name of the refusal. `Canon` answers with the canonical words of what the
 /// message means as lower case hex digits, each word's lowest byte first ("Canonicalization");
+/// `Check` with `canonical` where such words stand at the root, the first object right behind the
+/// root pointer, and else `not canonical`, whatever stands behind them or in other segments;
 /// `Size` with `words N caps M`, the numbers of words and capabilities that the root leads to,
 /// without landing pads, in decimal digits ("Structs", "Lists").
 ///

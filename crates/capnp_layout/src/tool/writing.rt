@@ -3,7 +3,7 @@ ghost use Rattle.std.specs.Prelude.{◌≡◌, ◌+◌, ◌++◌, ◌∷◌, [],
 ghost use Rattle.std.specs.Io.KnownBytes.{Appends};
 ghost use Rattle.capnp_format.specs.Bytes.{words_of};
 ghost use Rattle.std.specs.Fmt.{decimal};
-ghost use Rattle.capnp_layout.specs.Answers.{word_digits, digits_of, refusal_line, size_line};
+ghost use Rattle.capnp_layout.specs.Answers.{check_line, word_digits, digits_of, refusal_line, size_line};
 
 use crate::devices::{DeviceFault, Output, write_all};
 use capnp_readers::readers::MessageSize;
@@ -33,6 +33,20 @@ pub(crate) fn write_words<W: Output>(output: &mut W, segment: &[u8]) -> Result<(
         write_word(output, word_at(segment, at))?;
     }
     write_all(output, b"\n")
+}
+
+/// Writes the line that says whether a message is canonical.
+pub(crate) fn write_check<W: Output>(output: &mut W, is_canonical: bool) -> Result<(), DeviceFault>
+    requires { W.has_failed output.old ≡ false }
+    ensures written { OnOk result (Appends (W.contents output.old) (W.contents output.new) (check_line is_canonical)) }
+    ensures works { OnOk result (W.has_failed output.new ≡ false) }
+    ensures fails { OnErr result (W.has_failed output.new ≡ true) }
+{
+    if is_canonical {
+        write_all(output, b"canonical\n")
+    } else {
+        write_all(output, b"not canonical\n")
+    }
 }
 
 /// Writes a number in decimal digits.

@@ -1,20 +1,20 @@
 //! One object of a message, read for its size alone.
-ghost use Rattle.std.specs.Prelude.{◌≡◌, ◌<◌, ◌≤◌, ◌↔◌, ℕ, IfOk, IsOk, OnOk, IfErr};
+ghost use Rattle.std.specs.Prelude.{◌≡◌, ◌≢◌, ◌<◌, ◌≤◌, ◌^◌, ◌↔◌, ℕ, IfOk, IsOk, OnOk, IfErr};
 ghost use Rattle.capnp_format.specs.Word.{kind, element_size};
 ghost use Rattle.capnp_pointers.specs.Sizes.{size_number};
 ghost use Rattle.capnp_objects.specs.Source.{source_segments};
-ghost use Rattle.capnp_objects.specs.Demands.{claim};
-ghost use Rattle.capnp_objects.specs.Reading.{reading_at};
+ghost use Rattle.capnp_objects.specs.Demands.{claim, IsStructList};
+ghost use Rattle.capnp_objects.specs.Reading.{reading_at, word_of};
 ghost use Rattle.capnp_objects.specs.Objects.{IsHeld, IsFew};
 ghost use Rattle.capnp_objects.specs.Landings.{target};
-ghost use Rattle.capnp_objects.specs.Measures.{IsVoidList, IsMeasured, CanBeMeasured, NotMeasured, step, PaysClaim, FailsMeasure, OpensMeasure};
+ghost use Rattle.capnp_objects.specs.Measures.{IsVoidList, IsReached, Measured, IsMeasured, CanBeMeasured, NotMeasured, near_at, step, PaysClaim, FailsMeasure, OpensMeasure};
 
 use super::{Landing, Source, depth_of};
 use crate::object::{Object, Place};
 use capnp_arena::arena::ReaderArena;
 use capnp_words::error::ErrorKind;
 use capnp_words::read_limiter::ReadLimiter;
-use capnp_words::wire_pointer::{ElementSize, WirePointerKind, data_bits_per_element};
+use capnp_words::wire_pointer::{ElementSize, WirePointer, WirePointerKind, data_bits_per_element};
 
 impl<'a, A: ReaderArena> Source<'a, A> {
     /// Reads the object that the pointer at a place leads to, and nothing below it, for its size
@@ -33,6 +33,7 @@ impl<'a, A: ReaderArena> Source<'a, A> {
     /// `MalformedDoubleFarPointer`, `UnknownPointerType`, `CantHandleNonStructInlineComposite`,
     /// `InlineCompositeListsElementsOverrunItsWordCount`, `TriedToReadFromNullArena` for a far
     /// pointer of a default, or `ReadLimitExceeded`. What was charged before it stays charged.
+    #[inline(never)]
     pub fn measure_object(
         self,
         place: Place<'a>,
@@ -49,15 +50,66 @@ impl<'a, A: ReaderArena> Source<'a, A> {
         if word.is_null() {
             return Ok(Object::Null);
         }
+        match self.reach(place, word, nesting_limit, lim) {
+            Ok(landing) => self.measure(landing, lim),
+            Err(k) => Err(k),
+        }
+    }
+
+    /// Reads, for its size alone, the object that a near pointer leads to, as `measure_object` does:
+    /// a struct or a list, but none of void and none of structs. It claims so many words, and starts
+    /// at this position of the pointer's own segment.
+    #[inline(always)]
+    pub fn measure_near(
+        self,
+        place: Place<'a>,
+        word: WirePointer,
+        words: u32,
+        nesting_limit: i32,
+        lim: &mut ReadLimiter,
+    ) -> Result<u32, ErrorKind>
+        requires held { IsHeld (source_segments A.segments self) place }
+        requires there { word.0 ≡ word_of (reading_at A.ReaderArena self place nesting_limit) }
+        requires small { word.0 < 2 ^ 64 }
+        requires some { word.0 ≢ 0 }
+        requires near { kind word.0 < 2 }
+        requires of_bits { IsVoidList word.0 → ⊥ }
+        requires untagged { IsStructList word.0 → ⊥ }
+        requires claimed { words ≡ claim word.0 }
+        ensures object { IfOk result (λ at. Measured (reading_at A.ReaderArena self.entry place.entry nesting_limit) lim.old lim.new (near_at (reading_at A.ReaderArena self.entry place.entry nesting_limit) at)) }
+        ensures refused { IfErr result (NotMeasured (reading_at A.ReaderArena self.entry place.entry nesting_limit) lim.old lim.new) }
+    {
+        let landing = match self.reach(place, word, nesting_limit, lim) {
+            Ok(landing) => landing,
+            Err(k) => return Err(k),
+        };
+        match self.claim_words(landing, words, lim) {
+            Ok(()) => Ok(landing.start.at),
+            Err(k) => Err(k),
+        }
+    }
+
+    // Takes a level for the pointer at a place, which is not zero, counts it, and follows it.
+    #[inline(always)]
+    fn reach(
+        self,
+        place: Place<'a>,
+        word: WirePointer,
+        nesting_limit: i32,
+        lim: &mut ReadLimiter,
+    ) -> Result<Landing<'a>, ErrorKind>
+        requires held { IsHeld (source_segments A.segments self) place }
+        requires there { word.0 ≡ word_of (reading_at A.ReaderArena self place nesting_limit) }
+        requires small { word.0 < 2 ^ 64 }
+        requires some { word.0 ≢ 0 }
+        ensures reached { IfOk result (IsReached (reading_at A.ReaderArena self.entry place.entry nesting_limit) lim.old lim.new) }
+        ensures refused { IfErr result (NotMeasured (reading_at A.ReaderArena self.entry place.entry nesting_limit) lim.old lim.new) }
+    {
         if depth_of(nesting_limit) == 0 {
             return Err(ErrorKind::MessageIsTooDeeplyNested);
         }
         self.count(lim);
-        let landing = match self.follow(place, word, nesting_limit, lim) {
-            Ok(landing) => landing,
-            Err(k) => return Err(k),
-        };
-        self.measure(landing, lim)
+        self.follow(place, word, nesting_limit, lim)
     }
 
     // Measures what a pointer leads to.

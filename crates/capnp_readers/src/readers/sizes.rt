@@ -1,20 +1,21 @@
 //! How many words and capabilities a value has, without reading its data.
-ghost use Rattle.std.specs.Prelude.{◌≡◌, ◌<◌, ◌≤◌, ◌+◌, ◌*◌, ◌-◌, ◌^◌, ◌↔◌, length, IsOk, IfOk, OnErr, IfErr};
-ghost use Rattle.capnp_format.specs.Segments.{segment};
+ghost use Rattle.std.specs.Prelude.{◌≡◌, ◌≢◌, ◌<◌, ◌≤◌, ◌+◌, ◌*◌, ◌-◌, ◌^◌, ◌↔◌, length, IsTrue, MatchOption, IsOk, IfOk, OnOk, IfErr};
+ghost use Rattle.capnp_format.specs.Word.{kind, element_size, list_count};
 ghost use Rattle.capnp_format.specs.Numbers.{words_for};
 ghost use Rattle.capnp_pointers.specs.Sizes.{size_number};
 ghost use Rattle.capnp_words.specs.declared.error.ErrorKind.TheVariants.{MessageTooLarge};
-ghost use Rattle.capnp_objects.specs.Reading.{row, sized};
+ghost use Rattle.capnp_objects.specs.Objects.{IsFew};
+ghost use Rattle.capnp_objects.specs.Reading.{row, sized, word_of};
 ghost use Rattle.capnp_objects.specs.Sizing.{FitSize, Totals, HasSize, SizeRefused, WalksPlace, WalksPointers, WalksRows, HaveSizes, SizeStops, SizesStop, RowsStop};
 ghost use Rattle.capnp_readers.specs.Readers.{reading};
-ghost use Rattle.capnp_readers.specs.Sizes.{begun, pointers_read, reading_on, so_far};
+ghost use Rattle.capnp_readers.specs.Sizes.{begun, pointers_read, reading_on, so_far, object_words, HasRows, HasNoRows};
 
 use crate::readers::{PointerReader, StructReader};
 use capnp_arena::arena::ReaderArena;
 use capnp_objects::object::{Object, Place};
 use capnp_words::error::ErrorKind;
 use capnp_words::read_limiter::ReadLimiter;
-use capnp_words::wire_pointer::{ElementSize, data_bits_per_element};
+use capnp_words::wire_pointer::{ElementSize, WirePointer, WirePointerKind, data_bits_per_element};
 
 /// The size of a value: of its objects, itself and all below, without landing pads.
 #[derive(Clone, Copy, Debug, PartialEq, Eq)]
@@ -47,14 +48,14 @@ impl<'a, A: ReaderArena> PointerReader<'a, A> {
         ensures exactly { IsOk result ↔ HasSize (reading A.ReaderArena self.now) lim.old }
         ensures refused { IfErr result (SizeRefused (reading A.ReaderArena self.now) lim.old lim.new) }
     {
-        let nothing = MessageSize {
+        let mut total = MessageSize {
             word_count: 0,
             cap_count: 0,
         };
-        if self.is_null() {
-            return Ok(nothing);
+        match add_object(self, self.place.at, self.nesting_limit, &mut total, lim) {
+            Ok(()) => Ok(total),
+            Err(k) => Err(k),
         }
-        size_of_rows(*self, 0, 1, 1, nothing, lim)
     }
 }
 
@@ -75,173 +76,318 @@ impl<'a, A: ReaderArena> StructReader<'a, A> {
             place: self.pointers,
             nesting_limit: self.nesting_limit,
         };
-        let own = MessageSize {
+        let mut total = MessageSize {
             word_count: (u64::from(self.bits) + 63) / 64 + u64::from(self.pointer_count),
             cap_count: 0,
         };
-        size_of_rows(first, 0, u32::from(self.pointer_count), 1, own, lim)
+        let at = self.pointers.at;
+        let count = u32::from(self.pointer_count);
+        match add_pointers(&first, at, count, self.nesting_limit, &mut total, lim) {
+            Ok(()) => Ok(total),
+            Err(k) => Err(k),
+        }
     }
 }
 
-/// The sums with so many words more.
-fn with_words(before: MessageSize, words: u64) -> Result<MessageSize, ErrorKind>
-    ensures exactly { IsOk result ↔ (before.word_count + words < 2 ^ 64) }
-    ensures sum { IfOk result (λ z. (z.word_count ≡ before.word_count + words) × (z.cap_count ≡ before.cap_count)) }
-    ensures fits { IfOk result (λ z. FitSize z.word_count z.cap_count) }
-    ensures named { IfErr result (λ k. k ≡ MessageTooLarge (2 ^ 64 - 1)) }
-{
-    match before.word_count.checked_add(words) {
-        Some(word_count) => Ok(MessageSize {
-            word_count,
-            cap_count: before.cap_count,
-        }),
-        None => Err(ErrorKind::MessageTooLarge(usize::MAX)),
+impl MessageSize {
+    // Adds words.
+    fn add_words(&mut self, words: u64) -> Result<(), ErrorKind>
+        ensures exactly { IsOk result ↔ (self.old.word_count + words < 2 ^ 64) }
+        ensures sum { OnOk result ((self.new.word_count ≡ self.old.word_count + words) × (self.new.cap_count ≡ self.old.cap_count)) }
+        ensures named { IfErr result (λ k. k ≡ MessageTooLarge (2 ^ 64 - 1)) }
+    {
+        match self.word_count.checked_add(words) {
+            Some(word_count) => {
+                self.word_count = word_count;
+                Ok(())
+            }
+            None => Err(ErrorKind::MessageTooLarge(usize::MAX)),
+        }
+    }
+
+    // Adds a capability.
+    fn add_capability(&mut self) -> Result<(), ErrorKind>
+        ensures exactly { IsOk result ↔ (self.old.cap_count + 1 < 2 ^ 32) }
+        ensures sum { OnOk result ((self.new.word_count ≡ self.old.word_count) × (self.new.cap_count ≡ self.old.cap_count + 1)) }
+        ensures named { IfErr result (λ k. k ≡ MessageTooLarge (2 ^ 64 - 1)) }
+    {
+        match self.cap_count.checked_add(1) {
+            Some(cap_count) => {
+                self.cap_count = cap_count;
+                Ok(())
+            }
+            None => Err(ErrorKind::MessageTooLarge(usize::MAX)),
+        }
     }
 }
 
-/// The sums with one capability more.
-fn with_capability(before: MessageSize) -> Result<MessageSize, ErrorKind>
-    ensures exactly { IsOk result ↔ (before.cap_count + 1 < 2 ^ 32) }
-    ensures sum { IfOk result (λ z. (z.word_count ≡ before.word_count) × (z.cap_count ≡ before.cap_count + 1)) }
-    ensures fits { IfOk result (λ z. FitSize z.word_count z.cap_count) }
-    ensures named { IfErr result (λ k. k ≡ MessageTooLarge (2 ^ 64 - 1)) }
-{
-    match before.cap_count.checked_add(1) {
-        Some(cap_count) => Ok(MessageSize {
-            word_count: before.word_count,
-            cap_count,
-        }),
-        None => Err(ErrorKind::MessageTooLarge(usize::MAX)),
-    }
+// The pointers of an object, in elements of equal size: a struct and a list of pointers are one
+// element, so that all pointers are gone over in one place.
+#[derive(Clone, Copy)]
+struct Rows<'a> {
+    // The first word of the first element.
+    start: Place<'a>,
+    // How many words stand before the pointers of an element.
+    data_words: u32,
+    // How many pointers an element has.
+    pointers: u32,
+    // How many elements there are.
+    count: u32,
 }
 
-/// The sums with those of what the pointer at a position leads to.
+// Adds the sizes of so many pointers, one behind the other from a position on. A struct in the same
+// segment is entered by its position alone, and the reader of the segment serves it too.
 #[cycle(sizes)]
-fn size_of_place<A: ReaderArena>(
-    from: PointerReader<'_, A>,
+fn add_pointers<A: ReaderArena>(
+    from: &PointerReader<'_, A>,
     at: u32,
-    before: MessageSize,
+    count: u32,
+    nesting_limit: i32,
+    total: &mut MessageSize,
     lim: &mut ReadLimiter,
-) -> Result<MessageSize, ErrorKind>
-    ensures sized { IfOk result (λ z. WalksPlace (reading_on A.ReaderArena from.entry at) (so_far before lim.old) (so_far z lim.new)) }
-    ensures fits { IfOk result (λ z. FitSize z.word_count z.cap_count) }
-    ensures refused { IfErr result (λ k. SizeStops k (reading_on A.ReaderArena from.entry at) (so_far before lim.old) lim.new) }
+) -> Result<(), ErrorKind>
+    requires inside { at + count ≤ length (row (reading A.ReaderArena from.now)) }
+    requires fits { FitSize total.old.word_count total.old.cap_count }
+    ensures sized { OnOk result (WalksPointers (reading_on A.ReaderArena from.now at nesting_limit) count (so_far total.old lim.old) (so_far total.new lim.new)) }
+    ensures fits { OnOk result (FitSize total.new.word_count total.new.cap_count) }
+    ensures refused { IfErr result (SizesStop (reading_on A.ReaderArena from.now at nesting_limit) count (so_far total.old lim.old) lim.new) }
+{
+    for i in 0..count {
+        match add_pointer(from, at + i, nesting_limit, total, lim) {
+            Ok(()) => {}
+            Err(k) => return Err(k),
+        }
+    }
+    Ok(())
+}
+
+// Adds the size of what the pointer at a position leads to.
+#[cycle(sizes)]
+#[inline(always)]
+fn add_pointer<A: ReaderArena>(
+    from: &PointerReader<'_, A>,
+    at: u32,
+    nesting_limit: i32,
+    total: &mut MessageSize,
+    lim: &mut ReadLimiter,
+) -> Result<(), ErrorKind>
+    requires fits { FitSize total.old.word_count total.old.cap_count }
+    ensures sized { OnOk result (WalksPlace (reading_on A.ReaderArena from.now at nesting_limit) (so_far total.old lim.old) (so_far total.new lim.new)) }
+    ensures fits { OnOk result (FitSize total.new.word_count total.new.cap_count) }
+    ensures refused { IfErr result (λ k. SizeStops k (reading_on A.ReaderArena from.now at nesting_limit) (so_far total.old lim.old) lim.new) }
+{
+    let word = Place { at, ..from.place }.word();
+    if word.is_null() {
+        return Ok(());
+    }
+    match word.kind() {
+        WirePointerKind::Struct => add_struct(from, at, word, nesting_limit, total, lim),
+        WirePointerKind::List if is_of_bits(word) => {
+            add_flat(from, at, word, nesting_limit, total, lim)
+        }
+        _ => add_object(from, at, nesting_limit, total, lim),
+    }
+}
+
+// Adds the size of the struct that the word at a position describes.
+#[cycle(sizes)]
+#[inline(always)]
+fn add_struct<A: ReaderArena>(
+    from: &PointerReader<'_, A>,
+    at: u32,
+    word: WirePointer,
+    nesting_limit: i32,
+    total: &mut MessageSize,
+    lim: &mut ReadLimiter,
+) -> Result<(), ErrorKind>
+    requires there { word.0 ≡ word_of (reading_on A.ReaderArena from.now at nesting_limit) }
+    requires small { word.0 < 2 ^ 64 }
+    requires some { word.0 ≢ 0 }
+    requires is_struct { kind word.0 ≡ 0 }
+    requires fits { FitSize total.old.word_count total.old.cap_count }
+    ensures sized { OnOk result (WalksPlace (reading_on A.ReaderArena from.now at nesting_limit) (so_far total.old lim.old) (so_far total.new lim.new)) }
+    ensures fits { OnOk result (FitSize total.new.word_count total.new.cap_count) }
+    ensures refused { IfErr result (λ k. SizeStops k (reading_on A.ReaderArena from.now at nesting_limit) (so_far total.old lim.old) lim.new) }
 {
     let place = Place { at, ..from.place };
-    let object = match from.source.measure_object(place, from.nesting_limit, lim) {
+    let words = word.struct_word_size();
+    let start = match from
+        .source
+        .measure_near(place, word, words, nesting_limit, lim)
+    {
+        Ok(start) => start,
+        Err(k) => return Err(k),
+    };
+    match total.add_words(u64::from(words)) {
+        Ok(()) => {}
+        Err(k) => return Err(k),
+    }
+    let size = word.struct_size();
+    let first = start + u32::from(size.data_words);
+    let count = u32::from(size.pointers);
+    add_pointers(from, first, count, nesting_limit - 1, total, lim)
+}
+
+// Adds the size of the list of bits or bytes that the word at a position describes.
+#[inline(always)]
+fn add_flat<A: ReaderArena>(
+    from: &PointerReader<'_, A>,
+    at: u32,
+    word: WirePointer,
+    nesting_limit: i32,
+    total: &mut MessageSize,
+    lim: &mut ReadLimiter,
+) -> Result<(), ErrorKind>
+    requires there { word.0 ≡ word_of (reading_on A.ReaderArena from.now at nesting_limit) }
+    requires small { word.0 < 2 ^ 64 }
+    requires some { word.0 ≢ 0 }
+    requires is_list { kind word.0 ≡ 1 }
+    requires of_bits { (0 < element_size word.0) × (element_size word.0 ≤ 5) }
+    requires fits { FitSize total.old.word_count total.old.cap_count }
+    ensures sized { OnOk result (WalksPlace (reading_on A.ReaderArena from.now at nesting_limit) (so_far total.old lim.old) (so_far total.new lim.new)) }
+    ensures fits { OnOk result (FitSize total.new.word_count total.new.cap_count) }
+    ensures refused { IfErr result (λ k. SizeStops k (reading_on A.ReaderArena from.now at nesting_limit) (so_far total.old lim.old) lim.new) }
+{
+    let place = Place { at, ..from.place };
+    let words = flat_words(word.list_element_size(), word.list_element_count());
+    match from
+        .source
+        .measure_near(place, word, words, nesting_limit, lim)
+    {
+        Ok(_) => total.add_words(u64::from(words)),
+        Err(k) => Err(k),
+    }
+}
+
+// Adds the size of what the pointer at a position leads to, be it near or far, and of any kind. It
+// stands apart from the loop over pointers, so that a level in the same segment takes little stack.
+#[cycle(sizes)]
+#[inline(never)]
+fn add_object<A: ReaderArena>(
+    from: &PointerReader<'_, A>,
+    at: u32,
+    nesting_limit: i32,
+    total: &mut MessageSize,
+    lim: &mut ReadLimiter,
+) -> Result<(), ErrorKind>
+    requires fits { FitSize total.old.word_count total.old.cap_count }
+    ensures sized { OnOk result (WalksPlace (reading_on A.ReaderArena from.now at nesting_limit) (so_far total.old lim.old) (so_far total.new lim.new)) }
+    ensures fits { OnOk result (FitSize total.new.word_count total.new.cap_count) }
+    ensures refused { IfErr result (λ k. SizeStops k (reading_on A.ReaderArena from.now at nesting_limit) (so_far total.old lim.old) lim.new) }
+{
+    let place = Place { at, ..from.place };
+    let object = match from.source.measure_object(place, nesting_limit, lim) {
         Ok(object) => object,
         Err(k) => return Err(k),
     };
-    match object {
-        Object::Null => Ok(before),
-        Object::Capability(_) => with_capability(before),
-        Object::Flat { size, count, .. } => {
-            with_words(before, u64::from(flat_words(size, count)))
-        }
-        Object::Struct { start, size } => {
-            let total = match with_words(before, u64::from(size.total())) {
-                Ok(total) => total,
-                Err(k) => return Err(k),
-            };
-            if size.pointers == 0 {
-                return Ok(total);
-            }
-            let inner = PointerReader {
-                source: from.source,
-                place: start,
-                nesting_limit: from.nesting_limit - 1,
-            };
-            let data_words = u32::from(size.data_words);
-            let pointers = u32::from(size.pointers);
-            size_of_rows(inner, data_words, pointers, 1, total, lim)
-        }
-        Object::Pointers { start, count } => {
-            let total = match with_words(before, u64::from(count)) {
-                Ok(total) => total,
-                Err(k) => return Err(k),
-            };
-            let inner = PointerReader {
-                source: from.source,
-                place: start,
-                nesting_limit: from.nesting_limit - 1,
-            };
-            size_of_rows(inner, 0, count, 1, total, lim)
-        }
-        Object::Structs { start, size, count } => {
-            let words = 1 + u64::from(count) * u64::from(size.total());
-            let total = match with_words(before, words) {
-                Ok(total) => total,
-                Err(k) => return Err(k),
-            };
-            let inner = PointerReader {
-                source: from.source,
-                place: start,
-                nesting_limit: from.nesting_limit - 1,
-            };
-            let data_words = u32::from(size.data_words);
-            let pointers = u32::from(size.pointers);
-            size_of_rows(inner, data_words, pointers, count, total, lim)
-        }
+    match total.add_words(words_of_object(object)) {
+        Ok(()) => {}
+        Err(k) => return Err(k),
     }
+    if let Object::Capability(_) = object {
+        return total.add_capability();
+    }
+    let Some(rows) = rows_of_object(object) else {
+        return Ok(());
+    };
+    let inner = PointerReader {
+        source: from.source,
+        place: rows.start,
+        nesting_limit: nesting_limit - 1,
+    };
+    add_rows(
+        &inner,
+        rows.data_words,
+        rows.pointers,
+        rows.count,
+        total,
+        lim,
+    )
 }
 
-/// The sums with those of so many pointers, one behind the other from a position on.
+// Adds the sizes of the pointers of so many elements, one behind the other, each of so many data
+// words and pointers.
 #[cycle(sizes)]
-fn size_of_children<A: ReaderArena>(
-    from: PointerReader<'_, A>,
-    at: u32,
-    count: u32,
-    before: MessageSize,
-    lim: &mut ReadLimiter,
-) -> Result<MessageSize, ErrorKind>
-    requires inside { at + count ≤ length (row (reading A.ReaderArena from)) }
-    ensures sized { IfOk result (λ z. WalksPointers (reading_on A.ReaderArena from.entry at) count (so_far before lim.old) (so_far z lim.new)) }
-    ensures fits { IfOk result (λ z. FitSize z.word_count z.cap_count) }
-    ensures refused { IfErr result (SizesStop (reading_on A.ReaderArena from.entry at) count (so_far before lim.old) lim.new) }
-{
-    let mut total = before;
-    for i in 0..count {
-        total = match size_of_place(from, at + i, total, lim) {
-            Ok(total) => total,
-            Err(k) => return Err(k),
-        };
-    }
-    Ok(total)
-}
-
-/// The sums with those of the pointers of so many elements, one behind the other, each of so many
-/// data words and pointers. A struct is one element, and so is a list of pointers: so all pointers
-/// are gone over in one place, which the compiler makes one loop of.
-#[cycle(sizes)]
-fn size_of_rows<A: ReaderArena>(
-    from: PointerReader<'_, A>,
+fn add_rows<A: ReaderArena>(
+    from: &PointerReader<'_, A>,
     data_words: u32,
     pointers: u32,
     count: u32,
-    before: MessageSize,
+    total: &mut MessageSize,
     lim: &mut ReadLimiter,
-) -> Result<MessageSize, ErrorKind>
-    requires inside { from.place.at + count * (data_words + pointers) ≤ length (row (reading A.ReaderArena from)) }
-    ensures sized { IfOk result (λ z. WalksRows (reading A.ReaderArena from.entry) (sized data_words pointers) count (so_far before lim.old) (so_far z lim.new)) }
-    ensures fits { IfOk result (λ z. FitSize z.word_count z.cap_count) }
-    ensures refused { IfErr result (RowsStop (reading A.ReaderArena from.entry) (sized data_words pointers) count (so_far before lim.old) lim.new) }
+) -> Result<(), ErrorKind>
+    requires inside { from.now.place.at + count * (data_words + pointers) ≤ length (row (reading A.ReaderArena from.now)) }
+    requires fits { FitSize total.old.word_count total.old.cap_count }
+    ensures sized { OnOk result (WalksRows (reading A.ReaderArena from.now) (sized data_words pointers) count (so_far total.old lim.old) (so_far total.new lim.new)) }
+    ensures fits { OnOk result (FitSize total.new.word_count total.new.cap_count) }
+    ensures refused { IfErr result (RowsStop (reading A.ReaderArena from.now) (sized data_words pointers) count (so_far total.old lim.old) lim.new) }
 {
     if pointers == 0 {
-        return Ok(before);
+        return Ok(());
     }
     let width = u64::from(data_words) + u64::from(pointers);
-    let mut total = before;
     for i in 0..count {
         let at = u64::from(from.place.at) + u64::from(i) * width + u64::from(data_words);
-        total = match size_of_children(from, at as u32, pointers, total, lim) {
-            Ok(total) => total,
+        match add_pointers(from, at as u32, pointers, from.nesting_limit, total, lim) {
+            Ok(()) => {}
             Err(k) => return Err(k),
-        };
+        }
     }
-    Ok(total)
+    Ok(())
 }
 
-/// How many words so many elements take.
+// How many words of its own an object counts; a list of structs its tag and its elements.
+fn words_of_object(object: Object) -> u64
+    requires { IsFew object }
+    ensures { result ≡ object_words object.entry }
+{
+    match object {
+        Object::Null | Object::Capability(_) => 0,
+        Object::Flat { size, count, .. } => u64::from(flat_words(size, count)),
+        Object::Struct { size, .. } => u64::from(size.total()),
+        Object::Pointers { count, .. } => u64::from(count),
+        Object::Structs { size, count, .. } => 1 + u64::from(count) * u64::from(size.total()),
+    }
+}
+
+// The pointers of an object; there are none of what is null, a capability, or a list of bits.
+fn rows_of_object(object: Object) -> Option<Rows>
+    ensures { MatchOption result (HasNoRows object.entry) (HasRows object.entry) }
+{
+    match object {
+        Object::Null | Object::Capability(_) | Object::Flat { .. } => None,
+        Object::Struct { start, size } => Some(Rows {
+            start,
+            data_words: u32::from(size.data_words),
+            pointers: u32::from(size.pointers),
+            count: 1,
+        }),
+        Object::Pointers { start, count } => Some(Rows {
+            start,
+            data_words: 0,
+            pointers: count,
+            count: 1,
+        }),
+        Object::Structs { start, size, count } => Some(Rows {
+            start,
+            data_words: u32::from(size.data_words),
+            pointers: u32::from(size.pointers),
+            count,
+        }),
+    }
+}
+
+// Whether the elements of a list are of bits or bytes: no pointers, no structs, and not void.
+fn is_of_bits(word: WirePointer) -> bool
+    ensures { IsTrue result ↔ (0 < element_size word.0) × (element_size word.0 ≤ 5) }
+{
+    !matches!(
+        word.list_element_size(),
+        ElementSize::Void | ElementSize::Pointer | ElementSize::InlineComposite
+    )
+}
+
+// How many words so many elements take.
 fn flat_words(size: ElementSize, count: u32) -> u32
     requires { count < 2 ^ 29 }
     ensures { result ≡ words_for (size_number size) count }

@@ -1,0 +1,30 @@
+use Rattle.std.proofs.Common.{rules, ◌∙◌, ◌^◌, ◌-◌, ap, IsOk, subst}
+use Rattle.std.proofs.lemmas.Result.{IfErr-weaker}
+use Rattle.capnp_format.specs.Bytes.{message}
+use Rattle.capnp_format.specs.Segments.{Segments}
+use Rattle.capnp_objects.specs.Source.{levels}
+use Rattle.capnp_layout.specs.Answers.{CoversRoot, root_of}
+use Rattle.capnp_layout.specs.Answers.RefusesMessage.{beyond_limits}
+use Rattle.capnp_layout.specs.Messages.{segments_in}
+use Rattle.capnp_layout.proofs.CheckLemmas.{AtRoot, check_answered, check_answers, check_refused}
+use Rattle.capnp_layout.proofs.tool.check.is_canonical.Goals as goal
+
+pub returns-in-Err-clause-refused : goal.returns-in-Err-clause-refused
+returns-in-Err-clause-refused c =
+    beyond_limits (2 ^ 64 - 1) c.in-Err.ensures.named (λ small. (let read : IsOk c.open.result = c.open.ensures.small.1 small in absurd (search rules)))
+
+pub returns : goal.returns
+returns c =
+    let read : IsOk c.read_root.result = search rules in
+    let same = c.in-Ok.ensures.words in
+    let at_root : AtRoot (segments_in c.args.source) c.args.options _ c.in_ok-root.lim = record {
+      place = c.in_ok-root.ensures.place ∙ ap (λ (S : Segments). root_of S (levels c.in-Ok.arena.nesting_limit)) same ∙ ap (λ n. root_of (message (segments_in c.args.source)) (levels n)) c.in-Ok.ensures.nesting;
+      left = c.in_ok-root.ensures.left;
+      covers = subst (λ (S : Segments). CoversRoot S c.args.options.traversal_limit_in_words) same (c.read_root.ensures.exactly.0 read);
+    } in
+    record {
+      small = search rules;
+      check = check_answers c.is_canonical.result _ at_root c.is_canonical.ensures.exactly c.is_canonical.ensures.found;
+      answered = λ small canonical. check_answered c.is_canonical.result _ at_root c.is_canonical.ensures.refused canonical;
+      refused = IfErr-weaker c.is_canonical.result _ _ (λ k. check_refused at_root) c.is_canonical.ensures.refused;
+    }

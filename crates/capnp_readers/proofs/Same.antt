@@ -1,0 +1,67 @@
+-- What the test for canonical form tells of the values that it finds, and when two of them are the same.
+-- The lemmas take a place, a head and what stands there one by one, as `Stands` has them.
+use Rattle.std.proofs.Common.{◌≡◌, ℕ, ◌-◌, List, ◌∷◌, length, sym, ap, ap₂, ◌∙◌, subst, arith}
+use Rattle.capnp_format.specs.Segments.{Segments, words_at, HasWords}
+use Rattle.capnp_format.specs.Tree.{Tree}
+use Rattle.capnp_format.specs.Canonical.{word_count, pointer, body, offset_to, Stands}
+use Rattle.capnp_format.proofs.Lengths.{length-body}
+use Rattle.capnp_format.proofs.Unique.{Standing}
+use Rattle.capnp_format.proofs.LawLemmas.{one_stands}
+use Rattle.capnp_objects.specs.Reading.{Reading}
+use Rattle.capnp_readers.specs.Checking.{Progress, Finds}
+use Rattle.capnp_readers.specs.Laws.{TwiceTheDepth, FoundIsMeant, words_tested, SameWords}
+use Rattle.capnp_readers.proofs.Takes.{levels_twice, checked_means}
+
+pub twice_the_depth : TwiceTheDepth
+twice_the_depth t = levels_twice t
+
+pub found_is_meant : FoundIsMeant
+found_is_meant r from to t f = checked_means r.segments r.levels r.segment r.at from.head t f.levels f.inside f.stands
+
+-- The canonical words of a value where its pointer is at position p and its body at the head h.
+abbrev standing_words : ℕ → ℕ → Tree → List ℕ
+standing_words p h t = pointer t (offset_to p h) ∷ body t
+
+-- Lists of at least one element are the same only if their first elements are, and so are the rests.
+same_first : (x y : ℕ) (xs ys : List ℕ) → x ∷ xs ≡ y ∷ ys → x ≡ y
+same_first x y xs ys e = cc
+
+same_rest : (x y : ℕ) (xs ys : List ℕ) → x ∷ xs ≡ y ∷ ys → xs ≡ ys
+same_rest x y xs ys e = cc
+
+-- As many words as a body has are the body.
+words_of_body : (S : Segments) (s h n : ℕ) (ws : List ℕ) → HasWords S s h ws → n ≡ length ws → words_at S s h n ≡ ws
+words_of_body S s h n ws a e = ap (λ m. words_at S s h m) e ∙ a
+
+-- The words that a test has gone over are the canonical words of the value that it has found.
+tested_words : (r : Reading) (from to : Progress) (t : Tree) → Finds r from to t → words_tested r from to ≡ standing_words r.at from.head t
+tested_words r from to t f =
+    let a = f.stands in
+    let l : length (body t) ≡ word_count t = length-body t a.1 in
+    let e = f.head_is in
+    let n : to.head - from.head ≡ length (body t) = omega (arith, l, e) in
+    ap₂ (λ (x : ℕ) (xs : List ℕ). x ∷ xs) (a.5.1) (words_of_body r.segments r.segment from.head (to.head - from.head) (body t) (a.5.2) n)
+
+-- A value that has the same canonical words as one that stands at a place stands there too, if it stands so in any message.
+stands_by_words : {S R : Segments} {s i p h : ℕ} {t u : Tree} → Standing S s p h t → Standing R i p h u → standing_words p h t ≡ standing_words p h u → Standing S s p h u
+stands_by_words {S = S} {s = s} {p = p} {h = h} {t = t} {u = u} left right e =
+    let a = left.stands in
+    let b = right.stands in
+    let first : pointer t (offset_to p h) ≡ pointer u (offset_to p h) = same_first (pointer t (offset_to p h)) (pointer u (offset_to p h)) (body t) (body u) e in
+    let rest : body t ≡ body u = same_rest (pointer t (offset_to p h)) (pointer u (offset_to p h)) (body t) (body u) e in
+    record { stands = (a.0, b.1, b.2, b.3, b.4, (b.5.0, a.5.1 ∙ first, subst (λ ws. HasWords S s h ws) rest (a.5.2))) }
+
+-- So both are the same value.
+same_by_words : {S R : Segments} {s i p h : ℕ} {t u : Tree} → Standing S s p h t → Standing R i p h u → standing_words p h t ≡ standing_words p h u → t ≡ u
+same_by_words {S = S} {s = s} {p = p} {h = h} {t = t} {u = u} left right e =
+    let other = stands_by_words left right e in
+    one_stands S s p h t u left.stands other.stands
+
+pub same_words : SameWords
+same_words r q from to start end t u f g at head =
+    let left = tested_words r from to t f in
+    let right : words_tested q start end ≡ standing_words r.at from.head u = tested_words q start end u g ∙ ap₂ (λ p h. standing_words p h u) (sym at) (sym head) in
+    let a : Standing r.segments r.segment r.at from.head t = record { stands = f.stands } in
+    let b : Standing q.segments q.segment r.at from.head u =
+    record { stands = subst (λ p. Stands q.segments q.segment p from.head u) (sym at) (subst (λ h. Stands q.segments q.segment q.at h u) (sym head) g.stands) } in
+    (λ e. same_by_words a b (sym left ∙ e ∙ right), λ e. left ∙ ap (λ v. standing_words r.at from.head v) e ∙ sym right)

@@ -1,0 +1,239 @@
+use Rattle.std.proofs.Common.{◌≡◌, ℕ, slice_index, nat_eq, cond, pred, ◌+◌, ◌*◌, ◌<◌, ◌≤◌, ◌↔◌, ◌⊎◌, IsTrue, length, refl, sym, ap, ap₂, ◌∙◌, subst, arith, rules}
+use Rattle.std.proofs.lemmas.Bool.{false≢true}
+use Rattle.std.proofs.lemmas.Int.{to_z-of_z}
+use mir.Syntax.{w32}
+use Rattle.capnp_format.specs.Word.{data_words, pointer_count, list_count}
+use Rattle.capnp_format.specs.Segments.{segment}
+use Rattle.capnp_format.specs.Tree.{no_trees}
+use Rattle.capnp_objects.specs.declared.object.Object.TheVariants.{Struct as ObjectStruct, Flat as ObjectFlat, Pointers as ObjectPointers, Structs as ObjectStructs}
+use Rattle.capnp_objects.specs.Source.{levels}
+use Rattle.capnp_objects.specs.Objects.{IsObject}
+use Rattle.capnp_objects.specs.Reading.{Reading, row, behind, word_of}
+use Rattle.capnp_objects.proofs.Walked.{row_within}
+use Rattle.capnp_readers.specs.Sizes.{reading_on}
+use Rattle.capnp_readers.specs.Checking.{IsTested, Progress, progress, StartsRight, TellsStruct, TellsAll, TellsClaimed, TestsStop, RowTestsStop, AreFoundRows, here}
+use Rattle.capnp_readers.proofs.Walking.{ok_so, err_so}
+use Rattle.capnp_readers.proofs.Checks.{tested, finds_none, pointer_found, pointer_never, unplaced_never, null_found_at, empty_tells, flat_tells, struct_tells, pointers_tell, structs_tell, struct_stops, pointers_stop, structs_stop, pointers_room, structs_room, some_right, two_levels_fall, place_begins, elements_begin, pointers_here, structs_here, struct_object, none_seen, row_seen, row_never, rows_unused, empties_found, still_seen, seen_now, RowDataUsed, RowPointersUsed}
+use Rattle.capnp_readers.proofs.readers.canonical.+tests.Goals.{test_rows-then-is_data_used, test_rows-else-is_data_used, test_rows-then-are_pointers_used, test_rows-else-are_pointers_used, test_rows-else-is_data_used-2-via-then-is_data_used-2+else-are_pointers_used-2, test_rows-else-is_data_used-2-via-else-is_data_used-2}
+use Rattle.capnp_readers.proofs.readers.canonical.+tests.Goals as goal
+
+pub test_children-loop-i-init : goal.test_children-loop-i-init
+test_children-loop-i-init g t c =
+    let nl = to_z-of_z w32 c.args.nesting_limit (search rules) in
+    rw nl (no_trees, refl, finds_none (reading_on g.A.ReaderArena c.args.from.now c.args.at c.args.nesting_limit) (progress c.args.first c.args.lim.now))
+
+pub test_children-returns-in-Ok-None-clause-tells : goal.test_children-returns-in-Ok-None-clause-tells
+test_children-returns-in-Ok-None-clause-tells g t c =
+    let from : Progress = progress c.args.first c.args.lim.now in
+    pointer_never from c.args.count c.loop-i.invariant c.loop-i-test.true (rw c.in-Ok-None.field-0-is at c.in-Ok-None.ensures.tells)
+
+pub test_children-loop-i-preserved : goal.test_children-loop-i-preserved
+test_children-loop-i-preserved g t c =
+    pointer_found c.loop-i.invariant (rw c.in-Ok-Some.field-0-is at c.in-Ok-Some.ensures.tells)
+
+pub test_place-returns-then-is_null-clause-tells : goal.test_place-returns-then-is_null-clause-tells
+test_place-returns-then-is_null-clause-tells g t c =
+    let r : Reading = reading_on g.A.ReaderArena c.args.from.now c.args.at c.args.nesting_limit in
+    let bytes = c.args.from.now.place.bytes.now in
+    let word : c.word-word.result.0 ≡ word_of r = c.word-word.ensures.value ∙ ap (λ ws. slice_index ws c.args.at) c.args.from.now.held.0 in
+    let ready : IsTested r = tested r bytes c.args.from.now.held.0 c.whole_words.ensures.small (omega (arith, c.whole_words.ensures.count, c.if-at-whole_words.false)) (rw c.word-word.ensures.value at (c.is_positional.ensures.0 c.if-not-is_positional.false)) in
+    null_found_at {r = r} {from = progress c.args.head c.args.lim.now} ready (sym word ∙ c.is_null.ensures.0 c.if-is_null.true) refl
+
+pub test_struct-returns-in-Err-clause-refused : goal.test_struct-returns-in-Err-clause-refused
+test_struct-returns-in-Err-clause-refused g t c =
+    let r : Reading = reading_on g.A.ReaderArena c.args.from.now c.args.at c.args.nesting_limit in
+    let ready : IsTested r = c.requires.tested in
+    let nl = to_z-of_z w32 c.args.nesting_limit (search rules) in
+    here (record { name = c.in-Err.kind; near = ready.near; stopped = rw nl at c.in-Err.ensures.refused; named = rw c.requires.there at c.name_of_refusal.ensures })
+
+pub test_list-returns-in-Err-clause-refused : goal.test_list-returns-in-Err-clause-refused
+test_list-returns-in-Err-clause-refused g t c =
+    let r : Reading = reading_on g.A.ReaderArena c.args.from.now c.args.at c.args.nesting_limit in
+    let ready : IsTested r = c.requires.tested in
+    let nl = to_z-of_z w32 c.args.nesting_limit (search rules) in
+    here (record { name = c.in-Err.kind; near = ready.near; stopped = rw nl at c.in-Err.ensures.refused; named = rw c.requires.there at c.name_of_refusal.ensures })
+
+pub test_list-returns-then-not-starts_right-clause-tells : goal.test_list-returns-then-not-starts_right-clause-tells
+test_list-returns-then-not-starts_right-clause-tells g t c =
+    let r : Reading = reading_on g.A.ReaderArena c.args.from.now c.args.at c.args.nesting_limit in
+    let ready : IsTested r = c.requires.tested in
+    let nl = to_z-of_z w32 c.args.nesting_limit (search rules) in
+    let object : IsObject r c.args.lim.now c.read_object.new.lim c.in-Ok.object = rw nl at c.in-Ok.ensures.object in
+    unplaced_never r c.args.lim.now c.read_object.new.lim c.args.head c.in-Ok.object ready object (λ right. false≢true (sym c.if-not-starts_right.true ∙ c.starts_right.ensures.1 right))
+
+pub test_list-returns-in-Flat-clause-tells : goal.test_list-returns-in-Flat-clause-tells
+test_list-returns-in-Flat-clause-tells g t c =
+    let r : Reading = reading_on g.A.ReaderArena c.args.from.now c.args.at c.args.nesting_limit in
+    let ready : IsTested r = c.requires.tested in
+    let nl = to_z-of_z w32 c.args.nesting_limit (search rules) in
+    let object : IsObject r c.args.lim.now c.read_object.new.lim (ObjectFlat c.in-Flat.start c.in-Flat.size c.in-Flat.count) = rw nl at (rw c.in-Flat.is at c.in-Ok.ensures.object) in
+    let right : StartsRight (ObjectFlat c.in-Flat.start c.in-Flat.size c.in-Flat.count) c.args.at c.args.head = rw c.in-Flat.is at (c.starts_right.ensures.0 c.if-not-starts_right.false) in
+    flat_tells {r = r} (progress c.args.head c.args.lim.now) c.in-Flat.start c.in-Flat.size c.in-Flat.count c.test_flat.result ready object right c.test_flat.ensures
+
+pub test_list-returns-in-Pointers-clause-tells : goal.test_list-returns-in-Pointers-clause-tells
+test_list-returns-in-Pointers-clause-tells g t c =
+    let r : Reading = reading_on g.A.ReaderArena c.args.from.now c.args.at c.args.nesting_limit in
+    let ready : IsTested r = c.requires.tested in
+    let nl = to_z-of_z w32 c.args.nesting_limit (search rules) in
+    let object : IsObject r c.args.lim.now c.read_object.new.lim (ObjectPointers c.in-Pointers.start c.in-Pointers.count) = rw nl at (rw c.in-Pointers.is at c.in-Ok.ensures.object) in
+    let right : StartsRight (ObjectPointers c.in-Pointers.start c.in-Pointers.count) c.args.at c.args.head = rw c.in-Pointers.is at (c.starts_right.ensures.0 c.if-not-starts_right.false) in
+    let nm = to_z-of_z w32 c.less.result (search rules) in
+    let there = place_begins r c.in-Pointers.start (rw nl at c.less.ensures) (pointers_here {r = r} c.in-Pointers.start c.in-Pointers.count ready object) in
+    ok_so c.test_children.result c.test_children.ensures.tells (λ o h. pointers_tell {r = r} (progress c.args.head c.args.lim.now) c.test_children.new.lim c.in-Pointers.start c.in-Pointers.count o ready object right
+    (subst (λ x. TellsAll x c.in-Pointers.count (progress (c.in-Pointers.start.at + c.in-Pointers.count) c.read_object.new.lim) c.test_children.new.lim o) there (rw nm at h)))
+
+pub test_list-returns-in-Pointers-clause-refused : goal.test_list-returns-in-Pointers-clause-refused
+test_list-returns-in-Pointers-clause-refused g t c =
+    let r : Reading = reading_on g.A.ReaderArena c.args.from.now c.args.at c.args.nesting_limit in
+    let ready : IsTested r = c.requires.tested in
+    let nl = to_z-of_z w32 c.args.nesting_limit (search rules) in
+    let object : IsObject r c.args.lim.now c.read_object.new.lim (ObjectPointers c.in-Pointers.start c.in-Pointers.count) = rw nl at (rw c.in-Pointers.is at c.in-Ok.ensures.object) in
+    let right : StartsRight (ObjectPointers c.in-Pointers.start c.in-Pointers.count) c.args.at c.args.head = rw c.in-Pointers.is at (c.starts_right.ensures.0 c.if-not-starts_right.false) in
+    let nm = to_z-of_z w32 c.less.result (search rules) in
+    let there = place_begins r c.in-Pointers.start (rw nl at c.less.ensures) (pointers_here {r = r} c.in-Pointers.start c.in-Pointers.count ready object) in
+    err_so c.test_children.result c.test_children.ensures.refused (λ k h. pointers_stop {r = r} {from = progress c.args.head c.args.lim.now} c.in-Pointers.start c.in-Pointers.count ready object right
+    (subst (λ x. TestsStop x c.in-Pointers.count (progress (c.in-Pointers.start.at + c.in-Pointers.count) c.read_object.new.lim) c.test_children.new.lim k) there (rw nm at h)))
+
+pub test_list-returns-in-Structs-clause-tells : goal.test_list-returns-in-Structs-clause-tells
+test_list-returns-in-Structs-clause-tells g t c =
+    let r : Reading = reading_on g.A.ReaderArena c.args.from.now c.args.at c.args.nesting_limit in
+    let ready : IsTested r = c.requires.tested in
+    let nl = to_z-of_z w32 c.args.nesting_limit (search rules) in
+    let object : IsObject r c.args.lim.now c.read_object.new.lim (ObjectStructs c.in-Structs.start c.in-Structs.size c.in-Structs.count) = rw nl at (rw c.in-Structs.is at c.in-Ok.ensures.object) in
+    let right : StartsRight (ObjectStructs c.in-Structs.start c.in-Structs.size c.in-Structs.count) c.args.at c.args.head = rw c.in-Structs.is at (c.starts_right.ensures.0 c.if-not-starts_right.false) in
+    let nm = to_z-of_z w32 c.less-in-Structs.result (search rules) in
+    let nk = to_z-of_z w32 c.less-inner.result (search rules) in
+    let there = elements_begin r c.in-Structs.start ((rw nm at c.less-inner.ensures) ∙ ap pred (rw nl at c.less-in-Structs.ensures)) (structs_here {r = r} c.in-Structs.start c.in-Structs.size c.in-Structs.count ready object) in
+    let claimed : c.list_inline_composite_word_count-claimed.result ≡ list_count (word_of r) = c.list_inline_composite_word_count-claimed.ensures.value ∙ ap list_count c.requires.there in
+    ok_so c.test_structs.result c.test_structs.ensures.tells (λ o h. structs_tell {r = r} (progress c.args.head c.args.lim.now) c.test_structs.new.lim c.in-Structs.start c.in-Structs.size c.in-Structs.count o ready object right
+    (subst (λ x. TellsClaimed x c.in-Structs.size c.in-Structs.count (list_count (word_of r)) c.read_object.new.lim c.test_structs.new.lim o) there (rw (nk, claimed) at h)))
+
+pub test_list-returns-in-Structs-clause-refused : goal.test_list-returns-in-Structs-clause-refused
+test_list-returns-in-Structs-clause-refused g t c =
+    let r : Reading = reading_on g.A.ReaderArena c.args.from.now c.args.at c.args.nesting_limit in
+    let ready : IsTested r = c.requires.tested in
+    let nl = to_z-of_z w32 c.args.nesting_limit (search rules) in
+    let object : IsObject r c.args.lim.now c.read_object.new.lim (ObjectStructs c.in-Structs.start c.in-Structs.size c.in-Structs.count) = rw nl at (rw c.in-Structs.is at c.in-Ok.ensures.object) in
+    let right : StartsRight (ObjectStructs c.in-Structs.start c.in-Structs.size c.in-Structs.count) c.args.at c.args.head = rw c.in-Structs.is at (c.starts_right.ensures.0 c.if-not-starts_right.false) in
+    let nm = to_z-of_z w32 c.less-in-Structs.result (search rules) in
+    let nk = to_z-of_z w32 c.less-inner.result (search rules) in
+    let there = elements_begin r c.in-Structs.start ((rw nm at c.less-inner.ensures) ∙ ap pred (rw nl at c.less-in-Structs.ensures)) (structs_here {r = r} c.in-Structs.start c.in-Structs.size c.in-Structs.count ready object) in
+    let claimed : c.list_inline_composite_word_count-claimed.result ≡ list_count (word_of r) = c.list_inline_composite_word_count-claimed.ensures.value ∙ ap list_count c.requires.there in
+    err_so c.test_structs.result c.test_structs.ensures.refused (λ k h. structs_stop {r = r} {from = progress c.args.head c.args.lim.now} c.in-Structs.start c.in-Structs.size c.in-Structs.count ready object right (h.0 ∙ claimed)
+    (subst (λ x. RowTestsStop x c.in-Structs.size c.in-Structs.count (progress (x.at + list_count (word_of r)) c.read_object.new.lim) c.test_structs.new.lim k) there (rw (nk, claimed) at h.1)))
+
+pub test_rows-loop-i-init : goal.test_rows-loop-i-init
+test_rows-loop-i-init g t c =
+    let r : Reading = reading_on g.A.ReaderArena c.args.from.now c.args.start c.args.nesting_limit in
+    let head : ℕ = c.args.start + c.args.count * (c.args.size.data_words + c.args.size.pointers) in
+    let nl = to_z-of_z w32 c.args.nesting_limit (search rules) in
+    rw (nl, c.from-data_words.ensures, c.from-pointers.ensures) (none_seen r c.args.size (progress head c.args.lim.now) (nat_eq c.args.size.data_words 0) (nat_eq c.args.size.pointers 0) (search rules) (search rules))
+
+pub test_rows-returns-in-Ok-None-clause-tells : goal.test_rows-returns-in-Ok-None-clause-tells
+test_rows-returns-in-Ok-None-clause-tells g t c =
+    let r : Reading = reading_on g.A.ReaderArena c.args.from.now c.args.start c.args.nesting_limit in
+    let head : ℕ = c.args.start + c.args.count * (c.args.size.data_words + c.args.size.pointers) in
+    row_never (progress head c.args.lim.now) c.args.count c.loop-i.invariant c.loop-i-test.true (rw (c.from-data_words.ensures, c.from-pointers.ensures) at (rw c.in-Ok-None.field-0-is at c.in-Ok-None.ensures.tells))
+
+pub test_rows-loop-i-preserved : goal.test_rows-loop-i-preserved
+test_rows-loop-i-preserved g t c =
+    let r : Reading = reading_on g.A.ReaderArena c.args.from.now c.args.start c.args.nesting_limit in
+    let d : ℕ = c.args.size.data_words in
+    let q : ℕ = c.args.size.pointers in
+    let i : ℕ = c.loop-i.i in
+    let inside : r.at + i * (d + q) + (d + q) ≤ length (row r) = omega (arith, row_within i c.args.count (d + q) c.loop-i-test.true, c.requires.inside) in
+    let data_so : IsTrue c.if-is_data_used.is_data_used ↔ (IsTrue c.loop-i.is_data_used ⊎ RowDataUsed r c.args.size i) =
+    elim c.if-is_data_used.branch [
+      | test_rows-then-is_data_used w ↦ still_seen w.is_data_used-is w.if-is_data_used.true
+      | test_rows-else-is_data_used w ↦ seen_now w.is_data_used-is w.if-is_data_used.false (rw (c.from-data_words.ensures, c.from-pointers.ensures, c.args.from.now.held.0) at w.ends_used-is_data_used.ensures)
+    ] in
+    let pointers_so : IsTrue c.if-are_pointers_used.are_pointers_used ↔ (IsTrue c.loop-i.are_pointers_used ⊎ RowPointersUsed r c.args.size i) =
+    elim c.if-are_pointers_used.branch [
+      | test_rows-then-are_pointers_used w ↦ still_seen w.are_pointers_used-is w.if-are_pointers_used.true
+      | test_rows-else-are_pointers_used w ↦ seen_now w.are_pointers_used-is w.if-are_pointers_used.false (rw (c.from-data_words.ensures, c.from-pointers.ensures, c.args.from.now.held.0) at w.ends_used-are_pointers_used.ensures)
+    ] in
+    row_seen c.if-is_data_used.is_data_used c.if-are_pointers_used.are_pointers_used c.loop-i.invariant inside (rw (c.from-data_words.ensures, c.from-pointers.ensures) at (rw c.in-Ok-Some.field-0-is at c.in-Ok-Some.ensures.tells)) data_so pointers_so
+
+pub test_rows-returns-else-is_data_used-2-clause-tells : goal.test_rows-returns-else-is_data_used-2-clause-tells
+test_rows-returns-else-is_data_used-2-clause-tells g t c =
+    let head : ℕ = c.args.start + c.args.count * (c.args.size.data_words + c.args.size.pointers) in
+    let all : c.loop-i.i ≡ c.args.count = omega (arith, c.loop-i.auto.i-end, c.loop-i-test.false) in
+    let seen = rw all at c.loop-i.invariant in
+    elim c.else-is_data_used-2.branch [
+      | test_rows-else-is_data_used-2-via-then-is_data_used-2+else-are_pointers_used-2 w ↦ rows_unused (progress head c.args.lim.now) seen (λ both. false≢true (sym w.if-are_pointers_used-2.false ∙ both.1))
+      | test_rows-else-is_data_used-2-via-else-is_data_used-2 w ↦ rows_unused (progress head c.args.lim.now) seen (λ both. false≢true (sym w.if-is_data_used-2.false ∙ both.0))
+    ]
+
+pub test_structs-returns-then-total-eq0-clause-tells : goal.test_structs-returns-then-total-eq0-clause-tells
+test_structs-returns-then-total-eq0-clause-tells g t c =
+    let r : Reading = reading_on g.A.ReaderArena c.args.from.now c.args.start c.args.nesting_limit in
+    let none : c.args.size.data_words + c.args.size.pointers ≡ 0 = sym c.total-2.ensures ∙ c.if-total-eq0.true in
+    let exact : c.args.count * (c.args.size.data_words + c.args.size.pointers) ≡ c.args.claimed = sym (ap₂ (λ x y. x * y) c.from.ensures (c.from-2.ensures ∙ c.total.ensures)) ∙ c.if-from.false ∙ c.from-3.ensures in
+    let zero_claimed : c.args.claimed ≡ 0 = sym exact ∙ ap (λ w. c.args.count * w) none ∙ omega arith in
+    let here_again : c.args.start ≡ c.args.start + c.args.claimed = omega (arith, zero_claimed) in
+    (exact, subst (λ h. AreFoundRows r c.args.size c.args.count (progress h c.args.lim.now) (progress c.args.start c.args.lim.now)) here_again (empties_found r c.args.size c.args.count (progress c.args.start c.args.lim.now) none))
+
+pub test_struct-returns-then-start-at-clause-tells : goal.test_struct-returns-then-start-at-clause-tells
+test_struct-returns-then-start-at-clause-tells g t c =
+    let r : Reading = reading_on g.A.ReaderArena c.args.from.now c.args.at c.args.nesting_limit in
+    let ready : IsTested r = c.requires.tested in
+    let nl = to_z-of_z w32 c.args.nesting_limit (search rules) in
+    let start = record c.args.from.now.place { at = c.in-Ok.start } in
+    let size = c.struct_size-size.result in
+    let object : IsObject r c.args.lim.now c.read_near_struct.new.lim (ObjectStruct start size) =
+    struct_object {r = r} start size ready (rw nl at c.in-Ok.ensures.object) (c.struct_size-size.ensures.data_of ∙ ap data_words c.requires.there) (c.struct_size-size.ensures.pointers_of ∙ ap pointer_count c.requires.there) in
+    let none : size.data_words + size.pointers ≡ 0 = sym c.total.ensures ∙ c.if-total-eq0.true in
+    empty_tells {r = r} (progress c.args.head c.args.lim.now) start size ready object none (c.if-start-at.true ∙ sym (ap (λ n. cond (nat_eq n 0) c.args.at c.args.head) none))
+
+pub test_struct-returns-clause-tells : goal.test_struct-returns-clause-tells
+test_struct-returns-clause-tells g t c =
+    let r : Reading = reading_on g.A.ReaderArena c.args.from.now c.args.at c.args.nesting_limit in
+    let ready : IsTested r = c.requires.tested in
+    let nl = to_z-of_z w32 c.args.nesting_limit (search rules) in
+    let start = record c.args.from.now.place { at = c.in-Ok.start } in
+    let size = c.struct_size-size.result in
+    let object : IsObject r c.args.lim.now c.read_near_struct.new.lim (ObjectStruct start size) =
+    struct_object {r = r} start size ready (rw nl at c.in-Ok.ensures.object) (c.struct_size-size.ensures.data_of ∙ ap data_words c.requires.there) (c.struct_size-size.ensures.pointers_of ∙ ap pointer_count c.requires.there) in
+    let some : 0 < size.data_words + size.pointers = omega (arith, c.total.ensures, c.if-total-eq0.false) in
+    let nm = to_z-of_z w32 c.less.result (search rules) in
+    let there = place_begins r start (rw nl at c.less.ensures) refl in
+    ok_so c.test_sections.result c.test_sections.ensures.tells (λ o h. struct_tells {r = r} (progress c.args.head c.args.lim.now) c.test_sections.new.lim start size o ready object some (some_right c.args.at some c.if-start-head.false)
+    (subst (λ x. TellsStruct x size c.read_near_struct.new.lim c.test_sections.new.lim o) there (rw nm at h)))
+
+pub test_struct-returns-clause-refused : goal.test_struct-returns-clause-refused
+test_struct-returns-clause-refused g t c =
+    let r : Reading = reading_on g.A.ReaderArena c.args.from.now c.args.at c.args.nesting_limit in
+    let ready : IsTested r = c.requires.tested in
+    let nl = to_z-of_z w32 c.args.nesting_limit (search rules) in
+    let start = record c.args.from.now.place { at = c.in-Ok.start } in
+    let size = c.struct_size-size.result in
+    let object : IsObject r c.args.lim.now c.read_near_struct.new.lim (ObjectStruct start size) =
+    struct_object {r = r} start size ready (rw nl at c.in-Ok.ensures.object) (c.struct_size-size.ensures.data_of ∙ ap data_words c.requires.there) (c.struct_size-size.ensures.pointers_of ∙ ap pointer_count c.requires.there) in
+    let some : 0 < size.data_words + size.pointers = omega (arith, c.total.ensures, c.if-total-eq0.false) in
+    let nm = to_z-of_z w32 c.less.result (search rules) in
+    let there = place_begins r start (rw nl at c.less.ensures) refl in
+    err_so c.test_sections.result c.test_sections.ensures.refused (λ k h. struct_stops {r = r} {from = progress c.args.head c.args.lim.now} start size ready object some (some_right c.args.at some c.if-start-head.false)
+    (subst (λ x. TestsStop (behind x size.data_words) size.pointers (progress (c.in-Ok.start + size.data_words + size.pointers) c.read_near_struct.new.lim) c.test_sections.new.lim k) there (rw nm at h)))
+
+pub test_list-test_children-requires : goal.test_list-test_children-requires
+test_list-test_children-requires g t c κs within =
+    let r : Reading = reading_on g.A.ReaderArena c.args.from.now c.args.at c.args.nesting_limit in
+    let ready : IsTested r = c.requires.tested in
+    let nl = to_z-of_z w32 c.args.nesting_limit (search rules) in
+    let object : IsObject r c.args.lim.now c.read_object.new.lim (ObjectPointers c.in-Pointers.start c.in-Pointers.count) = rw nl at (rw c.in-Pointers.is at c.in-Ok.ensures.object) in
+    let room = subst (λ i. c.in-Pointers.start.at + c.in-Pointers.count ≤ length (segment r.segments i)) (sym (pointers_here {r = r} c.in-Pointers.start c.in-Pointers.count ready object)) (pointers_room {r = r} c.in-Pointers.start c.in-Pointers.count object) in
+    (search rules, (search rules, room))
+
+pub test_list-test_structs-requires : goal.test_list-test_structs-requires
+test_list-test_structs-requires g t c κs within =
+    let r : Reading = reading_on g.A.ReaderArena c.args.from.now c.args.at c.args.nesting_limit in
+    let ready : IsTested r = c.requires.tested in
+    let nl = to_z-of_z w32 c.args.nesting_limit (search rules) in
+    let object : IsObject r c.args.lim.now c.read_object.new.lim (ObjectStructs c.in-Structs.start c.in-Structs.size c.in-Structs.count) = rw nl at (rw c.in-Structs.is at c.in-Ok.ensures.object) in
+    let nm = to_z-of_z w32 c.less-in-Structs.result (search rules) in
+    let nk = to_z-of_z w32 c.less-inner.result (search rules) in
+    let falls = two_levels_fall (levels c.args.nesting_limit) object.1.meets.levels in
+    let inner : levels c.less-inner.result ≡ pred (pred (levels c.args.nesting_limit)) = (rw nm at c.less-inner.ensures) ∙ ap pred (rw nl at c.less-in-Structs.ensures) in
+    let claimed : list_count (word_of r) ≡ c.list_inline_composite_word_count-claimed.result = sym (c.list_inline_composite_word_count-claimed.ensures.value ∙ ap list_count c.requires.there) in
+    let room = rw claimed at (subst (λ i. c.in-Structs.start.at + list_count (word_of r) ≤ length (segment r.segments i)) (sym (structs_here {r = r} c.in-Structs.start c.in-Structs.size c.in-Structs.count ready object)) (structs_room {r = r} c.in-Structs.start c.in-Structs.size c.in-Structs.count ready.near object)) in
+    (search (rules, nk, nl, inner, falls), (search rules, room))

@@ -1,0 +1,231 @@
+-- What the test for canonical form finds, how far it has come, and where it stops ("Canonicalization"). It goes over the pointers
+-- in order with a head, the word at which the next object has to start, and takes a level for each struct and list, two for a
+-- list of structs.
+use Rattle.std.specs.Prelude.{◌≡◌, ℕ, pred, ◌+◌, ◌*◌, ◌-◌, ◌/◌, ◌%◌, ◌^◌, min, ◌<◌, ◌≤◌, List, [], ◌∷◌, Option, Some, None, cond, nat_eq, length}
+use Rattle.capnp_words.specs.declared.error.ErrorKind.{ErrorKind}
+use Rattle.capnp_words.specs.declared.error.ErrorKind.TheVariants.{MessageIsTooDeeplyNestedOrContainsCycles, NestingLimitExceeded}
+use Rattle.capnp_words.specs.Meter.{Meter, Affords}
+use Rattle.capnp_pointers.specs.declared.wire_pointer.StructSize.{StructSize}
+use Rattle.capnp_pointers.specs.declared.wire_pointer.ElementSize.{ElementSize}
+use Rattle.capnp_pointers.specs.Sizes.{size_number}
+use Rattle.capnp_format.specs.Numbers.{words_for}
+use Rattle.capnp_format.specs.Word.{kind, offset_bits, data_words, pointer_count, element_size, list_count}
+use Rattle.capnp_format.specs.Segments.{Target, word_at, IsPlace}
+use Rattle.capnp_format.specs.Tree.{Tree, Trees, Elements, count, element_count}
+use Rattle.capnp_format.specs.Canonical.{Stands, ForOffset, word_count, word_count_all, word_count_elements, charge, charge_all, charge_elements, data_width, pointer_width}
+use Rattle.capnp_objects.specs.declared.object.Object.{Object}
+use Rattle.capnp_objects.specs.declared.object.Object.TheVariants.{Null as ObjectNull, Capability as ObjectCapability, Struct as ObjectStruct, Flat as ObjectFlat, Pointers as ObjectPointers, Structs as ObjectStructs}
+use Rattle.capnp_objects.specs.Demands.{claim, tag, element_words, IsStructList}
+use Rattle.capnp_objects.specs.Faults.{child_at}
+use Rattle.capnp_objects.specs.Outcomes.{Entered}
+use Rattle.capnp_objects.specs.Reading.{Reading, word_of, row, behind, pointers_of, tag_size}
+use Rattle.capnp_objects.specs.Refusals.{Stopped}
+use Rattle.capnp_objects.specs.Spending.{Paid, pointers_in, pointers_in_all, pointers_in_elements}
+use Rattle.capnp_objects.specs.Wanted.{plain}
+use Rattle.capnp_arena.specs.declared.arena.reader_arena.ReaderArena.{Ghosts}
+use Rattle.capnp_objects.specs.Source.{source_segments}
+use Rattle.capnp_readers.specs.Sizes.{own_words, pointers_read}
+use Rattle.capnp_readers.specs.declared.readers.struct_reader.StructReader.{StructReader}
+use Rattle.capnp_readers.specs.Standing.{AllStand, ElementsStand, Accepts, AllAccept, ElementsAccept, EndsUsed, IsPadded, test_levels, test_levels_all, test_levels_elements}
+
+-- How far a test has come: the word at which the next object has to start, and its limiter.
+pub record Progress : Type 0 where
+  pub head : ℕ
+  pub meter : Meter
+
+abbrev pub progress : ℕ → Meter → Progress
+progress h m = record { head = h; meter = m }
+
+-- The canonical words of t stand at a place and a head: the levels are enough, its cost is paid, and the head moves behind them.
+pub record Finds (r : Reading) (from to : Progress) (t : Tree) : Type 0 where
+  pub stands : Stands r.segments r.segment r.at from.head t
+  pub inside : ForOffset t (from.head ≤ length (row r))
+  pub levels : test_levels t ≤ r.levels
+  pub paid : Paid r.charging from.meter to.meter (charge t) (pointers_in t)
+  pub head_is : to.head ≡ from.head + word_count t
+
+-- So do those of pointers one behind the other, from the place on.
+pub record FindsAll (r : Reading) (from to : Progress) (ts : Trees) : Type 0 where
+  pub stand : AllStand r.segments r.segment r.at from.head ts
+  pub levels : test_levels_all ts ≤ r.levels
+  pub paid : Paid r.charging from.meter to.meter (charge_all ts) (pointers_in_all ts)
+  pub head_is : to.head ≡ from.head + word_count_all ts
+
+-- So do those of the pointers of elements of a size.
+pub record FindsElements (r : Reading) (size : StructSize) (from to : Progress) (es : Elements) : Type 0 where
+  pub stand : ElementsStand r.segments r.segment r.at size.data_words size.pointers from.head es
+  pub levels : test_levels_elements es ≤ r.levels
+  pub paid : Paid r.charging from.meter to.meter (charge_elements es) (pointers_in_elements es)
+  pub head_is : to.head ≡ from.head + word_count_elements es
+
+-- Canonical words of some value stand at a place and a head; of i pointers.
+abbrev pub IsFound : Reading → Progress → Progress → Type 0
+IsFound r from to = (t : Tree) × Finds r from to t
+
+abbrev pub AreFound : Reading → ℕ → Progress → Progress → Type 0
+AreFound r i from to = (ts : Trees) × (count ts ≡ i) × FindsAll r from to ts
+
+-- Canonical words stand at a place and a head, whatever the limits; at i pointers.
+abbrev pub IsCanonicalAt : Reading → ℕ → Type 0
+IsCanonicalAt r h = Accepts r.segments r.segment r.at h
+
+abbrev pub AreCanonicalAt : Reading → ℕ → ℕ → Type 0
+AreCanonicalAt r i h = AllAccept r.segments r.segment r.at h i
+
+-- Where the object of a pointer at position p starts in canonical form: a struct of no words at the pointer itself, and any other
+-- at the head, a list of structs with its tag. No capability is canonical.
+abbrev pub StartsRight : Object → ℕ → ℕ → Type 0
+StartsRight ObjectNull p h = Unit {0}
+StartsRight (ObjectCapability i) p h = ⊥
+StartsRight (ObjectStruct start size) p h = start.at ≡ cond (nat_eq (size.data_words + size.pointers) 0) p h
+StartsRight (ObjectFlat start size n) p h = start.at ≡ h
+StartsRight (ObjectPointers start n) p h = start.at ≡ h
+StartsRight (ObjectStructs start size n) p h = start.at ≡ h + 1
+
+-- A place that is tested: its word is there and is that of a near pointer, in a segment of words of 64 bits.
+pub record IsTested (r : Reading) : Type 0 where
+  pub small : (p : ℕ) → word_at r.segments r.segment p < 2 ^ 64
+  pub there : IsPlace r.segments r.segment r.at
+  pub near : kind (word_of r) < 2
+
+-- What a test that is answered tells: the head behind the canonical words that it has found, or that there are none.
+abbrev pub Tells : Reading → Progress → Meter → Option ℕ → Type 0
+Tells r from m' (Some h) = IsFound r from (progress h m')
+Tells r from m' None = IsCanonicalAt r from.head → ⊥
+
+-- Of i pointers.
+abbrev pub TellsAll : Reading → ℕ → Progress → Meter → Option ℕ → Type 0
+TellsAll r i from m' (Some h) = AreFound r i from (progress h m')
+TellsAll r i from m' None = AreCanonicalAt r i from.head → ⊥
+
+-- Of a list of n numbers of a size that starts at position p of these words: the bits behind its numbers are zero.
+abbrev pub TellsFlat : List ℕ → ℕ → ElementSize → ℕ → Option ℕ → Type 0
+TellsFlat words p size n (Some e) = IsPadded (words ∷ []) 0 p (size_number size) n × (e ≡ p + words_for (size_number size) n)
+TellsFlat words p size n None = IsPadded (words ∷ []) 0 p (size_number size) n → ⊥
+
+-- Of the two sections of a struct that starts at a place: each is empty or ends in a word that is not zero.
+abbrev pub AreUsed : Reading → StructSize → Type 0
+AreUsed r size = EndsUsed r.segments r.segment r.at size.data_words × EndsUsed r.segments r.segment (r.at + size.data_words) size.pointers
+
+-- Of a struct that starts at a place: its pointers are canonical, the first object behind the struct.
+abbrev pub TellsStruct : Reading → StructSize → Meter → Meter → Option ℕ → Type 0
+TellsStruct r size m m' (Some e) = AreUsed r size × AreFound (behind r size.data_words) size.pointers (progress (r.at + size.data_words + size.pointers) m) (progress e m')
+TellsStruct r size m m' None = AreUsed r size × AreCanonicalAt (behind r size.data_words) size.pointers (r.at + size.data_words + size.pointers) → ⊥
+
+-- Of n elements of a list of structs, the first of which starts at a place: their pointers are canonical, the first object at the
+-- head; and no smaller size of elements would do.
+abbrev pub AreFoundRows : Reading → StructSize → ℕ → Progress → Progress → Type 0
+AreFoundRows r size n from to =
+    (es : Elements) × (element_count es ≡ n) × (data_width es ≡ size.data_words) × (pointer_width es ≡ size.pointers) × FindsElements r size from to es
+
+abbrev pub TellsRows : Reading → StructSize → ℕ → Progress → Meter → Option ℕ → Type 0
+TellsRows r size n from m' (Some e) = AreFoundRows r size n from (progress e m')
+TellsRows r size n from m' None = ElementsAccept r.segments r.segment r.at size.data_words size.pointers from.head n → ⊥
+
+-- Of the list that claims so many words: its elements take just these, and the first object stands behind them.
+abbrev pub TellsClaimed : Reading → StructSize → ℕ → ℕ → Meter → Meter → Option ℕ → Type 0
+TellsClaimed r size n claimed m m' (Some e) = (n * (size.data_words + size.pointers) ≡ claimed) × AreFoundRows r size n (progress (r.at + claimed) m) (progress e m')
+TellsClaimed r size n claimed m m' None = n * (size.data_words + size.pointers) ≡ claimed → ElementsAccept r.segments r.segment r.at size.data_words size.pointers (r.at + claimed) n → ⊥
+
+-- Canonical words stand at a place and a head in its segment, the levels are enough, and the limiter covers their cost; of i
+-- pointers.
+abbrev pub CanBeFound : Reading → Progress → Type 0
+CanBeFound r from =
+    (t : Tree) × Stands r.segments r.segment r.at from.head t × ForOffset t (from.head ≤ length (row r)) × (test_levels t ≤ r.levels) × Affords r.charging from.meter (charge t)
+
+abbrev pub CanAllBeFound : Reading → ℕ → Progress → Type 0
+CanAllBeFound r i from =
+    (ts : Trees) × (count ts ≡ i) × AllStand r.segments r.segment r.at from.head ts × (test_levels_all ts ≤ r.levels) × Affords r.charging from.meter (charge_all ts)
+
+-- The name of a refusal: a list that has no level is refused by another than a struct is.
+abbrev pub refusal_name : ℕ → ErrorKind → ErrorKind
+refusal_name w MessageIsTooDeeplyNestedOrContainsCycles = cond (nat_eq (kind w) 1) NestingLimitExceeded MessageIsTooDeeplyNestedOrContainsCycles
+refusal_name w k = k
+
+-- The object of a near pointer can't be read, from m to m', for the reason k: its reading stops as any other does.
+pub record Unread (r : Reading) (m m' : Meter) (k : ErrorKind) : Type 0 where
+  pub name : ErrorKind
+  pub near : kind (word_of r) < 2
+  pub stopped : Stopped plain r m m' name
+  pub named : k ≡ refusal_name (word_of r) name
+
+-- The head behind an object's own words, once these are read.
+abbrev pub behind_object : Target → Meter → Progress
+behind_object a m = progress (a.start + claim a.word) m
+
+-- The pointers of an object a before one of its pointers, which is read as the place `child`, are canonical.
+pub data FindsBefore (r : Reading) (a : Target) (child : Reading) (from to : Progress) : Type 0 where
+  in_struct :
+      (ts : Trees) →
+      kind a.word ≡ 0 →
+      count ts < pointer_count a.word →
+      child ≡ child_at r a (pred r.levels) (a.start + data_words a.word + count ts) →
+      FindsAll (child_at r a (pred r.levels) (a.start + data_words a.word)) from to ts →
+      FindsBefore r a child from to
+  in_pointers :
+      (ts : Trees) →
+      kind a.word ≡ 1 →
+      element_size a.word ≡ 6 →
+      count ts < list_count a.word →
+      child ≡ child_at r a (pred r.levels) (a.start + count ts) →
+      FindsAll (child_at r a (pred r.levels) a.start) from to ts →
+      FindsBefore r a child from to
+  in_element :
+      (es : Elements) (ts : Trees) (mid : Progress) →
+      IsStructList a.word →
+      element_words (tag r.segments a) ≡ list_count a.word →
+      element_count es < offset_bits (tag r.segments a) →
+      count ts < pointer_count (tag r.segments a) →
+      child ≡ behind (pointers_of (child_at r a (pred (pred r.levels)) (a.start + 1)) (tag_size r.segments a) (element_count es)) (count ts) →
+      FindsElements (child_at r a (pred (pred r.levels)) (a.start + 1)) (tag_size r.segments a) from mid es →
+      FindsAll (pointers_of (child_at r a (pred (pred r.levels)) (a.start + 1)) (tag_size r.segments a) (element_count es)) mid to ts →
+      FindsBefore r a child from to
+
+-- The test of a place stops by the name k: its object can't be read; or it can, starts at the head, and the test of one of its
+-- pointers stops, those before that one being canonical.
+pub data TestStops (k : ErrorKind) : Reading → Progress → Meter → Type 0 where
+  here : {r : Reading} {from : Progress} {m' : Meter} → Unread r from.meter m' k → TestStops k r from m'
+  below :
+      {r child : Reading} {from mid : Progress} {first m' : Meter} (a : Target) →
+      kind (word_of r) < 2 →
+      Entered r from.meter first a →
+      a.start ≡ from.head →
+      FindsBefore r a child (behind_object a first) mid →
+      TestStops k child mid m' →
+      TestStops k r from m'
+
+-- So does that of one of i pointers from a place on.
+pub record TestsStop (r : Reading) (i : ℕ) (from : Progress) (m' : Meter) (k : ErrorKind) : Type 0 where
+  pub first : Trees
+  pub fewer : count first < i
+  pub mid : Progress
+  pub are_found : FindsAll r from mid first
+  pub stops : TestStops k (behind r (count first)) mid m'
+
+-- So does that of a pointer of one of i elements.
+pub record RowTestsStop (r : Reading) (size : StructSize) (i : ℕ) (from : Progress) (m' : Meter) (k : ErrorKind) : Type 0 where
+  pub first : Elements
+  pub fewer : element_count first < i
+  pub mid : Progress
+  pub are_found : FindsElements r size from mid first
+  pub stops : TestsStop (pointers_of r size (element_count first)) size.pointers mid m' k
+
+module _ {A : Type 0} (g : Ghosts A) where
+  -- A struct has whole words of data, and starts at the head.
+  abbrev pub StartsWhole : StructReader A g → ℕ → Type 0
+  StartsWhole r h = (r.bits % 64 ≡ 0) × (r.byte ≡ 8 * h)
+
+  -- A struct starts at a head, and its pointers are canonical from another head on.
+  abbrev pub IsCanonicalStruct : StructReader A g → ℕ → ℕ → Type 0
+  IsCanonicalStruct r h bodies = StartsWhole r h × AreCanonicalAt (pointers_read g r) r.pointer_count bodies
+
+  -- The data section is empty or ends in a word that is not zero; so does the pointer section.
+  abbrev pub IsDataUsed : StructReader A g → Type 0
+  IsDataUsed r = EndsUsed (source_segments g.segments r.source) r.pointers.segment (r.byte / 8) (r.bits / 64)
+
+  abbrev pub ArePointersUsed : StructReader A g → Type 0
+  ArePointersUsed r = EndsUsed (source_segments g.segments r.source) r.pointers.segment r.pointers.at r.pointer_count
+
+  -- The head behind a struct's own words; the greatest head stays what it is.
+  abbrev pub head_behind : StructReader A g → ℕ → ℕ
+  head_behind r h = min (h + own_words g r) (2 ^ 32 - 1)

@@ -1,0 +1,64 @@
+-- Canonical words that stand one behind the other, as a test with a moving head finds them; and
+-- how many levels it takes.
+use Rattle.std.specs.Prelude.{◌≡◌, ◌≢◌, ℕ, zero, suc, ◌+◌, ◌-◌, ◌*◌, ◌^◌, ◌<◌, ◌⊎◌, max, length}
+use Rattle.capnp_format.specs.Numbers.{from_digits, element_bits, words_for}
+use Rattle.capnp_format.specs.Segments.{Segments, word_at, words_at, HasWords}
+use Rattle.capnp_format.specs.Tree.{Tree, Null, Capability, Struct, Flat, Pointers, Structs, Trees, no_trees, tree, Elements, no_elements, element, count, element_count}
+use Rattle.capnp_format.specs.Canonical.{word_count, word_count_all, data_width, pointer_width, Stands}
+
+-- The pointers of children stand from position p on, and their bodies in order from the head h on.
+abbrev pub AllStand : Segments → ℕ → ℕ → ℕ → Trees → Type 0
+AllStand S s p h no_trees = Unit {0}
+AllStand S s p h (tree t ts) = Stands S s p h t × AllStand S s (p + 1) (h + word_count t) ts
+
+-- Elements of d data words and q pointers stand from position p on, and the bodies of all their children in order from the
+-- head h on.
+abbrev pub ElementsStand : Segments → ℕ → ℕ → ℕ → ℕ → ℕ → Elements → Type 0
+ElementsStand S s p d q h no_elements = Unit {0}
+ElementsStand S s p d q h (element ws ts es) =
+    (length ws ≡ d) × (count ts ≡ q) × HasWords S s p ws × AllStand S s (p + d) h ts × ElementsStand S s (p + d + q) d q (h + word_count_all ts) es
+
+-- Some value stands at a place and a head.
+abbrev pub Accepts : Segments → ℕ → ℕ → ℕ → Type 0
+Accepts S s p h = (t : Tree) × Stands S s p h t
+
+-- Some n children stand from a place and a head on.
+abbrev pub AllAccept : Segments → ℕ → ℕ → ℕ → ℕ → Type 0
+AllAccept S s p h n = (ts : Trees) × (count ts ≡ n) × AllStand S s p h ts
+
+-- Some n elements stand from a place and a head on, and no smaller sections would hold them.
+abbrev pub ElementsAccept : Segments → ℕ → ℕ → ℕ → ℕ → ℕ → ℕ → Type 0
+ElementsAccept S s p d q h n = (es : Elements) × (element_count es ≡ n) × (data_width es ≡ d) × (pointer_width es ≡ q) × ElementsStand S s p d q h es
+
+-- Of n words from position p on the last is not zero, or there are none.
+abbrev pub EndsUsed : Segments → ℕ → ℕ → ℕ → Type 0
+EndsUsed S s p n = (n ≡ 0) ⊎ (word_at S s (p + n - 1) ≢ 0)
+
+-- The bits behind n elements of a size are zero, in the words from position h on in which these stand.
+abbrev pub IsPadded : Segments → ℕ → ℕ → ℕ → ℕ → Type 0
+IsPadded S s h size n = from_digits (2 ^ 64) (words_at S s h (words_for size n)) < 2 ^ (element_bits size * n)
+
+-- How many levels a list of structs takes, by those that the children of its elements take.
+abbrev pub list_levels : ℕ → ℕ
+list_levels zero = 1
+list_levels (suc n) = 3 + n
+
+-- How many levels a value takes in a test that spends two on a list of structs, one on the list and one on the element.
+abbrev mutual
+  pub test_levels : Tree → ℕ
+  test_levels Null = 0
+  test_levels (Capability i) = 0
+  test_levels (Struct ws ts) = 1 + test_levels_all ts
+  test_levels (Flat size ns) = 1
+  test_levels (Pointers ts) = 1 + test_levels_all ts
+  test_levels (Structs d q es) = list_levels (test_levels_elements es)
+
+  -- The most that a child takes.
+  pub test_levels_all : Trees → ℕ
+  test_levels_all no_trees = 0
+  test_levels_all (tree t ts) = max (test_levels t) (test_levels_all ts)
+
+  -- The most that a child of any element takes.
+  pub test_levels_elements : Elements → ℕ
+  test_levels_elements no_elements = 0
+  test_levels_elements (element ws ts es) = max (test_levels_all ts) (test_levels_elements es)

@@ -1,0 +1,23 @@
+//! What the test for canonical form tells beyond one call. Each function does nothing: its contract is the law, proved for
+//! all messages and limits ("Canonicalization"; docs/FORMAT.md, "The test for canonical form").
+
+ghost use Rattle.capnp_readers.specs.Laws.{CanonicalIsAnswered, CanonicalPointersAreAnswered, TwiceTheDepth, FoundIsMeant, SameWords};
+
+/// The test is not refused where a canonical value stands that the limits cover, and twice the value's depth is levels
+/// enough.
+pub fn canonical_is_answered()
+    ensures place { CanonicalIsAnswered }
+    ensures pointers { CanonicalPointersAreAnswered }
+    ensures levels { TwiceTheDepth }
+{}
+
+/// What the test finds is what the place means, at just the cost that was charged.
+pub fn found_is_meant()
+    ensures { FoundIsMeant }
+{}
+
+/// Two pointers at one position that are both canonical from one head on have the same words exactly if they have the same
+/// value.
+pub fn same_words()
+    ensures { SameWords }
+{}

@@ -1,0 +1,446 @@
+//! The test for canonical form, in place.
+ghost use Rattle.std.specs.Prelude.{ℕ, ◌≡◌, ◌≢◌, ◌<◌, ◌≤◌, ◌+◌, ◌*◌, ◌-◌, ◌⊎◌, ◌↔◌, pred, ◌^◌, None, IsTrue, Ok, true, IfOk, IfErr, length, slice_index};
+ghost use Rattle.capnp_format.specs.Bytes.{words_of};
+ghost use Rattle.capnp_format.specs.Word.{kind};
+ghost use Rattle.capnp_format.specs.Numbers.{words_for};
+ghost use Rattle.capnp_pointers.specs.Sizes.{size_number};
+ghost use Rattle.capnp_objects.specs.Reading.{row, word_of};
+ghost use Rattle.capnp_objects.specs.Source.{levels};
+ghost use Rattle.capnp_readers.specs.Readers.{reading};
+ghost use Rattle.capnp_readers.specs.Sizes.{pointers_read, reading_on};
+ghost use Rattle.capnp_readers.specs.Checking.{progress, refusal_name, IsFound, AreFound, IsCanonicalAt, IsTested, StartsRight, Tells, TellsAll, TellsFlat, TellsStruct, TellsRows, TellsClaimed, TestStops, TestsStop, RowTestsStop, StartsWhole, IsCanonicalStruct, IsDataUsed, ArePointersUsed, head_behind};
+
+use crate::readers::{PointerReader, StructReader};
+use capnp_arena::arena::ReaderArena;
+use capnp_objects::object::{Object, Place};
+use capnp_words::error::ErrorKind;
+use capnp_words::read_limiter::ReadLimiter;
+use capnp_words::wire_pointer::{
+    ElementSize, StructSize, WirePointer, WirePointerKind, data_bits_per_element,
+};
+use capnp_words::words::word_at;
+
+impl<'a, A: ReaderArena> PointerReader<'a, A> {
+    /// Whether the pointer leads to a value in canonical form, whose first object starts at the head,
+    /// a position in words in the pointer's segment ("Canonicalization").
+    ///
+    /// Yes is said exactly where the words from the head on are the canonical words of a value, and
+    /// the pointer is the one that canonical form has for it: near pointers in order, no capability,
+    /// sections and elements cut to what they use, zeros behind the elements of a list. Words behind
+    /// these, and other segments, don't matter. A null pointer is canonical, and a pointer from
+    /// nothing is not. On a yes the head is moved behind the words, and else it stays.
+    ///
+    /// The pointers are tested in order. Each but the null is counted, and the words that its object
+    /// claims, and for elements without width their number, are charged, as `get_struct` and
+    /// `get_list` do; a struct and a list take a level, a list of structs two. It is answered
+    /// wherever a canonical value stands, the limiter covers these charges, and the nesting limit is
+    /// at least twice the value's depth. Else it may be refused by the first fault that is met:
+    /// `MessageContainsOutOfBoundsPointer`, `MessageIsTooDeeplyNestedOrContainsCycles` for a struct
+    /// and `NestingLimitExceeded` for a list that have no level,
+    /// `InlineCompositeListsOfNonStructTypeAreNotSupported`,
+    /// `InlineCompositeListsElementsOverrunItsWordCount`, or `ReadLimitExceeded`. What was charged
+    /// before it stays charged.
+    pub fn is_canonical(&self, lim: &mut ReadLimiter, head: &mut u32) -> Result<bool, ErrorKind>
+        ensures exactly { IfOk result (λ b. IsTrue b ↔ IsCanonicalAt (reading A.ReaderArena self.now) head.old) }
+        ensures found { IfOk result (λ b. IsTrue b → IsFound (reading A.ReaderArena self.now) (progress head.old lim.old) (progress head.new lim.new)) }
+        ensures refused { IfErr result (λ k. TestStops k (reading A.ReaderArena self.now) (progress head.old lim.old) lim.new) }
+        ensures kept { (result ≡ Ok true → ⊥) → head.new ≡ head.old }
+    {
+        match test_place(self, self.place.at, self.nesting_limit, *head, lim) {
+            Ok(Some(end)) => {
+                *head = end;
+                Ok(true)
+            }
+            Ok(None) => Ok(false),
+            Err(kind) => Err(kind),
+        }
+    }
+}
+
+impl<'a, A: ReaderArena> StructReader<'a, A> {
+    /// Whether the struct starts at `read_head`, a position in words, has whole words of data, and
+    /// its pointers lead to values in canonical form, the first of whose objects starts at `ptr_head`
+    /// ("Canonicalization").
+    ///
+    /// On a yes `read_head` is moved behind the struct (to `u32::MAX` where the struct ends beyond it,
+    /// which needs a segment of that many words) and `ptr_head` behind the last of these words;
+    /// `data_trunc` and `ptr_trunc` tell whether the data section and the pointer section are empty
+    /// or end in a word that isn't zero. Else all four stay. The pointers are tested, charged and
+    /// refused as by `PointerReader::is_canonical`, under the struct's own nesting limit; the struct's
+    /// own words aren't charged.
+    pub fn is_canonical(
+        &self,
+        lim: &mut ReadLimiter,
+        read_head: &mut u32,
+        ptr_head: &mut u32,
+        data_trunc: &mut bool,
+        ptr_trunc: &mut bool,
+    ) -> Result<bool, ErrorKind>
+        ensures exactly { IfOk result (λ b. IsTrue b ↔ IsCanonicalStruct A.ReaderArena self.now read_head.old ptr_head.old) }
+        ensures found { IfOk result (λ b. IsTrue b → AreFound (pointers_read A.ReaderArena self.now) self.now.pointer_count (progress ptr_head.old lim.old) (progress ptr_head.new lim.new)) }
+        ensures behind { IfOk result (λ b. IsTrue b → read_head.new ≡ head_behind A.ReaderArena self.now read_head.old) }
+        ensures data { IfOk result (λ b. IsTrue b → IsTrue data_trunc.new ↔ IsDataUsed A.ReaderArena self.now) }
+        ensures pointers { IfOk result (λ b. IsTrue b → IsTrue ptr_trunc.new ↔ ArePointersUsed A.ReaderArena self.now) }
+        ensures started { IfErr result (λ k. StartsWhole A.ReaderArena self.now read_head.old) }
+        ensures refused { IfErr result (TestsStop (pointers_read A.ReaderArena self.now) self.now.pointer_count (progress ptr_head.old lim.old) lim.new) }
+        ensures kept { (result ≡ Ok true → ⊥) → (read_head.new ≡ read_head.old) × (ptr_head.new ≡ ptr_head.old) }
+        ensures flags { (result ≡ Ok true → ⊥) → (data_trunc.new ≡ data_trunc.old) × (ptr_trunc.new ≡ ptr_trunc.old) }
+    {
+        if self.bits % 64 != 0 || self.byte != 8 * u64::from(*read_head) {
+            return Ok(false);
+        }
+        let first = PointerReader {
+            source: self.source,
+            place: self.pointers,
+            nesting_limit: self.nesting_limit,
+        };
+        let count = u32::from(self.pointer_count);
+        let end = match test_children(
+            &first,
+            self.pointers.at,
+            count,
+            self.nesting_limit,
+            *ptr_head,
+            lim,
+        ) {
+            Ok(Some(end)) => end,
+            Ok(None) => return Ok(false),
+            Err(kind) => return Err(kind),
+        };
+        let data_words = self.bits / 64;
+        *data_trunc = ends_used(self.pointers, *read_head, data_words);
+        *ptr_trunc = ends_used(self.pointers, self.pointers.at, count);
+        *read_head = read_head.saturating_add(data_words + count);
+        *ptr_head = end;
+        Ok(true)
+    }
+
+    /// `is_canonical` with one head for both: the objects of the struct's pointers start right behind
+    /// the struct, and on a yes the head is moved behind the last of them.
+    pub fn is_canonical_shared(
+        &self,
+        lim: &mut ReadLimiter,
+        head: &mut u32,
+        data_trunc: &mut bool,
+        ptr_trunc: &mut bool,
+    ) -> Result<bool, ErrorKind>
+        ensures exactly { IfOk result (λ b. IsTrue b ↔ IsCanonicalStruct A.ReaderArena self.now head.old (head_behind A.ReaderArena self.now head.old)) }
+        ensures found { IfOk result (λ b. IsTrue b → AreFound (pointers_read A.ReaderArena self.now) self.now.pointer_count (progress (head_behind A.ReaderArena self.now head.old) lim.old) (progress head.new lim.new)) }
+        ensures data { IfOk result (λ b. IsTrue b → IsTrue data_trunc.new ↔ IsDataUsed A.ReaderArena self.now) }
+        ensures pointers { IfOk result (λ b. IsTrue b → IsTrue ptr_trunc.new ↔ ArePointersUsed A.ReaderArena self.now) }
+        ensures started { IfErr result (λ k. StartsWhole A.ReaderArena self.now head.old) }
+        ensures refused { IfErr result (TestsStop (pointers_read A.ReaderArena self.now) self.now.pointer_count (progress (head_behind A.ReaderArena self.now head.old) lim.old) lim.new) }
+        ensures kept { (result ≡ Ok true → ⊥) → head.new ≡ head.old }
+        ensures flags { (result ≡ Ok true → ⊥) → (data_trunc.new ≡ data_trunc.old) × (ptr_trunc.new ≡ ptr_trunc.old) }
+    {
+        if self.bits % 64 != 0 || self.byte != 8 * u64::from(*head) {
+            return Ok(false);
+        }
+        let mut read_head = *head;
+        let count = u32::from(self.pointer_count);
+        let mut ptr_head = head.saturating_add(self.bits / 64 + count);
+        match self.is_canonical(lim, &mut read_head, &mut ptr_head, data_trunc, ptr_trunc) {
+            Ok(true) => {
+                *head = ptr_head;
+                Ok(true)
+            }
+            other => other,
+        }
+    }
+}
+
+/// Tests the pointer at a position, the first object being at a head: the head behind the canonical
+/// words, or `None` where there are none. All lies in one segment, whose reader serves every level.
+#[cycle(tests)]
+#[inline(always)]
+fn test_place<A: ReaderArena>(
+    from: &PointerReader<'_, A>,
+    at: u32,
+    nesting_limit: i32,
+    head: u32,
+    lim: &mut ReadLimiter,
+) -> Result<Option<u32>, ErrorKind>
+    ensures tells { IfOk result (Tells (reading_on A.ReaderArena from.now at nesting_limit) (progress head lim.old) lim.new) }
+    ensures refused { IfErr result (λ k. TestStops k (reading_on A.ReaderArena from.now at nesting_limit) (progress head lim.old) lim.new) }
+{
+    let word = Place { at, ..from.place }.word();
+    if at as usize >= whole_words(from.place.bytes) || !word.is_positional() {
+        return Ok(None);
+    }
+    if word.is_null() {
+        return Ok(Some(head));
+    }
+    if word.kind() == WirePointerKind::Struct {
+        test_struct(from, at, word, nesting_limit, head, lim)
+    } else {
+        test_list(from, at, word, nesting_limit, head, lim)
+    }
+}
+
+/// Tests so many pointers, one behind the other from a position on.
+#[cycle(tests)]
+fn test_children<A: ReaderArena>(
+    from: &PointerReader<'_, A>,
+    at: u32,
+    count: u32,
+    nesting_limit: i32,
+    first: u32,
+    lim: &mut ReadLimiter,
+) -> Result<Option<u32>, ErrorKind>
+    requires inside { at + count ≤ length (row (reading A.ReaderArena from.now)) }
+    ensures tells { IfOk result (TellsAll (reading_on A.ReaderArena from.now at nesting_limit) count (progress first lim.old) lim.new) }
+    ensures refused { IfErr result (TestsStop (reading_on A.ReaderArena from.now at nesting_limit) count (progress first lim.old) lim.new) }
+{
+    let mut head = first;
+    for i in 0..count {
+        head = match test_place(from, at + i, nesting_limit, head, lim) {
+            Ok(Some(end)) => end,
+            Ok(None) => return Ok(None),
+            Err(kind) => return Err(kind),
+        };
+    }
+    Ok(Some(head))
+}
+
+/// Tests the struct that the word at a position describes.
+#[cycle(tests)]
+#[inline(always)]
+fn test_struct<A: ReaderArena>(
+    from: &PointerReader<'_, A>,
+    at: u32,
+    word: WirePointer,
+    nesting_limit: i32,
+    head: u32,
+    lim: &mut ReadLimiter,
+) -> Result<Option<u32>, ErrorKind>
+    requires tested { IsTested (reading_on A.ReaderArena from.now at nesting_limit) }
+    requires there { word.0 ≡ word_of (reading_on A.ReaderArena from.now at nesting_limit) }
+    requires some { word.0 ≢ 0 }
+    requires is_struct { kind word.0 ≡ 0 }
+    ensures tells { IfOk result (Tells (reading_on A.ReaderArena from.now at nesting_limit) (progress head lim.old) lim.new) }
+    ensures refused { IfErr result (λ k. TestStops k (reading_on A.ReaderArena from.now at nesting_limit) (progress head lim.old) lim.new) }
+{
+    let place = Place { at, ..from.place };
+    let start = match from
+        .source
+        .read_near_struct(place, word, nesting_limit, lim)
+    {
+        Ok(start) => start,
+        Err(kind) => return Err(name_of_refusal(word, kind)),
+    };
+    let size = word.struct_size();
+    if size.total() == 0 {
+        return Ok(if start == at { Some(head) } else { None });
+    }
+    if start != head {
+        return Ok(None);
+    }
+    test_sections(from, start, size, less(nesting_limit), lim)
+}
+
+/// Tests the sections of a struct that starts at a position, its first object being right behind it.
+#[cycle(tests)]
+#[inline(always)]
+fn test_sections<A: ReaderArena>(
+    from: &PointerReader<'_, A>,
+    start: u32,
+    size: StructSize,
+    nesting_limit: i32,
+    lim: &mut ReadLimiter,
+) -> Result<Option<u32>, ErrorKind>
+    requires inside { start + (size.data_words + size.pointers) ≤ length (row (reading A.ReaderArena from.now)) }
+    ensures tells { IfOk result (TellsStruct (reading_on A.ReaderArena from.now start nesting_limit) size lim.old lim.new) }
+    ensures refused { IfErr result (TestsStop (reading_on A.ReaderArena from.now (start + size.data_words) nesting_limit) size.pointers (progress (start + size.data_words + size.pointers) lim.old) lim.new) }
+{
+    let data_words = u32::from(size.data_words);
+    let pointers = u32::from(size.pointers);
+    let first = start + data_words;
+    match test_children(from, first, pointers, nesting_limit, first + pointers, lim) {
+        Ok(Some(end)) => {
+            let is_used = ends_used(from.place, start, data_words)
+                && ends_used(from.place, first, pointers);
+            Ok(if is_used { Some(end) } else { None })
+        }
+        Ok(None) => Ok(None),
+        Err(kind) => Err(kind),
+    }
+}
+
+/// Tests the list that the word at a position describes.
+#[cycle(tests)]
+#[inline(never)]
+fn test_list<A: ReaderArena>(
+    from: &PointerReader<'_, A>,
+    at: u32,
+    word: WirePointer,
+    nesting_limit: i32,
+    head: u32,
+    lim: &mut ReadLimiter,
+) -> Result<Option<u32>, ErrorKind>
+    requires tested { IsTested (reading_on A.ReaderArena from.now at nesting_limit) }
+    requires there { word.0 ≡ word_of (reading_on A.ReaderArena from.now at nesting_limit) }
+    requires is_list { kind word.0 ≡ 1 }
+    ensures tells { IfOk result (Tells (reading_on A.ReaderArena from.now at nesting_limit) (progress head lim.old) lim.new) }
+    ensures refused { IfErr result (λ k. TestStops k (reading_on A.ReaderArena from.now at nesting_limit) (progress head lim.old) lim.new) }
+{
+    let place = Place { at, ..from.place };
+    let object = match from.source.read_object(place, nesting_limit, lim) {
+        Ok(object) => object,
+        Err(kind) => return Err(name_of_refusal(word, kind)),
+    };
+    if !starts_right(object, at, head) {
+        return Ok(None);
+    }
+    match object {
+        Object::Null | Object::Capability(_) | Object::Struct { .. } => Ok(None),
+        Object::Flat { start, size, count } => Ok(test_flat(start.bytes, start.at, size, count)),
+        Object::Pointers { start, count } => {
+            let end = start.at + count;
+            test_children(from, start.at, count, less(nesting_limit), end, lim)
+        }
+        Object::Structs { start, size, count } => {
+            let claimed = word.list_inline_composite_word_count();
+            let inner = less(less(nesting_limit));
+            test_structs(from, start.at, size, count, inner, claimed, lim)
+        }
+    }
+}
+
+/// Tests the elements of a list of structs that start at a place, where the list claims so many words.
+#[cycle(tests)]
+fn test_structs<A: ReaderArena>(
+    from: &PointerReader<'_, A>,
+    start: u32,
+    size: StructSize,
+    count: u32,
+    nesting_limit: i32,
+    claimed: u32,
+    lim: &mut ReadLimiter,
+) -> Result<Option<u32>, ErrorKind>
+    requires inside { start + claimed ≤ length (row (reading A.ReaderArena from.now)) }
+    ensures tells { IfOk result (TellsClaimed (reading_on A.ReaderArena from.now start nesting_limit) size count claimed lim.old lim.new) }
+    ensures refused { IfErr result (λ k. (count * (size.data_words + size.pointers) ≡ claimed) × RowTestsStop (reading_on A.ReaderArena from.now start nesting_limit) size count (progress (start + claimed) lim.old) lim.new k) }
+{
+    if u64::from(count) * u64::from(size.total()) != u64::from(claimed) {
+        return Ok(None);
+    }
+    if size.total() == 0 {
+        return Ok(Some(start));
+    }
+    test_rows(from, start, size, count, nesting_limit, lim)
+}
+
+/// Tests so many elements of a list of structs, one behind the other from a place on, their first
+/// object being right behind them.
+#[cycle(tests)]
+fn test_rows<A: ReaderArena>(
+    from: &PointerReader<'_, A>,
+    start: u32,
+    size: StructSize,
+    count: u32,
+    nesting_limit: i32,
+    lim: &mut ReadLimiter,
+) -> Result<Option<u32>, ErrorKind>
+    requires inside { start + count * (size.data_words + size.pointers) ≤ length (row (reading A.ReaderArena from.now)) }
+    ensures tells { IfOk result (TellsRows (reading_on A.ReaderArena from.now start nesting_limit) size count (progress (start + count * (size.data_words + size.pointers)) lim.old) lim.new) }
+    ensures refused { IfErr result (RowTestsStop (reading_on A.ReaderArena from.now start nesting_limit) size count (progress (start + count * (size.data_words + size.pointers)) lim.old) lim.new) }
+{
+    let data_words = u32::from(size.data_words);
+    let pointers = u32::from(size.pointers);
+    let width = data_words + pointers;
+    let mut head = start + count * width;
+    let mut is_data_used = data_words == 0;
+    let mut are_pointers_used = pointers == 0;
+    for i in 0..count {
+        let at = start + i * width;
+        head = match test_children(from, at + data_words, pointers, nesting_limit, head, lim) {
+            Ok(Some(end)) => end,
+            Ok(None) => return Ok(None),
+            Err(kind) => return Err(kind),
+        };
+        is_data_used = is_data_used || ends_used(from.place, at, data_words);
+        are_pointers_used = are_pointers_used || ends_used(from.place, at + data_words, pointers);
+    }
+    Ok(if is_data_used && are_pointers_used {
+        Some(head)
+    } else {
+        None
+    })
+}
+
+/// Tests a list of numbers that starts at a position: the bits behind the last one have to be zero.
+fn test_flat(bytes: &[u8], start: u32, size: ElementSize, count: u32) -> Option<u32>
+    requires inside { start + words_for (size_number size) count ≤ length (words_of bytes.now) }
+    requires small { length (words_of bytes.now) < 2 ^ 32 }
+    requires is_flat { size_number size ≤ 5 }
+    requires few { count < 2 ^ 29 }
+    ensures { TellsFlat (words_of bytes.now) start size count result }
+{
+    let bits = u64::from(count) * u64::from(data_bits_per_element(size));
+    let end = start + (bits / 64) as u32;
+    let rest = bits % 64;
+    if rest == 0 {
+        Some(end)
+    } else if word_at(bytes, end as usize) >> rest == 0 {
+        Some(end + 1)
+    } else {
+        None
+    }
+}
+
+/// How many whole words bytes have, each of which is one of 64 bits.
+fn whole_words(bytes: &[u8]) -> usize
+    ensures count { result ≡ length (words_of bytes.now) }
+    ensures small { (i : ℕ) → slice_index (words_of bytes.now) i < 2 ^ 64 }
+{
+    bytes.len() / 8
+}
+
+/// Whether there are none of so many words from a position on, or the last isn't zero.
+fn ends_used(place: Place, at: u32, count: u32) -> bool
+    requires { at + count < 2 ^ 32 }
+    ensures { IsTrue result ↔ (count ≡ 0) ⊎ (slice_index (words_of place.entry.bytes.now) (at + count - 1) ≢ 0) }
+{
+    if count == 0 {
+        return true;
+    }
+    let last = Place {
+        at: at + count - 1,
+        ..place
+    };
+    !last.word().is_null()
+}
+
+/// A nesting limit of one level less.
+fn less(nesting_limit: i32) -> i32
+    ensures { levels result ≡ pred (levels nesting_limit) }
+{
+    nesting_limit.saturating_sub(1)
+}
+
+/// Whether the object of the pointer at a position starts where canonical form has it: a struct of no
+/// words at the pointer itself, and any other at the head, a list of structs with its tag.
+fn starts_right(object: Object, at: u32, head: u32) -> bool
+    ensures { IsTrue result ↔ StartsRight object.entry at head }
+{
+    match object {
+        Object::Null => true,
+        Object::Capability(_) => false,
+        Object::Struct { start, size } if size.total() == 0 => start.at == at,
+        Object::Struct { start, .. } => start.at == head,
+        Object::Flat { start, .. } => start.at == head,
+        Object::Pointers { start, .. } => start.at == head,
+        Object::Structs { start, .. } => u64::from(start.at) == u64::from(head) + 1,
+    }
+}
+
+// How it is refused that the object of a word isn't read.
+fn name_of_refusal(word: WirePointer, kind: ErrorKind) -> ErrorKind
+    ensures { result ≡ refusal_name word.0 kind }
+{
+    match kind {
+        ErrorKind::MessageIsTooDeeplyNestedOrContainsCycles
+            if word.kind() == WirePointerKind::List => { ErrorKind::NestingLimitExceeded }
+        kind => kind,
+    }
+}
