@@ -14,6 +14,10 @@ pub record View : Type 0 where
 abbrev pub view_of : Segments → (ℕ → ℕ) → ℕ → (ℕ → ℕ → Bool) → View
 view_of words room refusals offers = record { words = words; room = room; refusals = refusals; offers = offers }
 
+-- Nothing but words is changed.
+abbrev pub KeepsLimits : View → View → Type 0
+KeepsLimits old new = new ≡ record old { words = new.words }
+
 -- the same, where no segment has more room
 pub same_room : (words : Segments) (new old : ℕ → ℕ) (refusals : ℕ) (offers : ℕ → ℕ → Bool) → new ≡ old → view_of words new refusals offers ≡ view_of words old refusals offers
 same_room words new old refusals offers e = ap (λ (room : ℕ → ℕ). view_of words room refusals offers) e

@@ -8,7 +8,7 @@ use Rattle.capnp_format.specs.Tree.{Tree, Trees, no_trees, count}
 use Rattle.capnp_format.specs.Canonical.{trim, trim_each, word_count_all, pointers, bodies}
 use Rattle.capnp_format.proofs.Children.{with_last, count-with_last}
 use Rattle.capnp_format.proofs.Trimming.{trim_each-count}
-use Rattle.capnp_arena.specs.View.{View}
+use Rattle.capnp_arena.specs.View.{View, KeepsLimits}
 use Rattle.capnp_arena.specs.Written.{with_segment}
 use Rattle.capnp_objects.specs.Outcomes.{Reads}
 use Rattle.capnp_objects.specs.Refusals.{Refused, BreaksOff, BreaksOffAmong}
@@ -16,7 +16,6 @@ use Rattle.capnp_objects.specs.Reading.{Reading, behind}
 use Rattle.capnp_objects.specs.Wanted.{canonical}
 use Rattle.capnp_objects.proofs.Copies.{read_none, read_more}
 use Rattle.capnp_copies.specs.Copied.{copied, with_children}
-use Rattle.capnp_copies.specs.Frames.{KeepsLimits}
 use Rattle.capnp_copies.specs.Parts.{Call, call_of, CopiesValue, StopsAtValue, CopiesChildren, StopsAtChildren}
 use Rattle.capnp_copies.specs.Rooms.{IsSameBelow, IsTooLarge}
 use Rattle.capnp_copies.proofs.ChildrenCopied.{trim_each-with_last, no_children, length_children, child_added, word_ahead}

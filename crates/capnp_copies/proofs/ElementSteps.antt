@@ -9,7 +9,7 @@ use Rattle.capnp_format.specs.Tree.{Trees, Elements, no_elements, element_count}
 use Rattle.capnp_format.specs.Canonical.{used_words, take_trees, trim_each, trim_elements, cut_to, word_count_all, word_count_elements, rows, element_bodies}
 use Rattle.capnp_format.proofs.Slices.{length_words}
 use Rattle.capnp_format.proofs.Trimming.{trim_each-count, take_trees-count}
-use Rattle.capnp_arena.specs.View.{View}
+use Rattle.capnp_arena.specs.View.{View, KeepsLimits}
 use Rattle.capnp_arena.specs.Written.{with_segment, with_words, overwritten}
 use Rattle.capnp_objects.specs.Outcomes.{ReadsAll, ReadsElements}
 use Rattle.capnp_objects.specs.Refusals.{RefusedAll, BreaksOffAmong, BreaksOffAmongElements}
@@ -17,7 +17,6 @@ use Rattle.capnp_objects.specs.Reading.{Reading, behind, row, words_from, pointe
 use Rattle.capnp_objects.specs.Wanted.{canonical}
 use Rattle.capnp_objects.proofs.Copies.{read_none, read_no_element, with_last_element}
 use Rattle.capnp_copies.specs.Copied.{with_children, rows_laid}
-use Rattle.capnp_copies.specs.Frames.{KeepsLimits}
 use Rattle.capnp_copies.specs.Parts.{Call, call_of, CopiesChildren, CopiesElement, StopsAtElement, CopiesElements, StopsAtElements}
 use Rattle.capnp_copies.specs.Rooms.{IsSameBelow, AreTooLarge, AreTooLargeElements}
 use Rattle.capnp_copies.specs.Widths.{pointers_used}

@@ -6,8 +6,7 @@ use Rattle.std.proofs.Math.Seq.{set-append_seam}
 use Rattle.capnp_format.specs.Segments.{Segments, segment, word_at, IsPlace}
 use Rattle.capnp_format.specs.Bytes.{message}
 use Rattle.capnp_arena.specs.Written.{with_segment, overwritten, with_words, with_word, extended}
-use Rattle.capnp_arena.specs.View.{View}
-use Rattle.capnp_copies.specs.Frames.{KeepsLimits}
+use Rattle.capnp_arena.specs.View.{View, KeepsLimits}
 use Rattle.capnp_copies.specs.Copies.{IsCleared}
 use Rattle.capnp_copies.specs.Rooms.{IsSameBelow}
 use Rattle.capnp_copies.proofs.Copying.{segment_written, there}

@@ -4,10 +4,6 @@ use Rattle.capnp_format.specs.Segments.{segment}
 use Rattle.capnp_arena.specs.View.{View}
 use Rattle.capnp_arena.specs.Written.{extended}
 
--- Nothing but words is changed.
-abbrev pub KeepsLimits : View → View → Type 0
-KeepsLimits old new = new ≡ record old { words = new.words }
-
 -- More words stand at the end of segment id, from position head on, and nothing else is changed.
 pub record TakesWords (old new : View) (id head : ℕ) (ws : List ℕ) : Type 0 where
   pub starts : head ≡ length (segment old.words id)

@@ -12,7 +12,7 @@ ghost use Rattle.capnp_readers.specs.Readers.{reading};
 ghost use Rattle.capnp_copies.specs.Copied.{zeroed_from};
 ghost use Rattle.capnp_copies.specs.Parts.{CopiesValue, StopsAtValue, call_of};
 ghost use Rattle.capnp_copies.specs.Copies.{IsCopied, IsCleared, CanBeCopied};
-ghost use Rattle.capnp_copies.specs.Frames.{KeepsLimits};
+ghost use Rattle.capnp_arena.specs.View.{KeepsLimits};
 ghost use Rattle.capnp_copies.specs.Rooms.{IsSameBelow, IsTooLarge, LacksRoom};
 
 mod children;

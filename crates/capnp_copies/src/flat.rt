@@ -9,7 +9,7 @@ ghost use Rattle.capnp_words.specs.declared.error.ErrorKind.TheVariants.{Message
 ghost use Rattle.capnp_arena.specs.Written.{with_words};
 ghost use Rattle.capnp_copies.specs.Copied.{low_bits};
 ghost use Rattle.capnp_copies.specs.Copies.{IsCopied};
-ghost use Rattle.capnp_copies.specs.Frames.{KeepsLimits};
+ghost use Rattle.capnp_arena.specs.View.{KeepsLimits};
 
 use capnp_arena::arena::BuilderArena;
 use capnp_words::error::ErrorKind;

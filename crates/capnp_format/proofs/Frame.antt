@@ -91,7 +91,7 @@ same_cover {S = S} {R = R} {s = s} {p = p} part part' kept l m e =
     ∙ ap (λ b. pads_of (word_at S s p) ++ part b) (sym (ap target_in l))
 
 mutual
-  frame_one : {S R : Segments} {n s p c : ℕ} (t : Tree) → KeepsWord S R s p → Agree S R (cover S s p t) → Meant S n s p t c → Means R n s p t c × (cover R s p t ≡ cover S s p t)
+  pub frame_one : {S R : Segments} {n s p c : ℕ} (t : Tree) → KeepsWord S R s p → Agree S R (cover S s p t) → Meant S n s p t c → Means R n s p t c × (cover R s p t ≡ cover S s p t)
   frame_one Null kept h m =
       let (e, g) = m.means in
       ((kept.same ∙ e, g), refl)
@@ -131,7 +131,7 @@ mutual
         same_cover (λ b. object_of b w ∷ cover_elements S b.segment (b.start + 1) d q es) (λ b. object_of b w ∷ cover_elements R b.segment (b.start + 1) d q es) kept o.leads_to.1 f.0.1 (ap (λ is. object_of a w ∷ is) inner.1),
       )
 
-  frame_all : {S R : Segments} {n s p c : ℕ} (ts : Trees) → Grows S R → SameWords S R s p (count ts) → Agree S R (cover_all S s p ts) → AllMeant S n s p ts c →
+  pub frame_all : {S R : Segments} {n s p c : ℕ} (ts : Trees) → Grows S R → SameWords S R s p (count ts) → Agree S R (cover_all S s p ts) → AllMeant S n s p ts c →
       MeansAll R n s p ts c × (cover_all R s p ts ≡ cover_all S s p ts)
   frame_all no_trees grows same h m = (m.means, refl)
   frame_all {S = S} {R = R} {s = s} {p = p} (tree t ts) grows same h m =
@@ -140,7 +140,7 @@ mutual
       let others = frame_all ts grows (λ q x y. same q (omega arith) (omega arith)) (agree_right S R (cover S s p t) (cover_all S s (p + 1) ts) h) (record { means = rest }) in
       ((k, l, first.0, others.0, g), ap₂ (λ x y. x ++ y) first.1 others.1)
 
-  frame_elements : {S R : Segments} {n s p d q c : ℕ} (es : Elements) → Grows S R → p + element_count es * (d + q) ≤ length (segment S s) → SameWords S R s p (element_count es * (d + q)) → Agree S R (cover_elements S s p d q es) → ElementsMeant S n s p d q es c →
+  pub frame_elements : {S R : Segments} {n s p d q c : ℕ} (es : Elements) → Grows S R → p + element_count es * (d + q) ≤ length (segment S s) → SameWords S R s p (element_count es * (d + q)) → Agree S R (cover_elements S s p d q es) → ElementsMeant S n s p d q es c →
       MeansElements R n s p d q es c × (cover_elements R s p d q es ≡ cover_elements S s p d q es)
   frame_elements no_elements grows fits same h m = (m.means, refl)
   frame_elements {S = S} {R = R} {s = s} {p = p} {d = d} {q = q} (element ws ts es) grows fits same h m =

@@ -1,6 +1,6 @@
 //! Numbers in a message: little-endian bytes, the lowest first.
-ghost use Rattle.std.specs.Prelude.{◌≡◌, ◌<◌, ◌≤◌, ◌^◌, ℕ, List, length};
-ghost use Rattle.std.proofs.Common.{lit<, lit≤};
+ghost use Rattle.std.specs.Prelude.{◌≡◌, ◌<◌, ◌≤◌, ◌%◌, ◌*◌, ◌^◌, ℕ, List, length};
+ghost use Rattle.std.proofs.Common.{lit<, lit≤, refl};
 ghost use Rattle.std.specs.Int.{w8, w16, w32, w64, from_le_bytes, to_le_bytes, cast_signed, cast_unsigned};
 ghost use Rattle.capnp_format.specs.Numbers.{from_digits};
 
@@ -17,6 +17,9 @@ pub trait Primitive {
     ghost positive: { 0 < BYTES };
 
     ghost small: { BYTES ≤ 8 };
+
+    // A word holds a whole number of them.
+    ghost divides: { 8 % BYTES ≡ 0 };
 
     // The bytes of the array.
     ghost raw_bytes: { Self.Raw → List ℕ };
@@ -53,7 +56,8 @@ pub trait Primitive {
         requires { length bytes.old ≡ BYTES }
         ensures bytes { bytes.new ≡ bytes_of self }
         ensures again { value_of bytes.new ≡ self }
-        ensures little_endian { from_digits 256 bytes.new ≡ bits_of self };
+        ensures little_endian { from_digits 256 bytes.new ≡ bits_of self }
+        ensures fits { bits_of self < 2 ^ (8 * BYTES) };
 }
 
 #[tactic(auto, using(crate::proofs::LittleEndian::little_endian))]
@@ -67,6 +71,8 @@ impl Primitive for u8 {
     ghost positive = { lit< tt };
 
     ghost small = { lit≤ tt };
+
+    ghost divides = { refl };
 
     ghost raw_bytes = { λ bs. bs };
 
@@ -105,6 +111,8 @@ impl Primitive for u16 {
 
     ghost small = { lit≤ tt };
 
+    ghost divides = { refl };
+
     ghost raw_bytes = { λ bs. bs };
 
     ghost bits_of = { λ n. n };
@@ -142,6 +150,8 @@ impl Primitive for u32 {
 
     ghost small = { lit≤ tt };
 
+    ghost divides = { refl };
+
     ghost raw_bytes = { λ bs. bs };
 
     ghost bits_of = { λ n. n };
@@ -178,6 +188,8 @@ impl Primitive for u64 {
     ghost positive = { lit< tt };
 
     ghost small = { lit≤ tt };
+
+    ghost divides = { refl };
 
     ghost raw_bytes = { λ bs. bs };
 
@@ -218,6 +230,8 @@ impl Primitive for i8 {
 
     ghost small = { lit≤ tt };
 
+    ghost divides = { refl };
+
     ghost raw_bytes = { λ bs. bs };
 
     ghost bits_of = { cast_unsigned w8 };
@@ -254,6 +268,8 @@ impl Primitive for i16 {
     ghost positive = { lit< tt };
 
     ghost small = { lit≤ tt };
+
+    ghost divides = { refl };
 
     ghost raw_bytes = { λ bs. bs };
 
@@ -292,6 +308,8 @@ impl Primitive for i32 {
 
     ghost small = { lit≤ tt };
 
+    ghost divides = { refl };
+
     ghost raw_bytes = { λ bs. bs };
 
     ghost bits_of = { cast_unsigned w32 };
@@ -328,6 +346,8 @@ impl Primitive for i64 {
     ghost positive = { lit< tt };
 
     ghost small = { lit≤ tt };
+
+    ghost divides = { refl };
 
     ghost raw_bytes = { λ bs. bs };
 

@@ -59,7 +59,7 @@ words_within width count i h = grind (arith, rows)
 pub struct_within : (size : ElementSize) (width count i : ℕ) → size ≡ InlineComposite → i < count → i * width + width ≤ list_words size count width
 struct_within size width count i e h = rw e (words_within width count i h)
 
-flat_words : (size : ElementSize) (n width : ℕ) → size_number size ≤ 5 → list_words size n width ≡ words_for (size_number size) n
+pub flat_words : (size : ElementSize) (n width : ℕ) → size_number size ≤ 5 → list_words size n width ≡ words_for (size_number size) n
 flat_words Pointer n width h = absurd (omega arith)
 flat_words InlineComposite n width h = absurd (omega arith)
 flat_words Void n width h = refl
@@ -70,7 +70,7 @@ flat_words FourBytes n width h = refl
 flat_words EightBytes n width h = refl
 
 -- so does a number
-number_within : (size : ElementSize) (n i : ℕ) → size_number size ≤ 5 → i < n → i * (element_bits (size_number size) / 8) + element_bits (size_number size) / 8 ≤ 8 * words_for (size_number size) n
+pub number_within : (size : ElementSize) (n i : ℕ) → size_number size ≤ 5 → i < n → i * (element_bits (size_number size) / 8) + element_bits (size_number size) / 8 ≤ 8 * words_for (size_number size) n
 number_within Pointer n i h l = absurd (omega arith)
 number_within InlineComposite n i h l = absurd (omega arith)
 number_within Void n i h l = omega arith
@@ -81,7 +81,7 @@ number_within FourBytes n i h l = omega arith
 number_within EightBytes n i h l = omega arith
 
 -- numbers of whole bytes
-number_bytes : (size : ElementSize) → size_number size ≢ 1 → bytes_for (element_bits (size_number size)) ≡ element_bits (size_number size) / 8
+pub number_bytes : (size : ElementSize) → size_number size ≢ 1 → bytes_for (element_bits (size_number size)) ≡ element_bits (size_number size) / 8
 number_bytes Bit h = absurd (h refl)
 number_bytes Void h = refl
 number_bytes Byte h = refl

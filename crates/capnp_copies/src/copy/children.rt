@@ -6,7 +6,7 @@ ghost use Rattle.capnp_objects.specs.Refusals.{BreaksOffAmong};
 ghost use Rattle.capnp_objects.specs.Wanted.{canonical};
 ghost use Rattle.capnp_readers.specs.Readers.{reading};
 ghost use Rattle.capnp_copies.specs.Parts.{CopiesChildren, StopsAtChildren, call_of};
-ghost use Rattle.capnp_copies.specs.Frames.{KeepsLimits};
+ghost use Rattle.capnp_arena.specs.View.{KeepsLimits};
 ghost use Rattle.capnp_copies.specs.Rooms.{IsSameBelow};
 
 use capnp_arena::arena::{BuilderArena, ReaderArena};

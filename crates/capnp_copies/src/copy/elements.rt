@@ -8,7 +8,7 @@ ghost use Rattle.capnp_objects.specs.Refusals.{BreaksOffAmong, BreaksOffAmongEle
 ghost use Rattle.capnp_objects.specs.Wanted.{canonical};
 ghost use Rattle.capnp_readers.specs.Readers.{reading};
 ghost use Rattle.capnp_copies.specs.Parts.{CopiesElement, CopiesElements, StopsAtElement, StopsAtElements, call_of};
-ghost use Rattle.capnp_copies.specs.Frames.{KeepsLimits};
+ghost use Rattle.capnp_arena.specs.View.{KeepsLimits};
 ghost use Rattle.capnp_copies.specs.Rooms.{IsSameBelow};
 ghost use Rattle.capnp_copies.specs.Widths.{pointers_used};
 

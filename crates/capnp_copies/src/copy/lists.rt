@@ -5,7 +5,8 @@ ghost use Rattle.capnp_objects.specs.Reading.{row};
 ghost use Rattle.capnp_objects.specs.Refusals.{BreaksOffAmong, BreaksOffAmongElements};
 ghost use Rattle.capnp_objects.specs.Wanted.{canonical};
 ghost use Rattle.capnp_readers.specs.Readers.{reading};
-ghost use Rattle.capnp_copies.specs.Frames.{KeepsLimits, TakesWords};
+ghost use Rattle.capnp_arena.specs.View.{KeepsLimits};
+ghost use Rattle.capnp_copies.specs.Frames.{TakesWords};
 ghost use Rattle.capnp_copies.specs.Parts.{CopiesPointers, CopiesStructs, StopsAtPointers, StopsAtStructs, call_of};
 ghost use Rattle.capnp_copies.specs.Rooms.{IsSameBelow};
 

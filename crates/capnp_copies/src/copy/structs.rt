@@ -6,7 +6,8 @@ ghost use Rattle.capnp_objects.specs.Reading.{behind, row};
 ghost use Rattle.capnp_objects.specs.Refusals.{BreaksOffAmong};
 ghost use Rattle.capnp_objects.specs.Wanted.{canonical};
 ghost use Rattle.capnp_readers.specs.Readers.{reading};
-ghost use Rattle.capnp_copies.specs.Frames.{KeepsLimits, TakesWords};
+ghost use Rattle.capnp_arena.specs.View.{KeepsLimits};
+ghost use Rattle.capnp_copies.specs.Frames.{TakesWords};
 ghost use Rattle.capnp_copies.specs.Parts.{CopiesStruct, StopsAtStruct, Uses, call_of};
 ghost use Rattle.capnp_copies.specs.Rooms.{IsSameBelow};
 

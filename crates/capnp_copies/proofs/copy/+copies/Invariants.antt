@@ -2,7 +2,7 @@ use Rattle.std.proofs.Common.{◌≡◌, ℕ, ◌+◌, ◌-◌, ◌*◌, ◌≤�
 use Rattle.capnp_format.specs.Segments.{segment, word_at}
 use Rattle.capnp_objects.specs.Source.{levels}
 use Rattle.capnp_readers.specs.Readers.{reading}
-use Rattle.capnp_copies.specs.Frames.{KeepsLimits}
+use Rattle.capnp_arena.specs.View.{KeepsLimits}
 use Rattle.capnp_copies.specs.Parts.{call_of, CopiesChildren}
 use Rattle.capnp_copies.proofs.ElementSteps.{RowsCopied}
 use Rattle.capnp_copies.proofs.copy.+copies.Given as goal

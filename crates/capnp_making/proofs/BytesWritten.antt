@@ -1,0 +1,227 @@
+-- Bytes written over those of a segment, and the list of bytes that its words then are.
+use Rattle.std.proofs.Common.{◌≡◌, inl, inr, ◌⊎◌, ℕ, zero, suc, ◌+◌, ◌-◌, ◌*◌, ◌^◌, ◌<◌, ◌≤◌, List, [], ◌∷◌, ◌++◌, length, take, drop, get_or, slice_get, slice_set, slice_index_or, Some, refl, sym, ap, ap₂, ◌∙◌, subst, arith, length-take, length-drop, append_assoc, take-append-drop, take_at, drop_at}
+use Rattle.std.proofs.lemmas.List.{length-append, length-replicate, drop-append-le, get_or_append_left, get_or-append_right, length-set}
+use Rattle.std.proofs.lemmas.Bool.{cases_lt, cases_eq}
+use borrow.Rule.Slice.PartMut.{put_mid}
+use Rattle.capnp_format.specs.Bytes.{words_of, message}
+use Rattle.capnp_format.specs.Numbers.{from_digits, digits, words_for, packed}
+use Rattle.capnp_format.specs.Value.{AreBelow}
+use Rattle.capnp_format.specs.Segments.{Segments, segment, word_at, words_at}
+use Rattle.capnp_format.specs.Tree.{Tree, Flat}
+use Rattle.capnp_format.specs.Means.{Means}
+use Rattle.capnp_format.specs.Forest.{times, target, target_in}
+use Rattle.capnp_format.proofs.BytesLemmas.{words_are_bytes}
+use Rattle.capnp_format.proofs.Digits.{digits_again}
+use Rattle.capnp_format.proofs.WordsOf.{words, length-words_of, words_of-put_mid, words_of-part, small_word}
+use Rattle.capnp_arena.proofs.MessageLemmas.{segment-message}
+use Rattle.capnp_arena.specs.Written.{with_segment, with_words, overwritten}
+use Rattle.capnp_making.specs.declared.making.Start.{Start}
+use Rattle.capnp_making.specs.Made.{zeros, LeadsTo}
+use Rattle.capnp_making.specs.Overwritten.{HoldsBytes, bytes_over}
+use Rattle.capnp_making.specs.Zeroed.{row}
+use Rattle.capnp_making.specs.Stored.{IsStored, IsReplaced}
+use Rattle.capnp_making.proofs.Replaced.{replaced_again}
+use Rattle.capnp_making.proofs.Written.{SameLengths, SameBut, flat_written}
+use Rattle.capnp_making.proofs.Zeros.{there, segment_here, word_here, word_other, lengths_kept, length-over, over_beside, of_row}
+
+-- a segment has the bytes of its words
+pub bytes_room : (S : Segments) (B : List (List ℕ)) (id : ℕ) (bs : List ℕ) → S ≡ message B → slice_get B id ≡ Some bs → 8 * length (segment S id) ≤ length bs
+bytes_room S B id bs e h = omega (arith, ap (λ T. length (segment T id)) e, ap length (segment-message B id bs h), words bs)
+
+pub found : (B : List (List ℕ)) (id : ℕ) (bs : List ℕ) → slice_get B id ≡ Some bs → slice_index_or B id [] ≡ bs
+found [] id bs e = cc
+found (b ∷ B) zero bs e = let same : b ≡ bs = cc in same
+found (b ∷ B) (suc id) bs e = found B id bs e
+
+-- bytes written over as code has it
+pub put_over : (a k : ℕ) (bs ys xs : List ℕ) → ys ≡ xs → k ≡ length xs → put_mid a k bs ys ≡ overwritten bs a xs
+put_over a k bs ys xs e f = rw (e, f) refl
+
+message_set : (B : List (List ℕ)) (id : ℕ) (bs : List ℕ) → message (slice_set B id bs) ≡ with_segment (message B) id (words_of bs)
+message_set [] id bs = refl
+message_set (b ∷ B) zero bs = refl
+message_set (b ∷ B) (suc id) bs = ap (λ S. words_of b ∷ S) (message_set B id bs)
+
+pub segment_bytes : (B : List (List ℕ)) (id : ℕ) → segment (message B) id ≡ words_of (slice_index_or B id [])
+segment_bytes [] id = refl
+segment_bytes (b ∷ B) zero = refl
+segment_bytes (b ∷ B) (suc id) = segment_bytes B id
+
+-- the bytes xs over the first of k words from word a on
+abbrev over_front : List ℕ → ℕ → ℕ → List ℕ → List ℕ
+over_front bs a k xs = xs ++ drop (length xs) (take (8 * k) (drop (8 * a) bs))
+
+length-front : (bs : List ℕ) (a k : ℕ) (xs : List ℕ) → length xs ≤ 8 * k → 8 * (a + k) ≤ length bs → length (over_front bs a k xs) ≡ 8 * k
+length-front bs a k xs l m =
+    let D : List ℕ = drop (8 * a) bs in
+    omega (arith, length-append xs (drop (length xs) (take (8 * k) D)), length-drop (length xs) (take (8 * k) D), length-take (8 * k) D, length-drop (8 * a) bs)
+
+-- part of a list dropped
+drop_part : (n m : ℕ) (xs : List ℕ) → n ≤ m → m ≤ length xs → drop n xs ≡ drop n (take m xs) ++ drop m xs
+drop_part n m xs l h = ap (drop n) (sym (take-append-drop m xs)) ∙ drop-append-le n (take m xs) (drop m xs) (omega (arith, length-take m xs))
+
+over_words : (bs : List ℕ) (a k : ℕ) (xs : List ℕ) → length xs ≤ 8 * k → 8 * (a + k) ≤ length bs → overwritten bs (8 * a) xs ≡ put_mid (8 * a) (8 * k) bs (over_front bs a k xs)
+over_words bs a k xs l m =
+    let D : List ℕ = drop (8 * a) bs in
+    ap (λ ys. take (8 * a) bs ++ (xs ++ ys)) (drop_part (length xs) (8 * k) D l (omega (arith, length-drop (8 * a) bs)))
+    ∙ ap (λ ys. take (8 * a) bs ++ ys) (sym (append_assoc xs (drop (length xs) (take (8 * k) D)) (drop (8 * k) D)))
+
+-- the words of bytes that are written over
+words_over : (bs : List ℕ) (a k : ℕ) (xs : List ℕ) → length xs ≤ 8 * k → 8 * (a + k) ≤ length bs → words_of (overwritten bs (8 * a) xs) ≡ overwritten (words_of bs) a (words_of (over_front bs a k xs))
+words_over bs a k xs l m =
+    let N : List ℕ = over_front bs a k xs in
+    let long : length N ≡ 8 * k = length-front bs a k xs l m in
+    let count : k ≡ length (words_of N) = sym (length-words_of k N (omega (arith, long)) (omega (arith, long))) in
+    ap words_of (over_words bs a k xs l m) ∙ words_of-put_mid a k bs N m long ∙ ap (λ j. take a (words_of bs) ++ (words_of N ++ drop j (drop a (words_of bs)))) count
+
+-- numbers of zeros
+pub from_zeros : (n : ℕ) → from_digits 256 (zeros n) ≡ 0
+from_zeros zero = refl
+from_zeros (suc n) = omega (arith, from_zeros n)
+
+no_words : (n : ℕ) → from_digits (2 ^ 64) (digits (2 ^ 64) n 0) ≡ 0
+no_words zero = refl
+no_words (suc n) = omega (arith, no_words n)
+
+pub zeros_packed : (n : ℕ) → from_digits (2 ^ 64) (packed 2 (zeros n)) ≡ 0
+zeros_packed n = ap (λ x. from_digits (2 ^ 64) (digits (2 ^ 64) (words_for 2 (length (zeros n))) x)) (from_zeros n) ∙ no_words (words_for 2 (length (zeros n)))
+
+-- bytes whose number is zero
+zero_byte : (xs : List ℕ) (i : ℕ) → from_digits 256 xs ≡ 0 → get_or xs i 0 ≡ 0
+zero_byte [] i e = refl
+zero_byte (x ∷ xs) zero e = omega arith
+zero_byte (x ∷ xs) (suc i) e = zero_byte xs i (omega arith)
+
+zero_rest : (n : ℕ) (xs : List ℕ) → from_digits 256 xs ≡ 0 → from_digits 256 (drop n xs) ≡ 0
+zero_rest zero xs e = e
+zero_rest (suc n) [] e = refl
+zero_rest (suc n) (x ∷ xs) e = zero_rest n xs (omega arith)
+
+-- such bytes behind others
+same_number : (xs ys : List ℕ) → from_digits 256 ys ≡ 0 → from_digits 256 (xs ++ ys) ≡ from_digits 256 xs
+same_number [] ys e = e
+same_number (x ∷ xs) ys e = omega (arith, same_number xs ys e)
+
+small_bytes : (xs ys : List ℕ) → ((i : ℕ) → get_or xs i 0 < 256) → from_digits 256 ys ≡ 0 → (i : ℕ) → get_or (xs ++ ys) i 0 < 256
+small_bytes xs ys h e i = elim (cases_lt i (length xs)) [
+  | inl l ↦ omega (arith, h i, get_or_append_left xs ys 0 i l)
+  | inr l ↦ omega (arith, get_or-append_right xs ys (length xs) i 0 refl l, zero_byte ys (i - length xs) e)
+]
+
+all_below : (limit : ℕ) (xs : List ℕ) → ((i : ℕ) → get_or xs i 0 < limit) → AreBelow limit xs
+all_below limit [] h = tt
+all_below limit (x ∷ xs) h = (h zero, all_below limit xs (λ i. h (suc i)))
+
+-- words written over others
+record AreWritten (S R : Segments) (s p n : ℕ) (ws : List ℕ) : Type 0 where
+  long : SameLengths S R
+  but : SameBut S R (row s p n)
+  here : words_at R s p n ≡ ws
+
+words_written : (S R : Segments) (s p n : ℕ) (ws : List ℕ) → 0 < n → length ws ≡ n → p + n ≤ length (segment S s) → R ≡ with_words S s p ws → AreWritten S R s p n ws
+words_written S R s p n ws some long l e =
+    let W = segment S s in
+    let fits : p + length ws ≤ length W = omega arith in
+    let ok : s < length S = there S s p (omega arith) in
+    let made : List ℕ = overwritten W p ws in
+    let same : (v : ℕ) → length (segment (with_words S s p ws) v) ≡ length (segment S v) = lengths_kept S s made (length-over W p ws fits) in
+    subst (λ T. AreWritten S T s p n ws) (sym e) (record {
+      long = record { segments = length-set S s made; words = same };
+      but = λ v r h. elim (cases_eq v s) [
+        | inl f ↦ ap (λ u. word_at (with_words S s p ws) u r) f ∙ word_here S s r made ok ∙ over_beside W p ws r fits (beside r (rw f at h)) ∙ ap (λ u. word_at S u r) (sym f)
+        | inr f ↦ word_other S s v r made f
+      ];
+      here =
+          ap (λ xs. take n (drop p xs)) (segment_here S s made ok)
+          ∙ ap (take n) (drop_at (take p W) (ws ++ drop (length ws) (drop p W)) p (omega (arith, length-take p W)))
+          ∙ take_at ws (drop (length ws) (drop p W)) n long;
+    })
+  where
+    beside : (r : ℕ) → times (row s p n ∷ []) s r ≡ 0 → (r < p) ⊎ (p + length ws ≤ r)
+    beside r h = elim (cases_lt r p) [
+      | inl m ↦ inl m
+      | inr m ↦ elim (cases_lt r (p + n)) [
+        | inl k ↦ absurd (omega (arith, of_row s p n r m k))
+        | inr k ↦ inr (omega arith)
+      ]
+    ]
+
+-- the words that a list of numbers takes lie in their segment
+flat_claims : (S : Segments) (s p size : ℕ) (ns : List ℕ) → IsStored S s p (Flat size ns) → (target S s p).start + words_for size (length ns) ≤ length (segment S (target S s p).segment)
+flat_claims S s p size ns x =
+    let m = x.means in
+    go m.0 m.1 m.2
+  where
+    go : (n c : ℕ) → Means S n s p (Flat size ns) c → (target S s p).start + words_for size (length ns) ≤ length (segment S (target S s p).segment)
+    go n c (a, some, le, o, claim, e, g) = subst (λ b. b.start + words_for size (length ns) ≤ length (segment S b.segment)) (sym (ap target_in o.leads_to.1)) claim
+
+-- such bytes over the first ones of a list of zero bytes are a list of bytes
+packed_over : (bs : List ℕ) (a k n : ℕ) (xs : List ℕ) → length xs ≤ n → words_for 2 n ≡ k → 8 * (a + k) ≤ length bs → ((i : ℕ) → get_or xs i 0 < 256) → take k (drop a (words_of bs)) ≡ packed 2 (zeros n) →
+    (length (words_of (over_front bs a k xs)) ≡ k) × (words_of (over_front bs a k xs) ≡ packed 2 (xs ++ zeros (n - length xs)))
+packed_over bs a k n xs few wide room small zero_words =
+    let ms : List ℕ = xs ++ zeros (n - length xs) in
+    let old : List ℕ = take (8 * k) (drop (8 * a) bs) in
+    let new : List ℕ = over_front bs a k xs in
+    let long : length new ≡ 8 * k = length-front bs a k xs (omega (arith, wide)) room in
+    let count : length (words_of new) ≡ k = length-words_of k new (omega (arith, long)) (omega (arith, long)) in
+    let shows : words_of old ≡ packed 2 (zeros n) = words_of-part a k (8 * a) (8 * k) bs refl refl room ∙ zero_words in
+    let nothing : from_digits 256 old ≡ 0 = sym (words_are_bytes k old (omega (arith, length-take (8 * k) (drop (8 * a) bs), length-drop (8 * a) bs))) ∙ ap (from_digits (2 ^ 64)) shows ∙ zeros_packed n in
+    let rest : from_digits 256 (drop (length xs) old) ≡ 0 = zero_rest (length xs) old nothing in
+    let number : from_digits 256 ms ≡ from_digits (2 ^ 64) (words_of new) =
+    same_number xs (zeros (n - length xs)) (from_zeros (n - length xs)) ∙ sym (same_number xs (drop (length xs) old) rest) ∙ sym (words_are_bytes k new long) in
+    let below : AreBelow (2 ^ 64) (words_of new) = all_below (2 ^ 64) (words_of new) (small_word new (small_bytes xs (drop (length xs) old) small rest)) in
+    let all : length ms ≡ n = omega (arith, few, length-append xs (zeros (n - length xs)), length-replicate {A = ℕ} (n - length xs) 0) in
+    (count, sym (ap₂ (λ j y. digits (2 ^ 64) j y) (ap (words_for 2) all ∙ wide) number ∙ digits_again (2 ^ 64) k (words_of new) below count))
+
+-- From S to R the bytes xs are written from the word h on, if they lie in its segment, and nothing else is.
+pub record WritesBytes (S R : Segments) (h : Start) (xs : List ℕ) : Type 0 where
+  pub old : List (List ℕ)
+  pub new : List (List ℕ)
+  pub old_read : S ≡ message old
+  pub new_read : R ≡ message new
+  pub small : (i : ℕ) → get_or xs i 0 < 256
+  pub nothing : length xs ≡ 0 → R ≡ S
+  pub written : 0 < length xs → HoldsBytes S h (length xs) → new ≡ bytes_over old h xs
+
+-- so the words are written that hold these bytes
+whole_words : (S R : Segments) (h : Start) (xs : List ℕ) (u a k : ℕ) → WritesBytes S R h xs → h.segment ≡ u → h.at ≡ a → 0 < length xs → length xs ≤ 8 * k → a + k ≤ length (segment S u) → (bs : List ℕ) × (segment S u ≡ words_of bs) × (8 * (a + k) ≤ length bs) × (R ≡ with_words S u a (words_of (over_front bs a k xs)))
+whole_words S R h xs u a k w is_u is_a some enough claim =
+    let B : List (List ℕ) = w.old in
+    let bs : List ℕ = slice_index_or B u [] in
+    let shown : segment S u ≡ words_of bs = ap (λ T. segment T u) w.old_read ∙ segment_bytes B u in
+    let room : 8 * (a + k) ≤ length bs = omega (arith, claim, ap length shown, words bs) in
+    let holds : HoldsBytes S h (length xs) = omega (arith, claim, enough, is_a, ap (λ v. length (segment S v)) is_u) in (
+      bs,
+      shown,
+      room,
+      w.new_read ∙ ap message (w.written some holds ∙ ap₂ (λ v q. slice_set B v (overwritten (slice_index_or B v []) (8 * q) xs)) is_u is_a)
+          ∙ message_set B u (overwritten bs (8 * a) xs) ∙ ap₂ (λ T ws. with_segment T u ws) (sym w.old_read) (words_over bs a k xs enough room ∙ ap (λ ws. overwritten ws a (words_of (over_front bs a k xs))) (sym shown)),
+    )
+
+-- some bytes over the first ones of a list of zero bytes
+some_bytes : (S R : Segments) (s p n : ℕ) (h : Start) (xs : List ℕ) → WritesBytes S R h xs → IsStored S s p (Flat 2 (zeros n)) → LeadsTo S s p h → 0 < length xs → length xs ≤ n →
+    IsReplaced S R s p (Flat 2 (zeros n)) (Flat 2 (xs ++ zeros (n - length xs)))
+some_bytes S R s p n h xs w x lead some few =
+    let u = (target S s p).segment in
+    let a = (target S s p).start in
+    let k = words_for 2 (length (zeros n)) in
+    let ms : List ℕ = xs ++ zeros (n - length xs) in
+    let ln : length (zeros n) ≡ n = length-replicate {A = ℕ} n 0 in
+    let same_length : length ms ≡ length (zeros n) = omega (arith, ln, length-append xs (zeros (n - length xs)), length-replicate {A = ℕ} (n - length xs) 0) in
+    let claim : a + k ≤ length (segment S u) = flat_claims S s p 2 (zeros n) x in
+    let (bs, shown, room, whole) = whole_words S R h xs u a k w lead.0 lead.1 some (omega (arith, ln)) claim in
+    let list = packed_over bs a k n xs few (ap (words_for 2) (sym ln)) room w.small (ap (λ ws. take k (drop a ws)) (sym shown) ∙ x.tidy) in
+    let done = words_written S R u a k (words_of (over_front bs a k xs)) (omega (arith, ln)) list.0 claim whole in
+    flat_written S R s p 2 (zeros n) ms done.long x same_length (all_below 256 ms (small_bytes xs (zeros (n - length xs)) w.small (from_zeros (n - length xs)))) done.but (done.here ∙ list.1)
+
+-- no bytes over them
+no_bytes : (n : ℕ) (xs : List ℕ) → length xs ≡ 0 → Flat 2 (zeros n) ≡ Flat 2 (xs ++ zeros (n - length xs))
+no_bytes n [] l = ap (λ m. Flat 2 (zeros m)) (let e : n ≡ n - 0 = omega arith in e)
+no_bytes n (y ∷ xs) l = absurd (omega arith)
+
+-- a list of zero bytes in place of a value, and then bytes over its first ones
+pub bytes_written : (Q S R : Segments) (s p n : ℕ) (t : Tree) (h : Start) (xs : List ℕ) → WritesBytes S R h xs → IsReplaced Q S s p t (Flat 2 (zeros n)) → LeadsTo S s p h → length xs ≤ n → IsReplaced Q R s p t (Flat 2 (xs ++ zeros (n - length xs)))
+bytes_written Q S R s p n t h xs w made lead few = elim (cases_eq (length xs) 0) [
+  | inl e ↦ subst (λ y. IsReplaced Q R s p t y) (no_bytes n xs e) (subst (λ T. IsReplaced Q T s p t (Flat 2 (zeros n))) (sym (w.nothing e)) made)
+  | inr some ↦ replaced_again Q S R s p t (Flat 2 (zeros n)) (Flat 2 (xs ++ zeros (n - length xs))) made (some_bytes S R s p n h xs w made.stored lead (omega arith) few)
+]

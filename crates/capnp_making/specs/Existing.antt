@@ -1,0 +1,137 @@
+-- What a pointer that means a value gives to a call that looks for a list, data, a text or a capability ("Lists", "Capabilities (Interfaces)").
+use Rattle.std.specs.Prelude.{ℕ, ◌+◌, ◌-◌, ◌≤◌, Bool, false, cond, ◌&&◌, nat_eq, nat_le, List, [], ◌∷◌, length, get_or, take, drop, Option, Some, None, Result, Ok, Err}
+use Rattle.capnp_format.specs.Numbers.{element_bits, words_for, unpacked}
+use Rattle.capnp_format.specs.Segments.{Segments, segment, word_at, Target}
+use Rattle.capnp_format.specs.Tree.{Tree, Null, Capability, Struct, Flat, Pointers, Structs, count, element_count}
+use Rattle.capnp_format.specs.Word.{lower_half, upper_half, offset_bits, data_words, pointer_count}
+use Rattle.capnp_pointers.specs.Sizes.{size_number, pointers_per_element}
+use Rattle.capnp_pointers.specs.declared.wire_pointer.ElementSize.{ElementSize}
+use Rattle.capnp_pointers.specs.declared.wire_pointer.ElementSize.TheVariants.{Void, Bit, Byte, TwoBytes, FourBytes, EightBytes, Pointer, InlineComposite}
+use Rattle.capnp_words.specs.declared.error.ErrorKind.{ErrorKind}
+use Rattle.capnp_words.specs.declared.error.ErrorKind.TheVariants.{
+  ExistingListPointerIsNotByteSized,
+  ExistingListValueIsIncompatibleWithExpectedType,
+  ExistingPointerIsNotAList,
+  FoundStructListWhereBitListWasExpected,
+  MessageContainsNonCapabilityPointerWhereCapabilityPointerWasExpected,
+  MessageContainsNullCapabilityPointer,
+  TextBlobMissingNULTerminator,
+}
+use Rattle.capnp_making.specs.Landings.{target_of}
+use Rattle.capnp_making.specs.declared.landing.Landing.{Landing}
+use Rattle.capnp_making.specs.declared.existing.ExistingList.{ExistingList}
+use Rattle.capnp_making.specs.declared.existing.ExistingBytes.{ExistingBytes}
+
+-- The index of the capability that a pointer word is.
+abbrev pub capability_of : ℕ → Result ℕ ErrorKind
+capability_of x =
+    cond (nat_eq x 0) (Err MessageContainsNullCapabilityPointer)
+    (cond (nat_eq (lower_half x) 3) (Ok (upper_half x)) (Err MessageContainsNonCapabilityPointerWhereCapabilityPointerWasExpected))
+
+-- The index of the capability that a value is which the pointer leads to at a, and to which no landing pads lead.
+abbrev pub capability_in : Target → Tree → Result ℕ ErrorKind
+capability_in a Null = Err MessageContainsNullCapabilityPointer
+capability_in a (Capability i) = cond (nat_eq a.pads 0) (Ok i) (Err MessageContainsNonCapabilityPointerWhereCapabilityPointerWasExpected)
+capability_in a t = Err MessageContainsNonCapabilityPointerWhereCapabilityPointerWasExpected
+
+-- Where a landing is, if a call comes that far.
+abbrev pub listed : Result (Option Landing) ErrorKind → Result (Option Target) ErrorKind
+listed (Ok (Some l)) = Ok (Some (target_of l))
+listed (Ok None) = Ok None
+listed (Err e) = Err e
+
+-- Where a pointer that means a value leads, if to a list.
+abbrev pub landing_in : Target → Tree → Result (Option Target) ErrorKind
+landing_in a Null = Ok None
+landing_in a (Capability i) = Err ExistingPointerIsNotAList
+landing_in a (Struct ws ts) = Err ExistingPointerIsNotAList
+landing_in a (Flat size ns) = Ok (Some a)
+landing_in a (Pointers ts) = Ok (Some a)
+landing_in a (Structs d q es) = Ok (Some a)
+
+-- The element size of a number.
+abbrev pub size_of : ℕ → ElementSize
+size_of n = get_or (Void ∷ Bit ∷ Byte ∷ TwoBytes ∷ FourBytes ∷ EightBytes ∷ Pointer ∷ []) n InlineComposite
+
+-- What is wrong with found elements that are no structs, where others are expected: they have fewer bits of data, or fewer pointers.
+abbrev pub plain_misfit : ElementSize → ElementSize → Option ErrorKind
+plain_misfit expected found =
+    cond (nat_le (element_bits (size_number expected)) (element_bits (size_number found)) && nat_le (pointers_per_element expected) (pointers_per_element found))
+    None (Some ExistingListValueIsIncompatibleWithExpectedType)
+
+-- What is wrong with structs of d data words and q pointers, where other elements are expected.
+abbrev pub structs_misfit : ElementSize → ℕ → ℕ → Option ErrorKind
+structs_misfit Void d q = None
+structs_misfit Bit d q = Some FoundStructListWhereBitListWasExpected
+structs_misfit Byte d q = cond (nat_eq d 0) (Some ExistingListValueIsIncompatibleWithExpectedType) None
+structs_misfit TwoBytes d q = cond (nat_eq d 0) (Some ExistingListValueIsIncompatibleWithExpectedType) None
+structs_misfit FourBytes d q = cond (nat_eq d 0) (Some ExistingListValueIsIncompatibleWithExpectedType) None
+structs_misfit EightBytes d q = cond (nat_eq d 0) (Some ExistingListValueIsIncompatibleWithExpectedType) None
+structs_misfit Pointer d q = cond (nat_eq q 0) (Some ExistingListValueIsIncompatibleWithExpectedType) None
+structs_misfit InlineComposite d q = None
+
+-- A list of n elements that are no structs, and one of n structs, whose elements stand behind the tag.
+abbrev pub plain_list : Target → ElementSize → ℕ → ExistingList
+plain_list a size n = record { segment = a.segment; start = a.start; size = size; struct_size = record { data_words = 0; pointers = 0 }; count = n }
+
+abbrev pub struct_list : Target → ℕ → ℕ → ℕ → ExistingList
+struct_list a d q n = record { segment = a.segment; start = a.start + 1; size = InlineComposite; struct_size = record { data_words = d; pointers = q }; count = n }
+
+-- What is found, unless something is wrong with it.
+abbrev pub unless : Option ErrorKind → ExistingList → Result (Option ExistingList) ErrorKind
+unless None l = Ok (Some l)
+unless (Some e) l = Err e
+
+-- The list of structs by the tag that stands at a.
+abbrev pub tagged_list : Segments → Target → ElementSize → Result (Option ExistingList) ErrorKind
+tagged_list S a expected =
+    let g = word_at S a.segment a.start in
+    unless (structs_misfit expected (data_words g) (pointer_count g)) (struct_list a (data_words g) (pointer_count g) (offset_bits g))
+
+-- The list that a value is which the pointer leads to at a, where its elements are to be as wide as expected ones.
+abbrev pub list_in : Target → ElementSize → Tree → Result (Option ExistingList) ErrorKind
+list_in a expected Null = Ok None
+list_in a expected (Capability i) = Err ExistingPointerIsNotAList
+list_in a expected (Struct ws ts) = Err ExistingPointerIsNotAList
+list_in a expected (Flat size ns) = unless (plain_misfit expected (size_of size)) (plain_list a (size_of size) (length ns))
+list_in a expected (Pointers ts) = unless (plain_misfit expected Pointer) (plain_list a Pointer (count ts))
+list_in a expected (Structs d q es) = unless (structs_misfit expected d q) (struct_list a d q (element_count es))
+
+-- So many bytes from where a pointer leads.
+abbrev pub bytes_at : Target → ℕ → ExistingBytes
+bytes_at a n = record { segment = a.segment; start = a.start; length = n }
+
+-- The data that a value is.
+abbrev pub data_in : Target → Tree → Result (Option ExistingBytes) ErrorKind
+data_in a Null = Ok None
+data_in a (Capability i) = Err ExistingPointerIsNotAList
+data_in a (Struct ws ts) = Err ExistingPointerIsNotAList
+data_in a (Flat size ns) = cond (nat_eq size 2) (Ok (Some (bytes_at a (length ns)))) (Err ExistingListPointerIsNotByteSized)
+data_in a (Pointers ts) = Err ExistingListPointerIsNotByteSized
+data_in a (Structs d q es) = Err ExistingListPointerIsNotByteSized
+
+-- The words that hold bytes lie in their segment.
+abbrev pub AreInside : Segments → ExistingBytes → Type 0
+AreInside S b = b.start + words_for 2 b.length ≤ length (segment S b.segment)
+
+-- n bytes from a word on.
+abbrev pub bytes_in : List ℕ → ℕ → ℕ → List ℕ
+bytes_in ws p n = unpacked 2 n (take (words_for 2 n) (drop p ws))
+
+-- Whether there is a last byte, and it is 0.
+abbrev pub ends_in_zero : List ℕ → Bool
+ends_in_zero [] = false
+ends_in_zero (n ∷ ns) = nat_eq (get_or (n ∷ ns) (length ns) 0) 0
+
+-- The text that bytes are, without the last one.
+abbrev pub text_of : Target → List ℕ → Result (Option ExistingBytes) ErrorKind
+text_of a ns = cond (ends_in_zero ns) (Ok (Some (bytes_at a (length ns - 1)))) (Err TextBlobMissingNULTerminator)
+
+-- The text that a value is.
+abbrev pub text_in : Target → Tree → Result (Option ExistingBytes) ErrorKind
+text_in a Null = Ok None
+text_in a (Capability i) = Err ExistingPointerIsNotAList
+text_in a (Struct ws ts) = Err ExistingPointerIsNotAList
+text_in a (Flat size ns) = cond (nat_eq size 2) (text_of a ns) (Err ExistingListPointerIsNotByteSized)
+text_in a (Pointers ts) = Err ExistingListPointerIsNotByteSized
+text_in a (Structs d q es) = Err ExistingListPointerIsNotByteSized

@@ -1,0 +1,40 @@
+-- Bytes of a segment that are written in place ("Lists").
+use Rattle.std.specs.Prelude.{◌≡◌, ℕ, ◌-◌, ◌*◌, ◌≤◌, ◌++◌, List, [], length, take, drop, slice_index_or, slice_set, replicate}
+use Rattle.capnp_format.specs.Forest.{target}
+use Rattle.capnp_format.specs.Segments.{Segments}
+use Rattle.capnp_format.specs.Tree.{Tree, Flat}
+use Rattle.capnp_format.specs.Value.{AreBelow}
+use Rattle.capnp_arena.specs.Written.{overwritten}
+use Rattle.capnp_making.specs.Made.{zeros}
+use Rattle.capnp_making.specs.Stored.{IsStored, IsReplaced}
+use Rattle.capnp_making.specs.declared.existing.ExistingBytes.{ExistingBytes}
+
+-- The bytes at a place of the segments.
+abbrev pub bytes_of : List (List ℕ) → ExistingBytes → List ℕ
+bytes_of B b = take b.length (drop (8 * b.start) (slice_index_or B b.segment []))
+
+-- The bytes of their segment, where these are others.
+abbrev pub segment_with : List (List ℕ) → ExistingBytes → List ℕ → List ℕ
+segment_with B b ws = overwritten (slice_index_or B b.segment []) (8 * b.start) ws
+
+-- The segments, where these bytes are others.
+abbrev pub segments_with : List (List ℕ) → ExistingBytes → List ℕ → List (List ℕ)
+segments_with B b ws = slice_set B b.segment (segment_with B b ws)
+
+-- An arena, where these bytes are others.
+abbrev pub rewritten : {A : Type 0} → (A → ℕ → List ℕ → A) → (A → List (List ℕ)) → A → ExistingBytes → List ℕ → A
+rewritten with_bytes segments a b ws = with_bytes a b.segment (segment_with (segments a) b ws)
+
+-- n bytes
+abbrev pub AreBytes : ℕ → List ℕ → Type 0
+AreBytes n ws = (length ws ≡ n) × AreBelow 256 ws
+
+-- From S to R the bytes ws are written at b: where b is the start of a new list of n bytes, all zero, ws stand in it, and the others are zero.
+abbrev pub FillsZeros : Segments → Segments → ExistingBytes → List ℕ → Type 0
+FillsZeros S R b ws =
+    (Q : Segments) (s p n : ℕ) (t : Tree) → IsReplaced Q S s p t (Flat 2 (zeros n)) → b.segment ≡ (target S s p).segment → b.start ≡ (target S s p).start → b.length ≤ n
+    → IsReplaced Q R s p t (Flat 2 (ws ++ zeros (n - b.length)))
+
+-- Where a place of the message holds a value, these bytes are zero.
+abbrev pub AreZeroOnce : Segments → ℕ → ℕ → List ℕ → Type 0
+AreZeroOnce S s p ws = (t : Tree) → IsStored S s p t → ws ≡ replicate (length ws) 0

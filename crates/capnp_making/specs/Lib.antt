@@ -1,0 +1,11 @@
+pub mod Path
+pub mod Stored
+pub mod Landings
+pub mod Zeroed
+pub mod Memory
+pub mod Made
+pub mod Existing
+pub mod Fields
+pub mod InPlace
+pub mod Laws
+pub mod Overwritten

@@ -1,0 +1,74 @@
+-- Paths into a value: the value with another one at the end of a path, and the place in a message where a path leads.
+use Rattle.std.specs.Prelude.{◌≡◌, ℕ, zero, suc, ◌+◌, ◌*◌, ◌<◌, List, [], ◌∷◌, length}
+use Rattle.capnp_format.specs.Segments.{Segments}
+use Rattle.capnp_format.specs.Tree.{Tree, Null, Struct, Pointers, Structs, Trees, no_trees, tree, Elements, no_elements, element, count, element_count}
+use Rattle.capnp_format.specs.Forest.{Interval, target, cover}
+
+-- A step from a struct to a child, or from a list to an element, by its number.
+pub data Step : Type 0 where
+  Child : ℕ → Step
+  Element : ℕ → Step
+
+-- the i-th child, and the children with another one in its place
+abbrev pub tree_at : Trees → ℕ → Tree
+tree_at no_trees i = Null
+tree_at (tree t ts) zero = t
+tree_at (tree t ts) (suc i) = tree_at ts i
+
+abbrev pub put_tree : Trees → ℕ → Tree → Trees
+put_tree no_trees i u = no_trees
+put_tree (tree t ts) zero u = tree u ts
+put_tree (tree t ts) (suc i) u = tree t (put_tree ts i u)
+
+-- the i-th element, as a struct, and the elements with another struct in its place
+abbrev pub struct_at : Elements → ℕ → Tree
+struct_at no_elements i = Null
+struct_at (element ws ts es) zero = Struct ws ts
+struct_at (element ws ts es) (suc i) = struct_at es i
+
+abbrev pub put_struct : Elements → ℕ → Tree → Elements
+put_struct (element ws ts es) zero (Struct vs us) = element vs us es
+put_struct (element ws ts es) (suc i) u = element ws ts (put_struct es i u)
+put_struct es i u = es
+
+-- a struct with other data words
+abbrev pub with_words : Tree → List ℕ → Tree
+with_words (Struct ws ts) vs = Struct vs ts
+with_words t vs = t
+
+abbrev pub next : Tree → Step → Tree
+next (Struct ws ts) (Child i) = tree_at ts i
+next (Pointers ts) (Element i) = tree_at ts i
+next (Structs d q es) (Element i) = struct_at es i
+next t step = Null
+
+-- with another value where the step leads
+abbrev pub put : Tree → Step → Tree → Tree
+put (Struct ws ts) (Child i) u = Struct ws (put_tree ts i u)
+put (Pointers ts) (Element i) u = Pointers (put_tree ts i u)
+put (Structs d q es) (Element i) u = Structs d q (put_struct es i u)
+put t step u = t
+
+-- the tree with u at a path, the rest as it was
+abbrev pub update : Tree → List Step → Tree → Tree
+update t [] u = u
+update t (step ∷ path) u = put t step (update (next t step) path u)
+
+-- from a place that means t the path leads to the place (u, q), which means x
+abbrev pub PathLeads : Segments → ℕ → ℕ → Tree → List Step → ℕ → ℕ → Tree → Type 0
+PathLeads S s p t [] u q x = (s ≡ u) × (p ≡ q) × (t ≡ x)
+PathLeads S s p (Struct ws ts) (Child i ∷ path) u q x =
+    (i < count ts) × PathLeads S (target S s p).segment ((target S s p).start + length ws + i) (tree_at ts i) path u q x
+PathLeads S s p (Pointers ts) (Element i ∷ path) u q x =
+    (i < count ts) × PathLeads S (target S s p).segment ((target S s p).start + i) (tree_at ts i) path u q x
+PathLeads S s p (Structs d k es) (Element i ∷ Child j ∷ path) u q x =
+    (i < element_count es) × (j < k) × PathLeads S (target S s p).segment ((target S s p).start + 1 + i * (d + k) + d + j) (next (struct_at es i) (Child j)) path u q x
+PathLeads S s p t path u q x = ⊥
+
+-- the word at a place
+abbrev pub one_word : ℕ → ℕ → Interval
+one_word s p = record { segment = s; start = p; words = 1 }
+
+-- the word at a place that means a value, and what is reached from there
+abbrev pub extent : Segments → ℕ → ℕ → Tree → List Interval
+extent S s p t = one_word s p ∷ cover S s p t

@@ -1,0 +1,106 @@
+-- Words made zero, and what stands where a pointer leads.
+use Rattle.std.specs.Prelude.{◌≡◌, ◌⊎◌, ℕ, zero, suc, ◌+◌, ◌*◌, ◌<◌, ◌≤◌, cond, nat_eq, List, [], ◌∷◌, ◌++◌, length}
+use Rattle.capnp_format.specs.Word.{kind, is_double, far_position, upper_half, data_words, pointer_count, element_size, list_count}
+use Rattle.capnp_format.specs.Numbers.{words_for}
+use Rattle.capnp_format.specs.Segments.{Segments, segment, word_at, Target}
+use Rattle.capnp_format.specs.Tree.{Tree, Null, Capability, Struct, Flat, Pointers, Structs, Trees, no_trees, tree, Elements, no_elements, element, count, element_count}
+use Rattle.capnp_format.specs.Means.{Means, MeansAll, MeansElements, Claims, IsTag}
+use Rattle.capnp_format.specs.Forest.{Interval, times, object_of, cover_all, cover_elements}
+use Rattle.capnp_making.specs.Path.{extent}
+
+-- So many words from a place on.
+abbrev pub row : ℕ → ℕ → ℕ → Interval
+row s p n = record { segment = s; start = p; words = n }
+
+-- From S to R the words in these intervals become zero; all others stay.
+pub record IsZeroed (S R : Segments) (is : List Interval) : Type 0 where
+  pub segments : length R ≡ length S
+  pub words : (v : ℕ) → length (segment R v) ≡ length (segment S v)
+  pub zero : (v r : ℕ) → 0 < times is v r → word_at R v r ≡ 0
+  pub kept : (v r : ℕ) → times is v r ≡ 0 → word_at R v r ≡ word_at S v r
+
+-- How many words are not zero.
+abbrev pub nonzero_words : List ℕ → ℕ
+nonzero_words [] = 0
+nonzero_words (x ∷ xs) = cond (nat_eq x 0) 0 1 + nonzero_words xs
+
+abbrev pub nonzeros : Segments → ℕ
+nonzeros [] = 0
+nonzeros (ws ∷ S) = nonzero_words ws + nonzeros S
+
+-- R has as many words as S; each is as it was or became zero, so no more of them are not zero.
+pub record IsPruned (S R : Segments) : Type 0 where
+  pub segments : length R ≡ length S
+  pub words : (v : ℕ) → length (segment R v) ≡ length (segment S v)
+  pub only : (v r : ℕ) → (word_at R v r ≡ word_at S v r) ⊎ (word_at R v r ≡ 0)
+  pub fewer : nonzeros R ≤ nonzeros S
+
+-- The landing pads of a word, if it is a far pointer, lie in the message.
+abbrev pub PadsInside : Segments → ℕ → Type 0
+PadsInside S x = kind x ≡ 2 → far_position x + (1 + is_double x) ≤ length (segment S (upper_half x))
+
+-- A place means a value, which holds no word twice.
+pub record IsApart (S : Segments) (s p : ℕ) (t : Tree) : Type 0 where
+  pub means : (n : ℕ) × (c : ℕ) × Means S n s p t c
+  pub apart : (v r : ℕ) → times (extent S s p t) v r ≤ 1
+
+-- So do pointers one behind the other.
+pub record AreApart (S : Segments) (s p : ℕ) (ts : Trees) : Type 0 where
+  pub mean : (n : ℕ) × (c : ℕ) × MeansAll S n s p ts c
+  pub apart : (v r : ℕ) → times (row s p (count ts) ∷ cover_all S s p ts) v r ≤ 1
+
+-- So do the pointers of elements one behind the other, whose words are all held once.
+pub record AreApartElements (S : Segments) (s p d q : ℕ) (es : Elements) : Type 0 where
+  pub mean : (n : ℕ) × (c : ℕ) × MeansElements S n s p d q es c
+  pub apart : (v r : ℕ) → times (row s p (element_count es * (d + q)) ∷ cover_elements S s p d q es) v r ≤ 1
+
+-- Where the target a leads, a value stands.
+abbrev pub IsObjectAt : Segments → ℕ → Target → Tree → Type 0
+IsObjectAt S n a Null = ⊥
+IsObjectAt S n a (Capability i) = kind a.word ≡ 3
+IsObjectAt S n a (Struct ws ts) =
+    (k : ℕ) × (kind a.word ≡ 0) × (data_words a.word ≡ length ws) × (pointer_count a.word ≡ count ts) × Claims S a (length ws + count ts)
+    × MeansAll S n a.segment (a.start + length ws) ts k
+IsObjectAt S n a (Flat size ns) =
+    (kind a.word ≡ 1) × (size ≤ 5) × (element_size a.word ≡ size) × (list_count a.word ≡ length ns) × Claims S a (words_for size (length ns))
+IsObjectAt S n a (Pointers ts) =
+    (k : ℕ) × (kind a.word ≡ 1) × (element_size a.word ≡ 6) × (list_count a.word ≡ count ts) × Claims S a (count ts) × MeansAll S n a.segment a.start ts k
+IsObjectAt S n a (Structs d q es) =
+    (k : ℕ) × (kind a.word ≡ 1) × (element_size a.word ≡ 7) × IsTag (word_at S a.segment a.start) (element_count es) d q
+    × Claims S a (1 + element_count es * (d + q)) × MeansElements S n a.segment (a.start + 1) d q es k
+
+-- What is reached from a target, its pads apart.
+abbrev pub object_cover : Segments → Target → Tree → List Interval
+object_cover S a Null = []
+object_cover S a (Capability i) = []
+object_cover S a (Struct ws ts) = object_of a (length ws + count ts) ∷ cover_all S a.segment (a.start + length ws) ts
+object_cover S a (Flat size ns) = object_of a (words_for size (length ns)) ∷ []
+object_cover S a (Pointers ts) = object_of a (count ts) ∷ cover_all S a.segment a.start ts
+object_cover S a (Structs d q es) = object_of a (1 + element_count es * (d + q)) ∷ cover_elements S a.segment (a.start + 1) d q es
+
+-- A value stands there, and holds no word twice.
+pub record IsObjectApart (S : Segments) (a : Target) (t : Tree) : Type 0 where
+  pub stands : (n : ℕ) × IsObjectAt S n a t
+  pub apart : (v r : ℕ) → times (object_cover S a t) v r ≤ 1
+
+-- Pointers one behind the other, each with what is reached from it.
+abbrev pub child_extents : Segments → ℕ → ℕ → Trees → List Interval
+child_extents S s p no_trees = []
+child_extents S s p (tree t ts) = extent S s p t ++ child_extents S s (p + 1) ts
+
+-- The pointers of elements one behind the other, with what is reached from them.
+abbrev pub element_extents : Segments → ℕ → ℕ → ℕ → ℕ → Elements → List Interval
+element_extents S s p d q no_elements = []
+element_extents S s p d q (element ws ts es) = (row s (p + d) q ∷ cover_all S s (p + d) ts) ++ element_extents S s (p + d + q) d q es
+
+-- The children from the i-th on.
+abbrev pub rest : ℕ → Trees → Trees
+rest zero ts = ts
+rest (suc i) no_trees = no_trees
+rest (suc i) (tree t ts) = rest i ts
+
+-- The elements from the i-th on.
+abbrev pub rest_elements : ℕ → Elements → Elements
+rest_elements zero es = es
+rest_elements (suc i) no_elements = no_elements
+rest_elements (suc i) (element ws ts es) = rest_elements i es

@@ -1,0 +1,102 @@
+//! Texts and data set where a pointer leads ("Lists").
+//!
+//! Data is a list of bytes. A text is one with a zero byte behind its own.
+ghost use Rattle.std.specs.Prelude.{◌≡◌, ℕ, ◌<◌, ◌≤◌, ◌+◌, ◌-◌, ◌*◌, ◌^◌, ◌++◌, ◌∷◌, [], length, IsOk, OnOk, OnErr, IfErr};
+ghost use Rattle.capnp_format.specs.Numbers.{words_for};
+ghost use Rattle.capnp_format.specs.Segments.{segment, IsPlace};
+ghost use Rattle.capnp_format.specs.Tree.{Null, Flat};
+ghost use Rattle.capnp_arena.specs.View.{KeepsLimits};
+ghost use Rattle.capnp_making.specs.Made.{zeros};
+ghost use Rattle.capnp_making.specs.Memory.{HasRoom, KeepsMemory, IsRefusedFor};
+ghost use Rattle.capnp_making.specs.Overwritten.{HoldsBytes, bytes_over};
+ghost use Rattle.capnp_making.specs.Stored.{Puts};
+
+use crate::making::{Start, init_list};
+use capnp_arena::arena::BuilderArena;
+use capnp_words::error::ErrorKind;
+use capnp_words::wire_pointer::ElementSize;
+
+/// Makes a list of the given bytes where the pointer at a place leads ("Lists").
+///
+/// What the pointer held before becomes zero first. A refusal is that of memory, or
+/// `MessageTooLarge`; the pointer is null then.
+pub fn set_data<A: BuilderArena>(
+    arena: &mut A,
+    id: u32,
+    at: u32,
+    from: &[u8],
+) -> Result<(), ErrorKind>
+    requires place { IsPlace (A.view arena.old).words id at }
+    requires few { length from.now < 2 ^ 29 }
+    ensures made { OnOk result (Puts (A.view arena.old).words (A.view arena.new).words id at (Flat 2 from.now)) }
+    ensures fits { HasRoom (A.view arena.old) id (words_for 2 (length from.now)) → IsOk result }
+    ensures granted { OnOk result (KeepsMemory (A.view arena.old) (A.view arena.new)) }
+    ensures named { IfErr result (IsRefusedFor (A.view arena.old) (A.view arena.new) (words_for 2 (length from.now))) }
+    ensures refused { OnErr result (Puts (A.view arena.old).words (A.view arena.new).words id at Null) }
+{
+    set_bytes(arena, id, at, from, from.len() as u32)
+}
+
+/// Makes a text of the given bytes where the pointer at a place leads: a list of these and a zero
+/// byte behind them ("Lists").
+///
+/// What the pointer held before becomes zero first. A refusal is that of memory, or
+/// `MessageTooLarge`; the pointer is null then.
+pub fn set_text<A: BuilderArena>(
+    arena: &mut A,
+    id: u32,
+    at: u32,
+    from: &[u8],
+) -> Result<(), ErrorKind>
+    requires place { IsPlace (A.view arena.old).words id at }
+    requires few { length from.now + 1 < 2 ^ 29 }
+    ensures made { OnOk result (Puts (A.view arena.old).words (A.view arena.new).words id at (Flat 2 (from.now ++ 0 ∷ []))) }
+    ensures fits { HasRoom (A.view arena.old) id (words_for 2 (length from.now + 1)) → IsOk result }
+    ensures granted { OnOk result (KeepsMemory (A.view arena.old) (A.view arena.new)) }
+    ensures named { IfErr result (IsRefusedFor (A.view arena.old) (A.view arena.new) (words_for 2 (length from.now + 1))) }
+    ensures refused { OnErr result (Puts (A.view arena.old).words (A.view arena.new).words id at Null) }
+{
+    set_bytes(arena, id, at, from, from.len() as u32 + 1)
+}
+
+/// Makes a list of so many bytes where the pointer at a place leads: the given ones, and zeros
+/// behind them.
+fn set_bytes<A: BuilderArena>(
+    arena: &mut A,
+    id: u32,
+    at: u32,
+    from: &[u8],
+    count: u32,
+) -> Result<(), ErrorKind>
+    requires place { IsPlace (A.view arena.old).words id at }
+    requires enough { length from.now ≤ count }
+    requires few { count < 2 ^ 29 }
+    ensures made { OnOk result (Puts (A.view arena.old).words (A.view arena.new).words id at (Flat 2 (from.now ++ zeros (count - length from.now)))) }
+    ensures fits { HasRoom (A.view arena.old) id (words_for 2 count) → IsOk result }
+    ensures granted { OnOk result (KeepsMemory (A.view arena.old) (A.view arena.new)) }
+    ensures named { IfErr result (IsRefusedFor (A.view arena.old) (A.view arena.new) (words_for 2 count)) }
+    ensures refused { OnErr result (Puts (A.view arena.old).words (A.view arena.new).words id at Null) }
+{
+    match init_list(arena, id, at, ElementSize::Byte, count) {
+        Ok(start) => {
+            write_bytes(arena, start, from);
+            Ok(())
+        }
+        Err(kind) => Err(kind),
+    }
+}
+
+/// Writes bytes from a word on, which lie in its segment.
+fn write_bytes<A: BuilderArena>(arena: &mut A, start: Start, from: &[u8])
+    requires there { start.segment < length (A.view arena.old).words }
+    requires inside { HoldsBytes (A.view arena.old).words start (length from.now) }
+    ensures written { 0 < length from.now → A.segments arena.new ≡ bytes_over (A.segments arena.old) start from.now }
+    ensures nothing { length from.now ≡ 0 → arena.new ≡ arena.old }
+    ensures limits { KeepsLimits (A.view arena.old) (A.view arena.new) }
+{
+    if !from.is_empty() {
+        let first = 8 * start.at as usize;
+        let end = first + from.len();
+        arena.segment_mut(start.segment)[first..end].copy_from_slice(from);
+    }
+}

@@ -1,0 +1,102 @@
+//! Where the pointers of a message lead ("Inter-Segment Pointers").
+ghost use Rattle.std.specs.Prelude.{◌≡◌, ◌<◌, ◌+◌, IsTrue, ◌↔◌, length, Some};
+ghost use Rattle.capnp_format.specs.Segments.{segment, word_at, leads, near, far, Target};
+ghost use Rattle.capnp_format.specs.Word.{kind, is_double};
+ghost use Rattle.capnp_making.specs.Landings.{landed};
+
+use capnp_arena::arena::BuilderArena;
+use capnp_words::wire_pointer::{WirePointer, WirePointerKind};
+use capnp_words::words;
+
+/// Where a pointer leads, its landing pads read.
+#[derive(Clone, Copy)]
+pub(crate) struct Landing {
+    /// The word that describes the object: the pointer itself, its landing pad, or the pad's tag.
+    pub(crate) word: WirePointer,
+    /// The segment of the object.
+    pub(crate) segment: u32,
+    /// Where the object starts.
+    pub(crate) start: u32,
+    /// How many words the landing pads have.
+    pub(crate) pads: u32,
+}
+
+/// How many words a segment has, none where there is no such segment.
+pub(crate) fn length_of<A: BuilderArena>(arena: &A, id: u32) -> u32
+    ensures { result ≡ length (segment (A.view arena.now).words id) }
+{
+    match arena.get_segment(id) {
+        Ok(bytes) => (bytes.len() / 8) as u32,
+        Err(_) => 0,
+    }
+}
+
+/// The pointer word at a place, zero where there is none.
+pub(crate) fn word_of<A: BuilderArena>(arena: &A, id: u32, at: u32) -> WirePointer
+    ensures { result.0 ≡ word_at (A.view arena.now).words id at }
+{
+    match arena.get_segment(id) {
+        Ok(bytes) => {
+            let at = at as usize;
+            if at < bytes.len() / 8 {
+                WirePointer(words::word_at(bytes, at))
+            } else {
+                WirePointer::null()
+            }
+        }
+        Err(_) => WirePointer::null(),
+    }
+}
+
+/// Where the pointer at a place leads, which is not zero.
+pub(crate) fn follow<A: BuilderArena>(arena: &A, id: u32, at: u32) -> Option<Landing>
+    ensures { (a : Target) → leads (A.view arena.now).words id at ≡ Some a → landed result ≡ Some a }
+{
+    let word = word_of(arena, id, at);
+    if word.kind() == WirePointerKind::Far {
+        follow_far(arena, word)
+    } else {
+        follow_near(arena, id, at, word, 0)
+    }
+}
+
+/// Where a word leads that is not a far pointer and stands at a place.
+fn follow_near<A: BuilderArena>(
+    arena: &A,
+    id: u32,
+    at: u32,
+    word: WirePointer,
+    pads: u32,
+) -> Option<Landing>
+    ensures { landed result ≡ near (A.view arena.now).words id at word.0 pads }
+{
+    match word.target(at, length_of(arena, id)) {
+        Some(start) => Some(Landing {
+            word,
+            segment: id,
+            start,
+            pads,
+        }),
+        None => None,
+    }
+}
+
+/// Where a far pointer leads.
+fn follow_far<A: BuilderArena>(arena: &A, word: WirePointer) -> Option<Landing>
+    ensures { (a : Target) → far (A.view arena.now).words word.0 (is_double word.0) ≡ Some a → landed result ≡ Some a }
+{
+    let id = word.far_segment_id();
+    let at = word.far_position_in_segment();
+    let pad = word_of(arena, id, at);
+    if word.is_double_far() {
+        let tag = word_of(arena, id, at + 1);
+        Some(Landing {
+            word: tag,
+            segment: pad.far_segment_id(),
+            start: pad.far_position_in_segment(),
+            pads: 2,
+        })
+    } else {
+        follow_near(arena, id, at, pad, 1)
+    }
+}

@@ -1,0 +1,224 @@
+//! Objects made where a pointer leads, all zero ("Structs", "Lists", "Inter-Segment Pointers").
+//!
+//! An object goes behind the words of its pointer's segment where it fits, with a near pointer. Else
+//! it goes behind a landing pad of one word, where the arena finds room. What a pointer held before
+//! becomes zero first, with all below it and its landing pads; these words stay allocated.
+ghost use Rattle.std.specs.Prelude.{◌≡◌, ◌≢◌, ℕ, ◌<◌, ◌≤◌, ◌+◌, ◌*◌, ◌^◌, IfOk, IsOk, OnOk, OnErr, IfErr};
+ghost use Rattle.capnp_format.specs.Canonical.{offset_to, Reaches};
+ghost use Rattle.capnp_format.specs.Segments.{word_at, IsPlace};
+ghost use Rattle.capnp_format.specs.Tree.{Null, Capability};
+ghost use Rattle.capnp_format.specs.Word.{offset_bits};
+ghost use Rattle.capnp_pointers.specs.Sizes.{size_number};
+ghost use Rattle.capnp_arena.specs.View.{KeepsLimits};
+ghost use Rattle.capnp_making.specs.Made.{IsShape, IsFew, AsksWords, zero_struct, zero_structs, zero_list, list_words, IsMadeAt, LeadsTo, LieFrom};
+ghost use Rattle.capnp_making.specs.Memory.{HasRoom, KeepsMemory, IsRefusedFor};
+ghost use Rattle.capnp_making.specs.Stored.{Puts};
+ghost use Rattle.capnp_making.specs.Zeroed.{IsPruned};
+
+use crate::zeroing::zero_object;
+use capnp_arena::arena::BuilderArena;
+use capnp_words::error::ErrorKind;
+use capnp_words::wire_pointer::{
+    ElementSize, StructSize, WirePointer, data_bits_per_element, offset_between,
+    pointers_per_element,
+};
+
+/// What an object is, as its pointer says.
+#[derive(Clone, Copy)]
+pub(crate) enum Shape {
+    /// A struct.
+    Struct(StructSize),
+    /// A list of so many elements; of structs, of so many words.
+    List(ElementSize, u32),
+}
+
+/// Where an object starts.
+#[derive(Clone, Copy, Debug, PartialEq, Eq)]
+pub struct Start {
+    /// Its segment.
+    pub segment: u32,
+    /// Its first word.
+    pub at: u32,
+}
+
+/// The pointer to an object of a segment, from a position of that segment.
+fn pointer_to(shape: Shape, position: u32, target: u32) -> WirePointer
+    requires reaches { Reaches position target }
+    requires few { IsFew shape }
+    ensures shape { IsShape shape result.0 }
+    ensures offset { offset_bits result.0 ≡ offset_to position target }
+{
+    let offset = offset_between(position, target);
+    match shape {
+        Shape::Struct(size) => WirePointer::new_struct(offset, size),
+        Shape::List(size, count) => WirePointer::new_list(offset, size, count),
+    }
+}
+
+/// Makes an object of so many words, all zero, and sets the pointer at a place, which isn't looked
+/// at.
+///
+/// A refusal is that of `allocate_anywhere` for one word more than the object has, and changes
+/// nothing but `refused`.
+fn put_object<A: BuilderArena>(
+    arena: &mut A,
+    id: u32,
+    at: u32,
+    shape: Shape,
+    amount: u32,
+) -> Result<Start, ErrorKind>
+    requires place { IsPlace (A.view arena.old).words id at }
+    requires few { IsFew shape }
+    requires some { AsksWords shape }
+    requires small { amount < 2 ^ 31 }
+    ensures made { IfOk result (IsMadeAt (A.view arena.old).words (A.view arena.new).words id at shape amount) }
+    ensures fits { HasRoom (A.view arena.old) id amount → IsOk result }
+    ensures granted { OnOk result (KeepsMemory (A.view arena.old) (A.view arena.new)) }
+    ensures named { IfErr result (IsRefusedFor (A.view arena.old) (A.view arena.new) amount) }
+    ensures refused { OnErr result ((A.view arena.new).words ≡ (A.view arena.old).words) }
+{
+    match arena.allocate(id, amount) {
+        Some(start) => {
+            let word = pointer_to(shape, at, start);
+            arena.set_word(id, at, word.0);
+            Ok(Start {
+                segment: id,
+                at: start,
+            })
+        }
+        None => match arena.allocate_anywhere(amount + 1) {
+            Ok((segment, pad)) => {
+                let word = pointer_to(shape, pad, pad + 1);
+                arena.set_word(segment, pad, word.0);
+                arena.set_word(id, at, WirePointer::new_far(pad, segment).0);
+                Ok(Start {
+                    segment,
+                    at: pad + 1,
+                })
+            }
+            Err(k) => Err(k),
+        },
+    }
+}
+
+/// Makes the pointer at a place null, and zero what it held: its object, all below it, and its
+/// landing pads.
+pub fn clear<A: BuilderArena>(arena: &mut A, id: u32, at: u32)
+    requires place { IsPlace (A.view arena.old).words id at }
+    ensures cleared { Puts (A.view arena.old).words (A.view arena.new).words id at Null }
+    ensures null { word_at (A.view arena.new).words id at ≡ 0 }
+    ensures only { IsPruned (A.view arena.old).words (A.view arena.new).words }
+    ensures limits { KeepsLimits (A.view arena.old) (A.view arena.new) }
+{
+    zero_object(arena, id, at);
+}
+
+/// Makes the pointer at a place a capability, by its index ("Capabilities (Interfaces)").
+pub fn set_capability<A: BuilderArena>(arena: &mut A, id: u32, at: u32, index: u32)
+    requires place { IsPlace (A.view arena.old).words id at }
+    ensures made { Puts (A.view arena.old).words (A.view arena.new).words id at (Capability index) }
+    ensures limits { KeepsLimits (A.view arena.old) (A.view arena.new) }
+{
+    zero_object(arena, id, at);
+    arena.set_word(id, at, WirePointer::new_capability(index).0);
+}
+
+/// Makes a struct, all zero, where the pointer at a place leads. One without sections takes no words.
+///
+/// A refusal is that of memory, or `MessageTooLarge`; the pointer is null then.
+pub fn init_struct<A: BuilderArena>(
+    arena: &mut A,
+    id: u32,
+    at: u32,
+    size: StructSize,
+) -> Result<Start, ErrorKind>
+    requires place { IsPlace (A.view arena.old).words id at }
+    ensures made { OnOk result (Puts (A.view arena.old).words (A.view arena.new).words id at (zero_struct size)) }
+    ensures start { IfOk result (LeadsTo (A.view arena.new).words id at) }
+    ensures inside { IfOk result (LieFrom (A.view arena.new).words (size.data_words + size.pointers)) }
+    ensures fits { HasRoom (A.view arena.old) id (size.data_words + size.pointers) → IsOk result }
+    ensures granted { OnOk result (KeepsMemory (A.view arena.old) (A.view arena.new)) }
+    ensures named { IfErr result (IsRefusedFor (A.view arena.old) (A.view arena.new) (size.data_words + size.pointers)) }
+    ensures refused { OnErr result (Puts (A.view arena.old).words (A.view arena.new).words id at Null) }
+{
+    zero_object(arena, id, at);
+    let words = size.total();
+    if words == 0 {
+        arena.set_word(id, at, WirePointer::empty_struct().0);
+        return Ok(Start { segment: id, at });
+    }
+    put_object(arena, id, at, Shape::Struct(size), words)
+}
+
+/// Makes a list of elements that are no structs, all zero or null, where the pointer at a place leads.
+///
+/// A refusal is that of memory, or `MessageTooLarge`; the pointer is null then.
+pub fn init_list<A: BuilderArena>(
+    arena: &mut A,
+    id: u32,
+    at: u32,
+    size: ElementSize,
+    count: u32,
+) -> Result<Start, ErrorKind>
+    requires place { IsPlace (A.view arena.old).words id at }
+    requires few { count < 2 ^ 29 }
+    requires plain { size_number size ≤ 6 }
+    ensures made { OnOk result (Puts (A.view arena.old).words (A.view arena.new).words id at (zero_list (size_number size) count)) }
+    ensures start { IfOk result (LeadsTo (A.view arena.new).words id at) }
+    ensures inside { IfOk result (LieFrom (A.view arena.new).words (list_words (size_number size) count)) }
+    ensures fits { HasRoom (A.view arena.old) id (list_words (size_number size) count) → IsOk result }
+    ensures granted { OnOk result (KeepsMemory (A.view arena.old) (A.view arena.new)) }
+    ensures named { IfErr result (IsRefusedFor (A.view arena.old) (A.view arena.new) (list_words (size_number size) count)) }
+    ensures refused { OnErr result (Puts (A.view arena.old).words (A.view arena.new).words id at Null) }
+{
+    zero_object(arena, id, at);
+    let words = words_of_list(size, count);
+    put_object(arena, id, at, Shape::List(size, count), words)
+}
+
+/// How many words a list takes of so many elements that are no structs.
+fn words_of_list(size: ElementSize, count: u32) -> u32
+    requires few { count < 2 ^ 29 }
+    requires plain { size_number size ≤ 6 }
+    ensures value { result ≡ list_words (size_number size) count }
+    ensures small { result < 2 ^ 30 }
+{
+    if size == ElementSize::Pointer {
+        return count;
+    }
+    (u64::from(data_bits_per_element(size)) * u64::from(count)).div_ceil(64) as u32
+}
+
+/// Makes a list of structs, all zero, where the pointer at a place leads; its first word is the tag.
+///
+/// A refusal is that of memory, or `MessageTooLarge`; the pointer is null then.
+pub fn init_struct_list<A: BuilderArena>(
+    arena: &mut A,
+    id: u32,
+    at: u32,
+    count: u32,
+    size: StructSize,
+) -> Result<Start, ErrorKind>
+    requires place { IsPlace (A.view arena.old).words id at }
+    requires few { count < 2 ^ 30 }
+    requires words { count * (size.data_words + size.pointers) < 2 ^ 29 }
+    ensures made { OnOk result (Puts (A.view arena.old).words (A.view arena.new).words id at (zero_structs count size)) }
+    ensures start { IfOk result (LeadsTo (A.view arena.new).words id at) }
+    ensures inside { IfOk result (LieFrom (A.view arena.new).words (1 + count * (size.data_words + size.pointers))) }
+    ensures fits { HasRoom (A.view arena.old) id (1 + count * (size.data_words + size.pointers)) → IsOk result }
+    ensures granted { OnOk result (KeepsMemory (A.view arena.old) (A.view arena.new)) }
+    ensures named { IfErr result (IsRefusedFor (A.view arena.old) (A.view arena.new) (1 + count * (size.data_words + size.pointers))) }
+    ensures refused { OnErr result (Puts (A.view arena.old).words (A.view arena.new).words id at Null) }
+{
+    zero_object(arena, id, at);
+    let words = count * size.total();
+    let shape = Shape::List(ElementSize::InlineComposite, words);
+    match put_object(arena, id, at, shape, 1 + words) {
+        Ok(start) => {
+            let tag = WirePointer::new_tag(count, size);
+            arena.set_word(start.segment, start.at, tag.0);
+            Ok(start)
+        }
+        Err(k) => Err(k),
+    }
+}

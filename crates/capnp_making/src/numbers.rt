@@ -1,0 +1,80 @@
+//! Numbers and bits written and read in place: in the data section of a struct, or in a list of numbers
+//! ("Structs", "Lists").
+ghost use Rattle.std.specs.Prelude.{◌≡◌, ◌<◌, ◌≤◌, ◌+◌, ◌*◌, ◌%◌, ◌^◌, ◌↔◌, IsTrue, cond, length};
+ghost use Rattle.capnp_format.specs.Bytes.{words_of};
+ghost use Rattle.capnp_format.specs.Segments.{segment};
+ghost use Rattle.capnp_making.specs.Fields.{with_field, field_in};
+
+use capnp_arena::arena::BuilderArena;
+use capnp_words::primitive::Primitive;
+
+/// Writes a number over the bytes of a segment from a position on, which is in bytes and a multiple
+/// of the number's width.
+pub fn set_number<A: BuilderArena, T: Primitive>(arena: &mut A, id: u32, byte: u64, value: T)
+    requires inside { byte + T.BYTES ≤ 8 * length (segment (A.view arena.old).words id) }
+    requires aligned { byte % T.BYTES ≡ 0 }
+    ensures written { A.view arena.new ≡ record (A.view arena.old) { words = with_field (A.view arena.old).words id (8 * byte) (8 * T.BYTES) (T.bits_of value) } }
+    ensures fits { T.bits_of value < 2 ^ (8 * T.BYTES) }
+{
+    let start = byte as usize;
+    let bytes = arena.segment_mut(id);
+    value.store(&mut bytes[start..start + T::BYTES]);
+}
+
+/// Writes a bit of a segment. Its position is in bits, the lowest bit of each byte first.
+pub fn set_bit<A: BuilderArena>(arena: &mut A, id: u32, bit: u64, value: bool)
+    requires inside { bit < 64 * length (segment (A.view arena.old).words id) }
+    ensures { A.view arena.new ≡ record (A.view arena.old) { words = with_field (A.view arena.old).words id bit 1 (cond value 1 0) } }
+{
+    let bytes = arena.segment_mut(id);
+    let byte = &mut bytes[(bit / 8) as usize];
+    let mask = 1u8 << (bit % 8);
+    if value {
+        *byte |= mask;
+    } else {
+        *byte &= !mask;
+    }
+}
+
+/// The number that stands in the bytes of a segment from a position on, which is in bytes and a
+/// multiple of the number's width.
+pub fn get_number<A: BuilderArena, T: Primitive>(arena: &A, id: u32, byte: u64) -> T
+    requires inside { byte + T.BYTES ≤ 8 * length (segment (A.view arena.now).words id) }
+    requires aligned { byte % T.BYTES ≡ 0 }
+    ensures { T.bits_of result ≡ field_in (segment (A.view arena.now).words id) (8 * byte) (8 * T.BYTES) }
+{
+    let Ok(bytes) = arena.get_segment(id) else {
+        unreachable!()
+    };
+    number_in(bytes, byte)
+}
+
+/// The number that stands in bytes from a position on, which is a multiple of the number's width.
+fn number_in<T: Primitive>(bytes: &[u8], byte: u64) -> T
+    requires small { length bytes.now < 8 * 2 ^ 32 }
+    requires inside { byte + T.BYTES ≤ 8 * length (words_of bytes.now) }
+    requires aligned { byte % T.BYTES ≡ 0 }
+    ensures { T.bits_of result ≡ field_in (words_of bytes.now) (8 * byte) (8 * T.BYTES) }
+{
+    let start = byte as usize;
+    T::load(&bytes[start..start + T::BYTES])
+}
+
+/// A bit of a segment. Its position is in bits, the lowest bit of each byte first.
+pub fn get_bit<A: BuilderArena>(arena: &A, id: u32, bit: u64) -> bool
+    requires inside { bit < 64 * length (segment (A.view arena.now).words id) }
+    ensures { IsTrue result ↔ (field_in (segment (A.view arena.now).words id) bit 1 ≡ 1) }
+{
+    let Ok(bytes) = arena.get_segment(id) else {
+        unreachable!()
+    };
+    bit_in(bytes, bit)
+}
+
+/// A bit of bytes, the lowest bit of each byte first.
+fn bit_in(bytes: &[u8], bit: u64) -> bool
+    requires inside { bit < 64 * length (words_of bytes.now) }
+    ensures { IsTrue result ↔ (field_in (words_of bytes.now) bit 1 ≡ 1) }
+{
+    (bytes[(bit / 8) as usize] >> (bit % 8)) & 1 == 1
+}

@@ -1,0 +1,168 @@
+//! What a pointer holds made zero: the object, all below it, and the landing pads.
+ghost use Rattle.std.specs.Prelude.{◌≡◌, ℕ, ◌<◌, ◌≤◌, ◌+◌, ◌*◌, ◌^◌, ◌∷◌, [], length};
+ghost use Rattle.capnp_arena.specs.View.{KeepsLimits};
+ghost use Rattle.capnp_format.specs.Segments.{segment, word_at, IsPlace};
+ghost use Rattle.capnp_format.specs.Tree.{Tree, Trees, Elements, count as number, element_count};
+ghost use Rattle.capnp_format.specs.Forest.{pads_of, cover_all, cover_elements};
+ghost use Rattle.capnp_making.specs.Path.{extent};
+ghost use Rattle.capnp_making.specs.Landings.{target_of};
+ghost use Rattle.capnp_making.specs.Zeroed.{row, IsZeroed, IsPruned, PadsInside, IsApart, AreApart, AreApartElements, IsObjectApart, object_cover, element_extents};
+ghost use Rattle.capnp_format.specs.Means.{IsTag};
+
+use crate::landing::{Landing, follow, length_of, word_of};
+use capnp_arena::arena::BuilderArena;
+use capnp_words::wire_pointer::{
+    ElementSize, StructSize, WirePointer, WirePointerKind, data_bits_per_element,
+};
+
+/// Writes zeros over words that lie in a segment.
+fn zero_part<A: BuilderArena>(arena: &mut A, id: u32, start: u32, n: u64)
+    requires { n < 2 ^ 63 }
+    ensures zeroed { start + n ≤ length (segment (A.view arena.old).words id) → IsZeroed (A.view arena.old).words (A.view arena.new).words (row id start n ∷ []) }
+    ensures pruned { IsPruned (A.view arena.old).words (A.view arena.new).words }
+    ensures limits { KeepsLimits (A.view arena.old) (A.view arena.new) }
+{
+    if n > 0 && u64::from(start) + n <= u64::from(length_of(arena, id)) {
+        arena.zero_words(id, start, n as u32);
+    }
+}
+
+/// Makes the landing pads of a word zero, if it is a far pointer.
+fn zero_pads<A: BuilderArena>(arena: &mut A, word: WirePointer)
+    ensures zeroed { PadsInside (A.view arena.old).words word.0 → IsZeroed (A.view arena.old).words (A.view arena.new).words (pads_of word.0) }
+    ensures pruned { IsPruned (A.view arena.old).words (A.view arena.new).words }
+    ensures limits { KeepsLimits (A.view arena.old) (A.view arena.new) }
+{
+    if word.kind() == WirePointerKind::Far {
+        let words = if word.is_double_far() { 2 } else { 1 };
+        zero_part(
+            arena,
+            word.far_segment_id(),
+            word.far_position_in_segment(),
+            words,
+        );
+    }
+}
+
+/// Makes zero what the pointer at a place holds: its object, all below it, its landing pads and the
+/// pointer itself. Of words that are no message any may become zero, and none is written
+/// otherwise.
+#[cycle(zeroing)]
+pub fn zero_object<A: BuilderArena>(arena: &mut A, id: u32, at: u32)
+    requires { IsPlace (A.view arena.old).words id at }
+    ensures zeroed { (t : Tree) → IsApart (A.view arena.old).words id at t → IsZeroed (A.view arena.old).words (A.view arena.new).words (extent (A.view arena.old).words id at t) }
+    ensures pruned { IsPruned (A.view arena.old).words (A.view arena.new).words }
+    ensures null { word_at (A.view arena.new).words id at ≡ 0 }
+    ensures limits { KeepsLimits (A.view arena.old) (A.view arena.new) }
+{
+    let word = word_of(arena, id, at);
+    if word.is_null() {
+        return;
+    }
+    let landing = follow(arena, id, at);
+    arena.set_word(id, at, 0);
+    match landing {
+        Some(landing) => {
+            zero_landed(arena, landing);
+            zero_pads(arena, word);
+        }
+        None => {}
+    }
+}
+
+/// Makes zero the object that a pointer leads to, and all below it.
+#[cycle(zeroing)]
+fn zero_landed<A: BuilderArena>(arena: &mut A, landing: Landing)
+    ensures zeroed { (t : Tree) → IsObjectApart (A.view arena.old).words (target_of landing) t → IsZeroed (A.view arena.old).words (A.view arena.new).words (object_cover (A.view arena.old).words (target_of landing) t) }
+    ensures pruned { IsPruned (A.view arena.old).words (A.view arena.new).words }
+    ensures limits { KeepsLimits (A.view arena.old) (A.view arena.new) }
+{
+    let Landing {
+        word,
+        segment: id,
+        start,
+        pads: _,
+    } = landing;
+    match word.kind() {
+        WirePointerKind::Struct => zero_struct(arena, id, start, word.struct_size()),
+        WirePointerKind::List => {
+            let count = word.list_element_count();
+            match word.list_element_size() {
+                ElementSize::InlineComposite => zero_structs(arena, id, start),
+                ElementSize::Pointer => zero_pointers(arena, id, start, count),
+                size => {
+                    let bits = u64::from(data_bits_per_element(size)) * u64::from(count);
+                    zero_part(arena, id, start, bits.div_ceil(64));
+                }
+            }
+        }
+        WirePointerKind::Far | WirePointerKind::Other => {}
+    }
+}
+
+/// Makes a struct zero, and all below it.
+#[cycle(zeroing)]
+fn zero_struct<A: BuilderArena>(arena: &mut A, id: u32, start: u32, size: StructSize)
+    ensures zeroed { (ts : Trees) → number ts ≡ size.pointers → start + (size.data_words + size.pointers) ≤ length (segment (A.view arena.old).words id) → AreApart (A.view arena.old).words id (start + size.data_words) ts →
+        IsZeroed (A.view arena.old).words (A.view arena.new).words (row id start (size.data_words + size.pointers) ∷ cover_all (A.view arena.old).words id (start + size.data_words) ts) }
+    ensures pruned { IsPruned (A.view arena.old).words (A.view arena.new).words }
+    ensures limits { KeepsLimits (A.view arena.old) (A.view arena.new) }
+{
+    let pointers = u64::from(start) + u64::from(size.data_words);
+    if pointers + u64::from(size.pointers) <= u64::from(length_of(arena, id)) {
+        zero_pointers(arena, id, pointers as u32, u32::from(size.pointers));
+        zero_part(arena, id, start, u64::from(size.total()));
+    }
+}
+
+/// Makes so many pointers one behind the other zero, and all below them.
+#[cycle(zeroing)]
+fn zero_pointers<A: BuilderArena>(arena: &mut A, id: u32, start: u32, count: u32)
+    ensures zeroed { (ts : Trees) → number ts ≡ count → start + count ≤ length (segment (A.view arena.old).words id) → AreApart (A.view arena.old).words id start ts →
+        IsZeroed (A.view arena.old).words (A.view arena.new).words (row id start count ∷ cover_all (A.view arena.old).words id start ts) }
+    ensures pruned { IsPruned (A.view arena.old).words (A.view arena.new).words }
+    ensures limits { KeepsLimits (A.view arena.old) (A.view arena.new) }
+{
+    if u64::from(start) + u64::from(count) <= u64::from(length_of(arena, id)) {
+        for i in 0..count {
+            zero_object(arena, id, start + i);
+        }
+    }
+}
+
+/// Makes a list of structs zero, its tag, and all below it.
+#[cycle(zeroing)]
+fn zero_structs<A: BuilderArena>(arena: &mut A, id: u32, start: u32)
+    ensures zeroed { (d q : ℕ) (es : Elements) → IsTag (word_at (A.view arena.old).words id start) (element_count es) d q → start + (1 + element_count es * (d + q)) ≤ length (segment (A.view arena.old).words id) → AreApartElements (A.view arena.old).words id (start + 1) d q es →
+        IsZeroed (A.view arena.old).words (A.view arena.new).words (row id start (1 + element_count es * (d + q)) ∷ cover_elements (A.view arena.old).words id (start + 1) d q es) }
+    ensures pruned { IsPruned (A.view arena.old).words (A.view arena.new).words }
+    ensures limits { KeepsLimits (A.view arena.old) (A.view arena.new) }
+{
+    let tag = word_of(arena, id, start);
+    let count = tag.inline_composite_list_element_count();
+    let size = tag.struct_size();
+    let words = 1 + u64::from(count) * u64::from(size.total());
+    if u64::from(start) + words <= u64::from(length_of(arena, id)) {
+        zero_elements(arena, id, start + 1, size, count);
+        zero_part(arena, id, start, words);
+    }
+}
+
+/// Makes the pointers of elements one behind the other zero, and all below them.
+#[cycle(zeroing)]
+fn zero_elements<A: BuilderArena>(arena: &mut A, id: u32, start: u32, size: StructSize, count: u32)
+    requires { start + count * (size.data_words + size.pointers) ≤ length (segment (A.view arena.old).words id) }
+    ensures zeroed { (es : Elements) → element_count es ≡ count → AreApartElements (A.view arena.old).words id start size.data_words size.pointers es →
+        IsZeroed (A.view arena.old).words (A.view arena.new).words (element_extents (A.view arena.old).words id start size.data_words size.pointers es) }
+    ensures pruned { IsPruned (A.view arena.old).words (A.view arena.new).words }
+    ensures limits { KeepsLimits (A.view arena.old) (A.view arena.new) }
+{
+    if size.pointers > 0 {
+        let mut at = start;
+        for i in 0..count {
+            at += u32::from(size.data_words);
+            zero_pointers(arena, id, at, u32::from(size.pointers));
+            at += u32::from(size.pointers);
+        }
+    }
+}
