@@ -1,11 +1,16 @@
 -- A pointer of a message that is built, and what a canonical copy to it leaves.
-use Rattle.std.specs.Prelude.{◌≡◌, ℕ, [], ◌∷◌, length}
+use Rattle.std.specs.Prelude.{◌≡◌, ℕ, Option, Result, [], ◌∷◌, length}
 use Rattle.capnp_words.specs.Meter.{Meter}
 use Rattle.capnp_words.specs.declared.error.ErrorKind.{ErrorKind}
 use Rattle.capnp_format.specs.Segments.{Segments, segment, word_at, IsPlace}
+use Rattle.capnp_format.specs.Forest.{target}
 use Rattle.capnp_format.specs.Tree.{Tree}
 use Rattle.capnp_format.specs.Canonical.{trim, encoding}
 use Rattle.capnp_arena.specs.View.{View}
+use Rattle.capnp_making.specs.declared.existing.ExistingList.{ExistingList}
+use Rattle.capnp_making.specs.Existing.{list_in}
+use Rattle.capnp_making.specs.Stored.{IsStored, Puts}
+use Rattle.capnp_pointers.specs.declared.wire_pointer.ElementSize.{ElementSize}
 use Rattle.capnp_objects.specs.Reading.{Reading}
 use Rattle.capnp_copies.specs.Copies.{IsCopied, IsCleared, CanBeCopied}
 use Rattle.capnp_copies.specs.Rooms.{FindsNoRoom, IsTooLarge}
@@ -21,6 +26,22 @@ pub record Building : Type 0 where
 -- what a builder writes
 abbrev pub built : {A : Type 0} → (A → View) → PointerBuilder A → Building
 built view b = record { segments = (view b.arena.now).words; segment = b.segment; at = b.at; room = (view b.arena.now).room b.segment }
+
+-- its place, where the message is another one now
+abbrev pub built_at : {A : Type 0} → (A → View) → PointerBuilder A → A → Building
+built_at view b now = record { segments = (view now).words; segment = b.segment; at = b.at; room = (view now).room b.segment }
+
+-- The value t is stored at the place.
+abbrev pub Stores : Building → Tree → Type 0
+Stores b t = IsStored b.segments b.segment b.at t
+
+-- The list that the value t there is, where its elements are to be as wide as expected ones.
+abbrev pub listed_in : Building → ElementSize → Tree → Result (Option ExistingList) ErrorKind
+listed_in b expected t = list_in (target b.segments b.segment b.at) expected t
+
+-- Whatever value the place had, it has t in its stead.
+abbrev pub Becomes : Building → Building → Tree → Type 0
+Becomes old new t = Puts old.segments new.segments old.segment old.at t
 
 -- the place is there
 abbrev pub IsThere : Building → Type 0

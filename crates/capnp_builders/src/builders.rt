@@ -1,9 +1,20 @@
 //! Builders: places of a message that is built, each with the message borrowed for writing.
-ghost use Rattle.std.specs.Prelude.{◌≡◌, ◌≢◌, ◌⊎◌, ◌↔◌, ◌∷◌, [], ◌+◌, ◌*◌, ◌^◌, ◌<◌, ◌≤◌, IsTrue, false, true, length, pos, IsOk, IfOk, IfErr, OnErr};
+ghost use Rattle.std.specs.Prelude.{◌≡◌, ◌≢◌, ℕ, List, ◌⊎◌, ◌↔◌, ◌∷◌, ◌++◌, [], ◌+◌, ◌*◌, ◌^◌, ◌<◌, ◌≤◌, IsTrue, false, true, length, pos, Option, Some, IsNone, IfSome, Ok, Err, IsOk, IsOkAnd, IfOk, IfErr, OnOk, OnErr};
 ghost use Rattle.capnp_format.specs.Bytes.{message, words_of};
 ghost use Rattle.capnp_format.specs.Canonical.{trim, encoding};
 ghost use Rattle.capnp_format.specs.Segments.{segment, word_at, IsPlace};
-ghost use Rattle.capnp_format.specs.Tree.{Tree};
+ghost use Rattle.capnp_format.specs.Tree.{Tree, Null, Capability, Flat};
+ghost use Rattle.capnp_format.specs.Numbers.{words_for};
+ghost use Rattle.capnp_making.specs.declared.existing.ExistingList.{ExistingList};
+ghost use Rattle.capnp_making.specs.Existing.{AreInside, capability_of};
+ghost use Rattle.capnp_making.specs.InPlace.{bytes_of, rewritten, AreBytes, AreZeroOnce, FillsZeros};
+ghost use Rattle.capnp_readers.specs.Readers.{IsListPlace};
+ghost use Rattle.capnp_builders.specs.Found.{place_of, void_list, in_place_of_null, GivesInstead};
+ghost use Rattle.capnp_words.specs.declared.error.ErrorKind.{ErrorKind};
+ghost use Rattle.capnp_pointers.specs.Sizes.{size_number};
+ghost use Rattle.capnp_making.specs.Made.{zero_struct, zero_structs, zero_list, list_words};
+ghost use Rattle.capnp_making.specs.Memory.{HasRoom, KeepsMemory, IsRefusedFor, CanRefuse};
+ghost use Rattle.capnp_builders.specs.Places.{IsAligned, IsStructOf, IsListOf, IsStructListOf};
 ghost use Rattle.capnp_words.specs.declared.error.ErrorKind.TheVariants.{UnknownPointerType};
 ghost use Rattle.capnp_builders.specs.Reads.{IsArenaOf};
 ghost use Rattle.capnp_objects.specs.Outcomes.{Reads};
@@ -11,14 +22,30 @@ ghost use Rattle.capnp_objects.specs.Refusals.{BreaksOff, Refused};
 ghost use Rattle.capnp_objects.specs.Wanted.{canonical};
 ghost use Rattle.capnp_readers.specs.Readers.{reading};
 
+mod list_builder;
+mod primitive_element;
+mod struct_builder;
+
 use capnp_arena::arena::{BuilderArena, ReaderArena};
 use capnp_copies::copy;
+use capnp_making::existing::ExistingBytes;
+use capnp_making::{bytes, existing, lent, making};
 use capnp_objects::object::Place;
 use capnp_objects::source::Source;
-use capnp_readers::readers::PointerReader;
+use capnp_readers::readers::{ListPlace, PointerReader, StructPlace};
 use capnp_words::error::ErrorKind;
 use capnp_words::read_limiter::ReadLimiter;
+use capnp_words::wire_pointer::{ElementSize, StructSize};
 use capnp_words::words;
+pub use list_builder::ListBuilder;
+pub use primitive_element::PrimitiveElement;
+pub use struct_builder::StructBuilder;
+
+// Elements that are no structs have no sections.
+const NO_SECTIONS: StructSize = StructSize {
+    data_words: 0,
+    pointers: 0,
+};
 
 /// A pointer of a message that is built.
 #[derive(Drop)]
@@ -32,9 +59,9 @@ pub struct PointerBuilder<'a, A> {
 }
 
 impl<'a, A: BuilderArena> PointerBuilder<'a, A> {
-    ghost use Rattle.std.specs.Borrow.{sem, follows};
-    ghost use Rattle.capnp_copies.specs.Frames.{KeepsLimits};
-    ghost use Rattle.capnp_builders.specs.Building.{Fits, GainsCopy, IsCopy, HasOnlyNull, IsNull, IsThere, LacksWords, StaysClear, built};
+    ghost use Rattle.std.specs.Borrow.{sem, follows, Array, u8 as byte};
+    ghost use Rattle.capnp_arena.specs.View.{KeepsLimits};
+    ghost use Rattle.capnp_builders.specs.Building.{Becomes, Stores, listed_in, Fits, GainsCopy, IsCopy, HasOnlyNull, IsNull, IsThere, LacksWords, StaysClear, built, built_at};
     ghost use Rattle.capnp_builders.specs.Lent.{with_arena};
     ghost use Rattle.capnp_builders.specs.contracts.builders.PointerBuilder.{the_row};
     ghost use mir.Syntax.{named};
@@ -93,6 +120,375 @@ impl<'a, A: BuilderArena> PointerBuilder<'a, A> {
         reader_at(arena, segment, at)
     }
 
+    /// Makes the pointer null, and zero what it held: its object, all below it, and its landing pads.
+    /// These words stay allocated.
+    pub fn clear(&mut self)
+        requires { IsThere (built A.view self.old) }
+        ensures cleared { Becomes (built A.view self.old) (built A.view self.new) Null }
+        ensures limits { KeepsLimits (A.view self.old.arena.now) (A.view self.new.arena.now) }
+        ensures same { self.new.arena.ghost_name ≡ self.old.arena.ghost_name }
+        ensures builder { (self.new.segment ≡ self.old.segment) × (self.new.at ≡ self.old.at) }
+    {
+        making::clear(&mut *self.arena, self.segment, self.at);
+    }
+
+    /// Makes the pointer a capability, by its index ("Capabilities (Interfaces)").
+    pub fn set_capability(&mut self, index: u32)
+        requires { IsThere (built A.view self.old) }
+        ensures made { Becomes (built A.view self.old) (built A.view self.new) (Capability index) }
+        ensures limits { KeepsLimits (A.view self.old.arena.now) (A.view self.new.arena.now) }
+        ensures same { self.new.arena.ghost_name ≡ self.old.arena.ghost_name }
+        ensures builder { (self.new.segment ≡ self.old.segment) × (self.new.at ≡ self.old.at) }
+    {
+        making::set_capability(&mut *self.arena, self.segment, self.at, index);
+    }
+
+    /// Makes a struct, all zero, where the pointer leads, and says where it is; `into_struct` is its
+    /// builder. With both outcomes, it is what `init_struct` is made of.
+    ///
+    /// A refusal is `AllocationFailed` or `MessageTooLarge`, of the struct's words and one more; the
+    /// pointer is null then.
+    pub fn put_struct(&mut self, size: StructSize) -> Result<StructPlace, ErrorKind>
+        requires { IsThere (built A.view self.old) }
+        ensures made { OnOk result (Becomes (built A.view self.old) (built A.view self.new) (zero_struct size)) }
+        ensures leads { IfOk result (IsStructOf (A.view self.new.arena.now).words self.old.segment self.old.at size) }
+        ensures fits { HasRoom (A.view self.old.arena.now) self.old.segment (size.data_words + size.pointers) → IsOk result }
+        ensures granted { OnOk result (KeepsMemory (A.view self.old.arena.now) (A.view self.new.arena.now)) }
+        ensures named { IfErr result (IsRefusedFor (A.view self.old.arena.now) (A.view self.new.arena.now) (size.data_words + size.pointers)) }
+        ensures refused { OnErr result (Becomes (built A.view self.old) (built A.view self.new) Null) }
+        ensures same { self.new.arena.ghost_name ≡ self.old.arena.ghost_name }
+        ensures builder { (self.new.segment ≡ self.old.segment) × (self.new.at ≡ self.old.at) }
+    {
+        match making::init_struct(&mut *self.arena, self.segment, self.at, size) {
+            Ok(start) => Ok(StructPlace {
+                segment: start.segment,
+                byte: 8 * u64::from(start.at),
+                bits: 64 * u32::from(size.data_words),
+                pointers_at: start.at + u32::from(size.data_words),
+                pointers: size.pointers,
+            }),
+            Err(k) => Err(k),
+        }
+    }
+
+    /// The builder of a struct of the message.
+    pub fn into_struct(self, place: StructPlace) -> StructBuilder<'a, A>
+        requires { IsAligned place }
+        ensures same { result.arena.ghost_name ≡ self.entry.arena.ghost_name }
+        ensures now { result.arena.now ≡ self.entry.arena.now }
+        ensures place { result.place ≡ place }
+    {
+        let PointerBuilder {
+            arena,
+            segment: _,
+            at: _,
+        } = self;
+        StructBuilder { arena, place }
+    }
+
+    /// Makes a struct, all zero, where the pointer leads.
+    ///
+    /// A refusal is `AllocationFailed` or `MessageTooLarge`, of the struct's words and one more; the
+    /// pointer is null then (`put_struct` says what else is so).
+    pub fn init_struct(mut self, size: StructSize) -> Result<StructBuilder<'a, A>, ErrorKind>
+        requires { IsThere (built A.view self) }
+        ensures same { IfOk result (λ b. b.arena.ghost_name ≡ self.entry.arena.ghost_name) }
+        ensures made { IfOk result (λ b. Becomes (built A.view self.entry) (built_at A.view self.entry b.arena.now) (zero_struct size)) }
+        ensures leads { IfOk result (λ b. IsStructOf (A.view b.arena.now).words self.entry.segment self.entry.at size b.place) }
+        ensures fits { HasRoom (A.view self.entry.arena.now) self.entry.segment (size.data_words + size.pointers) → IsOk result }
+        ensures granted { IfOk result (λ b. KeepsMemory (A.view self.entry.arena.now) (A.view b.arena.now)) }
+        ensures named { IfErr result (CanRefuse (A.view self.entry.arena.now) (size.data_words + size.pointers)) }
+    {
+        match self.put_struct(size) {
+            Ok(place) => Ok(self.into_struct(place)),
+            Err(k) => Err(k),
+        }
+    }
+
+    /// Makes a list of `count` elements that are no structs, all zero or null, where the pointer leads,
+    /// and says where it is; `into_list` is its builder. With both outcomes, it is what `init_list`
+    /// is made of.
+    ///
+    /// A refusal is `AllocationFailed` or `MessageTooLarge`, of the list's words and one more; the
+    /// pointer is null then.
+    pub fn put_list(&mut self, size: ElementSize, count: u32) -> Result<ListPlace, ErrorKind>
+        requires there { IsThere (built A.view self.old) }
+        requires few { count < 2 ^ 29 }
+        requires plain { size_number size ≤ 6 }
+        ensures made { OnOk result (Becomes (built A.view self.old) (built A.view self.new) (zero_list (size_number size) count)) }
+        ensures leads { IfOk result (IsListOf (A.view self.new.arena.now).words self.old.segment self.old.at size count) }
+        ensures fits { HasRoom (A.view self.old.arena.now) self.old.segment (list_words (size_number size) count) → IsOk result }
+        ensures granted { OnOk result (KeepsMemory (A.view self.old.arena.now) (A.view self.new.arena.now)) }
+        ensures named { IfErr result (IsRefusedFor (A.view self.old.arena.now) (A.view self.new.arena.now) (list_words (size_number size) count)) }
+        ensures refused { OnErr result (Becomes (built A.view self.old) (built A.view self.new) Null) }
+        ensures same { self.new.arena.ghost_name ≡ self.old.arena.ghost_name }
+        ensures builder { (self.new.segment ≡ self.old.segment) × (self.new.at ≡ self.old.at) }
+    {
+        match making::init_list(&mut *self.arena, self.segment, self.at, size, count) {
+            Ok(start) => Ok(ListPlace {
+                segment: start.segment,
+                byte: 8 * u64::from(start.at),
+                size,
+                struct_size: NO_SECTIONS,
+                count,
+            }),
+            Err(k) => Err(k),
+        }
+    }
+
+    /// The builder of a list of the message.
+    pub fn into_list(self, place: ListPlace) -> ListBuilder<'a, A>
+        ensures same { result.arena.ghost_name ≡ self.entry.arena.ghost_name }
+        ensures now { result.arena.now ≡ self.entry.arena.now }
+        ensures place { result.place ≡ place }
+    {
+        let PointerBuilder {
+            arena,
+            segment: _,
+            at: _,
+        } = self;
+        ListBuilder { arena, place }
+    }
+
+    /// Makes a list of `count` elements that are no structs, all zero or null, where the pointer leads.
+    ///
+    /// A refusal is `AllocationFailed` or `MessageTooLarge`, of the list's words and one more; the
+    /// pointer is null then (`put_list` says what else is so).
+    pub fn init_list(
+        mut self,
+        size: ElementSize,
+        count: u32,
+    ) -> Result<ListBuilder<'a, A>, ErrorKind>
+        requires there { IsThere (built A.view self) }
+        requires few { count < 2 ^ 29 }
+        requires plain { size_number size ≤ 6 }
+        ensures same { IfOk result (λ b. b.arena.ghost_name ≡ self.entry.arena.ghost_name) }
+        ensures made { IfOk result (λ b. Becomes (built A.view self.entry) (built_at A.view self.entry b.arena.now) (zero_list (size_number size) count)) }
+        ensures leads { IfOk result (λ b. IsListOf (A.view b.arena.now).words self.entry.segment self.entry.at size count b.place) }
+        ensures fits { HasRoom (A.view self.entry.arena.now) self.entry.segment (list_words (size_number size) count) → IsOk result }
+        ensures granted { IfOk result (λ b. KeepsMemory (A.view self.entry.arena.now) (A.view b.arena.now)) }
+        ensures named { IfErr result (CanRefuse (A.view self.entry.arena.now) (list_words (size_number size) count)) }
+    {
+        match self.put_list(size, count) {
+            Ok(place) => Ok(self.into_list(place)),
+            Err(k) => Err(k),
+        }
+    }
+
+    /// Makes a list of `count` structs, all zero, where the pointer leads, and says where it is;
+    /// `into_list` is its builder. With both outcomes, it is what `init_struct_list` is made of.
+    ///
+    /// A refusal is `AllocationFailed` or `MessageTooLarge`, of the words of the structs, the tag and
+    /// one more; the pointer is null then.
+    pub fn put_struct_list(&mut self, count: u32, size: StructSize) -> Result<ListPlace, ErrorKind>
+        requires there { IsThere (built A.view self.old) }
+        requires few { count < 2 ^ 30 }
+        requires words { count * (size.data_words + size.pointers) < 2 ^ 29 }
+        ensures made { OnOk result (Becomes (built A.view self.old) (built A.view self.new) (zero_structs count size)) }
+        ensures leads { IfOk result (IsStructListOf (A.view self.new.arena.now).words self.old.segment self.old.at count size) }
+        ensures fits { HasRoom (A.view self.old.arena.now) self.old.segment (1 + count * (size.data_words + size.pointers)) → IsOk result }
+        ensures granted { OnOk result (KeepsMemory (A.view self.old.arena.now) (A.view self.new.arena.now)) }
+        ensures named { IfErr result (IsRefusedFor (A.view self.old.arena.now) (A.view self.new.arena.now) (1 + count * (size.data_words + size.pointers))) }
+        ensures refused { OnErr result (Becomes (built A.view self.old) (built A.view self.new) Null) }
+        ensures same { self.new.arena.ghost_name ≡ self.old.arena.ghost_name }
+        ensures builder { (self.new.segment ≡ self.old.segment) × (self.new.at ≡ self.old.at) }
+    {
+        match making::init_struct_list(&mut *self.arena, self.segment, self.at, count, size) {
+            Ok(start) => Ok(ListPlace {
+                segment: start.segment,
+                byte: 8 * (u64::from(start.at) + 1),
+                size: ElementSize::InlineComposite,
+                struct_size: size,
+                count,
+            }),
+            Err(k) => Err(k),
+        }
+    }
+
+    /// Makes a list of `count` structs, all zero, where the pointer leads.
+    ///
+    /// A refusal is `AllocationFailed` or `MessageTooLarge`, of the words of the structs, the tag and
+    /// one more; the pointer is null then (`put_struct_list` says what else is so).
+    pub fn init_struct_list(
+        mut self,
+        count: u32,
+        size: StructSize,
+    ) -> Result<ListBuilder<'a, A>, ErrorKind>
+        requires there { IsThere (built A.view self) }
+        requires few { count < 2 ^ 30 }
+        requires words { count * (size.data_words + size.pointers) < 2 ^ 29 }
+        ensures same { IfOk result (λ b. b.arena.ghost_name ≡ self.entry.arena.ghost_name) }
+        ensures made { IfOk result (λ b. Becomes (built A.view self.entry) (built_at A.view self.entry b.arena.now) (zero_structs count size)) }
+        ensures leads { IfOk result (λ b. IsStructListOf (A.view b.arena.now).words self.entry.segment self.entry.at count size b.place) }
+        ensures fits { HasRoom (A.view self.entry.arena.now) self.entry.segment (1 + count * (size.data_words + size.pointers)) → IsOk result }
+        ensures granted { IfOk result (λ b. KeepsMemory (A.view self.entry.arena.now) (A.view b.arena.now)) }
+        ensures named { IfErr result (CanRefuse (A.view self.entry.arena.now) (1 + count * (size.data_words + size.pointers))) }
+    {
+        match self.put_struct_list(count, size) {
+            Ok(place) => Ok(self.into_list(place)),
+            Err(k) => Err(k),
+        }
+    }
+
+    /// Lends bytes of the message, to be written in place; nothing else changes.
+    pub fn bytes_mut(&mut self, bytes: ExistingBytes) -> &mut [u8]
+        requires there { bytes.segment < length (A.view self.old.arena.now).words }
+        requires inside { AreInside (A.view self.old.arena.now).words bytes }
+        ensures* lends { sem 𝓛 (follows (the_row (record { mir = named 1; lft = [] }) A.row) (Array byte 0) self.entry.ghost_name result.ghost_name
+            (λ ws. with_arena self.old (rewritten A.with_bytes A.segments self.old.arena.now bytes ws))) }
+        ensures now { result.now ≡ bytes_of (A.segments self.old.arena.now) bytes }
+        ensures count { length result.now ≡ bytes.length }
+        ensures filled { (ws : List ℕ) → AreBytes bytes.length ws →
+            FillsZeros (A.view self.old.arena.now).words (A.view (rewritten A.with_bytes A.segments self.old.arena.now bytes ws)).words bytes ws }
+    {
+        let arena = &mut *self.arena;
+        lent::bytes_mut(arena, bytes)
+    }
+
+    /// Makes data of `size` bytes, all zero, where the pointer leads, to be written in place
+    /// ("Lists").
+    ///
+    /// A refusal is `AllocationFailed` or `MessageTooLarge`, of the list's words and one more; the
+    /// pointer is null then. What the message is once the bytes are written is said by `put_list` and
+    /// `bytes_mut`, which do the same in two steps.
+    pub fn init_data(self, size: u32) -> Result<&'a mut [u8], ErrorKind>
+        requires there { IsThere (built A.view self) }
+        requires few { size < 2 ^ 29 }
+        ensures count { IfOk result (λ bytes. length bytes.now ≡ size) }
+        ensures zero { IfOk result (λ bytes. AreZeroOnce (A.view self.entry.arena.now).words self.entry.segment self.entry.at bytes.now) }
+        ensures fits { HasRoom (A.view self.entry.arena.now) self.entry.segment (words_for 2 size) → IsOk result }
+        ensures named { IfErr result (CanRefuse (A.view self.entry.arena.now) (words_for 2 size)) }
+    {
+        let PointerBuilder { arena, segment, at } = self;
+        lent::init_data(arena, segment, at, size)
+    }
+
+    /// Makes a text of `size` bytes, all zero, where the pointer leads, to be written in place. The
+    /// zero byte behind them isn't lent ("Lists").
+    ///
+    /// A refusal is `AllocationFailed` or `MessageTooLarge`, of the list's words and one more; the
+    /// pointer is null then. What the message is once the bytes are written is said by `put_list` and
+    /// `bytes_mut`, which do the same in two steps.
+    pub fn init_text(self, size: u32) -> Result<&'a mut [u8], ErrorKind>
+        requires there { IsThere (built A.view self) }
+        requires few { size + 1 < 2 ^ 29 }
+        ensures count { IfOk result (λ bytes. length bytes.now ≡ size) }
+        ensures zero { IfOk result (λ bytes. AreZeroOnce (A.view self.entry.arena.now).words self.entry.segment self.entry.at bytes.now) }
+        ensures fits { HasRoom (A.view self.entry.arena.now) self.entry.segment (words_for 2 (size + 1)) → IsOk result }
+        ensures named { IfErr result (CanRefuse (A.view self.entry.arena.now) (words_for 2 (size + 1))) }
+    {
+        let PointerBuilder { arena, segment, at } = self;
+        lent::init_text(arena, segment, at, size)
+    }
+
+    /// Makes data of the given bytes where the pointer leads ("Lists").
+    ///
+    /// A refusal is `AllocationFailed` or `MessageTooLarge`, of the words of the bytes and one more; the
+    /// pointer is null then.
+    pub fn set_data(&mut self, bytes: &[u8]) -> Result<(), ErrorKind>
+        requires there { IsThere (built A.view self.old) }
+        requires few { length bytes.now < 2 ^ 29 }
+        ensures made { OnOk result (Becomes (built A.view self.old) (built A.view self.new) (Flat 2 bytes.now)) }
+        ensures fits { HasRoom (A.view self.old.arena.now) self.old.segment (words_for 2 (length bytes.now)) → IsOk result }
+        ensures granted { OnOk result (KeepsMemory (A.view self.old.arena.now) (A.view self.new.arena.now)) }
+        ensures named { IfErr result (IsRefusedFor (A.view self.old.arena.now) (A.view self.new.arena.now) (words_for 2 (length bytes.now))) }
+        ensures refused { OnErr result (Becomes (built A.view self.old) (built A.view self.new) Null) }
+        ensures same { self.new.arena.ghost_name ≡ self.old.arena.ghost_name }
+        ensures builder { (self.new.segment ≡ self.old.segment) × (self.new.at ≡ self.old.at) }
+    {
+        bytes::set_data(&mut *self.arena, self.segment, self.at, bytes)
+    }
+
+    /// Makes a text of the given bytes where the pointer leads: a list of these and a zero byte behind
+    /// them ("Lists").
+    ///
+    /// A refusal is `AllocationFailed` or `MessageTooLarge`, of the words of the bytes and one more; the
+    /// pointer is null then.
+    pub fn set_text(&mut self, bytes: &[u8]) -> Result<(), ErrorKind>
+        requires there { IsThere (built A.view self.old) }
+        requires few { length bytes.now + 1 < 2 ^ 29 }
+        ensures made { OnOk result (Becomes (built A.view self.old) (built A.view self.new) (Flat 2 (bytes.now ++ 0 ∷ []))) }
+        ensures fits { HasRoom (A.view self.old.arena.now) self.old.segment (words_for 2 (length bytes.now + 1)) → IsOk result }
+        ensures granted { OnOk result (KeepsMemory (A.view self.old.arena.now) (A.view self.new.arena.now)) }
+        ensures named { IfErr result (IsRefusedFor (A.view self.old.arena.now) (A.view self.new.arena.now) (words_for 2 (length bytes.now + 1))) }
+        ensures refused { OnErr result (Becomes (built A.view self.old) (built A.view self.new) Null) }
+        ensures same { self.new.arena.ghost_name ≡ self.old.arena.ghost_name }
+        ensures builder { (self.new.segment ≡ self.old.segment) × (self.new.at ≡ self.old.at) }
+    {
+        bytes::set_text(&mut *self.arena, self.segment, self.at, bytes)
+    }
+
+    /// The capability that the pointer is, by its index ("Capabilities (Interfaces)"). Far pointers
+    /// aren't followed.
+    ///
+    /// A null pointer is `MessageContainsNullCapabilityPointer`, any other
+    /// `MessageContainsNonCapabilityPointerWhereCapabilityPointerWasExpected`.
+    pub fn get_capability(&self) -> Result<u32, ErrorKind>
+        requires { IsThere (built A.view self.now) }
+        ensures { result ≡ capability_of (word_at (A.view self.now.arena.now).words self.now.segment self.now.at) }
+    {
+        existing::get_capability(&*self.arena, self.segment, self.at)
+    }
+
+    /// Where the list is that the pointer leads to, of elements of the expected size or wider, as
+    /// `get_list` looks for it; nothing is changed.
+    pub fn find_list(
+        &self,
+        size: ElementSize,
+        default: Option<&[u8]>,
+    ) -> Result<ListPlace, ErrorKind>
+        requires there { IsThere (built A.view self.now) }
+        requires plain { size_number size ≤ 6 }
+        ensures found { (t : Tree) (l : ExistingList) → Stores (built A.view self.now) t → listed_in (built A.view self.now) size t ≡ Ok (Some l) → result ≡ Ok (place_of l) }
+        ensures refused { (t : Tree) (k : ErrorKind) → Stores (built A.view self.now) t → listed_in (built A.view self.now) size t ≡ Err k → result ≡ Err k }
+        ensures null { Stores (built A.view self.now) Null → IsNone default.entry → result ≡ Ok (void_list self.now.segment) }
+        ensures of_default { Stores (built A.view self.now) Null → IfSome default.entry (λ d. result ≡ in_place_of_null self.now.segment (words_of d.now)) }
+        ensures inside { (t : Tree) → Stores (built A.view self.now) t → IfOk result (IsListPlace (A.view self.now.arena.now).words) }
+    {
+        match existing::get_list(&*self.arena, self.segment, self.at, size) {
+            Ok(Some(list)) => Ok(ListPlace {
+                segment: list.segment,
+                byte: 8 * u64::from(list.start),
+                size: list.size,
+                struct_size: list.struct_size,
+                count: list.count,
+            }),
+            Ok(None) => list_of_null(self.segment, default),
+            Err(k) => Err(k),
+        }
+    }
+
+    /// The list that the pointer leads to, of elements of the expected size or wider; nothing is
+    /// changed. A null pointer gives a void list of none, unless there is a default.
+    ///
+    /// What isn't a list is `ExistingPointerIsNotAList`. A list of structs where bits are expected is
+    /// `FoundStructListWhereBitListWasExpected`; elements with fewer bits of data or fewer pointers than
+    /// expected, structs without data words where data is expected, or without pointers where pointers
+    /// are, are `ExistingListValueIsIncompatibleWithExpectedType`.
+    ///
+    /// For now no default is copied: one whose first word isn't null is `UnknownPointerType`, and one
+    /// without a whole word `MessageContainsOutOfBoundsPointer`.
+    pub fn get_list(
+        self,
+        size: ElementSize,
+        default: Option<&[u8]>,
+    ) -> Result<ListBuilder<'a, A>, ErrorKind>
+        requires there { IsThere (built A.view self) }
+        requires plain { size_number size ≤ 6 }
+        ensures same { IfOk result (λ b. b.arena.ghost_name ≡ self.entry.arena.ghost_name) }
+        ensures now { IfOk result (λ b. b.arena.now ≡ self.entry.arena.now) }
+        ensures found { (t : Tree) (l : ExistingList) → Stores (built A.view self.entry) t → listed_in (built A.view self.entry) size t ≡ Ok (Some l) → IsOkAnd result (λ b. b.place ≡ place_of l) }
+        ensures refused { (t : Tree) (k : ErrorKind) → Stores (built A.view self.entry) t → listed_in (built A.view self.entry) size t ≡ Err k → result ≡ Err k }
+        ensures null { Stores (built A.view self.entry) Null → IsNone default.entry → IsOkAnd result (λ b. b.place ≡ void_list self.entry.segment) }
+        ensures of_default { Stores (built A.view self.entry) Null → IfSome default.entry (λ d. GivesInstead (λ b. b.place) (in_place_of_null self.entry.segment (words_of d.now)) result) }
+        ensures inside { (t : Tree) → Stores (built A.view self.entry) t → IfOk result (λ b. IsListPlace (A.view b.arena.now).words b.place) }
+    {
+        match self.find_list(size, default) {
+            Ok(place) => Ok(self.into_list(place)),
+            Err(k) => Err(k),
+        }
+    }
+
     /// Makes the pointer the canonical form of what another one means ("Canonicalization"). The
     /// objects go behind the words of the pointer's segment; the source is charged as reading all
     /// of it costs.
@@ -134,6 +530,29 @@ impl<'a, A: BuilderArena> PointerBuilder<'a, A> {
         }
         copy::copy_value(&mut *self.arena, self.segment, self.at, from, lim)
     }
+}
+
+/// What stands for a null pointer of a segment where a list is looked for.
+fn list_of_null(segment: u32, default: Option<&[u8]>) -> Result<ListPlace, ErrorKind>
+    ensures none { IsNone default.entry → result ≡ Ok (void_list segment) }
+    ensures some { IfSome default.entry (λ d. result ≡ in_place_of_null segment (words_of d.now)) }
+    ensures void { IfOk result (λ l. l ≡ void_list segment) }
+{
+    if let Some(bytes) = default {
+        if bytes.len() < 8 {
+            return Err(ErrorKind::MessageContainsOutOfBoundsPointer);
+        }
+        if words::word_at(bytes, 0) != 0 {
+            return Err(ErrorKind::UnknownPointerType);
+        }
+    }
+    Ok(ListPlace {
+        segment,
+        byte: 0,
+        size: ElementSize::Void,
+        struct_size: NO_SECTIONS,
+        count: 0,
+    })
 }
 
 /// The words of a segment, none where there is no such segment.

@@ -1,0 +1,98 @@
+-- Numbers and bits of the elements of a list: which bits of their segment they are.
+use Rattle.std.proofs.Common.{◌≡◌, ℕ, ◌+◌, ◌*◌, ◌/◌, ◌%◌, ◌<◌, ◌≤◌, length, refl, arith}
+use Rattle.capnp_arena.specs.View.{View}
+use Rattle.capnp_format.specs.Segments.{Segments, segment}
+use Rattle.capnp_making.specs.Fields.{with_field, field_in}
+use Rattle.capnp_pointers.specs.declared.wire_pointer.ElementSize.{ElementSize}
+use Rattle.capnp_pointers.specs.declared.wire_pointer.ElementSize.TheVariants.{Void, Bit, Byte, TwoBytes, FourBytes, EightBytes, Pointer, InlineComposite}
+use Rattle.capnp_pointers.specs.declared.wire_pointer.StructSize.{StructSize}
+use Rattle.capnp_readers.specs.Readers.{IsListPlace}
+use Rattle.capnp_readers.specs.Sections.{list_words, step_bits, data_bits}
+use Rattle.capnp_readers.specs.declared.readers.list_reader.ListPlace.{ListPlace}
+use Rattle.capnp_readers.proofs.Sections.{words_within}
+use Rattle.capnp_builders.proofs.FieldPlaces.{aligned_to, field_aligned}
+use Rattle.capnp_builders.specs.Elements.{lowest_bits, WritesElement, HasElement}
+
+-- the data of an element lies among the words of all
+data_within : (size : ElementSize) (sections : StructSize) (count i : ℕ) → i < count → i * step_bits size sections + data_bits size sections ≤ 64 * list_words size count (sections.data_words + sections.pointers)
+data_within Void sections count i l = omega arith
+data_within Bit sections count i l = omega (arith, l)
+data_within Byte sections count i l = omega (arith, l)
+data_within TwoBytes sections count i l = omega (arith, l)
+data_within FourBytes sections count i l = omega (arith, l)
+data_within EightBytes sections count i l = omega (arith, l)
+data_within Pointer sections count i l = omega (arith, l)
+data_within InlineComposite sections count i l =
+    let w = sections.data_words + sections.pointers in
+    omega (arith, words_within w count i l, in_words i w)
+  where
+    in_words : (i w : ℕ) → i * (64 * w) ≡ 64 * (i * w)
+    in_words i w = grind arith
+
+-- where data has a byte, elements start at bytes
+whole_step : (size : ElementSize) (sections : StructSize) → 8 ≤ data_bits size sections → step_bits size sections ≡ 8 * (step_bits size sections / 8)
+whole_step Void sections wide = absurd (omega arith)
+whole_step Bit sections wide = absurd (omega arith)
+whole_step Byte sections wide = refl
+whole_step TwoBytes sections wide = refl
+whole_step FourBytes sections wide = refl
+whole_step EightBytes sections wide = refl
+whole_step Pointer sections wide = absurd (omega arith)
+whole_step InlineComposite sections wide = omega arith
+
+-- bits of an element that starts at a byte
+start_in_bits : (list : ListPlace) (i n : ℕ) → 0 < n → 8 * n ≤ data_bits list.size list.struct_size →
+    8 * (list.byte + i * (step_bits list.size list.struct_size / 8)) ≡ 8 * list.byte + i * step_bits list.size list.struct_size
+start_in_bits list i n some wide =
+    let step = step_bits list.size list.struct_size in
+    omega (arith, times i step (step / 8) (whole_step list.size list.struct_size (omega (arith, some, wide))))
+  where
+    times : (i s b : ℕ) → s ≡ 8 * b → i * s ≡ 8 * (i * b)
+    times i s b e = rw e (grind arith)
+
+-- a number that is written or read there
+pub number_written : (old new : View) (list : ListPlace) (i n v : ℕ) → 0 < n → 8 * n ≤ data_bits list.size list.struct_size →
+    new ≡ record old { words = with_field old.words list.segment (8 * (list.byte + i * (step_bits list.size list.struct_size / 8))) (8 * n) v } →
+    WritesElement old new list (lowest_bits list i (8 * n) v)
+number_written old new list i n v some wide written = rw (start_in_bits list i n some wide) at written
+
+pub number_read : (view : View) (list : ListPlace) (i n v : ℕ) → 0 < n → 8 * n ≤ data_bits list.size list.struct_size →
+    v ≡ field_in (segment view.words list.segment) (8 * (list.byte + i * (step_bits list.size list.struct_size / 8))) (8 * n) →
+    HasElement view list (lowest_bits list i (8 * n) v)
+number_read view list i n v some wide is = rw (start_in_bits list i n some wide) at is
+
+-- the lowest bits of an element lie in the list's segment
+pub bits_inside : (S : Segments) (list : ListPlace) (i w : ℕ) → IsListPlace S list → i < list.count → w ≤ data_bits list.size list.struct_size →
+    8 * list.byte + i * step_bits list.size list.struct_size + w ≤ 64 * length (segment S list.segment)
+bits_inside S list i w (there, aligned, fits) l wide = omega (arith, fits, wide, data_within list.size list.struct_size list.count i l)
+
+-- so do its lowest bytes
+pub bytes_inside : (S : Segments) (list : ListPlace) (i n : ℕ) → IsListPlace S list → i < list.count → 0 < n → 8 * n ≤ data_bits list.size list.struct_size →
+    list.byte + i * (step_bits list.size list.struct_size / 8) + n ≤ 8 * length (segment S list.segment)
+bytes_inside S list i n inside l some wide = omega (arith, start_in_bits list i n some wide, bits_inside S list i (8 * n) inside l wide)
+
+-- k widths behind a word
+behind_word : (b k m n : ℕ) → 0 < n → n ≤ m → m ≤ 8 → 8 % n ≡ 0 → 8 % m ≡ 0 → b % 8 ≡ 0 → (b + k * m) % n ≡ 0
+behind_word b k m n some l small e f g =
+    let positive : 0 < m = omega (arith, some, l) in
+    aligned_to (b + k * m) n m some l small e f (field_aligned b k m positive small f (aligned_to b m 8 positive small (omega arith) f refl g))
+
+-- which start at a multiple of their number
+of_size : (size : ElementSize) (sections : StructSize) (b i n : ℕ) → 0 < n → n ≤ 8 → 8 % n ≡ 0 → b % 8 ≡ 0 → 8 * n ≤ data_bits size sections → (b + i * (step_bits size sections / 8)) % n ≡ 0
+of_size Void sections b i n some small e g wide = absurd (omega arith)
+of_size Bit sections b i n some small e g wide = absurd (omega arith)
+of_size Byte sections b i n some small e g wide = behind_word b i 1 n some (omega arith) (omega arith) e refl g
+of_size TwoBytes sections b i n some small e g wide = behind_word b i 2 n some (omega arith) (omega arith) e refl g
+of_size FourBytes sections b i n some small e g wide = behind_word b i 4 n some (omega arith) (omega arith) e refl g
+of_size EightBytes sections b i n some small e g wide = behind_word b i 8 n some (omega arith) (omega arith) e refl g
+of_size Pointer sections b i n some small e g wide = absurd (omega arith)
+of_size InlineComposite sections b i n some small e g wide =
+    let w = sections.data_words + sections.pointers in
+    rw (bytes i w) (behind_word b (i * w) 8 n some small (omega arith) e refl g)
+  where
+    bytes : (i w : ℕ) → i * (64 * w / 8) ≡ i * w * 8
+    bytes i w = (let h : 64 * w / 8 ≡ 8 * w = omega arith in rw h (grind arith))
+
+pub number_aligned : (S : Segments) (list : ListPlace) (i n : ℕ) → IsListPlace S list → 0 < n → n ≤ 8 → 8 % n ≡ 0 → 8 * n ≤ data_bits list.size list.struct_size →
+    (list.byte + i * (step_bits list.size list.struct_size / 8)) % n ≡ 0
+number_aligned S list i n (there, aligned, fits) some small e wide = of_size list.size list.struct_size list.byte i n some small e aligned wide

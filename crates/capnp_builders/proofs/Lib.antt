@@ -1,0 +1,4 @@
+pub mod ElementFields
+pub mod ElementPlaces
+pub mod FieldPlaces
+pub mod FoundLists

@@ -1,0 +1,250 @@
+//! Lists of a message that is built ("Lists").
+ghost use Rattle.std.specs.Prelude.{◌≡◌, ◌≢◌, ◌↔◌, ◌+◌, ◌*◌, ◌/◌, ◌%◌, ◌<◌, ◌≤◌, ◌^◌, [], IsTrue, cond};
+ghost use Rattle.capnp_format.specs.Numbers.{element_bits};
+ghost use Rattle.capnp_pointers.specs.Sizes.{size_number};
+ghost use Rattle.capnp_readers.specs.Readers.{IsStructPlace, IsListPlace};
+ghost use Rattle.capnp_format.specs.Segments.{IsPlace};
+ghost use Rattle.capnp_readers.specs.Sections.{HoldsPointer, pointers_behind, list_words, step_bits, data_bits};
+ghost use Rattle.capnp_builders.specs.Places.{IsAligned, IsElement};
+ghost use Rattle.capnp_builders.specs.Elements.{lowest_bits, WritesElement, HasElement};
+ghost use Rattle.capnp_builders.specs.Reads.{IsArenaOf, IsListReadAt};
+
+use crate::builders::{PointerBuilder, StructBuilder};
+use capnp_arena::arena::BuilderArena;
+use capnp_making::numbers;
+use capnp_readers::readers::{ListPlace, ListReader, StructPlace};
+use capnp_words::primitive::Primitive;
+use capnp_words::wire_pointer::{ElementSize, data_bits_per_element, pointers_per_element};
+
+/// A list of a message that is built.
+#[derive(Drop)]
+pub struct ListBuilder<'a, A> {
+    /// The message.
+    pub arena: &'a mut A,
+    /// Where the list is. Its elements lie in the message.
+    pub place: ListPlace,
+}
+
+#[tactic(auto, using(capnp_readers::proofs::Sections::elements))]
+/// Where an element of a list is, as a struct: its own sections, one pointer, or the bits of a
+/// number.
+fn element_place(list: ListPlace, index: u32) -> StructPlace
+    requires range { index < list.count }
+    requires whole { size_number list.size ≢ 1 }
+    requires inside { list.byte / 8 + list_words list.size list.count (list.struct_size.data_words + list.struct_size.pointers) < 2 ^ 29 }
+    requires aligned { list.byte % 8 ≡ 0 }
+    ensures place { IsElement list index result }
+    ensures aligned { IsAligned result }
+{
+    let start = (list.byte / 8) as u32;
+    match list.size {
+        ElementSize::InlineComposite => {
+            let first = start + index * list.struct_size.total();
+            StructPlace {
+                segment: list.segment,
+                byte: 8 * u64::from(first),
+                bits: 64 * u32::from(list.struct_size.data_words),
+                pointers_at: first + u32::from(list.struct_size.data_words),
+                pointers: list.struct_size.pointers,
+            }
+        }
+        ElementSize::Pointer => StructPlace {
+            segment: list.segment,
+            byte: 8 * u64::from(start + index),
+            bits: 0,
+            pointers_at: start + index,
+            pointers: 1,
+        },
+        size => {
+            let bits = data_bits_per_element(size);
+            StructPlace {
+                segment: list.segment,
+                byte: list.byte + u64::from(index) * u64::from(bits / 8),
+                bits,
+                pointers_at: start,
+                pointers: 0,
+            }
+        }
+    }
+}
+
+/// Where the pointer of an element is, in words.
+#[tactic(auto, using(capnp_readers::proofs::Sections::elements))]
+fn element_pointer(list: ListPlace, index: u32) -> u32
+    requires range { index < list.count }
+    requires pointers { HoldsPointer list.size list.struct_size }
+    requires inside { list.byte / 8 + list_words list.size list.count (list.struct_size.data_words + list.struct_size.pointers) < 2 ^ 29 }
+    ensures { result ≡ list.byte / 8 + pointers_behind list.size list.struct_size index }
+{
+    let start = (list.byte / 8) as u32;
+    match list.size {
+        ElementSize::InlineComposite => {
+            start + index * list.struct_size.total() + u32::from(list.struct_size.data_words)
+        }
+        _ => start + index,
+    }
+}
+
+/// How many bits there are from one element to the next.
+fn step_bits(list: ListPlace) -> u32
+    ensures { result ≡ step_bits list.size list.struct_size }
+{
+    // A sum without a branch: a loop over the elements works it out once.
+    let is_struct = u32::from(list.size == ElementSize::InlineComposite);
+    let words = pointers_per_element(list.size) + is_struct * list.struct_size.total();
+    data_bits_per_element(list.size) + 64 * words
+}
+
+impl<'a, A: BuilderArena> ListBuilder<'a, A> {
+    ghost use Rattle.std.specs.Borrow.{sem, follows};
+    ghost use Rattle.capnp_builders.specs.Lent.{with_list_arena};
+    ghost use Rattle.capnp_builders.specs.contracts.builders.list_builder.ListBuilder.{the_row};
+    ghost use mir.Syntax.{named};
+
+    /// The same list, for as long as it is borrowed.
+    pub fn reborrow(&mut self) -> ListBuilder<'_, A>
+        ensures* lends { sem 𝓛 (follows (the_row (record { mir = named 1; lft = [] }) A.row) A.row self.entry.ghost_name result.arena.ghost_name (with_list_arena self.old)) }
+        ensures now { result.arena.now ≡ self.old.arena.now }
+        ensures place { result.place ≡ self.old.place }
+    {
+        let place = self.place;
+        let arena = &mut *self.arena;
+        ListBuilder { arena, place }
+    }
+
+    /// How many elements.
+    pub fn len(&self) -> u32
+        ensures { result ≡ self.now.place.count }
+    {
+        self.place.count
+    }
+
+    /// Whether there are no elements.
+    pub fn is_empty(&self) -> bool
+        ensures { IsTrue result ↔ (self.now.place.count ≡ 0) }
+    {
+        self.place.count == 0
+    }
+
+    /// How wide an element is.
+    pub fn get_element_size(&self) -> ElementSize
+        ensures { result ≡ self.now.place.size }
+    {
+        self.place.size
+    }
+
+    /// The list, to be read: nothing is charged, and `i32::MAX` levels may be entered.
+    pub fn as_reader(&self) -> ListReader<'_, A>
+        requires { IsListPlace (A.view self.now.arena.now).words self.now.place }
+        ensures reads { IsArenaOf result.source self.now.arena.now }
+        ensures place { IsListReadAt A.ReaderArena self.now.place result }
+        ensures nesting { result.nesting_limit ≡ i32.MAX }
+    {
+        ListReader::at(&*self.arena, self.place, i32::MAX)
+    }
+
+    /// The list, to be read once building is over: nothing is charged, and `i32::MAX` levels may be
+    /// entered.
+    pub fn into_reader(self) -> ListReader<'a, A>
+        requires { IsListPlace (A.view self.arena.now).words self.place }
+        ensures reads { IsArenaOf result.source self.entry.arena.now }
+        ensures place { IsListReadAt A.ReaderArena self.entry.place result }
+        ensures nesting { result.nesting_limit ≡ i32.MAX }
+    {
+        let ListBuilder { arena, place } = self;
+        ListReader::at(arena, place, i32::MAX)
+    }
+
+    #[tactic(auto, using(crate::proofs::ElementPlaces::element_inside))]
+    /// An element as a struct. The elements are no bits, and there are more than `index`. A number is
+    /// a struct of its bits, a pointer a struct of one pointer.
+    pub fn get_struct_element(self, index: u32) -> StructBuilder<'a, A>
+        requires inside { IsListPlace (A.view self.arena.now).words self.place }
+        requires range { index < self.place.count }
+        requires whole { size_number self.place.size ≢ 1 }
+        ensures same { result.arena.ghost_name ≡ self.entry.arena.ghost_name }
+        ensures now { result.arena.now ≡ self.entry.arena.now }
+        ensures place { IsElement self.entry.place index result.place }
+        ensures inside { IsStructPlace (A.view result.arena.now).words result.place }
+    {
+        let ListBuilder { arena, place } = self;
+        StructBuilder {
+            arena,
+            place: element_place(place, index),
+        }
+    }
+
+    #[tactic(auto, using(crate::proofs::ElementPlaces::pointer_inside))]
+    /// A pointer of an element: the element itself, or a struct element's first pointer. The elements
+    /// hold a pointer, and there are more than `index`.
+    pub fn get_pointer_element(self, index: u32) -> PointerBuilder<'a, A>
+        requires inside { IsListPlace (A.view self.arena.now).words self.place }
+        requires range { index < self.place.count }
+        requires pointers { HoldsPointer self.place.size self.place.struct_size }
+        ensures same { result.arena.ghost_name ≡ self.entry.arena.ghost_name }
+        ensures now { result.arena.now ≡ self.entry.arena.now }
+        ensures place { (result.segment ≡ self.entry.place.segment) × (result.at ≡ self.entry.place.byte / 8 + pointers_behind self.entry.place.size self.entry.place.struct_size index) }
+        ensures inside { IsPlace (A.view result.arena.now).words result.segment result.at }
+    {
+        let ListBuilder { arena, place } = self;
+        PointerBuilder {
+            arena,
+            segment: place.segment,
+            at: element_pointer(place, index),
+        }
+    }
+
+    // The number in the lowest bytes of an element's data.
+    pub(crate) fn get_number_at<T: Primitive>(&self, index: u32) -> T
+        requires inside { IsListPlace (A.view self.now.arena.now).words self.now.place }
+        requires range { index < self.now.place.count }
+        requires wide { 8 * T.BYTES ≤ data_bits self.now.place.size self.now.place.struct_size }
+        ensures { HasElement (A.view self.now.arena.now) self.now.place (lowest_bits self.now.place index (8 * T.BYTES) (T.bits_of result)) }
+    {
+        let step = u64::from(step_bits(self.place) / 8);
+        let byte = self.place.byte + u64::from(index) * step;
+        numbers::get_number(&*self.arena, self.place.segment, byte)
+    }
+
+    // The lowest bit of an element's data.
+    pub(crate) fn get_bit_at(&self, index: u32) -> bool
+        requires inside { IsListPlace (A.view self.now.arena.now).words self.now.place }
+        requires range { index < self.now.place.count }
+        requires wide { 1 ≤ data_bits self.now.place.size self.now.place.struct_size }
+        ensures { HasElement (A.view self.now.arena.now) self.now.place (lowest_bits self.now.place index 1 (cond result 1 0)) }
+    {
+        let step = u64::from(step_bits(self.place));
+        let bit = 8 * self.place.byte + u64::from(index) * step;
+        numbers::get_bit(&*self.arena, self.place.segment, bit)
+    }
+
+    // Writes a number over the lowest bytes of an element's data.
+    pub(crate) fn set_number_at<T: Primitive>(&mut self, index: u32, value: T)
+        requires inside { IsListPlace (A.view self.old.arena.now).words self.old.place }
+        requires range { index < self.old.place.count }
+        requires wide { 8 * T.BYTES ≤ data_bits self.old.place.size self.old.place.struct_size }
+        ensures written { WritesElement (A.view self.old.arena.now) (A.view self.new.arena.now) self.old.place (lowest_bits self.old.place index (8 * T.BYTES) (T.bits_of value)) }
+        ensures inside { IsListPlace (A.view self.new.arena.now).words self.new.place }
+        ensures same { self.new.arena.ghost_name ≡ self.old.arena.ghost_name }
+        ensures place { self.new.place ≡ self.old.place }
+    {
+        let step = u64::from(step_bits(self.place) / 8);
+        let byte = self.place.byte + u64::from(index) * step;
+        numbers::set_number(&mut *self.arena, self.place.segment, byte, value);
+    }
+
+    // Writes the lowest bit of an element's data.
+    pub(crate) fn set_bit_at(&mut self, index: u32, value: bool)
+        requires inside { IsListPlace (A.view self.old.arena.now).words self.old.place }
+        requires range { index < self.old.place.count }
+        requires wide { 1 ≤ data_bits self.old.place.size self.old.place.struct_size }
+        ensures written { WritesElement (A.view self.old.arena.now) (A.view self.new.arena.now) self.old.place (lowest_bits self.old.place index 1 (cond value 1 0)) }
+        ensures inside { IsListPlace (A.view self.new.arena.now).words self.new.place }
+        ensures same { self.new.arena.ghost_name ≡ self.old.arena.ghost_name }
+        ensures place { self.new.place ≡ self.old.place }
+    {
+        let step = u64::from(step_bits(self.place));
+        let bit = 8 * self.place.byte + u64::from(index) * step;
+        numbers::set_bit(&mut *self.arena, self.place.segment, bit, value);
+    }
+}

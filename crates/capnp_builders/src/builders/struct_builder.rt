@@ -1,0 +1,193 @@
+//! Structs of a message that is built ("Structs").
+ghost use Rattle.std.specs.Prelude.{◌≡◌, ◌≢◌, ◌↔◌, ◌+◌, ◌*◌, ◌<◌, [], IsTrue, cond, true, false};
+ghost use Rattle.capnp_format.specs.Segments.{word_at, IsPlace};
+ghost use Rattle.capnp_readers.specs.Readers.{IsStructPlace};
+ghost use Rattle.capnp_builders.specs.Reads.{IsArenaOf, IsReadAt};
+ghost use Rattle.capnp_builders.specs.Places.{IsAligned, WritesField, field, field_behind};
+ghost use Rattle.capnp_readers.specs.Sections.{IsInside};
+
+use crate::builders::PointerBuilder;
+use capnp_arena::arena::BuilderArena;
+use capnp_making::numbers;
+use capnp_readers::readers::{StructPlace, StructReader};
+use capnp_words::mask::Mask;
+use capnp_words::primitive::Primitive;
+use capnp_words::zero::Zero;
+
+/// A struct of a message that is built.
+#[derive(Drop)]
+pub struct StructBuilder<'a, A> {
+    /// The message.
+    pub arena: &'a mut A,
+    /// Where the struct is. Both sections lie in the message.
+    pub place: StructPlace,
+    ghost aligned: { IsAligned place },
+}
+
+impl<'a, A: BuilderArena> StructBuilder<'a, A> {
+    ghost use Rattle.std.specs.Borrow.{sem, follows};
+    ghost use Rattle.capnp_builders.specs.Lent.{with_struct_arena};
+    ghost use Rattle.capnp_builders.specs.contracts.builders.struct_builder.StructBuilder.{the_row};
+    ghost use mir.Syntax.{named};
+
+    /// The same struct, for as long as it is borrowed.
+    pub fn reborrow(&mut self) -> StructBuilder<'_, A>
+        ensures* lends { sem 𝓛 (follows (the_row (record { mir = named 1; lft = [] }) A.row) A.row self.entry.ghost_name result.arena.ghost_name (with_struct_arena self.old)) }
+        ensures now { result.arena.now ≡ self.old.arena.now }
+        ensures place { result.place ≡ self.old.place }
+    {
+        let place = self.place;
+        let arena = &mut *self.arena;
+        StructBuilder { arena, place }
+    }
+
+    /// The struct, to be read: nothing is charged, and `i32::MAX` levels may be entered.
+    pub fn as_reader(&self) -> StructReader<'_, A>
+        requires { IsStructPlace (A.view self.now.arena.now).words self.now.place }
+        ensures reads { IsArenaOf result.source self.now.arena.now }
+        ensures place { IsReadAt A.ReaderArena self.now.place result }
+        ensures nesting { result.nesting_limit ≡ i32.MAX }
+    {
+        StructReader::at(&*self.arena, self.place, i32::MAX)
+    }
+
+    /// The struct, to be read once building is over: nothing is charged, and `i32::MAX` levels may be
+    /// entered.
+    pub fn into_reader(self) -> StructReader<'a, A>
+        requires { IsStructPlace (A.view self.arena.now).words self.place }
+        ensures reads { IsArenaOf result.source self.entry.arena.now }
+        ensures place { IsReadAt A.ReaderArena self.entry.place result }
+        ensures nesting { result.nesting_limit ≡ i32.MAX }
+    {
+        let StructBuilder { arena, place } = self;
+        StructReader::at(arena, place, i32::MAX)
+    }
+
+    /// A pointer of the pointer section, which has more than `index`.
+    pub fn get_pointer_field(self, index: usize) -> PointerBuilder<'a, A>
+        requires inside { IsStructPlace (A.view self.arena.now).words self.place }
+        requires field { index < self.place.pointers }
+        ensures same { result.arena.ghost_name ≡ self.entry.arena.ghost_name }
+        ensures now { result.arena.now ≡ self.entry.arena.now }
+        ensures place { (result.segment ≡ self.entry.place.segment) × (result.at ≡ self.entry.place.pointers_at + index) }
+        ensures inside { IsPlace (A.view result.arena.now).words result.segment result.at }
+    {
+        let StructBuilder { arena, place } = self;
+        PointerBuilder {
+            arena,
+            segment: place.segment,
+            at: place.pointers_at + index as u32,
+        }
+    }
+
+    /// Whether a pointer of the pointer section, which has more than `index`, is zero.
+    pub fn is_pointer_field_null(&self, index: usize) -> bool
+        requires inside { IsStructPlace (A.view self.now.arena.now).words self.now.place }
+        requires field { index < self.now.place.pointers }
+        ensures { IsTrue result ↔ (word_at (A.view self.now.arena.now).words self.now.place.segment (self.now.place.pointers_at + index) ≡ 0) }
+    {
+        self.as_reader().is_pointer_field_null(index)
+    }
+
+    #[tactic(auto, using(crate::proofs::FieldPlaces::still_inside))]
+    /// Writes a field of the data section, in which it lies, by its offset in values of `T`.
+    pub fn set_data_field<T: Primitive + Zero>(&mut self, offset: usize, value: T)
+        requires inside { IsStructPlace (A.view self.old.arena.now).words self.old.place }
+        requires field { IsInside self.old.place.bits (8 * T.BYTES) offset }
+        ensures written { WritesField (A.view self.old.arena.now) (A.view self.new.arena.now) self.old.place.segment self.old.place.byte (field (8 * (offset * T.BYTES)) (8 * T.BYTES) (T.bits_of value)) }
+        ensures inside { IsStructPlace (A.view self.new.arena.now).words self.new.place }
+        ensures same { self.new.arena.ghost_name ≡ self.old.arena.ghost_name }
+        ensures place { self.new.place ≡ self.old.place }
+    {
+        let byte = self.place.byte + (offset * T::BYTES) as u64;
+        numbers::set_number(&mut *self.arena, self.place.segment, byte, value);
+    }
+
+    /// Writes a field of the data section under a mask, its default: `get_data_field_mask` with the
+    /// same mask gives the value.
+    pub fn set_data_field_mask<T: Primitive + Zero + Mask>(
+        &mut self,
+        offset: usize,
+        value: T,
+        mask: <T as Mask>::T,
+    )
+        requires inside { IsStructPlace (A.view self.old.arena.now).words self.old.place }
+        requires field { IsInside self.old.place.bits (8 * T.BYTES) offset }
+        ensures written { WritesField (A.view self.old.arena.now) (A.view self.new.arena.now) self.old.place.segment self.old.place.byte (field (8 * (offset * T.BYTES)) (8 * T.BYTES) (T.bits_of (T.masked value mask))) }
+        ensures inside { IsStructPlace (A.view self.new.arena.now).words self.new.place }
+        ensures same { self.new.arena.ghost_name ≡ self.old.arena.ghost_name }
+        ensures place { self.new.place ≡ self.old.place }
+    {
+        self.set_data_field(offset, T::mask(value, mask));
+    }
+
+    #[tactic(auto, using(crate::proofs::FieldPlaces::still_inside))]
+    /// Writes a bit of the data section, in which it lies, by its offset in bits.
+    pub fn set_bool_field(&mut self, offset: usize, value: bool)
+        requires inside { IsStructPlace (A.view self.old.arena.now).words self.old.place }
+        requires field { offset < self.old.place.bits }
+        ensures written { WritesField (A.view self.old.arena.now) (A.view self.new.arena.now) self.old.place.segment self.old.place.byte (field offset 1 (cond value 1 0)) }
+        ensures inside { IsStructPlace (A.view self.new.arena.now).words self.new.place }
+        ensures same { self.new.arena.ghost_name ≡ self.old.arena.ghost_name }
+        ensures place { self.new.place ≡ self.old.place }
+    {
+        let bit = 8 * self.place.byte + offset as u64;
+        numbers::set_bit(&mut *self.arena, self.place.segment, bit, value);
+    }
+
+    /// Writes a bit of the data section under a mask, its default: `get_bool_field_mask` with the same
+    /// mask gives the value.
+    pub fn set_bool_field_mask(&mut self, offset: usize, value: bool, mask: bool)
+        requires inside { IsStructPlace (A.view self.old.arena.now).words self.old.place }
+        requires field { offset < self.old.place.bits }
+        ensures written { WritesField (A.view self.old.arena.now) (A.view self.new.arena.now) self.old.place.segment self.old.place.byte (field offset 1 (cond mask (cond value 0 1) (cond value 1 0))) }
+        ensures inside { IsStructPlace (A.view self.new.arena.now).words self.new.place }
+        ensures same { self.new.arena.ghost_name ≡ self.old.arena.ghost_name }
+        ensures place { self.new.place ≡ self.old.place }
+    {
+        self.set_bool_field(offset, value != mask);
+    }
+
+    /// A field of the data section, in which it lies, by its offset in values of `T`.
+    pub fn get_data_field<T: Primitive + Zero>(&self, offset: usize) -> T
+        requires inside { IsStructPlace (A.view self.now.arena.now).words self.now.place }
+        requires field { IsInside self.now.place.bits (8 * T.BYTES) offset }
+        ensures { T.bits_of result ≡ field_behind (A.view self.now.arena.now).words self.now.place (8 * (offset * T.BYTES)) (8 * T.BYTES) }
+    {
+        let byte = self.place.byte + (offset * T::BYTES) as u64;
+        numbers::get_number(&*self.arena, self.place.segment, byte)
+    }
+
+    /// A field of the data section, in which it lies, under a mask, its default.
+    pub fn get_data_field_mask<T: Primitive + Zero + Mask>(
+        &self,
+        offset: usize,
+        mask: <T as Mask>::T,
+    ) -> T
+        requires inside { IsStructPlace (A.view self.now.arena.now).words self.now.place }
+        requires field { IsInside self.now.place.bits (8 * T.BYTES) offset }
+        ensures { (raw : T) × (T.bits_of raw ≡ field_behind (A.view self.now.arena.now).words self.now.place (8 * (offset * T.BYTES)) (8 * T.BYTES)) × (result ≡ T.masked raw mask) }
+    {
+        T::mask(self.get_data_field(offset), mask)
+    }
+
+    /// A bit of the data section, in which it lies, by its offset in bits.
+    pub fn get_bool_field(&self, offset: usize) -> bool
+        requires inside { IsStructPlace (A.view self.now.arena.now).words self.now.place }
+        requires field { offset < self.now.place.bits }
+        ensures { IsTrue result ↔ (field_behind (A.view self.now.arena.now).words self.now.place offset 1 ≡ 1) }
+    {
+        let bit = 8 * self.place.byte + offset as u64;
+        numbers::get_bit(&*self.arena, self.place.segment, bit)
+    }
+
+    /// A bit of the data section, in which it lies, under a mask, its default.
+    pub fn get_bool_field_mask(&self, offset: usize, mask: bool) -> bool
+        requires inside { IsStructPlace (A.view self.now.arena.now).words self.now.place }
+        requires field { offset < self.now.place.bits }
+        ensures plain { mask ≡ false → (IsTrue result ↔ (field_behind (A.view self.now.arena.now).words self.now.place offset 1 ≡ 1)) }
+        ensures turned { mask ≡ true → (IsTrue result ↔ (field_behind (A.view self.now.arena.now).words self.now.place offset 1 ≡ 1 → ⊥)) }
+    {
+        self.get_bool_field(offset) != mask
+    }
+}

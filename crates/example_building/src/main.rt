@@ -1,0 +1,96 @@
+//! Builds a message over several segments, reads it back, and makes it canonical.
+#![tactic(auto)]
+
+ghost use Rattle.std.specs.Prelude.{◌≤◌, IfOk};
+ghost use Rattle.capnp_format.specs.Segments.{IsPlace};
+ghost use Rattle.capnp_arena.specs.Allocations.{max_segment_words};
+
+use capnp_arena::arena::{
+    BuilderArena, BuilderArenaImpl, HeapAllocator, ReaderArena, ReaderArenaImpl, ReaderOptions,
+};
+use capnp_builders::builders::PointerBuilder;
+use capnp_readers::readers::PointerReader;
+use capnp_words::error::ErrorKind;
+use capnp_words::read_limiter::ReadLimiter;
+use capnp_words::wire_pointer::StructSize;
+use std::alloc::Global;
+use std::process::ExitCode;
+
+/// A message that is built, in segments on the heap.
+type Built = BuilderArenaImpl<HeapAllocator>;
+
+/// A struct of one word of data and one pointer.
+const SIZE: StructSize = StructSize {
+    data_words: 1,
+    pointers: 1,
+};
+
+/// A message whose segments have so many words, unless an object needs more, with a null root.
+fn empty_message(alloc: Global, words: u32) -> Result<Built, ErrorKind>
+    requires { words ≤ max_segment_words }
+    ensures { IfOk result (λ b. IsPlace (⟦<Built as BuilderArena>⟧.view b).words 0 0) }
+{
+    let mut built = BuilderArenaImpl::new(alloc, HeapAllocator::new(alloc, words));
+    built.allocate_segment(1)?;
+    let _root = built.allocate(0, 1);
+    Ok(built)
+}
+
+/// Builds a struct that holds a number and a text. Its segments have two words, so each object lies
+/// in a segment of its own, behind a landing pad.
+fn build(alloc: Global) -> Result<Built, ErrorKind> {
+    let mut built = empty_message(alloc, 2)?;
+    let mut root = PointerBuilder::get_root(&mut built).init_struct(SIZE)?;
+    root.set_data_field(0, 7u64);
+    root.get_pointer_field(0).set_text(b"a")?;
+    Ok(built)
+}
+
+/// Makes the canonical form of a message that was built, in one segment.
+fn canonical(alloc: Global, from: &Built) -> Result<Built, ErrorKind> {
+    let mut built = empty_message(alloc, 1024)?;
+    // A message that is built is read free of charge, so the limiter is never asked.
+    let mut limiter = ReadLimiter::new(None);
+    let root = PointerReader::get_root_from_arena(from, &mut limiter)?;
+    PointerBuilder::get_root(&mut built).copy_from(root, &mut limiter, true)?;
+    Ok(built)
+}
+
+/// Prints the words of each segment, a line for each word.
+fn print_segments(rt: &(impl Print + AllocGlobal), built: &Built) -> anyhow::Result<()> {
+    // What goes out is read as what comes in.
+    let output = built.get_segments_for_output()?;
+    let arena = ReaderArenaImpl::new(output, ReaderOptions::default());
+    for id in 0..built.len() as u32 {
+        println!(rt; "segment {id}")?;
+        for word in arena.get_segment(id)?.chunks_exact(8) {
+            println!(rt; "{}", hex::encode(rt.alloc(), word)?)?;
+        }
+    }
+    Ok(())
+}
+
+/// Reads the number and the text back, and prints them.
+fn print_value(rt: &impl Print, built: &Built) -> anyhow::Result<()> {
+    let mut limiter = ReadLimiter::new(None);
+    let root = PointerReader::get_root_from_arena(built, &mut limiter)?;
+    let value = root.get_struct(&mut limiter, None)?;
+    let number: u64 = value.get_data_field(0);
+    let text = value.get_pointer_field(0).get_text(&mut limiter, None)?;
+    println!(rt; "number {number}, text of {} byte", text.len())?;
+    Ok(())
+}
+
+/// Shows the message, what it means, and its canonical form.
+fn show(rt: &(impl Print + AllocGlobal)) -> anyhow::Result<()> {
+    let built = build(rt.alloc())?;
+    print_segments(rt, &built)?;
+    print_value(rt, &built)?;
+    println!(rt; "canonical")?;
+    print_segments(rt, &canonical(rt.alloc(), &built)?)
+}
+
+fn main(rt: HostRuntime) -> anyhow::Result<ExitCode> {
+    show(&rt)?;
+    Ok(ExitCode::SUCCESS)
+}
