@@ -24,4 +24,6 @@ mod objects;
 #[cfg(test)]
 mod overwriting;
 #[cfg(test)]
+mod plain;
+#[cfg(test)]
 mod pointers;

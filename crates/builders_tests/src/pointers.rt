@@ -6,7 +6,7 @@ use capnp_words::error::ErrorKind;
 use capnp_words::read_limiter::ReadLimiter;
 use std::test::Fail;
 
-/// Nothing is copied as it stands for now, and a null pointer is copied as null.
+/// A null pointer is copied as null, in canonical form and as it stands.
 #[test]
 fn null_into_null(rt: HostRuntime) -> Result<(), Fail> {
     let mut arena = BuilderArenaImpl::new(rt.alloc(), HeapAllocator::new(rt.alloc(), 8));
@@ -17,15 +17,15 @@ fn null_into_null(rt: HostRuntime) -> Result<(), Fail> {
     let mut root = PointerBuilder::get_root(&mut arena);
     assert!(rt; root.is_null());
     assert!(rt; root.copy_from(null, &mut lim, true) == Ok(()));
-    let unbuilt = root.reborrow().copy_from(null, &mut lim, false);
-    assert!(rt; unbuilt == Err(ErrorKind::UnknownPointerType));
+    assert!(rt; root.reborrow().copy_from(null, &mut lim, false) == Ok(()));
     assert!(rt; root.as_reader().is_null());
     assert!(rt; lim.followed() == 0);
     assert!(rt; arena.get_segment(0) == Ok(&[0; 8][..]));
     Ok(())
 }
 
-/// A pointer that isn't null is not overwritten for now.
+/// A pointer that isn't null is overwritten by a value as it stands, and for now not by its canonical
+/// form.
 #[test]
 fn onto_a_capability(rt: HostRuntime) -> Result<(), Fail> {
     let mut arena = BuilderArenaImpl::new(rt.alloc(), HeapAllocator::new(rt.alloc(), 8));
@@ -41,9 +41,11 @@ fn onto_a_capability(rt: HostRuntime) -> Result<(), Fail> {
     };
     assert!(rt; !second.is_null());
     assert!(rt; second.copy_from(null, &mut lim, true) == Err(ErrorKind::UnknownPointerType));
+    assert!(rt; second.get_capability() == Ok(5));
+    assert!(rt; second.copy_from(null, &mut lim, false) == Ok(()));
     let reader = second.into_reader();
-    assert!(rt; !reader.is_null());
+    assert!(rt; reader.is_null());
     assert!(rt; reader.nesting_limit == i32::MAX);
-    assert!(rt; arena.get_segment(0) == Ok(&[0, 0, 0, 0, 0, 0, 0, 0, 3, 0, 0, 0, 5, 0, 0, 0][..]));
+    assert!(rt; arena.get_segment(0) == Ok(&[0; 16][..]));
     Ok(())
 }

@@ -2,3 +2,4 @@ pub mod ElementFields
 pub mod ElementPlaces
 pub mod FieldPlaces
 pub mod FoundLists
+pub mod PlainCopies

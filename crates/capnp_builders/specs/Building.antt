@@ -1,5 +1,5 @@
 -- A pointer of a message that is built, and what a canonical copy to it leaves.
-use Rattle.std.specs.Prelude.{◌≡◌, ℕ, Option, Result, [], ◌∷◌, length}
+use Rattle.std.specs.Prelude.{◌≡◌, ℕ, Bool, true, false, Option, Result, [], ◌∷◌, length}
 use Rattle.capnp_words.specs.Meter.{Meter}
 use Rattle.capnp_words.specs.declared.error.ErrorKind.{ErrorKind}
 use Rattle.capnp_format.specs.Segments.{Segments, segment, word_at, IsPlace}
@@ -58,6 +58,11 @@ HasOnlyNull b = segment b.segments b.segment ≡ 0 ∷ []
 -- The canonical words of t stand behind the words that were there, and the pointer leads to them.
 abbrev pub GainsCopy : Building → Building → Tree → Type 0
 GainsCopy old new t = IsCopied old.segments new.segments old.segment old.at t
+
+-- A copy of t is there: in canonical form its words, or the value as it stands.
+abbrev pub HoldsCopy : Bool → Building → Building → Tree → Type 0
+HoldsCopy true old new t = GainsCopy old new t
+HoldsCopy false old new t = Becomes old new t
 
 -- The segment is the canonical words of t.
 abbrev pub IsCopy : Building → Building → Tree → Type 0

@@ -13,13 +13,14 @@ ghost use Rattle.capnp_builders.specs.Found.{place_of, void_list, in_place_of_nu
 ghost use Rattle.capnp_words.specs.declared.error.ErrorKind.{ErrorKind};
 ghost use Rattle.capnp_pointers.specs.Sizes.{size_number};
 ghost use Rattle.capnp_making.specs.Made.{zero_struct, zero_structs, zero_list, list_words};
-ghost use Rattle.capnp_making.specs.Memory.{HasRoom, KeepsMemory, IsRefusedFor, CanRefuse};
+ghost use Rattle.capnp_making.specs.Memory.{HasRoom, KeepsMemory, SpendsMemory, IsRefusedFor, RefusesGrowth, CanRefuse};
 ghost use Rattle.capnp_builders.specs.Places.{IsAligned, IsStructOf, IsListOf, IsStructListOf};
 ghost use Rattle.capnp_words.specs.declared.error.ErrorKind.TheVariants.{UnknownPointerType};
 ghost use Rattle.capnp_builders.specs.Reads.{IsArenaOf};
 ghost use Rattle.capnp_objects.specs.Outcomes.{Reads};
 ghost use Rattle.capnp_objects.specs.Refusals.{BreaksOff, Refused};
-ghost use Rattle.capnp_objects.specs.Wanted.{canonical};
+ghost use Rattle.capnp_objects.specs.Wanted.{canonical, plain};
+ghost use Rattle.capnp_copies.specs.Changes.{form_of};
 ghost use Rattle.capnp_readers.specs.Readers.{reading};
 
 mod list_builder;
@@ -27,7 +28,7 @@ mod primitive_element;
 mod struct_builder;
 
 use capnp_arena::arena::{BuilderArena, ReaderArena};
-use capnp_copies::copy;
+use capnp_copies::{anywhere, copy};
 use capnp_making::existing::ExistingBytes;
 use capnp_making::{bytes, existing, lent, making};
 use capnp_objects::object::Place;
@@ -61,7 +62,7 @@ pub struct PointerBuilder<'a, A> {
 impl<'a, A: BuilderArena> PointerBuilder<'a, A> {
     ghost use Rattle.std.specs.Borrow.{sem, follows, Array, u8 as byte};
     ghost use Rattle.capnp_arena.specs.View.{KeepsLimits};
-    ghost use Rattle.capnp_builders.specs.Building.{Becomes, Stores, listed_in, Fits, GainsCopy, IsCopy, HasOnlyNull, IsNull, IsThere, LacksWords, StaysClear, built, built_at};
+    ghost use Rattle.capnp_builders.specs.Building.{Becomes, HoldsCopy, Stores, listed_in, Fits, GainsCopy, IsCopy, HasOnlyNull, IsNull, IsThere, LacksWords, StaysClear, built, built_at};
     ghost use Rattle.capnp_builders.specs.Lent.{with_arena};
     ghost use Rattle.capnp_builders.specs.contracts.builders.PointerBuilder.{the_row};
     ghost use mir.Syntax.{named};
@@ -489,17 +490,20 @@ impl<'a, A: BuilderArena> PointerBuilder<'a, A> {
         }
     }
 
-    /// Makes the pointer the canonical form of what another one means ("Canonicalization"). The
-    /// objects go behind the words of the pointer's segment; the source is charged as reading all
-    /// of it costs.
+    /// Makes the pointer what another one means: a copy of the whole value, as it stands, or in canonical
+    /// form ("Canonicalization"). The source is charged as reading all of it costs.
     ///
-    /// A refusal is the first one of reading the source,
-    /// `CannotCreateACanonicalMessageWithACapability`, or `MessageTooLarge` with the words of an
-    /// object that found no room in the segment. The pointer is null then, the words that were taken
-    /// are zero and stay allocated, and what was charged stays charged.
+    /// A value as it stands is copied onto any pointer, over as many segments as it takes. What the
+    /// pointer held before becomes zero first. A refusal is the first one of reading the source, or
+    /// `AllocationFailed` or `MessageTooLarge` of an object's words and one more.
     ///
-    /// For now `canonicalize` has to be true and the pointer null: else this is
-    /// `UnknownPointerType`, and nothing changes.
+    /// In canonical form the objects go behind the words of the pointer's segment, for now that alone, and
+    /// onto a null pointer alone: another one is `UnknownPointerType`, and nothing changes. A refusal is
+    /// the first one of reading the source, `CannotCreateACanonicalMessageWithACapability`, or
+    /// `MessageTooLarge` with the words of an object that found no room in the segment.
+    ///
+    /// After a refusal the pointer is null, the words that were taken are zero and stay allocated, and
+    /// what was charged stays charged.
     pub fn copy_from<B: ReaderArena>(
         &mut self,
         from: PointerReader<'_, B>,
@@ -507,9 +511,9 @@ impl<'a, A: BuilderArena> PointerBuilder<'a, A> {
         canonicalize: bool,
     ) -> Result<(), ErrorKind>
         requires place { IsThere (built A.view self.old) }
-        ensures copied { IfOk result (λ _. (t : Tree) × Reads canonical (reading B.ReaderArena from.entry) lim.old lim.new t
-            × GainsCopy (built A.view self.old) (built A.view self.new) t) }
-        ensures fresh { HasOnlyNull (built A.view self.old) →
+        ensures copied { IfOk result (λ _. (t : Tree) × Reads (form_of canonicalize) (reading B.ReaderArena from.entry) lim.old lim.new t
+            × HoldsCopy canonicalize (built A.view self.old) (built A.view self.new) t) }
+        ensures fresh { IsTrue canonicalize → HasOnlyNull (built A.view self.old) →
             IfOk result (λ _. (t : Tree) × Reads canonical (reading B.ReaderArena from.entry) lim.old lim.new t
             × IsCopy (built A.view self.old) (built A.view self.new) t) }
         ensures exactly { IsTrue canonicalize → IsNull (built A.view self.old) →
@@ -517,18 +521,29 @@ impl<'a, A: BuilderArena> PointerBuilder<'a, A> {
         ensures refused { IsTrue canonicalize → IsNull (built A.view self.old) → IfErr result (λ k.
             LacksWords (reading B.ReaderArena from.entry) (built A.view self.old) (built A.view self.new) k
             ⊎ Refused canonical (reading B.ReaderArena from.entry) lim.old lim.new k) }
-        ensures unbuilt { canonicalize ≡ false ⊎ ¬ IsNull (built A.view self.old) →
+        ensures unbuilt { IsTrue canonicalize → ¬ IsNull (built A.view self.old) →
             (result ≡ Err UnknownPointerType) × (A.view self.new.arena.now ≡ A.view self.old.arena.now) × (lim.new ≡ lim.old) }
         ensures spent { IsTrue canonicalize → IsNull (built A.view self.old) → OnErr result (BreaksOff canonical (reading B.ReaderArena from.entry) lim.old lim.new) }
-        ensures cleared { OnErr result (StaysClear (built A.view self.old) (built A.view self.new)) }
-        ensures limits { KeepsLimits (A.view self.old.arena.now) (A.view self.new.arena.now) }
+        ensures cleared { IsTrue canonicalize → OnErr result (StaysClear (built A.view self.old) (built A.view self.new)) }
+        ensures limits { IsTrue canonicalize → KeepsLimits (A.view self.old.arena.now) (A.view self.new.arena.now) }
+        ensures plain_refused { canonicalize ≡ false → IfErr result (λ k. RefusesGrowth (A.view self.old.arena.now) (A.view self.new.arena.now) k
+            ⊎ Refused plain (reading B.ReaderArena from.entry) lim.old lim.new k) }
+        ensures plain_spent { canonicalize ≡ false → OnErr result (BreaksOff plain (reading B.ReaderArena from.entry) lim.old lim.new) }
+        ensures plain_cleared { canonicalize ≡ false → OnErr result (Becomes (built A.view self.old) (built A.view self.new) Null) }
+        ensures plain_granted { canonicalize ≡ false → OnOk result (KeepsMemory (A.view self.old.arena.now) (A.view self.new.arena.now)) }
+        ensures plain_memory { canonicalize ≡ false → OnErr result (SpendsMemory (A.view self.old.arena.now) (A.view self.new.arena.now)) }
         ensures same { self.new.arena.ghost_name ≡ self.old.arena.ghost_name }
         ensures builder { (self.new.segment ≡ self.old.segment) × (self.new.at ≡ self.old.at) }
     {
-        if !canonicalize || !self.is_null() {
-            return Err(ErrorKind::UnknownPointerType);
+        if canonicalize {
+            if !self.is_null() {
+                return Err(ErrorKind::UnknownPointerType);
+            }
+            return copy::copy_value(&mut *self.arena, self.segment, self.at, from, lim);
         }
-        copy::copy_value(&mut *self.arena, self.segment, self.at, from, lim)
+        let at = self.at;
+        making::clear(&mut *self.arena, self.segment, at);
+        anywhere::copy_value(&mut *self.arena, self.segment, at, from, lim, false)
     }
 }
 

@@ -17,3 +17,8 @@ pub mod StructSteps
 pub mod StructsCopied
 pub mod UsedChildren
 pub mod ValueSteps
+pub mod KeptForms
+pub mod FilledChildren
+pub mod FilledElements
+pub mod FilledObjects
+pub mod FilledValues

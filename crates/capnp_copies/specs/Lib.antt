@@ -4,3 +4,4 @@ pub mod Frames
 pub mod Parts
 pub mod Rooms
 pub mod Widths
+pub mod Changes

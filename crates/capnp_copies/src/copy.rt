@@ -16,9 +16,9 @@ ghost use Rattle.capnp_arena.specs.View.{KeepsLimits};
 ghost use Rattle.capnp_copies.specs.Rooms.{IsSameBelow, IsTooLarge, LacksRoom};
 
 mod children;
-mod elements;
+pub(crate) mod elements;
 mod lists;
-mod structs;
+pub(crate) mod structs;
 
 use crate::flat::copy_flat;
 use capnp_arena::arena::{BuilderArena, ReaderArena};
@@ -144,7 +144,7 @@ fn copy_object<A: BuilderArena, B: ReaderArena>(
 }
 
 /// How many words so many elements take.
-fn flat_words(size: ElementSize, count: u32) -> u32
+pub(crate) fn flat_words(size: ElementSize, count: u32) -> u32
     requires { count < 2 ^ 29 }
     ensures { result ≡ words_for (size_number size) count }
 {

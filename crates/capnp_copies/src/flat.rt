@@ -50,7 +50,13 @@ pub(crate) fn copy_flat<A: BuilderArena>(
 }
 
 /// Writes elements of so many bits together over words of a segment, with padding of zero.
-fn put_elements<A: BuilderArena>(arena: &mut A, id: u32, start: u32, elements: &[u8], bits: u64)
+pub(crate) fn put_elements<A: BuilderArena>(
+    arena: &mut A,
+    id: u32,
+    start: u32,
+    elements: &[u8],
+    bits: u64,
+)
     requires whole { length elements.now ≡ 8 * length (words_of elements.now) }
     requires inside { start + length (words_of elements.now) ≤ length (segment (A.view arena.old).words id) }
     requires all { (bits + 63) / 64 ≡ length (words_of elements.now) }

@@ -1,6 +1,7 @@
 //! Copies of what a pointer of one message means into another message that is built.
 #![tactic(auto)]
 
+pub mod anywhere;
 pub mod copy;
 pub(crate) mod flat;
 pub(crate) mod widths;

@@ -3,7 +3,7 @@ use Rattle.std.proofs.Common.{◌≡◌, ℕ, zero, suc, ◌+◌, ◌-◌, ◌*�
 use Rattle.std.proofs.lemmas.List.{length-replicate}
 use Rattle.capnp_format.specs.Bytes.{words_of, message}
 use Rattle.capnp_format.specs.Forest.{target}
-use Rattle.capnp_format.specs.Numbers.{from_digits, digits, words_for, packed}
+use Rattle.capnp_format.specs.Numbers.{from_digits, words_for, packed}
 use Rattle.capnp_format.specs.Segments.{Segments, segment}
 use Rattle.capnp_format.specs.Tree.{Tree, Flat}
 use Rattle.capnp_format.specs.Value.{AreBelow}
@@ -16,7 +16,7 @@ use Rattle.capnp_making.specs.Made.{zeros}
 use Rattle.capnp_making.specs.Stored.{IsReplaced}
 use Rattle.capnp_making.specs.declared.existing.ExistingBytes.{ExistingBytes}
 use Rattle.capnp_making.specs.declared.making.Start.{Start}
-use Rattle.capnp_making.proofs.BytesWritten.{WritesBytes, bytes_written, segment_bytes, zeros_packed, from_zeros}
+use Rattle.capnp_making.proofs.BytesWritten.{WritesBytes, bytes_written, segment_bytes, zeros_packed}
 
 got : (B : List (List ℕ)) (id : ℕ) → id < length (message B) → slice_get B id ≡ Some (slice_index_or B id [])
 got [] id l = absurd (omega arith)

@@ -7,6 +7,10 @@ pub mod FieldBytes
 pub mod FieldDigits
 pub mod FieldRead
 pub mod FieldsWritten
+pub mod Filling
+pub mod FillingChains
+pub mod FillingElements
+pub mod FillingMade
 pub mod InPlaceBytes
 pub mod LastByte
 pub mod Leading
@@ -24,5 +28,6 @@ pub mod Replaced
 pub mod Shapes
 pub mod Tidy
 pub mod WithBits
+pub mod WordsPut
 pub mod Written
 pub mod Zeros

@@ -1,8 +1,11 @@
 -- What an arena's view is after a call.
-use Rattle.std.proofs.Common.{◌≡◌, inl, inr, ℕ, ap, arith}
-use Rattle.capnp_format.specs.Segments.{Segments}
+use Rattle.std.proofs.Common.{◌≡◌, inl, inr, ℕ, ◌+◌, ◌≤◌, length, refl, sym, ap, ap₂, ◌∙◌, subst, arith}
+use Rattle.capnp_words.specs.declared.error.ErrorKind.{ErrorKind}
+use Rattle.capnp_format.specs.Segments.{Segments, segment}
+use Rattle.capnp_arena.specs.Allocations.{one_more}
+use Rattle.capnp_arena.specs.Taking.{IsAllocationRefusal}
 use Rattle.capnp_arena.specs.View.{View, KeepsLimits}
-use Rattle.capnp_making.specs.Memory.{HasRoom}
+use Rattle.capnp_making.specs.Memory.{HasRoom, KeepsMemory, SpendsMemory, IsRefusedFor, RefusesGrowth}
 use Rattle.capnp_making.specs.Zeroed.{IsPruned}
 
 abbrev pub words_in : View → Segments
@@ -16,3 +19,78 @@ room_left old new id n limits pruned (inl fits) =
 room_left old new id n limits pruned (inr (k, first)) =
     let same : (j : ℕ) → new.room j ≡ old.room j = λ j. ap (λ (v : View). v.room j) limits in
     inr (k, (omega (arith, first.0, pruned.segments), omega (arith, first.1, pruned.words k, same k), λ j less. omega (arith, first.2 j less, pruned.words j, same j)))
+
+-- one call after another
+
+pub keeps_itself : (v : View) → KeepsMemory v v
+keeps_itself v = (refl, λ k l. refl)
+
+pub keeps_both : (a b c : View) → length a.words ≤ length b.words → KeepsMemory a b → KeepsMemory b c → KeepsMemory a c
+keeps_both a b c grows x y = (y.0 ∙ ap (λ (v : View). record v { words = c.words; room = c.room }) x.0, λ k l. y.1 k (omega arith) ∙ x.1 k l)
+
+pub keeps_written : (a b : View) (S : Segments) → b ≡ record a { words = S } → KeepsMemory a b
+keeps_written a b S e = subst (KeepsMemory a) (sym e) (refl, λ k l. refl)
+
+pub spends_nothing : (a b : View) → KeepsMemory a b → SpendsMemory a b
+spends_nothing a b x =
+    let same : b.refusals ≡ a.refusals = ap (λ (v : View). v.refusals) x.0 in
+    (x.0 ∙ ap (λ n. record a { words = b.words; room = b.room; refusals = n }) (sym same), x.1, inl same)
+
+pub keeps_then_spends : (a b c : View) → length a.words ≤ length b.words → KeepsMemory a b → SpendsMemory b c → SpendsMemory a c
+keeps_then_spends a b c grows x y =
+    let same : b.refusals ≡ a.refusals = ap (λ (v : View). v.refusals) x.0 in (
+      y.0 ∙ ap (λ (v : View). record v { words = c.words; room = c.room; refusals = c.refusals }) x.0,
+      λ k l. y.1 k (omega arith) ∙ x.1 k l,
+      elim y.2 [ inl e ↦ inl (e ∙ same) | inr e ↦ inr (e ∙ ap one_more same) ],
+    )
+
+pub spends_then_limits : (a b c : View) → SpendsMemory a b → KeepsLimits b c → SpendsMemory a c
+spends_then_limits a b c x e =
+    let room : c.room ≡ b.room = ap (λ (v : View). v.room) e in
+    let times : c.refusals ≡ b.refusals = ap (λ (v : View). v.refusals) e in (
+      e ∙ ap (λ (v : View). record v { words = c.words }) x.0 ∙ ap₂ (λ (n : ℕ) (f : ℕ → ℕ). record a { words = c.words; room = f; refusals = n }) (sym times) (sym room),
+      λ k l. ap (λ (f : ℕ → ℕ). f k) room ∙ x.1 k l,
+      elim x.2 [ inl f ↦ inl (times ∙ f) | inr f ↦ inr (times ∙ f) ],
+    )
+
+-- a refusal, told of a view before and of one after
+
+refusal_of : (a b c d : View) (n m : ℕ) (k : ErrorKind) → b.refusals ≡ a.refusals → d.refusals ≡ c.refusals → IsAllocationRefusal b c n m k → IsAllocationRefusal a d n m k
+refusal_of a b c d n m k before after (inl (e, f, g, h)) = inl (e, f, g, after ∙ h ∙ ap one_more before)
+refusal_of a b c d n m k before after (inr (inl (e, f, g, h))) = inr (inl (e, f, g, after ∙ h ∙ before))
+refusal_of a b c d n m k before after (inr (inr (e, f, h))) = inr (inr (e, f, after ∙ h ∙ before))
+
+pub refused_after : (a b c : View) (k : ErrorKind) → KeepsMemory a b → RefusesGrowth b c k → RefusesGrowth a c k
+refused_after a b c k x (n, r, full) = (n, refusal_of a b c c (length c.words) (n + 1) k (ap (λ (v : View). v.refusals) x.0) refl r, full)
+
+pub refused_before : (a b c : View) (k : ErrorKind) → RefusesGrowth a b k → KeepsLimits b c → IsPruned b.words c.words → RefusesGrowth a c k
+refused_before a b c k (n, r, full) e pruned =
+    let room : c.room ≡ b.room = ap (λ (v : View). v.room) e in
+    let same : (j : ℕ) → c.room j ≡ b.room j = λ j. ap (λ (f : ℕ → ℕ). f j) room in (
+      n,
+      subst (λ i. IsAllocationRefusal a c i (n + 1) k) (sym pruned.segments) (refusal_of a a b c (length b.words) (n + 1) k refl (ap (λ (v : View). v.refusals) e) r),
+      λ j fit. full j (omega (arith, fit.0, pruned.segments), omega (arith, fit.1, pruned.words j, same j), λ i less. omega (arith, fit.2 i less, pruned.words i, same i)),
+    )
+
+-- an object that is refused
+pub made_refused : (a b : View) (id n : ℕ) (k : ErrorKind) → IsRefusedFor a b n k → b.words ≡ a.words → (HasRoom a id n → ⊥) → RefusesGrowth a b k × SpendsMemory a b
+made_refused a b id n k (r, e) words full =
+    let room : b.room ≡ a.room = ap (λ (v : View). v.room) e in
+    let same : (j : ℕ) → b.room j ≡ a.room j = λ j. ap (λ (f : ℕ → ℕ). f j) room in
+    let segments : length b.words ≡ length a.words = ap length words in
+    let lengths : (j : ℕ) → length (segment b.words j) ≡ length (segment a.words j) = λ j. ap (λ S. length (segment S j)) words in (
+      (
+        n,
+        subst (λ i. IsAllocationRefusal a b i (n + 1) k) (sym segments) r,
+        λ j fit. full (inr (j, (omega (arith, fit.0, segments), omega (arith, fit.1, lengths j, same j), λ i less. omega (arith, fit.2 i less, lengths i, same i)))),
+      ),
+      (
+        e ∙ ap (λ (f : ℕ → ℕ). record a { words = b.words; room = f; refusals = b.refusals }) (sym room),
+        λ j l. same j,
+        elim r [
+          | inl (x, f, g, h) ↦ inr h
+          | inr (inl (x, f, g, h)) ↦ inl h
+          | inr (inr (x, f, h)) ↦ inl h
+        ],
+      ),
+    )

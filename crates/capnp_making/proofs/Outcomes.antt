@@ -8,3 +8,7 @@ on_ok_so (Err k) P Q h f = tt
 pub on_err_so : {A E : Type 0} (r : Result A E) (P Q : Type 0) → OnErr r P → (P → Q) → OnErr r Q
 on_err_so (Ok x) P Q h f = tt
 on_err_so (Err k) P Q h f = f h
+
+pub on_made_so : {A E : Type 0} (r : Result A E) (P Q : Type 0) → OnOk r P → (P → Q) → OnOk r Q
+on_made_so (Ok x) P Q h f = f h
+on_made_so (Err k) P Q h f = tt

@@ -32,7 +32,7 @@ capability_made S R s p i place e =
     placed S R s p (Capability i) 0 0 grows place (record { word = x; segment = s; start = p + 1; pads = 0 }, l, put.here, refl) tt (λ v r. omega (arith, none v r)) (λ v r l. absurd (omega (arith, none v r)))
     (λ v r h l. put.kept v r h) (λ v r h l. get_or_past (segment R v) r 0 (omega (arith, put.words v)))
 
-count-zero_elements : (d q n : ℕ) → element_count (zero_elements d q n) ≡ n
+pub count-zero_elements : (d q n : ℕ) → element_count (zero_elements d q n) ≡ n
 count-zero_elements d q zero = refl
 count-zero_elements d q (suc n) = ap suc (count-zero_elements d q n)
 

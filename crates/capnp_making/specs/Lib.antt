@@ -9,3 +9,4 @@ pub mod Fields
 pub mod InPlace
 pub mod Laws
 pub mod Overwritten
+pub mod Filled

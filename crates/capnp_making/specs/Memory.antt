@@ -3,7 +3,7 @@ use Rattle.std.specs.Prelude.{ℕ, ◌≡◌, ◌⊎◌, ◌+◌, ◌-◌, ◌^�
 use Rattle.capnp_format.specs.Segments.{segment}
 use Rattle.capnp_words.specs.declared.error.ErrorKind.{ErrorKind}
 use Rattle.capnp_words.specs.declared.error.ErrorKind.TheVariants.{AllocationFailed, MessageTooLarge}
-use Rattle.capnp_arena.specs.Allocations.{max_segments, max_segment_words}
+use Rattle.capnp_arena.specs.Allocations.{max_segments, max_segment_words, one_more}
 use Rattle.capnp_arena.specs.View.{View}
 use Rattle.capnp_arena.specs.Taking.{IsFirstFit, IsAllocationRefusal, SameRoomBelow}
 
@@ -25,3 +25,13 @@ CanRefuse old n k =
     ((k ≡ AllocationFailed) × (n + 1 ≤ max_segment_words) × (length old.words < max_segments))
     ⊎ ((k ≡ MessageTooLarge (n + 1)) × (max_segment_words < n + 1) × (length old.words < max_segments))
     ⊎ ((k ≡ MessageTooLarge (2 ^ 64 - 1)) × (length old.words ≡ max_segments))
+
+-- Nothing but words is changed, the room of segments that are new, and how often memory was refused, which is once more at most.
+abbrev pub SpendsMemory : View → View → Type 0
+SpendsMemory old new =
+    (new ≡ record old { words = new.words; room = new.room; refusals = new.refusals }) × SameRoomBelow (length old.words) old.room new.room
+    × ((new.refusals ≡ old.refusals) ⊎ (new.refusals ≡ one_more old.refusals))
+
+-- Some words and a pad are refused by this name, and no segment that is there now has room for them.
+abbrev pub RefusesGrowth : View → View → ErrorKind → Type 0
+RefusesGrowth old new k = (n : ℕ) × IsAllocationRefusal old new (length new.words) (n + 1) k × ((j : ℕ) → IsFirstFit new (n + 1) j → ⊥)

@@ -12,7 +12,7 @@ ghost use Rattle.capnp_pointers.specs.Sizes.{size_number};
 ghost use Rattle.capnp_arena.specs.View.{KeepsLimits};
 ghost use Rattle.capnp_making.specs.Made.{IsShape, IsFew, AsksWords, zero_struct, zero_structs, zero_list, list_words, IsMadeAt, LeadsTo, LieFrom};
 ghost use Rattle.capnp_making.specs.Memory.{HasRoom, KeepsMemory, IsRefusedFor};
-ghost use Rattle.capnp_making.specs.Stored.{Puts};
+ghost use Rattle.capnp_making.specs.Stored.{IsReplaced, Puts};
 ghost use Rattle.capnp_making.specs.Zeroed.{IsPruned};
 
 use crate::zeroing::zero_object;
@@ -123,6 +123,33 @@ pub fn set_capability<A: BuilderArena>(arena: &mut A, id: u32, at: u32, index: u
     arena.set_word(id, at, WirePointer::new_capability(index).0);
 }
 
+/// Makes a struct, all zero, and sets the pointer at a place to it, which isn't looked at. One
+/// without sections takes no words.
+///
+/// A refusal is that of memory, or `MessageTooLarge`, and changes nothing but `refused`.
+pub fn make_struct<A: BuilderArena>(
+    arena: &mut A,
+    id: u32,
+    at: u32,
+    size: StructSize,
+) -> Result<Start, ErrorKind>
+    requires place { IsPlace (A.view arena.old).words id at }
+    ensures made { OnOk result (IsReplaced (A.view arena.old).words (A.view arena.new).words id at Null (zero_struct size)) }
+    ensures start { IfOk result (LeadsTo (A.view arena.new).words id at) }
+    ensures inside { IfOk result (LieFrom (A.view arena.new).words (size.data_words + size.pointers)) }
+    ensures fits { HasRoom (A.view arena.old) id (size.data_words + size.pointers) → IsOk result }
+    ensures granted { OnOk result (KeepsMemory (A.view arena.old) (A.view arena.new)) }
+    ensures named { IfErr result (IsRefusedFor (A.view arena.old) (A.view arena.new) (size.data_words + size.pointers)) }
+    ensures refused { OnErr result ((A.view arena.new).words ≡ (A.view arena.old).words) }
+{
+    let words = size.total();
+    if words == 0 {
+        arena.set_word(id, at, WirePointer::empty_struct().0);
+        return Ok(Start { segment: id, at });
+    }
+    put_object(arena, id, at, Shape::Struct(size), words)
+}
+
 /// Makes a struct, all zero, where the pointer at a place leads. One without sections takes no words.
 ///
 /// A refusal is that of memory, or `MessageTooLarge`; the pointer is null then.
@@ -142,12 +169,33 @@ pub fn init_struct<A: BuilderArena>(
     ensures refused { OnErr result (Puts (A.view arena.old).words (A.view arena.new).words id at Null) }
 {
     zero_object(arena, id, at);
-    let words = size.total();
-    if words == 0 {
-        arena.set_word(id, at, WirePointer::empty_struct().0);
-        return Ok(Start { segment: id, at });
-    }
-    put_object(arena, id, at, Shape::Struct(size), words)
+    make_struct(arena, id, at, size)
+}
+
+/// Makes a list of elements that are no structs, all zero or null, and sets the pointer at a place to
+/// it, which isn't looked at.
+///
+/// A refusal is that of memory, or `MessageTooLarge`, and changes nothing but `refused`.
+pub fn make_list<A: BuilderArena>(
+    arena: &mut A,
+    id: u32,
+    at: u32,
+    size: ElementSize,
+    count: u32,
+) -> Result<Start, ErrorKind>
+    requires place { IsPlace (A.view arena.old).words id at }
+    requires few { count < 2 ^ 29 }
+    requires plain { size_number size ≤ 6 }
+    ensures made { OnOk result (IsReplaced (A.view arena.old).words (A.view arena.new).words id at Null (zero_list (size_number size) count)) }
+    ensures start { IfOk result (LeadsTo (A.view arena.new).words id at) }
+    ensures inside { IfOk result (LieFrom (A.view arena.new).words (list_words (size_number size) count)) }
+    ensures fits { HasRoom (A.view arena.old) id (list_words (size_number size) count) → IsOk result }
+    ensures granted { OnOk result (KeepsMemory (A.view arena.old) (A.view arena.new)) }
+    ensures named { IfErr result (IsRefusedFor (A.view arena.old) (A.view arena.new) (list_words (size_number size) count)) }
+    ensures refused { OnErr result ((A.view arena.new).words ≡ (A.view arena.old).words) }
+{
+    let words = words_of_list(size, count);
+    put_object(arena, id, at, Shape::List(size, count), words)
 }
 
 /// Makes a list of elements that are no structs, all zero or null, where the pointer at a place leads.
@@ -172,8 +220,7 @@ pub fn init_list<A: BuilderArena>(
     ensures refused { OnErr result (Puts (A.view arena.old).words (A.view arena.new).words id at Null) }
 {
     zero_object(arena, id, at);
-    let words = words_of_list(size, count);
-    put_object(arena, id, at, Shape::List(size, count), words)
+    make_list(arena, id, at, size, count)
 }
 
 /// How many words a list takes of so many elements that are no structs.
@@ -187,6 +234,40 @@ fn words_of_list(size: ElementSize, count: u32) -> u32
         return count;
     }
     (u64::from(data_bits_per_element(size)) * u64::from(count)).div_ceil(64) as u32
+}
+
+/// Makes a list of structs, all zero, and sets the pointer at a place to it, which isn't looked at. Its
+/// first word is the tag.
+///
+/// A refusal is that of memory, or `MessageTooLarge`, and changes nothing but `refused`.
+pub fn make_struct_list<A: BuilderArena>(
+    arena: &mut A,
+    id: u32,
+    at: u32,
+    count: u32,
+    size: StructSize,
+) -> Result<Start, ErrorKind>
+    requires place { IsPlace (A.view arena.old).words id at }
+    requires few { count < 2 ^ 30 }
+    requires words { count * (size.data_words + size.pointers) < 2 ^ 29 }
+    ensures made { OnOk result (IsReplaced (A.view arena.old).words (A.view arena.new).words id at Null (zero_structs count size)) }
+    ensures start { IfOk result (LeadsTo (A.view arena.new).words id at) }
+    ensures inside { IfOk result (LieFrom (A.view arena.new).words (1 + count * (size.data_words + size.pointers))) }
+    ensures fits { HasRoom (A.view arena.old) id (1 + count * (size.data_words + size.pointers)) → IsOk result }
+    ensures granted { OnOk result (KeepsMemory (A.view arena.old) (A.view arena.new)) }
+    ensures named { IfErr result (IsRefusedFor (A.view arena.old) (A.view arena.new) (1 + count * (size.data_words + size.pointers))) }
+    ensures refused { OnErr result ((A.view arena.new).words ≡ (A.view arena.old).words) }
+{
+    let words = count * size.total();
+    let shape = Shape::List(ElementSize::InlineComposite, words);
+    match put_object(arena, id, at, shape, 1 + words) {
+        Ok(start) => {
+            let tag = WirePointer::new_tag(count, size);
+            arena.set_word(start.segment, start.at, tag.0);
+            Ok(start)
+        }
+        Err(k) => Err(k),
+    }
 }
 
 /// Makes a list of structs, all zero, where the pointer at a place leads; its first word is the tag.
@@ -211,14 +292,5 @@ pub fn init_struct_list<A: BuilderArena>(
     ensures refused { OnErr result (Puts (A.view arena.old).words (A.view arena.new).words id at Null) }
 {
     zero_object(arena, id, at);
-    let words = count * size.total();
-    let shape = Shape::List(ElementSize::InlineComposite, words);
-    match put_object(arena, id, at, shape, 1 + words) {
-        Ok(start) => {
-            let tag = WirePointer::new_tag(count, size);
-            arena.set_word(start.segment, start.at, tag.0);
-            Ok(start)
-        }
-        Err(k) => Err(k),
-    }
+    make_struct_list(arena, id, at, count, size)
 }

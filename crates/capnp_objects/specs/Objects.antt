@@ -43,9 +43,9 @@ IsObject r m m' (ObjectStructs start size count) =
 abbrev pub EntersStruct : Reading → Meter → Meter → Place → Type 0
 EntersStruct r m m' start = (a : Target) × Entered r m m' a × (kind a.word ≡ 0) × StartsAt r.segments a 0 start
 
--- A list has so few elements that their number fits its bits of a pointer word.
+-- A list has so few elements that their number fits its bits of a pointer word, and so do the words of structs.
 abbrev pub IsFew : Object → Type 0
 IsFew (ObjectFlat start size count) = count < 2 ^ 29
 IsFew (ObjectPointers start count) = count < 2 ^ 29
-IsFew (ObjectStructs start size count) = count < 2 ^ 30
+IsFew (ObjectStructs start size count) = (count < 2 ^ 30) × (count * (size.data_words + size.pointers) < 2 ^ 29)
 IsFew x = Unit {0}

@@ -72,7 +72,10 @@ pub(crate) fn copy_struct<A: BuilderArena, B: ReaderArena>(
 
 /// How much of a struct's sections is used, of which `from` is the first word: the words of each up
 /// to the last that is not zero.
-fn used_sections<B: ReaderArena>(from: PointerReader<'_, B>, size: StructSize) -> StructSize
+pub(crate) fn used_sections<B: ReaderArena>(
+    from: PointerReader<'_, B>,
+    size: StructSize,
+) -> StructSize
     requires inside { from.place.at + (size.data_words + size.pointers) ≤ length (row (reading B.ReaderArena from)) }
     ensures { Uses (reading B.ReaderArena from.entry) size result }
 {

@@ -8,28 +8,25 @@ use Rattle.capnp_making.specs.Stored.{Puts}
 use Rattle.capnp_making.proofs.Memory.{room_left}
 use Rattle.capnp_making.proofs.Replaced.{replaced_again}
 use Rattle.capnp_making.proofs.Placed.{zeroed_replaced}
-use Rattle.capnp_making.proofs.PlacedLists.{list_made}
-use Rattle.capnp_making.proofs.Outcomes.{on_ok_so, on_err_so}
+use Rattle.capnp_making.proofs.Outcomes.{on_made_so, on_err_so}
 use Rattle.capnp_making.proofs.making.init_list.Goals as goal
 
--- The old object becomes zero, and then the list is made.
+-- The old object becomes zero, and then the new one is made.
 pub returns-clause-made : goal.returns-clause-made
 returns-clause-made g c =
     let S : Segments = (g.A.BuilderArena.view c.args.arena.now).words in
     let M : Segments = (g.A.BuilderArena.view c.zero_object.new.arena).words in
-    let R : Segments = (g.A.BuilderArena.view c.put_object.new.arena).words in
-    let place = rw (sym (c.zero_object.ensures.pruned.words c.args.id)) at c.requires.place in
-    on_ok_so c.put_object.result _ _ c.put_object.ensures.made (λ h made. λ x stored. replaced_again S M R c.args.id c.args.at x Null _ (zeroed_replaced S M c.args.id c.args.at x c.zero_object.ensures.zeroed stored)
-    (let (a, m, shape, is_segment, is_start) = made in list_made M R c.args.id c.args.at (size_number c.args.size) c.args.count a place c.requires.plain (rw c.words_of_list-words.ensures.value at m) shape.0 shape.1 shape.2))
+    let R : Segments = (g.A.BuilderArena.view c.make_list.new.arena).words in
+    on_made_so c.make_list.result _ _ c.make_list.ensures.made (λ made. λ x stored. replaced_again S M R c.args.id c.args.at x Null _ (zeroed_replaced S M c.args.id c.args.at x c.zero_object.ensures.zeroed stored) made)
 
 pub returns-clause-fits : goal.returns-clause-fits
 returns-clause-fits g c =
     let old : View = g.A.BuilderArena.view c.args.arena.now in
     let mid : View = g.A.BuilderArena.view c.zero_object.new.arena in
-    λ room. c.put_object.ensures.fits (rw (sym c.words_of_list-words.ensures.value) at (room_left old mid c.args.id (list_words (size_number c.args.size) c.args.count) c.zero_object.ensures.limits c.zero_object.ensures.pruned room))
+    λ room. c.make_list.ensures.fits (room_left old mid c.args.id (list_words (size_number c.args.size) c.args.count) c.zero_object.ensures.limits c.zero_object.ensures.pruned room)
 
 pub returns-clause-refused : goal.returns-clause-refused
 returns-clause-refused g c =
     let S : Segments = (g.A.BuilderArena.view c.args.arena.now).words in
     let M : Segments = (g.A.BuilderArena.view c.zero_object.new.arena).words in
-    on_err_so c.put_object.result _ _ c.put_object.ensures.refused (λ same. subst (λ R. Puts S R c.args.id c.args.at Null) (sym same) (λ x stored. zeroed_replaced S M c.args.id c.args.at x c.zero_object.ensures.zeroed stored))
+    on_err_so c.make_list.result _ _ c.make_list.ensures.refused (λ same. subst (λ R. Puts S R c.args.id c.args.at Null) (sym same) (λ x stored. zeroed_replaced S M c.args.id c.args.at x c.zero_object.ensures.zeroed stored))

@@ -1,0 +1,73 @@
+//! Copies of values as they stand, onto pointers that lead somewhere already.
+use crate::objects::{ONE_EACH, Object, has_words, made, pointer};
+use capnp_arena::arena::{ReaderArena, ReaderOptions};
+use capnp_readers::readers::PointerReader;
+use capnp_words::error::ErrorKind;
+use capnp_words::read_limiter::ReadLimiter;
+use std::alloc::Global;
+use std::process::Abort;
+use test_support::arena_of;
+
+/// Copies the root of a message of one segment over a struct of one data word and one pointer, in
+/// segments with room for so many words.
+fn copied(rt: &impl Abort, alloc: Global, room: u16, message: &str, want: Result<&str, ErrorKind>) {
+    let options = ReaderOptions::default();
+    let source = arena_of(alloc, message, options).expect(rt, "a message");
+    let mut arena = made(rt, alloc, room, &[(0, 0, Object::Struct(ONE_EACH))]);
+    let words = arena.size_in_words();
+    let mut lim = ReadLimiter::new(options.traversal_limit_in_words);
+    let root = PointerReader::get_root_from_arena(&source, &mut lim).expect(rt, "a root");
+    let result = pointer(rt, &mut arena, 0, 0).copy_from(root, &mut lim, false);
+    match want {
+        Ok(want) => {
+            assert!(rt; result == Ok(()), "{message}");
+            assert!(rt; has_words(rt, alloc, &arena, want), "{message}");
+        }
+        Err(kind) => {
+            assert!(rt; result == Err(kind), "{message}");
+            assert!(rt; pointer(rt, &mut arena, 0, 0).is_null(), "{message}");
+            assert!(rt; arena.size_in_words() >= words, "{message}");
+        }
+    }
+}
+
+/// Behind the two words that the struct leaves, which are zero.
+#[test]
+fn in_one_segment(rt: HostRuntime) {
+    for (message, want) in [
+        (
+            "0300000005000000",
+            "0300000005000000 0000000000000000 0000000000000000",
+        ),
+        (
+            "0000000003000000 1111111111111111 0000000000000080 0000000000000000",
+            "0800000003000000 0000000000000000 0000000000000000 1111111111111111 0000000000000080 0000000000000000",
+        ),
+        (
+            "0000000000000200 0500000012000000 0300000005000000 6100000000000000",
+            "0800000000000200 0000000000000000 0000000000000000 0500000012000000 0300000005000000 6100000000000000",
+        ),
+    ] {
+        copied(&rt, rt.alloc(), 1024, message, Ok(want));
+    }
+}
+
+/// Each object behind a landing pad of its own; those of the struct that was there are zero.
+#[test]
+fn over_segments(rt: HostRuntime) {
+    let message = "0000000001000100 0700000000000000 0100000012000000 6100000000000000";
+    let want =
+        "0200000002000000, 0000000000000000 0000000000000000 0000000000000000, 0000000001000100 0700000000000000 0200000003000000, 0100000012000000 6100000000000000";
+    copied(&rt, rt.alloc(), 2, message, Ok(want));
+}
+
+#[test]
+fn refused(rt: HostRuntime) {
+    for message in [
+        "01000000ffffffff 0800000001000000",
+        "0000000000000200 0500000012000000 0900000012000000 6100000000000000",
+    ] {
+        let outside = ErrorKind::MessageContainsOutOfBoundsPointer;
+        copied(&rt, rt.alloc(), 1024, message, Err(outside));
+    }
+}

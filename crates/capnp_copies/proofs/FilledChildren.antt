@@ -1,0 +1,73 @@
+-- The copy of pointers one behind the other, to a message of any number of segments: none yet, one child more, and where a child stops it.
+use Rattle.std.proofs.Common.{◌≡◌, inl, inr, ℕ, ◌+◌, ◌<◌, Bool, length, refl, sym, ◌∙◌, subst, arith}
+use Rattle.capnp_words.specs.declared.error.ErrorKind.{ErrorKind}
+use Rattle.capnp_words.specs.Meter.{Meter}
+use Rattle.capnp_format.specs.Segments.{Grows, segment, word_at}
+use Rattle.capnp_format.specs.Tree.{Tree, Null, Trees, no_trees, count}
+use Rattle.capnp_format.proofs.Children.{with_last, count-with_last}
+use Rattle.capnp_arena.specs.View.{View}
+use Rattle.capnp_making.specs.Filled.{AreFilled}
+use Rattle.capnp_making.specs.Stored.{IsReplaced}
+use Rattle.capnp_making.proofs.FillingChains.{filled_grows, filled_ahead, filled_more}
+use Rattle.capnp_making.proofs.Memory.{keeps_itself, keeps_both, keeps_then_spends, refused_after}
+use Rattle.capnp_objects.specs.Outcomes.{Reads}
+use Rattle.capnp_objects.specs.Refusals.{Refused, BreaksOff}
+use Rattle.capnp_objects.specs.Reading.{Reading, behind}
+use Rattle.capnp_objects.proofs.Copies.{read_none, read_more}
+use Rattle.capnp_copies.specs.Changes.{form_of, kept, kept_each, change, CopiesValue, StopsAtValue, CopiesChildren, StopsAtChildren}
+use Rattle.capnp_copies.proofs.KeptForms.{kept_none, kept_each-count, kept_each-with_last}
+
+pub no_child : (r : Reading) (b : Bool) (s p : ℕ) (v : View) (m : Meter) → CopiesChildren r 0 (change b s p v v m m)
+no_child r b s p v m = record {
+  children = no_trees;
+  counts = refl;
+  are_read = read_none (form_of b) r m;
+  made = subst (AreFilled v.words v.words s p) (sym (kept_none b)) refl;
+  memory = keeps_itself v;
+}
+
+-- the segments, once the first children are copied
+pub children_grow : {r : Reading} {b : Bool} {s p i : ℕ} {old mid : View} {m m' : Meter} → CopiesChildren r i (change b s p old mid m m') → Grows old.words mid.words
+children_grow {b = b} {s = s} {p = p} {old = old} {mid = mid} first = filled_grows old.words mid.words s p (kept_each b first.children) first.made
+
+-- the pointer behind them is as before
+pub child_ahead : {r : Reading} {b : Bool} {s p i : ℕ} {old mid : View} {m m' : Meter} → CopiesChildren r i (change b s p old mid m m') → p + i < length (segment old.words s) → word_at mid.words s (p + i) ≡ word_at old.words s (p + i)
+child_ahead {b = b} {s = s} {p = p} {i = i} {old = old} {mid = mid} first place =
+    filled_ahead old.words mid.words s p (kept_each b first.children) (p + i) first.made (omega (arith, kept_each-count b first.children, first.counts)) place
+
+one_filled : {r : Reading} {b : Bool} {s p i : ℕ} {old mid : View} {m m' : Meter} (new : View) (t : Tree) (first : CopiesChildren r i (change b s p old mid m m')) → IsReplaced mid.words new.words s (p + i) Null t → AreFilled old.words new.words s p (with_last (kept_each b first.children) t)
+one_filled {b = b} {s = s} {p = p} {old = old} {mid = mid} new t first made =
+    filled_more old.words mid.words new.words s p (kept_each b first.children) t first.made
+    (subst (λ j. IsReplaced mid.words new.words s (p + j) Null t) (sym (kept_each-count b first.children ∙ first.counts)) made)
+
+pub child_copied : {r : Reading} {b : Bool} {s p i : ℕ} {old mid new : View} {m m' m'' : Meter} → CopiesChildren r i (change b s p old mid m m') → CopiesValue (behind r i) (change b s (p + i) mid new m' m'') → CopiesChildren r (i + 1) (change b s p old new m m'')
+child_copied {r} {b} {s} {p} {i} {old} {mid} {new} {m} {m'} {m''} first next =
+    let ts : Trees = first.children in
+    let u : Tree = next.value in
+    let here : Reads (form_of b) (behind r (count ts)) m' m'' u = rw first.counts next.is_read in
+    record {
+      children = with_last ts u;
+      counts = count-with_last ts u ∙ omega (arith, first.counts);
+      are_read = read_more first.are_read here;
+      made = subst (AreFilled old.words new.words s p) (sym (kept_each-with_last b ts u)) (one_filled new (kept b u) first next.made.0);
+      memory = keeps_both old mid new (children_grow first).segments first.memory next.made.1;
+    }
+
+pub child_stops : {r : Reading} {b : Bool} {s p i n : ℕ} {old mid new : View} {m m' m'' : Meter} {k : ErrorKind} → i < n → CopiesChildren r i (change b s p old mid m m') → StopsAtValue (behind r i) (change b s (p + i) mid new m' m'') k →
+    StopsAtChildren r n (change b s p old new m m'') k
+child_stops {r} {b} {s} {p} {i} {n} {old} {mid} {new} {m} {m'} {m''} {k} less first stop =
+    let ts : Trees = first.children in
+    let fewer : count ts < n = omega (arith, first.counts) in
+    let off : BreaksOff (form_of b) (behind r (count ts)) m' m'' = rw first.counts stop.off in
+    let (t, made) = stop.left.0 in
+    record {
+      why = elim stop.why [
+        | inl x ↦ inl (refused_after old mid new k first.memory x)
+        | inr x ↦ inr (record { first = ts; fewer = fewer; mid = m'; are_read = first.are_read; stops = (let h : Refused (form_of b) (behind r (count ts)) m' m'' k = rw first.counts x in h) })
+      ];
+      off = record { first = ts; fewer = fewer; mid = m'; are_read = first.are_read; stops = off };
+      left = with_last (kept_each b ts) t;
+      few = omega (arith, count-with_last (kept_each b ts) t, kept_each-count b ts, first.counts);
+      made = one_filled new t first made;
+      memory = keeps_then_spends old mid new (children_grow first).segments first.memory stop.left.1;
+    }

@@ -1,0 +1,208 @@
+-- The copy of the elements of a list of structs, to a message of any number of segments: none yet, one element more, and where an element stops it.
+use Rattle.std.proofs.Common.{◌≡◌, inl, inr, ℕ, suc, ◌+◌, ◌*◌, ◌<◌, ◌≤◌, Bool, true, false, List, length, refl, sym, ap, ◌∙◌, subst, arith}
+use Rattle.capnp_words.specs.declared.error.ErrorKind.{ErrorKind}
+use Rattle.capnp_words.specs.Meter.{Meter}
+use Rattle.capnp_format.specs.Segments.{Segments, Grows, segment, word_at}
+use Rattle.capnp_format.specs.Tree.{Trees, Elements, no_elements, element, count, element_count}
+use Rattle.capnp_format.specs.Canonical.{cut_to}
+use Rattle.capnp_format.proofs.Slices.{length_words}
+use Rattle.capnp_arena.specs.View.{View}
+use Rattle.capnp_arena.specs.Written.{with_words}
+use Rattle.capnp_making.specs.Filled.{AreFilled, IsElementFilled, AreElementsFilled}
+use Rattle.capnp_making.proofs.FillingChains.{elements_grow, elements_ahead}
+use Rattle.capnp_making.proofs.Memory.{keeps_itself, keeps_both, keeps_written, keeps_then_spends, refused_after}
+use Rattle.capnp_making.proofs.WordsPut.{words_put}
+use Rattle.capnp_objects.specs.Outcomes.{ReadsAll}
+use Rattle.capnp_objects.specs.Refusals.{RefusedAll, BreaksOffAmong}
+use Rattle.capnp_objects.specs.Reading.{Reading, behind, row, words_from, pointers_of}
+use Rattle.capnp_objects.proofs.Copies.{read_no_element, with_last_element}
+use Rattle.capnp_copies.specs.Changes.{form_of, kept_each, kept_elements, change, CopiesChildren, StopsAtChildren, CopiesElement, StopsAtElement, CopiesElements, StopsAtElements}
+use Rattle.capnp_copies.specs.declared.widths.ElementSizes.{ElementSizes}
+use Rattle.capnp_copies.proofs.ElementsLaid.{cut_count}
+use Rattle.capnp_copies.proofs.KeptForms.{SourceKept, one_more, kept_each-count, stops_sooner, blank_elements, nothing_filled}
+
+-- one element
+
+-- The data words that are kept of an element are written at a place.
+pub record DataWritten (r : Reading) (sizes : ElementSizes) (old mid : View) (s p : ℕ) : Type 0 where
+  pub inside : r.at + sizes.kept.data_words ≤ length (row r)
+  pub room : p + sizes.kept.data_words ≤ length (segment old.words s)
+  pub writes : mid ≡ record old { words = with_words old.words s p (words_from r sizes.kept.data_words) }
+
+data_long : {r : Reading} {sizes : ElementSizes} {old mid : View} {s p : ℕ} → DataWritten r sizes old mid s p → length (words_from r sizes.kept.data_words) ≡ sizes.kept.data_words
+data_long {r} {sizes} put = length_words r.segments r.segment r.at sizes.kept.data_words put.inside
+
+same_segments : {r : Reading} {sizes : ElementSizes} {old mid : View} {s p : ℕ} → DataWritten r sizes old mid s p → length old.words ≤ length mid.words
+same_segments {r} {sizes} {old} {mid} {s} {p} put =
+    let laid = words_put old.words mid.words s p (words_from r sizes.kept.data_words) (omega (arith, data_long put, put.room)) (ap (λ (v : View). v.words) put.writes) in
+    omega (arith, laid.long.segments)
+
+element_made : {r : Reading} {sizes : ElementSizes} {old mid : View} {s p : ℕ} (new : View) (ts : Trees) → DataWritten r sizes old mid s p → AreFilled mid.words new.words s (p + sizes.kept.data_words) ts → IsElementFilled old.words new.words s p (words_from r sizes.kept.data_words) ts
+element_made {r} {sizes} {old} {mid} {s} {p} new ts put f =
+    record { written = mid.words; writes = ap (λ (v : View). v.words) put.writes; filled = subst (λ i. AreFilled mid.words new.words s (p + i) ts) (sym (data_long put)) f }
+
+pub element_copied : {r : Reading} {sizes : ElementSizes} {b : Bool} {s p : ℕ} {old mid new : View} {m m' : Meter} → DataWritten r sizes old mid s p → CopiesChildren (behind r sizes.source.data_words) sizes.kept.pointers (change b s (p + sizes.kept.data_words) mid new m m') →
+    CopiesElement r sizes (change b s p old new m m')
+element_copied {r} {sizes} {b} {s} {p} {old} {mid} {new} put children = record {
+  children = children.children;
+  counts = children.counts;
+  are_read = children.are_read;
+  made = element_made new (kept_each b children.children) put children.made;
+  memory = keeps_both old mid new (same_segments put) (keeps_written old mid _ put.writes) children.memory;
+}
+
+pub element_stops : {r : Reading} {sizes : ElementSizes} {b : Bool} {s p : ℕ} {old mid new : View} {m m' : Meter} {k : ErrorKind} → DataWritten r sizes old mid s p →
+    StopsAtChildren (behind r sizes.source.data_words) sizes.kept.pointers (change b s (p + sizes.kept.data_words) mid new m m') k → StopsAtElement r sizes (change b s p old new m m') k
+element_stops {r} {sizes} {b} {s} {p} {old} {mid} {new} {k = k} put stop = record {
+  why = elim stop.why [
+    | inl x ↦ inl (refused_after old mid new k (keeps_written old mid _ put.writes) x)
+    | inr x ↦ inr x
+  ];
+  off = stop.off;
+  left = stop.left;
+  few = stop.few;
+  made = element_made new stop.left put stop.made;
+  memory = keeps_then_spends old mid new (same_segments put) (keeps_written old mid _ put.writes) stop.memory;
+}
+
+-- elements, one after the other
+
+elements_more : (S R Q : Segments) (s p d q : ℕ) (es : Elements) (ws : List ℕ) (ts : Trees) → AreElementsFilled S R s p d q es → length ws ≡ d → count ts ≡ q → IsElementFilled R Q s (p + element_count es * (d + q)) ws ts → AreElementsFilled S Q s p d q (with_last_element es ws ts)
+elements_more S R Q s p d q no_elements ws ts e long len one =
+    (Q, long, len, subst (λ T. IsElementFilled T Q s p ws ts) e (subst (λ i. IsElementFilled R Q s i ws ts) (let f : p + 0 * (d + q) ≡ p = omega arith in f) one), refl)
+elements_more S R Q s p d q (element vs us es) ws ts (M, a, b, first, rest) long len one =
+    (M, a, b, first, elements_more M R Q s (p + d + q) d q es ws ts rest long len (subst (λ i. IsElementFilled R Q s i ws ts) (let f : p + suc (element_count es) * (d + q) ≡ p + d + q + element_count es * (d + q) = grind arith in f) one))
+
+pub cut_to-count : (d q : ℕ) (b : Bool) (es : Elements) → element_count (cut_to d q (kept_elements b es)) ≡ element_count es
+cut_to-count d q true es = cut_count d q es
+cut_to-count d q false es = go es
+  where
+    go : (es : Elements) → element_count (cut_to d q es) ≡ element_count es
+    go no_elements = refl
+    go (element ws ts es) = ap suc (go es)
+
+pub no_row : (r : Reading) (sizes : ElementSizes) (b : Bool) (s p : ℕ) (v : View) (m : Meter) → CopiesElements r sizes 0 (change b s p v v m m)
+no_row r sizes b s p v m = record {
+  elements = no_elements;
+  counts = refl;
+  are_read = read_no_element (form_of b) r sizes.source m;
+  made = none b;
+  memory = keeps_itself v;
+}
+  where
+    none : (b : Bool) → AreElementsFilled v.words v.words s p sizes.kept.data_words sizes.kept.pointers (cut_to sizes.kept.data_words sizes.kept.pointers (kept_elements b no_elements))
+    none true = refl
+    none false = refl
+
+-- where no section is kept, there is nothing to copy
+pub no_width : (r : Reading) (sizes : ElementSizes) (n : ℕ) (b : Bool) (s p : ℕ) (v : View) (m : Meter) → SourceKept b r sizes n → sizes.kept.data_words + sizes.kept.pointers ≡ 0 → CopiesElements r sizes n (change b s p v v m m)
+no_width r sizes n b s p v m fits none =
+    let no_data : 0 ≡ sizes.kept.data_words = omega arith in
+    let no_pointers : 0 ≡ sizes.kept.pointers = omega arith in
+    let x = blank_elements b r sizes n m n (omega arith) fits (sym no_pointers) in
+    record {
+      elements = x.all;
+      counts = x.counts;
+      are_read = x.are_read;
+      made = subst (λ q. AreElementsFilled v.words v.words s p sizes.kept.data_words q (cut_to sizes.kept.data_words q (kept_elements b x.all))) no_pointers
+          (subst (λ d. AreElementsFilled v.words v.words s p d 0 (cut_to d 0 (kept_elements b x.all))) no_data (nothing_filled v.words s p (kept_elements b x.all)));
+      memory = keeps_itself v;
+    }
+
+-- The loop over n elements is at element number i; their rows of zeros lie in a segment.
+pub record AtRow (r : Reading) (sizes : ElementSizes) (n i : ℕ) (b : Bool) (s p : ℕ) (old mid : View) (m m' : Meter) : Type 0 where
+  pub fits : SourceKept b r sizes n
+  pub room : p + n * (sizes.kept.data_words + sizes.kept.pointers) ≤ length (segment old.words s)
+  pub zero : (j : ℕ) → j < n * (sizes.kept.data_words + sizes.kept.pointers) → word_at old.words s (p + j) ≡ 0
+  pub more : i < n
+  pub rows : CopiesElements r sizes i (change b s p old mid m m')
+
+pub row_end : (j n w : ℕ) → j < n → j * w + w ≤ n * w
+row_end j n w less = let f : suc j * w ≤ n * w = grind arith in omega (arith, f)
+
+module _ {r : Reading} {sizes : ElementSizes} {n i : ℕ} {b : Bool} {s p : ℕ} {old mid : View} {m m' : Meter} (here : AtRow r sizes n i b s p old mid m m') where
+  abbrev pub d : ℕ
+  d = sizes.kept.data_words
+
+  abbrev pub q : ℕ
+  q = sizes.kept.pointers
+
+  abbrev laid : Elements
+  laid = cut_to d q (kept_elements b here.rows.elements)
+
+  counted : element_count laid ≡ i
+  counted = cut_to-count d q b here.rows.elements ∙ here.rows.counts
+
+  rows_before : element_count laid * (d + q) ≡ i * (d + q)
+  rows_before = ap (λ j. j * (d + q)) counted
+
+  rows_room : p + element_count laid * (d + q) ≤ length (segment old.words s)
+  rows_room = omega (arith, rows_before, row_end i n (d + q) here.more, here.room)
+
+  pub rows_grow : Grows old.words mid.words
+  rows_grow = elements_grow old.words mid.words s p d q laid here.rows.made rows_room
+
+  pub next_room : p + i * (d + q) + (d + q) ≤ length (segment mid.words s)
+  next_room = omega (arith, row_end i n (d + q) here.more, here.room, rows_grow.words s)
+
+  pub next_null : (j : ℕ) → j < q → word_at mid.words s (p + i * (d + q) + d + j) ≡ 0
+  next_null j l =
+      let end = row_end i n (d + q) here.more in
+      let same : p + i * (d + q) + d + j ≡ p + (i * (d + q) + d + j) = omega arith in
+      elements_ahead old.words mid.words s p d q laid (p + i * (d + q) + d + j) here.rows.made (omega (arith, rows_before)) (omega (arith, end, here.room))
+      ∙ ap (word_at old.words s) same ∙ here.zero (i * (d + q) + d + j) (omega (arith, end))
+
+  pub next_inside : r.at + i * (sizes.source.data_words + sizes.source.pointers) + (sizes.source.data_words + sizes.source.pointers) ≤ length (row r)
+  next_inside = omega (arith, row_end i n (sizes.source.data_words + sizes.source.pointers) here.more, here.fits.inside)
+
+  abbrev next_words : List ℕ
+  next_words = words_from (behind r (i * (sizes.source.data_words + sizes.source.pointers))) d
+
+  next_long : length next_words ≡ d
+  next_long = length_words r.segments r.segment (r.at + i * (sizes.source.data_words + sizes.source.pointers)) d (omega (arith, next_inside, here.fits.less_data))
+
+  pub row_copied : {new : View} {m'' : Meter} → CopiesElement (behind r (i * (sizes.source.data_words + sizes.source.pointers))) sizes (change b s (p + i * (d + q)) mid new m' m'') → CopiesElements r sizes (i + 1) (change b s p old new m m'')
+  row_copied {new} {m''} next =
+      let es : Elements = here.rows.elements in
+      let one : ReadsAll (form_of b) (pointers_of r sizes.source (element_count es)) m' m'' next.children = rw here.rows.counts next.are_read in
+      let a = one_more b r sizes n m m' m'' es next.children here.fits here.rows.are_read (omega (arith, here.rows.counts, here.more)) next.counts one in
+      let at : IsElementFilled mid.words new.words s (p + element_count laid * (d + q)) next_words (kept_each b next.children) = rw rows_before next.made in
+      let made = elements_more old.words mid.words new.words s p d q laid next_words (kept_each b next.children) here.rows.made next_long (kept_each-count b next.children ∙ next.counts) at in
+      record {
+        elements = a.all;
+        counts = a.counts ∙ omega (arith, here.rows.counts);
+        are_read = a.are_read;
+        made = subst (AreElementsFilled old.words new.words s p d q) (sym (a.shape ∙ ap (λ j. with_last_element laid (words_from (behind r (j * (sizes.source.data_words + sizes.source.pointers))) d) (kept_each b next.children)) here.rows.counts)) made;
+        memory = keeps_both old mid new rows_grow.segments here.rows.memory next.memory;
+      }
+
+  pub row_stops : {new : View} {m'' : Meter} {k : ErrorKind} → StopsAtElement (behind r (i * (sizes.source.data_words + sizes.source.pointers))) sizes (change b s (p + i * (d + q)) mid new m' m'') k → StopsAtElements r sizes n (change b s p old new m m'') k
+  row_stops {new} {m''} {k} stop =
+      let es : Elements = here.rows.elements in
+      let fewer : element_count es < n = omega (arith, here.rows.counts, here.more) in
+      let off : BreaksOffAmong (form_of b) (pointers_of r sizes.source (element_count es)) q m' m'' = rw here.rows.counts stop.off in
+      record {
+        why = elim stop.why [
+          | inl x ↦ inl (refused_after old mid new k here.rows.memory x)
+          | inr x ↦ inr (record {
+            first = es;
+            fewer = fewer;
+            mid = m';
+            are_read = here.rows.are_read;
+            stops = stops_sooner here.fits.less_pointers (let h : RefusedAll (form_of b) (pointers_of r sizes.source (element_count es)) q m' m'' k = rw here.rows.counts x in h);
+          })
+        ];
+        off = record { first = es; fewer = fewer; mid = m'; are_read = here.rows.are_read; stops = stops_sooner here.fits.less_pointers off };
+        left = record {
+          elements = laid;
+          fewer = omega (arith, counted, here.more);
+          words = next_words;
+          wide = next_long;
+          children = stop.left;
+          few = stop.few;
+          between = mid.words;
+          before = here.rows.made;
+          last = rw rows_before stop.made;
+        };
+        memory = keeps_then_spends old mid new rows_grow.segments here.rows.memory stop.memory;
+      }

@@ -1,0 +1,162 @@
+-- The copy of a struct and of lists of pointers and of structs, from where they are made.
+use Rattle.std.proofs.Common.{◌≡◌, inl, inr, ℕ, ◌+◌, ◌*◌, ◌<◌, ◌≤◌, Bool, true, false, List, length, refl, sym, ap, ◌∙◌, subst, le_trans, arith}
+use Rattle.capnp_words.specs.declared.error.ErrorKind.{ErrorKind}
+use Rattle.capnp_words.specs.Meter.{Meter}
+use Rattle.capnp_pointers.specs.declared.wire_pointer.StructSize.{StructSize}
+use Rattle.capnp_format.specs.Segments.{Segments, segment, word_at, IsPlace}
+use Rattle.capnp_format.specs.Tree.{Tree, Null, Struct, Pointers, Trees}
+use Rattle.capnp_format.specs.Canonical.{cut_to}
+use Rattle.capnp_format.proofs.Slices.{length_words}
+use Rattle.capnp_arena.specs.View.{View}
+use Rattle.capnp_arena.specs.Written.{with_words}
+use Rattle.capnp_making.specs.Made.{zero_struct, zero_structs, zeros, nulls}
+use Rattle.capnp_making.specs.Memory.{HasRoom, KeepsMemory, IsRefusedFor, RefusesGrowth}
+use Rattle.capnp_making.specs.Stored.{IsReplaced}
+use Rattle.capnp_making.specs.declared.making.Start.{Start}
+use Rattle.capnp_making.proofs.Filling.{unchanged}
+use Rattle.capnp_making.proofs.FillingMade.{IsBegun, null_stored, struct_ready, struct_done, struct_whole, pointers_done, pointers_whole, structs_done, structs_whole}
+use Rattle.capnp_making.proofs.Memory.{keeps_both, keeps_written, keeps_then_spends, refused_after, made_refused}
+use Rattle.capnp_making.proofs.WordsPut.{words_put}
+use Rattle.capnp_objects.specs.Reading.{Reading, behind, row, words_from}
+use Rattle.capnp_copies.specs.Changes.{kept, kept_each, kept_elements, KeepsSections, KeepsWidths, KeepsPointers, change, Leaves, CopiesChildren, StopsAtChildren, CopiesPointers, StopsAtPointers, CopiesStruct, StopsAtStruct, CopiesElements, StopsAtElements, CopiesStructs, StopsAtStructs}
+use Rattle.capnp_copies.specs.declared.widths.ElementSizes.{ElementSizes}
+use Rattle.capnp_copies.proofs.FilledElements.{cut_to-count}
+use Rattle.capnp_copies.proofs.KeptForms.{kept_each-count, stops_sooner, struct_kept, list_kept}
+
+-- an object that the arena refuses leaves the pointer null
+
+pub nothing_left : (S R : Segments) (s p : ℕ) → IsPlace S s p → word_at S s p ≡ 0 → R ≡ S → IsReplaced S R s p Null Null
+nothing_left S R s p place null same = subst (λ T. IsReplaced S T s p Null Null) (sym same) (unchanged S s p Null (null_stored S s p place null))
+
+pub nothing_made : (b : Bool) (s p n : ℕ) (old new : View) (m m' : Meter) (k : ErrorKind) → IsPlace old.words s p → word_at old.words s p ≡ 0 → IsRefusedFor old new n k → new.words ≡ old.words → (HasRoom old s n → ⊥) →
+    RefusesGrowth old new k × Leaves (change b s p old new m m')
+nothing_made b s p n old new m m' k place null named same full =
+    let r = made_refused old new s n k named same full in
+    (r.0, ((Null, nothing_left old.words new.words s p place null same), r.1))
+
+-- a struct
+
+-- A struct is made and starts at h, and its data words are written.
+pub record StructBegun (b : Bool) (r : Reading) (size least : StructSize) (s p : ℕ) (old made mid : View) (h : Start) : Type 0 where
+  pub inside : r.at + (size.data_words + size.pointers) ≤ length (row r)
+  pub sections : KeepsSections b r size least
+  pub less_data : least.data_words ≤ size.data_words
+  pub less_pointers : least.pointers ≤ size.pointers
+  pub begun : IsBegun old.words made.words s p (least.data_words + least.pointers) h (zero_struct least)
+  pub memory : KeepsMemory old made
+  pub writes : mid ≡ record made { words = with_words made.words h.segment h.at (words_from r least.data_words) }
+
+module _ {b : Bool} {r : Reading} {size least : StructSize} {s p : ℕ} {old made mid : View} {h : Start} (o : StructBegun b r size least s p old made mid h) where
+  abbrev ws : List ℕ
+  ws = words_from r least.data_words
+
+  long : length ws ≡ least.data_words
+  long = length_words r.segments r.segment r.at least.data_words (omega (arith, o.inside, o.less_data))
+
+  is_begun : IsBegun old.words made.words s p (length ws + least.pointers) h (Struct (zeros (length ws)) (nulls least.pointers))
+  is_begun = subst (λ d. IsBegun old.words made.words s p (d + least.pointers) h (Struct (zeros d) (nulls least.pointers))) (sym long) o.begun
+
+  writes : mid.words ≡ with_words made.words h.segment h.at ws
+  writes = ap (λ (v : View). v.words) o.writes
+
+  longer : length made.words ≤ length mid.words
+  longer = omega (arith, (words_put made.words mid.words h.segment h.at ws (omega (arith, o.begun.inside.1, long)) writes).long.segments)
+
+  keeps : KeepsMemory old mid
+  keeps = keeps_both old made mid o.begun.made.segments o.memory (keeps_written made mid _ o.writes)
+
+  segments : length old.words ≤ length mid.words
+  segments = le_trans o.begun.made.segments longer
+
+  pub struct_fits : h.at + least.data_words + least.pointers ≤ length (segment mid.words h.segment)
+  struct_fits = omega (arith, (struct_ready old.words made.words mid.words s p least.pointers h ws is_begun writes).0, long)
+
+  pub struct_null : (i : ℕ) → i < least.pointers → word_at mid.words h.segment (h.at + least.data_words + i) ≡ 0
+  struct_null i l = subst (λ d. word_at mid.words h.segment (h.at + d + i) ≡ 0) long ((struct_ready old.words made.words mid.words s p least.pointers h ws is_begun writes).1 i l)
+
+  pub struct_copied : {new : View} {m m' : Meter} → CopiesChildren (behind r size.data_words) least.pointers (change b h.segment (h.at + least.data_words) mid new m m') → CopiesStruct r size (change b s p old new m m')
+  struct_copied {new} {m} {m'} children =
+      let f = struct_kept b r size least m m' children.children o.inside o.sections children.counts children.are_read in
+      let whole = struct_whole old.words made.words mid.words new.words s p least.pointers h ws (kept_each b children.children) is_begun writes (rw (sym long) at children.made) (kept_each-count b children.children ∙ children.counts) in
+      record {
+        children = f.all;
+        counts = f.counts;
+        are_read = f.are_read;
+        made = (subst (IsReplaced old.words new.words s p Null) (sym f.form) whole, keeps_both old mid new segments keeps children.memory);
+      }
+
+  pub struct_stops : {new : View} {m m' : Meter} {k : ErrorKind} → StopsAtChildren (behind r size.data_words) least.pointers (change b h.segment (h.at + least.data_words) mid new m m') k → StopsAtStruct r size (change b s p old new m m') k
+  struct_stops {new} {m} {m'} {k} stop =
+      record {
+        why = elim stop.why [
+          | inl x ↦ inl (refused_after old mid new k keeps x)
+          | inr x ↦ inr (stops_sooner o.less_pointers x)
+        ];
+        off = inr (stops_sooner o.less_pointers stop.off);
+        left = ((_, struct_done old.words made.words mid.words new.words s p least.pointers h ws stop.left is_begun writes (rw (sym long) at stop.made) stop.few), keeps_then_spends old mid new segments keeps stop.memory);
+      }
+
+-- a list of pointers
+
+kept_pointers : (b : Bool) (ts : Trees) → kept b (Pointers ts) ≡ Pointers (kept_each b ts)
+kept_pointers true ts = refl
+kept_pointers false ts = refl
+
+-- An object is made and starts at h.
+pub record ObjectBegun (s p n : ℕ) (old mid : View) (h : Start) (t : Tree) : Type 0 where
+  pub begun : IsBegun old.words mid.words s p n h t
+  pub memory : KeepsMemory old mid
+
+pub pointers_copied : {b : Bool} {r : Reading} {i s p : ℕ} {old mid new : View} {h : Start} {m m' : Meter} → ObjectBegun s p i old mid h (Pointers (nulls i)) → CopiesChildren r i (change b h.segment h.at mid new m m') → CopiesPointers r i (change b s p old new m m')
+pointers_copied {b} {r} {i} {s} {p} {old} {mid} {new} {h} o children =
+    let ts : Trees = kept_each b children.children in
+    let whole = pointers_whole old.words mid.words new.words s p i h ts o.begun children.made (kept_each-count b children.children ∙ children.counts) in
+    record {
+      children = children.children;
+      counts = children.counts;
+      are_read = children.are_read;
+      made = (subst (IsReplaced old.words new.words s p Null) (sym (kept_pointers b children.children)) whole, keeps_both old mid new o.begun.made.segments o.memory children.memory);
+    }
+
+pub pointers_stop : {b : Bool} {r : Reading} {i s p : ℕ} {old mid new : View} {h : Start} {m m' : Meter} {k : ErrorKind} → ObjectBegun s p i old mid h (Pointers (nulls i)) → StopsAtChildren r i (change b h.segment h.at mid new m m') k →
+    StopsAtPointers r i (change b s p old new m m') k
+pointers_stop {b} {r} {i} {s} {p} {old} {mid} {new} {h} {k = k} o stop = record {
+  why = elim stop.why [
+    | inl x ↦ inl (refused_after old mid new k o.memory x)
+    | inr x ↦ inr x
+  ];
+  off = inr stop.off;
+  left = ((_, pointers_done old.words mid.words new.words s p i h stop.left o.begun stop.made stop.few), keeps_then_spends old mid new o.begun.made.segments o.memory stop.memory);
+}
+
+-- a list of structs
+
+pub widths_keep : (b : Bool) (r : Reading) (sizes : ElementSizes) (i : ℕ) → KeepsWidths b r sizes.source i sizes.kept → KeepsPointers b r sizes i
+widths_keep true r sizes i widths = omega (arith, widths.of_pointers)
+widths_keep false r sizes i same = same
+
+pub structs_copied : {b : Bool} {r : Reading} {sizes : ElementSizes} {i s p : ℕ} {old mid new : View} {h : Start} {m m' : Meter} → r.at + i * (sizes.source.data_words + sizes.source.pointers) ≤ length (row r) → KeepsWidths b r sizes.source i sizes.kept →
+    ObjectBegun s p (1 + i * (sizes.kept.data_words + sizes.kept.pointers)) old mid h (zero_structs i sizes.kept) → CopiesElements r sizes i (change b h.segment (h.at + 1) mid new m m') → CopiesStructs r sizes.source i (change b s p old new m m')
+structs_copied {b} {r} {sizes} {i} {s} {p} {old} {mid} {new} {h} inside widths o elements =
+    let d : ℕ = sizes.kept.data_words in
+    let q : ℕ = sizes.kept.pointers in
+    let es = elements.elements in
+    let whole = structs_whole old.words mid.words new.words s p d q i h (cut_to d q (kept_elements b es)) o.begun elements.made (cut_to-count d q b es ∙ elements.counts) in
+    let form = list_kept b r sizes.source sizes.kept es elements.are_read.cost (rw elements.counts inside) (rw elements.counts widths) elements.are_read.means in
+    record {
+      elements = es;
+      counts = elements.counts;
+      are_read = elements.are_read;
+      made = (subst (IsReplaced old.words new.words s p Null) (sym form) whole, keeps_both old mid new o.begun.made.segments o.memory elements.memory);
+    }
+
+pub structs_stop : {b : Bool} {r : Reading} {sizes : ElementSizes} {i s p : ℕ} {old mid new : View} {h : Start} {m m' : Meter} {k : ErrorKind} → ObjectBegun s p (1 + i * (sizes.kept.data_words + sizes.kept.pointers)) old mid h (zero_structs i sizes.kept) →
+    StopsAtElements r sizes i (change b h.segment (h.at + 1) mid new m m') k → StopsAtStructs r sizes.source i (change b s p old new m m') k
+structs_stop {b} {r} {sizes} {i} {s} {p} {old} {mid} {new} {h} {k = k} o stop = record {
+  why = elim stop.why [
+    | inl x ↦ inl (refused_after old mid new k o.memory x)
+    | inr x ↦ inr x
+  ];
+  off = inr stop.off;
+  left = (structs_done old.words mid.words new.words s p sizes.kept.data_words sizes.kept.pointers i h o.begun stop.left, keeps_then_spends old mid new o.begun.made.segments o.memory stop.memory);
+}

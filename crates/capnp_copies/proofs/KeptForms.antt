@@ -1,0 +1,155 @@
+-- What a copy keeps of structs and of elements, in canonical form and as they stand.
+use Rattle.std.proofs.Common.{◌≡◌, ℕ, zero, suc, ◌+◌, ◌*◌, ◌<◌, ◌≤◌, Bool, true, false, List, length, take, refl, sym, ap, ap₂, ◌∙◌, arith}
+use Rattle.std.proofs.lemmas.List.{take_all}
+use Rattle.capnp_pointers.specs.declared.wire_pointer.StructSize.{StructSize}
+use Rattle.capnp_words.specs.Meter.{Meter}
+use Rattle.capnp_format.specs.Segments.{Segments, words_at}
+use Rattle.capnp_format.specs.Tree.{Tree, Struct, Structs, Trees, no_trees, tree, Elements, no_elements, element, count, element_count}
+use Rattle.capnp_format.specs.Canonical.{used_words, take_trees, cut_to, trim_each, trim_elements}
+use Rattle.capnp_format.specs.Means.{MeansElements}
+use Rattle.capnp_format.proofs.Children.{with_last}
+use Rattle.capnp_format.proofs.Trimming.{trim_each-count}
+use Rattle.capnp_making.specs.Filled.{AreElementsFilled}
+use Rattle.capnp_making.proofs.WordsPut.{none_over}
+use Rattle.capnp_objects.specs.Outcomes.{ReadsAll, ReadsElements, ElementsMean}
+use Rattle.capnp_objects.specs.Refusals.{StopsAmong}
+use Rattle.capnp_objects.specs.Reading.{Reading, behind, row, words_from, pointers_of}
+use Rattle.capnp_objects.specs.Wanted.{Form}
+use Rattle.capnp_objects.proofs.Copies.{with_last_element, count-with_last_element, read_element, read_none, read_no_element}
+use Rattle.capnp_copies.specs.Changes.{form_of, kept, kept_each, kept_elements, KeepsSections, KeepsWidths, KeepsPointers}
+use Rattle.capnp_copies.specs.declared.widths.ElementSizes.{ElementSizes}
+use Rattle.capnp_copies.proofs.ChildrenCopied.{trim_each-with_last}
+use Rattle.capnp_copies.proofs.ElementsCopied.{SourceFits, another}
+use Rattle.capnp_copies.proofs.ElementsLaid.{words_taken}
+use Rattle.capnp_copies.proofs.ListSteps.{AreLeast, trimmed_list}
+use Rattle.capnp_copies.proofs.StructSteps.{struct_filled}
+
+-- children
+
+pub kept_none : (b : Bool) → kept_each b no_trees ≡ no_trees
+kept_none true = refl
+kept_none false = refl
+
+pub kept_each-count : (b : Bool) (ts : Trees) → count (kept_each b ts) ≡ count ts
+kept_each-count true ts = trim_each-count ts
+kept_each-count false ts = refl
+
+pub kept_each-with_last : (b : Bool) (ts : Trees) (u : Tree) → kept_each b (with_last ts u) ≡ with_last (kept_each b ts) (kept b u)
+kept_each-with_last true ts u = trim_each-with_last ts u
+kept_each-with_last false ts u = refl
+
+-- what stops among the first pointers stops among them all
+pub stops_sooner : {form : Form} {P : Reading → Meter → Meter → Type 0} {r : Reading} {m m' : Meter} {q used : ℕ} → used ≤ q → StopsAmong form P r used m m' → StopsAmong form P r q m m'
+stops_sooner le h = record { first = h.first; fewer = omega (arith, h.fewer, le); mid = h.mid; are_read = h.are_read; stops = h.stops }
+
+-- a struct, of which the kept pointers were read
+
+pub record StructKept (b : Bool) (r : Reading) (size least : StructSize) (m m' : Meter) (ts : Trees) : Type 0 where
+  pub all : Trees
+  pub counts : count all ≡ size.pointers
+  pub are_read : ReadsAll (form_of b) (behind r size.data_words) m m' all
+  pub form : kept b (Struct (words_from r size.data_words) all) ≡ Struct (words_from r least.data_words) (kept_each b ts)
+
+pub struct_kept : (b : Bool) (r : Reading) (size least : StructSize) (m m' : Meter) (ts : Trees) → r.at + (size.data_words + size.pointers) ≤ length (row r) → KeepsSections b r size least → count ts ≡ least.pointers →
+    ReadsAll (form_of b) (behind r size.data_words) m m' ts → StructKept b r size least m m' ts
+struct_kept true r size least m m' ts inside uses len all =
+    let f = struct_filled inside uses len all in
+    let ws : List ℕ = words_from r size.data_words in
+    let section : take (used_words ws) ws ≡ words_from r least.data_words = ap (λ i. take i ws) (sym uses.of_data) ∙ words_taken r.segments r.segment r.at least.data_words size.data_words uses.less_data in
+    record { all = f.all; counts = f.counts; are_read = f.are_read; form = f.form ∙ ap (λ xs. Struct xs (trim_each ts)) section }
+struct_kept false r size least m m' ts inside same len all =
+    record { all = ts; counts = len ∙ ap (λ s. s.pointers) same; are_read = all; form = ap (λ s. Struct (words_from r s.data_words) ts) (sym same) }
+
+-- elements
+
+take_count : (ts : Trees) → take_trees (count ts) ts ≡ ts
+take_count no_trees = refl
+take_count (tree t ts) = ap (tree t) (take_count ts)
+
+cut_same : (S : Segments) (n s p d q : ℕ) (es : Elements) (c : ℕ) → MeansElements S n s p d q es c → cut_to d q es ≡ es
+cut_same S n s p d q no_elements c h = refl
+cut_same S n s p d q (element ws ts es) c (a, b, long, len, words, all, rest, g) =
+    ap₂ (λ (xs : List ℕ) us. element xs us (cut_to d q es)) (take_all d ws (omega arith)) (ap (λ i. take_trees i ts) (sym len) ∙ take_count ts) ∙ ap (element ws ts) (cut_same S n s (p + d + q) d q es b rest)
+
+pub list_kept : (b : Bool) (r : Reading) (size least : StructSize) (es : Elements) (c : ℕ) → r.at + element_count es * (size.data_words + size.pointers) ≤ length (row r) → KeepsWidths b r size (element_count es) least → ElementsMean r size es c →
+    kept b (Structs size.data_words size.pointers es) ≡ Structs least.data_words least.pointers (cut_to least.data_words least.pointers (kept_elements b es))
+list_kept true r size least es c inside widths all =
+    let is_least : AreLeast r size least (element_count es) = record { of_data = widths.of_data; of_pointers = widths.of_pointers } in
+    trimmed_list es c inside is_least refl all
+list_kept false r size least es c inside same all =
+    ap (Structs size.data_words size.pointers) (sym (cut_same r.segments r.levels r.segment r.at size.data_words size.pointers es c all)) ∙ ap (λ s. Structs s.data_words s.pointers (cut_to s.data_words s.pointers es)) (sym same)
+
+-- The n elements lie in the source, and no section that is used is cut.
+pub record SourceKept (b : Bool) (r : Reading) (sizes : ElementSizes) (n : ℕ) : Type 0 where
+  pub inside : r.at + n * (sizes.source.data_words + sizes.source.pointers) ≤ length (row r)
+  pub less_data : sizes.kept.data_words ≤ sizes.source.data_words
+  pub less_pointers : sizes.kept.pointers ≤ sizes.source.pointers
+  pub used : KeepsPointers b r sizes n
+
+-- the row of words of an element
+abbrev pub element_words : Reading → ElementSizes → ℕ → List ℕ
+element_words r sizes j = words_at r.segments r.segment (r.at + j * (sizes.source.data_words + sizes.source.pointers)) sizes.kept.data_words
+
+-- elements that were read, with one more of which the kept pointers were
+pub record OneMore (b : Bool) (r : Reading) (sizes : ElementSizes) (m m' : Meter) (es : Elements) (ts : Trees) : Type 0 where
+  pub all : Elements
+  pub counts : element_count all ≡ suc (element_count es)
+  pub are_read : ReadsElements (form_of b) r sizes.source m m' all
+  pub shape :
+      cut_to sizes.kept.data_words sizes.kept.pointers (kept_elements b all)
+      ≡ with_last_element (cut_to sizes.kept.data_words sizes.kept.pointers (kept_elements b es)) (element_words r sizes (element_count es)) (kept_each b ts)
+
+row_end : (j n w : ℕ) → j < n → j * w + w ≤ n * w
+row_end j n w less = let f : suc j * w ≤ n * w = grind arith in omega (arith, f)
+
+cut-last : (e q : ℕ) (es : Elements) (ws : List ℕ) (us : Trees) → cut_to e q (with_last_element es ws us) ≡ with_last_element (cut_to e q es) (take e ws) (take_trees q us)
+cut-last e q no_elements ws us = refl
+cut-last e q (element vs ts es) ws us = ap (element (take e vs) (take_trees q ts)) (cut-last e q es ws us)
+
+pub one_more : (b : Bool) (r : Reading) (sizes : ElementSizes) (n : ℕ) (m m' m'' : Meter) (es : Elements) (ts : Trees) → SourceKept b r sizes n → ReadsElements (form_of b) r sizes.source m m' es → element_count es < n → count ts ≡ sizes.kept.pointers →
+    ReadsAll (form_of b) (pointers_of r sizes.source (element_count es)) m' m'' ts → OneMore b r sizes m m'' es ts
+one_more true r sizes n m m' m'' es ts fits all less len one =
+    let source_fits : SourceFits r sizes.source sizes.kept n = record { inside = fits.inside; used = fits.used; less = fits.less_pointers } in
+    let a = another source_fits all less len one in
+    let at : ℕ = r.at + element_count es * (sizes.source.data_words + sizes.source.pointers) in
+    record {
+      all = a.all;
+      counts = a.counts;
+      are_read = a.are_read;
+      shape =
+          a.shape ∙ ap (λ xs. with_last_element (cut_to sizes.kept.data_words sizes.kept.pointers (trim_elements es)) xs (trim_each ts)) (words_taken r.segments r.segment at sizes.kept.data_words sizes.source.data_words fits.less_data);
+    }
+one_more false r sizes n m m' m'' es ts fits all less len one =
+    let d : ℕ = sizes.source.data_words in
+    let q : ℕ = sizes.source.pointers in
+    let j : ℕ = element_count es in
+    let ws : List ℕ = words_at r.segments r.segment (r.at + j * (d + q)) d in
+    let same : sizes.kept ≡ sizes.source = fits.used in
+    let end = row_end j n (d + q) less in
+    record {
+      all = with_last_element es ws ts;
+      counts = count-with_last_element es ws ts;
+      are_read = read_element all (omega (arith, end, fits.inside)) (len ∙ ap (λ s. s.pointers) same) one;
+      shape =
+          cut-last sizes.kept.data_words sizes.kept.pointers es ws ts
+          ∙ ap₂ (λ (xs : List ℕ) us. with_last_element (cut_to sizes.kept.data_words sizes.kept.pointers es) xs us)
+          (words_taken r.segments r.segment (r.at + j * (d + q)) sizes.kept.data_words d fits.less_data) (ap (λ i. take_trees i ts) (sym len) ∙ take_count ts);
+    }
+
+-- elements of which no section is kept
+
+pub record Blank (b : Bool) (r : Reading) (sizes : ElementSizes) (j : ℕ) (m : Meter) : Type 0 where
+  pub all : Elements
+  pub counts : element_count all ≡ j
+  pub are_read : ReadsElements (form_of b) r sizes.source m m all
+
+pub blank_elements : (b : Bool) (r : Reading) (sizes : ElementSizes) (n : ℕ) (m : Meter) (j : ℕ) → j ≤ n → SourceKept b r sizes n → sizes.kept.pointers ≡ 0 → Blank b r sizes j m
+blank_elements b r sizes n m zero le fits none = record { all = no_elements; counts = refl; are_read = read_no_element (form_of b) r sizes.source m }
+blank_elements b r sizes n m (suc j) le fits none =
+    let x = blank_elements b r sizes n m j (omega arith) fits none in
+    let a = one_more b r sizes n m m m x.all no_trees fits x.are_read (omega (arith, x.counts)) (sym none) (read_none (form_of b) (pointers_of r sizes.source (element_count x.all)) m) in
+    record { all = a.all; counts = a.counts ∙ ap suc x.counts; are_read = a.are_read }
+
+pub nothing_filled : (S : Segments) (s p : ℕ) (es : Elements) → AreElementsFilled S S s p 0 0 (cut_to 0 0 es)
+nothing_filled S s p no_elements = refl
+nothing_filled S s p (element ws ts es) = (S, refl, refl, record { written = S; writes = sym (none_over S s p); filled = refl }, nothing_filled S s (p + 0 + 0) es)

@@ -1,0 +1,346 @@
+use Rattle.std.proofs.Common.{◌≡◌, inl, ℕ, ◌+◌, ◌*◌, ◌<◌, ◌≤◌, ◌^◌, length, refl, ap, ◌∙◌, arith, rules}
+use Rattle.std.proofs.lemmas.Bool.{false≢true}
+use Rattle.std.proofs.lemmas.Int.{to_z-of_z}
+use mir.Syntax.{w32}
+use Rattle.capnp_format.specs.Bytes.{words_of}
+use Rattle.capnp_pointers.specs.Sizes.{size_number}
+use Rattle.capnp_format.specs.Segments.{Segments, segment, word_at, IsPlace}
+use Rattle.capnp_format.specs.Tree.{Flat, Pointers}
+use Rattle.capnp_format.specs.Numbers.{unpacked}
+use Rattle.capnp_making.specs.Made.{zero_structs, nulls}
+use Rattle.capnp_making.proofs.FillingMade.{IsBegun, pointers_ready, structs_ready}
+use Rattle.capnp_objects.specs.Reading.{Reading, row, words_from}
+use Rattle.capnp_readers.specs.Readers.{reading}
+use Rattle.capnp_copies.specs.Changes.{KeepsPointers}
+use Rattle.capnp_copies.proofs.FlatRead.{ok_so, err_so}
+use Rattle.capnp_copies.proofs.ValueSteps.{one_level_in}
+use Rattle.capnp_copies.proofs.FilledChildren.{no_child, children_grow, child_ahead, child_copied, child_stops}
+use Rattle.capnp_copies.proofs.FilledElements.{DataWritten, element_copied, element_stops, no_row, no_width, AtRow, row_end, next_room, next_null, next_inside, row_copied, row_stops}
+use Rattle.capnp_copies.proofs.FilledObjects.{nothing_made, StructBegun, struct_fits, struct_null, struct_copied, struct_stops, ObjectBegun, pointers_copied, pointers_stop, widths_keep, structs_copied, structs_stop}
+use Rattle.capnp_copies.proofs.FilledValues.{read_stops, null_copied, capability_copied, capability_stops, struct_value, struct_value_stops, pointers_value, pointers_value_stops, structs_value, structs_value_stops, FlatOutcome, flat_value, flat_stops}
+use Rattle.capnp_copies.proofs.KeptForms.{SourceKept}
+use Rattle.capnp_copies.proofs.anywhere.+copies_anywhere.Goals as goal
+
+-- Pointers one behind the other.
+
+pub children::copy_children-loop-i-init : goal.children::copy_children-loop-i-init
+children::copy_children-loop-i-init g t c = no_child (reading g.B.ReaderArena c.args.from) c.args.canonicalize c.args.id c.args.at (g.A.BuilderArena.view c.args.arena.now) c.args.lim.now
+
+pub children::copy_children-copy_object-requires : goal.children::copy_children-copy_object-requires
+children::copy_children-copy_object-requires g t c κs within =
+    let grows = children_grow c.loop-i.invariant in
+    let PLACE : IsPlace (g.A.BuilderArena.view c.loop-i.arena).words c.args.id (c.args.at + c.loop-i.i) = omega (arith, c.requires.room, c.loop-i-test.true, grows.words c.args.id) in
+    let NULL : word_at (g.A.BuilderArena.view c.loop-i.arena).words c.args.id (c.args.at + c.loop-i.i) ≡ 0 = child_ahead c.loop-i.invariant (omega (arith, c.requires.room, c.loop-i-test.true)) ∙ c.requires.null c.loop-i.i c.loop-i-test.true in
+    search rules
+
+pub children::copy_children-returns-in-Err-clause-refused : goal.children::copy_children-returns-in-Err-clause-refused
+children::copy_children-returns-in-Err-clause-refused g t c =
+    let nl = to_z-of_z w32 c.args.from.nesting_limit (search rules) in
+    child_stops c.loop-i-test.true c.loop-i.invariant (rw nl at c.in-Err.ensures.refused)
+
+pub children::copy_children-loop-i-preserved : goal.children::copy_children-loop-i-preserved
+children::copy_children-loop-i-preserved g t c =
+    let nl = to_z-of_z w32 c.args.from.nesting_limit (search rules) in
+    child_copied c.loop-i.invariant (rw nl at c.in-Ok.ensures.copied)
+
+-- What a pointer means.
+
+pub copy_object-returns-in-Err-clause-refused : goal.copy_object-returns-in-Err-clause-refused
+copy_object-returns-in-Err-clause-refused g t c =
+    let nl = to_z-of_z w32 c.args.from.nesting_limit (search rules) in
+    read_stops c.requires.place c.requires.null (rw nl at c.in-Err.ensures.refused)
+
+pub copy_object-returns-then-canonicalize-clause-refused : goal.copy_object-returns-then-canonicalize-clause-refused
+copy_object-returns-then-canonicalize-clause-refused g t c =
+    let object = rw c.in-Capability.is at c.in-Ok.ensures.object in
+    rw c.if-canonicalize.true (capability_stops object c.requires.place c.requires.null)
+
+pub copy_object-copy_pointers-requires : goal.copy_object-copy_pointers-requires
+copy_object-copy_pointers-requires g t c κs within =
+    let FEW : c.in-Pointers.count < 2 ^ 29 = rw c.in-Pointers.is at c.in-Ok.ensures.few in
+    search rules
+
+pub copy_object-copy_structs-requires : goal.copy_object-copy_structs-requires
+copy_object-copy_structs-requires g t c κs within =
+    let few : (c.in-Structs.count < 2 ^ 30) × (c.in-Structs.count * (c.in-Structs.size.data_words + c.in-Structs.size.pointers) < 2 ^ 29) = rw c.in-Structs.is at c.in-Ok.ensures.few in
+    let FEW : c.in-Structs.count < 2 ^ 30 = few.0 in
+    let WORDS : c.in-Structs.count * (c.in-Structs.size.data_words + c.in-Structs.size.pointers) < 2 ^ 29 = few.1 in
+    search rules
+
+pub copy_object-returns-in-Null-clause-copied : goal.copy_object-returns-in-Null-clause-copied
+copy_object-returns-in-Null-clause-copied g t c =
+    null_copied (rw c.in-Null.is at c.in-Ok.ensures.object) c.requires.place c.requires.null
+
+pub copy_object-returns-else-canonicalize-clause-copied : goal.copy_object-returns-else-canonicalize-clause-copied
+copy_object-returns-else-canonicalize-clause-copied g t c =
+    let object = rw c.in-Capability.is at c.in-Ok.ensures.object in
+    rw c.if-canonicalize.false (capability_copied object c.requires.place (rw c.new_capability.ensures.word at c.set_word.ensures))
+
+pub copy_object-returns-in-Struct-clause-copied : goal.copy_object-returns-in-Struct-clause-copied
+copy_object-returns-in-Struct-clause-copied g t c =
+    let nl = to_z-of_z w32 c.args.from.nesting_limit (search rules) in
+    let object = rw (c.in-Struct.is, nl) at c.in-Ok.ensures.object in
+    let less = one_level_in c.args.from.nesting_limit (search rules) in
+    ok_so c.copy_struct.result _ _ c.copy_struct.ensures.copied (λ x made. struct_value c.in-Struct.start less object made)
+
+pub copy_object-returns-in-Struct-clause-refused : goal.copy_object-returns-in-Struct-clause-refused
+copy_object-returns-in-Struct-clause-refused g t c =
+    let nl = to_z-of_z w32 c.args.from.nesting_limit (search rules) in
+    let object = rw (c.in-Struct.is, nl) at c.in-Ok.ensures.object in
+    let less = one_level_in c.args.from.nesting_limit (search rules) in
+    err_so c.copy_struct.result _ _ c.copy_struct.ensures.refused (λ k stop. struct_value_stops c.in-Struct.start less object stop)
+
+pub copy_object-returns-in-Flat-clause-copied : goal.copy_object-returns-in-Flat-clause-copied
+copy_object-returns-in-Flat-clause-copied g t c =
+    let nl = to_z-of_z w32 c.args.from.nesting_limit (search rules) in
+    let object = rw (c.in-Flat.is, nl) at c.in-Ok.ensures.object in
+    let outcome : FlatOutcome c.copy_flat.result c.args.id c.args.at (g.A.BuilderArena.view c.args.arena.now) (g.A.BuilderArena.view c.copy_flat.new.arena) (Flat (size_number c.in-Flat.size) (unpacked (size_number c.in-Flat.size) c.in-Flat.count (words_of c.part-elements.result.now))) =
+    record { copied = c.copy_flat.ensures.copied; granted = c.copy_flat.ensures.granted; refused = c.copy_flat.ensures.refused; kept = c.copy_flat.ensures.kept; memory = c.copy_flat.ensures.memory } in
+    flat_value c.args.canonicalize c.copy_flat.result c.in-Flat.start c.in-Flat.size object c.flat_words-words.ensures c.part-elements.ensures.words outcome
+
+pub copy_object-returns-in-Flat-clause-refused : goal.copy_object-returns-in-Flat-clause-refused
+copy_object-returns-in-Flat-clause-refused g t c =
+    let nl = to_z-of_z w32 c.args.from.nesting_limit (search rules) in
+    let object = rw (c.in-Flat.is, nl) at c.in-Ok.ensures.object in
+    let outcome : FlatOutcome c.copy_flat.result c.args.id c.args.at (g.A.BuilderArena.view c.args.arena.now) (g.A.BuilderArena.view c.copy_flat.new.arena) (Flat (size_number c.in-Flat.size) (unpacked (size_number c.in-Flat.size) c.in-Flat.count (words_of c.part-elements.result.now))) =
+    record { copied = c.copy_flat.ensures.copied; granted = c.copy_flat.ensures.granted; refused = c.copy_flat.ensures.refused; kept = c.copy_flat.ensures.kept; memory = c.copy_flat.ensures.memory } in
+    flat_stops c.args.canonicalize c.copy_flat.result c.in-Flat.start c.in-Flat.size object c.requires.place c.requires.null outcome
+
+pub copy_object-returns-in-Pointers-clause-copied : goal.copy_object-returns-in-Pointers-clause-copied
+copy_object-returns-in-Pointers-clause-copied g t c =
+    let nl = to_z-of_z w32 c.args.from.nesting_limit (search rules) in
+    let object = rw (c.in-Pointers.is, nl) at c.in-Ok.ensures.object in
+    let less = one_level_in c.args.from.nesting_limit (search rules) in
+    ok_so c.copy_pointers.result _ _ c.copy_pointers.ensures.copied (λ x made. pointers_value c.in-Pointers.start less object made)
+
+pub copy_object-returns-in-Pointers-clause-refused : goal.copy_object-returns-in-Pointers-clause-refused
+copy_object-returns-in-Pointers-clause-refused g t c =
+    let nl = to_z-of_z w32 c.args.from.nesting_limit (search rules) in
+    let object = rw (c.in-Pointers.is, nl) at c.in-Ok.ensures.object in
+    let less = one_level_in c.args.from.nesting_limit (search rules) in
+    err_so c.copy_pointers.result _ _ c.copy_pointers.ensures.refused (λ k stop. pointers_value_stops c.in-Pointers.start less object stop)
+
+pub copy_object-returns-in-Structs-clause-copied : goal.copy_object-returns-in-Structs-clause-copied
+copy_object-returns-in-Structs-clause-copied g t c =
+    let nl = to_z-of_z w32 c.args.from.nesting_limit (search rules) in
+    let object = rw (c.in-Structs.is, nl) at c.in-Ok.ensures.object in
+    let less = one_level_in c.args.from.nesting_limit (search rules) in
+    ok_so c.copy_structs.result _ _ c.copy_structs.ensures.copied (λ x made. structs_value c.in-Structs.start less object made)
+
+pub copy_object-returns-in-Structs-clause-refused : goal.copy_object-returns-in-Structs-clause-refused
+copy_object-returns-in-Structs-clause-refused g t c =
+    let nl = to_z-of_z w32 c.args.from.nesting_limit (search rules) in
+    let object = rw (c.in-Structs.is, nl) at c.in-Ok.ensures.object in
+    let less = one_level_in c.args.from.nesting_limit (search rules) in
+    err_so c.copy_structs.result _ _ c.copy_structs.ensures.refused (λ k stop. structs_value_stops c.in-Structs.start less object stop)
+
+-- The elements of a list of structs.
+
+pub elements::copy_element-returns-clause-copied : goal.elements::copy_element-returns-clause-copied
+elements::copy_element-returns-clause-copied g t c =
+    let nl = to_z-of_z w32 c.args.from.nesting_limit (search rules) in
+    let from : Reading = reading g.B.ReaderArena c.args.from in
+    let held : words_of c.args.from.place.bytes.now ≡ row from = c.args.from.held.0 in
+    let section : words_of c.part-data.result.now ≡ words_from from c.args.sizes.kept.data_words = rw (c.from-data_words.ensures, held) at c.part-data.ensures.words in
+    let put : DataWritten from c.args.sizes (g.A.BuilderArena.view c.args.arena.now) (g.A.BuilderArena.view c.put_words.new.arena) c.args.to.segment c.args.to.at =
+    record { inside = omega (arith, c.requires.inside, c.requires.less_data); room = omega (arith, c.requires.room); writes = rw section at c.put_words.ensures.words } in
+    ok_so c.copy_children.result _ _ c.copy_children.ensures.copied (λ x made. element_copied put (rw (c.from.ensures, c.from-2.ensures, c.from-pointers.ensures, nl) at made))
+
+pub elements::copy_element-returns-clause-refused : goal.elements::copy_element-returns-clause-refused
+elements::copy_element-returns-clause-refused g t c =
+    let nl = to_z-of_z w32 c.args.from.nesting_limit (search rules) in
+    let from : Reading = reading g.B.ReaderArena c.args.from in
+    let held : words_of c.args.from.place.bytes.now ≡ row from = c.args.from.held.0 in
+    let section : words_of c.part-data.result.now ≡ words_from from c.args.sizes.kept.data_words = rw (c.from-data_words.ensures, held) at c.part-data.ensures.words in
+    let put : DataWritten from c.args.sizes (g.A.BuilderArena.view c.args.arena.now) (g.A.BuilderArena.view c.put_words.new.arena) c.args.to.segment c.args.to.at =
+    record { inside = omega (arith, c.requires.inside, c.requires.less_data); room = omega (arith, c.requires.room); writes = rw section at c.put_words.ensures.words } in
+    err_so c.copy_children.result _ _ c.copy_children.ensures.refused (λ k stop. element_stops put (rw (c.from.ensures, c.from-2.ensures, c.from-pointers.ensures, nl) at stop))
+
+pub elements::copy_elements-returns-then-kept_words-eq0-clause-copied : goal.elements::copy_elements-returns-then-kept_words-eq0-clause-copied
+elements::copy_elements-returns-then-kept_words-eq0-clause-copied g t c =
+    let from : Reading = reading g.B.ReaderArena c.args.from in
+    let fits : SourceKept c.args.canonicalize from c.args.sizes c.args.count = record { inside = c.requires.inside; less_data = c.requires.less_data; less_pointers = c.requires.less_pointers; used = c.requires.pointers } in
+    no_width from c.args.sizes c.args.count c.args.canonicalize c.args.to.segment c.args.to.at (g.A.BuilderArena.view c.args.arena.now) c.args.lim.now fits (omega (arith, c.total-kept_words.ensures, c.if-kept_words-eq0.true))
+
+pub elements::copy_elements-loop-i-init : goal.elements::copy_elements-loop-i-init
+elements::copy_elements-loop-i-init g t c = no_row (reading g.B.ReaderArena c.args.from) c.args.sizes c.args.canonicalize c.args.to.segment c.args.to.at (g.A.BuilderArena.view c.args.arena.now) c.args.lim.now
+
+pub elements::copy_elements-overflow_mul-element : goal.elements::copy_elements-overflow_mul-element
+elements::copy_elements-overflow_mul-element g t c =
+    let end = row_end c.loop-i.i c.args.count (c.args.sizes.source.data_words + c.args.sizes.source.pointers) c.loop-i-test.true in
+    let same : c.loop-i.i * c.total-source_words.result ≡ c.loop-i.i * (c.args.sizes.source.data_words + c.args.sizes.source.pointers) = ap (λ w. c.loop-i.i * w) c.total-source_words.ensures in
+    omega (arith, end, same, c.requires.inside, c.args.from.held.1, c.args.from.held.2)
+
+pub elements::copy_elements-overflow_mul-row : goal.elements::copy_elements-overflow_mul-row
+elements::copy_elements-overflow_mul-row g t c =
+    let end = row_end c.loop-i.i c.args.count (c.args.sizes.kept.data_words + c.args.sizes.kept.pointers) c.loop-i-test.true in
+    let same : c.loop-i.i * c.total-kept_words.result ≡ c.loop-i.i * (c.args.sizes.kept.data_words + c.args.sizes.kept.pointers) = ap (λ w. c.loop-i.i * w) c.total-kept_words.ensures in
+    omega (arith, end, same, c.requires.room, g.met.A.BuilderArena.within c.args.arena.now c.args.to.segment, g.met.A.BuilderArena.small c.args.arena.now c.args.to.segment)
+
+pub elements::copy_elements-copy_element-requires : goal.elements::copy_elements-copy_element-requires
+elements::copy_elements-copy_element-requires g t c κs within =
+    let from : Reading = reading g.B.ReaderArena c.args.from in
+    let here : AtRow from c.args.sizes c.args.count c.loop-i.i c.args.canonicalize c.args.to.segment c.args.to.at (g.A.BuilderArena.view c.args.arena.now) (g.A.BuilderArena.view c.loop-i.arena) c.args.lim.now c.loop-i.lim = record {
+      fits = record { inside = c.requires.inside; less_data = c.requires.less_data; less_pointers = c.requires.less_pointers; used = c.requires.pointers };
+      room = c.requires.room;
+      zero = c.requires.zero;
+      more = c.loop-i-test.true;
+      rows = c.loop-i.invariant;
+    } in
+    let ROOM : c.args.to.at + c.loop-i.i * c.total-kept_words.result + (c.args.sizes.kept.data_words + c.args.sizes.kept.pointers) ≤ length (segment (g.A.BuilderArena.view c.loop-i.arena).words c.args.to.segment) = rw c.total-kept_words.ensures (next_room here) in
+    let NULL : (j : ℕ) → j < c.args.sizes.kept.pointers → word_at (g.A.BuilderArena.view c.loop-i.arena).words c.args.to.segment (c.args.to.at + c.loop-i.i * c.total-kept_words.result + c.args.sizes.kept.data_words + j) ≡ 0 = rw c.total-kept_words.ensures (next_null here) in
+    let INSIDE : c.args.from.place.at + c.loop-i.i * c.total-source_words.result + (c.args.sizes.source.data_words + c.args.sizes.source.pointers) ≤ length (segment from.segments from.segment) = rw c.total-source_words.ensures (next_inside here) in
+    search rules
+
+pub elements::copy_elements-returns-in-Err-clause-refused : goal.elements::copy_elements-returns-in-Err-clause-refused
+elements::copy_elements-returns-in-Err-clause-refused g t c =
+    let nl = to_z-of_z w32 c.args.from.nesting_limit (search rules) in
+    let from : Reading = reading g.B.ReaderArena c.args.from in
+    let here : AtRow from c.args.sizes c.args.count c.loop-i.i c.args.canonicalize c.args.to.segment c.args.to.at (g.A.BuilderArena.view c.args.arena.now) (g.A.BuilderArena.view c.loop-i.arena) c.args.lim.now c.loop-i.lim = record {
+      fits = record { inside = c.requires.inside; less_data = c.requires.less_data; less_pointers = c.requires.less_pointers; used = c.requires.pointers };
+      room = c.requires.room;
+      zero = c.requires.zero;
+      more = c.loop-i-test.true;
+      rows = c.loop-i.invariant;
+    } in
+    row_stops here (rw (c.total-source_words.ensures, c.total-kept_words.ensures, nl) at c.in-Err.ensures.refused)
+
+pub elements::copy_elements-loop-i-preserved : goal.elements::copy_elements-loop-i-preserved
+elements::copy_elements-loop-i-preserved g t c =
+    let nl = to_z-of_z w32 c.args.from.nesting_limit (search rules) in
+    let from : Reading = reading g.B.ReaderArena c.args.from in
+    let here : AtRow from c.args.sizes c.args.count c.loop-i.i c.args.canonicalize c.args.to.segment c.args.to.at (g.A.BuilderArena.view c.args.arena.now) (g.A.BuilderArena.view c.loop-i.arena) c.args.lim.now c.loop-i.lim = record {
+      fits = record { inside = c.requires.inside; less_data = c.requires.less_data; less_pointers = c.requires.less_pointers; used = c.requires.pointers };
+      room = c.requires.room;
+      zero = c.requires.zero;
+      more = c.loop-i-test.true;
+      rows = c.loop-i.invariant;
+    } in
+    row_copied here (rw (c.total-source_words.ensures, c.total-kept_words.ensures, nl) at c.in-Ok.ensures.copied)
+
+-- Lists of pointers.
+
+pub lists::copy_pointers-copy_children-requires : goal.lists::copy_pointers-copy_children-requires
+lists::copy_pointers-copy_children-requires g t c κs within =
+    let S : Segments = (g.A.BuilderArena.view c.args.arena.now).words in
+    let M : Segments = (g.A.BuilderArena.view c.make_list.new.arena).words in
+    let begun : IsBegun S M c.args.id c.args.at c.args.count c.in-Ok.start (Pointers (nulls c.args.count)) = record { made = c.in-Ok.ensures.made; start = c.in-Ok.ensures.start; inside = c.in-Ok.ensures.inside } in
+    let ROOM : c.in-Ok.start.at + c.args.count ≤ length (segment M c.in-Ok.start.segment) = begun.inside.1 in
+    let NULL : (i : ℕ) → i < c.args.count → word_at M c.in-Ok.start.segment (c.in-Ok.start.at + i) ≡ 0 = pointers_ready S M c.args.id c.args.at c.args.count c.in-Ok.start begun in
+    search rules
+
+pub lists::copy_pointers-returns-in-Ok-clause-copied : goal.lists::copy_pointers-returns-in-Ok-clause-copied
+lists::copy_pointers-returns-in-Ok-clause-copied g t c =
+    let begun : ObjectBegun c.args.id c.args.at c.args.count (g.A.BuilderArena.view c.args.arena.now) (g.A.BuilderArena.view c.make_list.new.arena) c.in-Ok.start (Pointers (nulls c.args.count)) =
+    record { begun = record { made = c.in-Ok.ensures.made; start = c.in-Ok.ensures.start; inside = c.in-Ok.ensures.inside }; memory = c.in-Ok.ensures.granted } in
+    ok_so c.copy_children.result _ _ c.copy_children.ensures.copied (λ x made. pointers_copied begun made)
+
+pub lists::copy_pointers-returns-in-Ok-clause-refused : goal.lists::copy_pointers-returns-in-Ok-clause-refused
+lists::copy_pointers-returns-in-Ok-clause-refused g t c =
+    let begun : ObjectBegun c.args.id c.args.at c.args.count (g.A.BuilderArena.view c.args.arena.now) (g.A.BuilderArena.view c.make_list.new.arena) c.in-Ok.start (Pointers (nulls c.args.count)) =
+    record { begun = record { made = c.in-Ok.ensures.made; start = c.in-Ok.ensures.start; inside = c.in-Ok.ensures.inside }; memory = c.in-Ok.ensures.granted } in
+    err_so c.copy_children.result _ _ c.copy_children.ensures.refused (λ k stop. pointers_stop begun stop)
+
+pub lists::copy_pointers-returns-in-Err-clause-refused : goal.lists::copy_pointers-returns-in-Err-clause-refused
+lists::copy_pointers-returns-in-Err-clause-refused g t c =
+    let none = nothing_made c.args.canonicalize c.args.id c.args.at c.args.count (g.A.BuilderArena.view c.args.arena.now) (g.A.BuilderArena.view c.make_list.new.arena) c.args.lim.now c.args.lim.now c.in-Err.k c.requires.place c.requires.null
+    c.in-Err.ensures.named c.in-Err.ensures.refused (λ room. absurd (false≢true (c.in-Err.ensures.fits room))) in
+    record { why = inl none.0; off = inl refl; left = none.1 }
+
+-- Lists of structs.
+
+pub lists::copy_structs-copy_elements-requires : goal.lists::copy_structs-copy_elements-requires
+lists::copy_structs-copy_elements-requires g t c κs within =
+    let from : Reading = reading g.B.ReaderArena c.args.from in
+    let least = c.kept_widths-kept.result in
+    let S : Segments = (g.A.BuilderArena.view c.args.arena.now).words in
+    let M : Segments = (g.A.BuilderArena.view c.make_struct_list.new.arena).words in
+    let begun : IsBegun S M c.args.id c.args.at (1 + c.args.count * (least.data_words + least.pointers)) c.in-Ok.list (zero_structs c.args.count least) = record { made = c.in-Ok.ensures.made; start = c.in-Ok.ensures.start; inside = c.in-Ok.ensures.inside } in
+    let ROOM : c.in-Ok.list.at + 1 + c.args.count * (least.data_words + least.pointers) ≤ length (segment M c.in-Ok.list.segment) = omega (arith, begun.inside.1) in
+    let ZERO : (i : ℕ) → i < c.args.count * (least.data_words + least.pointers) → word_at M c.in-Ok.list.segment (c.in-Ok.list.at + 1 + i) ≡ 0 = structs_ready S M c.args.id c.args.at least.data_words least.pointers c.args.count c.in-Ok.list begun in
+    let POINTERS : KeepsPointers c.args.canonicalize from (record { source = c.args.size; kept = least }) c.args.count = widths_keep c.args.canonicalize from (record { source = c.args.size; kept = least }) c.args.count c.kept_widths-kept.ensures.kept in
+    search rules
+
+pub lists::copy_structs-returns-in-Ok-clause-copied : goal.lists::copy_structs-returns-in-Ok-clause-copied
+lists::copy_structs-returns-in-Ok-clause-copied g t c =
+    let least = c.kept_widths-kept.result in
+    let begun : ObjectBegun c.args.id c.args.at (1 + c.args.count * (least.data_words + least.pointers)) (g.A.BuilderArena.view c.args.arena.now) (g.A.BuilderArena.view c.make_struct_list.new.arena) c.in-Ok.list (zero_structs c.args.count least) =
+    record { begun = record { made = c.in-Ok.ensures.made; start = c.in-Ok.ensures.start; inside = c.in-Ok.ensures.inside }; memory = c.in-Ok.ensures.granted } in
+    ok_so c.copy_elements.result _ _ c.copy_elements.ensures.copied (λ x made. structs_copied c.requires.inside c.kept_widths-kept.ensures.kept begun made)
+
+pub lists::copy_structs-returns-in-Ok-clause-refused : goal.lists::copy_structs-returns-in-Ok-clause-refused
+lists::copy_structs-returns-in-Ok-clause-refused g t c =
+    let least = c.kept_widths-kept.result in
+    let begun : ObjectBegun c.args.id c.args.at (1 + c.args.count * (least.data_words + least.pointers)) (g.A.BuilderArena.view c.args.arena.now) (g.A.BuilderArena.view c.make_struct_list.new.arena) c.in-Ok.list (zero_structs c.args.count least) =
+    record { begun = record { made = c.in-Ok.ensures.made; start = c.in-Ok.ensures.start; inside = c.in-Ok.ensures.inside }; memory = c.in-Ok.ensures.granted } in
+    err_so c.copy_elements.result _ _ c.copy_elements.ensures.refused (λ k stop. structs_stop begun stop)
+
+pub lists::copy_structs-returns-in-Err-clause-refused : goal.lists::copy_structs-returns-in-Err-clause-refused
+lists::copy_structs-returns-in-Err-clause-refused g t c =
+    let least = c.kept_widths-kept.result in
+    let none = nothing_made c.args.canonicalize c.args.id c.args.at (1 + c.args.count * (least.data_words + least.pointers)) (g.A.BuilderArena.view c.args.arena.now) (g.A.BuilderArena.view c.make_struct_list.new.arena) c.args.lim.now c.args.lim.now c.in-Err.k c.requires.place c.requires.null
+    c.in-Err.ensures.named c.in-Err.ensures.refused (λ room. absurd (false≢true (c.in-Err.ensures.fits room))) in
+    record { why = inl none.0; off = inl refl; left = none.1 }
+
+-- Structs.
+
+pub structs::copy_struct-returns-in-Err-clause-refused : goal.structs::copy_struct-returns-in-Err-clause-refused
+structs::copy_struct-returns-in-Err-clause-refused g t c =
+    let least = c.kept_sections-kept.result in
+    let none = nothing_made c.args.canonicalize c.args.id c.args.at (least.data_words + least.pointers) (g.A.BuilderArena.view c.args.arena.now) (g.A.BuilderArena.view c.make_struct.new.arena) c.args.lim.now c.args.lim.now c.in-Err.k c.requires.place c.requires.null
+    c.in-Err.ensures.named c.in-Err.ensures.refused (λ room. absurd (false≢true (c.in-Err.ensures.fits room))) in
+    record { why = inl none.0; off = inl refl; left = none.1 }
+
+pub structs::copy_struct-returns-clause-copied : goal.structs::copy_struct-returns-clause-copied
+structs::copy_struct-returns-clause-copied g t c =
+    let nl = to_z-of_z w32 c.args.from.nesting_limit (search rules) in
+    let from : Reading = reading g.B.ReaderArena c.args.from in
+    let held : words_of c.args.from.place.bytes.now ≡ row from = c.args.from.held.0 in
+    let section : words_of c.part-data.result.now ≡ words_from from c.kept_sections-kept.result.data_words = rw (c.from-data_words.ensures, held) at c.part-data.ensures.words in
+    let begun : StructBegun c.args.canonicalize from c.args.size c.kept_sections-kept.result c.args.id c.args.at (g.A.BuilderArena.view c.args.arena.now) (g.A.BuilderArena.view c.make_struct.new.arena) (g.A.BuilderArena.view c.put_words.new.arena) c.in-Ok.start = record {
+      inside = c.requires.inside;
+      sections = c.kept_sections-kept.ensures.kept;
+      less_data = c.kept_sections-kept.ensures.less_data;
+      less_pointers = c.kept_sections-kept.ensures.less_pointers;
+      begun = record { made = c.in-Ok.ensures.made; start = c.in-Ok.ensures.start; inside = c.in-Ok.ensures.inside };
+      memory = c.in-Ok.ensures.granted;
+      writes = rw section at c.put_words.ensures.words;
+    } in
+    ok_so c.copy_children.result _ _ c.copy_children.ensures.copied (λ x made. struct_copied begun (rw (c.from.ensures, c.from-2.ensures, c.from-pointers.ensures, nl) at made))
+
+pub structs::copy_struct-returns-clause-refused : goal.structs::copy_struct-returns-clause-refused
+structs::copy_struct-returns-clause-refused g t c =
+    let nl = to_z-of_z w32 c.args.from.nesting_limit (search rules) in
+    let from : Reading = reading g.B.ReaderArena c.args.from in
+    let held : words_of c.args.from.place.bytes.now ≡ row from = c.args.from.held.0 in
+    let section : words_of c.part-data.result.now ≡ words_from from c.kept_sections-kept.result.data_words = rw (c.from-data_words.ensures, held) at c.part-data.ensures.words in
+    let begun : StructBegun c.args.canonicalize from c.args.size c.kept_sections-kept.result c.args.id c.args.at (g.A.BuilderArena.view c.args.arena.now) (g.A.BuilderArena.view c.make_struct.new.arena) (g.A.BuilderArena.view c.put_words.new.arena) c.in-Ok.start = record {
+      inside = c.requires.inside;
+      sections = c.kept_sections-kept.ensures.kept;
+      less_data = c.kept_sections-kept.ensures.less_data;
+      less_pointers = c.kept_sections-kept.ensures.less_pointers;
+      begun = record { made = c.in-Ok.ensures.made; start = c.in-Ok.ensures.start; inside = c.in-Ok.ensures.inside };
+      memory = c.in-Ok.ensures.granted;
+      writes = rw section at c.put_words.ensures.words;
+    } in
+    err_so c.copy_children.result _ _ c.copy_children.ensures.refused (λ k stop. struct_stops begun (rw (c.from.ensures, c.from-2.ensures, c.from-pointers.ensures, nl) at stop))
+
+pub structs::copy_struct-copy_children-requires : goal.structs::copy_struct-copy_children-requires
+structs::copy_struct-copy_children-requires g t c κs within =
+    let from : Reading = reading g.B.ReaderArena c.args.from in
+    let held : words_of c.args.from.place.bytes.now ≡ row from = c.args.from.held.0 in
+    let least = c.kept_sections-kept.result in
+    let N : Segments = (g.A.BuilderArena.view c.put_words.new.arena).words in
+    let section : words_of c.part-data.result.now ≡ words_from from c.kept_sections-kept.result.data_words = rw (c.from-data_words.ensures, held) at c.part-data.ensures.words in
+    let begun : StructBegun c.args.canonicalize from c.args.size c.kept_sections-kept.result c.args.id c.args.at (g.A.BuilderArena.view c.args.arena.now) (g.A.BuilderArena.view c.make_struct.new.arena) (g.A.BuilderArena.view c.put_words.new.arena) c.in-Ok.start = record {
+      inside = c.requires.inside;
+      sections = c.kept_sections-kept.ensures.kept;
+      less_data = c.kept_sections-kept.ensures.less_data;
+      less_pointers = c.kept_sections-kept.ensures.less_pointers;
+      begun = record { made = c.in-Ok.ensures.made; start = c.in-Ok.ensures.start; inside = c.in-Ok.ensures.inside };
+      memory = c.in-Ok.ensures.granted;
+      writes = rw section at c.put_words.ensures.words;
+    } in
+    let ROOM : c.in-Ok.start.at + c.from-2.result + c.from-pointers.result ≤ length (segment N c.in-Ok.start.segment) = rw (c.from-2.ensures, c.from-pointers.ensures) (struct_fits begun) in
+    let NULL : (i : ℕ) → i < c.from-pointers.result → word_at N c.in-Ok.start.segment (c.in-Ok.start.at + c.from-2.result + i) ≡ 0 = rw (c.from-2.ensures, c.from-pointers.ensures) (struct_null begun) in
+    search rules

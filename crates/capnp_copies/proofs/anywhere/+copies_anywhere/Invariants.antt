@@ -1,0 +1,34 @@
+use Rattle.std.proofs.Common.{◌+◌, ◌*◌}
+use Rattle.capnp_objects.specs.Source.{levels}
+use Rattle.capnp_readers.specs.Readers.{reading}
+use Rattle.capnp_copies.specs.Changes.{change, CopiesChildren, CopiesElements}
+use Rattle.capnp_copies.proofs.anywhere.+copies_anywhere.Given as goal
+
+abbrev pub decreases-copy_object : goal.decreases-copy_object
+decreases-copy_object g l = 8 * levels l.from.nesting_limit
+
+abbrev pub decreases-children::copy_children : goal.decreases-children::copy_children
+decreases-children::copy_children g l = 8 * levels l.from.nesting_limit + 1
+
+abbrev pub decreases-elements::copy_element : goal.decreases-elements::copy_element
+decreases-elements::copy_element g l = 8 * levels l.from.nesting_limit + 2
+
+abbrev pub decreases-elements::copy_elements : goal.decreases-elements::copy_elements
+decreases-elements::copy_elements g l = 8 * levels l.from.nesting_limit + 3
+
+abbrev pub decreases-lists::copy_pointers : goal.decreases-lists::copy_pointers
+decreases-lists::copy_pointers g l = 8 * levels l.from.nesting_limit + 4
+
+abbrev pub decreases-lists::copy_structs : goal.decreases-lists::copy_structs
+decreases-lists::copy_structs g l = 8 * levels l.from.nesting_limit + 4
+
+abbrev pub decreases-structs::copy_struct : goal.decreases-structs::copy_struct
+decreases-structs::copy_struct g l = 8 * levels l.from.nesting_limit + 4
+
+abbrev pub invariant-children::copy_children-loop-i : goal.invariant-children::copy_children-loop-i
+invariant-children::copy_children-loop-i g l =
+    CopiesChildren (reading g.B.ReaderArena l.from) l.i (change l.canonicalize l.id l.at (g.A.BuilderArena.view l.fn.arena) (g.A.BuilderArena.view l.arena) l.fn.lim l.lim)
+
+abbrev pub invariant-elements::copy_elements-loop-i : goal.invariant-elements::copy_elements-loop-i
+invariant-elements::copy_elements-loop-i g l =
+    CopiesElements (reading g.B.ReaderArena l.from) l.sizes l.i (change l.canonicalize l.to.segment l.to.at (g.A.BuilderArena.view l.fn.arena) (g.A.BuilderArena.view l.arena) l.fn.lim l.lim)

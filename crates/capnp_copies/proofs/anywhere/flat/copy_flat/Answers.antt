@@ -1,0 +1,43 @@
+use Rattle.std.proofs.Common.{◌≡◌, ◌*◌, ◌%◌, ◌^◌, ℕ, List, length, cond, sym, ap, ap₂, ◌∙◌, subst, arith, ne_eqb, pow_pos}
+use Rattle.std.proofs.lemmas.Bool.{false≢true}
+use Rattle.capnp_format.specs.Bytes.{words_of}
+use Rattle.capnp_format.specs.Numbers.{unpacked, packed, words_for, from_digits, digits, element_bits}
+use Rattle.capnp_format.specs.Segments.{Segments}
+use Rattle.capnp_format.specs.Tree.{Null, Pointers, Flat}
+use Rattle.capnp_format.proofs.Bounds.{digits_below}
+use Rattle.capnp_format.proofs.Digits.{length-digits}
+use Rattle.capnp_arena.specs.Written.{with_words}
+use Rattle.capnp_making.specs.Made.{zeros, nulls, list_words, LieFrom}
+use Rattle.capnp_making.specs.Stored.{IsReplaced}
+use Rattle.capnp_making.proofs.FillingMade.{IsBegun, flat_whole}
+use Rattle.capnp_making.proofs.Memory.{words_in, made_refused}
+use Rattle.capnp_pointers.specs.Sizes.{size_number}
+use Rattle.capnp_copies.proofs.Padding.{packed_again}
+use Rattle.capnp_copies.proofs.anywhere.flat.copy_flat.Goals as goal
+
+-- The list is made, all zero, and its elements are written.
+pub returns-in-Ok-clause-copied : goal.returns-in-Ok-clause-copied
+returns-in-Ok-clause-copied g c =
+    let S : Segments = (g.A.BuilderArena.view c.args.arena.now).words in
+    let M : Segments = (g.A.BuilderArena.view c.make_list.new.arena).words in
+    let R : Segments = (g.A.BuilderArena.view c.put_elements.new.arena).words in
+    let size : ℕ = size_number c.args.size in
+    let n : ℕ = c.args.count in
+    let b : ℕ = element_bits size in
+    let ws : List ℕ = words_of c.args.elements.now in
+    let ns : List ℕ = unpacked size n ws in
+    let bits : ℕ = c.from.result * c.from-in-Ok.result in
+    let f : ℕ = from_digits (2 ^ 64) ws in
+    let all : bits ≡ n * b = ap₂ (λ i j. i * j) c.from.ensures (c.from-in-Ok.ensures ∙ c.data_bits_per_element.ensures) in
+    let packs : digits (2 ^ 64) (length ws) (f % 2 ^ bits) ≡ packed size ns = ap₂ (λ i j. digits (2 ^ 64) i (f % 2 ^ j)) c.requires.all all ∙ sym (packed_again size n ws) in
+    let other = ne_eqb size 6 (λ e. omega (arith, c.requires.flat)) in
+    let made = subst (λ x. IsReplaced S M c.args.id c.args.at Null (cond x (Pointers (nulls n)) (Flat size (zeros n)))) other c.in-Ok.ensures.made in
+    let inside = subst (λ x. LieFrom M (cond x n (words_for size n)) c.in-Ok.start) other c.in-Ok.ensures.inside in
+    let begun : IsBegun S M c.args.id c.args.at (words_for size n) c.in-Ok.start (Flat size (zeros n)) = record { made = made; start = c.in-Ok.ensures.start; inside = inside } in
+    flat_whole S M R c.args.id c.args.at size n c.in-Ok.start ns begun (length-digits (2 ^ b) n f) (digits_below (2 ^ b) n f (pow_pos b))
+    (ap words_in c.put_elements.ensures ∙ ap (with_words M c.in-Ok.start.segment c.in-Ok.start.at) packs)
+
+pub returns-in-Err-clause-refused : goal.returns-in-Err-clause-refused
+returns-in-Err-clause-refused g c =
+    (made_refused (g.A.BuilderArena.view c.args.arena.now) (g.A.BuilderArena.view c.make_list.new.arena) c.args.id (list_words (size_number c.args.size) c.args.count) c.in-Err.k c.in-Err.ensures.named c.in-Err.ensures.refused
+    (λ room. absurd (false≢true (c.in-Err.ensures.fits room)))).0

@@ -1,0 +1,124 @@
+//! The copy of what a pointer means into a message of any number of segments, as it stands or in
+//! canonical form ("Structs", "Lists", "Inter-Segment Pointers", "Canonicalization").
+//!
+//! Each object is made before its children: in the segment of its pointer where it fits, else behind
+//! a landing pad. So the place holds a value at each moment.
+ghost use Rattle.std.specs.Prelude.{◌≡◌, ◌⊎◌, IfOk, IfErr, OnOk, OnErr};
+ghost use Rattle.capnp_format.specs.Segments.{word_at, IsPlace};
+ghost use Rattle.capnp_format.specs.Tree.{Tree, Null};
+ghost use Rattle.capnp_making.specs.Memory.{KeepsMemory, SpendsMemory, RefusesGrowth};
+ghost use Rattle.capnp_making.specs.Stored.{IsReplaced};
+ghost use Rattle.capnp_objects.specs.Outcomes.{Reads};
+ghost use Rattle.capnp_objects.specs.Refusals.{Refused, BreaksOff};
+ghost use Rattle.capnp_readers.specs.Readers.{reading};
+ghost use Rattle.capnp_copies.specs.Changes.{form_of, kept, change, CopiesValue, StopsAtValue};
+
+mod children;
+mod elements;
+mod flat;
+mod lists;
+mod structs;
+
+use crate::copy::flat_words;
+use capnp_arena::arena::{BuilderArena, ReaderArena};
+use capnp_making::making::clear;
+use capnp_objects::object::Object;
+use capnp_readers::readers::PointerReader;
+use capnp_words::error::ErrorKind;
+use capnp_words::read_limiter::ReadLimiter;
+use capnp_words::wire_pointer::WirePointer;
+use capnp_words::words::part;
+
+/// Copies what a pointer means to the null pointer at a place, as it stands or in canonical form.
+///
+/// A refusal of the arena is `AllocationFailed` or `MessageTooLarge`; a capability is
+/// `CannotCreateACanonicalMessageWithACapability` in canonical form; a refusal to read keeps its name.
+/// Then the pointer is null and the words that were allocated are zero; the limiter keeps what was
+/// charged.
+pub fn copy_value<A: BuilderArena, B: ReaderArena>(
+    arena: &mut A,
+    id: u32,
+    at: u32,
+    from: PointerReader<'_, B>,
+    lim: &mut ReadLimiter,
+    canonicalize: bool,
+) -> Result<(), ErrorKind>
+    requires place { IsPlace (A.view arena.old).words id at }
+    requires null { word_at (A.view arena.old).words id at ≡ 0 }
+    ensures copied { IfOk result (λ _. (t : Tree) × Reads (form_of canonicalize) (reading B.ReaderArena from.entry) lim.old lim.new t
+        × IsReplaced (A.view arena.old).words (A.view arena.new).words id at Null (kept canonicalize t)) }
+    ensures refused { IfErr result (λ k. RefusesGrowth (A.view arena.old) (A.view arena.new) k
+        ⊎ Refused (form_of canonicalize) (reading B.ReaderArena from.entry) lim.old lim.new k) }
+    ensures cleared { OnErr result (IsReplaced (A.view arena.old).words (A.view arena.new).words id at Null Null) }
+    ensures spent { OnErr result (BreaksOff (form_of canonicalize) (reading B.ReaderArena from.entry) lim.old lim.new) }
+    ensures granted { OnOk result (KeepsMemory (A.view arena.old) (A.view arena.new)) }
+    ensures memory { OnErr result (SpendsMemory (A.view arena.old) (A.view arena.new)) }
+{
+    match copy_object(arena, id, at, from, lim, canonicalize) {
+        Ok(()) => Ok(()),
+        Err(k) => {
+            clear(arena, id, at);
+            Err(k)
+        }
+    }
+}
+
+/// Does what `copy_value` does, but leaves what it made where it is refused.
+#[cycle(copies_anywhere)]
+fn copy_object<A: BuilderArena, B: ReaderArena>(
+    arena: &mut A,
+    id: u32,
+    at: u32,
+    from: PointerReader<'_, B>,
+    lim: &mut ReadLimiter,
+    canonicalize: bool,
+) -> Result<(), ErrorKind>
+    requires place { IsPlace (A.view arena.old).words id at }
+    requires null { word_at (A.view arena.old).words id at ≡ 0 }
+    ensures copied { IfOk result (λ _. CopiesValue (reading B.ReaderArena from.entry) (change canonicalize id at (A.view arena.old) (A.view arena.new) lim.old lim.new)) }
+    ensures refused { IfErr result (StopsAtValue (reading B.ReaderArena from.entry) (change canonicalize id at (A.view arena.old) (A.view arena.new) lim.old lim.new)) }
+{
+    let object = match from.source.read_object(from.place, from.nesting_limit, lim) {
+        Ok(object) => object,
+        Err(k) => return Err(k),
+    };
+    match object {
+        Object::Null => Ok(()),
+        Object::Capability(index) => {
+            if canonicalize {
+                return Err(ErrorKind::CannotCreateACanonicalMessageWithACapability);
+            }
+            arena.set_word(id, at, WirePointer::new_capability(index).0);
+            Ok(())
+        }
+        Object::Struct { start, size } => {
+            let inner = PointerReader {
+                source: from.source,
+                place: start,
+                nesting_limit: from.nesting_limit - 1,
+            };
+            structs::copy_struct(arena, id, at, inner, size, lim, canonicalize)
+        }
+        Object::Flat { start, size, count } => {
+            let words = flat_words(size, count);
+            let elements = part(start.bytes, start.at as usize, words as usize);
+            flat::copy_flat(arena, id, at, size, count, elements)
+        }
+        Object::Pointers { start, count } => {
+            let inner = PointerReader {
+                source: from.source,
+                place: start,
+                nesting_limit: from.nesting_limit - 1,
+            };
+            lists::copy_pointers(arena, id, at, inner, count, lim, canonicalize)
+        }
+        Object::Structs { start, size, count } => {
+            let inner = PointerReader {
+                source: from.source,
+                place: start,
+                nesting_limit: from.nesting_limit - 1,
+            };
+            lists::copy_structs(arena, id, at, inner, size, count, lim, canonicalize)
+        }
+    }
+}

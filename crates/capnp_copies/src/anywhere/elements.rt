@@ -1,0 +1,108 @@
+//! The copy of the elements of a list of structs ("Lists", "Canonicalization").
+ghost use Rattle.std.specs.Prelude.{◌≡◌, ℕ, ◌+◌, ◌*◌, ◌<◌, ◌≤◌, length, IfOk, IfErr};
+ghost use Rattle.capnp_format.specs.Segments.{segment, word_at};
+ghost use Rattle.capnp_objects.specs.Reading.{row};
+ghost use Rattle.capnp_readers.specs.Readers.{reading};
+ghost use Rattle.capnp_copies.specs.Changes.{change, CopiesElement, StopsAtElement, CopiesElements, StopsAtElements, KeepsPointers};
+
+use super::children::copy_children;
+use crate::copy::elements::put_words;
+use crate::widths::ElementSizes;
+use capnp_arena::arena::{BuilderArena, ReaderArena};
+use capnp_making::making::Start;
+use capnp_objects::object::Place;
+use capnp_readers::readers::PointerReader;
+use capnp_words::error::ErrorKind;
+use capnp_words::read_limiter::ReadLimiter;
+use capnp_words::words::part;
+
+/// Copies so many elements, of which `from` is the first word, over words of zero, each cut to the
+/// sections that are kept.
+#[cycle(copies_anywhere)]
+pub(crate) fn copy_elements<A: BuilderArena, B: ReaderArena>(
+    arena: &mut A,
+    to: Start,
+    from: PointerReader<'_, B>,
+    sizes: ElementSizes,
+    count: u32,
+    lim: &mut ReadLimiter,
+    canonicalize: bool,
+) -> Result<(), ErrorKind>
+    requires room { to.at + count * (sizes.kept.data_words + sizes.kept.pointers) ≤ length (segment (A.view arena.old).words to.segment) }
+    requires zero { (i : ℕ) → i < count * (sizes.kept.data_words + sizes.kept.pointers) → word_at (A.view arena.old).words to.segment (to.at + i) ≡ 0 }
+    requires inside { from.place.at + count * (sizes.source.data_words + sizes.source.pointers) ≤ length (row (reading B.ReaderArena from)) }
+    requires less_data { sizes.kept.data_words ≤ sizes.source.data_words }
+    requires less_pointers { sizes.kept.pointers ≤ sizes.source.pointers }
+    requires pointers { KeepsPointers canonicalize (reading B.ReaderArena from) sizes count }
+    ensures copied { IfOk result (λ _. CopiesElements (reading B.ReaderArena from.entry) sizes count (change canonicalize to.segment to.at (A.view arena.old) (A.view arena.new) lim.old lim.new)) }
+    ensures refused { IfErr result (StopsAtElements (reading B.ReaderArena from.entry) sizes count (change canonicalize to.segment to.at (A.view arena.old) (A.view arena.new) lim.old lim.new)) }
+{
+    let source_words = sizes.source.total();
+    let kept_words = sizes.kept.total();
+    if kept_words == 0 {
+        return Ok(());
+    }
+    for i in 0..count {
+        let element = PointerReader {
+            source: from.source,
+            place: Place {
+                segment: from.place.segment,
+                bytes: from.place.bytes,
+                at: from.place.at + i * source_words,
+            },
+            nesting_limit: from.nesting_limit,
+        };
+        let row = Start {
+            segment: to.segment,
+            at: to.at + i * kept_words,
+        };
+        match copy_element(arena, row, element, sizes, lim, canonicalize) {
+            Ok(()) => {}
+            Err(k) => return Err(k),
+        }
+    }
+    Ok(())
+}
+
+/// Copies one element so.
+#[cycle(copies_anywhere)]
+fn copy_element<A: BuilderArena, B: ReaderArena>(
+    arena: &mut A,
+    to: Start,
+    from: PointerReader<'_, B>,
+    sizes: ElementSizes,
+    lim: &mut ReadLimiter,
+    canonicalize: bool,
+) -> Result<(), ErrorKind>
+    requires room { to.at + (sizes.kept.data_words + sizes.kept.pointers) ≤ length (segment (A.view arena.old).words to.segment) }
+    requires null { (i : ℕ) → i < sizes.kept.pointers → word_at (A.view arena.old).words to.segment (to.at + sizes.kept.data_words + i) ≡ 0 }
+    requires inside { from.place.at + (sizes.source.data_words + sizes.source.pointers) ≤ length (row (reading B.ReaderArena from)) }
+    requires less_data { sizes.kept.data_words ≤ sizes.source.data_words }
+    requires less_pointers { sizes.kept.pointers ≤ sizes.source.pointers }
+    ensures copied { IfOk result (λ _. CopiesElement (reading B.ReaderArena from.entry) sizes (change canonicalize to.segment to.at (A.view arena.old) (A.view arena.new) lim.old lim.new)) }
+    ensures refused { IfErr result (StopsAtElement (reading B.ReaderArena from.entry) sizes (change canonicalize to.segment to.at (A.view arena.old) (A.view arena.new) lim.old lim.new)) }
+{
+    let data_words = usize::from(sizes.kept.data_words);
+    let data = part(from.place.bytes, from.place.at as usize, data_words);
+    put_words(arena, to.segment, to.at, data);
+    let children = PointerReader {
+        source: from.source,
+        place: Place {
+            segment: from.place.segment,
+            bytes: from.place.bytes,
+            at: from.place.at + u32::from(sizes.source.data_words),
+        },
+        nesting_limit: from.nesting_limit,
+    };
+    let first = to.at + u32::from(sizes.kept.data_words);
+    let pointers = u32::from(sizes.kept.pointers);
+    copy_children(
+        arena,
+        to.segment,
+        first,
+        children,
+        pointers,
+        lim,
+        canonicalize,
+    )
+}

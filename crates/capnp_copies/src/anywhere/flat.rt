@@ -1,0 +1,46 @@
+//! The copy of a list of numbers: its words, with padding of zero ("Lists", "Canonicalization").
+ghost use Rattle.std.specs.Prelude.{◌≡◌, ◌*◌, ◌<◌, ◌≤◌, ◌^◌, length, OnOk, OnErr, IfErr};
+ghost use Rattle.capnp_format.specs.Bytes.{words_of};
+ghost use Rattle.capnp_format.specs.Numbers.{words_for, unpacked};
+ghost use Rattle.capnp_format.specs.Segments.{IsPlace};
+ghost use Rattle.capnp_format.specs.Tree.{Null, Flat};
+ghost use Rattle.capnp_making.specs.Memory.{KeepsMemory, SpendsMemory, RefusesGrowth};
+ghost use Rattle.capnp_making.specs.Stored.{IsReplaced};
+ghost use Rattle.capnp_pointers.specs.Sizes.{size_number};
+
+use crate::flat::put_elements;
+use capnp_arena::arena::BuilderArena;
+use capnp_making::making::make_list;
+use capnp_words::error::ErrorKind;
+use capnp_words::wire_pointer::{ElementSize, data_bits_per_element};
+
+/// Copies so many elements, of which these are the words, and sets the pointer at a place to them.
+/// Where the arena refuses it, no word changes.
+pub(crate) fn copy_flat<A: BuilderArena>(
+    arena: &mut A,
+    id: u32,
+    at: u32,
+    size: ElementSize,
+    count: u32,
+    elements: &[u8],
+) -> Result<(), ErrorKind>
+    requires place { IsPlace (A.view arena.old).words id at }
+    requires flat { size_number size ≤ 5 }
+    requires few { count < 2 ^ 29 }
+    requires whole { length elements.now ≡ 8 * length (words_of elements.now) }
+    requires all { length (words_of elements.now) ≡ words_for (size_number size) count }
+    ensures copied { OnOk result (IsReplaced (A.view arena.old).words (A.view arena.new).words id at Null (Flat (size_number size) (unpacked (size_number size) count (words_of elements.now)))) }
+    ensures granted { OnOk result (KeepsMemory (A.view arena.old) (A.view arena.new)) }
+    ensures refused { IfErr result (RefusesGrowth (A.view arena.old) (A.view arena.new)) }
+    ensures kept { OnErr result ((A.view arena.new).words ≡ (A.view arena.old).words) }
+    ensures memory { OnErr result (SpendsMemory (A.view arena.old) (A.view arena.new)) }
+{
+    match make_list(arena, id, at, size, count) {
+        Ok(start) => {
+            let bits = u64::from(count) * u64::from(data_bits_per_element(size));
+            put_elements(arena, start.segment, start.at, elements, bits);
+            Ok(())
+        }
+        Err(k) => Err(k),
+    }
+}

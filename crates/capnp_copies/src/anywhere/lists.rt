@@ -1,0 +1,103 @@
+//! The copy of lists of pointers and of structs ("Lists", "Canonicalization").
+ghost use Rattle.std.specs.Prelude.{◌≡◌, ◌+◌, ◌*◌, ◌<◌, ◌≤◌, ◌^◌, length, IfOk, IfErr};
+ghost use Rattle.capnp_format.specs.Segments.{word_at, IsPlace};
+ghost use Rattle.capnp_objects.specs.Reading.{row};
+ghost use Rattle.capnp_readers.specs.Readers.{reading};
+ghost use Rattle.capnp_copies.specs.Changes.{change, CopiesPointers, StopsAtPointers, CopiesStructs, StopsAtStructs, KeepsWidths};
+
+use super::children::copy_children;
+use super::elements::copy_elements;
+use crate::widths::{ElementSizes, least_widths};
+use capnp_arena::arena::{BuilderArena, ReaderArena};
+use capnp_making::making::{Start, make_list, make_struct_list};
+use capnp_readers::readers::PointerReader;
+use capnp_words::error::ErrorKind;
+use capnp_words::read_limiter::ReadLimiter;
+use capnp_words::wire_pointer::{ElementSize, StructSize};
+
+/// Copies a list of so many pointers, of which `from` is the first, to the pointer at a place.
+#[cycle(copies_anywhere)]
+pub(crate) fn copy_pointers<A: BuilderArena, B: ReaderArena>(
+    arena: &mut A,
+    id: u32,
+    at: u32,
+    from: PointerReader<'_, B>,
+    count: u32,
+    lim: &mut ReadLimiter,
+    canonicalize: bool,
+) -> Result<(), ErrorKind>
+    requires place { IsPlace (A.view arena.old).words id at }
+    requires null { word_at (A.view arena.old).words id at ≡ 0 }
+    requires few { count < 2 ^ 29 }
+    requires inside { from.place.at + count ≤ length (row (reading B.ReaderArena from)) }
+    ensures copied { IfOk result (λ _. CopiesPointers (reading B.ReaderArena from.entry) count (change canonicalize id at (A.view arena.old) (A.view arena.new) lim.old lim.new)) }
+    ensures refused { IfErr result (StopsAtPointers (reading B.ReaderArena from.entry) count (change canonicalize id at (A.view arena.old) (A.view arena.new) lim.old lim.new)) }
+{
+    match make_list(arena, id, at, ElementSize::Pointer, count) {
+        Ok(start) => copy_children(
+            arena,
+            start.segment,
+            start.at,
+            from,
+            count,
+            lim,
+            canonicalize,
+        ),
+        Err(k) => Err(k),
+    }
+}
+
+/// Copies a list of so many structs, of which `from` is the first word behind the tag, to the pointer
+/// at a place. In canonical form its elements have the least sections that lose nothing.
+#[cycle(copies_anywhere)]
+pub(crate) fn copy_structs<A: BuilderArena, B: ReaderArena>(
+    arena: &mut A,
+    id: u32,
+    at: u32,
+    from: PointerReader<'_, B>,
+    size: StructSize,
+    count: u32,
+    lim: &mut ReadLimiter,
+    canonicalize: bool,
+) -> Result<(), ErrorKind>
+    requires place { IsPlace (A.view arena.old).words id at }
+    requires null { word_at (A.view arena.old).words id at ≡ 0 }
+    requires few { count < 2 ^ 30 }
+    requires words { count * (size.data_words + size.pointers) < 2 ^ 29 }
+    requires inside { from.place.at + count * (size.data_words + size.pointers) ≤ length (row (reading B.ReaderArena from)) }
+    ensures copied { IfOk result (λ _. CopiesStructs (reading B.ReaderArena from.entry) size count (change canonicalize id at (A.view arena.old) (A.view arena.new) lim.old lim.new)) }
+    ensures refused { IfErr result (StopsAtStructs (reading B.ReaderArena from.entry) size count (change canonicalize id at (A.view arena.old) (A.view arena.new) lim.old lim.new)) }
+{
+    let kept = kept_widths(from, size, count, canonicalize);
+    let sizes = ElementSizes { source: size, kept };
+    match make_struct_list(arena, id, at, count, kept) {
+        Ok(list) => {
+            let first = Start {
+                segment: list.segment,
+                at: list.at + 1,
+            };
+            copy_elements(arena, first, from, sizes, count, lim, canonicalize)
+        }
+        Err(k) => Err(k),
+    }
+}
+
+/// The sections that a copy of so many structs keeps of each, of which `from` is the first word: in
+/// canonical form the least that lose nothing.
+fn kept_widths<B: ReaderArena>(
+    from: PointerReader<'_, B>,
+    size: StructSize,
+    count: u32,
+    canonicalize: bool,
+) -> StructSize
+    requires inside { from.place.at + count * (size.data_words + size.pointers) ≤ length (row (reading B.ReaderArena from)) }
+    ensures kept { KeepsWidths canonicalize (reading B.ReaderArena from.entry) size count result }
+    ensures less_data { result.data_words ≤ size.data_words }
+    ensures less_pointers { result.pointers ≤ size.pointers }
+{
+    if canonicalize {
+        least_widths(from.place.bytes, from.place.at, count, size)
+    } else {
+        size
+    }
+}

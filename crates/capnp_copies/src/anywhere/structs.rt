@@ -1,0 +1,85 @@
+//! The copy of a struct ("Structs", "Canonicalization").
+ghost use Rattle.std.specs.Prelude.{◌≡◌, ◌+◌, ◌≤◌, length, IfOk, IfErr};
+ghost use Rattle.capnp_format.specs.Segments.{word_at, IsPlace};
+ghost use Rattle.capnp_objects.specs.Reading.{row};
+ghost use Rattle.capnp_readers.specs.Readers.{reading};
+ghost use Rattle.capnp_copies.specs.Changes.{change, CopiesStruct, StopsAtStruct, KeepsSections};
+
+use super::children::copy_children;
+use crate::copy::elements::put_words;
+use crate::copy::structs::used_sections;
+use capnp_arena::arena::{BuilderArena, ReaderArena};
+use capnp_making::making::make_struct;
+use capnp_objects::object::Place;
+use capnp_readers::readers::PointerReader;
+use capnp_words::error::ErrorKind;
+use capnp_words::read_limiter::ReadLimiter;
+use capnp_words::wire_pointer::StructSize;
+use capnp_words::words::part;
+
+/// Copies a struct, of which `from` is the first word, to the pointer at a place. In canonical form
+/// it is without the zeros and null pointers at the ends of its sections.
+#[cycle(copies_anywhere)]
+pub(crate) fn copy_struct<A: BuilderArena, B: ReaderArena>(
+    arena: &mut A,
+    id: u32,
+    at: u32,
+    from: PointerReader<'_, B>,
+    size: StructSize,
+    lim: &mut ReadLimiter,
+    canonicalize: bool,
+) -> Result<(), ErrorKind>
+    requires place { IsPlace (A.view arena.old).words id at }
+    requires inside { from.place.at + (size.data_words + size.pointers) ≤ length (row (reading B.ReaderArena from)) }
+    requires null { word_at (A.view arena.old).words id at ≡ 0 }
+    ensures copied { IfOk result (λ _. CopiesStruct (reading B.ReaderArena from.entry) size (change canonicalize id at (A.view arena.old) (A.view arena.new) lim.old lim.new)) }
+    ensures refused { IfErr result (StopsAtStruct (reading B.ReaderArena from.entry) size (change canonicalize id at (A.view arena.old) (A.view arena.new) lim.old lim.new)) }
+{
+    let kept = kept_sections(from, size, canonicalize);
+    let start = match make_struct(arena, id, at, kept) {
+        Ok(start) => start,
+        Err(k) => return Err(k),
+    };
+    let data_words = usize::from(kept.data_words);
+    let data = part(from.place.bytes, from.place.at as usize, data_words);
+    put_words(arena, start.segment, start.at, data);
+    let children = PointerReader {
+        source: from.source,
+        place: Place {
+            segment: from.place.segment,
+            bytes: from.place.bytes,
+            at: from.place.at + u32::from(size.data_words),
+        },
+        nesting_limit: from.nesting_limit,
+    };
+    let first = start.at + u32::from(kept.data_words);
+    let pointers = u32::from(kept.pointers);
+    copy_children(
+        arena,
+        start.segment,
+        first,
+        children,
+        pointers,
+        lim,
+        canonicalize,
+    )
+}
+
+/// The sections that a copy of a struct keeps, of which `from` is the first word: in canonical form
+/// the words of each up to the last that is not zero.
+fn kept_sections<B: ReaderArena>(
+    from: PointerReader<'_, B>,
+    size: StructSize,
+    canonicalize: bool,
+) -> StructSize
+    requires inside { from.place.at + (size.data_words + size.pointers) ≤ length (row (reading B.ReaderArena from)) }
+    ensures kept { KeepsSections canonicalize (reading B.ReaderArena from.entry) size result }
+    ensures less_data { result.data_words ≤ size.data_words }
+    ensures less_pointers { result.pointers ≤ size.pointers }
+{
+    if canonicalize {
+        used_sections(from, size)
+    } else {
+        size
+    }
+}

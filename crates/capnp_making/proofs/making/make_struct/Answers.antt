@@ -1,0 +1,24 @@
+use Rattle.std.proofs.Common.{◌≡◌, ap, sym, arith}
+use Rattle.capnp_format.specs.Segments.{Segments}
+use Rattle.capnp_making.proofs.Memory.{words_in}
+use Rattle.capnp_making.proofs.MadeWords.{word_put}
+use Rattle.capnp_making.proofs.Placed.{struct_made, empty_made}
+use Rattle.capnp_making.proofs.Outcomes.{on_ok_so}
+use Rattle.capnp_making.proofs.making.make_struct.Goals as goal
+
+pub returns-then-words-eq0-clause-made : goal.returns-then-words-eq0-clause-made
+returns-then-words-eq0-clause-made g c =
+    let S : Segments = (g.A.BuilderArena.view c.args.arena.now).words in
+    let R : Segments = (g.A.BuilderArena.view c.set_word.new.self).words in
+    let put = word_put S R c.args.id c.args.at c.empty_struct.result.0 c.requires.place (ap words_in c.set_word.ensures) in
+    let none_d : 0 ≡ c.args.size.data_words = omega arith in
+    let none_q : 0 ≡ c.args.size.pointers = omega arith in
+    rw (sym none_d, sym none_q) (struct_made S R c.args.id c.args.at 0 0 _ c.requires.place (empty_made S R c.args.id c.args.at c.empty_struct.result.0 c.requires.place put c.empty_struct.ensures) (omega arith) (omega arith) (omega arith))
+
+pub returns-clause-made : goal.returns-clause-made
+returns-clause-made g c =
+    let S : Segments = (g.A.BuilderArena.view c.args.arena.now).words in
+    let R : Segments = (g.A.BuilderArena.view c.put_object.new.arena).words in
+    let total = c.total-words.ensures in
+    on_ok_so c.put_object.result _ _ c.put_object.ensures.made (λ h made.
+    (let (a, m, shape, is_segment, is_start) = made in struct_made S R c.args.id c.args.at c.args.size.data_words c.args.size.pointers a c.requires.place (rw total at m) shape.0 shape.1 shape.2))

@@ -1,0 +1,33 @@
+use Rattle.std.proofs.Common.{◌≡◌, ◌+◌, ◌*◌, ℕ, ap, sym, ap₂, ◌∙◌}
+use Rattle.capnp_format.specs.Means.{IsTag}
+use Rattle.capnp_format.specs.Segments.{Segments}
+use Rattle.capnp_arena.specs.Written.{with_word}
+use Rattle.capnp_making.proofs.Memory.{words_in}
+use Rattle.capnp_making.proofs.PlacedStructs.{IsListMade, structs_made, structs_lead}
+use Rattle.capnp_making.proofs.making.make_struct_list.Goals as goal
+
+-- The words of the list are taken, and its tag is written.
+pub returns-in-Ok-clause-made : goal.returns-in-Ok-clause-made
+returns-in-Ok-clause-made g c =
+    let S : Segments = (g.A.BuilderArena.view c.args.arena.now).words in
+    let M : Segments = (g.A.BuilderArena.view c.put_object.new.arena).words in
+    let R : Segments = (g.A.BuilderArena.view c.set_word.new.self).words in
+    let (a, m, shape, is_segment, is_start) = c.in-Ok.ensures.made in
+    let x : ℕ = c.new_tag-tag.result.0 in
+    let list : IsListMade S M c.args.id c.args.at a (c.args.count * (c.args.size.data_words + c.args.size.pointers)) =
+    rw (sym c.total.ensures) (record { made = m; is_list = shape.0; is_size = shape.1; counts = shape.2 }) in
+    let tag : IsTag x c.args.count c.args.size.data_words c.args.size.pointers = record { is_struct = c.new_tag-tag.ensures.kind_of; counts = c.new_tag-tag.ensures.count_of; data_of = c.new_tag-tag.ensures.data_of; pointers = c.new_tag-tag.ensures.pointers_of } in
+    let written : R ≡ with_word M a.segment a.start x = ap words_in c.set_word.ensures ∙ ap₂ (λ u b. with_word M u b x) is_segment is_start in
+    structs_made S M R c.args.id c.args.at c.args.size.data_words c.args.size.pointers c.args.count x a c.requires.place list tag written
+
+pub returns-in-Ok-clause-start : goal.returns-in-Ok-clause-start
+returns-in-Ok-clause-start g c =
+    let S : Segments = (g.A.BuilderArena.view c.args.arena.now).words in
+    let M : Segments = (g.A.BuilderArena.view c.put_object.new.arena).words in
+    let (a, m, shape, is_segment, is_start) = c.in-Ok.ensures.made in
+    let written = ap words_in c.set_word.ensures ∙ ap₂ (λ u b. with_word M u b c.new_tag-tag.result.0) is_segment is_start in
+    let there = structs_lead S M _ c.args.id c.args.at (c.args.count * c.total.result) c.new_tag-tag.result.0 a c.requires.place m written in
+    (is_segment ∙ sym (ap (λ b. b.segment) there), is_start ∙ sym (ap (λ b. b.start) there))
+
+pub returns-in-Err-clause-fits : goal.returns-in-Err-clause-fits
+returns-in-Err-clause-fits g c = λ room. c.in-Err.ensures.fits (rw (sym c.total.ensures) at room)

@@ -1,0 +1,35 @@
+-- Objects that are filled once they are made: null pointers one behind the other, and elements of a list of structs.
+use Rattle.std.specs.Prelude.{◌≡◌, ℕ, ◌+◌, ◌*◌, ◌<◌, ◌≤◌, List, length}
+use Rattle.capnp_format.specs.Segments.{Segments}
+use Rattle.capnp_format.specs.Tree.{Null, Trees, no_trees, tree, count, Elements, no_elements, element, element_count}
+use Rattle.capnp_arena.specs.Written.{with_words}
+use Rattle.capnp_making.specs.Stored.{IsReplaced}
+
+-- From S to R the null pointers from position p on, one behind the other, get these values, one after the other.
+abbrev pub AreFilled : Segments → Segments → ℕ → ℕ → Trees → Type 0
+AreFilled S R s p no_trees = R ≡ S
+AreFilled S R s p (tree t ts) = (M : Segments) × IsReplaced S M s p Null t × AreFilled M R s (p + 1) ts
+
+-- From S to R an element gets these data words, and then the first of its pointers get these values.
+pub record IsElementFilled (S R : Segments) (s p : ℕ) (ws : List ℕ) (ts : Trees) : Type 0 where
+  pub written : Segments
+  pub writes : written ≡ with_words S s p ws
+  pub filled : AreFilled written R s (p + length ws) ts
+
+-- So do elements of d data words and q pointers, one behind the other, which get all their values.
+abbrev pub AreElementsFilled : Segments → Segments → ℕ → ℕ → ℕ → ℕ → Elements → Type 0
+AreElementsFilled S R s p d q no_elements = R ≡ S
+AreElementsFilled S R s p d q (element ws ts es) =
+    (M : Segments) × (length ws ≡ d) × (count ts ≡ q) × IsElementFilled S M s p ws ts × AreElementsFilled M R s (p + d + q) d q es
+
+-- So do some of n elements, and then the next one its data words and some of its values.
+pub record ArePartlyFilled (S R : Segments) (s p d q n : ℕ) : Type 0 where
+  pub elements : Elements
+  pub fewer : element_count elements < n
+  pub words : List ℕ
+  pub wide : length words ≡ d
+  pub children : Trees
+  pub few : count children ≤ q
+  pub between : Segments
+  pub before : AreElementsFilled S between s p d q elements
+  pub last : IsElementFilled between R s (p + element_count elements * (d + q)) words children
