@@ -6,6 +6,7 @@ use Rattle.capnp_format.specs.Segments.{Segments, segment, word_at, Target}
 use Rattle.capnp_format.specs.Tree.{Tree, Null, Capability, Struct, Flat, Pointers, Structs, Trees, no_trees, tree, Elements, no_elements, element, count, element_count}
 use Rattle.capnp_format.specs.Means.{Means, MeansAll, MeansElements, Claims, IsTag}
 use Rattle.capnp_format.specs.Forest.{Interval, times, object_of, cover_all, cover_elements}
+use Rattle.capnp_pointers.specs.declared.wire_pointer.StructSize.{StructSize}
 use Rattle.capnp_making.specs.Path.{extent}
 
 -- So many words from a place on.
@@ -53,6 +54,23 @@ pub record AreApart (S : Segments) (s p : ℕ) (ts : Trees) : Type 0 where
 pub record AreApartElements (S : Segments) (s p d q : ℕ) (es : Elements) : Type 0 where
   pub mean : (n : ℕ) × (c : ℕ) × MeansElements S n s p d q es c
   pub apart : (v r : ℕ) → times (row s p (element_count es * (d + q)) ∷ cover_elements S s p d q es) v r ≤ 1
+
+-- From S to R a struct of this size from a place on becomes zero, with all below it, if its pointers mean values.
+abbrev pub IsStructZeroed : Segments → Segments → ℕ → ℕ → StructSize → Type 0
+IsStructZeroed S R s p size =
+    (ts : Trees) → count ts ≡ size.pointers → p + (size.data_words + size.pointers) ≤ length (segment S s) → AreApart S s (p + size.data_words) ts
+    → IsZeroed S R (row s p (size.data_words + size.pointers) ∷ cover_all S s (p + size.data_words) ts)
+
+-- So do pointers one behind the other.
+abbrev pub ArePointersZeroed : Segments → Segments → ℕ → ℕ → ℕ → Type 0
+ArePointersZeroed S R s p n =
+    (ts : Trees) → count ts ≡ n → p + n ≤ length (segment S s) → AreApart S s p ts → IsZeroed S R (row s p n ∷ cover_all S s p ts)
+
+-- So does a list of structs, from its tag on.
+abbrev pub IsStructListZeroed : Segments → Segments → ℕ → ℕ → Type 0
+IsStructListZeroed S R s p =
+    (d q : ℕ) (es : Elements) → IsTag (word_at S s p) (element_count es) d q → p + (1 + element_count es * (d + q)) ≤ length (segment S s)
+    → AreApartElements S s (p + 1) d q es → IsZeroed S R (row s p (1 + element_count es * (d + q)) ∷ cover_elements S s (p + 1) d q es)
 
 -- Where the target a leads, a value stands.
 abbrev pub IsObjectAt : Segments → ℕ → Target → Tree → Type 0
@@ -104,3 +122,19 @@ abbrev pub rest_elements : ℕ → Elements → Elements
 rest_elements zero es = es
 rest_elements (suc i) no_elements = no_elements
 rest_elements (suc i) (element ws ts es) = rest_elements i es
+
+-- So many elements of a size, one behind the other from a place on.
+pub record ElementRow : Type 0 where
+  pub segment : ℕ
+  pub start : ℕ
+  pub size : StructSize
+  pub count : ℕ
+
+abbrev pub element_row : ℕ → ℕ → StructSize → ℕ → ElementRow
+element_row s p size n = record { segment = s; start = p; size = size; count = n }
+
+-- From S to R the pointers of these elements become zero, with all below them, if they mean values.
+abbrev pub AreElementsZeroed : Segments → Segments → ElementRow → Type 0
+AreElementsZeroed S R row =
+    (es : Elements) → element_count es ≡ row.count → AreApartElements S row.segment row.start row.size.data_words row.size.pointers es
+    → IsZeroed S R (element_extents S row.segment row.start row.size.data_words row.size.pointers es)

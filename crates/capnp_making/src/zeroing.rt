@@ -2,12 +2,11 @@
 ghost use Rattle.std.specs.Prelude.{◌≡◌, ℕ, ◌<◌, ◌≤◌, ◌+◌, ◌*◌, ◌^◌, ◌∷◌, [], length};
 ghost use Rattle.capnp_arena.specs.View.{KeepsLimits};
 ghost use Rattle.capnp_format.specs.Segments.{segment, word_at, IsPlace};
-ghost use Rattle.capnp_format.specs.Tree.{Tree, Trees, Elements, count as number, element_count};
-ghost use Rattle.capnp_format.specs.Forest.{pads_of, cover_all, cover_elements};
+ghost use Rattle.capnp_format.specs.Tree.{Tree};
+ghost use Rattle.capnp_format.specs.Forest.{pads_of};
 ghost use Rattle.capnp_making.specs.Path.{extent};
 ghost use Rattle.capnp_making.specs.Landings.{target_of};
-ghost use Rattle.capnp_making.specs.Zeroed.{row, IsZeroed, IsPruned, PadsInside, IsApart, AreApart, AreApartElements, IsObjectApart, object_cover, element_extents};
-ghost use Rattle.capnp_format.specs.Means.{IsTag};
+ghost use Rattle.capnp_making.specs.Zeroed.{row, IsZeroed, IsPruned, PadsInside, IsApart, IsObjectApart, object_cover, IsStructZeroed, ArePointersZeroed, IsStructListZeroed, AreElementsZeroed, element_row};
 
 use crate::landing::{Landing, follow, length_of, word_of};
 use capnp_arena::arena::BuilderArena;
@@ -103,8 +102,7 @@ fn zero_landed<A: BuilderArena>(arena: &mut A, landing: Landing)
 /// Makes a struct zero, and all below it.
 #[cycle(zeroing)]
 fn zero_struct<A: BuilderArena>(arena: &mut A, id: u32, start: u32, size: StructSize)
-    ensures zeroed { (ts : Trees) → number ts ≡ size.pointers → start + (size.data_words + size.pointers) ≤ length (segment (A.view arena.old).words id) → AreApart (A.view arena.old).words id (start + size.data_words) ts →
-        IsZeroed (A.view arena.old).words (A.view arena.new).words (row id start (size.data_words + size.pointers) ∷ cover_all (A.view arena.old).words id (start + size.data_words) ts) }
+    ensures zeroed { IsStructZeroed (A.view arena.old).words (A.view arena.new).words id start size }
     ensures pruned { IsPruned (A.view arena.old).words (A.view arena.new).words }
     ensures limits { KeepsLimits (A.view arena.old) (A.view arena.new) }
 {
@@ -118,8 +116,7 @@ fn zero_struct<A: BuilderArena>(arena: &mut A, id: u32, start: u32, size: Struct
 /// Makes so many pointers one behind the other zero, and all below them.
 #[cycle(zeroing)]
 fn zero_pointers<A: BuilderArena>(arena: &mut A, id: u32, start: u32, count: u32)
-    ensures zeroed { (ts : Trees) → number ts ≡ count → start + count ≤ length (segment (A.view arena.old).words id) → AreApart (A.view arena.old).words id start ts →
-        IsZeroed (A.view arena.old).words (A.view arena.new).words (row id start count ∷ cover_all (A.view arena.old).words id start ts) }
+    ensures zeroed { ArePointersZeroed (A.view arena.old).words (A.view arena.new).words id start count }
     ensures pruned { IsPruned (A.view arena.old).words (A.view arena.new).words }
     ensures limits { KeepsLimits (A.view arena.old) (A.view arena.new) }
 {
@@ -133,8 +130,7 @@ fn zero_pointers<A: BuilderArena>(arena: &mut A, id: u32, start: u32, count: u32
 /// Makes a list of structs zero, its tag, and all below it.
 #[cycle(zeroing)]
 fn zero_structs<A: BuilderArena>(arena: &mut A, id: u32, start: u32)
-    ensures zeroed { (d q : ℕ) (es : Elements) → IsTag (word_at (A.view arena.old).words id start) (element_count es) d q → start + (1 + element_count es * (d + q)) ≤ length (segment (A.view arena.old).words id) → AreApartElements (A.view arena.old).words id (start + 1) d q es →
-        IsZeroed (A.view arena.old).words (A.view arena.new).words (row id start (1 + element_count es * (d + q)) ∷ cover_elements (A.view arena.old).words id (start + 1) d q es) }
+    ensures zeroed { IsStructListZeroed (A.view arena.old).words (A.view arena.new).words id start }
     ensures pruned { IsPruned (A.view arena.old).words (A.view arena.new).words }
     ensures limits { KeepsLimits (A.view arena.old) (A.view arena.new) }
 {
@@ -152,8 +148,7 @@ fn zero_structs<A: BuilderArena>(arena: &mut A, id: u32, start: u32)
 #[cycle(zeroing)]
 fn zero_elements<A: BuilderArena>(arena: &mut A, id: u32, start: u32, size: StructSize, count: u32)
     requires { start + count * (size.data_words + size.pointers) ≤ length (segment (A.view arena.old).words id) }
-    ensures zeroed { (es : Elements) → element_count es ≡ count → AreApartElements (A.view arena.old).words id start size.data_words size.pointers es →
-        IsZeroed (A.view arena.old).words (A.view arena.new).words (element_extents (A.view arena.old).words id start size.data_words size.pointers es) }
+    ensures zeroed { AreElementsZeroed (A.view arena.old).words (A.view arena.new).words (element_row id start size count) }
     ensures pruned { IsPruned (A.view arena.old).words (A.view arena.new).words }
     ensures limits { KeepsLimits (A.view arena.old) (A.view arena.new) }
 {
