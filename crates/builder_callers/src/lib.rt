@@ -6,13 +6,18 @@ ghost use Rattle.std.specs.Prelude.{◌≡◌, ◌<◌, IfOk, OnOk, OnErr};
 ghost use Rattle.capnp_builders.specs.Places.{IsStructOf};
 ghost use Rattle.capnp_making.specs.Stored.{Puts};
 ghost use Rattle.capnp_readers.specs.Readers.{IsStructPlace};
+ghost use Rattle.capnp_format.specs.Bytes.{message};
 ghost use Rattle.capnp_format.specs.Forest.{IsForest};
 ghost use Rattle.capnp_format.specs.Segments.{IsPlace};
 ghost use Rattle.capnp_format.specs.Tree.{Tree, Null, Struct};
 ghost use Rattle.capnp_making.specs.Made.{zeros, nulls, zero_struct};
 ghost use Rattle.capnp_making.specs.Path.{put_tree};
+ghost use Rattle.builder_callers.specs.Meaning.{MeansTheSame};
 
-use capnp_arena::arena::BuilderArena;
+use capnp_arena::arena::{
+    Allocator, BuilderArena, BuilderArenaImpl, OutputSegments, ReaderArena, ReaderArenaImpl,
+    ReaderOptions,
+};
 use capnp_builders::builders::PointerBuilder;
 use capnp_readers::readers::StructPlace;
 use capnp_words::error::ErrorKind;
@@ -76,4 +81,17 @@ fn field_struct<A: BuilderArena>(
         at: place.pointers_at,
     };
     field.put_struct(size)
+}
+
+/// A message that was built, as those have it who read what it gives to be written out: each place
+/// means there what it means in the message.
+pub fn read_back<'a, L: Allocator>(
+    built: &'a BuilderArenaImpl<L>,
+) -> Result<ReaderArenaImpl<OutputSegments<'a>>, ErrorKind>
+    ensures { IfOk result (λ r. MeansTheSame (⟦<BuilderArenaImpl<L> as BuilderArena>⟧.view built.now).words (message (⟦<ReaderArenaImpl<OutputSegments<'a>> as ReaderArena>⟧.segments r))) }
+{
+    match built.get_segments_for_output() {
+        Ok(output) => Ok(ReaderArenaImpl::new(output, ReaderOptions::default())),
+        Err(k) => Err(k),
+    }
 }

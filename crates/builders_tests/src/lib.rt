@@ -6,13 +6,19 @@
 #[cfg(test)]
 mod building;
 #[cfg(test)]
+mod bytes_found;
+#[cfg(test)]
 mod canonical;
+#[cfg(test)]
+mod contents;
 #[cfg(test)]
 mod copying;
 #[cfg(test)]
 mod elements;
 #[cfg(test)]
 mod limits;
+#[cfg(test)]
+mod list_copies;
 #[cfg(test)]
 mod lists_found;
 #[cfg(test)]
@@ -27,3 +33,5 @@ mod overwriting;
 mod plain;
 #[cfg(test)]
 mod pointers;
+#[cfg(test)]
+mod struct_copies;

@@ -44,6 +44,27 @@ fn the_root(rt: HostRuntime) {
     }
 }
 
+/// Words that were cleared aren't given out again: what is made then stands behind them.
+#[test]
+fn cleared_and_made_again(rt: HostRuntime) {
+    let mut arena = arena_of_root(&rt, rt.alloc(), HeapAllocator::new(rt.alloc(), 1024));
+    assert!(rt; make_text_in_struct(&rt, &mut arena) == Ok(()));
+    write_word(&rt, &mut arena, 0, 1, 7);
+    for (object, want) in [
+        (
+            Object::Null,
+            "0000000000000000 0000000000000000 0000000000000000 0000000000000000",
+        ),
+        (
+            Object::Data(&[1, 2]),
+            "0d00000012000000 0000000000000000 0000000000000000 0000000000000000 0102000000000000",
+        ),
+    ] {
+        assert!(rt; make(&rt, &mut arena, 0, 0, object) == Ok(()));
+        assert!(rt; has_words(&rt, rt.alloc(), &arena, want), "{want}");
+    }
+}
+
 /// What is made below the root stands there until it is overwritten or the root is cleared.
 #[test]
 fn below_the_root(rt: HostRuntime) {

@@ -1,5 +1,8 @@
+pub mod BytesAsFields
 pub mod ElementFields
 pub mod ElementPlaces
 pub mod FieldPlaces
+pub mod FoundBytes
 pub mod FoundLists
 pub mod PlainCopies
+pub mod ContentWritten

@@ -7,8 +7,9 @@ use Rattle.capnp_format.specs.Forest.{target}
 use Rattle.capnp_format.specs.Tree.{Tree}
 use Rattle.capnp_format.specs.Canonical.{trim, encoding}
 use Rattle.capnp_arena.specs.View.{View}
+use Rattle.capnp_making.specs.declared.existing.ExistingBytes.{ExistingBytes}
 use Rattle.capnp_making.specs.declared.existing.ExistingList.{ExistingList}
-use Rattle.capnp_making.specs.Existing.{list_in}
+use Rattle.capnp_making.specs.Existing.{list_in, data_in, text_in}
 use Rattle.capnp_making.specs.Stored.{IsStored, Puts}
 use Rattle.capnp_pointers.specs.declared.wire_pointer.ElementSize.{ElementSize}
 use Rattle.capnp_objects.specs.Reading.{Reading}
@@ -38,6 +39,13 @@ Stores b t = IsStored b.segments b.segment b.at t
 -- The list that the value t there is, where its elements are to be as wide as expected ones.
 abbrev pub listed_in : Building → ElementSize → Tree → Result (Option ExistingList) ErrorKind
 listed_in b expected t = list_in (target b.segments b.segment b.at) expected t
+
+-- The bytes of the data, or of the text, that the value t there is.
+abbrev pub data_at : Building → Tree → Result (Option ExistingBytes) ErrorKind
+data_at b t = data_in (target b.segments b.segment b.at) t
+
+abbrev pub text_at : Building → Tree → Result (Option ExistingBytes) ErrorKind
+text_at b t = text_in (target b.segments b.segment b.at) t
 
 -- Whatever value the place had, it has t in its stead.
 abbrev pub Becomes : Building → Building → Tree → Type 0

@@ -1,8 +1,9 @@
--- What a builder call gives that looks for a list ("Lists").
+-- What a builder call gives that looks for a list, a text or data ("Lists").
 use Rattle.std.specs.Prelude.{◌≡◌, ℕ, ◌*◌, List, [], ◌∷◌, cond, nat_eq, Result, Ok, Err, IsOkAnd}
 use Rattle.capnp_pointers.specs.declared.wire_pointer.ElementSize.TheVariants.{Void}
 use Rattle.capnp_words.specs.declared.error.ErrorKind.{ErrorKind}
-use Rattle.capnp_words.specs.declared.error.ErrorKind.TheVariants.{MessageContainsOutOfBoundsPointer, UnknownPointerType}
+use Rattle.capnp_words.specs.declared.error.ErrorKind.TheVariants.{ExistingPointerIsNotAList, MessageContainsOutOfBoundsPointer, UnknownPointerType}
+use Rattle.capnp_making.specs.declared.existing.ExistingBytes.{ExistingBytes}
 use Rattle.capnp_making.specs.declared.existing.ExistingList.{ExistingList}
 use Rattle.capnp_readers.specs.declared.readers.list_reader.ListPlace.{ListPlace}
 
@@ -24,3 +25,12 @@ in_place_of_null id (x ∷ xs) = cond (nat_eq x 0) (Ok (void_list id)) (Err Unkn
 abbrev pub GivesInstead : {B : Type 0} → (B → ListPlace) → Result ListPlace ErrorKind → Result B ErrorKind → Type 0
 GivesInstead place_in (Ok l) r = IsOkAnd r (λ b. place_in b ≡ l)
 GivesInstead place_in (Err k) r = r ≡ Err k
+
+-- No bytes, in segment id.
+abbrev pub no_bytes : ℕ → ExistingBytes
+no_bytes id = record { segment = id; start = 0; length = 0 }
+
+-- Why a default, by its words, gives no bytes: it has no first word, its first word is null, or it isn't copied yet.
+abbrev pub refusal_of_default : List ℕ → ErrorKind
+refusal_of_default [] = MessageContainsOutOfBoundsPointer
+refusal_of_default (x ∷ xs) = cond (nat_eq x 0) ExistingPointerIsNotAList UnknownPointerType

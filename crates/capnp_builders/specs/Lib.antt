@@ -4,3 +4,4 @@ pub mod Found
 pub mod Lent
 pub mod Places
 pub mod Reads
+pub mod Content

@@ -1,39 +1,47 @@
 //! Builders: places of a message that is built, each with the message borrowed for writing.
-ghost use Rattle.std.specs.Prelude.{◌≡◌, ◌≢◌, ℕ, List, ◌⊎◌, ◌↔◌, ◌∷◌, ◌++◌, [], ◌+◌, ◌*◌, ◌^◌, ◌<◌, ◌≤◌, IsTrue, false, true, length, pos, Option, Some, IsNone, IfSome, Ok, Err, IsOk, IsOkAnd, IfOk, IfErr, OnOk, OnErr};
+ghost use Rattle.std.specs.Prelude.{◌≡◌, ◌≢◌, ℕ, List, ◌⊎◌, ◌↔◌, ◌∷◌, ◌++◌, [], ◌+◌, ◌-◌, ◌*◌, ◌^◌, ◌<◌, ◌≤◌, IsTrue, false, true, length, pos, Option, Some, IsNone, IfSome, Ok, Err, IsOk, IsOkAnd, IfOk, IfErr, OnOk, OnErr};
 ghost use Rattle.capnp_format.specs.Bytes.{message, words_of};
 ghost use Rattle.capnp_format.specs.Canonical.{trim, encoding};
 ghost use Rattle.capnp_format.specs.Segments.{segment, word_at, IsPlace};
-ghost use Rattle.capnp_format.specs.Tree.{Tree, Null, Capability, Flat};
+ghost use Rattle.capnp_format.specs.Tree.{Tree, Null, Capability, Struct, Flat, Trees, count};
 ghost use Rattle.capnp_format.specs.Numbers.{words_for};
+ghost use Rattle.capnp_making.specs.declared.existing.ExistingBytes.{ExistingBytes};
 ghost use Rattle.capnp_making.specs.declared.existing.ExistingList.{ExistingList};
-ghost use Rattle.capnp_making.specs.Existing.{AreInside, capability_of};
+ghost use Rattle.capnp_making.specs.Existing.{AreInside, LieIn, capability_of};
 ghost use Rattle.capnp_making.specs.InPlace.{bytes_of, rewritten, AreBytes, AreZeroOnce, FillsZeros};
 ghost use Rattle.capnp_readers.specs.Readers.{IsListPlace};
-ghost use Rattle.capnp_builders.specs.Found.{place_of, void_list, in_place_of_null, GivesInstead};
+ghost use Rattle.capnp_builders.specs.Found.{place_of, void_list, in_place_of_null, GivesInstead, no_bytes, refusal_of_default};
 ghost use Rattle.capnp_words.specs.declared.error.ErrorKind.{ErrorKind};
 ghost use Rattle.capnp_pointers.specs.Sizes.{size_number};
 ghost use Rattle.capnp_making.specs.Made.{zero_struct, zero_structs, zero_list, list_words};
-ghost use Rattle.capnp_making.specs.Memory.{HasRoom, KeepsMemory, SpendsMemory, IsRefusedFor, RefusesGrowth, CanRefuse};
+ghost use Rattle.capnp_making.specs.Memory.{HasRoom, KeepsMemory, TakesWords, SpendsMemory, IsRefusedFor, RefusesGrowth, CanRefuse};
+ghost use Rattle.capnp_making.specs.Zeroed.{IsPruned};
 ghost use Rattle.capnp_builders.specs.Places.{IsAligned, IsStructOf, IsListOf, IsStructListOf};
-ghost use Rattle.capnp_words.specs.declared.error.ErrorKind.TheVariants.{UnknownPointerType};
+ghost use Rattle.capnp_words.specs.declared.error.ErrorKind.TheVariants.{MessageTooLarge, UnknownPointerType};
 ghost use Rattle.capnp_builders.specs.Reads.{IsArenaOf};
-ghost use Rattle.capnp_objects.specs.Outcomes.{Reads};
-ghost use Rattle.capnp_objects.specs.Refusals.{BreaksOff, Refused};
+ghost use Rattle.capnp_objects.specs.Outcomes.{Reads, ReadsAll};
+ghost use Rattle.capnp_objects.specs.Refusals.{BreaksOff, BreaksOffAmong, Refused, RefusedAll};
 ghost use Rattle.capnp_objects.specs.Wanted.{canonical, plain};
-ghost use Rattle.capnp_copies.specs.Changes.{form_of};
+ghost use Rattle.capnp_copies.specs.Changes.{form_of, kept};
+ghost use Rattle.capnp_copies.specs.ListValues.{ReadsList, RefusedList, BreaksOffList, IsTooLong, elements_read};
+ghost use Rattle.capnp_copies.specs.StructValues.{IsTooWide, kept_count, data_of};
+ghost use Rattle.capnp_readers.specs.Sizes.{pointers_read};
 ghost use Rattle.capnp_readers.specs.Readers.{reading};
 
+mod content;
+mod found;
 mod list_builder;
 mod primitive_element;
 mod struct_builder;
 
+use self::found::{found_bytes, list_of_null};
 use capnp_arena::arena::{BuilderArena, ReaderArena};
 use capnp_copies::{anywhere, copy};
 use capnp_making::existing::ExistingBytes;
 use capnp_making::{bytes, existing, lent, making};
 use capnp_objects::object::Place;
 use capnp_objects::source::Source;
-use capnp_readers::readers::{ListPlace, PointerReader, StructPlace};
+use capnp_readers::readers::{ListPlace, ListReader, PointerReader, StructPlace, StructReader};
 use capnp_words::error::ErrorKind;
 use capnp_words::read_limiter::ReadLimiter;
 use capnp_words::wire_pointer::{ElementSize, StructSize};
@@ -62,7 +70,7 @@ pub struct PointerBuilder<'a, A> {
 impl<'a, A: BuilderArena> PointerBuilder<'a, A> {
     ghost use Rattle.std.specs.Borrow.{sem, follows, Array, u8 as byte};
     ghost use Rattle.capnp_arena.specs.View.{KeepsLimits};
-    ghost use Rattle.capnp_builders.specs.Building.{Becomes, HoldsCopy, Stores, listed_in, Fits, GainsCopy, IsCopy, HasOnlyNull, IsNull, IsThere, LacksWords, StaysClear, built, built_at};
+    ghost use Rattle.capnp_builders.specs.Building.{Becomes, HoldsCopy, Stores, listed_in, data_at, text_at, Fits, GainsCopy, IsCopy, HasOnlyNull, IsNull, IsThere, LacksWords, StaysClear, built, built_at};
     ghost use Rattle.capnp_builders.specs.Lent.{with_arena};
     ghost use Rattle.capnp_builders.specs.contracts.builders.PointerBuilder.{the_row};
     ghost use mir.Syntax.{named};
@@ -155,8 +163,10 @@ impl<'a, A: BuilderArena> PointerBuilder<'a, A> {
         ensures leads { IfOk result (IsStructOf (A.view self.new.arena.now).words self.old.segment self.old.at size) }
         ensures fits { HasRoom (A.view self.old.arena.now) self.old.segment (size.data_words + size.pointers) → IsOk result }
         ensures granted { OnOk result (KeepsMemory (A.view self.old.arena.now) (A.view self.new.arena.now)) }
+        ensures taken { OnOk result (TakesWords (A.view self.old.arena.now) (A.view self.new.arena.now) self.old.segment (size.data_words + size.pointers)) }
         ensures named { IfErr result (IsRefusedFor (A.view self.old.arena.now) (A.view self.new.arena.now) (size.data_words + size.pointers)) }
         ensures refused { OnErr result (Becomes (built A.view self.old) (built A.view self.new) Null) }
+        ensures only { OnErr result (IsPruned (A.view self.old.arena.now).words (A.view self.new.arena.now).words) }
         ensures same { self.new.arena.ghost_name ≡ self.old.arena.ghost_name }
         ensures builder { (self.new.segment ≡ self.old.segment) × (self.new.at ≡ self.old.at) }
     {
@@ -198,6 +208,7 @@ impl<'a, A: BuilderArena> PointerBuilder<'a, A> {
         ensures leads { IfOk result (λ b. IsStructOf (A.view b.arena.now).words self.entry.segment self.entry.at size b.place) }
         ensures fits { HasRoom (A.view self.entry.arena.now) self.entry.segment (size.data_words + size.pointers) → IsOk result }
         ensures granted { IfOk result (λ b. KeepsMemory (A.view self.entry.arena.now) (A.view b.arena.now)) }
+        ensures taken { IfOk result (λ b. TakesWords (A.view self.entry.arena.now) (A.view b.arena.now) self.entry.segment (size.data_words + size.pointers)) }
         ensures named { IfErr result (CanRefuse (A.view self.entry.arena.now) (size.data_words + size.pointers)) }
     {
         match self.put_struct(size) {
@@ -220,8 +231,10 @@ impl<'a, A: BuilderArena> PointerBuilder<'a, A> {
         ensures leads { IfOk result (IsListOf (A.view self.new.arena.now).words self.old.segment self.old.at size count) }
         ensures fits { HasRoom (A.view self.old.arena.now) self.old.segment (list_words (size_number size) count) → IsOk result }
         ensures granted { OnOk result (KeepsMemory (A.view self.old.arena.now) (A.view self.new.arena.now)) }
+        ensures taken { OnOk result (TakesWords (A.view self.old.arena.now) (A.view self.new.arena.now) self.old.segment (list_words (size_number size) count)) }
         ensures named { IfErr result (IsRefusedFor (A.view self.old.arena.now) (A.view self.new.arena.now) (list_words (size_number size) count)) }
         ensures refused { OnErr result (Becomes (built A.view self.old) (built A.view self.new) Null) }
+        ensures only { OnErr result (IsPruned (A.view self.old.arena.now).words (A.view self.new.arena.now).words) }
         ensures same { self.new.arena.ghost_name ≡ self.old.arena.ghost_name }
         ensures builder { (self.new.segment ≡ self.old.segment) × (self.new.at ≡ self.old.at) }
     {
@@ -268,6 +281,7 @@ impl<'a, A: BuilderArena> PointerBuilder<'a, A> {
         ensures leads { IfOk result (λ b. IsListOf (A.view b.arena.now).words self.entry.segment self.entry.at size count b.place) }
         ensures fits { HasRoom (A.view self.entry.arena.now) self.entry.segment (list_words (size_number size) count) → IsOk result }
         ensures granted { IfOk result (λ b. KeepsMemory (A.view self.entry.arena.now) (A.view b.arena.now)) }
+        ensures taken { IfOk result (λ b. TakesWords (A.view self.entry.arena.now) (A.view b.arena.now) self.entry.segment (list_words (size_number size) count)) }
         ensures named { IfErr result (CanRefuse (A.view self.entry.arena.now) (list_words (size_number size) count)) }
     {
         match self.put_list(size, count) {
@@ -289,8 +303,10 @@ impl<'a, A: BuilderArena> PointerBuilder<'a, A> {
         ensures leads { IfOk result (IsStructListOf (A.view self.new.arena.now).words self.old.segment self.old.at count size) }
         ensures fits { HasRoom (A.view self.old.arena.now) self.old.segment (1 + count * (size.data_words + size.pointers)) → IsOk result }
         ensures granted { OnOk result (KeepsMemory (A.view self.old.arena.now) (A.view self.new.arena.now)) }
+        ensures taken { OnOk result (TakesWords (A.view self.old.arena.now) (A.view self.new.arena.now) self.old.segment (1 + count * (size.data_words + size.pointers))) }
         ensures named { IfErr result (IsRefusedFor (A.view self.old.arena.now) (A.view self.new.arena.now) (1 + count * (size.data_words + size.pointers))) }
         ensures refused { OnErr result (Becomes (built A.view self.old) (built A.view self.new) Null) }
+        ensures only { OnErr result (IsPruned (A.view self.old.arena.now).words (A.view self.new.arena.now).words) }
         ensures same { self.new.arena.ghost_name ≡ self.old.arena.ghost_name }
         ensures builder { (self.new.segment ≡ self.old.segment) × (self.new.at ≡ self.old.at) }
     {
@@ -323,6 +339,7 @@ impl<'a, A: BuilderArena> PointerBuilder<'a, A> {
         ensures leads { IfOk result (λ b. IsStructListOf (A.view b.arena.now).words self.entry.segment self.entry.at count size b.place) }
         ensures fits { HasRoom (A.view self.entry.arena.now) self.entry.segment (1 + count * (size.data_words + size.pointers)) → IsOk result }
         ensures granted { IfOk result (λ b. KeepsMemory (A.view self.entry.arena.now) (A.view b.arena.now)) }
+        ensures taken { IfOk result (λ b. TakesWords (A.view self.entry.arena.now) (A.view b.arena.now) self.entry.segment (1 + count * (size.data_words + size.pointers))) }
         ensures named { IfErr result (CanRefuse (A.view self.entry.arena.now) (1 + count * (size.data_words + size.pointers))) }
     {
         match self.put_struct_list(count, size) {
@@ -392,8 +409,10 @@ impl<'a, A: BuilderArena> PointerBuilder<'a, A> {
         ensures made { OnOk result (Becomes (built A.view self.old) (built A.view self.new) (Flat 2 bytes.now)) }
         ensures fits { HasRoom (A.view self.old.arena.now) self.old.segment (words_for 2 (length bytes.now)) → IsOk result }
         ensures granted { OnOk result (KeepsMemory (A.view self.old.arena.now) (A.view self.new.arena.now)) }
+        ensures taken { OnOk result (TakesWords (A.view self.old.arena.now) (A.view self.new.arena.now) self.old.segment (words_for 2 (length bytes.now))) }
         ensures named { IfErr result (IsRefusedFor (A.view self.old.arena.now) (A.view self.new.arena.now) (words_for 2 (length bytes.now))) }
         ensures refused { OnErr result (Becomes (built A.view self.old) (built A.view self.new) Null) }
+        ensures only { OnErr result (IsPruned (A.view self.old.arena.now).words (A.view self.new.arena.now).words) }
         ensures same { self.new.arena.ghost_name ≡ self.old.arena.ghost_name }
         ensures builder { (self.new.segment ≡ self.old.segment) × (self.new.at ≡ self.old.at) }
     {
@@ -411,8 +430,10 @@ impl<'a, A: BuilderArena> PointerBuilder<'a, A> {
         ensures made { OnOk result (Becomes (built A.view self.old) (built A.view self.new) (Flat 2 (bytes.now ++ 0 ∷ []))) }
         ensures fits { HasRoom (A.view self.old.arena.now) self.old.segment (words_for 2 (length bytes.now + 1)) → IsOk result }
         ensures granted { OnOk result (KeepsMemory (A.view self.old.arena.now) (A.view self.new.arena.now)) }
+        ensures taken { OnOk result (TakesWords (A.view self.old.arena.now) (A.view self.new.arena.now) self.old.segment (words_for 2 (length bytes.now + 1))) }
         ensures named { IfErr result (IsRefusedFor (A.view self.old.arena.now) (A.view self.new.arena.now) (words_for 2 (length bytes.now + 1))) }
         ensures refused { OnErr result (Becomes (built A.view self.old) (built A.view self.new) Null) }
+        ensures only { OnErr result (IsPruned (A.view self.old.arena.now).words (A.view self.new.arena.now).words) }
         ensures same { self.new.arena.ghost_name ≡ self.old.arena.ghost_name }
         ensures builder { (self.new.segment ≡ self.old.segment) × (self.new.at ≡ self.old.at) }
     {
@@ -490,6 +511,90 @@ impl<'a, A: BuilderArena> PointerBuilder<'a, A> {
         }
     }
 
+    /// Where the data is that the pointer leads to, as `get_data` looks for it; nothing is changed.
+    pub fn find_data(&self, default: Option<&[u8]>) -> Result<ExistingBytes, ErrorKind>
+        requires { IsThere (built A.view self.now) }
+        ensures found { (t : Tree) (b : ExistingBytes) → Stores (built A.view self.now) t → data_at (built A.view self.now) t ≡ Ok (Some b) → result ≡ Ok b }
+        ensures refused { (t : Tree) (k : ErrorKind) → Stores (built A.view self.now) t → data_at (built A.view self.now) t ≡ Err k → result ≡ Err k }
+        ensures null { Stores (built A.view self.now) Null → IsNone default.entry → result ≡ Ok (no_bytes self.now.segment) }
+        ensures of_default { Stores (built A.view self.now) Null → IfSome default.entry (λ d. result ≡ Err (refusal_of_default (words_of d.now))) }
+        ensures inside { IfOk result (LieIn (A.view self.now.arena.now).words) }
+    {
+        match existing::get_data(&*self.arena, self.segment, self.at) {
+            Ok(found) => found_bytes(&*self.arena, self.segment, found, default),
+            Err(k) => Err(k),
+        }
+    }
+
+    /// The data that the pointer leads to, lent to be written in place ("Lists"). A null pointer gives no
+    /// bytes, unless there is a default.
+    ///
+    /// What isn't a list is `ExistingPointerIsNotAList`, and so is a default whose first word is null; a
+    /// list of other elements than bytes is `ExistingListPointerIsNotByteSized`. For now no default is
+    /// copied: any other is `UnknownPointerType`, and one without a whole word
+    /// `MessageContainsOutOfBoundsPointer`. What the message is once the bytes are written is said by
+    /// `find_data` and `bytes_mut`, which do the same in two steps.
+    pub fn get_data(self, default: Option<&[u8]>) -> Result<&'a mut [u8], ErrorKind>
+        requires { IsThere (built A.view self) }
+        ensures found { (t : Tree) (b : ExistingBytes) → Stores (built A.view self.entry) t → data_at (built A.view self.entry) t ≡ Ok (Some b) → IsOkAnd result (λ s. s.now ≡ bytes_of (A.segments self.entry.arena.now) b) }
+        ensures refused { (t : Tree) (k : ErrorKind) → Stores (built A.view self.entry) t → data_at (built A.view self.entry) t ≡ Err k → result ≡ Err k }
+        ensures null { Stores (built A.view self.entry) Null → IsNone default.entry → IsOkAnd result (λ s. s.now ≡ []) }
+        ensures of_default { Stores (built A.view self.entry) Null → IfSome default.entry (λ d. result ≡ Err (refusal_of_default (words_of d.now))) }
+    {
+        match self.find_data(default) {
+            Ok(bytes) => {
+                let PointerBuilder {
+                    arena,
+                    segment: _,
+                    at: _,
+                } = self;
+                Ok(lent::bytes_mut(arena, bytes))
+            }
+            Err(k) => Err(k),
+        }
+    }
+
+    /// Where the text is that the pointer leads to, as `get_text` looks for it; nothing is changed.
+    pub fn find_text(&self, default: Option<&[u8]>) -> Result<ExistingBytes, ErrorKind>
+        requires { IsThere (built A.view self.now) }
+        ensures found { (t : Tree) (b : ExistingBytes) → Stores (built A.view self.now) t → text_at (built A.view self.now) t ≡ Ok (Some b) → result ≡ Ok b }
+        ensures refused { (t : Tree) (k : ErrorKind) → Stores (built A.view self.now) t → text_at (built A.view self.now) t ≡ Err k → result ≡ Err k }
+        ensures null { Stores (built A.view self.now) Null → IsNone default.entry → result ≡ Ok (no_bytes self.now.segment) }
+        ensures of_default { Stores (built A.view self.now) Null → IfSome default.entry (λ d. result ≡ Err (refusal_of_default (words_of d.now))) }
+        ensures inside { IfOk result (LieIn (A.view self.now.arena.now).words) }
+    {
+        match existing::get_text(&*self.arena, self.segment, self.at) {
+            Ok(found) => found_bytes(&*self.arena, self.segment, found, default),
+            Err(k) => Err(k),
+        }
+    }
+
+    /// The text that the pointer leads to, without the zero byte behind it, lent to be written in place
+    /// ("Lists"). A null pointer gives no bytes, unless there is a default.
+    ///
+    /// What isn't data is refused as by `get_data`; bytes that don't end in a zero byte are
+    /// `TextBlobMissingNULTerminator`. What the message is once the bytes are written is said by
+    /// `find_text` and `bytes_mut`, which do the same in two steps.
+    pub fn get_text(self, default: Option<&[u8]>) -> Result<&'a mut [u8], ErrorKind>
+        requires { IsThere (built A.view self) }
+        ensures found { (t : Tree) (b : ExistingBytes) → Stores (built A.view self.entry) t → text_at (built A.view self.entry) t ≡ Ok (Some b) → IsOkAnd result (λ s. s.now ≡ bytes_of (A.segments self.entry.arena.now) b) }
+        ensures refused { (t : Tree) (k : ErrorKind) → Stores (built A.view self.entry) t → text_at (built A.view self.entry) t ≡ Err k → result ≡ Err k }
+        ensures null { Stores (built A.view self.entry) Null → IsNone default.entry → IsOkAnd result (λ s. s.now ≡ []) }
+        ensures of_default { Stores (built A.view self.entry) Null → IfSome default.entry (λ d. result ≡ Err (refusal_of_default (words_of d.now))) }
+    {
+        match self.find_text(default) {
+            Ok(bytes) => {
+                let PointerBuilder {
+                    arena,
+                    segment: _,
+                    at: _,
+                } = self;
+                Ok(lent::bytes_mut(arena, bytes))
+            }
+            Err(k) => Err(k),
+        }
+    }
+
     /// Makes the pointer what another one means: a copy of the whole value, as it stands, or in canonical
     /// form ("Canonicalization"). The source is charged as reading all of it costs.
     ///
@@ -545,29 +650,93 @@ impl<'a, A: BuilderArena> PointerBuilder<'a, A> {
         making::clear(&mut *self.arena, self.segment, at);
         anywhere::copy_value(&mut *self.arena, self.segment, at, from, lim, false)
     }
-}
 
-/// What stands for a null pointer of a segment where a list is looked for.
-fn list_of_null(segment: u32, default: Option<&[u8]>) -> Result<ListPlace, ErrorKind>
-    ensures none { IsNone default.entry → result ≡ Ok (void_list segment) }
-    ensures some { IfSome default.entry (λ d. result ≡ in_place_of_null segment (words_of d.now)) }
-    ensures void { IfOk result (λ l. l ≡ void_list segment) }
-{
-    if let Some(bytes) = default {
-        if bytes.len() < 8 {
-            return Err(ErrorKind::MessageContainsOutOfBoundsPointer);
-        }
-        if words::word_at(bytes, 0) != 0 {
-            return Err(ErrorKind::UnknownPointerType);
-        }
+    /// Makes the pointer a copy of a struct that is read: as it stands, its data section padded with zeros
+    /// to whole words, or in canonical form ("Structs", "Canonicalization"). The struct's own words cost
+    /// nothing; what its pointers mean is charged as reading it costs, within the reader's nesting limit.
+    ///
+    /// What the pointer held before becomes zero first. A refusal is the first one of reading what the
+    /// pointers mean, `AllocationFailed` or `MessageTooLarge` of an object's words and one more,
+    /// `CannotCreateACanonicalMessageWithACapability` in canonical form, or `MessageTooLarge` with the
+    /// number of the data words to be kept where it is above 65535.
+    ///
+    /// After a refusal the pointer is null, the words that were taken are zero and stay allocated, and
+    /// what was charged stays charged.
+    pub fn set_struct<B: ReaderArena>(
+        &mut self,
+        value: &StructReader<'_, B>,
+        lim: &mut ReadLimiter,
+        canonicalize: bool,
+    ) -> Result<(), ErrorKind>
+        requires place { IsThere (built A.view self.old) }
+        ensures copied { IfOk result (λ _. (ts : Trees) × (count ts ≡ value.now.pointer_count)
+            × ReadsAll (form_of canonicalize) (pointers_read B.ReaderArena value.now) lim.old lim.new ts
+            × Becomes (built A.view self.old) (built A.view self.new) (kept canonicalize (Struct (data_of B.ReaderArena value.now) ts))) }
+        ensures refused { IfErr result (λ k. RefusesGrowth (A.view self.old.arena.now) (A.view self.new.arena.now) k
+            ⊎ RefusedAll (form_of canonicalize) (pointers_read B.ReaderArena value.now) value.now.pointer_count lim.old lim.new k
+            ⊎ IsTooWide (kept_count canonicalize (data_of B.ReaderArena value.now)) k) }
+        ensures spent { OnErr result ((lim.new ≡ lim.old) ⊎ BreaksOffAmong (form_of canonicalize) (pointers_read B.ReaderArena value.now) value.now.pointer_count lim.old lim.new) }
+        ensures cleared { OnErr result (Becomes (built A.view self.old) (built A.view self.new) Null) }
+        ensures granted { OnOk result (KeepsMemory (A.view self.old.arena.now) (A.view self.new.arena.now)) }
+        ensures memory { OnErr result (SpendsMemory (A.view self.old.arena.now) (A.view self.new.arena.now)) }
+        ensures same { self.new.arena.ghost_name ≡ self.old.arena.ghost_name }
+        ensures builder { (self.new.segment ≡ self.old.segment) × (self.new.at ≡ self.old.at) }
+    {
+        let at = self.at;
+        making::clear(&mut *self.arena, self.segment, at);
+        anywhere::copy_struct_value(
+            &mut *self.arena,
+            self.segment,
+            at,
+            *value,
+            lim,
+            canonicalize,
+        )
     }
-    Ok(ListPlace {
-        segment,
-        byte: 0,
-        size: ElementSize::Void,
-        struct_size: NO_SECTIONS,
-        count: 0,
-    })
+
+    /// Makes the pointer a copy of a list that is read, as it stands or in canonical form ("Lists",
+    /// "Canonicalization"): pointers are copied as pointers, structs as structs, and numbers as their
+    /// words, with padding of zero. The list's own words and its count cost nothing; what its elements
+    /// lead to is charged as reading it costs, within the reader's nesting limit.
+    ///
+    /// What the pointer held before becomes zero first. A refusal is the first one of reading what the
+    /// elements lead to, `AllocationFailed` or `MessageTooLarge` of an object's words and one more,
+    /// `CannotCreateACanonicalMessageWithACapability` in canonical form, or `MessageTooLarge(usize::MAX)`
+    /// for a list of more elements or words than a list pointer can say, which no message holds.
+    ///
+    /// After a refusal the pointer is null, the words that were taken are zero and stay allocated, and
+    /// what was charged stays charged.
+    pub fn set_list<B: ReaderArena>(
+        &mut self,
+        value: &ListReader<'_, B>,
+        lim: &mut ReadLimiter,
+        canonicalize: bool,
+    ) -> Result<(), ErrorKind>
+        requires place { IsThere (built A.view self.old) }
+        ensures copied { IfOk result (λ _. (t : Tree) × ReadsList (form_of canonicalize) (elements_read B.ReaderArena value.now) lim.old lim.new t
+            × Becomes (built A.view self.old) (built A.view self.new) (kept canonicalize t)) }
+        ensures refused { IfErr result (λ k. RefusesGrowth (A.view self.old.arena.now) (A.view self.new.arena.now) k
+            ⊎ RefusedList (form_of canonicalize) (elements_read B.ReaderArena value.now) lim.old lim.new k
+            ⊎ (IsTooLong (elements_read B.ReaderArena value.now) × (k ≡ MessageTooLarge (2 ^ 64 - 1)))) }
+        ensures spent { OnErr result ((lim.new ≡ lim.old) ⊎ BreaksOffList (form_of canonicalize) (elements_read B.ReaderArena value.now) lim.old lim.new) }
+        ensures long { IsTooLong (elements_read B.ReaderArena value.now) → (result ≡ Err (MessageTooLarge (2 ^ 64 - 1))) × (lim.new ≡ lim.old) }
+        ensures cleared { OnErr result (Becomes (built A.view self.old) (built A.view self.new) Null) }
+        ensures granted { OnOk result (KeepsMemory (A.view self.old.arena.now) (A.view self.new.arena.now)) }
+        ensures memory { OnErr result (SpendsMemory (A.view self.old.arena.now) (A.view self.new.arena.now)) }
+        ensures same { self.new.arena.ghost_name ≡ self.old.arena.ghost_name }
+        ensures builder { (self.new.segment ≡ self.old.segment) × (self.new.at ≡ self.old.at) }
+    {
+        let at = self.at;
+        making::clear(&mut *self.arena, self.segment, at);
+        anywhere::copy_list(
+            &mut *self.arena,
+            self.segment,
+            at,
+            *value,
+            lim,
+            canonicalize,
+        )
+    }
 }
 
 /// The words of a segment, none where there is no such segment.

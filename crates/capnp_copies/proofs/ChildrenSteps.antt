@@ -16,6 +16,7 @@ use Rattle.capnp_objects.specs.Reading.{Reading, behind}
 use Rattle.capnp_objects.specs.Wanted.{canonical}
 use Rattle.capnp_objects.proofs.Copies.{read_none, read_more}
 use Rattle.capnp_copies.specs.Copied.{copied, with_children}
+use Rattle.capnp_copies.specs.Copies.{AreCopied}
 use Rattle.capnp_copies.specs.Parts.{Call, call_of, CopiesValue, StopsAtValue, CopiesChildren, StopsAtChildren}
 use Rattle.capnp_copies.specs.Rooms.{IsSameBelow, IsTooLarge}
 use Rattle.capnp_copies.proofs.ChildrenCopied.{trim_each-with_last, no_children, length_children, child_added, word_ahead}
@@ -36,32 +37,39 @@ shaped : {r : Reading} {i at : ℕ} {c : Call} (first : CopiesChildren r i c at)
 shaped {r} first = trim_each-shaped first.children (all_shaped r first.children first.are_read.cost first.are_read.means)
 
 -- the words of the segment, once the first children are copied
-now : {r : Reading} {old mid : View} {id i at : ℕ} {m m' : Meter} → IsPlace old.words id (at + i) → (first : CopiesChildren r i (call_of old mid id m m') at) → segment mid.words id ≡ with_children (segment old.words id) at (trim_each first.children)
+pub now : {r : Reading} {old mid : View} {id i at : ℕ} {m m' : Meter} → IsPlace old.words id (at + i) → (first : CopiesChildren r i (call_of old mid id m m') at) → segment mid.words id ≡ with_children (segment old.words id) at (trim_each first.children)
 now {r} {old} {mid} {id} {i} {at} place first = words_written old.words mid.words id (with_children (segment old.words id) at (trim_each first.children)) (there old.words id (at + i) place) first.made
 
-now_long : {r : Reading} {old mid : View} {id i at : ℕ} {m m' : Meter} → at + i ≤ length (segment old.words id) → (first : CopiesChildren r i (call_of old mid id m m') at) →
+pub now_long : {r : Reading} {old mid : View} {id i at : ℕ} {m m' : Meter} → at + i ≤ length (segment old.words id) → (first : CopiesChildren r i (call_of old mid id m m') at) →
     length (with_children (segment old.words id) at (trim_each first.children)) ≡ length (segment old.words id) + word_count_all (trim_each first.children)
 now_long {old = old} {id = id} {at = at} le first = length_children (segment old.words id) at (trim_each first.children) (shaped first) (omega (arith, first.counts, trim_each-count first.children))
 
-pub child_copied : {r : Reading} {old mid new : View} {id i at : ℕ} {m m' m'' : Meter} → IsPlace old.words id (at + i) → length (segment mid.words id) < 2 ^ 29 → CopiesChildren r i (call_of old mid id m m') at → CopiesValue (behind r i) (call_of mid new id m' m'') (at + i) → CopiesChildren r (i + 1) (call_of old new id m m'') at
-child_copied {r} {old} {mid} {new} {id} {i} {at} {m} {m'} {m''} place few first next =
+-- the next child, once it is copied
+pub child_put : {r : Reading} {old mid new : View} {id i at : ℕ} {m m' m'' : Meter} → IsPlace old.words id (at + i) → length (segment mid.words id) < 2 ^ 29 → (first : CopiesChildren r i (call_of old mid id m m') at) → (next : CopiesValue (behind r i) (call_of mid new id m' m'') (at + i)) →
+    AreCopied old.words new.words id at (with_last first.children next.value)
+child_put {r} {old} {mid} {new} {id} {i} {at} {m} {m'} {m''} place few first next =
     let W : List ℕ = segment old.words id in
     let ts : Trees = first.children in
     let u : Tree = next.value in
     let X : List ℕ = with_children W at (trim_each ts) in
     let long : count ts ≡ i = first.counts in
-    let here : Reads canonical (behind r (count ts)) m' m'' u = rw long next.is_read in
     let put : new.words ≡ with_segment mid.words id (copied (segment mid.words id) (at + count ts) (trim u)) = rw long next.made in
     let n : at + count (trim_each ts) ≡ at + count ts = ap (λ j. at + j) (trim_each-count ts) in
     let fits : length X < 2 ^ 29 = omega (arith, ap length (now place first)) in
+    then_written old.words id X (λ xs. copied xs (at + count ts) (trim u)) (there old.words id (at + i) place, first.made) put
+    ∙ ap (with_segment old.words id)
+    (ap (λ j. copied X j (trim u)) (sym n) ∙ child_added W at (trim_each ts) (trim u) (shaped first) (omega arith, fits) ∙ ap (with_children W at) (sym (trim_each-with_last ts u)))
+
+pub child_copied : {r : Reading} {old mid new : View} {id i at : ℕ} {m m' m'' : Meter} → IsPlace old.words id (at + i) → length (segment mid.words id) < 2 ^ 29 → CopiesChildren r i (call_of old mid id m m') at → CopiesValue (behind r i) (call_of mid new id m' m'') (at + i) → CopiesChildren r (i + 1) (call_of old new id m m'') at
+child_copied {r} {old} {mid} {new} {id} {i} {at} {m} {m'} {m''} place few first next =
+    let ts : Trees = first.children in
+    let u : Tree = next.value in
+    let here : Reads canonical (behind r (count ts)) m' m'' u = rw first.counts next.is_read in
     record {
       children = with_last ts u;
-      counts = count-with_last ts u ∙ omega arith;
+      counts = count-with_last ts u ∙ omega (arith, first.counts);
       are_read = read_more first.are_read here;
-      made =
-          then_written old.words id X (λ xs. copied xs (at + count ts) (trim u)) (there old.words id (at + i) place, first.made) put
-          ∙ ap (with_segment old.words id)
-          (ap (λ j. copied X j (trim u)) (sym n) ∙ child_added W at (trim_each ts) (trim u) (shaped first) (omega arith, fits) ∙ ap (with_children W at) (sym (trim_each-with_last ts u)));
+      made = child_put place few first next;
     }
 
 -- the words behind the pointers that are set are as before

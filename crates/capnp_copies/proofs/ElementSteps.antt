@@ -38,20 +38,20 @@ pub record DataPut (r : Reading) (sizes : ElementSizes) (old mid : View) (id at 
   pub counts : length us ≡ sizes.kept.data_words
   pub writes : mid ≡ record old { words = with_words old.words id at us }
 
-pub element_copied : {r : Reading} {sizes : ElementSizes} {old mid new : View} {id at : ℕ} {us : List ℕ} {m m' : Meter} → DataPut r sizes old mid id at us → CopiesChildren (behind r sizes.source.data_words) sizes.kept.pointers (call_of mid new id m m') (at + sizes.kept.data_words) →
-    CopiesElement r sizes (call_of old new id m m') at
-element_copied {r} {sizes} {old} {mid} {new} {id} {at} {us} put children =
+-- the children of an element, once its words are put
+pub children_put : {r : Reading} {sizes : ElementSizes} {old mid new : View} {id at : ℕ} {us : List ℕ} {m m' : Meter} → DataPut r sizes old mid id at us →
+    (children : CopiesChildren (behind r sizes.source.data_words) sizes.kept.pointers (call_of mid new id m m') (at + sizes.kept.data_words)) →
+    new.words ≡ with_segment old.words id (with_children (overwritten (segment old.words id) at (words_from r sizes.kept.data_words)) (at + sizes.kept.data_words) (trim_each children.children))
+children_put {r} {sizes} {old} {mid} {new} {id} {at} {us} put children =
     let e : ℕ = sizes.kept.data_words in
     let W : List ℕ = segment old.words id in
     let ts : Trees = children.children in
-    record {
-      children = ts;
-      counts = children.counts;
-      are_read = children.are_read;
-      made =
-          then_written old.words id (overwritten W at us) (λ xs. with_children xs (at + e) (trim_each ts)) (there old.words id at put.place, ap (λ (v : View). v.words) put.writes) children.made
-          ∙ ap (λ xs. with_segment old.words id (with_children (overwritten W at xs) (at + e) (trim_each ts))) put.are_words;
-    }
+    then_written old.words id (overwritten W at us) (λ xs. with_children xs (at + e) (trim_each ts)) (there old.words id at put.place, ap (λ (v : View). v.words) put.writes) children.made
+    ∙ ap (λ xs. with_segment old.words id (with_children (overwritten W at xs) (at + e) (trim_each ts))) put.are_words
+
+pub element_copied : {r : Reading} {sizes : ElementSizes} {old mid new : View} {id at : ℕ} {us : List ℕ} {m m' : Meter} → DataPut r sizes old mid id at us → CopiesChildren (behind r sizes.source.data_words) sizes.kept.pointers (call_of mid new id m m') (at + sizes.kept.data_words) →
+    CopiesElement r sizes (call_of old new id m m') at
+element_copied put children = record { children = children.children; counts = children.counts; are_read = children.are_read; made = children_put put children }
 
 pub element_kept : {r : Reading} {sizes : ElementSizes} {old mid : View} {L : Segments} {id at : ℕ} {us : List ℕ} (n : ℕ) → DataPut r sizes old mid id at us → n ≡ at + sizes.kept.data_words → n ≤ length (segment old.words id) → IsSameBelow mid.words L id n → IsSameBelow old.words L id at
 element_kept {old = old} {mid = mid} {L = L} {id = id} {at = at} {us = us} n put is fits (more, below) =
@@ -202,10 +202,36 @@ next_inside {r} {sizes} {n} {i} width here is =
     let less : suc i ≤ n = here.more in
     rw is (let f : suc i * a ≤ n * a = grind arith in omega (arith, f, here.fits.inside))
 
+-- the words of the next element, and of its children, once they are put
+pub row_put : {r : Reading} {sizes : ElementSizes} {n i w id at : ℕ} {old mid new : View} {m m' m'' : Meter} (here : AtRow r sizes n i w (call_of old mid id m m') at) →
+    (next : CopiesElement (behind r (i * (sizes.source.data_words + sizes.source.pointers))) sizes (call_of mid new id m' m'') (at + i * w)) →
+    new.words
+    ≡ with_segment old.words id
+    (rows_laid (take at (segment old.words id)) sizes.kept.data_words sizes.kept.pointers
+    (with_last_element (cut sizes here.rows.elements) (words_at r.segments r.segment (r.at + i * (sizes.source.data_words + sizes.source.pointers)) sizes.kept.data_words) (trim_each next.children)) (n - (i + 1)))
+row_put {r} {sizes} {n} {i} {w} {id} {at} {old} {mid} {new} {m} {m'} {m''} here next =
+    let M : Segments = old.words in
+    let d : ℕ = sizes.source.data_words in
+    let v : ℕ = sizes.source.pointers in
+    let e : ℕ = sizes.kept.data_words in
+    let q : ℕ = sizes.kept.pointers in
+    let fs : Elements = cut_to e q (trim_elements here.rows.elements) in
+    let ts : Trees = next.children in
+    let x = next_row here in
+    let left : ℕ = n - (i + 1) in
+    let more : n - i ≡ suc left = omega (arith, here.more) in
+    let us : List ℕ = words_at r.segments r.segment (r.at + i * (d + v)) e in
+    let inside : r.at + i * (d + v) + (d + v) ≤ length (row r) = next_inside (d + v) here refl in
+    let count_us : length us ≡ e = length_words r.segments r.segment (r.at + i * (d + v)) e (omega (arith, here.fits.less_data)) in
+    let F : List ℕ = take at (segment M id) in
+    let laid : Laid = record { front = F; size = sizes.kept; elements = fs; shaped = x.shaped } in
+    let before : mid.words ≡ with_segment M id (rows_laid F e q fs (suc left)) = rw (sym more) here.rows.made in
+    then_written M id (rows_laid F e q fs (suc left)) (λ xs. with_children (overwritten xs (at + i * w) us) (at + i * w + e) (trim_each ts)) (x.there, before) next.made
+    ∙ ap (with_segment M id) (element_put laid left us (trim_each ts) (count_us, trim_each-count ts ∙ next.counts) x.starts)
+
 pub row_copied : {r : Reading} {sizes : ElementSizes} {n i w id at : ℕ} {old mid new : View} {m m' m'' : Meter} → AtRow r sizes n i w (call_of old mid id m m') at →
     CopiesElement (behind r (i * (sizes.source.data_words + sizes.source.pointers))) sizes (call_of mid new id m' m'') (at + i * w) → RowsCopied r sizes (i + 1) (n - (i + 1)) (call_of old new id m m'') at
 row_copied {r} {sizes} {n} {i} {w} {id} {at} {old} {mid} {new} {m} {m'} {m''} here next =
-    let M : Segments = old.words in
     let d : ℕ = sizes.source.data_words in
     let v : ℕ = sizes.source.pointers in
     let e : ℕ = sizes.kept.data_words in
@@ -216,27 +242,18 @@ row_copied {r} {sizes} {n} {i} {w} {id} {at} {old} {mid} {new} {m} {m'} {m''} he
     let fs : Elements = cut_to e q (trim_elements es) in
     let ts : Trees = next.children in
     let long : element_count es ≡ i = here.rows.counts in
-    let x = next_row here in
-    let left : ℕ = n - (i + 1) in
-    let more : n - i ≡ suc left = omega (arith, here.more) in
     let one : ReadsAll canonical (pointers_of r sizes.source (element_count es)) m' m'' ts = rw long next.are_read in
     let fits : SourceFits r sizes.source sizes.kept n = record { inside = here.fits.inside; used = here.fits.used; less = here.fits.less_pointers } in
     let a = another fits here.rows.are_read (omega (arith, long, here.more)) next.counts one in
     let us : List ℕ = words_at S s (r.at + i * (d + v)) e in
     let section : take e (words_at S s (r.at + element_count es * (d + v)) d) ≡ us = words_taken S s (r.at + element_count es * (d + v)) e d here.fits.less_data ∙ ap (λ j. words_at S s (r.at + j * (d + v)) e) long in
     let form : cut_to e q (trim_elements a.all) ≡ with_last_element fs us (trim_each ts) = a.shape ∙ ap (λ xs. with_last_element fs xs (trim_each ts)) section in
-    let inside : r.at + i * (d + v) + (d + v) ≤ length (row r) = next_inside (d + v) here refl in
-    let count_us : length us ≡ e = length_words S s (r.at + i * (d + v)) e (omega (arith, here.fits.less_data)) in
-    let F : List ℕ = take at (segment M id) in
-    let laid : Laid = record { front = F; size = sizes.kept; elements = fs; shaped = x.shaped } in
-    let before : mid.words ≡ with_segment M id (rows_laid F e q fs (suc left)) = rw (sym more) here.rows.made in
     record {
       elements = a.all;
       counts = a.counts ∙ omega (arith, long);
       are_read = a.are_read;
       made =
-          then_written M id (rows_laid F e q fs (suc left)) (λ xs. with_children (overwritten xs (at + i * w) us) (at + i * w + e) (trim_each ts)) (x.there, before) next.made
-          ∙ ap (with_segment M id) (element_put laid left us (trim_each ts) (count_us, trim_each-count ts ∙ next.counts) x.starts ∙ ap (λ y. rows_laid F e q y left) (sym form));
+          row_put here next ∙ ap (λ y. with_segment old.words id (rows_laid (take at (segment old.words id)) e q y (n - (i + 1)))) (sym form);
     }
 
 pub row_stops : {r : Reading} {sizes : ElementSizes} {n i w id at : ℕ} {old mid new : View} {m m' m'' : Meter} {k : ErrorKind} → AtRow r sizes n i w (call_of old mid id m m') at → KeepsLimits old mid →

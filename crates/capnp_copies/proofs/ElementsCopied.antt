@@ -98,7 +98,7 @@ element_bodies-with_last : (es : Elements) (ws : List ℕ) (ts : Trees) → elem
 element_bodies-with_last no_elements ws ts = append-nil (bodies ts)
 element_bodies-with_last (element vs us es) ws ts = ap (λ xs. bodies us ++ xs) (element_bodies-with_last es ws ts) ∙ sym (append_assoc (bodies us) (element_bodies es) (bodies ts))
 
-words-with_last : (es : Elements) (ws : List ℕ) (ts : Trees) → word_count_elements (with_last_element es ws ts) ≡ word_count_elements es + word_count_all ts
+pub words-with_last : (es : Elements) (ws : List ℕ) (ts : Trees) → word_count_elements (with_last_element es ws ts) ≡ word_count_elements es + word_count_all ts
 words-with_last no_elements ws ts = omega arith
 words-with_last (element vs us es) ws ts = omega (arith, words-with_last es ws ts)
 

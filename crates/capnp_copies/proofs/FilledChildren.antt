@@ -1,11 +1,12 @@
 -- The copy of pointers one behind the other, to a message of any number of segments: none yet, one child more, and where a child stops it.
-use Rattle.std.proofs.Common.{◌≡◌, inl, inr, ℕ, ◌+◌, ◌<◌, Bool, length, refl, sym, ◌∙◌, subst, arith}
+use Rattle.std.proofs.Common.{◌≡◌, inl, inr, ℕ, ◌+◌, ◌<◌, ◌^◌, Bool, length, refl, sym, ap, ◌∙◌, subst, arith}
 use Rattle.capnp_words.specs.declared.error.ErrorKind.{ErrorKind}
 use Rattle.capnp_words.specs.Meter.{Meter}
-use Rattle.capnp_format.specs.Segments.{Grows, segment, word_at}
+use Rattle.capnp_format.specs.Segments.{Grows, segment, word_at, IsPlace}
 use Rattle.capnp_format.specs.Tree.{Tree, Null, Trees, no_trees, count}
 use Rattle.capnp_format.proofs.Children.{with_last, count-with_last}
 use Rattle.capnp_arena.specs.View.{View}
+use Rattle.capnp_arena.specs.Written.{with_segment}
 use Rattle.capnp_making.specs.Filled.{AreFilled}
 use Rattle.capnp_making.specs.Stored.{IsReplaced}
 use Rattle.capnp_making.proofs.FillingChains.{filled_grows, filled_ahead, filled_more}
@@ -15,6 +16,9 @@ use Rattle.capnp_objects.specs.Refusals.{Refused, BreaksOff}
 use Rattle.capnp_objects.specs.Reading.{Reading, behind}
 use Rattle.capnp_objects.proofs.Copies.{read_none, read_more}
 use Rattle.capnp_copies.specs.Changes.{form_of, kept, kept_each, change, CopiesValue, StopsAtValue, CopiesChildren, StopsAtChildren}
+use Rattle.capnp_copies.proofs.ChildrenCopied.{no_children}
+use Rattle.capnp_copies.proofs.SegmentsWritten.{not_written}
+use Rattle.capnp_copies.proofs.TightChildren.{child_tight}
 use Rattle.capnp_copies.proofs.KeptForms.{kept_none, kept_each-count, kept_each-with_last}
 
 pub no_child : (r : Reading) (b : Bool) (s p : ℕ) (v : View) (m : Meter) → CopiesChildren r 0 (change b s p v v m m)
@@ -24,6 +28,7 @@ no_child r b s p v m = record {
   are_read = read_none (form_of b) r m;
   made = subst (AreFilled v.words v.words s p) (sym (kept_none b)) refl;
   memory = keeps_itself v;
+  tight = λ fits. not_written v.words s ∙ ap (with_segment v.words s) (sym (no_children (segment v.words s) p));
 }
 
 -- the segments, once the first children are copied
@@ -40,8 +45,8 @@ one_filled {b = b} {s = s} {p = p} {old = old} {mid = mid} new t first made =
     filled_more old.words mid.words new.words s p (kept_each b first.children) t first.made
     (subst (λ j. IsReplaced mid.words new.words s (p + j) Null t) (sym (kept_each-count b first.children ∙ first.counts)) made)
 
-pub child_copied : {r : Reading} {b : Bool} {s p i : ℕ} {old mid new : View} {m m' m'' : Meter} → CopiesChildren r i (change b s p old mid m m') → CopiesValue (behind r i) (change b s (p + i) mid new m' m'') → CopiesChildren r (i + 1) (change b s p old new m m'')
-child_copied {r} {b} {s} {p} {i} {old} {mid} {new} {m} {m'} {m''} first next =
+pub child_copied : {r : Reading} {b : Bool} {s p i : ℕ} {old mid new : View} {m m' m'' : Meter} → IsPlace old.words s (p + i) → length (segment mid.words s) < 2 ^ 29 → CopiesChildren r i (change b s p old mid m m') → CopiesValue (behind r i) (change b s (p + i) mid new m' m'') → CopiesChildren r (i + 1) (change b s p old new m m'')
+child_copied {r} {b} {s} {p} {i} {old} {mid} {new} {m} {m'} {m''} place few first next =
     let ts : Trees = first.children in
     let u : Tree = next.value in
     let here : Reads (form_of b) (behind r (count ts)) m' m'' u = rw first.counts next.is_read in
@@ -51,6 +56,7 @@ child_copied {r} {b} {s} {p} {i} {old} {mid} {new} {m} {m'} {m''} first next =
       are_read = read_more first.are_read here;
       made = subst (AreFilled old.words new.words s p) (sym (kept_each-with_last b ts u)) (one_filled new (kept b u) first next.made.0);
       memory = keeps_both old mid new (children_grow first).segments first.memory next.made.1;
+      tight = child_tight b place few first next;
     }
 
 pub child_stops : {r : Reading} {b : Bool} {s p i n : ℕ} {old mid new : View} {m m' m'' : Meter} {k : ErrorKind} → i < n → CopiesChildren r i (change b s p old mid m m') → StopsAtValue (behind r i) (change b s (p + i) mid new m' m'') k →

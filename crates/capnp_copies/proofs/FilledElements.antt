@@ -1,5 +1,5 @@
 -- The copy of the elements of a list of structs, to a message of any number of segments: none yet, one element more, and where an element stops it.
-use Rattle.std.proofs.Common.{◌≡◌, inl, inr, ℕ, suc, ◌+◌, ◌*◌, ◌<◌, ◌≤◌, Bool, true, false, List, length, refl, sym, ap, ◌∙◌, subst, arith}
+use Rattle.std.proofs.Common.{◌≡◌, inl, inr, ℕ, suc, ◌+◌, ◌-◌, ◌*◌, ◌<◌, ◌≤◌, Bool, true, false, List, length, refl, sym, ap, ◌∙◌, subst, arith}
 use Rattle.capnp_words.specs.declared.error.ErrorKind.{ErrorKind}
 use Rattle.capnp_words.specs.Meter.{Meter}
 use Rattle.capnp_format.specs.Segments.{Segments, Grows, segment, word_at}
@@ -16,9 +16,10 @@ use Rattle.capnp_objects.specs.Outcomes.{ReadsAll}
 use Rattle.capnp_objects.specs.Refusals.{RefusedAll, BreaksOffAmong}
 use Rattle.capnp_objects.specs.Reading.{Reading, behind, row, words_from, pointers_of}
 use Rattle.capnp_objects.proofs.Copies.{read_no_element, with_last_element}
-use Rattle.capnp_copies.specs.Changes.{form_of, kept_each, kept_elements, change, CopiesChildren, StopsAtChildren, CopiesElement, StopsAtElement, CopiesElements, StopsAtElements}
+use Rattle.capnp_copies.specs.Changes.{form_of, kept_each, kept_elements, change, CopiesChildren, StopsAtChildren, CopiesElement, StopsAtElement, CopiesRows, CopiesElements, StopsAtElements}
 use Rattle.capnp_copies.specs.declared.widths.ElementSizes.{ElementSizes}
 use Rattle.capnp_copies.proofs.ElementsLaid.{cut_count}
+use Rattle.capnp_copies.proofs.TightElements.{element_tight, no_row_tight, no_width_tight, row_tight}
 use Rattle.capnp_copies.proofs.KeptForms.{SourceKept, one_more, kept_each-count, stops_sooner, blank_elements, nothing_filled}
 
 -- one element
@@ -49,6 +50,7 @@ element_copied {r} {sizes} {b} {s} {p} {old} {mid} {new} put children = record {
   are_read = children.are_read;
   made = element_made new (kept_each b children.children) put children.made;
   memory = keeps_both old mid new (same_segments put) (keeps_written old mid _ put.writes) children.memory;
+  tight = element_tight {r = r} {sizes = sizes} b (record { long = data_long put; room = put.room; writes = put.writes }) children;
 }
 
 pub element_stops : {r : Reading} {sizes : ElementSizes} {b : Bool} {s p : ℕ} {old mid new : View} {m m' : Meter} {k : ErrorKind} → DataWritten r sizes old mid s p →
@@ -81,13 +83,14 @@ cut_to-count d q false es = go es
     go no_elements = refl
     go (element ws ts es) = ap suc (go es)
 
-pub no_row : (r : Reading) (sizes : ElementSizes) (b : Bool) (s p : ℕ) (v : View) (m : Meter) → CopiesElements r sizes 0 (change b s p v v m m)
-no_row r sizes b s p v m = record {
+pub no_row : (r : Reading) (sizes : ElementSizes) (n : ℕ) (b : Bool) (s p : ℕ) (v : View) (m : Meter) → CopiesRows r sizes 0 n (change b s p v v m m)
+no_row r sizes n b s p v m = record {
   elements = no_elements;
   counts = refl;
   are_read = read_no_element (form_of b) r sizes.source m;
   made = none b;
   memory = keeps_itself v;
+  tight = λ last fits. no_row_tight b sizes s p n v m last;
 }
   where
     none : (b : Bool) → AreElementsFilled v.words v.words s p sizes.kept.data_words sizes.kept.pointers (cut_to sizes.kept.data_words sizes.kept.pointers (kept_elements b no_elements))
@@ -107,6 +110,7 @@ no_width r sizes n b s p v m fits none =
       made = subst (λ q. AreElementsFilled v.words v.words s p sizes.kept.data_words q (cut_to sizes.kept.data_words q (kept_elements b x.all))) no_pointers
           (subst (λ d. AreElementsFilled v.words v.words s p d 0 (cut_to d 0 (kept_elements b x.all))) no_data (nothing_filled v.words s p (kept_elements b x.all)));
       memory = keeps_itself v;
+      tight = λ last fits. no_width_tight b sizes s p n v m x.all none last;
     }
 
 -- The loop over n elements is at element number i; their rows of zeros lie in a segment.
@@ -114,8 +118,9 @@ pub record AtRow (r : Reading) (sizes : ElementSizes) (n i : ℕ) (b : Bool) (s 
   pub fits : SourceKept b r sizes n
   pub room : p + n * (sizes.kept.data_words + sizes.kept.pointers) ≤ length (segment old.words s)
   pub zero : (j : ℕ) → j < n * (sizes.kept.data_words + sizes.kept.pointers) → word_at old.words s (p + j) ≡ 0
+  pub wide : 0 < sizes.kept.data_words + sizes.kept.pointers
   pub more : i < n
-  pub rows : CopiesElements r sizes i (change b s p old mid m m')
+  pub rows : CopiesRows r sizes i (n - i) (change b s p old mid m m')
 
 pub row_end : (j n w : ℕ) → j < n → j * w + w ≤ n * w
 row_end j n w less = let f : suc j * w ≤ n * w = grind arith in omega (arith, f)
@@ -161,19 +166,22 @@ module _ {r : Reading} {sizes : ElementSizes} {n i : ℕ} {b : Bool} {s p : ℕ}
   next_long : length next_words ≡ d
   next_long = length_words r.segments r.segment (r.at + i * (sizes.source.data_words + sizes.source.pointers)) d (omega (arith, next_inside, here.fits.less_data))
 
-  pub row_copied : {new : View} {m'' : Meter} → CopiesElement (behind r (i * (sizes.source.data_words + sizes.source.pointers))) sizes (change b s (p + i * (d + q)) mid new m' m'') → CopiesElements r sizes (i + 1) (change b s p old new m m'')
+  pub row_copied : {new : View} {m'' : Meter} → CopiesElement (behind r (i * (sizes.source.data_words + sizes.source.pointers))) sizes (change b s (p + i * (d + q)) mid new m' m'') → CopiesRows r sizes (i + 1) (n - (i + 1)) (change b s p old new m m'')
   row_copied {new} {m''} next =
       let es : Elements = here.rows.elements in
       let one : ReadsAll (form_of b) (pointers_of r sizes.source (element_count es)) m' m'' next.children = rw here.rows.counts next.are_read in
       let a = one_more b r sizes n m m' m'' es next.children here.fits here.rows.are_read (omega (arith, here.rows.counts, here.more)) next.counts one in
       let at : IsElementFilled mid.words new.words s (p + element_count laid * (d + q)) next_words (kept_each b next.children) = rw rows_before next.made in
       let made = elements_more old.words mid.words new.words s p d q laid next_words (kept_each b next.children) here.rows.made next_long (kept_each-count b next.children ∙ next.counts) at in
+      let shape : cut_to d q (kept_elements b a.all) ≡ with_last_element laid next_words (kept_each b next.children) =
+      a.shape ∙ ap (λ j. with_last_element laid (words_from (behind r (j * (sizes.source.data_words + sizes.source.pointers))) d) (kept_each b next.children)) here.rows.counts in
       record {
         elements = a.all;
         counts = a.counts ∙ omega (arith, here.rows.counts);
         are_read = a.are_read;
-        made = subst (AreElementsFilled old.words new.words s p d q) (sym (a.shape ∙ ap (λ j. with_last_element laid (words_from (behind r (j * (sizes.source.data_words + sizes.source.pointers))) d) (kept_each b next.children)) here.rows.counts)) made;
+        made = subst (AreElementsFilled old.words new.words s p d q) (sym shape) made;
         memory = keeps_both old mid new rows_grow.segments here.rows.memory next.memory;
+        tight = row_tight {r = r} {sizes = sizes} b here.fits here.wide here.more here.rows next a.all shape;
       }
 
   pub row_stops : {new : View} {m'' : Meter} {k : ErrorKind} → StopsAtElement (behind r (i * (sizes.source.data_words + sizes.source.pointers))) sizes (change b s (p + i * (d + q)) mid new m' m'') k → StopsAtElements r sizes n (change b s p old new m m'') k

@@ -1,16 +1,18 @@
 -- The copy of a struct and of lists of pointers and of structs, from where they are made.
-use Rattle.std.proofs.Common.{◌≡◌, inl, inr, ℕ, ◌+◌, ◌*◌, ◌<◌, ◌≤◌, Bool, true, false, List, length, refl, sym, ap, ◌∙◌, subst, le_trans, arith}
+use Rattle.std.proofs.Common.{◌≡◌, inl, inr, ℕ, ◌+◌, ◌-◌, ◌*◌, ◌<◌, ◌≤◌, ◌^◌, Bool, true, false, List, length, refl, sym, ap, ◌∙◌, subst, le_trans, arith}
 use Rattle.capnp_words.specs.declared.error.ErrorKind.{ErrorKind}
 use Rattle.capnp_words.specs.Meter.{Meter}
 use Rattle.capnp_pointers.specs.declared.wire_pointer.StructSize.{StructSize}
 use Rattle.capnp_format.specs.Segments.{Segments, segment, word_at, IsPlace}
 use Rattle.capnp_format.specs.Tree.{Tree, Null, Struct, Pointers, Trees}
 use Rattle.capnp_format.specs.Canonical.{cut_to}
+use Rattle.capnp_format.specs.Word.{struct_word}
 use Rattle.capnp_format.proofs.Slices.{length_words}
 use Rattle.capnp_arena.specs.View.{View}
-use Rattle.capnp_arena.specs.Written.{with_words}
+use Rattle.capnp_arena.specs.Written.{with_word, with_words}
 use Rattle.capnp_making.specs.Made.{zero_struct, zero_structs, zeros, nulls}
-use Rattle.capnp_making.specs.Memory.{HasRoom, KeepsMemory, IsRefusedFor, RefusesGrowth}
+use Rattle.capnp_making.specs.Memory.{HasRoom, KeepsMemory, IsRefusedFor, RefusesGrowth, StandsBehind}
+use Rattle.capnp_making.specs.Near.{HasStructRoom, with_struct}
 use Rattle.capnp_making.specs.Stored.{IsReplaced}
 use Rattle.capnp_making.specs.declared.making.Start.{Start}
 use Rattle.capnp_making.proofs.Filling.{unchanged}
@@ -21,6 +23,7 @@ use Rattle.capnp_objects.specs.Reading.{Reading, behind, row, words_from}
 use Rattle.capnp_copies.specs.Changes.{kept, kept_each, kept_elements, KeepsSections, KeepsWidths, KeepsPointers, change, Leaves, CopiesChildren, StopsAtChildren, CopiesPointers, StopsAtPointers, CopiesStruct, StopsAtStruct, CopiesElements, StopsAtElements, CopiesStructs, StopsAtStructs}
 use Rattle.capnp_copies.specs.declared.widths.ElementSizes.{ElementSizes}
 use Rattle.capnp_copies.proofs.FilledElements.{cut_to-count}
+use Rattle.capnp_copies.proofs.TightObjects.{StructMade, struct_tight, PointersMade, pointers_tight, StructsMade, structs_tight}
 use Rattle.capnp_copies.proofs.KeptForms.{kept_each-count, stops_sooner, struct_kept, list_kept}
 
 -- an object that the arena refuses leaves the pointer null
@@ -45,6 +48,11 @@ pub record StructBegun (b : Bool) (r : Reading) (size least : StructSize) (s p :
   pub begun : IsBegun old.words made.words s p (least.data_words + least.pointers) h (zero_struct least)
   pub memory : KeepsMemory old made
   pub writes : mid ≡ record made { words = with_words made.words h.segment h.at (words_from r least.data_words) }
+  pub place : IsPlace old.words s p
+  pub within : length (segment mid.words h.segment) ≤ mid.room h.segment
+  pub behind : StandsBehind old s (least.data_words + least.pointers) h
+  pub near : HasStructRoom old s least → made.words ≡ with_struct old.words s p least
+  pub empty : least.data_words + least.pointers ≡ 0 → made.words ≡ with_word old.words s p (struct_word (2 ^ 30 - 1) 0 0)
 
 module _ {b : Bool} {r : Reading} {size least : StructSize} {s p : ℕ} {old made mid : View} {h : Start} (o : StructBegun b r size least s p old made mid h) where
   abbrev ws : List ℕ
@@ -68,6 +76,19 @@ module _ {b : Bool} {r : Reading} {size least : StructSize} {s p : ℕ} {old mad
   segments : length old.words ≤ length mid.words
   segments = le_trans o.begun.made.segments longer
 
+  is_made : StructMade r size least s p old made mid h
+  is_made = record {
+    inside = o.inside;
+    less_data = o.less_data;
+    place = o.place;
+    memory = o.memory;
+    writes = o.writes;
+    within = o.within;
+    behind = o.behind;
+    near = o.near;
+    empty = o.empty;
+  }
+
   pub struct_fits : h.at + least.data_words + least.pointers ≤ length (segment mid.words h.segment)
   struct_fits = omega (arith, (struct_ready old.words made.words mid.words s p least.pointers h ws is_begun writes).0, long)
 
@@ -83,6 +104,7 @@ module _ {b : Bool} {r : Reading} {size least : StructSize} {s p : ℕ} {old mad
         counts = f.counts;
         are_read = f.are_read;
         made = (subst (IsReplaced old.words new.words s p Null) (sym f.form) whole, keeps_both old mid new segments keeps children.memory);
+        tight = struct_tight is_made b o.sections children (Struct (words_from r size.data_words) f.all) f.form;
       }
 
   pub struct_stops : {new : View} {m m' : Meter} {k : ErrorKind} → StopsAtChildren (behind r size.data_words) least.pointers (change b h.segment (h.at + least.data_words) mid new m m') k → StopsAtStruct r size (change b s p old new m m') k
@@ -107,8 +129,8 @@ pub record ObjectBegun (s p n : ℕ) (old mid : View) (h : Start) (t : Tree) : T
   pub begun : IsBegun old.words mid.words s p n h t
   pub memory : KeepsMemory old mid
 
-pub pointers_copied : {b : Bool} {r : Reading} {i s p : ℕ} {old mid new : View} {h : Start} {m m' : Meter} → ObjectBegun s p i old mid h (Pointers (nulls i)) → CopiesChildren r i (change b h.segment h.at mid new m m') → CopiesPointers r i (change b s p old new m m')
-pointers_copied {b} {r} {i} {s} {p} {old} {mid} {new} {h} o children =
+pub pointers_copied : {b : Bool} {r : Reading} {i s p : ℕ} {old mid new : View} {h : Start} {m m' : Meter} → ObjectBegun s p i old mid h (Pointers (nulls i)) → PointersMade i s p old mid h → CopiesChildren r i (change b h.segment h.at mid new m m') → CopiesPointers r i (change b s p old new m m')
+pointers_copied {b} {r} {i} {s} {p} {old} {mid} {new} {h} o near children =
     let ts : Trees = kept_each b children.children in
     let whole = pointers_whole old.words mid.words new.words s p i h ts o.begun children.made (kept_each-count b children.children ∙ children.counts) in
     record {
@@ -116,6 +138,7 @@ pointers_copied {b} {r} {i} {s} {p} {old} {mid} {new} {h} o children =
       counts = children.counts;
       are_read = children.are_read;
       made = (subst (IsReplaced old.words new.words s p Null) (sym (kept_pointers b children.children)) whole, keeps_both old mid new o.begun.made.segments o.memory children.memory);
+      tight = pointers_tight b near children;
     }
 
 pub pointers_stop : {b : Bool} {r : Reading} {i s p : ℕ} {old mid new : View} {h : Start} {m m' : Meter} {k : ErrorKind} → ObjectBegun s p i old mid h (Pointers (nulls i)) → StopsAtChildren r i (change b h.segment h.at mid new m m') k →
@@ -136,8 +159,8 @@ widths_keep true r sizes i widths = omega (arith, widths.of_pointers)
 widths_keep false r sizes i same = same
 
 pub structs_copied : {b : Bool} {r : Reading} {sizes : ElementSizes} {i s p : ℕ} {old mid new : View} {h : Start} {m m' : Meter} → r.at + i * (sizes.source.data_words + sizes.source.pointers) ≤ length (row r) → KeepsWidths b r sizes.source i sizes.kept →
-    ObjectBegun s p (1 + i * (sizes.kept.data_words + sizes.kept.pointers)) old mid h (zero_structs i sizes.kept) → CopiesElements r sizes i (change b h.segment (h.at + 1) mid new m m') → CopiesStructs r sizes.source i (change b s p old new m m')
-structs_copied {b} {r} {sizes} {i} {s} {p} {old} {mid} {new} {h} inside widths o elements =
+    ObjectBegun s p (1 + i * (sizes.kept.data_words + sizes.kept.pointers)) old mid h (zero_structs i sizes.kept) → StructsMade i s p sizes.kept old mid h → CopiesElements r sizes i (change b h.segment (h.at + 1) mid new m m') → CopiesStructs r sizes.source i (change b s p old new m m')
+structs_copied {b} {r} {sizes} {i} {s} {p} {old} {mid} {new} {h} inside widths o near elements =
     let d : ℕ = sizes.kept.data_words in
     let q : ℕ = sizes.kept.pointers in
     let es = elements.elements in
@@ -148,6 +171,7 @@ structs_copied {b} {r} {sizes} {i} {s} {p} {old} {mid} {new} {h} inside widths o
       counts = elements.counts;
       are_read = elements.are_read;
       made = (subst (IsReplaced old.words new.words s p Null) (sym form) whole, keeps_both old mid new o.begun.made.segments o.memory elements.memory);
+      tight = structs_tight {r = r} {sizes = sizes} b inside widths near elements;
     }
 
 pub structs_stop : {b : Bool} {r : Reading} {sizes : ElementSizes} {i s p : ℕ} {old mid new : View} {h : Start} {m m' : Meter} {k : ErrorKind} → ObjectBegun s p (1 + i * (sizes.kept.data_words + sizes.kept.pointers)) old mid h (zero_structs i sizes.kept) →

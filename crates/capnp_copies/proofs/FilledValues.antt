@@ -1,5 +1,6 @@
 -- The copy of what a pointer means, to a message of any number of segments, once its object was read.
 use Rattle.std.proofs.Common.{◌≡◌, inl, inr, ℕ, pred, ◌+◌, ◌<◌, Bool, true, false, List, take, drop, refl, sym, ap, ap₂, ◌∙◌, subst, arith, Result, Ok, Err, OnOk, OnErr, IfOk, IfErr}
+use Rattle.std.proofs.lemmas.Bool.{false≢true}
 use Rattle.capnp_words.specs.declared.error.ErrorKind.{ErrorKind}
 use Rattle.capnp_words.specs.declared.error.ErrorKind.TheVariants.{CannotCreateACanonicalMessageWithACapability}
 use Rattle.capnp_words.specs.Meter.{Meter}
@@ -11,6 +12,7 @@ use Rattle.capnp_format.specs.Numbers.{words_for, unpacked}
 use Rattle.capnp_format.specs.Segments.{word_at, words_at, IsPlace}
 use Rattle.capnp_format.specs.Tree.{Tree, Null, Capability, Struct, Flat, Pointers, Structs}
 use Rattle.capnp_format.specs.Word.{capability_word}
+use Rattle.capnp_format.proofs.Levels.{one_value}
 use Rattle.capnp_arena.specs.View.{View}
 use Rattle.capnp_arena.specs.Written.{with_word}
 use Rattle.capnp_making.specs.Memory.{KeepsMemory, SpendsMemory, RefusesGrowth}
@@ -26,8 +28,9 @@ use Rattle.capnp_objects.specs.declared.object.Place.{Place}
 use Rattle.capnp_objects.specs.declared.object.Object.TheVariants.{Null as ObjectNull, Capability as ObjectCapability, Struct as ObjectStruct, Flat as ObjectFlat, Pointers as ObjectPointers, Structs as ObjectStructs}
 use Rattle.capnp_objects.proofs.Objects.{read_null, read_flat, read_struct, read_pointers, read_structs}
 use Rattle.capnp_objects.proofs.Refusals.{stops_struct, stops_pointers, stops_structs}
-use Rattle.capnp_copies.specs.Changes.{form_of, kept, change, CopiesValue, StopsAtValue, CopiesStruct, StopsAtStruct, CopiesPointers, StopsAtPointers, CopiesStructs, StopsAtStructs}
+use Rattle.capnp_copies.specs.Changes.{form_of, kept, Change, change, IsCopiedInRoom, StandsWhereItFits, StandsAsRead, CopiesValue, StopsAtValue, CopiesStruct, StopsAtStruct, CopiesPointers, StopsAtPointers, CopiesStructs, StopsAtStructs}
 use Rattle.capnp_copies.proofs.FilledObjects.{nothing_left}
+use Rattle.capnp_copies.proofs.StructsCopied.{null_written}
 use Rattle.capnp_copies.proofs.ObjectsRead.{inside, stopped_plain, capability_refused, capability_breaks_off, flat_held}
 
 -- what a plain reading is refused by, the other is refused by too
@@ -53,6 +56,7 @@ null_copied {r} {b} {s} {p} {v} {m} {m'} object place null = record {
   value = Null;
   is_read = subst (λ x. Reads (form_of b) r m x Null) (sym object.1) (read_null m object.0);
   made = (subst (IsReplaced v.words v.words s p Null) (sym (kept_null b)) (nothing_left v.words v.words s p place null refl), keeps_itself v);
+  tight = λ fits. null_written v.words s p null;
 }
 
 capability_read : {r : Reading} (m m' : Meter) (i : ℕ) → IsObject r m m' (ObjectCapability i) → Reads plain r m m' (Capability i)
@@ -64,6 +68,7 @@ capability_copied {r} {s} {p} {i} {old} {new} {m} {m'} object place writes = rec
   value = Capability i;
   is_read = capability_read m m' i object;
   made = (capability_made old.words new.words s p i place (ap (λ (v : View). v.words) writes), keeps_written old new _ writes);
+  tight = λ fits. absurd (false≢true fits.0);
 }
 
 pub capability_stops : {r : Reading} {s p i : ℕ} {v : View} {m m' : Meter} → IsObject r m m' (ObjectCapability i) → IsPlace v.words s p → word_at v.words s p ≡ 0 → StopsAtValue r (change true s p v v m m') CannotCreateACanonicalMessageWithACapability
@@ -84,6 +89,7 @@ struct_value {r} {size = size} start less (a, o, z, (held, es, eb), ed, eq) stru
       value = Struct (words_at r.segments start.segment start.at size.data_words) struct.children;
       is_read = rw (es, e, ed) (read_struct o z (struct.counts ∙ eq) (rw (en, es, e, ed) at struct.are_read));
       made = struct.made;
+      tight = struct.tight;
     }
 
 pub struct_value_stops : {r : Reading} {b : Bool} {s p levels : ℕ} {old new : View} {m m' m'' : Meter} {size : StructSize} {k : ErrorKind} (start : Place) → (0 < r.levels → levels ≡ pred r.levels) → IsObject r m m' (ObjectStruct start size) →
@@ -104,7 +110,7 @@ pub pointers_value : {r : Reading} {b : Bool} {s p levels i : ℕ} {old new : Vi
 pointers_value start less (a, o, z, six, (held, es, eb), ei) list =
     let en = less o.meets.levels in
     let e : start.at ≡ a.start = omega arith in
-    record { value = Pointers list.children; is_read = read_pointers o z six (list.counts ∙ ei) (rw (en, es, e) at list.are_read); made = list.made }
+    record { value = Pointers list.children; is_read = read_pointers o z six (list.counts ∙ ei) (rw (en, es, e) at list.are_read); made = list.made; tight = list.tight }
 
 pub pointers_value_stops : {r : Reading} {b : Bool} {s p levels i : ℕ} {old new : View} {m m' m'' : Meter} {k : ErrorKind} (start : Place) → (0 < r.levels → levels ≡ pred r.levels) → IsObject r m m' (ObjectPointers start i) →
     StopsAtPointers (inside r levels start) i (change b s p old new m' m'') k → StopsAtValue r (change b s p old new m m'') k
@@ -128,6 +134,7 @@ structs_value {size = size} start less (a, o, z, seven, (held, eu, eb), ei, ed, 
       value = Structs size.data_words size.pointers list.elements;
       is_read = rw (ed, eq) (read_structs o z seven (list.counts ∙ ei) (rw (en, eu, e, ed, eq) at list.are_read));
       made = list.made;
+      tight = list.tight;
     }
 
 pub structs_value_stops : {r : Reading} {b : Bool} {s p levels i : ℕ} {old new : View} {m m' m'' : Meter} {size : StructSize} {k : ErrorKind} (start : Place) → (0 < r.levels → levels ≡ pred r.levels) → IsObject r m m' (ObjectStructs start size i) →
@@ -143,7 +150,7 @@ structs_value_stops {r} {b} {m = m} start less (a, o, z, seven, (held, eu, eb), 
 
 -- a list of numbers
 
-kept_flat : (b : Bool) (size : ℕ) (ns : List ℕ) → kept b (Flat size ns) ≡ Flat size ns
+pub kept_flat : (b : Bool) (size : ℕ) (ns : List ℕ) → kept b (Flat size ns) ≡ Flat size ns
 kept_flat true size ns = refl
 kept_flat false size ns = refl
 
@@ -161,6 +168,7 @@ pub record FlatOutcome (result : Result (Unit {0}) ErrorKind) (s p : ℕ) (old n
   pub refused : IfErr result (RefusesGrowth old new)
   pub kept : OnErr result (new.words ≡ old.words)
   pub memory : OnErr result (SpendsMemory old new)
+  pub tight : OnOk result (IsCopiedInRoom old new s p t)
 
 pub flat_value : {r : Reading} {s p i n : ℕ} {old new : View} {m m' : Meter} {ws : List ℕ} (b : Bool) (result : Result (Unit {0}) ErrorKind) (start : Place) (size : ElementSize) → IsObject r m m' (ObjectFlat start size i) → n ≡ words_for (size_number size) i →
     ws ≡ take n (drop start.at (words_of start.bytes.now)) → FlatOutcome result s p old new (Flat (size_number size) (unpacked (size_number size) i ws)) → IfOk result (λ _. CopiesValue r (change b s p old new m m'))
@@ -168,6 +176,7 @@ flat_value {s = s} {p = p} {i = i} {old = old} {new = new} {ws = ws} b (Ok x) st
   value = Flat (size_number size) (unpacked (size_number size) i ws);
   is_read = flat_read_in b start size object words part;
   made = (subst (IsReplaced old.words new.words s p Null) (sym (kept_flat b (size_number size) (unpacked (size_number size) i ws))) f.copied, f.granted);
+  tight = λ fits. f.tight fits.1;
 }
 flat_value b (Err k) start size object words part f = tt
 
@@ -179,3 +188,9 @@ flat_stops {s = s} {p = p} {old = old} {new = new} b (Err k) start size (a, o, z
   off = here (inr (a, o));
   left = ((Null, nothing_left old.words new.words s p place null f.kept), f.memory);
 }
+
+-- a reading gives one value
+pub stands_as_read : {r : Reading} {c : Change} → CopiesValue r c → StandsAsRead r c
+stands_as_read {r} {c} copies t is_read =
+    let x = copies.is_read in
+    subst (StandsWhereItFits c) (one_value r.segments r.levels r.levels r.segment r.at copies.value t x.cost is_read.cost x.means is_read.means).0 copies.tight

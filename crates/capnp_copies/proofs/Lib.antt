@@ -10,6 +10,7 @@ pub mod ListSteps
 pub mod ObjectsRead
 pub mod Padding
 pub mod RoomLemmas
+pub mod PointersFirst
 pub mod Scanning
 pub mod SegmentsWritten
 pub mod Shapes
@@ -18,7 +19,15 @@ pub mod StructsCopied
 pub mod UsedChildren
 pub mod ValueSteps
 pub mod KeptForms
+pub mod TightChildren
 pub mod FilledChildren
+pub mod TightElements
 pub mod FilledElements
+pub mod TightFlat
+pub mod TightObjects
 pub mod FilledObjects
 pub mod FilledValues
+pub mod ListValues
+pub mod DataSections
+pub mod FilledSections
+pub mod EachCopied

@@ -17,6 +17,7 @@ use Rattle.capnp_objects.specs.Refusals.{RefusedElements}
 use Rattle.capnp_objects.specs.Reading.{Reading, row}
 use Rattle.capnp_objects.specs.Wanted.{canonical}
 use Rattle.capnp_copies.specs.Copied.{copied, rows_laid}
+use Rattle.capnp_copies.specs.Copies.{IsCopied}
 use Rattle.capnp_copies.specs.Frames.{TakesWords}
 use Rattle.capnp_copies.specs.Parts.{call_of, CopiesElements, StopsAtElements, CopiesStructs, StopsAtStructs}
 use Rattle.capnp_copies.specs.Rooms.{AreTooLargeElements, IsTooLargeList}
@@ -47,7 +48,7 @@ trimmed_list {r} {size} {least} {i} es c inside is_least len all =
     ∙ ap₂ (λ j k. Structs j k (cut_to j k (trim_elements es))) (data_where_meant r size es c all ∙ of_data)
     (pointers_where_meant r size es c (rw len inside) all ∙ of_pointers)
 
-words_of_list : {r : Reading} {size least : StructSize} {i : ℕ} (es : Elements) (c : ℕ) → r.at + i * (size.data_words + size.pointers) ≤ length (row r) → AreLeast r size least i → element_count es ≡ i → ElementsMean r size es c →
+pub words_of_list : {r : Reading} {size least : StructSize} {i : ℕ} (es : Elements) (c : ℕ) → r.at + i * (size.data_words + size.pointers) ≤ length (row r) → AreLeast r size least i → element_count es ≡ i → ElementsMean r size es c →
     word_count (trim (Structs size.data_words size.pointers es)) ≡ 1 + i * (least.data_words + least.pointers) + word_count_elements (cut_to least.data_words least.pointers (trim_elements es))
 words_of_list {r} {size} {least} {i} es c inside is_least len all =
     let e : ℕ = least.data_words in
@@ -80,9 +81,10 @@ list_stops {r} {size} {least} {i} {old} {mid} {new} {id} {at} {head} {m} {m'} {k
     λ large es c len all. (let b = large es c len all in omega (arith, words_of_list es c begun.inside begun.is_least len all)) in
     record { why = elim one [ inl x ↦ inl (x.0, x.1, x.2, too_large x.3) | inr x ↦ inr x ] }
 
-pub list_is_copied : {r : Reading} {size least : StructSize} {i : ℕ} {old mid last new : View} {id at head x : ℕ} {m m' : Meter} → ListBegun r size least i old mid id at head → CopiesElements r (record { source = size; kept = least }) i (call_of mid last id m m') (head + 1) →
-    x ≡ list_word (offset_to at (length (segment old.words id))) 7 (i * (least.data_words + least.pointers)) → new ≡ record last { words = with_word last.words id at x } → CopiesStructs r size i (call_of old new id m m') at
-list_is_copied {r} {size} {least} {i} {old} {mid} {last} {new} {id} {at} {head} {x} begun elements word writes =
+-- the tag of a list of structs, and its elements, once they are put, and the list's pointer
+pub list_put : {r : Reading} {size least : StructSize} {i : ℕ} {old mid last new : View} {id at head x : ℕ} {m m' : Meter} → ListBegun r size least i old mid id at head → (elements : CopiesElements r (record { source = size; kept = least }) i (call_of mid last id m m') (head + 1)) →
+    x ≡ list_word (offset_to at (length (segment old.words id))) 7 (i * (least.data_words + least.pointers)) → new ≡ record last { words = with_word last.words id at x } → IsCopied old.words new.words id at (Structs size.data_words size.pointers elements.elements)
+list_put {r} {size} {least} {i} {old} {mid} {last} {new} {id} {at} {head} {x} begun elements word writes =
     let M : Segments = old.words in
     let W : List ℕ = segment M id in
     let id_there : id < length M = there M id at begun.place in
@@ -99,12 +101,11 @@ list_is_copied {r} {size} {least} {i} {old} {mid} {last} {new} {id} {at} {head} 
     ap (λ j. W ++ tag ∷ [] ++ rows e q j es ++ replicate j 0 ++ element_bodies es) (let z : 0 * (e + q) ≡ 0 = omega arith in z) ∙ simp (append_assoc, append-nil) in
     let same : x ≡ pointer (Structs e q es) (offset_to at (length W)) = word ∙ ap (λ j. list_word (offset_to at (length W)) 7 (j * (e + q))) (sym len) in
     let second = then_written M id (W ++ (tag ∷ Z)) (λ xs. rows_laid (take (length W + 1) xs) e q es 0) (id_there, ap (λ (v : View). v.words) begun.taken.extends) put in
-    record {
-      elements = elements.elements;
-      counts = elements.counts;
-      are_read = elements.are_read;
-      made =
-          then_written M id (rows_laid (take (length W + 1) (W ++ (tag ∷ Z))) e q es 0) (λ xs. set xs at x) (id_there, second) (ap (λ (v : View). v.words) writes)
-          ∙ ap (with_segment M id) (ap₂ (λ xs y. set xs at y) (ap (λ xs. rows_laid xs e q es 0) front ∙ laid ∙ ap (λ j. W ++ ((struct_word j e q ∷ rows e q 0 es) ++ element_bodies es)) (sym len)) same)
-          ∙ ap (λ t. with_segment M id (copied W at t)) (sym form);
-    }
+    then_written M id (rows_laid (take (length W + 1) (W ++ (tag ∷ Z))) e q es 0) (λ xs. set xs at x) (id_there, second) (ap (λ (v : View). v.words) writes)
+    ∙ ap (with_segment M id) (ap₂ (λ xs y. set xs at y) (ap (λ xs. rows_laid xs e q es 0) front ∙ laid ∙ ap (λ j. W ++ ((struct_word j e q ∷ rows e q 0 es) ++ element_bodies es)) (sym len)) same)
+    ∙ ap (λ t. with_segment M id (copied W at t)) (sym form)
+
+pub list_is_copied : {r : Reading} {size least : StructSize} {i : ℕ} {old mid last new : View} {id at head x : ℕ} {m m' : Meter} → ListBegun r size least i old mid id at head → CopiesElements r (record { source = size; kept = least }) i (call_of mid last id m m') (head + 1) →
+    x ≡ list_word (offset_to at (length (segment old.words id))) 7 (i * (least.data_words + least.pointers)) → new ≡ record last { words = with_word last.words id at x } → CopiesStructs r size i (call_of old new id m m') at
+list_is_copied begun elements word writes =
+    record { elements = elements.elements; counts = elements.counts; are_read = elements.are_read; made = list_put begun elements word writes }

@@ -83,7 +83,7 @@ last_masked (suc j) r (x ∷ xs) below long =
     ∙ ap₂ (λ y z. y ∷ digits (2 ^ 64) (suc j) z) (low (2 ^ 64) x (f % m) below.0) (high (2 ^ 64) x (f % m) below.0)
     ∙ ap (λ ys. x ∷ ys) (last_masked j r xs below.1 (omega arith))
 
-mask_is : (word r : ℕ) → r < 64 → bit_and word (1 * 2 ^ r % 2 ^ 64 - 1) ≡ word % 2 ^ r
+pub mask_is : (word r : ℕ) → r < 64 → bit_and word (1 * 2 ^ r % 2 ^ 64 - 1) ≡ word % 2 ^ r
 mask_is word r l =
     let one : 1 * 2 ^ r % 2 ^ 64 ≡ 2 ^ r = ap (λ x. x % 2 ^ 64) (let e : 1 * 2 ^ r ≡ 2 ^ r = omega arith in e) ∙ mod-eq_of_lt (pow_below r 64 l) in
     ap (λ x. bit_and word (x - 1)) one ∙ and_mask word r

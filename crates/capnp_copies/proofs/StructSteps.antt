@@ -20,6 +20,7 @@ use Rattle.capnp_objects.specs.Reading.{Reading, behind, row, words_from}
 use Rattle.capnp_objects.specs.Wanted.{canonical}
 use Rattle.capnp_objects.proofs.Copies.{read_none}
 use Rattle.capnp_copies.specs.Copied.{copied, with_children}
+use Rattle.capnp_copies.specs.Copies.{IsCopied}
 use Rattle.capnp_copies.specs.Frames.{TakesWords}
 use Rattle.capnp_copies.specs.Parts.{call_of, CopiesChildren, StopsAtChildren, CopiesPointers, StopsAtPointers, Uses, CopiesStruct, StopsAtStruct}
 use Rattle.capnp_copies.specs.Rooms.{IsSameBelow, AreTooLarge, IsTooLargeStruct}
@@ -64,9 +65,10 @@ pointers_stop {r} {old} {mid} {new} {id} {at} {head} {q} {m} {m'} {k} place take
     let long : now ≡ used + q = omega (arith, now_long place taken, length-replicate {A = ℕ} q 0) in
     record { why = elim one [ inl x ↦ inl (x.0, x.1, x.2, λ us c len all. (let large = x.3 us c len all in omega (arith, trim_each-count us, len))) | inr x ↦ inr x ] }
 
-pub pointers_are_copied : {r : Reading} {old mid last new : View} {id at head q x : ℕ} {m m' : Meter} → IsPlace old.words id at → TakesWords old mid id head (replicate q 0) → CopiesChildren r q (call_of mid last id m m') head → x ≡ list_word (offset_to at (length (segment old.words id))) 6 q →
-    new ≡ record last { words = with_word last.words id at x } → CopiesPointers r q (call_of old new id m m') at
-pointers_are_copied {r} {old} {mid} {last} {new} {id} {at} {head} {q} {x} place taken children word writes =
+-- the pointers of a list and what they lead to, once they are put, and the list's pointer
+pub pointers_put : {r : Reading} {old mid last new : View} {id at head q x : ℕ} {m m' : Meter} → IsPlace old.words id at → TakesWords old mid id head (replicate q 0) → (children : CopiesChildren r q (call_of mid last id m m') head) → x ≡ list_word (offset_to at (length (segment old.words id))) 6 q →
+    new ≡ record last { words = with_word last.words id at x } → IsCopied old.words new.words id at (Pointers children.children)
+pointers_put {r} {old} {mid} {last} {new} {id} {at} {head} {q} {x} place taken children word writes =
     let M : Segments = old.words in
     let W : List ℕ = segment M id in
     let ts : Trees = trim_each children.children in
@@ -75,14 +77,13 @@ pointers_are_copied {r} {old} {mid} {last} {new} {id} {at} {head} {q} {x} place 
     let put : last.words ≡ with_segment mid.words id (with_children (segment mid.words id) (length W) ts) = rw (sym taken.starts) children.made in
     let is : x ≡ pointer (Pointers ts) (offset_to at (length W)) = word ∙ ap (list_word (offset_to at (length W)) 6) (sym len) in
     let second = then_written M id (W ++ replicate q 0) (λ xs. with_children xs (length W) ts) (id_there, ap (λ (v : View). v.words) taken.extends) put in
-    record {
-      children = children.children;
-      counts = children.counts;
-      are_read = children.are_read;
-      made =
-          then_written M id (with_children (W ++ replicate q 0) (length W) ts) (λ xs. set xs at x) (id_there, second) (ap (λ (v : View). v.words) writes)
-          ∙ ap (with_segment M id) (ap₂ (λ xs y. set xs at y) (object_children W q ts len) is);
-    }
+    then_written M id (with_children (W ++ replicate q 0) (length W) ts) (λ xs. set xs at x) (id_there, second) (ap (λ (v : View). v.words) writes)
+    ∙ ap (with_segment M id) (ap₂ (λ xs y. set xs at y) (object_children W q ts len) is)
+
+pub pointers_are_copied : {r : Reading} {old mid last new : View} {id at head q x : ℕ} {m m' : Meter} → IsPlace old.words id at → TakesWords old mid id head (replicate q 0) → CopiesChildren r q (call_of mid last id m m') head → x ≡ list_word (offset_to at (length (segment old.words id))) 6 q →
+    new ≡ record last { words = with_word last.words id at x } → CopiesPointers r q (call_of old new id m m') at
+pointers_are_copied place taken children word writes =
+    record { children = children.children; counts = children.counts; are_read = children.are_read; made = pointers_put place taken children word writes }
 
 -- a struct
 
@@ -178,13 +179,14 @@ struct_stops {r} {size} {used} {old} {mid} {new} {id} {at} {head} {m} {m'} {k} b
       ];
     }
 
-pub struct_is_copied : {r : Reading} {size used : StructSize} {old mid last new : View} {id at head x : ℕ} {m m' : Meter} → StructBegun r size used old mid id at head → 0 < used.data_words + used.pointers → CopiesChildren (behind r size.data_words) used.pointers (call_of mid last id m m') (head + used.data_words) →
-    x ≡ struct_word (offset_to at (length (segment old.words id))) used.data_words used.pointers → new ≡ record last { words = with_word last.words id at x } → CopiesStruct r size (call_of old new id m m') at
-struct_is_copied {r} {size} {used} {old} {mid} {last} {new} {id} {at} {head} {x} begun some children word writes =
+-- the words of a struct and of its children, once they are put, and its pointer
+pub struct_put : {r : Reading} {size used : StructSize} {old mid last new : View} {id at head x : ℕ} {m m' : Meter} → StructBegun r size used old mid id at head → 0 < used.data_words + used.pointers →
+    (children : CopiesChildren (behind r size.data_words) used.pointers (call_of mid last id m m') (head + used.data_words)) → x ≡ struct_word (offset_to at (length (segment old.words id))) used.data_words used.pointers →
+    new ≡ record last { words = with_word last.words id at x } → new.words ≡ with_segment old.words id (copied (segment old.words id) at (Struct (words_from r used.data_words) (trim_each children.children)))
+struct_put {r} {size} {used} {old} {mid} {last} {new} {id} {at} {head} {x} begun some children word writes =
     let M : Segments = old.words in
     let W : List ℕ = segment M id in
     let q : ℕ = used.pointers in
-    let ws : List ℕ = words_from r size.data_words in
     let us : List ℕ = words_from r used.data_words in
     let zeros : List ℕ = replicate q 0 in
     let ts : Trees = trim_each children.children in
@@ -192,9 +194,6 @@ struct_is_copied {r} {size} {used} {old} {mid} {last} {new} {id} {at} {head} {x}
     let id_there : id < length M = there M id at begun.place in
     let long : length us ≡ used.data_words = data_long begun in
     let len : count ts ≡ q = trim_each-count children.children ∙ children.counts in
-    let f = struct_filled begun.inside begun.uses children.counts children.are_read in
-    let section : take (used_words ws) ws ≡ us = ap (λ i. take i ws) (sym begun.uses.of_data) ∙ words_taken r.segments r.segment r.at used.data_words size.data_words begun.uses.less_data in
-    let form : trim (Struct ws f.all) ≡ Struct us ts = f.form ∙ ap (λ xs. Struct xs ts) section in
     let put : last.words ≡ with_segment mid.words id (with_children (segment mid.words id) (length W + length us) ts) = rw (long, sym begun.taken.starts) children.made in
     let shape : W ++ (us ++ zeros) ≡ front ++ zeros = simp append_assoc in
     let filled : with_children (W ++ (us ++ zeros)) (length W + length us) ts ≡ front ++ (pointers 0 ts ++ bodies ts) =
@@ -203,11 +202,21 @@ struct_is_copied {r} {size} {used} {old} {mid} {last} {new} {id} {at} {head} {x}
     let is : x ≡ pointer (Struct us ts) (offset_to at (length W)) =
     word ∙ ap₂ (struct_word (offset_to at (length W))) (sym long) (sym len) ∙ sym (struct_pointer us ts (offset_to at (length W)) (omega (arith, len, long))) in
     let second = then_written M id (W ++ (us ++ zeros)) (λ xs. with_children xs (length W + length us) ts) (id_there, ap (λ (v : View). v.words) begun.taken.extends) put in
+    then_written M id (with_children (W ++ (us ++ zeros)) (length W + length us) ts) (λ xs. set xs at x) (id_there, second) (ap (λ (v : View). v.words) writes)
+    ∙ ap (with_segment M id) (ap₂ (λ xs y. set xs at y) (filled ∙ whole) is)
+
+pub struct_is_copied : {r : Reading} {size used : StructSize} {old mid last new : View} {id at head x : ℕ} {m m' : Meter} → StructBegun r size used old mid id at head → 0 < used.data_words + used.pointers → CopiesChildren (behind r size.data_words) used.pointers (call_of mid last id m m') (head + used.data_words) →
+    x ≡ struct_word (offset_to at (length (segment old.words id))) used.data_words used.pointers → new ≡ record last { words = with_word last.words id at x } → CopiesStruct r size (call_of old new id m m') at
+struct_is_copied {r} {size} {used} {old} {mid} {last} {new} {id} {at} {head} {x} begun some children word writes =
+    let ws : List ℕ = words_from r size.data_words in
+    let us : List ℕ = words_from r used.data_words in
+    let ts : Trees = trim_each children.children in
+    let f = struct_filled begun.inside begun.uses children.counts children.are_read in
+    let section : take (used_words ws) ws ≡ us = ap (λ i. take i ws) (sym begun.uses.of_data) ∙ words_taken r.segments r.segment r.at used.data_words size.data_words begun.uses.less_data in
+    let form : trim (Struct ws f.all) ≡ Struct us ts = f.form ∙ ap (λ xs. Struct xs ts) section in
     record {
       children = f.all;
       counts = f.counts;
       are_read = f.are_read;
-      made =
-          then_written M id (with_children (W ++ (us ++ zeros)) (length W + length us) ts) (λ xs. set xs at x) (id_there, second) (ap (λ (v : View). v.words) writes)
-          ∙ ap (with_segment M id) (ap₂ (λ xs y. set xs at y) (filled ∙ whole) is) ∙ ap (λ t. with_segment M id (copied W at t)) (sym form);
+      made = struct_put begun some children word writes ∙ ap (λ t. with_segment old.words id (copied (segment old.words id) at t)) (sym form);
     }

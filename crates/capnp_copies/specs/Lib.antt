@@ -5,3 +5,5 @@ pub mod Parts
 pub mod Rooms
 pub mod Widths
 pub mod Changes
+pub mod ListValues
+pub mod StructValues

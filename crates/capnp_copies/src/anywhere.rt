@@ -11,12 +11,15 @@ ghost use Rattle.capnp_making.specs.Stored.{IsReplaced};
 ghost use Rattle.capnp_objects.specs.Outcomes.{Reads};
 ghost use Rattle.capnp_objects.specs.Refusals.{Refused, BreaksOff};
 ghost use Rattle.capnp_readers.specs.Readers.{reading};
-ghost use Rattle.capnp_copies.specs.Changes.{form_of, kept, change, CopiesValue, StopsAtValue};
+ghost use Rattle.capnp_copies.specs.Changes.{form_of, kept, change, StandsAsRead, CopiesValue, StopsAtValue};
 
 mod children;
+mod each;
 mod elements;
 mod flat;
+mod list_value;
 mod lists;
+mod struct_value;
 mod structs;
 
 use crate::copy::flat_words;
@@ -28,8 +31,14 @@ use capnp_words::error::ErrorKind;
 use capnp_words::read_limiter::ReadLimiter;
 use capnp_words::wire_pointer::WirePointer;
 use capnp_words::words::part;
+pub use each::copy_each;
+pub use list_value::copy_list;
+pub use struct_value::copy_struct_value;
 
 /// Copies what a pointer means to the null pointer at a place, as it stands or in canonical form.
+///
+/// In canonical form its words stand behind those of the pointer's segment, in the canonical order,
+/// where they all fit its room; then no other word changes but the pointer.
 ///
 /// A refusal of the arena is `AllocationFailed` or `MessageTooLarge`; a capability is
 /// `CannotCreateACanonicalMessageWithACapability` in canonical form; a refusal to read keeps its name.
@@ -47,6 +56,7 @@ pub fn copy_value<A: BuilderArena, B: ReaderArena>(
     requires null { word_at (A.view arena.old).words id at ≡ 0 }
     ensures copied { IfOk result (λ _. (t : Tree) × Reads (form_of canonicalize) (reading B.ReaderArena from.entry) lim.old lim.new t
         × IsReplaced (A.view arena.old).words (A.view arena.new).words id at Null (kept canonicalize t)) }
+    ensures canonical { OnOk result (StandsAsRead (reading B.ReaderArena from.entry) (change canonicalize id at (A.view arena.old) (A.view arena.new) lim.old lim.new)) }
     ensures refused { IfErr result (λ k. RefusesGrowth (A.view arena.old) (A.view arena.new) k
         ⊎ Refused (form_of canonicalize) (reading B.ReaderArena from.entry) lim.old lim.new k) }
     ensures cleared { OnErr result (IsReplaced (A.view arena.old).words (A.view arena.new).words id at Null Null) }

@@ -4,4 +4,6 @@
 pub mod anywhere;
 pub mod copy;
 pub(crate) mod flat;
+pub mod laws;
+pub(crate) mod section;
 pub(crate) mod widths;

@@ -198,6 +198,20 @@ whole_words S R h xs u a k w is_u is_a some enough claim =
           ∙ message_set B u (overwritten bs (8 * a) xs) ∙ ap₂ (λ T ws. with_segment T u ws) (sym w.old_read) (words_over bs a k xs enough room ∙ ap (λ ws. overwritten ws a (words_of (over_front bs a k xs))) (sym shown)),
     )
 
+-- and no segment is longer or shorter
+pub written_lengths : (S R : Segments) (h : Start) (xs : List ℕ) (k : ℕ) → WritesBytes S R h xs → length xs ≤ 8 * k → h.at + k ≤ length (segment S h.segment) → SameLengths S R
+written_lengths S R h xs k w enough claim = elim (cases_eq (length xs) 0) [
+  | inl e ↦ record { segments = ap length (w.nothing e); words = λ v. ap (λ T. length (segment T v)) (w.nothing e) }
+  | inr some ↦ (
+      let u : ℕ = h.segment in
+      let a : ℕ = h.at in
+      let (bs, shown, room, whole) = whole_words S R h xs u a k w refl refl (omega arith) enough claim in
+      let new : List ℕ = over_front bs a k xs in
+      let long : length new ≡ 8 * k = length-front bs a k xs enough room in
+      (words_written S R u a k (words_of new) (omega arith) (length-words_of k new (omega (arith, long)) (omega (arith, long))) claim whole).long
+      )
+]
+
 -- some bytes over the first ones of a list of zero bytes
 some_bytes : (S R : Segments) (s p n : ℕ) (h : Start) (xs : List ℕ) → WritesBytes S R h xs → IsStored S s p (Flat 2 (zeros n)) → LeadsTo S s p h → 0 < length xs → length xs ≤ n →
     IsReplaced S R s p (Flat 2 (zeros n)) (Flat 2 (xs ++ zeros (n - length xs)))

@@ -17,6 +17,7 @@ pub mod Leading
 pub mod LentBytes
 pub mod MadeWords
 pub mod Memory
+pub mod NearMade
 pub mod Objects
 pub mod Outcomes
 pub mod Paths
@@ -26,6 +27,7 @@ pub mod PlacedStructs
 pub mod Replace
 pub mod Replaced
 pub mod Shapes
+pub mod Taken
 pub mod Tidy
 pub mod WithBits
 pub mod WordsPut

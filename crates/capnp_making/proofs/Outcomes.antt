@@ -5,6 +5,10 @@ pub on_ok_so : {A E : Type 0} (r : Result A E) (P : A → Type 0) (Q : Type 0) �
 on_ok_so (Ok x) P Q h f = f x h
 on_ok_so (Err k) P Q h f = tt
 
+pub if_ok_so : {A E : Type 0} (r : Result A E) (P Q : A → Type 0) → IfOk r P → ((x : A) → P x → Q x) → IfOk r Q
+if_ok_so (Ok x) P Q h f = f x h
+if_ok_so (Err k) P Q h f = tt
+
 pub on_err_so : {A E : Type 0} (r : Result A E) (P Q : Type 0) → OnErr r P → (P → Q) → OnErr r Q
 on_err_so (Ok x) P Q h f = tt
 on_err_so (Err k) P Q h f = f h

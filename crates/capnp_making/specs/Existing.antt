@@ -1,5 +1,5 @@
 -- What a pointer that means a value gives to a call that looks for a list, data, a text or a capability ("Lists", "Capabilities (Interfaces)").
-use Rattle.std.specs.Prelude.{ℕ, ◌+◌, ◌-◌, ◌≤◌, Bool, false, cond, ◌&&◌, nat_eq, nat_le, List, [], ◌∷◌, length, get_or, take, drop, Option, Some, None, Result, Ok, Err}
+use Rattle.std.specs.Prelude.{ℕ, ◌+◌, ◌-◌, ◌<◌, ◌≤◌, Bool, false, cond, ◌&&◌, nat_eq, nat_le, List, [], ◌∷◌, length, get_or, take, drop, Option, Some, None, Result, Ok, Err}
 use Rattle.capnp_format.specs.Numbers.{element_bits, words_for, unpacked}
 use Rattle.capnp_format.specs.Segments.{Segments, segment, word_at, Target}
 use Rattle.capnp_format.specs.Tree.{Tree, Null, Capability, Struct, Flat, Pointers, Structs, count, element_count}
@@ -113,6 +113,10 @@ data_in a (Structs d q es) = Err ExistingListPointerIsNotByteSized
 -- The words that hold bytes lie in their segment.
 abbrev pub AreInside : Segments → ExistingBytes → Type 0
 AreInside S b = b.start + words_for 2 b.length ≤ length (segment S b.segment)
+
+-- So they do, and that segment is there.
+abbrev pub LieIn : Segments → ExistingBytes → Type 0
+LieIn S b = (b.segment < length S) × AreInside S b
 
 -- n bytes from a word on.
 abbrev pub bytes_in : List ℕ → ℕ → ℕ → List ℕ

@@ -10,3 +10,4 @@ pub mod InPlace
 pub mod Laws
 pub mod Overwritten
 pub mod Filled
+pub mod Near

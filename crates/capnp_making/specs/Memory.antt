@@ -1,15 +1,36 @@
 -- The words that an object takes, in the segment of its pointer or, behind a landing pad, in another one ("Inter-Segment Pointers").
-use Rattle.std.specs.Prelude.{ℕ, ◌≡◌, ◌⊎◌, ◌+◌, ◌-◌, ◌^◌, ◌<◌, ◌≤◌, length}
-use Rattle.capnp_format.specs.Segments.{segment}
+use Rattle.std.specs.Prelude.{ℕ, ◌≡◌, ◌≢◌, ◌⊎◌, ◌+◌, ◌-◌, ◌^◌, ◌<◌, ◌≤◌, max, length}
+use Rattle.capnp_format.specs.Segments.{Segments, segment}
 use Rattle.capnp_words.specs.declared.error.ErrorKind.{ErrorKind}
 use Rattle.capnp_words.specs.declared.error.ErrorKind.TheVariants.{AllocationFailed, MessageTooLarge}
 use Rattle.capnp_arena.specs.Allocations.{max_segments, max_segment_words, one_more}
 use Rattle.capnp_arena.specs.View.{View}
-use Rattle.capnp_arena.specs.Taking.{IsFirstFit, IsAllocationRefusal, SameRoomBelow}
+use Rattle.capnp_arena.specs.Taking.{IsFirstFit, IsFull, IsAllocationRefusal, SameRoomBelow}
+use Rattle.capnp_making.specs.declared.making.Start.{Start}
 
 -- Segment id has room for n words more, or some segment has room for them and a pad.
 abbrev pub HasRoom : View → ℕ → ℕ → Type 0
 HasRoom v id n = (length (segment v.words id) + n ≤ v.room id) ⊎ ((k : ℕ) × IsFirstFit v (n + 1) k)
+
+-- From S to R segment k has n words more, and may be a new one behind the others; these are as long as before.
+pub record Lengthens (S R : Segments) (k n : ℕ) : Type 0 where
+  pub segments : length R ≡ max (length S) (k + 1)
+  pub gained : length (segment R k) ≡ length (segment S k) + n
+  pub others : (v : ℕ) → v ≢ k → length (segment R v) ≡ length (segment S v)
+
+-- Segment k is the first with room for n words more or, where none has it, a new one behind the others.
+abbrev pub IsNextRoom : View → ℕ → ℕ → Type 0
+IsNextRoom v n k = IsFirstFit v n k ⊎ (IsFull v n × (k ≡ length v.words))
+
+-- n words are taken in segment id where it has room for them, and else n words and one for a landing pad where the arena has room next.
+pub record TakesWords (old new : View) (id n : ℕ) : Type 0 where
+  pub near : length (segment old.words id) + n ≤ old.room id → Lengthens old.words new.words id n
+  pub far : old.room id < length (segment old.words id) + n → (k : ℕ) × IsNextRoom old (n + 1) k × Lengthens old.words new.words k (n + 1)
+
+-- n words from h on stand behind all that were there: in segment id where it has room for them, and else behind a landing pad where the arena has room next.
+pub record StandsBehind (old : View) (id n : ℕ) (h : Start) : Type 0 where
+  pub near : 0 < n → length (segment old.words id) + n ≤ old.room id → (h.segment ≡ id) × (h.at ≡ length (segment old.words id))
+  pub far : old.room id < length (segment old.words id) + n → IsNextRoom old (n + 1) h.segment × (h.at ≡ length (segment old.words h.segment) + 1)
 
 -- Nothing but words is changed, and the room of segments that are new.
 abbrev pub KeepsMemory : View → View → Type 0

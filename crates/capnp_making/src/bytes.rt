@@ -7,9 +7,10 @@ ghost use Rattle.capnp_format.specs.Segments.{segment, IsPlace};
 ghost use Rattle.capnp_format.specs.Tree.{Null, Flat};
 ghost use Rattle.capnp_arena.specs.View.{KeepsLimits};
 ghost use Rattle.capnp_making.specs.Made.{zeros};
-ghost use Rattle.capnp_making.specs.Memory.{HasRoom, KeepsMemory, IsRefusedFor};
+ghost use Rattle.capnp_making.specs.Memory.{HasRoom, KeepsMemory, TakesWords, IsRefusedFor};
 ghost use Rattle.capnp_making.specs.Overwritten.{HoldsBytes, bytes_over};
 ghost use Rattle.capnp_making.specs.Stored.{Puts};
+ghost use Rattle.capnp_making.specs.Zeroed.{IsPruned};
 
 use crate::making::{Start, init_list};
 use capnp_arena::arena::BuilderArena;
@@ -31,8 +32,10 @@ pub fn set_data<A: BuilderArena>(
     ensures made { OnOk result (Puts (A.view arena.old).words (A.view arena.new).words id at (Flat 2 from.now)) }
     ensures fits { HasRoom (A.view arena.old) id (words_for 2 (length from.now)) → IsOk result }
     ensures granted { OnOk result (KeepsMemory (A.view arena.old) (A.view arena.new)) }
+    ensures taken { OnOk result (TakesWords (A.view arena.old) (A.view arena.new) id (words_for 2 (length from.now))) }
     ensures named { IfErr result (IsRefusedFor (A.view arena.old) (A.view arena.new) (words_for 2 (length from.now))) }
     ensures refused { OnErr result (Puts (A.view arena.old).words (A.view arena.new).words id at Null) }
+    ensures only { OnErr result (IsPruned (A.view arena.old).words (A.view arena.new).words) }
 {
     set_bytes(arena, id, at, from, from.len() as u32)
 }
@@ -53,14 +56,17 @@ pub fn set_text<A: BuilderArena>(
     ensures made { OnOk result (Puts (A.view arena.old).words (A.view arena.new).words id at (Flat 2 (from.now ++ 0 ∷ []))) }
     ensures fits { HasRoom (A.view arena.old) id (words_for 2 (length from.now + 1)) → IsOk result }
     ensures granted { OnOk result (KeepsMemory (A.view arena.old) (A.view arena.new)) }
+    ensures taken { OnOk result (TakesWords (A.view arena.old) (A.view arena.new) id (words_for 2 (length from.now + 1))) }
     ensures named { IfErr result (IsRefusedFor (A.view arena.old) (A.view arena.new) (words_for 2 (length from.now + 1))) }
     ensures refused { OnErr result (Puts (A.view arena.old).words (A.view arena.new).words id at Null) }
+    ensures only { OnErr result (IsPruned (A.view arena.old).words (A.view arena.new).words) }
 {
     set_bytes(arena, id, at, from, from.len() as u32 + 1)
 }
 
 /// Makes a list of so many bytes where the pointer at a place leads: the given ones, and zeros
 /// behind them.
+#[inline(always)]
 fn set_bytes<A: BuilderArena>(
     arena: &mut A,
     id: u32,
@@ -74,8 +80,10 @@ fn set_bytes<A: BuilderArena>(
     ensures made { OnOk result (Puts (A.view arena.old).words (A.view arena.new).words id at (Flat 2 (from.now ++ zeros (count - length from.now)))) }
     ensures fits { HasRoom (A.view arena.old) id (words_for 2 count) → IsOk result }
     ensures granted { OnOk result (KeepsMemory (A.view arena.old) (A.view arena.new)) }
+    ensures taken { OnOk result (TakesWords (A.view arena.old) (A.view arena.new) id (words_for 2 count)) }
     ensures named { IfErr result (IsRefusedFor (A.view arena.old) (A.view arena.new) (words_for 2 count)) }
     ensures refused { OnErr result (Puts (A.view arena.old).words (A.view arena.new).words id at Null) }
+    ensures only { OnErr result (IsPruned (A.view arena.old).words (A.view arena.new).words) }
 {
     match init_list(arena, id, at, ElementSize::Byte, count) {
         Ok(start) => {

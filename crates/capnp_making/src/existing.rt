@@ -1,6 +1,6 @@
 //! What a pointer leads to already ("Lists", "Capabilities (Interfaces)"): nothing is written, and
 //! nothing made.
-ghost use Rattle.std.specs.Prelude.{◌≡◌, ◌<◌, ◌≤◌, ◌+◌, ◌^◌, IsTrue, IsSome, IfSome, length};
+ghost use Rattle.std.specs.Prelude.{◌≡◌, ◌↔◌, ◌<◌, ◌≤◌, ◌+◌, ◌^◌, IsTrue, IsSome, IfSome, length};
 ghost use Rattle.capnp_format.specs.Bytes.{words_of};
 ghost use Rattle.capnp_format.specs.Forest.{target};
 ghost use Rattle.capnp_format.specs.Numbers.{words_for};
@@ -10,7 +10,7 @@ ghost use Rattle.capnp_format.specs.Word.{list_count};
 ghost use Rattle.capnp_pointers.specs.Sizes.{size_number};
 ghost use Rattle.capnp_making.specs.Landings.{target_of};
 ghost use Rattle.capnp_making.specs.Stored.{IsStored};
-ghost use Rattle.capnp_making.specs.Existing.{capability_of, capability_in, listed, landing_in, plain_misfit, structs_misfit, unless, plain_list, tagged_list, list_in, data_in, text_in, AreInside, bytes_in, ends_in_zero};
+ghost use Rattle.capnp_making.specs.Existing.{LieIn, capability_of, capability_in, listed, landing_in, plain_misfit, structs_misfit, unless, plain_list, tagged_list, list_in, data_in, text_in, AreInside, bytes_in, ends_in_zero};
 
 use crate::landing::{Landing, follow, word_of};
 use capnp_arena::arena::BuilderArena;
@@ -259,6 +259,19 @@ pub fn get_text<A: BuilderArena>(
         }
         Ok(None) => Ok(None),
         Err(k) => Err(k),
+    }
+}
+
+/// Whether bytes lie in a segment that is there.
+pub fn are_inside<A: BuilderArena>(arena: &A, bytes: ExistingBytes) -> bool
+    ensures { IsTrue result ↔ LieIn (A.view arena.now).words bytes }
+{
+    match arena.get_segment(bytes.segment) {
+        Ok(segment) => {
+            let end = bytes.start as usize + (bytes.length as usize).div_ceil(8);
+            end <= segment.len() / 8
+        }
+        Err(_) => false,
     }
 }
 

@@ -49,6 +49,8 @@ pub(crate) fn word_of<A: BuilderArena>(arena: &A, id: u32, at: u32) -> WirePoint
 }
 
 /// Where the pointer at a place leads, which is not zero.
+#[cold]
+#[inline(never)]
 pub(crate) fn follow<A: BuilderArena>(arena: &A, id: u32, at: u32) -> Option<Landing>
     ensures { (a : Target) → leads (A.view arena.now).words id at ≡ Some a → landed result ≡ Some a }
 {

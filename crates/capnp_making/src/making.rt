@@ -3,17 +3,19 @@
 //! An object goes behind the words of its pointer's segment where it fits, with a near pointer. Else
 //! it goes behind a landing pad of one word, where the arena finds room. What a pointer held before
 //! becomes zero first, with all below it and its landing pads; these words stay allocated.
-ghost use Rattle.std.specs.Prelude.{◌≡◌, ◌≢◌, ℕ, ◌<◌, ◌≤◌, ◌+◌, ◌*◌, ◌^◌, IfOk, IsOk, OnOk, OnErr, IfErr};
+ghost use Rattle.std.specs.Prelude.{◌≡◌, ◌≢◌, ℕ, ◌<◌, ◌≤◌, ◌+◌, ◌-◌, ◌*◌, ◌^◌, IfOk, IsOk, OnOk, OnErr, IfErr};
 ghost use Rattle.capnp_format.specs.Canonical.{offset_to, Reaches};
 ghost use Rattle.capnp_format.specs.Segments.{word_at, IsPlace};
 ghost use Rattle.capnp_format.specs.Tree.{Null, Capability};
-ghost use Rattle.capnp_format.specs.Word.{offset_bits};
+ghost use Rattle.capnp_format.specs.Word.{offset_bits, struct_word};
 ghost use Rattle.capnp_pointers.specs.Sizes.{size_number};
 ghost use Rattle.capnp_arena.specs.View.{KeepsLimits};
 ghost use Rattle.capnp_making.specs.Made.{IsShape, IsFew, AsksWords, zero_struct, zero_structs, zero_list, list_words, IsMadeAt, LeadsTo, LieFrom};
-ghost use Rattle.capnp_making.specs.Memory.{HasRoom, KeepsMemory, IsRefusedFor};
+ghost use Rattle.capnp_making.specs.Memory.{HasRoom, KeepsMemory, TakesWords, StandsBehind, IsRefusedFor};
+ghost use Rattle.capnp_making.specs.Near.{HasOwnRoom, HasStructRoom, HasStructsRoom, StartsBehind, shape_word, with_shape, with_struct, with_list, with_struct_list};
 ghost use Rattle.capnp_making.specs.Stored.{IsReplaced, Puts};
 ghost use Rattle.capnp_making.specs.Zeroed.{IsPruned};
+ghost use Rattle.capnp_arena.specs.Written.{with_word};
 
 use crate::zeroing::zero_object;
 use capnp_arena::arena::BuilderArena;
@@ -45,6 +47,7 @@ pub struct Start {
 fn pointer_to(shape: Shape, position: u32, target: u32) -> WirePointer
     requires reaches { Reaches position target }
     requires few { IsFew shape }
+    ensures word { result.0 ≡ shape_word shape (offset_to position target) }
     ensures shape { IsShape shape result.0 }
     ensures offset { offset_bits result.0 ≡ offset_to position target }
 {
@@ -60,6 +63,7 @@ fn pointer_to(shape: Shape, position: u32, target: u32) -> WirePointer
 ///
 /// A refusal is that of `allocate_anywhere` for one word more than the object has, and changes
 /// nothing but `refused`.
+#[inline(always)]
 fn put_object<A: BuilderArena>(
     arena: &mut A,
     id: u32,
@@ -74,6 +78,10 @@ fn put_object<A: BuilderArena>(
     ensures made { IfOk result (IsMadeAt (A.view arena.old).words (A.view arena.new).words id at shape amount) }
     ensures fits { HasRoom (A.view arena.old) id amount → IsOk result }
     ensures granted { OnOk result (KeepsMemory (A.view arena.old) (A.view arena.new)) }
+    ensures taken { OnOk result (TakesWords (A.view arena.old) (A.view arena.new) id amount) }
+    ensures behind { IfOk result (StandsBehind (A.view arena.old) id amount) }
+    ensures near { HasOwnRoom (A.view arena.old) id amount → OnOk result ((A.view arena.new).words ≡ with_shape (A.view arena.old).words id at shape amount) }
+    ensures at_end { HasOwnRoom (A.view arena.old) id amount → IfOk result (StartsBehind (A.view arena.old).words id) }
     ensures named { IfErr result (IsRefusedFor (A.view arena.old) (A.view arena.new) amount) }
     ensures refused { OnErr result ((A.view arena.new).words ≡ (A.view arena.old).words) }
 {
@@ -127,6 +135,7 @@ pub fn set_capability<A: BuilderArena>(arena: &mut A, id: u32, at: u32, index: u
 /// without sections takes no words.
 ///
 /// A refusal is that of memory, or `MessageTooLarge`, and changes nothing but `refused`.
+#[inline(always)]
 pub fn make_struct<A: BuilderArena>(
     arena: &mut A,
     id: u32,
@@ -139,6 +148,10 @@ pub fn make_struct<A: BuilderArena>(
     ensures inside { IfOk result (LieFrom (A.view arena.new).words (size.data_words + size.pointers)) }
     ensures fits { HasRoom (A.view arena.old) id (size.data_words + size.pointers) → IsOk result }
     ensures granted { OnOk result (KeepsMemory (A.view arena.old) (A.view arena.new)) }
+    ensures taken { OnOk result (TakesWords (A.view arena.old) (A.view arena.new) id (size.data_words + size.pointers)) }
+    ensures behind { IfOk result (StandsBehind (A.view arena.old) id (size.data_words + size.pointers)) }
+    ensures near { HasStructRoom (A.view arena.old) id size → OnOk result ((A.view arena.new).words ≡ with_struct (A.view arena.old).words id at size) }
+    ensures empty { size.data_words + size.pointers ≡ 0 → OnOk result ((A.view arena.new).words ≡ with_word (A.view arena.old).words id at (struct_word (2 ^ 30 - 1) 0 0)) }
     ensures named { IfErr result (IsRefusedFor (A.view arena.old) (A.view arena.new) (size.data_words + size.pointers)) }
     ensures refused { OnErr result ((A.view arena.new).words ≡ (A.view arena.old).words) }
 {
@@ -165,8 +178,11 @@ pub fn init_struct<A: BuilderArena>(
     ensures inside { IfOk result (LieFrom (A.view arena.new).words (size.data_words + size.pointers)) }
     ensures fits { HasRoom (A.view arena.old) id (size.data_words + size.pointers) → IsOk result }
     ensures granted { OnOk result (KeepsMemory (A.view arena.old) (A.view arena.new)) }
+    ensures taken { OnOk result (TakesWords (A.view arena.old) (A.view arena.new) id (size.data_words + size.pointers)) }
+    ensures behind { IfOk result (StandsBehind (A.view arena.old) id (size.data_words + size.pointers)) }
     ensures named { IfErr result (IsRefusedFor (A.view arena.old) (A.view arena.new) (size.data_words + size.pointers)) }
     ensures refused { OnErr result (Puts (A.view arena.old).words (A.view arena.new).words id at Null) }
+    ensures only { OnErr result (IsPruned (A.view arena.old).words (A.view arena.new).words) }
 {
     zero_object(arena, id, at);
     make_struct(arena, id, at, size)
@@ -176,6 +192,7 @@ pub fn init_struct<A: BuilderArena>(
 /// it, which isn't looked at.
 ///
 /// A refusal is that of memory, or `MessageTooLarge`, and changes nothing but `refused`.
+#[inline(always)]
 pub fn make_list<A: BuilderArena>(
     arena: &mut A,
     id: u32,
@@ -191,6 +208,10 @@ pub fn make_list<A: BuilderArena>(
     ensures inside { IfOk result (LieFrom (A.view arena.new).words (list_words (size_number size) count)) }
     ensures fits { HasRoom (A.view arena.old) id (list_words (size_number size) count) → IsOk result }
     ensures granted { OnOk result (KeepsMemory (A.view arena.old) (A.view arena.new)) }
+    ensures taken { OnOk result (TakesWords (A.view arena.old) (A.view arena.new) id (list_words (size_number size) count)) }
+    ensures behind { IfOk result (StandsBehind (A.view arena.old) id (list_words (size_number size) count)) }
+    ensures near { HasOwnRoom (A.view arena.old) id (list_words (size_number size) count) → OnOk result ((A.view arena.new).words ≡ with_list (A.view arena.old).words id at (size_number size) count) }
+    ensures at_end { HasOwnRoom (A.view arena.old) id (list_words (size_number size) count) → IfOk result (StartsBehind (A.view arena.old).words id) }
     ensures named { IfErr result (IsRefusedFor (A.view arena.old) (A.view arena.new) (list_words (size_number size) count)) }
     ensures refused { OnErr result ((A.view arena.new).words ≡ (A.view arena.old).words) }
 {
@@ -201,6 +222,7 @@ pub fn make_list<A: BuilderArena>(
 /// Makes a list of elements that are no structs, all zero or null, where the pointer at a place leads.
 ///
 /// A refusal is that of memory, or `MessageTooLarge`; the pointer is null then.
+#[inline(always)]
 pub fn init_list<A: BuilderArena>(
     arena: &mut A,
     id: u32,
@@ -216,8 +238,11 @@ pub fn init_list<A: BuilderArena>(
     ensures inside { IfOk result (LieFrom (A.view arena.new).words (list_words (size_number size) count)) }
     ensures fits { HasRoom (A.view arena.old) id (list_words (size_number size) count) → IsOk result }
     ensures granted { OnOk result (KeepsMemory (A.view arena.old) (A.view arena.new)) }
+    ensures taken { OnOk result (TakesWords (A.view arena.old) (A.view arena.new) id (list_words (size_number size) count)) }
+    ensures behind { IfOk result (StandsBehind (A.view arena.old) id (list_words (size_number size) count)) }
     ensures named { IfErr result (IsRefusedFor (A.view arena.old) (A.view arena.new) (list_words (size_number size) count)) }
     ensures refused { OnErr result (Puts (A.view arena.old).words (A.view arena.new).words id at Null) }
+    ensures only { OnErr result (IsPruned (A.view arena.old).words (A.view arena.new).words) }
 {
     zero_object(arena, id, at);
     make_list(arena, id, at, size, count)
@@ -255,6 +280,9 @@ pub fn make_struct_list<A: BuilderArena>(
     ensures inside { IfOk result (LieFrom (A.view arena.new).words (1 + count * (size.data_words + size.pointers))) }
     ensures fits { HasRoom (A.view arena.old) id (1 + count * (size.data_words + size.pointers)) → IsOk result }
     ensures granted { OnOk result (KeepsMemory (A.view arena.old) (A.view arena.new)) }
+    ensures taken { OnOk result (TakesWords (A.view arena.old) (A.view arena.new) id (1 + count * (size.data_words + size.pointers))) }
+    ensures behind { IfOk result (StandsBehind (A.view arena.old) id (1 + count * (size.data_words + size.pointers))) }
+    ensures near { HasStructsRoom (A.view arena.old) id count size → OnOk result ((A.view arena.new).words ≡ with_struct_list (A.view arena.old).words id at count size) }
     ensures named { IfErr result (IsRefusedFor (A.view arena.old) (A.view arena.new) (1 + count * (size.data_words + size.pointers))) }
     ensures refused { OnErr result ((A.view arena.new).words ≡ (A.view arena.old).words) }
 {
@@ -288,8 +316,11 @@ pub fn init_struct_list<A: BuilderArena>(
     ensures inside { IfOk result (LieFrom (A.view arena.new).words (1 + count * (size.data_words + size.pointers))) }
     ensures fits { HasRoom (A.view arena.old) id (1 + count * (size.data_words + size.pointers)) → IsOk result }
     ensures granted { OnOk result (KeepsMemory (A.view arena.old) (A.view arena.new)) }
+    ensures taken { OnOk result (TakesWords (A.view arena.old) (A.view arena.new) id (1 + count * (size.data_words + size.pointers))) }
+    ensures behind { IfOk result (StandsBehind (A.view arena.old) id (1 + count * (size.data_words + size.pointers))) }
     ensures named { IfErr result (IsRefusedFor (A.view arena.old) (A.view arena.new) (1 + count * (size.data_words + size.pointers))) }
     ensures refused { OnErr result (Puts (A.view arena.old).words (A.view arena.new).words id at Null) }
+    ensures only { OnErr result (IsPruned (A.view arena.old).words (A.view arena.new).words) }
 {
     zero_object(arena, id, at);
     make_struct_list(arena, id, at, count, size)

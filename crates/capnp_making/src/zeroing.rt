@@ -47,6 +47,7 @@ fn zero_pads<A: BuilderArena>(arena: &mut A, word: WirePointer)
 /// pointer itself. Of words that are no message any may become zero, and none is written
 /// otherwise.
 #[cycle(zeroing)]
+#[inline(always)]
 pub fn zero_object<A: BuilderArena>(arena: &mut A, id: u32, at: u32)
     requires { IsPlace (A.view arena.old).words id at }
     ensures zeroed { (t : Tree) → IsApart (A.view arena.old).words id at t → IsZeroed (A.view arena.old).words (A.view arena.new).words (extent (A.view arena.old).words id at t) }
@@ -71,6 +72,8 @@ pub fn zero_object<A: BuilderArena>(arena: &mut A, id: u32, at: u32)
 
 /// Makes zero the object that a pointer leads to, and all below it.
 #[cycle(zeroing)]
+#[cold]
+#[inline(never)]
 fn zero_landed<A: BuilderArena>(arena: &mut A, landing: Landing)
     ensures zeroed { (t : Tree) → IsObjectApart (A.view arena.old).words (target_of landing) t → IsZeroed (A.view arena.old).words (A.view arena.new).words (object_cover (A.view arena.old).words (target_of landing) t) }
     ensures pruned { IsPruned (A.view arena.old).words (A.view arena.new).words }

@@ -67,6 +67,7 @@ impl<'a, A: ReaderArena> Source<'a, A> {
     /// `InlineCompositeListsOfNonStructTypeAreNotSupported`,
     /// `InlineCompositeListsElementsOverrunItsWordCount`, `TriedToReadFromNullArena` for a far
     /// pointer of a default, or `ReadLimitExceeded`. What was charged before it stays charged.
+    #[inline(always)]
     pub fn read_object(
         self,
         place: Place<'a>,

@@ -1,17 +1,26 @@
 //! Structs of a message that is built ("Structs").
-ghost use Rattle.std.specs.Prelude.{◌≡◌, ◌≢◌, ◌↔◌, ◌+◌, ◌*◌, ◌<◌, [], IsTrue, cond, true, false};
+ghost use Rattle.std.specs.Prelude.{◌≡◌, ◌≢◌, ◌↔◌, ◌+◌, ◌*◌, ◌<◌, [], IsTrue, IfOk, IfErr, cond, true, false};
 ghost use Rattle.capnp_format.specs.Segments.{word_at, IsPlace};
 ghost use Rattle.capnp_readers.specs.Readers.{IsStructPlace};
 ghost use Rattle.capnp_builders.specs.Reads.{IsArenaOf, IsReadAt};
 ghost use Rattle.capnp_builders.specs.Places.{IsAligned, WritesField, field, field_behind};
 ghost use Rattle.capnp_readers.specs.Sections.{IsInside};
+ghost use Rattle.capnp_readers.specs.Sizes.{pointers_read};
+ghost use Rattle.capnp_arena.specs.View.{View};
+ghost use Rattle.capnp_copies.specs.Changes.{CopiesChildren};
+ghost use Rattle.capnp_copies.specs.StructValues.{CopiesFirst};
+ghost use Rattle.capnp_builders.specs.Content.{TakesData, both_have, pointers_copied};
 
+use super::content::{clear_pointers, write_content};
 use crate::builders::PointerBuilder;
-use capnp_arena::arena::BuilderArena;
+use capnp_arena::arena::{BuilderArena, ReaderArena};
+use capnp_copies::anywhere;
 use capnp_making::numbers;
-use capnp_readers::readers::{StructPlace, StructReader};
+use capnp_readers::readers::{PointerReader, StructPlace, StructReader};
+use capnp_words::error::ErrorKind;
 use capnp_words::mask::Mask;
 use capnp_words::primitive::Primitive;
+use capnp_words::read_limiter::ReadLimiter;
 use capnp_words::zero::Zero;
 
 /// A struct of a message that is built.
@@ -78,6 +87,42 @@ impl<'a, A: BuilderArena> StructBuilder<'a, A> {
             segment: place.segment,
             at: place.pointers_at + index as u32,
         }
+    }
+
+    /// Makes the struct's content that of another one, as it stands: the data that both have is copied,
+    /// and the rest of the data section is zero; the pointers become null, and zero what they held; then
+    /// the pointers that both have are copied in order ("Structs"). What the copied pointers mean is
+    /// charged as reading it costs, within the reader's nesting limit, and no other words.
+    ///
+    /// A refusal is the first one of reading what the pointers mean, or `AllocationFailed` or
+    /// `MessageTooLarge` of an object's words and one more. Then the data is copied and so are the
+    /// pointers before the refused one; it and those behind it are null, the words that were taken for it
+    /// are zero and stay allocated, and what was charged stays charged.
+    pub fn copy_content_from<B: ReaderArena>(
+        &mut self,
+        value: &StructReader<'_, B>,
+        lim: &mut ReadLimiter,
+    ) -> Result<(), ErrorKind>
+        requires inside { IsStructPlace (A.view self.old.arena.now).words self.old.place }
+        ensures copied { IfOk result (λ _. (mid : View) × TakesData B.ReaderArena value.now self.old.place (A.view self.old.arena.now) mid
+            × CopiesChildren (pointers_read B.ReaderArena value.now) (both_have B.ReaderArena value.now self.old.place) (pointers_copied self.old.place mid (A.view self.new.arena.now) lim.old lim.new)) }
+        ensures refused { IfErr result (λ k. (mid : View) × TakesData B.ReaderArena value.now self.old.place (A.view self.old.arena.now) mid
+            × CopiesFirst (pointers_read B.ReaderArena value.now) (both_have B.ReaderArena value.now self.old.place) (pointers_copied self.old.place mid (A.view self.new.arena.now) lim.old lim.new) k) }
+        ensures inside { IsStructPlace (A.view self.new.arena.now).words self.new.place }
+        ensures same { self.new.arena.ghost_name ≡ self.old.arena.ghost_name }
+        ensures place { self.new.place ≡ self.old.place }
+    {
+        let place = self.place;
+        let at = place.pointers_at;
+        write_content(&mut *self.arena, place, value.content, value.bits);
+        clear_pointers(&mut *self.arena, place.segment, at, place.pointers);
+        let from = PointerReader {
+            source: value.source,
+            place: value.pointers,
+            nesting_limit: value.nesting_limit,
+        };
+        let count = u32::from(place.pointers.min(value.pointer_count));
+        anywhere::copy_each(&mut *self.arena, place.segment, at, from, count, lim)
     }
 
     /// Whether a pointer of the pointer section, which has more than `index`, is zero.

@@ -7,6 +7,7 @@ ghost use Rattle.capnp_format.specs.Tree.{Null, Flat};
 ghost use Rattle.capnp_making.specs.Memory.{KeepsMemory, SpendsMemory, RefusesGrowth};
 ghost use Rattle.capnp_making.specs.Stored.{IsReplaced};
 ghost use Rattle.capnp_pointers.specs.Sizes.{size_number};
+ghost use Rattle.capnp_copies.specs.Changes.{IsCopiedInRoom};
 
 use crate::flat::put_elements;
 use capnp_arena::arena::BuilderArena;
@@ -30,6 +31,7 @@ pub(crate) fn copy_flat<A: BuilderArena>(
     requires whole { length elements.now ≡ 8 * length (words_of elements.now) }
     requires all { length (words_of elements.now) ≡ words_for (size_number size) count }
     ensures copied { OnOk result (IsReplaced (A.view arena.old).words (A.view arena.new).words id at Null (Flat (size_number size) (unpacked (size_number size) count (words_of elements.now)))) }
+    ensures tight { OnOk result (IsCopiedInRoom (A.view arena.old) (A.view arena.new) id at (Flat (size_number size) (unpacked (size_number size) count (words_of elements.now)))) }
     ensures granted { OnOk result (KeepsMemory (A.view arena.old) (A.view arena.new)) }
     ensures refused { IfErr result (RefusesGrowth (A.view arena.old) (A.view arena.new)) }
     ensures kept { OnErr result ((A.view arena.new).words ≡ (A.view arena.old).words) }

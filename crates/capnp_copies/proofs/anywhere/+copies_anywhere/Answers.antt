@@ -19,6 +19,7 @@ use Rattle.capnp_copies.proofs.FilledElements.{DataWritten, element_copied, elem
 use Rattle.capnp_copies.proofs.FilledObjects.{nothing_made, StructBegun, struct_fits, struct_null, struct_copied, struct_stops, ObjectBegun, pointers_copied, pointers_stop, widths_keep, structs_copied, structs_stop}
 use Rattle.capnp_copies.proofs.FilledValues.{read_stops, null_copied, capability_copied, capability_stops, struct_value, struct_value_stops, pointers_value, pointers_value_stops, structs_value, structs_value_stops, FlatOutcome, flat_value, flat_stops}
 use Rattle.capnp_copies.proofs.KeptForms.{SourceKept}
+use Rattle.capnp_copies.proofs.TightElements.{all_rows}
 use Rattle.capnp_copies.proofs.anywhere.+copies_anywhere.Goals as goal
 
 -- Pointers one behind the other.
@@ -41,7 +42,9 @@ children::copy_children-returns-in-Err-clause-refused g t c =
 pub children::copy_children-loop-i-preserved : goal.children::copy_children-loop-i-preserved
 children::copy_children-loop-i-preserved g t c =
     let nl = to_z-of_z w32 c.args.from.nesting_limit (search rules) in
-    child_copied c.loop-i.invariant (rw nl at c.in-Ok.ensures.copied)
+    let few : length (segment (g.A.BuilderArena.view c.loop-i.arena).words c.args.id) < 2 ^ 29 =
+    omega (arith, g.met.A.BuilderArena.within c.loop-i.arena c.args.id, g.met.A.BuilderArena.small c.loop-i.arena c.args.id) in
+    child_copied (omega (arith, c.requires.room, c.loop-i-test.true)) few c.loop-i.invariant (rw nl at c.in-Ok.ensures.copied)
 
 -- What a pointer means.
 
@@ -95,7 +98,7 @@ copy_object-returns-in-Flat-clause-copied g t c =
     let nl = to_z-of_z w32 c.args.from.nesting_limit (search rules) in
     let object = rw (c.in-Flat.is, nl) at c.in-Ok.ensures.object in
     let outcome : FlatOutcome c.copy_flat.result c.args.id c.args.at (g.A.BuilderArena.view c.args.arena.now) (g.A.BuilderArena.view c.copy_flat.new.arena) (Flat (size_number c.in-Flat.size) (unpacked (size_number c.in-Flat.size) c.in-Flat.count (words_of c.part-elements.result.now))) =
-    record { copied = c.copy_flat.ensures.copied; granted = c.copy_flat.ensures.granted; refused = c.copy_flat.ensures.refused; kept = c.copy_flat.ensures.kept; memory = c.copy_flat.ensures.memory } in
+    record { copied = c.copy_flat.ensures.copied; granted = c.copy_flat.ensures.granted; refused = c.copy_flat.ensures.refused; kept = c.copy_flat.ensures.kept; memory = c.copy_flat.ensures.memory; tight = c.copy_flat.ensures.tight } in
     flat_value c.args.canonicalize c.copy_flat.result c.in-Flat.start c.in-Flat.size object c.flat_words-words.ensures c.part-elements.ensures.words outcome
 
 pub copy_object-returns-in-Flat-clause-refused : goal.copy_object-returns-in-Flat-clause-refused
@@ -103,7 +106,7 @@ copy_object-returns-in-Flat-clause-refused g t c =
     let nl = to_z-of_z w32 c.args.from.nesting_limit (search rules) in
     let object = rw (c.in-Flat.is, nl) at c.in-Ok.ensures.object in
     let outcome : FlatOutcome c.copy_flat.result c.args.id c.args.at (g.A.BuilderArena.view c.args.arena.now) (g.A.BuilderArena.view c.copy_flat.new.arena) (Flat (size_number c.in-Flat.size) (unpacked (size_number c.in-Flat.size) c.in-Flat.count (words_of c.part-elements.result.now))) =
-    record { copied = c.copy_flat.ensures.copied; granted = c.copy_flat.ensures.granted; refused = c.copy_flat.ensures.refused; kept = c.copy_flat.ensures.kept; memory = c.copy_flat.ensures.memory } in
+    record { copied = c.copy_flat.ensures.copied; granted = c.copy_flat.ensures.granted; refused = c.copy_flat.ensures.refused; kept = c.copy_flat.ensures.kept; memory = c.copy_flat.ensures.memory; tight = c.copy_flat.ensures.tight } in
     flat_stops c.args.canonicalize c.copy_flat.result c.in-Flat.start c.in-Flat.size object c.requires.place c.requires.null outcome
 
 pub copy_object-returns-in-Pointers-clause-copied : goal.copy_object-returns-in-Pointers-clause-copied
@@ -163,7 +166,7 @@ elements::copy_elements-returns-then-kept_words-eq0-clause-copied g t c =
     no_width from c.args.sizes c.args.count c.args.canonicalize c.args.to.segment c.args.to.at (g.A.BuilderArena.view c.args.arena.now) c.args.lim.now fits (omega (arith, c.total-kept_words.ensures, c.if-kept_words-eq0.true))
 
 pub elements::copy_elements-loop-i-init : goal.elements::copy_elements-loop-i-init
-elements::copy_elements-loop-i-init g t c = no_row (reading g.B.ReaderArena c.args.from) c.args.sizes c.args.canonicalize c.args.to.segment c.args.to.at (g.A.BuilderArena.view c.args.arena.now) c.args.lim.now
+elements::copy_elements-loop-i-init g t c = no_row (reading g.B.ReaderArena c.args.from) c.args.sizes _ c.args.canonicalize c.args.to.segment c.args.to.at (g.A.BuilderArena.view c.args.arena.now) c.args.lim.now
 
 pub elements::copy_elements-overflow_mul-element : goal.elements::copy_elements-overflow_mul-element
 elements::copy_elements-overflow_mul-element g t c =
@@ -184,6 +187,7 @@ elements::copy_elements-copy_element-requires g t c κs within =
       fits = record { inside = c.requires.inside; less_data = c.requires.less_data; less_pointers = c.requires.less_pointers; used = c.requires.pointers };
       room = c.requires.room;
       zero = c.requires.zero;
+      wide = omega (arith, c.total-kept_words.ensures, c.if-kept_words-eq0.false);
       more = c.loop-i-test.true;
       rows = c.loop-i.invariant;
     } in
@@ -200,6 +204,7 @@ elements::copy_elements-returns-in-Err-clause-refused g t c =
       fits = record { inside = c.requires.inside; less_data = c.requires.less_data; less_pointers = c.requires.less_pointers; used = c.requires.pointers };
       room = c.requires.room;
       zero = c.requires.zero;
+      wide = omega (arith, c.total-kept_words.ensures, c.if-kept_words-eq0.false);
       more = c.loop-i-test.true;
       rows = c.loop-i.invariant;
     } in
@@ -213,10 +218,20 @@ elements::copy_elements-loop-i-preserved g t c =
       fits = record { inside = c.requires.inside; less_data = c.requires.less_data; less_pointers = c.requires.less_pointers; used = c.requires.pointers };
       room = c.requires.room;
       zero = c.requires.zero;
+      wide = omega (arith, c.total-kept_words.ensures, c.if-kept_words-eq0.false);
       more = c.loop-i-test.true;
       rows = c.loop-i.invariant;
     } in
     row_copied here (rw (c.total-source_words.ensures, c.total-kept_words.ensures, nl) at c.in-Ok.ensures.copied)
+
+pub elements::copy_elements-returns-clause-copied : goal.elements::copy_elements-returns-clause-copied
+elements::copy_elements-returns-clause-copied g t c = all_rows (omega arith) (omega arith) c.loop-i.invariant
+
+pub elements::copy_elements-overflow_add-element : goal.elements::copy_elements-overflow_add-element
+elements::copy_elements-overflow_add-element g t c =
+    let end = row_end c.loop-i.i c.args.count (c.args.sizes.source.data_words + c.args.sizes.source.pointers) c.loop-i-test.true in
+    let same : c.loop-i.i * c.total-source_words.result ≡ c.loop-i.i * (c.args.sizes.source.data_words + c.args.sizes.source.pointers) = ap (λ w. c.loop-i.i * w) c.total-source_words.ensures in
+    omega (arith, end, same, c.requires.inside, c.args.from.held.1, c.args.from.held.2)
 
 -- Lists of pointers.
 
@@ -233,7 +248,7 @@ pub lists::copy_pointers-returns-in-Ok-clause-copied : goal.lists::copy_pointers
 lists::copy_pointers-returns-in-Ok-clause-copied g t c =
     let begun : ObjectBegun c.args.id c.args.at c.args.count (g.A.BuilderArena.view c.args.arena.now) (g.A.BuilderArena.view c.make_list.new.arena) c.in-Ok.start (Pointers (nulls c.args.count)) =
     record { begun = record { made = c.in-Ok.ensures.made; start = c.in-Ok.ensures.start; inside = c.in-Ok.ensures.inside }; memory = c.in-Ok.ensures.granted } in
-    ok_so c.copy_children.result _ _ c.copy_children.ensures.copied (λ x made. pointers_copied begun made)
+    ok_so c.copy_children.result _ _ c.copy_children.ensures.copied (λ x made. pointers_copied begun (record { place = c.requires.place; memory = c.in-Ok.ensures.granted; near = c.in-Ok.ensures.near; at_end = c.in-Ok.ensures.at_end }) made)
 
 pub lists::copy_pointers-returns-in-Ok-clause-refused : goal.lists::copy_pointers-returns-in-Ok-clause-refused
 lists::copy_pointers-returns-in-Ok-clause-refused g t c =
@@ -266,7 +281,7 @@ lists::copy_structs-returns-in-Ok-clause-copied g t c =
     let least = c.kept_widths-kept.result in
     let begun : ObjectBegun c.args.id c.args.at (1 + c.args.count * (least.data_words + least.pointers)) (g.A.BuilderArena.view c.args.arena.now) (g.A.BuilderArena.view c.make_struct_list.new.arena) c.in-Ok.list (zero_structs c.args.count least) =
     record { begun = record { made = c.in-Ok.ensures.made; start = c.in-Ok.ensures.start; inside = c.in-Ok.ensures.inside }; memory = c.in-Ok.ensures.granted } in
-    ok_so c.copy_elements.result _ _ c.copy_elements.ensures.copied (λ x made. structs_copied c.requires.inside c.kept_widths-kept.ensures.kept begun made)
+    ok_so c.copy_elements.result _ _ c.copy_elements.ensures.copied (λ x made. structs_copied c.requires.inside c.kept_widths-kept.ensures.kept begun (record { place = c.requires.place; memory = c.in-Ok.ensures.granted; behind = c.in-Ok.ensures.behind; near = c.in-Ok.ensures.near }) made)
 
 pub lists::copy_structs-returns-in-Ok-clause-refused : goal.lists::copy_structs-returns-in-Ok-clause-refused
 lists::copy_structs-returns-in-Ok-clause-refused g t c =
@@ -305,6 +320,11 @@ structs::copy_struct-returns-clause-copied g t c =
       begun = record { made = c.in-Ok.ensures.made; start = c.in-Ok.ensures.start; inside = c.in-Ok.ensures.inside };
       memory = c.in-Ok.ensures.granted;
       writes = rw section at c.put_words.ensures.words;
+      place = c.requires.place;
+      within = g.met.A.BuilderArena.within c.put_words.new.arena c.in-Ok.start.segment;
+      behind = c.in-Ok.ensures.behind;
+      near = c.in-Ok.ensures.near;
+      empty = c.in-Ok.ensures.empty;
     } in
     ok_so c.copy_children.result _ _ c.copy_children.ensures.copied (λ x made. struct_copied begun (rw (c.from.ensures, c.from-2.ensures, c.from-pointers.ensures, nl) at made))
 
@@ -322,6 +342,11 @@ structs::copy_struct-returns-clause-refused g t c =
       begun = record { made = c.in-Ok.ensures.made; start = c.in-Ok.ensures.start; inside = c.in-Ok.ensures.inside };
       memory = c.in-Ok.ensures.granted;
       writes = rw section at c.put_words.ensures.words;
+      place = c.requires.place;
+      within = g.met.A.BuilderArena.within c.put_words.new.arena c.in-Ok.start.segment;
+      behind = c.in-Ok.ensures.behind;
+      near = c.in-Ok.ensures.near;
+      empty = c.in-Ok.ensures.empty;
     } in
     err_so c.copy_children.result _ _ c.copy_children.ensures.refused (λ k stop. struct_stops begun (rw (c.from.ensures, c.from-2.ensures, c.from-pointers.ensures, nl) at stop))
 
@@ -340,7 +365,22 @@ structs::copy_struct-copy_children-requires g t c κs within =
       begun = record { made = c.in-Ok.ensures.made; start = c.in-Ok.ensures.start; inside = c.in-Ok.ensures.inside };
       memory = c.in-Ok.ensures.granted;
       writes = rw section at c.put_words.ensures.words;
+      place = c.requires.place;
+      within = g.met.A.BuilderArena.within c.put_words.new.arena c.in-Ok.start.segment;
+      behind = c.in-Ok.ensures.behind;
+      near = c.in-Ok.ensures.near;
+      empty = c.in-Ok.ensures.empty;
     } in
     let ROOM : c.in-Ok.start.at + c.from-2.result + c.from-pointers.result ≤ length (segment N c.in-Ok.start.segment) = rw (c.from-2.ensures, c.from-pointers.ensures) (struct_fits begun) in
     let NULL : (i : ℕ) → i < c.from-pointers.result → word_at N c.in-Ok.start.segment (c.in-Ok.start.at + c.from-2.result + i) ≡ 0 = rw (c.from-2.ensures, c.from-pointers.ensures) (struct_null begun) in
     search rules
+
+pub structs::copy_struct-overflow_add-first : goal.structs::copy_struct-overflow_add-first
+structs::copy_struct-overflow_add-first g t c =
+    omega (
+      arith,
+      c.in-Ok.ensures.inside.1,
+      g.met.A.BuilderArena.within c.make_struct.new.arena c.in-Ok.start.segment,
+      g.met.A.BuilderArena.small c.make_struct.new.arena c.in-Ok.start.segment,
+      c.from-2.ensures,
+    )

@@ -1,7 +1,7 @@
-use Rattle.std.proofs.Common.{◌+◌, ◌*◌}
+use Rattle.std.proofs.Common.{◌+◌, ◌-◌, ◌*◌}
 use Rattle.capnp_objects.specs.Source.{levels}
 use Rattle.capnp_readers.specs.Readers.{reading}
-use Rattle.capnp_copies.specs.Changes.{change, CopiesChildren, CopiesElements}
+use Rattle.capnp_copies.specs.Changes.{change, CopiesChildren, CopiesRows}
 use Rattle.capnp_copies.proofs.anywhere.+copies_anywhere.Given as goal
 
 abbrev pub decreases-copy_object : goal.decreases-copy_object
@@ -31,4 +31,4 @@ invariant-children::copy_children-loop-i g l =
 
 abbrev pub invariant-elements::copy_elements-loop-i : goal.invariant-elements::copy_elements-loop-i
 invariant-elements::copy_elements-loop-i g l =
-    CopiesElements (reading g.B.ReaderArena l.from) l.sizes l.i (change l.canonicalize l.to.segment l.to.at (g.A.BuilderArena.view l.fn.arena) (g.A.BuilderArena.view l.arena) l.fn.lim l.lim)
+    CopiesRows (reading g.B.ReaderArena l.from) l.sizes l.i (l.count - l.i) (change l.canonicalize l.to.segment l.to.at (g.A.BuilderArena.view l.fn.arena) (g.A.BuilderArena.view l.arena) l.fn.lim l.lim)

@@ -1,6 +1,8 @@
-use Rattle.std.proofs.Common.{ap, arith}
+use Rattle.std.proofs.Common.{ℕ, ap, arith}
+use Rattle.capnp_format.specs.Numbers.{words_for}
 use Rattle.capnp_format.specs.Segments.{Segments}
-use Rattle.capnp_making.proofs.BytesWritten.{WritesBytes, bytes_written}
+use Rattle.capnp_making.proofs.BytesWritten.{WritesBytes, bytes_written, written_lengths}
+use Rattle.capnp_making.proofs.Taken.{takes_written}
 use Rattle.capnp_making.proofs.bytes.set_bytes.Goals as goal
 
 -- The list is made of zero bytes, and then its first ones are written.
@@ -19,3 +21,21 @@ returns-in-Ok-clause-made g c =
       written = λ some holds. c.write_bytes.ensures.written some;
     } in
     λ t stored. bytes_written S M R c.args.id c.args.at c.args.count t c.in-Ok.start c.args.from.now writes (c.in-Ok.ensures.made t stored) c.in-Ok.ensures.start c.requires.enough
+
+-- No segment is longer or shorter for these.
+pub returns-in-Ok-clause-taken : goal.returns-in-Ok-clause-taken
+returns-in-Ok-clause-taken g c =
+    let M : Segments = (g.A.BuilderArena.view c.init_list.new.arena).words in
+    let R : Segments = (g.A.BuilderArena.view c.write_bytes.new.arena).words in
+    let k : ℕ = words_for 2 c.args.count in
+    let writes : WritesBytes M R c.in-Ok.start c.args.from.now = record {
+      old = g.A.ReaderArena.segments c.init_list.new.arena;
+      new = g.A.ReaderArena.segments c.write_bytes.new.arena;
+      old_read = g.met.A.BuilderArena.read c.init_list.new.arena;
+      new_read = g.met.A.BuilderArena.read c.write_bytes.new.arena;
+      small = λ i. omega (arith, c.type_inv.from i);
+      nothing = λ e. ap (λ a. (g.A.BuilderArena.view a).words) (c.write_bytes.ensures.nothing e);
+      written = λ some holds. c.write_bytes.ensures.written some;
+    } in
+    let long = written_lengths M R c.in-Ok.start c.args.from.now k writes (omega (arith, c.requires.enough)) c.in-Ok.ensures.inside.1 in
+    takes_written _ _ _ c.args.id k c.in-Ok.ensures.taken long.segments long.words

@@ -8,7 +8,8 @@ use Rattle.capnp_making.specs.Stored.{Puts}
 use Rattle.capnp_making.proofs.Memory.{room_left}
 use Rattle.capnp_making.proofs.Replaced.{replaced_again}
 use Rattle.capnp_making.proofs.Placed.{zeroed_replaced}
-use Rattle.capnp_making.proofs.Outcomes.{on_made_so, on_err_so}
+use Rattle.capnp_making.proofs.Taken.{takes_after, stands_after}
+use Rattle.capnp_making.proofs.Outcomes.{if_ok_so, on_made_so, on_err_so}
 use Rattle.capnp_making.proofs.making.init_list.Goals as goal
 
 -- The old object becomes zero, and then the new one is made.
@@ -30,3 +31,16 @@ returns-clause-refused g c =
     let S : Segments = (g.A.BuilderArena.view c.args.arena.now).words in
     let M : Segments = (g.A.BuilderArena.view c.zero_object.new.arena).words in
     on_err_so c.make_list.result _ _ c.make_list.ensures.refused (λ same. subst (λ R. Puts S R c.args.id c.args.at Null) (sym same) (λ x stored. zeroed_replaced S M c.args.id c.args.at x c.zero_object.ensures.zeroed stored))
+
+pub returns-clause-taken : goal.returns-clause-taken
+returns-clause-taken g c =
+    let old : View = g.A.BuilderArena.view c.args.arena.now in
+    let mid : View = g.A.BuilderArena.view c.zero_object.new.arena in
+    let new : View = g.A.BuilderArena.view c.make_list.new.arena in
+    on_made_so c.make_list.result _ _ c.make_list.ensures.taken (takes_after old mid new c.args.id (list_words (size_number c.args.size) c.args.count) c.zero_object.ensures.limits c.zero_object.ensures.pruned)
+
+pub returns-clause-behind : goal.returns-clause-behind
+returns-clause-behind g c =
+    let old : View = g.A.BuilderArena.view c.args.arena.now in
+    let mid : View = g.A.BuilderArena.view c.zero_object.new.arena in
+    if_ok_so c.make_list.result _ _ c.make_list.ensures.behind (λ h. stands_after old mid c.args.id (list_words (size_number c.args.size) c.args.count) h c.zero_object.ensures.limits c.zero_object.ensures.pruned)

@@ -1,9 +1,14 @@
-use Rattle.std.proofs.Common.{◌≡◌, ◌+◌, ◌*◌, ℕ, ap, sym, ap₂, ◌∙◌}
+use Rattle.std.proofs.Common.{◌≡◌, ◌+◌, ◌*◌, ◌∷◌, ℕ, replicate, ap, sym, ap₂, ◌∙◌, arith}
 use Rattle.capnp_format.specs.Means.{IsTag}
 use Rattle.capnp_format.specs.Segments.{Segments}
 use Rattle.capnp_arena.specs.Written.{with_word}
+use Rattle.capnp_format.specs.Word.{list_word}
+use Rattle.capnp_making.specs.Near.{HasOwnRoom, StartsBehind, offset_behind, with_object}
+use Rattle.capnp_making.proofs.NearMade.{first_put, long_as}
 use Rattle.capnp_making.proofs.Memory.{words_in}
+use Rattle.capnp_making.proofs.MadeWords.{word_put}
 use Rattle.capnp_making.proofs.PlacedStructs.{IsListMade, structs_made, structs_lead}
+use Rattle.capnp_making.proofs.Taken.{takes_written}
 use Rattle.capnp_making.proofs.making.make_struct_list.Goals as goal
 
 -- The words of the list are taken, and its tag is written.
@@ -31,3 +36,26 @@ returns-in-Ok-clause-start g c =
 
 pub returns-in-Err-clause-fits : goal.returns-in-Err-clause-fits
 returns-in-Err-clause-fits g c = λ room. c.in-Err.ensures.fits (rw (sym c.total.ensures) at room)
+
+pub returns-in-Ok-clause-taken : goal.returns-in-Ok-clause-taken
+returns-in-Ok-clause-taken g c =
+    let (a, m, shape, is_segment, is_start) = c.in-Ok.ensures.made in
+    let M : Segments = (g.A.BuilderArena.view c.put_object.new.arena).words in
+    let put = word_put M (g.A.BuilderArena.view c.set_word.new.self).words c.in-Ok.start.segment c.in-Ok.start.at c.new_tag-tag.result.0 (rw (is_segment, is_start) (omega (arith, m.claims))) (ap words_in c.set_word.ensures) in
+    takes_written _ _ _ c.args.id _ (rw c.total.ensures at c.in-Ok.ensures.taken) put.segments put.words
+
+pub returns-in-Ok-clause-near : goal.returns-in-Ok-clause-near
+returns-in-Ok-clause-near g c = λ room.
+    (let S : Segments = (g.A.BuilderArena.view c.args.arena.now).words in
+    let id : ℕ = c.args.id in
+    let w : ℕ = c.args.size.data_words + c.args.size.pointers in
+    let n : ℕ = c.args.count * c.total.result in
+    let same : n ≡ c.args.count * w = ap (λ i. c.args.count * i) c.total.ensures in
+    let fits : HasOwnRoom (g.A.BuilderArena.view c.args.arena.now) id (1 + n) = omega (arith, room, same) in
+    let start : StartsBehind S id c.in-Ok.start = c.in-Ok.ensures.at_end fits in
+    let tag : ℕ = c.new_tag-tag.result.0 in
+    let x : ℕ = list_word (offset_behind S id c.args.at) 7 n in
+    let T : Segments = with_word S id c.args.at x in
+    ap words_in c.set_word.ensures ∙ ap₂ (λ M b. with_word M b c.in-Ok.start.at tag) (c.in-Ok.ensures.near fits) start.0
+    ∙ first_put T id n tag (start.1 ∙ sym (long_as S id c.args.at x))
+    ∙ ap₂ (λ y m. with_object S id c.args.at (list_word (offset_behind S id c.args.at) 7 m) (y ∷ replicate m 0)) c.new_tag-tag.ensures.word same)

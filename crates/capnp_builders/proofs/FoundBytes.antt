@@ -1,0 +1,80 @@
+-- Texts and data that are found in a message lie in it.
+use Rattle.std.proofs.Common.{◌≡◌, ℕ, ◌+◌, ◌-◌, ◌<◌, ◌≤◌, Bool, true, false, cond, nat_eq, length, Option, Some, None, IfSome, IsNone, Result, Ok, Err, refl, ap, subst, arith}
+use Rattle.std.proofs.lemmas.Bool.{eqb-true}
+use Rattle.capnp_words.specs.declared.error.ErrorKind.{ErrorKind}
+use Rattle.capnp_words.specs.declared.error.ErrorKind.TheVariants.{ExistingListPointerIsNotByteSized, TextBlobMissingNULTerminator}
+use Rattle.capnp_format.specs.Numbers.{words_for}
+use Rattle.capnp_format.specs.Segments.{Segments, segment, Target}
+use Rattle.capnp_format.specs.Tree.{Tree, Null, Capability, Struct, Flat, Pointers, Structs}
+use Rattle.capnp_format.specs.Means.{Means}
+use Rattle.capnp_format.specs.Forest.{target, target_in}
+use Rattle.capnp_making.specs.declared.existing.ExistingBytes.{ExistingBytes}
+use Rattle.capnp_making.specs.Existing.{LieIn, bytes_at, data_in, text_in, text_of, ends_in_zero}
+use Rattle.capnp_making.specs.Stored.{IsStored}
+use Rattle.capnp_making.proofs.Leading.{leads_segment}
+
+abbrev pub Found : Type 0
+Found = Result (Option ExistingBytes) ErrorKind
+
+-- what a choice that found bytes has found
+picked : (x : Bool) (b found : ExistingBytes) (k : ErrorKind) → ◌≡◌ {A = Found} (cond x (Ok (Some b)) (Err k)) (Ok (Some found)) → (x ≡ true) × (b ≡ found)
+picked true b found k e = (refl, cc)
+picked false b found k e = cc
+
+picked_first : (x : Bool) (r : Found) (found : ExistingBytes) (k : ErrorKind) → ◌≡◌ {A = Found} (cond x r (Err k)) (Ok (Some found)) → (x ≡ true) × (r ≡ Ok (Some found))
+picked_first true r found k e = (refl, e)
+picked_first false r found k e = cc
+
+-- bytes of a list that a pointer leads to, or fewer
+inside : (S : Segments) (s p n m : ℕ) (a : Target) → a.segment < length S → a.start + words_for 2 n ≤ length (segment S a.segment) → m ≤ n → LieIn S (bytes_at a m)
+inside S s p n m a there claim few = (there, omega (arith, claim))
+
+pub data_inside : (S : Segments) (s p : ℕ) (t : Tree) (b : ExistingBytes) → s < length S → IsStored S s p t → data_in (target S s p) t ≡ Ok (Some b) → LieIn S b
+data_inside S s p t b there stored e = let m = stored.means in meant m.0 m.1 t m.2 e
+  where
+    meant : (n c : ℕ) (t : Tree) → Means S n s p t c → data_in (target S s p) t ≡ Ok (Some b) → LieIn S b
+    meant n c Null m e = cc
+    meant n c (Capability i) m e = cc
+    meant n c (Struct ws ts) m e = cc
+    meant n c (Flat size ns) (a, some, small, o, claim, g, k) e =
+        let is_a : target S s p ≡ a = ap target_in o.leads_to.1 in
+        let (x, is_b) = picked (nat_eq size 2) (bytes_at (target S s p) (length ns)) b ExistingListPointerIsNotByteSized e in
+        let bytes : size ≡ 2 = eqb-true size 2 x in
+        subst (LieIn S) is_b (rw is_a (inside S s p (length ns) (length ns) a (leads_segment S s p a there o.leads_to.1) (rw bytes at claim) (omega arith)))
+    meant n c (Pointers ts) m e = cc
+    meant n c (Structs d q es) m e = cc
+
+pub text_inside : (S : Segments) (s p : ℕ) (t : Tree) (b : ExistingBytes) → s < length S → IsStored S s p t → text_in (target S s p) t ≡ Ok (Some b) → LieIn S b
+text_inside S s p t b there stored e = let m = stored.means in meant m.0 m.1 t m.2 e
+  where
+    meant : (n c : ℕ) (t : Tree) → Means S n s p t c → text_in (target S s p) t ≡ Ok (Some b) → LieIn S b
+    meant n c Null m e = cc
+    meant n c (Capability i) m e = cc
+    meant n c (Struct ws ts) m e = cc
+    meant n c (Flat size ns) (a, some, small, o, claim, g, k) e =
+        let is_a : target S s p ≡ a = ap target_in o.leads_to.1 in
+        let (x, text) = picked_first (nat_eq size 2) (text_of (target S s p) ns) b ExistingListPointerIsNotByteSized e in
+        let (y, is_b) = picked (ends_in_zero ns) (bytes_at (target S s p) (length ns - 1)) b TextBlobMissingNULTerminator text in
+        let bytes : size ≡ 2 = eqb-true size 2 x in
+        subst (LieIn S) is_b (rw is_a (inside S s p (length ns) (length ns - 1) a (leads_segment S s p a there o.leads_to.1) (rw bytes at claim) (omega arith)))
+    meant n c (Pointers ts) m e = cc
+    meant n c (Structs d q es) m e = cc
+
+-- bytes that were found are what the call gives
+pub found_then : (found : Option ExistingBytes) (b : ExistingBytes) (r : Result ExistingBytes ErrorKind) (L : ExistingBytes → Type 0) → ◌≡◌ {A = Found} (Ok found) (Ok (Some b)) → IfSome found (λ x. L x → r ≡ Ok x) → L b → r ≡ Ok b
+found_then (Some x) b r L e h lie = let same : x ≡ b = cc in subst (λ y. L y → r ≡ Ok y) same h lie
+found_then None b r L e h lie = cc
+
+pub none_found : (found : Option ExistingBytes) → ◌≡◌ {A = Found} (Ok found) (Ok None) → IsNone found
+none_found (Some x) e = cc
+none_found None e = refl
+
+-- a refusal is no absence of bytes
+pub refused_or_none : (k : ErrorKind) → ◌≡◌ {A = Found} (Err k) (Ok None) → ⊥
+refused_or_none k e = cc
+
+pub same_refusal : (k l : ErrorKind) → ◌≡◌ {A = Result ExistingBytes ErrorKind} (Err k) (Err l) → k ≡ l
+same_refusal k l e = cc
+
+pub same_bytes : (b d : ExistingBytes) → ◌≡◌ {A = Result ExistingBytes ErrorKind} (Ok b) (Ok d) → b ≡ d
+same_bytes b d e = cc

@@ -1,0 +1,50 @@
+-- What a struct of a message that is built has of another struct's content ("Structs").
+use Rattle.std.specs.Prelude.{◌≡◌, ℕ, zero, suc, ◌+◌, ◌-◌, ◌*◌, ◌/◌, ◌%◌, ◌^◌, ◌<◌, List, slice_index, min, false}
+use Rattle.capnp_words.specs.Meter.{Meter}
+use Rattle.capnp_format.specs.Segments.{Segments, word_at}
+use Rattle.capnp_format.specs.Tree.{Null}
+use Rattle.capnp_arena.specs.declared.arena.reader_arena.ReaderArena.{Ghosts}
+use Rattle.capnp_arena.specs.View.{View, KeepsLimits}
+use Rattle.capnp_making.specs.Fields.{with_field}
+use Rattle.capnp_making.specs.Stored.{Puts}
+use Rattle.capnp_readers.specs.declared.readers.struct_reader.StructPlace.{StructPlace}
+use Rattle.capnp_readers.specs.declared.readers.struct_reader.StructReader.{StructReader}
+use Rattle.capnp_copies.specs.Changes.{Change, change}
+
+-- Byte number i of content of so many bits: the bits behind these are zero.
+abbrev pub content_byte : ℕ → List ℕ → ℕ → ℕ
+content_byte bits bytes i = slice_index bytes i % 2 ^ min 8 (bits - 8 * i)
+
+-- A message with the numbers of f in n fields of w bits each, one behind the other from bit b of segment s on.
+abbrev pub with_fields : Segments → ℕ → ℕ → ℕ → (ℕ → ℕ) → ℕ → Segments
+with_fields S s b w f zero = S
+with_fields S s b w f (suc n) = with_field (with_fields S s b w f n) s (b + n * w) w (f n)
+
+-- A message with content in the data section of a struct: in its whole bytes, and then in the bits behind these.
+abbrev pub with_content : Segments → StructPlace → ℕ → List ℕ → Segments
+with_content S place bits bytes =
+    let start = 8 * place.byte in
+    let whole = place.bits / 8 in
+    let written = with_fields S place.segment start 8 (content_byte bits bytes) whole in
+    with_fields written place.segment (start + whole * 8) 1 (λ j. content_byte bits bytes whole / 2 ^ j % 2) (place.bits % 8)
+
+-- From S to R n pointers become null, one after the other from position p of segment s on.
+abbrev pub AreCleared : Segments → Segments → ℕ → ℕ → ℕ → Type 0
+AreCleared S R s p zero = R ≡ S
+AreCleared S R s p (suc n) = (M : Segments) × AreCleared S M s p n × Puts M R s (p + n) Null
+
+-- Pointers are copied, as they stand, from the first pointer of a struct on.
+abbrev pub pointers_copied : StructPlace → View → View → Meter → Meter → Change
+pointers_copied place old new before after = change false place.segment place.pointers_at old new before after
+
+module _ {A : Type 0} (g : Ghosts A) where
+  -- The data of a struct that is read stands in the data section of a struct, as much as both have, and zeros behind it; and
+  -- then the pointers of that became null.
+  pub record TakesData (value : StructReader A g) (place : StructPlace) (old new : View) : Type 0 where
+    pub cleared : AreCleared (with_content old.words place value.bits value.content.now) new.words place.segment place.pointers_at place.pointers
+    pub null : (i : ℕ) → i < place.pointers → word_at new.words place.segment (place.pointers_at + i) ≡ 0
+    pub limits : KeepsLimits old new
+
+  -- How many pointers both have.
+  abbrev pub both_have : StructReader A g → StructPlace → ℕ
+  both_have value place = min place.pointers value.pointer_count

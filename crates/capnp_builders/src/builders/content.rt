@@ -1,0 +1,123 @@
+//! The data section of a struct written from other content, and its pointers cleared ("Structs").
+ghost use Rattle.std.specs.Prelude.{◌≡◌, ℕ, ◌+◌, ◌*◌, ◌/◌, ◌%◌, ◌^◌, ◌<◌, ◌≤◌, length, slice_index};
+ghost use Rattle.capnp_arena.specs.View.{KeepsLimits};
+ghost use Rattle.capnp_format.specs.Segments.{segment, word_at};
+ghost use Rattle.capnp_making.specs.Zeroed.{IsPruned};
+ghost use Rattle.capnp_readers.specs.Readers.{IsStructPlace};
+ghost use Rattle.capnp_readers.specs.Sections.{bytes_for};
+ghost use Rattle.capnp_builders.specs.Content.{content_byte, with_fields, with_content, AreCleared};
+
+use capnp_arena::arena::BuilderArena;
+use capnp_making::making::clear;
+use capnp_making::numbers::{set_bit, set_number};
+use capnp_readers::readers::StructPlace;
+
+/// Writes content of so many bits over the data section of a struct, and zeros where there is none.
+pub(crate) fn write_content<A: BuilderArena>(
+    arena: &mut A,
+    place: StructPlace,
+    bytes: &[u8],
+    bits: u32,
+)
+    requires inside { IsStructPlace (A.view arena.old).words place }
+    requires long { length bytes.now ≡ bytes_for bits }
+    ensures { A.view arena.new ≡ record (A.view arena.old) { words = with_content (A.view arena.old).words place bits bytes.now } }
+{
+    let whole = place.bits / 8;
+    write_bytes(arena, place.segment, place.byte, whole, bytes, bits);
+    let bit = 8 * place.byte + u64::from(whole) * 8;
+    let left = place.bits % 8;
+    if left > 0 {
+        let byte = byte_of(bytes, bits, whole);
+        write_bits(arena, place.segment, bit, left, byte);
+    }
+}
+
+/// Makes pointers null, one after the other, and zero what they held.
+pub(crate) fn clear_pointers<A: BuilderArena>(arena: &mut A, id: u32, at: u32, count: u16)
+    requires room { at + count ≤ length (segment (A.view arena.old).words id) }
+    ensures cleared { AreCleared (A.view arena.old).words (A.view arena.new).words id at count }
+    ensures null { (i : ℕ) → i < count → word_at (A.view arena.new).words id (at + i) ≡ 0 }
+    ensures only { IsPruned (A.view arena.old).words (A.view arena.new).words }
+    ensures limits { KeepsLimits (A.view arena.old) (A.view arena.new) }
+{
+    for i in 0..count {
+        clear(arena, id, at + u32::from(i));
+    }
+}
+
+/// Writes the first bytes of content of so many bits over bytes of a segment.
+fn write_bytes<A: BuilderArena>(
+    arena: &mut A,
+    id: u32,
+    start: u64,
+    count: u32,
+    bytes: &[u8],
+    bits: u32,
+)
+    requires inside { start + count ≤ 8 * length (segment (A.view arena.old).words id) }
+    requires long { length bytes.now ≡ bytes_for bits }
+    ensures { A.view arena.new ≡ record (A.view arena.old) { words = with_fields (A.view arena.old).words id (8 * start) 8 (content_byte bits bytes.now) count } }
+{
+    let both = count.min(bits / 8);
+    copy_bytes(arena, id, start, &bytes[..both as usize]);
+    if both < count {
+        let byte = byte_of(bytes, bits, both);
+        let next = start + u64::from(both);
+        set_number(arena, id, next, byte);
+        zero_bytes(arena, id, next + 1, count - both - 1);
+    }
+}
+
+/// Writes bytes over as many of a segment.
+fn copy_bytes<A: BuilderArena>(arena: &mut A, id: u32, start: u64, from: &[u8])
+    requires inside { start + length from.now ≤ 8 * length (segment (A.view arena.old).words id) }
+    ensures { A.view arena.new ≡ record (A.view arena.old) { words = with_fields (A.view arena.old).words id (8 * start) 8 (slice_index from.now) (length from.now) } }
+{
+    if !from.is_empty() {
+        let first = start as usize;
+        let end = first + from.len();
+        let bytes = arena.segment_mut(id);
+        bytes[first..end].copy_from_slice(from);
+    }
+}
+
+/// Writes so many zero bytes over those of a segment.
+fn zero_bytes<A: BuilderArena>(arena: &mut A, id: u32, start: u64, count: u32)
+    requires inside { start + count ≤ 8 * length (segment (A.view arena.old).words id) }
+    ensures { A.view arena.new ≡ record (A.view arena.old) { words = with_fields (A.view arena.old).words id (8 * start) 8 (λ i. 0) count } }
+{
+    if count > 0 {
+        let first = start as usize;
+        let end = first + count as usize;
+        let bytes = arena.segment_mut(id);
+        bytes[first..end].fill(0);
+    }
+}
+
+/// Writes the lowest bits of a byte over bits of a segment.
+fn write_bits<A: BuilderArena>(arena: &mut A, id: u32, start: u64, count: u32, byte: u8)
+    requires inside { start + count ≤ 64 * length (segment (A.view arena.old).words id) }
+    requires few { count < 8 }
+    ensures { A.view arena.new ≡ record (A.view arena.old) { words = with_fields (A.view arena.old).words id start 1 (λ j. byte / 2 ^ j % 2) count } }
+{
+    for j in 0..count {
+        set_bit(arena, id, start + u64::from(j), byte >> j & 1 == 1);
+    }
+}
+
+/// A byte of content of so many bits, 0 where there is none.
+fn byte_of(bytes: &[u8], bits: u32, index: u32) -> u8
+    requires long { length bytes.now ≡ bytes_for bits }
+    ensures { result ≡ content_byte bits bytes.now index }
+{
+    let i = index as usize;
+    if i >= bytes.len() {
+        return 0;
+    }
+    let left = bits as usize - 8 * i;
+    if left >= 8 {
+        return bytes[i];
+    }
+    bytes[i] & ((1 << left) - 1)
+}

@@ -1,0 +1,113 @@
+-- The copy of a struct that is read, from where it is made: its words, its children, and where it stops.
+use Rattle.std.proofs.Common.{◌≡◌, inl, inr, ℕ, ◌+◌, ◌<◌, ◌≤◌, Bool, true, false, List, length, take, sym, ap, ◌∙◌, subst, le_trans, arith, length-take, take_all}
+use Rattle.capnp_words.specs.declared.error.ErrorKind.{ErrorKind}
+use Rattle.capnp_words.specs.Meter.{Meter}
+use Rattle.capnp_pointers.specs.declared.wire_pointer.StructSize.{StructSize}
+use Rattle.capnp_format.specs.Segments.{segment, word_at}
+use Rattle.capnp_format.specs.Tree.{Null, Struct, Trees, count}
+use Rattle.capnp_format.specs.Canonical.{used_words, take_trees, trim_each}
+use Rattle.capnp_format.proofs.Slices.{length_words}
+use Rattle.capnp_arena.specs.View.{View}
+use Rattle.capnp_arena.specs.Written.{with_words}
+use Rattle.capnp_making.specs.Made.{zero_struct, zeros, nulls}
+use Rattle.capnp_making.specs.Memory.{KeepsMemory}
+use Rattle.capnp_making.specs.Stored.{IsReplaced}
+use Rattle.capnp_making.specs.declared.making.Start.{Start}
+use Rattle.capnp_making.proofs.FillingMade.{IsBegun, struct_ready, struct_done, struct_whole}
+use Rattle.capnp_making.proofs.Memory.{keeps_both, keeps_written, keeps_then_spends, refused_after}
+use Rattle.capnp_making.proofs.WordsPut.{words_put}
+use Rattle.capnp_objects.specs.Outcomes.{ReadsAll}
+use Rattle.capnp_objects.specs.Reading.{Reading, row, words_from}
+use Rattle.capnp_copies.specs.Changes.{form_of, kept, kept_each, change, CopiesChildren, StopsAtChildren}
+use Rattle.capnp_copies.specs.StructValues.{kept_count, CopiesSections, StopsAtSections}
+use Rattle.capnp_copies.proofs.DataSections.{kept_count-le}
+use Rattle.capnp_copies.proofs.KeptForms.{kept_each-count, stops_sooner}
+use Rattle.capnp_copies.proofs.UsedChildren.{used_children, trim-struct, fill_nulls, null_behind}
+
+-- The kept children of a struct were read, and so were all of them; and a struct of them is kept so.
+pub record SectionsKept (b : Bool) (ws : List ℕ) (r : Reading) (q : ℕ) (m m' : Meter) (ts : Trees) : Type 0 where
+  pub all : Trees
+  pub counts : count all ≡ q
+  pub are_read : ReadsAll (form_of b) r m m' all
+  pub form : kept b (Struct ws all) ≡ Struct (take (kept_count b ws) ws) (kept_each b ts)
+
+pub sections_kept : (b : Bool) (ws : List ℕ) (r : Reading) (q : ℕ) (m m' : Meter) (ts : Trees) → r.at + q ≤ length (row r) → count ts ≡ kept_count b (words_from r q) → ReadsAll (form_of b) r m m' ts → SectionsKept b ws r q m m' ts
+sections_kept true ws r q m m' ts inside len all =
+    let few : count ts ≤ q = omega (arith, kept_count-le true (words_from r q), length_words r.segments r.segment r.at q inside, len) in
+    let f = fill_nulls q all few (λ i a b. null_behind r q i (omega (arith, len, a)) b) in
+    record {
+      all = f.all;
+      counts = f.counts;
+      are_read = f.are_read;
+      form =
+          trim-struct ws f.all ∙ ap (λ i. Struct (take (used_words ws) ws) (trim_each (take_trees i f.all))) (used_children r f.all f.are_read.cost inside f.counts f.are_read.means ∙ sym len)
+          ∙ ap (λ us. Struct (take (used_words ws) ws) (trim_each us)) f.first;
+    }
+sections_kept false ws r q m m' ts inside len all =
+    record { all = ts; counts = len ∙ length_words r.segments r.segment r.at q inside; are_read = all; form = ap (λ xs. Struct xs ts) (sym (take_all (length ws) ws (omega arith))) }
+
+-- A struct is made and starts at h, and the data words that are kept are written.
+pub record SectionsBegun (b : Bool) (ws : List ℕ) (r : Reading) (q : ℕ) (least : StructSize) (s p : ℕ) (old made mid : View) (h : Start) : Type 0 where
+  pub inside : r.at + q ≤ length (row r)
+  pub of_data : least.data_words ≡ kept_count b ws
+  pub of_pointers : least.pointers ≡ kept_count b (words_from r q)
+  pub begun : IsBegun old.words made.words s p (least.data_words + least.pointers) h (zero_struct least)
+  pub memory : KeepsMemory old made
+  pub writes : mid ≡ record made { words = with_words made.words h.segment h.at (take least.data_words ws) }
+
+module _ {b : Bool} {ws : List ℕ} {r : Reading} {q : ℕ} {least : StructSize} {s p : ℕ} {old made mid : View} {h : Start} (o : SectionsBegun b ws r q least s p old made mid h) where
+  abbrev section : List ℕ
+  section = take least.data_words ws
+
+  long : length section ≡ least.data_words
+  long = omega (arith, length-take least.data_words ws, o.of_data, kept_count-le b ws)
+
+  fewer : least.pointers ≤ q
+  fewer = omega (arith, o.of_pointers, kept_count-le b (words_from r q), length_words r.segments r.segment r.at q o.inside)
+
+  is_begun : IsBegun old.words made.words s p (length section + least.pointers) h (Struct (zeros (length section)) (nulls least.pointers))
+  is_begun = subst (λ d. IsBegun old.words made.words s p (d + least.pointers) h (Struct (zeros d) (nulls least.pointers))) (sym long) o.begun
+
+  writes : mid.words ≡ with_words made.words h.segment h.at section
+  writes = ap (λ (v : View). v.words) o.writes
+
+  longer : length made.words ≤ length mid.words
+  longer = omega (arith, (words_put made.words mid.words h.segment h.at section (omega (arith, o.begun.inside.1, long)) writes).long.segments)
+
+  keeps : KeepsMemory old mid
+  keeps = keeps_both old made mid o.begun.made.segments o.memory (keeps_written made mid _ o.writes)
+
+  segments : length old.words ≤ length mid.words
+  segments = le_trans o.begun.made.segments longer
+
+  pub sections_fit : h.at + least.data_words + least.pointers ≤ length (segment mid.words h.segment)
+  sections_fit = omega (arith, (struct_ready old.words made.words mid.words s p least.pointers h section is_begun writes).0, long)
+
+  pub sections_null : (i : ℕ) → i < least.pointers → word_at mid.words h.segment (h.at + least.data_words + i) ≡ 0
+  sections_null i l = subst (λ d. word_at mid.words h.segment (h.at + d + i) ≡ 0) long ((struct_ready old.words made.words mid.words s p least.pointers h section is_begun writes).1 i l)
+
+  pub sections_inside : r.at + least.pointers ≤ length (row r)
+  sections_inside = omega (arith, fewer, o.inside)
+
+  pub sections_copied : {new : View} {m m' : Meter} → CopiesChildren r least.pointers (change b h.segment (h.at + least.data_words) mid new m m') → CopiesSections ws r q (change b s p old new m m')
+  sections_copied {new} {m} {m'} children =
+      let f = sections_kept b ws r q m m' children.children o.inside (children.counts ∙ o.of_pointers) children.are_read in
+      let whole = struct_whole old.words made.words mid.words new.words s p least.pointers h section (kept_each b children.children) is_begun writes (rw (sym long) at children.made) (kept_each-count b children.children ∙ children.counts) in
+      let form : kept b (Struct ws f.all) ≡ Struct section (kept_each b children.children) = f.form ∙ ap (λ n. Struct (take n ws) (kept_each b children.children)) (sym o.of_data) in
+      record {
+        children = f.all;
+        counts = f.counts;
+        are_read = f.are_read;
+        made = (subst (IsReplaced old.words new.words s p Null) (sym form) whole, keeps_both old mid new segments keeps children.memory);
+      }
+
+  pub sections_stop : {new : View} {m m' : Meter} {k : ErrorKind} → StopsAtChildren r least.pointers (change b h.segment (h.at + least.data_words) mid new m m') k → StopsAtSections ws r q (change b s p old new m m') k
+  sections_stop {new} {m} {m'} {k} stop =
+      record {
+        why = elim stop.why [
+          | inl x ↦ inl (refused_after old mid new k keeps x)
+          | inr x ↦ inr (inl (stops_sooner fewer x))
+        ];
+        off = inr (stops_sooner fewer stop.off);
+        left = ((_, struct_done old.words made.words mid.words new.words s p least.pointers h section stop.left is_begun writes (rw (sym long) at stop.made) stop.few), keeps_then_spends old mid new segments keeps stop.memory);
+      }

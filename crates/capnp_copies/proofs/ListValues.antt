@@ -1,0 +1,110 @@
+-- The copy of a list that is read: one that is too long, and one of numbers.
+use Rattle.std.proofs.Common.{◌≡◌, ◌≢◌, inl, inr, ℕ, ◌+◌, ◌*◌, ◌/◌, ◌^◌, ◌-◌, ◌<◌, ◌≤◌, Bool, Result, Ok, Err, IfOk, IfErr, List, length, take, drop, refl, sym, ap, ◌∙◌, subst, arith, length-drop}
+use Rattle.capnp_words.specs.declared.error.ErrorKind.{ErrorKind}
+use Rattle.capnp_words.specs.declared.error.ErrorKind.TheVariants.{MessageTooLarge}
+use Rattle.capnp_words.specs.Meter.{Meter}
+use Rattle.capnp_pointers.specs.declared.wire_pointer.ElementSize.{ElementSize}
+use Rattle.capnp_pointers.specs.declared.wire_pointer.ElementSize.TheVariants.{Void, Bit, Byte, TwoBytes, FourBytes, EightBytes, Pointer, InlineComposite}
+use Rattle.capnp_pointers.specs.Sizes.{size_number}
+use Rattle.capnp_format.specs.Bytes.{words_of}
+use Rattle.capnp_format.specs.Numbers.{words_for, unpacked}
+use Rattle.capnp_format.specs.Segments.{Segments, word_at, words_at, IsPlace}
+use Rattle.capnp_format.specs.Tree.{Tree, Null, Flat}
+use Rattle.capnp_format.proofs.WordsOf.{words, words_of-take, words_of-drop}
+use Rattle.capnp_arena.specs.View.{View}
+use Rattle.capnp_making.specs.Stored.{IsReplaced}
+use Rattle.capnp_making.proofs.Memory.{keeps_itself, spends_nothing}
+use Rattle.capnp_objects.specs.Objects.{IsHeld}
+use Rattle.capnp_objects.specs.Reading.{words_from}
+use Rattle.capnp_objects.specs.declared.object.Place.{Place}
+use Rattle.capnp_readers.specs.Sections.{IsPart, HasRoom, list_words}
+use Rattle.capnp_copies.specs.Changes.{Change, change}
+use Rattle.capnp_copies.specs.ListValues.{ListElements, FitsListPointer, IsTooLong, CopiesList, StopsAtList}
+use Rattle.capnp_copies.proofs.FilledObjects.{nothing_left}
+use Rattle.capnp_copies.proofs.FilledValues.{FlatOutcome, kept_flat}
+
+-- one that is too long leaves all as it was
+pub too_long : {list : ListElements} {b : Bool} {s p : ℕ} {v : View} {m : Meter} → IsPlace v.words s p → word_at v.words s p ≡ 0 → IsTooLong list → StopsAtList list (change b s p v v m m) (MessageTooLarge (2 ^ 64 - 1))
+too_long {s = s} {p = p} {v = v} place null long = record {
+  why = inr (inr (long, refl));
+  off = inl refl;
+  left = ((Null, nothing_left v.words v.words s p place null refl), spends_nothing v v (keeps_itself v));
+}
+
+-- elements that are neither pointers nor structs
+
+pub number_size : (size : ElementSize) → size ≢ Pointer → size ≢ InlineComposite → size_number size ≤ 5
+number_size Pointer pointer struct = absurd (pointer refl)
+number_size InlineComposite pointer struct = absurd (struct refl)
+number_size Void pointer struct = omega arith
+number_size Bit pointer struct = omega arith
+number_size Byte pointer struct = omega arith
+number_size TwoBytes pointer struct = omega arith
+number_size FourBytes pointer struct = omega arith
+number_size EightBytes pointer struct = omega arith
+
+pub few_numbers : (size : ElementSize) (n width : ℕ) → size_number size ≤ 5 → FitsListPointer size n width → n < 2 ^ 29
+few_numbers InlineComposite n width flat fits = absurd (omega (arith, flat))
+few_numbers Pointer n width flat fits = fits
+few_numbers Void n width flat fits = fits
+few_numbers Bit n width flat fits = fits
+few_numbers Byte n width flat fits = fits
+few_numbers TwoBytes n width flat fits = fits
+few_numbers FourBytes n width flat fits = fits
+few_numbers EightBytes n width flat fits = fits
+
+number_words : (size : ElementSize) (n width : ℕ) → size_number size ≤ 5 → list_words size n width ≡ words_for (size_number size) n
+number_words InlineComposite n width flat = absurd (omega (arith, flat))
+number_words Pointer n width flat = absurd (omega (arith, flat))
+number_words Void n width flat = refl
+number_words Bit n width flat = refl
+number_words Byte n width flat = refl
+number_words TwoBytes n width flat = refl
+number_words FourBytes n width flat = refl
+number_words EightBytes n width flat = refl
+
+-- So many words from a place on are held as bytes.
+pub record AreHeld (S : Segments) (start : Place) (n : ℕ) (bytes : List ℕ) : Type 0 where
+  pub whole : length bytes ≡ 8 * length (words_of bytes)
+  pub counts : length (words_of bytes) ≡ n
+  pub stand : words_of bytes ≡ words_at S start.segment start.at n
+
+words_held : (S : Segments) (start : Place) (n : ℕ) (bytes : List ℕ) → IsHeld S start → IsPart start (8 * start.at) (64 * n) bytes → HasRoom S start n → AreHeld S start n bytes
+words_held S start n bytes held part room =
+    let bs : List ℕ = start.bytes.now in
+    let size : (64 * n + 7) / 8 ≡ 8 * n = omega arith in
+    let inside : 8 * start.at + 8 * n ≤ length bs = omega (arith, held.1, room) in
+    let rest : length (drop (8 * start.at) bs) ≡ length bs - 8 * start.at = length-drop (8 * start.at) bs in
+    let cut : bytes ≡ take (8 * n) (drop (8 * start.at) bs) = part.0 ∙ ap (λ i. take i (drop (8 * start.at) bs)) size in
+    let long : length bytes ≡ 8 * n = part.1 ∙ size in
+    let some : length (words_of bytes) ≡ n = omega (arith, words bytes, long) in
+    record {
+      whole = omega (arith, long, some);
+      counts = some;
+      stand = ap words_of cut ∙ words_of-take n (drop (8 * start.at) bs) (omega (arith, rest, inside)) ∙ ap (take n) (words_of-drop start.at bs (omega (arith, inside)) ∙ ap (drop start.at) held.0);
+    }
+
+pub numbers_held : (S : Segments) (start : Place) (size : ElementSize) (n width : ℕ) (bytes : List ℕ) → size_number size ≤ 5 → IsHeld S start → IsPart start (8 * start.at) (64 * list_words size n width) bytes → HasRoom S start (list_words size n width) →
+    AreHeld S start (words_for (size_number size) n) bytes
+numbers_held S start size n width bytes flat held part room = subst (λ i. AreHeld S start i bytes) (number_words size n width flat) (words_held S start (list_words size n width) bytes held part room)
+
+-- what is made of them
+
+pub numbers_copied : (list : ListElements) (c : Change) (bytes : List ℕ) (result : Result (Unit {0}) ErrorKind) → size_number list.size ≤ 5 → words_of bytes ≡ words_from list.first (words_for (size_number list.size) list.count) → c.after ≡ c.before →
+    FlatOutcome result c.segment c.at c.old c.new (Flat (size_number list.size) (unpacked (size_number list.size) list.count (words_of bytes))) → IfOk result (λ _. CopiesList list c)
+numbers_copied list c bytes (Ok x) flat stand free f =
+    let ns : List ℕ = unpacked (size_number list.size) list.count (words_of bytes) in
+    record {
+      value = Flat (size_number list.size) ns;
+      is_read = (flat, refl, ap (unpacked (size_number list.size) list.count) stand, free);
+      made = (subst (IsReplaced c.old.words c.new.words c.segment c.at Null) (sym (kept_flat c.canonicalize (size_number list.size) ns)) f.copied, f.granted);
+    }
+numbers_copied list c bytes (Err k) flat stand free f = tt
+
+pub numbers_stop : (list : ListElements) (c : Change) (t : Tree) (result : Result (Unit {0}) ErrorKind) → IsPlace c.old.words c.segment c.at → word_at c.old.words c.segment c.at ≡ 0 → c.after ≡ c.before → FlatOutcome result c.segment c.at c.old c.new t → IfErr result (StopsAtList list c)
+numbers_stop list c t (Ok x) place null free f = tt
+numbers_stop list c t (Err k) place null free f = record {
+  why = inl f.refused;
+  off = inl free;
+  left = ((Null, nothing_left c.old.words c.new.words c.segment c.at place null f.kept), f.memory);
+}

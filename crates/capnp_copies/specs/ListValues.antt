@@ -1,0 +1,72 @@
+-- The copy of a list that is read: its elements' words are at hand, and its first element is read at its place.
+use Rattle.std.specs.Prelude.{◌≡◌, ◌⊎◌, ℕ, ◌-◌, ◌*◌, ◌+◌, ◌^◌, ◌<◌, ◌≤◌}
+use Rattle.capnp_words.specs.declared.error.ErrorKind.{ErrorKind}
+use Rattle.capnp_words.specs.declared.error.ErrorKind.TheVariants.{MessageTooLarge}
+use Rattle.capnp_words.specs.Meter.{Meter}
+use Rattle.capnp_pointers.specs.declared.wire_pointer.ElementSize.{ElementSize}
+use Rattle.capnp_pointers.specs.declared.wire_pointer.ElementSize.TheVariants.{Pointer, InlineComposite}
+use Rattle.capnp_pointers.specs.declared.wire_pointer.StructSize.{StructSize}
+use Rattle.capnp_pointers.specs.Sizes.{size_number}
+use Rattle.capnp_format.specs.Numbers.{words_for, unpacked}
+use Rattle.capnp_format.specs.Tree.{Tree, Flat, Pointers, Structs, count, element_count}
+use Rattle.capnp_arena.specs.declared.arena.reader_arena.ReaderArena.{Ghosts}
+use Rattle.capnp_making.specs.Memory.{RefusesGrowth}
+use Rattle.capnp_objects.specs.Outcomes.{ReadsAll, ReadsElements}
+use Rattle.capnp_objects.specs.Refusals.{RefusedAll, RefusedElements, BreaksOffAmong, BreaksOffAmongElements}
+use Rattle.capnp_objects.specs.Reading.{Reading, reading_at, words_from}
+use Rattle.capnp_objects.specs.Wanted.{Form}
+use Rattle.capnp_readers.specs.declared.readers.list_reader.ListReader.{ListReader}
+use Rattle.capnp_copies.specs.Changes.{Change, Puts, Leaves, form_of, kept}
+
+-- So many elements of a size, with these sections where they are structs, of which the first is read at a place.
+pub record ListElements : Type 0 where
+  pub size : ElementSize
+  pub sections : StructSize
+  pub count : ℕ
+  pub first : Reading
+
+-- So many elements, of so many words each where they are structs, are as many as a list pointer and its tag can say.
+abbrev pub FitsListPointer : ElementSize → ℕ → ℕ → Type 0
+FitsListPointer InlineComposite n width = (n < 2 ^ 30) × (n * width < 2 ^ 29)
+FitsListPointer size n width = n < 2 ^ 29
+
+-- They are more than that.
+abbrev pub IsTooLong : ListElements → Type 0
+IsTooLong list = FitsListPointer list.size list.count (list.sections.data_words + list.sections.pointers) → ⊥
+
+-- The value of the list is t, and reading what its elements lead to takes the meter from m to m'; numbers take nothing.
+abbrev pub ReadsList : Form → ListElements → Meter → Meter → Tree → Type 0
+ReadsList form list m m' (Flat size ns) =
+    (size_number list.size ≤ 5) × (size ≡ size_number list.size) × (ns ≡ unpacked size list.count (words_from list.first (words_for size list.count))) × (m' ≡ m)
+ReadsList form list m m' (Pointers ts) = (list.size ≡ Pointer) × (count ts ≡ list.count) × ReadsAll form list.first m m' ts
+ReadsList form list m m' (Structs d q es) =
+    (list.size ≡ InlineComposite) × (d ≡ list.sections.data_words) × (q ≡ list.sections.pointers) × (element_count es ≡ list.count)
+    × ReadsElements form list.first list.sections m m' es
+ReadsList form list m m' t = ⊥
+
+-- Reading what its elements lead to is refused by the name k; or it is broken off.
+abbrev pub RefusedList : Form → ListElements → Meter → Meter → ErrorKind → Type 0
+RefusedList form list m m' k =
+    ((list.size ≡ Pointer) × RefusedAll form list.first list.count m m' k)
+    ⊎ ((list.size ≡ InlineComposite) × RefusedElements form list.first list.sections list.count m m' k)
+
+abbrev pub BreaksOffList : Form → ListElements → Meter → Meter → Type 0
+BreaksOffList form list m m' =
+    ((list.size ≡ Pointer) × BreaksOffAmong form list.first list.count m m')
+    ⊎ ((list.size ≡ InlineComposite) × BreaksOffAmongElements form list.first list.sections list.count m m')
+
+-- The list is read and copied; or it is refused by the name k.
+pub record CopiesList (list : ListElements) (c : Change) : Type 0 where
+  pub value : Tree
+  pub is_read : ReadsList (form_of c.canonicalize) list c.before c.after value
+  pub made : Puts c (kept c.canonicalize value)
+
+pub record StopsAtList (list : ListElements) (c : Change) (k : ErrorKind) : Type 0 where
+  pub why : RefusesGrowth c.old c.new k ⊎ RefusedList (form_of c.canonicalize) list c.before c.after k ⊎ (IsTooLong list × (k ≡ MessageTooLarge (2 ^ 64 - 1)))
+  pub off : (c.after ≡ c.before) ⊎ BreaksOffList (form_of c.canonicalize) list c.before c.after
+  pub left : Leaves c
+
+module _ {A : Type 0} (g : Ghosts A) where
+  -- The elements of a list that is read.
+  abbrev pub elements_read : ListReader A g → ListElements
+  elements_read value = record { size = value.element_size; sections = value.struct_size; count = value.count; first = reading_at g value.source value.start value.nesting_limit }

@@ -1,0 +1,78 @@
+-- The copy of a struct that is read, whose data section may end inside a word and may stand apart from its pointers.
+use Rattle.std.specs.Prelude.{◌≡◌, ◌⊎◌, ℕ, zero, suc, ◌+◌, ◌-◌, ◌*◌, ◌/◌, ◌%◌, ◌^◌, ◌<◌, Bool, true, false, List, [], ◌∷◌, ◌++◌, length, take, drop}
+use Rattle.capnp_words.specs.declared.error.ErrorKind.{ErrorKind}
+use Rattle.capnp_words.specs.declared.error.ErrorKind.TheVariants.{MessageTooLarge}
+use Rattle.capnp_format.specs.Bytes.{words_of}
+use Rattle.capnp_format.specs.Canonical.{used_words}
+use Rattle.capnp_format.specs.Numbers.{from_digits}
+use Rattle.capnp_format.specs.Segments.{Segments}
+use Rattle.capnp_format.specs.Tree.{Null, Struct, Trees, count}
+use Rattle.capnp_arena.specs.declared.arena.reader_arena.ReaderArena.{Ghosts}
+use Rattle.capnp_making.specs.Memory.{RefusesGrowth, SpendsMemory}
+use Rattle.capnp_making.specs.Filled.{AreFilled}
+use Rattle.capnp_making.specs.Stored.{IsReplaced}
+use Rattle.capnp_words.specs.Meter.{Meter}
+use Rattle.capnp_objects.specs.Wanted.{plain}
+use Rattle.capnp_objects.specs.Outcomes.{ReadsAll}
+use Rattle.capnp_objects.specs.Refusals.{Refused, RefusedAll, BreaksOff, BreaksOffAmong}
+use Rattle.capnp_objects.specs.Reading.{Reading, behind, words_from}
+use Rattle.capnp_readers.specs.Sizes.{pointers_read}
+use Rattle.capnp_readers.specs.declared.readers.struct_reader.StructReader.{StructReader}
+use Rattle.capnp_copies.specs.Changes.{Change, Puts, Leaves, form_of, kept}
+
+-- The word of the first n bits of bytes, the lowest first, with zeros behind them; none where n is 0.
+abbrev pub bits_left : ℕ → List ℕ → List ℕ
+bits_left zero bytes = []
+bits_left (suc n) bytes = from_digits 256 bytes % 2 ^ suc n ∷ []
+
+-- The words of a data section of so many bits: its whole words, and the word of the bits behind these.
+abbrev pub section_words : ℕ → List ℕ → List ℕ
+section_words bits bytes = take (bits / 64) (words_of bytes) ++ bits_left (bits % 64) (drop (8 * (bits / 64)) bytes)
+
+-- Where a section is whole words, these are its words.
+abbrev pub WholeSections : Type 0
+WholeSections = (d : ℕ) (bytes : List ℕ) → length bytes ≡ 8 * d → section_words (64 * d) bytes ≡ words_of bytes
+
+-- How many words of a section a copy keeps: in canonical form those up to the last that isn't zero.
+abbrev pub kept_count : Bool → List ℕ → ℕ
+kept_count true ws = used_words ws
+kept_count false ws = length ws
+
+-- So many data words are more than a struct can have, and the error says how many.
+abbrev pub IsTooWide : ℕ → ErrorKind → Type 0
+IsTooWide n k = (2 ^ 16 - 1 < n) × (k ≡ MessageTooLarge n)
+
+-- A struct of these data words, of whose pointers r is the first of q, is read and copied; or it is refused by the name k.
+pub record CopiesSections (ws : List ℕ) (r : Reading) (q : ℕ) (c : Change) : Type 0 where
+  pub children : Trees
+  pub counts : count children ≡ q
+  pub are_read : ReadsAll (form_of c.canonicalize) r c.before c.after children
+  pub made : Puts c (kept c.canonicalize (Struct ws children))
+
+pub record StopsAtSections (ws : List ℕ) (r : Reading) (q : ℕ) (c : Change) (k : ErrorKind) : Type 0 where
+  pub why : RefusesGrowth c.old c.new k ⊎ RefusedAll (form_of c.canonicalize) r q c.before c.after k ⊎ IsTooWide (kept_count c.canonicalize ws) k
+  pub off : (c.after ≡ c.before) ⊎ BreaksOffAmong (form_of c.canonicalize) r q c.before c.after
+  pub left : Leaves c
+
+-- Of i pointers from a place on the first are read and copied as they stand; the next one is refused by the name k, and stays
+-- null.
+pub record CopiesFirst (r : Reading) (i : ℕ) (c : Change) (k : ErrorKind) : Type 0 where
+  pub first : Trees
+  pub fewer : count first < i
+  pub between : Meter
+  pub are_read : ReadsAll plain r c.before between first
+  pub filled : Segments
+  pub made : AreFilled c.old.words filled c.segment c.at first
+  pub cleared : IsReplaced filled c.new.words c.segment (c.at + count first) Null Null
+  pub why : RefusesGrowth c.old c.new k ⊎ Refused plain (behind r (count first)) between c.after k
+  pub off : BreaksOff plain (behind r (count first)) between c.after
+  pub memory : SpendsMemory c.old c.new
+
+module _ {A : Type 0} (g : Ghosts A) where
+  -- The data words of a struct that is read.
+  abbrev pub data_of : StructReader A g → List ℕ
+  data_of value = section_words value.bits value.content.now
+
+  -- The words of its pointers.
+  abbrev pub pointer_words : StructReader A g → List ℕ
+  pointer_words value = words_from (pointers_read g value) value.pointer_count

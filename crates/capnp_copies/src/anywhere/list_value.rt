@@ -1,0 +1,104 @@
+//! The copy of a list that is read, whose words are at hand ("Lists", "Canonicalization").
+ghost use Rattle.std.specs.Prelude.{◌≡◌, ◌⊎◌, ◌+◌, ◌-◌, ◌^◌, ◌↔◌, IsTrue, Err, IfOk, IfErr, OnOk, OnErr};
+ghost use Rattle.capnp_format.specs.Segments.{word_at, IsPlace};
+ghost use Rattle.capnp_format.specs.Tree.{Tree, Null};
+ghost use Rattle.capnp_making.specs.Memory.{KeepsMemory, SpendsMemory, RefusesGrowth};
+ghost use Rattle.capnp_making.specs.Stored.{IsReplaced};
+ghost use Rattle.capnp_words.specs.declared.error.ErrorKind.TheVariants.{MessageTooLarge};
+ghost use Rattle.capnp_copies.specs.Changes.{change, form_of, kept};
+ghost use Rattle.capnp_copies.specs.ListValues.{CopiesList, StopsAtList, ReadsList, RefusedList, BreaksOffList, IsTooLong, FitsListPointer, elements_read};
+
+use super::flat::copy_flat;
+use super::lists::{copy_pointers, copy_structs};
+use capnp_arena::arena::{BuilderArena, ReaderArena};
+use capnp_making::making::clear;
+use capnp_readers::readers::{ListReader, PointerReader};
+use capnp_words::error::ErrorKind;
+use capnp_words::read_limiter::ReadLimiter;
+use capnp_words::wire_pointer::{ElementSize, StructSize};
+
+/// Copies a list that is read to the null pointer at a place, as it stands or in canonical form: as
+/// pointers where they are its elements, as structs, or as numbers with padding of zero. Its own words
+/// and its count cost nothing, and what its elements lead to costs what reading it does.
+///
+/// A refusal of the arena is `AllocationFailed` or `MessageTooLarge`; a capability is
+/// `CannotCreateACanonicalMessageWithACapability` in canonical form; a refusal to read keeps its name;
+/// a list of more elements or words than a list pointer can say, which no message holds, is
+/// `MessageTooLarge(usize::MAX)`. Then the pointer is null and the words that were allocated are zero;
+/// the limiter keeps what was charged.
+pub fn copy_list<A: BuilderArena, B: ReaderArena>(
+    arena: &mut A,
+    id: u32,
+    at: u32,
+    value: ListReader<'_, B>,
+    lim: &mut ReadLimiter,
+    canonicalize: bool,
+) -> Result<(), ErrorKind>
+    requires place { IsPlace (A.view arena.old).words id at }
+    requires null { word_at (A.view arena.old).words id at ≡ 0 }
+    ensures copied { IfOk result (λ _. (t : Tree) × ReadsList (form_of canonicalize) (elements_read B.ReaderArena value.entry) lim.old lim.new t
+        × IsReplaced (A.view arena.old).words (A.view arena.new).words id at Null (kept canonicalize t)) }
+    ensures refused { IfErr result (λ k. RefusesGrowth (A.view arena.old) (A.view arena.new) k
+        ⊎ RefusedList (form_of canonicalize) (elements_read B.ReaderArena value.entry) lim.old lim.new k
+        ⊎ (IsTooLong (elements_read B.ReaderArena value.entry) × (k ≡ MessageTooLarge (2 ^ 64 - 1)))) }
+    ensures cleared { OnErr result (IsReplaced (A.view arena.old).words (A.view arena.new).words id at Null Null) }
+    ensures spent { OnErr result ((lim.new ≡ lim.old) ⊎ BreaksOffList (form_of canonicalize) (elements_read B.ReaderArena value.entry) lim.old lim.new) }
+    ensures long { IsTooLong (elements_read B.ReaderArena value.entry) → (result ≡ Err (MessageTooLarge (2 ^ 64 - 1))) × (lim.new ≡ lim.old) }
+    ensures granted { OnOk result (KeepsMemory (A.view arena.old) (A.view arena.new)) }
+    ensures memory { OnErr result (SpendsMemory (A.view arena.old) (A.view arena.new)) }
+{
+    match copy_elements_read(arena, id, at, value, lim, canonicalize) {
+        Ok(()) => Ok(()),
+        Err(k) => {
+            clear(arena, id, at);
+            Err(k)
+        }
+    }
+}
+
+/// Does what `copy_list` does, but leaves what it made where it is refused.
+fn copy_elements_read<A: BuilderArena, B: ReaderArena>(
+    arena: &mut A,
+    id: u32,
+    at: u32,
+    value: ListReader<'_, B>,
+    lim: &mut ReadLimiter,
+    canonicalize: bool,
+) -> Result<(), ErrorKind>
+    requires place { IsPlace (A.view arena.old).words id at }
+    requires null { word_at (A.view arena.old).words id at ≡ 0 }
+    ensures copied { IfOk result (λ _. CopiesList (elements_read B.ReaderArena value.entry) (change canonicalize id at (A.view arena.old) (A.view arena.new) lim.old lim.new)) }
+    ensures refused { IfErr result (StopsAtList (elements_read B.ReaderArena value.entry) (change canonicalize id at (A.view arena.old) (A.view arena.new) lim.old lim.new)) }
+    ensures long { IsTooLong (elements_read B.ReaderArena value.entry) → (result ≡ Err (MessageTooLarge (2 ^ 64 - 1))) × (lim.new ≡ lim.old) }
+{
+    let count = value.count;
+    if !fits_list_pointer(value.element_size, value.struct_size, count) {
+        return Err(ErrorKind::MessageTooLarge(usize::MAX));
+    }
+    let first = PointerReader {
+        source: value.source,
+        place: value.start,
+        nesting_limit: value.nesting_limit,
+    };
+    match value.element_size {
+        ElementSize::InlineComposite => {
+            let size = value.struct_size;
+            copy_structs(arena, id, at, first, size, count, lim, canonicalize)
+        }
+        ElementSize::Pointer => copy_pointers(arena, id, at, first, count, lim, canonicalize),
+        size => copy_flat(arena, id, at, size, count, value.content),
+    }
+}
+
+/// Whether so many elements are as many as a list pointer and its tag can say.
+fn fits_list_pointer(size: ElementSize, sections: StructSize, count: u32) -> bool
+    ensures { IsTrue result ↔ FitsListPointer size count (sections.data_words + sections.pointers) }
+{
+    match size {
+        ElementSize::InlineComposite => {
+            let words = u64::from(count) * u64::from(sections.total());
+            count < 1 << 30 && words < 1 << 29
+        }
+        _ => count < 1 << 29,
+    }
+}

@@ -1,0 +1,138 @@
+//! The copy of a struct that is read, whose sections may stand apart ("Structs",
+//! "Canonicalization").
+ghost use Rattle.std.specs.Prelude.{◌≡◌, ◌⊎◌, ◌≤◌, length, IfOk, IfErr, OnOk, OnErr};
+ghost use Rattle.capnp_format.specs.Segments.{word_at, IsPlace};
+ghost use Rattle.capnp_format.specs.Tree.{Null, Struct, Trees, count};
+ghost use Rattle.capnp_making.specs.Memory.{KeepsMemory, SpendsMemory, RefusesGrowth};
+ghost use Rattle.capnp_making.specs.Stored.{IsReplaced};
+ghost use Rattle.capnp_objects.specs.Outcomes.{ReadsAll};
+ghost use Rattle.capnp_objects.specs.Refusals.{RefusedAll, BreaksOffAmong};
+ghost use Rattle.capnp_readers.specs.Sizes.{pointers_read};
+ghost use Rattle.capnp_copies.specs.Changes.{change, form_of, kept};
+ghost use Rattle.capnp_copies.specs.StructValues.{CopiesSections, StopsAtSections, IsTooWide, kept_count, data_of, pointer_words};
+
+use super::children::copy_children;
+use crate::section::{kept_words, put_section};
+use capnp_arena::arena::{BuilderArena, ReaderArena};
+use capnp_making::making::{clear, make_struct};
+use capnp_readers::readers::{PointerReader, StructReader};
+use capnp_words::error::ErrorKind;
+use capnp_words::read_limiter::ReadLimiter;
+use capnp_words::wire_pointer::StructSize;
+use capnp_words::words::used_part;
+
+/// Copies a struct that is read to the null pointer at a place, as it stands or in canonical form. Its
+/// data section is padded with zeros to whole words. Its own words cost nothing, and what its pointers
+/// mean costs what reading it does.
+///
+/// A refusal of the arena is `AllocationFailed` or `MessageTooLarge`; a capability is
+/// `CannotCreateACanonicalMessageWithACapability` in canonical form; a refusal to read keeps its name;
+/// more than 65535 data words are `MessageTooLarge` with their number. Then the pointer is null and the
+/// words that were allocated are zero; the limiter keeps what was charged.
+pub fn copy_struct_value<A: BuilderArena, B: ReaderArena>(
+    arena: &mut A,
+    id: u32,
+    at: u32,
+    value: StructReader<'_, B>,
+    lim: &mut ReadLimiter,
+    canonicalize: bool,
+) -> Result<(), ErrorKind>
+    requires place { IsPlace (A.view arena.old).words id at }
+    requires null { word_at (A.view arena.old).words id at ≡ 0 }
+    ensures copied { IfOk result (λ _. (ts : Trees) × (count ts ≡ value.entry.pointer_count)
+        × ReadsAll (form_of canonicalize) (pointers_read B.ReaderArena value.entry) lim.old lim.new ts
+        × IsReplaced (A.view arena.old).words (A.view arena.new).words id at Null (kept canonicalize (Struct (data_of B.ReaderArena value.entry) ts))) }
+    ensures refused { IfErr result (λ k. RefusesGrowth (A.view arena.old) (A.view arena.new) k
+        ⊎ RefusedAll (form_of canonicalize) (pointers_read B.ReaderArena value.entry) value.entry.pointer_count lim.old lim.new k
+        ⊎ IsTooWide (kept_count canonicalize (data_of B.ReaderArena value.entry)) k) }
+    ensures cleared { OnErr result (IsReplaced (A.view arena.old).words (A.view arena.new).words id at Null Null) }
+    ensures spent { OnErr result ((lim.new ≡ lim.old) ⊎ BreaksOffAmong (form_of canonicalize) (pointers_read B.ReaderArena value.entry) value.entry.pointer_count lim.old lim.new) }
+    ensures granted { OnOk result (KeepsMemory (A.view arena.old) (A.view arena.new)) }
+    ensures memory { OnErr result (SpendsMemory (A.view arena.old) (A.view arena.new)) }
+{
+    match copy_sections(arena, id, at, value, lim, canonicalize) {
+        Ok(()) => Ok(()),
+        Err(k) => {
+            clear(arena, id, at);
+            Err(k)
+        }
+    }
+}
+
+/// Does what `copy_struct_value` does, but leaves what it made where it is refused.
+fn copy_sections<A: BuilderArena, B: ReaderArena>(
+    arena: &mut A,
+    id: u32,
+    at: u32,
+    value: StructReader<'_, B>,
+    lim: &mut ReadLimiter,
+    canonicalize: bool,
+) -> Result<(), ErrorKind>
+    requires place { IsPlace (A.view arena.old).words id at }
+    requires null { word_at (A.view arena.old).words id at ≡ 0 }
+    ensures copied { IfOk result (λ _. CopiesSections (data_of B.ReaderArena value.entry) (pointers_read B.ReaderArena value.entry) value.entry.pointer_count
+        (change canonicalize id at (A.view arena.old) (A.view arena.new) lim.old lim.new)) }
+    ensures refused { IfErr result (StopsAtSections (data_of B.ReaderArena value.entry) (pointers_read B.ReaderArena value.entry) value.entry.pointer_count
+        (change canonicalize id at (A.view arena.old) (A.view arena.new) lim.old lim.new)) }
+{
+    let kept = match kept_sections(value, canonicalize) {
+        Ok(kept) => kept,
+        Err(k) => return Err(k),
+    };
+    let start = match make_struct(arena, id, at, kept) {
+        Ok(start) => start,
+        Err(k) => return Err(k),
+    };
+    let data_words = kept.data_words;
+    put_section(
+        arena,
+        start.segment,
+        start.at,
+        value.content,
+        value.bits,
+        data_words,
+    );
+    let children = PointerReader {
+        source: value.source,
+        place: value.pointers,
+        nesting_limit: value.nesting_limit,
+    };
+    let first = start.at + u32::from(data_words);
+    let pointers = u32::from(kept.pointers);
+    copy_children(
+        arena,
+        start.segment,
+        first,
+        children,
+        pointers,
+        lim,
+        canonicalize,
+    )
+}
+
+/// The sections that a copy of a struct keeps: in canonical form the words of each up to the last
+/// that is not zero.
+///
+/// More data words than a struct can have are `MessageTooLarge`.
+fn kept_sections<B: ReaderArena>(
+    value: StructReader<'_, B>,
+    canonicalize: bool,
+) -> Result<StructSize, ErrorKind>
+    ensures data { IfOk result (λ size. size.data_words ≡ kept_count canonicalize (data_of B.ReaderArena value.entry)) }
+    ensures pointers { IfOk result (λ size. size.pointers ≡ kept_count canonicalize (pointer_words B.ReaderArena value.entry)) }
+    ensures wide { IfErr result (IsTooWide (kept_count canonicalize (data_of B.ReaderArena value.entry))) }
+{
+    let data_words = kept_words(value.content, value.bits, canonicalize);
+    if data_words > usize::from(u16::MAX) {
+        return Err(ErrorKind::MessageTooLarge(data_words));
+    }
+    let mut pointers = value.pointer_count;
+    if canonicalize {
+        let at = value.pointers.at as usize;
+        pointers = used_part(value.pointers.bytes, at, usize::from(pointers)) as u16;
+    }
+    Ok(StructSize {
+        data_words: data_words as u16,
+        pointers,
+    })
+}

@@ -1,0 +1,27 @@
+-- Objects made in the segment of their pointer.
+use Rattle.std.proofs.Common.{◌≡◌, ℕ, zero, suc, ◌+◌, List, [], ◌∷◌, ◌++◌, length, set, replicate, refl, ap, ap₂, ◌∙◌, arith}
+use Rattle.std.proofs.lemmas.List.{set-append_left, length-set}
+use Rattle.std.proofs.Math.Seq.{set-append_seam}
+use Rattle.capnp_format.specs.Segments.{Segments, segment, IsPlace}
+use Rattle.capnp_arena.specs.Written.{with_word, extended}
+use Rattle.capnp_making.specs.Near.{with_object}
+
+-- a word of a segment is written before or after more words are taken behind its own
+pub object_put : (S : Segments) (s p x : ℕ) (ws : List ℕ) → IsPlace S s p → with_word (extended S s ws) s p x ≡ with_object S s p x ws
+object_put [] s p x ws l = refl
+object_put (t ∷ S) zero p x ws l = ap (λ ys. ys ∷ S) (set-append_left t ws p x l)
+object_put (t ∷ S) (suc s) p x ws l = ap (λ T. t ∷ T) (object_put S s p x ws l)
+
+-- the first of the words that were taken is written
+pub first_put : {b : ℕ} (S : Segments) (s n x : ℕ) → b ≡ length (segment S s) → with_word (extended S s (replicate (1 + n) 0)) s b x ≡ extended S s (x ∷ replicate n 0)
+first_put [] s n x e = refl
+first_put {b} (t ∷ S) zero n x e =
+    let more : replicate (1 + n) 0 ≡ 0 ∷ replicate n 0 = ap (λ i. replicate i 0) (let f : 1 + n ≡ suc n = omega arith in f) in
+    ap (λ ys. ys ∷ S) (ap₂ (λ i xs. set (t ++ xs) i x) e more ∙ set-append_seam t 0 (replicate n 0) x)
+first_put (t ∷ S) (suc s) n x e = ap (λ T. t ∷ T) (first_put S s n x e)
+
+-- a word that is written leaves the segment as long
+pub long_as : (S : Segments) (s p x : ℕ) → length (segment (with_word S s p x) s) ≡ length (segment S s)
+long_as [] s p x = refl
+long_as (t ∷ S) zero p x = length-set t p x
+long_as (t ∷ S) (suc s) p x = long_as S s p x
