@@ -51,3 +51,32 @@ fn taken_apart(rt: HostRuntime) {
         assert!(rt; returned.get() == want, "not once more, {rows} rows");
     }
 }
+
+/// An arena whose allocator is taken out keeps its segments and gets no more; once it is in again they
+/// go back to it, and one that it gave since.
+#[test]
+fn allocator_taken_out(rt: HostRuntime) {
+    let returned = Cell::new(0);
+    let (arena, _segments) = filled(&rt, rt.alloc(), 5, &returned);
+    let (mut arena, allocator) = arena.without_allocator();
+    assert!(rt; arena.len() == 4);
+    assert!(rt; arena.allocate_anywhere(1) == Err(ErrorKind::AllocationFailed));
+    assert!(rt; arena.refused() == 1);
+    assert!(rt; allocator.refused() == 0);
+    let mut arena = arena.with_allocator(allocator);
+    assert!(rt; arena.len() == 4);
+    assert!(rt; arena.refused() == 0);
+    assert!(rt; arena.allocate_anywhere(1) == Ok((4, 0)));
+    drop(arena);
+    assert!(rt; returned.get() == 305_071_101);
+}
+
+#[test]
+fn dropped_without_allocator(rt: HostRuntime) {
+    let returned = Cell::new(0);
+    let (arena, _segments) = filled(&rt, rt.alloc(), 4, &returned);
+    let (arena, allocator) = arena.without_allocator();
+    drop(arena);
+    drop(allocator);
+    assert!(rt; returned.get() == 0);
+}

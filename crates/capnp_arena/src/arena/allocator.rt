@@ -26,7 +26,8 @@ pub trait Segment {
 
 /// Where segments come from and go back to.
 pub trait Allocator: Drop {
-    type Segment: Segment;
+    /// Goes back by `deallocate_segment`. It may be dropped where its allocator isn't at hand.
+    type Segment: Segment + Drop;
 
     // How often memory was refused, up to the greatest u64.
     ghost refusals: { Self → ℕ };

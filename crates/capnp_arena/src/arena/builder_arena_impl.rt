@@ -16,7 +16,9 @@ ghost use Rattle.capnp_arena.specs.Written.{with_more};
 
 use crate::arena::builder_arena::sealed::Closed;
 use crate::arena::row::Row;
-use crate::arena::{Allocator, BuilderArena, MAX_SEGMENTS, OutputSegments, ReaderArena, SegmentId};
+use crate::arena::{
+    Allocator, BuilderArena, MAX_SEGMENTS, NullAllocator, OutputSegments, ReaderArena, SegmentId,
+};
 use capnp_words::error::ErrorKind;
 use std::alloc::Global;
 
@@ -94,6 +96,29 @@ impl<A: Allocator> BuilderArenaImpl<A> {
         } = self;
         give_back(&mut allocator, rows);
         allocator
+    }
+
+    /// Takes the allocator out. The arena keeps its segments and their words, has room in them alone, and counts its refusals from 0; `with_allocator` puts an allocator in again.
+    ///
+    /// Dropping the arena while it is out drops the segments: they don't go back to the allocator.
+    pub fn without_allocator(self) -> (BuilderArenaImpl<NullAllocator<A>>, A)
+        ensures segments { ⟦<BuilderArenaImpl<NullAllocator<A>> as ReaderArena>⟧.segments result.0 ≡ ⟦<Self as ReaderArena>⟧.segments self }
+        ensures room { (⟦<BuilderArenaImpl<NullAllocator<A>> as BuilderArena>⟧.view result.0).room ≡ (⟦<Self as BuilderArena>⟧.view self).room }
+        ensures refusals { (⟦<BuilderArenaImpl<NullAllocator<A>> as BuilderArena>⟧.view result.0).refusals ≡ 0 }
+        ensures offers { (⟦<BuilderArenaImpl<NullAllocator<A>> as BuilderArena>⟧.view result.0).offers ≡ (λ _ _. false) }
+        ensures allocator { result.1 ≡ self.allocator }
+    {
+        let BuilderArenaImpl {
+            alloc,
+            allocator,
+            rows,
+        } = self;
+        let segments = BuilderArenaImpl {
+            alloc,
+            allocator: NullAllocator::new(),
+            rows,
+        };
+        (segments, allocator)
     }
 
     /// Puts a segment of at least `min` words behind the others, with none of its words allocated.
@@ -207,6 +232,27 @@ impl<A: Allocator> BuilderArenaImpl<A> {
         let id = id as u32;
         let _at = self.take(id, amount);
         Ok(id)
+    }
+}
+
+impl<A: Allocator> BuilderArenaImpl<NullAllocator<A>> {
+    /// Puts an allocator in, in place of the one that gives nothing: it gives further segments from now on, and those that are there go back to it. The segments, their words and their room stay.
+    pub fn with_allocator(self, allocator: A) -> BuilderArenaImpl<A>
+        ensures segments { ⟦<BuilderArenaImpl<A> as ReaderArena>⟧.segments result ≡ ⟦<Self as ReaderArena>⟧.segments self }
+        ensures room { (⟦<BuilderArenaImpl<A> as BuilderArena>⟧.view result).room ≡ (⟦<Self as BuilderArena>⟧.view self).room }
+        ensures refusals { (⟦<BuilderArenaImpl<A> as BuilderArena>⟧.view result).refusals ≡ A.refusals allocator }
+        ensures offers { (⟦<BuilderArenaImpl<A> as BuilderArena>⟧.view result).offers ≡ A.offers allocator }
+    {
+        let BuilderArenaImpl {
+            alloc,
+            allocator: _,
+            rows,
+        } = self;
+        BuilderArenaImpl {
+            alloc,
+            allocator,
+            rows,
+        }
     }
 }
 

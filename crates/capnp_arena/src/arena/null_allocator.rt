@@ -1,0 +1,64 @@
+//! An allocator that has no segment to give.
+ghost use Rattle.std.specs.Prelude.{◌≡◌, false};
+
+use crate::arena::{Allocator, MAX_SEGMENT_WORDS};
+use capnp_words::error::ErrorKind;
+use std::marker::PhantomData;
+
+/// Has no segment to give. An arena over it has segments of an allocator `A`, and gets no more of them: words are taken in these, or not at all.
+///
+/// A request of at most 536,870,911 words is `AllocationFailed`, and counts in `refused`, which no other allocator knows of. A segment that is given back is dropped.
+///
+/// `BuilderArenaImpl::without_allocator` makes such an arena, and `with_allocator` puts the allocator in again.
+#[derive(Drop)]
+pub struct NullAllocator<A: Allocator> {
+    of: PhantomData<A>,
+    refused: u64,
+}
+
+impl<A: Allocator> NullAllocator<A> {
+    /// An allocator that has refused nothing yet.
+    pub(crate) fn new() -> Self
+        ensures { result.refused ≡ 0 }
+    {
+        NullAllocator {
+            of: PhantomData,
+            refused: 0,
+        }
+    }
+}
+
+impl<A: Allocator> Allocator for NullAllocator<A> {
+    type Segment = A::Segment;
+
+    ghost refusals = { λ a. a.refused };
+
+    ghost offers = { λ _ _ _. false };
+
+    fn allocate_segment(&mut self, min_words: u32) -> Result<A::Segment, ErrorKind> {
+        if min_words > MAX_SEGMENT_WORDS {
+            return Err(ErrorKind::MessageTooLarge(min_words as usize));
+        }
+        self.refused = self.refused.saturating_add(1);
+        Err(ErrorKind::AllocationFailed)
+    }
+
+    fn deallocate_segment(&mut self, segment: A::Segment, _used_words: u32) {
+        drop(segment);
+    }
+
+    fn keep<T>(&mut self, list: &mut Vec<T>, row: T) -> Option<T> {
+        match list.push(row) {
+            Ok(()) => None,
+            Err(e) => {
+                self.refused = self.refused.saturating_add(1);
+                let row = e.value;
+                Some(row)
+            }
+        }
+    }
+
+    fn refused(&self) -> u64 {
+        self.refused
+    }
+}
