@@ -1,4 +1,5 @@
 //! One copy of a worked message.
+use crate::objects::has_words;
 use capnp_arena::arena::{
     BuilderArena, BuilderArenaImpl, HeapAllocator, ReaderArena, ReaderArenaImpl, ReaderOptions,
 };
@@ -9,7 +10,7 @@ use capnp_words::read_limiter::ReadLimiter;
 use capnp_words::words::used;
 use std::alloc::Global;
 use std::process::Abort;
-use test_support::{Message, arena_of, bytes_of};
+use test_support::{Message, arena_of};
 
 /// What bounds a copy.
 #[derive(Clone, Copy)]
@@ -29,8 +30,8 @@ pub const BY_DEFAULT: Limits = Limits {
     budget: Some(8_388_608),
 };
 
-/// Copies the root of a message to the root of a fresh arena, whose segment has so many words, or
-/// one.
+/// Copies the root of a message to the root of a fresh arena, whose segments have so many words, or
+/// what is asked for.
 fn copy(
     rt: &impl Abort,
     alloc: Global,
@@ -50,8 +51,8 @@ fn copy(
 }
 
 /// Copies a message of one segment within limits, and gives the number of words that are then
-/// allocated in the target: these are the wanted ones, or all zero where the copy is refused as is
-/// wanted.
+/// allocated in the first segment of the target. Its segments are the wanted ones, with commas between
+/// them, or the first is all zero where the copy is refused as is wanted.
 pub fn copied(
     rt: &impl Abort,
     alloc: Global,
@@ -69,8 +70,7 @@ pub fn copied(
     match want {
         Ok(want) => {
             assert!(rt; result == Ok(()), "{message}");
-            let want = bytes_of(alloc, want).expect(rt, "words");
-            assert!(rt; words == want.as_slice(), "{message}");
+            assert!(rt; has_words(rt, alloc, &arena, want), "{message}");
         }
         Err(kind) => {
             assert!(rt; result == Err(kind), "{message}");

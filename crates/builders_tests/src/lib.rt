@@ -16,6 +16,8 @@ mod copying;
 #[cfg(test)]
 mod elements;
 #[cfg(test)]
+mod growth;
+#[cfg(test)]
 mod limits;
 #[cfg(test)]
 mod list_copies;

@@ -80,25 +80,29 @@ fn refusals(rt: HostRuntime) {
     }
 }
 
-/// Each object wants room for its own words.
+/// Each object goes to the segment of its pointer where it has room, and else behind a landing pad.
 #[test]
 fn of_the_target(rt: HostRuntime) {
     let message =
         "0000000000000100 010000001f000000 0400000003000000 2222222222222222 0000000000000080 0000000000000000";
     let want =
         "0000000000000100 0100000017000000 0400000002000000 2222222222222222 0000000000000080";
+    let apart =
+        "0200000001000000, 0000000000000100 0200000002000000, 0100000017000000 0400000002000000 2222222222222222 0000000000000080";
+    let list_apart =
+        "0000000000000100 0200000001000000, 0100000017000000 0400000002000000 2222222222222222 0000000000000080";
     for (room, want, words) in [
-        (1, Err(ErrorKind::MessageTooLarge(1)), 1),
-        (2, Err(ErrorKind::MessageTooLarge(3)), 2),
-        (4, Err(ErrorKind::MessageTooLarge(3)), 2),
-        (5, Ok(want), 5),
+        (1, apart, 1),
+        (2, list_apart, 2),
+        (4, list_apart, 2),
+        (5, want, 5),
     ] {
         let limits = Limits {
             room,
             nesting_limit: 64,
             budget: None,
         };
-        let allocated = copied(&rt, rt.alloc(), limits, message, want);
+        let allocated = copied(&rt, rt.alloc(), limits, message, Ok(want));
         assert!(rt; allocated == words, "{room}");
     }
 }

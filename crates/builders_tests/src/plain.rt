@@ -1,4 +1,4 @@
-//! Copies of values as they stand, onto pointers that lead somewhere already.
+//! Copies of values onto pointers that lead somewhere already.
 use crate::objects::{ONE_EACH, Object, has_words, made, pointer};
 use capnp_arena::arena::{ReaderArena, ReaderOptions};
 use capnp_readers::readers::PointerReader;
@@ -8,16 +8,26 @@ use std::alloc::Global;
 use std::process::Abort;
 use test_support::arena_of;
 
-/// Copies the root of a message of one segment over a struct of one data word and one pointer, in
-/// segments with room for so many words.
-fn copied(rt: &impl Abort, alloc: Global, room: u16, message: &str, want: Result<&str, ErrorKind>) {
+/// A struct whose sections end in a zero word and a null pointer.
+const UNTRIMMED: &str =
+    "0000000002000200 0700000000000000 0000000000000000 0500000012000000 0000000000000000 6100000000000000";
+
+/// Copies the root of a message of one segment, as it stands or in canonical form, over a struct of one
+/// data word and one pointer, in segments with room for so many words.
+fn copied(
+    rt: &impl Abort,
+    alloc: Global,
+    (room, canonicalize): (u16, bool),
+    message: &str,
+    want: Result<&str, ErrorKind>,
+) {
     let options = ReaderOptions::default();
     let source = arena_of(alloc, message, options).expect(rt, "a message");
     let mut arena = made(rt, alloc, room, &[(0, 0, Object::Struct(ONE_EACH))]);
     let words = arena.size_in_words();
     let mut lim = ReadLimiter::new(options.traversal_limit_in_words);
     let root = PointerReader::get_root_from_arena(&source, &mut lim).expect(rt, "a root");
-    let result = pointer(rt, &mut arena, 0, 0).copy_from(root, &mut lim, false);
+    let result = pointer(rt, &mut arena, 0, 0).copy_from(root, &mut lim, canonicalize);
     match want {
         Ok(want) => {
             assert!(rt; result == Ok(()), "{message}");
@@ -48,8 +58,11 @@ fn in_one_segment(rt: HostRuntime) {
             "0800000000000200 0000000000000000 0000000000000000 0500000012000000 0300000005000000 6100000000000000",
         ),
     ] {
-        copied(&rt, rt.alloc(), 1024, message, Ok(want));
+        copied(&rt, rt.alloc(), (1024, false), message, Ok(want));
     }
+    let want =
+        "0800000001000100 0000000000000000 0000000000000000 0700000000000000 0100000012000000 6100000000000000";
+    copied(&rt, rt.alloc(), (1024, true), UNTRIMMED, Ok(want));
 }
 
 /// Each object behind a landing pad of its own; those of the struct that was there are zero.
@@ -58,7 +71,8 @@ fn over_segments(rt: HostRuntime) {
     let message = "0000000001000100 0700000000000000 0100000012000000 6100000000000000";
     let want =
         "0200000002000000, 0000000000000000 0000000000000000 0000000000000000, 0000000001000100 0700000000000000 0200000003000000, 0100000012000000 6100000000000000";
-    copied(&rt, rt.alloc(), 2, message, Ok(want));
+    copied(&rt, rt.alloc(), (2, false), message, Ok(want));
+    copied(&rt, rt.alloc(), (2, true), UNTRIMMED, Ok(want));
 }
 
 #[test]
@@ -68,6 +82,8 @@ fn refused(rt: HostRuntime) {
         "0000000000000200 0500000012000000 0900000012000000 6100000000000000",
     ] {
         let outside = ErrorKind::MessageContainsOutOfBoundsPointer;
-        copied(&rt, rt.alloc(), 1024, message, Err(outside));
+        for canonicalize in [false, true] {
+            copied(&rt, rt.alloc(), (1024, canonicalize), message, Err(outside));
+        }
     }
 }

@@ -1,8 +1,8 @@
 //! Pointers of a message that is built.
+use crate::objects::pointer;
 use capnp_arena::arena::{BuilderArena, BuilderArenaImpl, HeapAllocator, NullArena, ReaderArena};
 use capnp_builders::builders::PointerBuilder;
 use capnp_readers::readers::PointerReader;
-use capnp_words::error::ErrorKind;
 use capnp_words::read_limiter::ReadLimiter;
 use std::test::Fail;
 
@@ -24,28 +24,23 @@ fn null_into_null(rt: HostRuntime) -> Result<(), Fail> {
     Ok(())
 }
 
-/// A pointer that isn't null is overwritten by a value as it stands, and for now not by its canonical
-/// form.
+/// A pointer that isn't null is overwritten, by a value as it stands and by its canonical form.
 #[test]
 fn onto_a_capability(rt: HostRuntime) -> Result<(), Fail> {
     let mut arena = BuilderArenaImpl::new(rt.alloc(), HeapAllocator::new(rt.alloc(), 8));
     arena.allocate_segment(1)?;
     assert!(rt; arena.allocate(0, 2) == Some(0));
-    arena.set_word(0, 1, 0x0000_0005_0000_0003);
-    let mut lim = ReadLimiter::new(Some(1));
-    let null: PointerReader<'_, NullArena> = PointerReader::new_default();
-    let mut second = PointerBuilder {
-        arena: &mut arena,
-        segment: 0,
-        at: 1,
-    };
-    assert!(rt; !second.is_null());
-    assert!(rt; second.copy_from(null, &mut lim, true) == Err(ErrorKind::UnknownPointerType));
-    assert!(rt; second.get_capability() == Ok(5));
-    assert!(rt; second.copy_from(null, &mut lim, false) == Ok(()));
-    let reader = second.into_reader();
-    assert!(rt; reader.is_null());
-    assert!(rt; reader.nesting_limit == i32::MAX);
-    assert!(rt; arena.get_segment(0) == Ok(&[0; 16][..]));
+    for canonicalize in [true, false] {
+        let mut lim = ReadLimiter::new(Some(1));
+        let null: PointerReader<'_, NullArena> = PointerReader::new_default();
+        pointer(&rt, &mut arena, 0, 1).set_capability(5);
+        assert!(rt; pointer(&rt, &mut arena, 0, 1).get_capability() == Ok(5));
+        let result = pointer(&rt, &mut arena, 0, 1).copy_from(null, &mut lim, canonicalize);
+        assert!(rt; result == Ok(()));
+        let second = pointer(&rt, &mut arena, 0, 1);
+        assert!(rt; second.is_null());
+        assert!(rt; second.into_reader().nesting_limit == i32::MAX);
+        assert!(rt; arena.get_segment(0) == Ok(&[0; 16][..]));
+    }
     Ok(())
 }

@@ -4,5 +4,5 @@ pub mod ElementPlaces
 pub mod FieldPlaces
 pub mod FoundBytes
 pub mod FoundLists
-pub mod PlainCopies
+pub mod CopiesHeld
 pub mod ContentWritten

@@ -1,7 +1,7 @@
 //! Builders: places of a message that is built, each with the message borrowed for writing.
 ghost use Rattle.std.specs.Prelude.{◌≡◌, ◌≢◌, ℕ, List, ◌⊎◌, ◌↔◌, ◌∷◌, ◌++◌, [], ◌+◌, ◌-◌, ◌*◌, ◌^◌, ◌<◌, ◌≤◌, IsTrue, false, true, length, pos, Option, Some, IsNone, IfSome, Ok, Err, IsOk, IsOkAnd, IfOk, IfErr, OnOk, OnErr};
 ghost use Rattle.capnp_format.specs.Bytes.{message, words_of};
-ghost use Rattle.capnp_format.specs.Canonical.{trim, encoding};
+ghost use Rattle.capnp_format.specs.Canonical.{trim, encoding, word_count};
 ghost use Rattle.capnp_format.specs.Segments.{segment, word_at, IsPlace};
 ghost use Rattle.capnp_format.specs.Tree.{Tree, Null, Capability, Struct, Flat, Trees, count};
 ghost use Rattle.capnp_format.specs.Numbers.{words_for};
@@ -22,7 +22,7 @@ ghost use Rattle.capnp_builders.specs.Reads.{IsArenaOf};
 ghost use Rattle.capnp_objects.specs.Outcomes.{Reads, ReadsAll};
 ghost use Rattle.capnp_objects.specs.Refusals.{BreaksOff, BreaksOffAmong, Refused, RefusedAll};
 ghost use Rattle.capnp_objects.specs.Wanted.{canonical, plain};
-ghost use Rattle.capnp_copies.specs.Changes.{form_of, kept};
+ghost use Rattle.capnp_copies.specs.Changes.{form_of, kept, change, FindsNoRoom};
 ghost use Rattle.capnp_copies.specs.ListValues.{ReadsList, RefusedList, BreaksOffList, IsTooLong, elements_read};
 ghost use Rattle.capnp_copies.specs.StructValues.{IsTooWide, kept_count, data_of};
 ghost use Rattle.capnp_readers.specs.Sizes.{pointers_read};
@@ -36,7 +36,7 @@ mod struct_builder;
 
 use self::found::{found_bytes, list_of_null};
 use capnp_arena::arena::{BuilderArena, ReaderArena};
-use capnp_copies::{anywhere, copy};
+use capnp_copies::copy;
 use capnp_making::existing::ExistingBytes;
 use capnp_making::{bytes, existing, lent, making};
 use capnp_objects::object::Place;
@@ -70,7 +70,7 @@ pub struct PointerBuilder<'a, A> {
 impl<'a, A: BuilderArena> PointerBuilder<'a, A> {
     ghost use Rattle.std.specs.Borrow.{sem, follows, Array, u8 as byte};
     ghost use Rattle.capnp_arena.specs.View.{KeepsLimits};
-    ghost use Rattle.capnp_builders.specs.Building.{Becomes, HoldsCopy, Stores, listed_in, data_at, text_at, Fits, GainsCopy, IsCopy, HasOnlyNull, IsNull, IsThere, LacksWords, StaysClear, built, built_at};
+    ghost use Rattle.capnp_builders.specs.Building.{Becomes, GainsAsRead, StayNear, IsFresh, IsSingle, IsMessageOf, Stores, listed_in, data_at, text_at, Fits, IsCopy, HasOnlyNull, IsNull, IsThere, built, built_at};
     ghost use Rattle.capnp_builders.specs.Lent.{with_arena};
     ghost use Rattle.capnp_builders.specs.contracts.builders.PointerBuilder.{the_row};
     ghost use mir.Syntax.{named};
@@ -598,14 +598,14 @@ impl<'a, A: BuilderArena> PointerBuilder<'a, A> {
     /// Makes the pointer what another one means: a copy of the whole value, as it stands, or in canonical
     /// form ("Canonicalization"). The source is charged as reading all of it costs.
     ///
-    /// A value as it stands is copied onto any pointer, over as many segments as it takes. What the
-    /// pointer held before becomes zero first. A refusal is the first one of reading the source, or
-    /// `AllocationFailed` or `MessageTooLarge` of an object's words and one more.
+    /// It is copied onto any pointer, over as many segments as it takes. What the pointer held before
+    /// becomes zero first. In canonical form the words of a null pointer's value stand behind those of its
+    /// segment, in the canonical order, wherever they fit there, or where the message has but one segment
+    /// afterwards.
     ///
-    /// In canonical form the objects go behind the words of the pointer's segment, for now that alone, and
-    /// onto a null pointer alone: another one is `UnknownPointerType`, and nothing changes. A refusal is
-    /// the first one of reading the source, `CannotCreateACanonicalMessageWithACapability`, or
-    /// `MessageTooLarge` with the words of an object that found no room in the segment.
+    /// A refusal is the first one of reading the source; `CannotCreateACanonicalMessageWithACapability` in
+    /// canonical form; or, where an object finds no room, `AllocationFailed`, or `MessageTooLarge` of its
+    /// words and one more. In canonical form that comes only where the words don't fit the segment.
     ///
     /// After a refusal the pointer is null, the words that were taken are zero and stay allocated, and
     /// what was charged stays charged.
@@ -617,38 +617,32 @@ impl<'a, A: BuilderArena> PointerBuilder<'a, A> {
     ) -> Result<(), ErrorKind>
         requires place { IsThere (built A.view self.old) }
         ensures copied { IfOk result (λ _. (t : Tree) × Reads (form_of canonicalize) (reading B.ReaderArena from.entry) lim.old lim.new t
-            × HoldsCopy canonicalize (built A.view self.old) (built A.view self.new) t) }
+            × Becomes (built A.view self.old) (built A.view self.new) (kept canonicalize t)) }
+        ensures canonical { IsTrue canonicalize → IsNull (built A.view self.old) →
+            OnOk result (GainsAsRead (reading B.ReaderArena from.entry) lim.old lim.new (built A.view self.old) (built A.view self.new)) }
         ensures fresh { IsTrue canonicalize → HasOnlyNull (built A.view self.old) →
             IfOk result (λ _. (t : Tree) × Reads canonical (reading B.ReaderArena from.entry) lim.old lim.new t
-            × IsCopy (built A.view self.old) (built A.view self.new) t) }
-        ensures exactly { IsTrue canonicalize → IsNull (built A.view self.old) →
-            IsOk result ↔ Fits (reading B.ReaderArena from.entry) lim.old (built A.view self.old) }
-        ensures refused { IsTrue canonicalize → IsNull (built A.view self.old) → IfErr result (λ k.
-            LacksWords (reading B.ReaderArena from.entry) (built A.view self.old) (built A.view self.new) k
-            ⊎ Refused canonical (reading B.ReaderArena from.entry) lim.old lim.new k) }
-        ensures unbuilt { IsTrue canonicalize → ¬ IsNull (built A.view self.old) →
-            (result ≡ Err UnknownPointerType) × (A.view self.new.arena.now ≡ A.view self.old.arena.now) × (lim.new ≡ lim.old) }
-        ensures spent { IsTrue canonicalize → IsNull (built A.view self.old) → OnErr result (BreaksOff canonical (reading B.ReaderArena from.entry) lim.old lim.new) }
-        ensures cleared { IsTrue canonicalize → OnErr result (StaysClear (built A.view self.old) (built A.view self.new)) }
-        ensures limits { IsTrue canonicalize → KeepsLimits (A.view self.old.arena.now) (A.view self.new.arena.now) }
-        ensures plain_refused { canonicalize ≡ false → IfErr result (λ k. RefusesGrowth (A.view self.old.arena.now) (A.view self.new.arena.now) k
-            ⊎ Refused plain (reading B.ReaderArena from.entry) lim.old lim.new k) }
-        ensures plain_spent { canonicalize ≡ false → OnErr result (BreaksOff plain (reading B.ReaderArena from.entry) lim.old lim.new) }
-        ensures plain_cleared { canonicalize ≡ false → OnErr result (Becomes (built A.view self.old) (built A.view self.new) Null) }
-        ensures plain_granted { canonicalize ≡ false → OnOk result (KeepsMemory (A.view self.old.arena.now) (A.view self.new.arena.now)) }
-        ensures plain_memory { canonicalize ≡ false → OnErr result (SpendsMemory (A.view self.old.arena.now) (A.view self.new.arena.now)) }
+            × (StayNear (built A.view self.old) (built A.view self.new) (word_count (trim t)) → IsCopy (built A.view self.old) (built A.view self.new) t)) }
+        ensures alone { IsTrue canonicalize → IsFresh (built A.view self.old) → IsSingle (built A.view self.new) →
+            IfOk result (λ _. (t : Tree) × Reads canonical (reading B.ReaderArena from.entry) lim.old lim.new t × IsMessageOf (built A.view self.new) t) }
+        ensures fits { IsTrue canonicalize → Fits (reading B.ReaderArena from.entry) lim.old (built A.view self.old) → IsOk result }
+        ensures refused { IfErr result (λ k. FindsNoRoom (reading B.ReaderArena from.entry)
+            (change canonicalize self.old.segment self.old.at (A.view self.old.arena.now) (A.view self.new.arena.now) lim.old lim.new) k
+            ⊎ Refused (form_of canonicalize) (reading B.ReaderArena from.entry) lim.old lim.new k) }
+        ensures spent { OnErr result (BreaksOff (form_of canonicalize) (reading B.ReaderArena from.entry) lim.old lim.new) }
+        ensures cleared { OnErr result (Becomes (built A.view self.old) (built A.view self.new) Null) }
+        ensures there { IsThere (built A.view self.new) }
+        ensures granted { OnOk result (KeepsMemory (A.view self.old.arena.now) (A.view self.new.arena.now)) }
+        ensures memory { OnErr result (SpendsMemory (A.view self.old.arena.now) (A.view self.new.arena.now)) }
         ensures same { self.new.arena.ghost_name ≡ self.old.arena.ghost_name }
         ensures builder { (self.new.segment ≡ self.old.segment) × (self.new.at ≡ self.old.at) }
     {
-        if canonicalize {
-            if !self.is_null() {
-                return Err(ErrorKind::UnknownPointerType);
-            }
-            return copy::copy_value(&mut *self.arena, self.segment, self.at, from, lim);
-        }
         let at = self.at;
+        if self.is_null() {
+            return copy::copy_value(&mut *self.arena, self.segment, at, from, lim, canonicalize);
+        }
         making::clear(&mut *self.arena, self.segment, at);
-        anywhere::copy_value(&mut *self.arena, self.segment, at, from, lim, false)
+        copy::copy_value(&mut *self.arena, self.segment, at, from, lim, canonicalize)
     }
 
     /// Makes the pointer a copy of a struct that is read: as it stands, its data section padded with zeros
@@ -684,7 +678,7 @@ impl<'a, A: BuilderArena> PointerBuilder<'a, A> {
     {
         let at = self.at;
         making::clear(&mut *self.arena, self.segment, at);
-        anywhere::copy_struct_value(
+        copy::copy_struct_value(
             &mut *self.arena,
             self.segment,
             at,
@@ -728,7 +722,7 @@ impl<'a, A: BuilderArena> PointerBuilder<'a, A> {
     {
         let at = self.at;
         making::clear(&mut *self.arena, self.segment, at);
-        anywhere::copy_list(
+        copy::copy_list(
             &mut *self.arena,
             self.segment,
             at,

@@ -1,6 +1,6 @@
 -- Children copied one after another: their pointers side by side, their bodies behind the words.
-use Rattle.std.proofs.Common.{◌≡◌, ℕ, suc, ◌+◌, ◌-◌, ◌<◌, ◌≤◌, ◌^◌, List, [], ◌∷◌, ◌++◌, length, get_or, set, take, drop, refl, sym, ap, ap₂, ◌∙◌, arith, append_assoc, append-nil, length-append, length-take, length-drop, get_or-drop}
-use Rattle.std.proofs.lemmas.List.{set_at, take-append-drop, get_or_append_left, get_or-append_right, drop_more}
+use Rattle.std.proofs.Common.{◌≡◌, ℕ, suc, ◌+◌, ◌-◌, ◌<◌, ◌≤◌, ◌^◌, List, [], ◌∷◌, ◌++◌, length, get_or, set, take, drop, refl, sym, ap, ap₂, ◌∙◌, arith, append_assoc, append-nil, length-append, length-take, length-drop}
+use Rattle.std.proofs.lemmas.List.{set_at, take-append-drop, drop_more}
 use Rattle.capnp_format.specs.Tree.{Tree, Trees, no_trees, tree, count}
 use Rattle.capnp_format.specs.Canonical.{trim, trim_each, word_count_all, pointer, pointers, body, bodies, offset_to}
 use Rattle.capnp_format.proofs.Lengths.{length-pointers}
@@ -78,12 +78,3 @@ child_added ws at ts u v (l, small) =
     ∙ closed F P R (bodies ts) (body u) (pointer u (k + word_count_all ts))
     ∙ ap₂ (λ xs ys. F ++ xs ++ R ++ ys) first (sym (bodies-with_last ts u))
     ∙ ap (λ i. F ++ pointers (length ws - i) (with_last ts u) ++ drop i ws ++ bodies (with_last ts u)) (sym n)
-
--- the words behind the pointers that are there are as before
-pub word_ahead : (ws : List ℕ) (at i : ℕ) (ts : Trees) → at + count ts ≤ i → i < length ws → get_or (with_children ws at ts) i 0 ≡ get_or ws i 0
-word_ahead ws at i ts l m =
-    let p = at + count ts in
-    let A = take at ws ++ pointers (length ws - p) ts in
-    let long : length A ≡ p = heads ws at (length ws - p) ts (omega arith) in
-    get_or_append_left (A ++ drop p ws) (bodies ts) 0 i (omega (arith, length-append A (drop p ws), length-drop p ws))
-    ∙ get_or-append_right A (drop p ws) p i 0 long l ∙ get_or-drop p ws (i - p) 0 ∙ ap (λ j. get_or ws j 0) (let e : p + (i - p) ≡ i = omega arith in e)

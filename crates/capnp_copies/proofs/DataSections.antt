@@ -3,7 +3,7 @@ use Rattle.std.proofs.Common.{◌≡◌, ◌≢◌, ℕ, zero, suc, ◌+◌, ◌
 use Rattle.std.proofs.Math.Nat.{mod-one}
 use Rattle.std.proofs.Math.Pow.{pow_mono}
 use Rattle.std.proofs.Math.Seq.{drop-cons}
-use Rattle.std.proofs.lemmas.List.{take-append-le, set-append_right, drop_more}
+use Rattle.std.proofs.lemmas.List.{set-append_right, drop_more}
 use Rattle.capnp_format.specs.Bytes.{words_of}
 use Rattle.capnp_format.specs.Canonical.{used_words}
 use Rattle.capnp_format.specs.Numbers.{from_digits}
@@ -59,17 +59,6 @@ pub last_used : (bits : ℕ) (bytes : List ℕ) → length bytes ≡ bytes_for b
 last_used bits bytes long h = omega (arith, used_left (take (bits / 64) (words_of bytes)) (bits % 64) (drop (8 * (bits / 64)) bytes) h, whole_long bits bytes long)
 
 -- its first words
-
-take_fewer : (k n : ℕ) (xs : List ℕ) → k ≤ n → take k (take n xs) ≡ take k xs
-take_fewer zero n xs l = refl
-take_fewer (suc k) zero xs l = absurd (omega arith)
-take_fewer (suc k) (suc n) [] l = refl
-take_fewer (suc k) (suc n) (x ∷ xs) l = ap (λ ys. x ∷ ys) (take_fewer k n xs (omega arith))
-
-pub first_words : (k bits : ℕ) (bytes : List ℕ) → length bytes ≡ bytes_for bits → k ≤ bits / 64 → take k (words_of bytes) ≡ take k (section_words bits bytes)
-first_words k bits bytes long l =
-    let front : List ℕ = take (bits / 64) (words_of bytes) in
-    sym (take-append-le k front (bits_left (bits % 64) (drop (8 * (bits / 64)) bytes)) (omega (arith, whole_long bits bytes long)) ∙ take_fewer k (bits / 64) (words_of bytes) l)
 
 some_left : (n : ℕ) (bs : List ℕ) → 0 < n → bits_left n bs ≡ from_digits 256 bs % 2 ^ n ∷ []
 some_left zero bs l = absurd (omega arith)

@@ -6,14 +6,15 @@ use Rattle.capnp_words.specs.Meter.{Meter}
 use Rattle.capnp_format.specs.Segments.{segment, IsPlace}
 use Rattle.capnp_format.specs.Tree.{Tree, Null}
 use Rattle.capnp_arena.specs.View.{View}
-use Rattle.capnp_making.specs.Memory.{KeepsMemory, SpendsMemory, RefusesGrowth}
+use Rattle.capnp_making.specs.Memory.{KeepsMemory, SpendsMemory}
 use Rattle.capnp_making.specs.Stored.{IsReplaced}
-use Rattle.capnp_making.proofs.Memory.{keeps_then_spends, refused_after}
+use Rattle.capnp_making.proofs.Memory.{keeps_then_spends, words_refused_after}
 use Rattle.capnp_objects.specs.Outcomes.{Reads}
 use Rattle.capnp_objects.specs.Refusals.{Refused, BreaksOff}
 use Rattle.capnp_objects.specs.Reading.{Reading, behind}
 use Rattle.capnp_objects.specs.Wanted.{plain}
-use Rattle.capnp_copies.specs.Changes.{change, CopiesChildren}
+use Rattle.capnp_copies.specs.Changes.{change, LacksRoom, WantedAt, CopiesChildren}
+use Rattle.capnp_copies.specs.Rooms.{IsTooLarge}
 use Rattle.capnp_copies.specs.StructValues.{CopiesFirst}
 use Rattle.capnp_copies.proofs.FilledChildren.{children_grow, child_copied}
 
@@ -21,7 +22,7 @@ pub each_copied : {r : Reading} {s p i : ℕ} {old mid new : View} {m m' m'' : M
     CopiesChildren r (i + 1) (change false s p old new m m'')
 each_copied place few first (t, read, made) memory = child_copied place few first (record { value = t; is_read = read; made = (made, memory); tight = λ fits. absurd (false≢true fits.0) })
 
-pub each_stops : {r : Reading} {s p i n : ℕ} {old mid new : View} {m m' m'' : Meter} {k : ErrorKind} → i < n → CopiesChildren r i (change false s p old mid m m') → RefusesGrowth mid new k ⊎ Refused plain (behind r i) m' m'' k → BreaksOff plain (behind r i) m' m'' →
+pub each_stops : {r : Reading} {s p i n : ℕ} {old mid new : View} {m m' m'' : Meter} {k : ErrorKind} → i < n → CopiesChildren r i (change false s p old mid m m') → LacksRoom (change false s (p + i) mid new m' m'') k (WantedAt (behind r i) (change false s (p + i) mid new m' m'')) (IsTooLarge (behind r i)) ⊎ Refused plain (behind r i) m' m'' k → BreaksOff plain (behind r i) m' m'' →
     IsReplaced mid.words new.words s (p + i) Null Null → SpendsMemory mid new → CopiesFirst r n (change false s p old new m m'') k
 each_stops {r} {s} {p} {i} {n} {old} {mid} {new} {m} {m'} {m''} {k} less first why off cleared memory = record {
   first = first.children;
@@ -32,7 +33,7 @@ each_stops {r} {s} {p} {i} {n} {old} {mid} {new} {m} {m'} {m''} {k} less first w
   made = first.made;
   cleared = subst (λ j. IsReplaced mid.words new.words s (p + j) Null Null) (sym first.counts) cleared;
   why = elim why [
-    | inl x ↦ inl (refused_after old mid new k first.memory x)
+    | inl x ↦ inl (x.0, words_refused_after old mid new x.0 k first.memory x.1)
     | inr x ↦ inr (subst (λ j. Refused plain (behind r j) m' m'' k) (sym first.counts) x)
   ];
   off = subst (λ j. BreaksOff plain (behind r j) m' m'') (sym first.counts) off;

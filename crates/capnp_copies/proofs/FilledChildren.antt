@@ -10,15 +10,16 @@ use Rattle.capnp_arena.specs.Written.{with_segment}
 use Rattle.capnp_making.specs.Filled.{AreFilled}
 use Rattle.capnp_making.specs.Stored.{IsReplaced}
 use Rattle.capnp_making.proofs.FillingChains.{filled_grows, filled_ahead, filled_more}
-use Rattle.capnp_making.proofs.Memory.{keeps_itself, keeps_both, keeps_then_spends, refused_after}
+use Rattle.capnp_making.proofs.Memory.{keeps_itself, keeps_both, keeps_then_spends, words_refused_after}
 use Rattle.capnp_objects.specs.Outcomes.{Reads}
-use Rattle.capnp_objects.specs.Refusals.{Refused, BreaksOff}
+use Rattle.capnp_objects.specs.Refusals.{Refused, StopsWithin, BreaksOff}
 use Rattle.capnp_objects.specs.Reading.{Reading, behind}
 use Rattle.capnp_objects.proofs.Copies.{read_none, read_more}
-use Rattle.capnp_copies.specs.Changes.{form_of, kept, kept_each, change, CopiesValue, StopsAtValue, CopiesChildren, StopsAtChildren}
+use Rattle.capnp_copies.specs.Changes.{WantsWords, form_of, kept, kept_each, change, CopiesValue, StopsAtValue, CopiesChildren, StopsAtChildren}
 use Rattle.capnp_copies.proofs.ChildrenCopied.{no_children}
 use Rattle.capnp_copies.proofs.SegmentsWritten.{not_written}
 use Rattle.capnp_copies.proofs.TightChildren.{child_tight}
+use Rattle.capnp_copies.proofs.TooLarge.{child_too_large}
 use Rattle.capnp_copies.proofs.KeptForms.{kept_none, kept_each-count, kept_each-with_last}
 
 pub no_child : (r : Reading) (b : Bool) (s p : ℕ) (v : View) (m : Meter) → CopiesChildren r 0 (change b s p v v m m)
@@ -56,19 +57,24 @@ child_copied {r} {b} {s} {p} {i} {old} {mid} {new} {m} {m'} {m''} place few firs
       are_read = read_more first.are_read here;
       made = subst (AreFilled old.words new.words s p) (sym (kept_each-with_last b ts u)) (one_filled new (kept b u) first next.made.0);
       memory = keeps_both old mid new (children_grow first).segments first.memory next.made.1;
-      tight = child_tight b place few first next;
+      tight = child_tight b place few (children_grow first).segments next.made.0.segments first next;
     }
 
-pub child_stops : {r : Reading} {b : Bool} {s p i n : ℕ} {old mid new : View} {m m' m'' : Meter} {k : ErrorKind} → i < n → CopiesChildren r i (change b s p old mid m m') → StopsAtValue (behind r i) (change b s (p + i) mid new m' m'') k →
+pub child_stops : {r : Reading} {b : Bool} {s p i n : ℕ} {old mid new : View} {m m' m'' : Meter} {k : ErrorKind} → IsPlace old.words s (p + i) → i < n → CopiesChildren r i (change b s p old mid m m') → StopsAtValue (behind r i) (change b s (p + i) mid new m' m'') k →
     StopsAtChildren r n (change b s p old new m m'') k
-child_stops {r} {b} {s} {p} {i} {n} {old} {mid} {new} {m} {m'} {m''} {k} less first stop =
+child_stops {r} {b} {s} {p} {i} {n} {old} {mid} {new} {m} {m'} {m''} {k} place less first stop =
     let ts : Trees = first.children in
     let fewer : count ts < n = omega (arith, first.counts) in
     let off : BreaksOff (form_of b) (behind r (count ts)) m' m'' = rw first.counts stop.off in
     let (t, made) = stop.left.0 in
     record {
       why = elim stop.why [
-        | inl x ↦ inl (refused_after old mid new k first.memory x)
+        | inl x ↦ inl (
+          x.0,
+          words_refused_after old mid new x.0 k first.memory x.1,
+          record { first = ts; fewer = fewer; mid = m'; are_read = first.are_read; stops = (let h : StopsWithin (form_of b) (WantsWords b x.0) (behind r (count ts)) m' m'' = rw first.counts x.2 in h) },
+          λ e. child_too_large b place less first e (x.3 e),
+        )
         | inr x ↦ inr (record { first = ts; fewer = fewer; mid = m'; are_read = first.are_read; stops = (let h : Refused (form_of b) (behind r (count ts)) m' m'' k = rw first.counts x in h) })
       ];
       off = record { first = ts; fewer = fewer; mid = m'; are_read = first.are_read; stops = off };

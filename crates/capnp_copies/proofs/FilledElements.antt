@@ -2,24 +2,27 @@
 use Rattle.std.proofs.Common.{◌≡◌, inl, inr, ℕ, suc, ◌+◌, ◌-◌, ◌*◌, ◌<◌, ◌≤◌, Bool, true, false, List, length, refl, sym, ap, ◌∙◌, subst, arith}
 use Rattle.capnp_words.specs.declared.error.ErrorKind.{ErrorKind}
 use Rattle.capnp_words.specs.Meter.{Meter}
-use Rattle.capnp_format.specs.Segments.{Segments, Grows, segment, word_at}
+use Rattle.capnp_format.specs.Segments.{Segments, Grows, segment, word_at, IsPlace}
 use Rattle.capnp_format.specs.Tree.{Trees, Elements, no_elements, element, count, element_count}
 use Rattle.capnp_format.specs.Canonical.{cut_to}
 use Rattle.capnp_format.proofs.Slices.{length_words}
 use Rattle.capnp_arena.specs.View.{View}
 use Rattle.capnp_arena.specs.Written.{with_words}
 use Rattle.capnp_making.specs.Filled.{AreFilled, IsElementFilled, AreElementsFilled}
-use Rattle.capnp_making.proofs.FillingChains.{elements_grow, elements_ahead}
-use Rattle.capnp_making.proofs.Memory.{keeps_itself, keeps_both, keeps_written, keeps_then_spends, refused_after}
+use Rattle.capnp_making.proofs.FillingChains.{element_grows, elements_grow, elements_ahead}
+use Rattle.capnp_making.proofs.Memory.{keeps_itself, keeps_both, keeps_written, keeps_then_spends, words_refused_after}
 use Rattle.capnp_making.proofs.WordsPut.{words_put}
 use Rattle.capnp_objects.specs.Outcomes.{ReadsAll}
-use Rattle.capnp_objects.specs.Refusals.{RefusedAll, BreaksOffAmong}
+use Rattle.capnp_objects.specs.Refusals.{RefusedAll, StopsAmong, BreaksOffAmong}
 use Rattle.capnp_objects.specs.Reading.{Reading, behind, row, words_from, pointers_of}
 use Rattle.capnp_objects.proofs.Copies.{read_no_element, with_last_element}
-use Rattle.capnp_copies.specs.Changes.{form_of, kept_each, kept_elements, change, CopiesChildren, StopsAtChildren, CopiesElement, StopsAtElement, CopiesRows, CopiesElements, StopsAtElements}
+use Rattle.capnp_copies.specs.Changes.{WantsWords, form_of, kept_each, kept_elements, change, CopiesChildren, StopsAtChildren, CopiesElement, StopsAtElement, CopiesRows, CopiesElements, StopsAtElements}
+use Rattle.capnp_copies.specs.Rooms.{AreTooLarge}
 use Rattle.capnp_copies.specs.declared.widths.ElementSizes.{ElementSizes}
 use Rattle.capnp_copies.proofs.ElementsLaid.{cut_count}
 use Rattle.capnp_copies.proofs.TightElements.{element_tight, no_row_tight, no_width_tight, row_tight}
+use Rattle.capnp_copies.proofs.SegmentsWritten.{length-with_words}
+use Rattle.capnp_copies.proofs.TooLarge.{row_too_large}
 use Rattle.capnp_copies.proofs.KeptForms.{SourceKept, one_more, kept_each-count, stops_sooner, blank_elements, nothing_filled}
 
 -- one element
@@ -53,11 +56,18 @@ element_copied {r} {sizes} {b} {s} {p} {old} {mid} {new} put children = record {
   tight = element_tight {r = r} {sizes = sizes} b (record { long = data_long put; room = put.room; writes = put.writes }) children;
 }
 
+element_too_large : (from : Reading) (n : ℕ) {r : Reading} {sizes : ElementSizes} {s p : ℕ} {old mid : View} → DataWritten r sizes old mid s p → AreTooLarge from n (length (segment mid.words s)) (mid.room s) → AreTooLarge from n (length (segment old.words s)) (old.room s)
+element_too_large from n {r} {sizes} {s} {p} {old} {mid} put large =
+    let long : length (segment mid.words s) ≡ length (segment old.words s) =
+    ap (λ (v : View). length (segment v.words s)) put.writes ∙ length-with_words old.words s p (words_from r sizes.kept.data_words) (omega (arith, data_long put, put.room)) in
+    let room : mid.room s ≡ old.room s = ap (λ (v : View). v.room s) put.writes in
+    subst (AreTooLarge from n (length (segment old.words s))) room (subst (λ k. AreTooLarge from n k (mid.room s)) long large)
+
 pub element_stops : {r : Reading} {sizes : ElementSizes} {b : Bool} {s p : ℕ} {old mid new : View} {m m' : Meter} {k : ErrorKind} → DataWritten r sizes old mid s p →
     StopsAtChildren (behind r sizes.source.data_words) sizes.kept.pointers (change b s (p + sizes.kept.data_words) mid new m m') k → StopsAtElement r sizes (change b s p old new m m') k
 element_stops {r} {sizes} {b} {s} {p} {old} {mid} {new} {k = k} put stop = record {
   why = elim stop.why [
-    | inl x ↦ inl (refused_after old mid new k (keeps_written old mid _ put.writes) x)
+    | inl x ↦ inl (x.0, words_refused_after old mid new x.0 k (keeps_written old mid _ put.writes) x.1, x.2, λ e. element_too_large (behind r sizes.source.data_words) sizes.kept.pointers put (x.3 e))
     | inr x ↦ inr x
   ];
   off = stop.off;
@@ -150,6 +160,9 @@ module _ {r : Reading} {sizes : ElementSizes} {n i : ℕ} {b : Bool} {s p : ℕ}
   pub next_room : p + i * (d + q) + (d + q) ≤ length (segment mid.words s)
   next_room = omega (arith, row_end i n (d + q) here.more, here.room, rows_grow.words s)
 
+  row_place : IsPlace old.words s p
+  row_place = omega (arith, row_end i n (d + q) here.more, here.room, here.wide)
+
   pub next_null : (j : ℕ) → j < q → word_at mid.words s (p + i * (d + q) + d + j) ≡ 0
   next_null j l =
       let end = row_end i n (d + q) here.more in
@@ -181,7 +194,7 @@ module _ {r : Reading} {sizes : ElementSizes} {n i : ℕ} {b : Bool} {s p : ℕ}
         are_read = a.are_read;
         made = subst (AreElementsFilled old.words new.words s p d q) (sym shape) made;
         memory = keeps_both old mid new rows_grow.segments here.rows.memory next.memory;
-        tight = row_tight {r = r} {sizes = sizes} b here.fits here.wide here.more here.rows next a.all shape;
+        tight = row_tight {r = r} {sizes = sizes} b row_place rows_grow.segments (element_grows mid.words new.words s (p + i * (d + q)) next_words (kept_each b next.children) next.made (omega (arith, next_room, next_long))).segments here.fits here.wide here.more here.rows next a.all shape;
       }
 
   pub row_stops : {new : View} {m'' : Meter} {k : ErrorKind} → StopsAtElement (behind r (i * (sizes.source.data_words + sizes.source.pointers))) sizes (change b s (p + i * (d + q)) mid new m' m'') k → StopsAtElements r sizes n (change b s p old new m m'') k
@@ -191,7 +204,18 @@ module _ {r : Reading} {sizes : ElementSizes} {n i : ℕ} {b : Bool} {s p : ℕ}
       let off : BreaksOffAmong (form_of b) (pointers_of r sizes.source (element_count es)) q m' m'' = rw here.rows.counts stop.off in
       record {
         why = elim stop.why [
-          | inl x ↦ inl (refused_after old mid new k here.rows.memory x)
+          | inl x ↦ inl (
+            x.0,
+            words_refused_after old mid new x.0 k here.rows.memory x.1,
+            record {
+              first = es;
+              fewer = fewer;
+              mid = m';
+              are_read = here.rows.are_read;
+              stops = stops_sooner here.fits.less_pointers (let h : StopsAmong (form_of b) (WantsWords b x.0) (pointers_of r sizes.source (element_count es)) q m' m'' = rw here.rows.counts x.2 in h);
+            },
+            λ e last. row_too_large {new = new} {m'' = m''} b here.fits here.wide here.more here.rows e (x.3 e) last,
+          )
           | inr x ↦ inr (record {
             first = es;
             fewer = fewer;

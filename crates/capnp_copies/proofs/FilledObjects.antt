@@ -11,19 +11,23 @@ use Rattle.capnp_format.proofs.Slices.{length_words}
 use Rattle.capnp_arena.specs.View.{View}
 use Rattle.capnp_arena.specs.Written.{with_word, with_words}
 use Rattle.capnp_making.specs.Made.{zero_struct, zero_structs, zeros, nulls}
-use Rattle.capnp_making.specs.Memory.{HasRoom, KeepsMemory, IsRefusedFor, RefusesGrowth, StandsBehind}
-use Rattle.capnp_making.specs.Near.{HasStructRoom, with_struct}
+use Rattle.capnp_making.specs.Memory.{HasRoom, KeepsMemory, IsRefusedFor, RefusesWords, StandsBehind, TakesWords}
+use Rattle.capnp_making.specs.Near.{HasOwnRoom, HasStructRoom, StartsBehind, with_struct}
 use Rattle.capnp_making.specs.Stored.{IsReplaced}
 use Rattle.capnp_making.specs.declared.making.Start.{Start}
 use Rattle.capnp_making.proofs.Filling.{unchanged}
+use Rattle.capnp_making.proofs.FillingChains.{elements_grow}
 use Rattle.capnp_making.proofs.FillingMade.{IsBegun, null_stored, struct_ready, struct_done, struct_whole, pointers_done, pointers_whole, structs_done, structs_whole}
-use Rattle.capnp_making.proofs.Memory.{keeps_both, keeps_written, keeps_then_spends, refused_after, made_refused}
+use Rattle.capnp_making.proofs.Memory.{keeps_both, keeps_written, keeps_then_spends, words_refused_after, made_refused}
 use Rattle.capnp_making.proofs.WordsPut.{words_put}
 use Rattle.capnp_objects.specs.Reading.{Reading, behind, row, words_from}
 use Rattle.capnp_copies.specs.Changes.{kept, kept_each, kept_elements, KeepsSections, KeepsWidths, KeepsPointers, change, Leaves, CopiesChildren, StopsAtChildren, CopiesPointers, StopsAtPointers, CopiesStruct, StopsAtStruct, CopiesElements, StopsAtElements, CopiesStructs, StopsAtStructs}
 use Rattle.capnp_copies.specs.declared.widths.ElementSizes.{ElementSizes}
+use Rattle.capnp_copies.proofs.FilledChildren.{children_grow}
 use Rattle.capnp_copies.proofs.FilledElements.{cut_to-count}
-use Rattle.capnp_copies.proofs.TightObjects.{StructMade, struct_tight, PointersMade, pointers_tight, StructsMade, structs_tight}
+use Rattle.capnp_copies.proofs.SegmentsWritten.{length-with_words}
+use Rattle.capnp_copies.proofs.TooLarge.{ObjectMade, struct_too_large, pointers_too_large, structs_too_large}
+use Rattle.capnp_copies.proofs.TightObjects.{StructMade, struct_tight, PointersMade, pointers_tight, StructsMade, ends_in_zeros, structs_tight}
 use Rattle.capnp_copies.proofs.KeptForms.{kept_each-count, stops_sooner, struct_kept, list_kept}
 
 -- an object that the arena refuses leaves the pointer null
@@ -32,7 +36,7 @@ pub nothing_left : (S R : Segments) (s p : ℕ) → IsPlace S s p → word_at S 
 nothing_left S R s p place null same = subst (λ T. IsReplaced S T s p Null Null) (sym same) (unchanged S s p Null (null_stored S s p place null))
 
 pub nothing_made : (b : Bool) (s p n : ℕ) (old new : View) (m m' : Meter) (k : ErrorKind) → IsPlace old.words s p → word_at old.words s p ≡ 0 → IsRefusedFor old new n k → new.words ≡ old.words → (HasRoom old s n → ⊥) →
-    RefusesGrowth old new k × Leaves (change b s p old new m m')
+    RefusesWords old new n k × Leaves (change b s p old new m m')
 nothing_made b s p n old new m m' k place null named same full =
     let r = made_refused old new s n k named same full in
     (r.0, ((Null, nothing_left old.words new.words s p place null same), r.1))
@@ -50,6 +54,7 @@ pub record StructBegun (b : Bool) (r : Reading) (size least : StructSize) (s p :
   pub writes : mid ≡ record made { words = with_words made.words h.segment h.at (words_from r least.data_words) }
   pub place : IsPlace old.words s p
   pub within : length (segment mid.words h.segment) ≤ mid.room h.segment
+  pub taken : TakesWords old made s (least.data_words + least.pointers)
   pub behind : StandsBehind old s (least.data_words + least.pointers) h
   pub near : HasStructRoom old s least → made.words ≡ with_struct old.words s p least
   pub empty : least.data_words + least.pointers ≡ 0 → made.words ≡ with_word old.words s p (struct_word (2 ^ 30 - 1) 0 0)
@@ -70,6 +75,12 @@ module _ {b : Bool} {r : Reading} {size least : StructSize} {s p : ℕ} {old mad
   longer : length made.words ≤ length mid.words
   longer = omega (arith, (words_put made.words mid.words h.segment h.at ws (omega (arith, o.begun.inside.1, long)) writes).long.segments)
 
+  same_long : length (segment mid.words h.segment) ≡ length (segment made.words h.segment)
+  same_long = ap (λ T. length (segment T h.segment)) writes ∙ length-with_words made.words h.segment h.at ws (omega (arith, o.begun.inside.1, long))
+
+  same_room : mid.room h.segment ≡ made.room h.segment
+  same_room = ap (λ (v : View). v.room h.segment) o.writes
+
   keeps : KeepsMemory old mid
   keeps = keeps_both old made mid o.begun.made.segments o.memory (keeps_written made mid _ o.writes)
 
@@ -84,6 +95,7 @@ module _ {b : Bool} {r : Reading} {size least : StructSize} {s p : ℕ} {old mad
     memory = o.memory;
     writes = o.writes;
     within = o.within;
+    taken = o.taken;
     behind = o.behind;
     near = o.near;
     empty = o.empty;
@@ -104,14 +116,14 @@ module _ {b : Bool} {r : Reading} {size least : StructSize} {s p : ℕ} {old mad
         counts = f.counts;
         are_read = f.are_read;
         made = (subst (IsReplaced old.words new.words s p Null) (sym f.form) whole, keeps_both old mid new segments keeps children.memory);
-        tight = struct_tight is_made b o.sections children (Struct (words_from r size.data_words) f.all) f.form;
+        tight = struct_tight is_made b (le_trans longer (children_grow children).segments) o.sections children (Struct (words_from r size.data_words) f.all) f.form;
       }
 
   pub struct_stops : {new : View} {m m' : Meter} {k : ErrorKind} → StopsAtChildren (behind r size.data_words) least.pointers (change b h.segment (h.at + least.data_words) mid new m m') k → StopsAtStruct r size (change b s p old new m m') k
   struct_stops {new} {m} {m'} {k} stop =
       record {
         why = elim stop.why [
-          | inl x ↦ inl (refused_after old mid new k keeps x)
+          | inl x ↦ inl (x.0, words_refused_after old mid new x.0 k keeps x.1, inr (stops_sooner o.less_pointers x.2), λ e. struct_too_large r size least b (record { place = o.place; memory = o.memory; taken = o.taken; behind = o.behind }) o.inside o.sections e same_long same_room o.within (x.3 e))
           | inr x ↦ inr (stops_sooner o.less_pointers x)
         ];
         off = inr (stops_sooner o.less_pointers stop.off);
@@ -138,14 +150,14 @@ pointers_copied {b} {r} {i} {s} {p} {old} {mid} {new} {h} o near children =
       counts = children.counts;
       are_read = children.are_read;
       made = (subst (IsReplaced old.words new.words s p Null) (sym (kept_pointers b children.children)) whole, keeps_both old mid new o.begun.made.segments o.memory children.memory);
-      tight = pointers_tight b near children;
+      tight = pointers_tight b (children_grow children).segments near children;
     }
 
-pub pointers_stop : {b : Bool} {r : Reading} {i s p : ℕ} {old mid new : View} {h : Start} {m m' : Meter} {k : ErrorKind} → ObjectBegun s p i old mid h (Pointers (nulls i)) → StopsAtChildren r i (change b h.segment h.at mid new m m') k →
+pub pointers_stop : {b : Bool} {r : Reading} {i s p : ℕ} {old mid new : View} {h : Start} {m m' : Meter} {k : ErrorKind} → ObjectBegun s p i old mid h (Pointers (nulls i)) → ObjectMade s p i old mid h → (HasOwnRoom old s i → StartsBehind old.words s h) → StopsAtChildren r i (change b h.segment h.at mid new m m') k →
     StopsAtPointers r i (change b s p old new m m') k
-pointers_stop {b} {r} {i} {s} {p} {old} {mid} {new} {h} {k = k} o stop = record {
+pointers_stop {b} {r} {i} {s} {p} {old} {mid} {new} {h} {k = k} o made at_end stop = record {
   why = elim stop.why [
-    | inl x ↦ inl (refused_after old mid new k o.memory x)
+    | inl x ↦ inl (x.0, words_refused_after old mid new x.0 k o.memory x.1, inr x.2, λ e. pointers_too_large r made at_end (x.3 e))
     | inr x ↦ inr x
   ];
   off = inr stop.off;
@@ -171,14 +183,15 @@ structs_copied {b} {r} {sizes} {i} {s} {p} {old} {mid} {new} {h} inside widths o
       counts = elements.counts;
       are_read = elements.are_read;
       made = (subst (IsReplaced old.words new.words s p Null) (sym form) whole, keeps_both old mid new o.begun.made.segments o.memory elements.memory);
-      tight = structs_tight {r = r} {sizes = sizes} b inside widths near elements;
+      tight = structs_tight {r = r} {sizes = sizes} b (elements_grow mid.words new.words h.segment (h.at + 1) d q (cut_to d q (kept_elements b es)) elements.made (omega (arith, cut_to-count d q b es, elements.counts, ap (λ j. j * (d + q)) (cut_to-count d q b es ∙ elements.counts), o.begun.inside.1))).segments inside widths near elements;
     }
 
-pub structs_stop : {b : Bool} {r : Reading} {sizes : ElementSizes} {i s p : ℕ} {old mid new : View} {h : Start} {m m' : Meter} {k : ErrorKind} → ObjectBegun s p (1 + i * (sizes.kept.data_words + sizes.kept.pointers)) old mid h (zero_structs i sizes.kept) →
+pub structs_stop : {b : Bool} {r : Reading} {sizes : ElementSizes} {i s p : ℕ} {old mid new : View} {h : Start} {m m' : Meter} {k : ErrorKind} → r.at + i * (sizes.source.data_words + sizes.source.pointers) ≤ length (row r) → KeepsWidths b r sizes.source i sizes.kept →
+    ObjectBegun s p (1 + i * (sizes.kept.data_words + sizes.kept.pointers)) old mid h (zero_structs i sizes.kept) → StructsMade i s p sizes.kept old mid h →
     StopsAtElements r sizes i (change b h.segment (h.at + 1) mid new m m') k → StopsAtStructs r sizes.source i (change b s p old new m m') k
-structs_stop {b} {r} {sizes} {i} {s} {p} {old} {mid} {new} {h} {k = k} o stop = record {
+structs_stop {b} {r} {sizes} {i} {s} {p} {old} {mid} {new} {h} {m} {m'} {k} inside widths o near stop = record {
   why = elim stop.why [
-    | inl x ↦ inl (refused_after old mid new k o.memory x)
+    | inl x ↦ inl (x.0, words_refused_after old mid new x.0 k o.memory x.1, inr x.2, λ e. structs_too_large r sizes (record { place = near.place; memory = near.memory; taken = near.taken; behind = near.behind }) inside b widths e (λ room. x.3 e (ends_in_zeros {new = new} {m = m} {m' = m'} b near room)))
     | inr x ↦ inr x
   ];
   off = inr stop.off;

@@ -14,7 +14,7 @@ use Rattle.capnp_making.specs.Memory.{KeepsMemory}
 use Rattle.capnp_making.specs.Stored.{IsReplaced}
 use Rattle.capnp_making.specs.declared.making.Start.{Start}
 use Rattle.capnp_making.proofs.FillingMade.{IsBegun, struct_ready, struct_done, struct_whole}
-use Rattle.capnp_making.proofs.Memory.{keeps_both, keeps_written, keeps_then_spends, refused_after}
+use Rattle.capnp_making.proofs.Memory.{keeps_both, keeps_written, keeps_then_spends, words_refused_after}
 use Rattle.capnp_making.proofs.WordsPut.{words_put}
 use Rattle.capnp_objects.specs.Outcomes.{ReadsAll}
 use Rattle.capnp_objects.specs.Reading.{Reading, row, words_from}
@@ -105,7 +105,7 @@ module _ {b : Bool} {ws : List ℕ} {r : Reading} {q : ℕ} {least : StructSize}
   sections_stop {new} {m} {m'} {k} stop =
       record {
         why = elim stop.why [
-          | inl x ↦ inl (refused_after old mid new k keeps x)
+          | inl x ↦ inl (x.0, words_refused_after old mid new x.0 k keeps x.1)
           | inr x ↦ inr (inl (stops_sooner fewer x))
         ];
         off = inr (stops_sooner fewer stop.off);

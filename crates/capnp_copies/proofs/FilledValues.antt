@@ -1,5 +1,5 @@
 -- The copy of what a pointer means, to a message of any number of segments, once its object was read.
-use Rattle.std.proofs.Common.{◌≡◌, inl, inr, ℕ, pred, ◌+◌, ◌<◌, Bool, true, false, List, take, drop, refl, sym, ap, ap₂, ◌∙◌, subst, arith, Result, Ok, Err, OnOk, OnErr, IfOk, IfErr}
+use Rattle.std.proofs.Common.{◌≡◌, inl, inr, ℕ, pred, ◌+◌, ◌<◌, Bool, true, false, List, length, take, drop, refl, sym, ap, ap₂, ◌∙◌, subst, arith, Result, Ok, Err, IsOk, OnOk, OnErr, IfOk, IfErr}
 use Rattle.std.proofs.lemmas.Bool.{false≢true}
 use Rattle.capnp_words.specs.declared.error.ErrorKind.{ErrorKind}
 use Rattle.capnp_words.specs.declared.error.ErrorKind.TheVariants.{CannotCreateACanonicalMessageWithACapability}
@@ -9,27 +9,32 @@ use Rattle.capnp_pointers.specs.declared.wire_pointer.StructSize.{StructSize}
 use Rattle.capnp_pointers.specs.Sizes.{size_number}
 use Rattle.capnp_format.specs.Bytes.{words_of}
 use Rattle.capnp_format.specs.Numbers.{words_for, unpacked}
-use Rattle.capnp_format.specs.Segments.{word_at, words_at, IsPlace}
+use Rattle.capnp_format.specs.Segments.{segment, word_at, words_at, IsPlace}
 use Rattle.capnp_format.specs.Tree.{Tree, Null, Capability, Struct, Flat, Pointers, Structs}
 use Rattle.capnp_format.specs.Word.{capability_word}
+use Rattle.capnp_format.specs.Canonical.{trim, word_count}
 use Rattle.capnp_format.proofs.Levels.{one_value}
 use Rattle.capnp_arena.specs.View.{View}
 use Rattle.capnp_arena.specs.Written.{with_word}
-use Rattle.capnp_making.specs.Memory.{KeepsMemory, SpendsMemory, RefusesGrowth}
+use Rattle.capnp_making.specs.Memory.{KeepsMemory, SpendsMemory, RefusesWords}
+use Rattle.capnp_making.specs.Near.{HasOwnRoom}
 use Rattle.capnp_making.specs.Stored.{IsReplaced}
 use Rattle.capnp_making.proofs.Memory.{keeps_itself, keeps_written, spends_nothing}
 use Rattle.capnp_making.proofs.PlacedStructs.{capability_made}
 use Rattle.capnp_objects.specs.Objects.{IsObject}
 use Rattle.capnp_objects.specs.Outcomes.{Reads}
-use Rattle.capnp_objects.specs.Refusals.{Stopped, BreaksOff, here}
+use Rattle.capnp_objects.specs.Refusals.{Stopped, StopsWithin, Refused, BreaksOff, here}
 use Rattle.capnp_objects.specs.Reading.{Reading}
 use Rattle.capnp_objects.specs.Wanted.{plain}
 use Rattle.capnp_objects.specs.declared.object.Place.{Place}
 use Rattle.capnp_objects.specs.declared.object.Object.TheVariants.{Null as ObjectNull, Capability as ObjectCapability, Struct as ObjectStruct, Flat as ObjectFlat, Pointers as ObjectPointers, Structs as ObjectStructs}
 use Rattle.capnp_objects.proofs.Objects.{read_null, read_flat, read_struct, read_pointers, read_structs}
 use Rattle.capnp_objects.proofs.Refusals.{stops_struct, stops_pointers, stops_structs}
-use Rattle.capnp_copies.specs.Changes.{form_of, kept, Change, change, IsCopiedInRoom, StandsWhereItFits, StandsAsRead, CopiesValue, StopsAtValue, CopiesStruct, StopsAtStruct, CopiesPointers, StopsAtPointers, CopiesStructs, StopsAtStructs}
+use Rattle.capnp_copies.specs.Changes.{WantsWords, as_struct, as_numbers, as_pointers, as_structs, form_of, kept, Change, change, IsCopiedInRoom, StandsWhereItFits, StandsAsRead, CopiesValue, StopsAtValue, CopiesStruct, StopsAtStruct, CopiesPointers, StopsAtPointers, CopiesStructs, StopsAtStructs}
+use Rattle.capnp_copies.specs.Copies.{CanBeCopied}
+use Rattle.capnp_copies.proofs.Copying.{not_too_large, not_refused}
 use Rattle.capnp_copies.proofs.FilledObjects.{nothing_left}
+use Rattle.capnp_copies.proofs.TooLarge.{struct_value_too_large, pointers_value_too_large, structs_value_too_large, flat_too_large}
 use Rattle.capnp_copies.proofs.StructsCopied.{null_written}
 use Rattle.capnp_copies.proofs.ObjectsRead.{inside, stopped_plain, capability_refused, capability_breaks_off, flat_held}
 
@@ -94,11 +99,22 @@ struct_value {r} {size = size} start less (a, o, z, (held, es, eb), ed, eq) stru
 
 pub struct_value_stops : {r : Reading} {b : Bool} {s p levels : ℕ} {old new : View} {m m' m'' : Meter} {size : StructSize} {k : ErrorKind} (start : Place) → (0 < r.levels → levels ≡ pred r.levels) → IsObject r m m' (ObjectStruct start size) →
     StopsAtStruct (inside r levels start) size (change b s p old new m' m'') k → StopsAtValue r (change b s p old new m m'') k
-struct_value_stops {r} {b} {m = m} {m'' = m''} {k = k} start less (a, o, z, (held, es, eb), ed, eq) stop =
+struct_value_stops {r} {b} {s} {old = old} {m = m} {m'' = m''} {k = k} start less (a, o, z, (held, es, eb), ed, eq) stop =
     let en = less o.meets.levels in
     let e : start.at ≡ a.start = omega arith in
     record {
-      why = elim stop.why [ inl x ↦ inl x | inr x ↦ inr (stops_struct o z (rw (en, es, e, ed, eq) at x)) ];
+      why = elim stop.why [
+        | inl x ↦ inl (
+          x.0,
+          x.1,
+          elim x.2 [
+            | inl y ↦ subst (StopsWithin (form_of b) (WantsWords b x.0) r m) (sym y.0) (here (a, o, as_struct z y.1 (rw (en, es, e, ed, eq) at y.2) y.3))
+            | inr y ↦ stops_struct o z (rw (en, es, e, ed, eq) at y)
+          ],
+          λ f. struct_value_too_large (length (segment old.words s)) (old.room s) start less (a, o, z, (held, es, eb), ed, eq) (x.3 f),
+        )
+        | inr x ↦ inr (stops_struct o z (rw (en, es, e, ed, eq) at x))
+      ];
       off = elim stop.off [ inl same ↦ subst (BreaksOff (form_of b) r m) (sym same) (here (inr (a, o))) | inr off ↦ stops_struct o z (rw (en, es, e, ed, eq) at off) ];
       left = stop.left;
     }
@@ -114,11 +130,22 @@ pointers_value start less (a, o, z, six, (held, es, eb), ei) list =
 
 pub pointers_value_stops : {r : Reading} {b : Bool} {s p levels i : ℕ} {old new : View} {m m' m'' : Meter} {k : ErrorKind} (start : Place) → (0 < r.levels → levels ≡ pred r.levels) → IsObject r m m' (ObjectPointers start i) →
     StopsAtPointers (inside r levels start) i (change b s p old new m' m'') k → StopsAtValue r (change b s p old new m m'') k
-pointers_value_stops {r} {b} {m = m} start less (a, o, z, six, (held, es, eb), ei) stop =
+pointers_value_stops {r} {b} {s} {old = old} {m = m} start less (a, o, z, six, (held, es, eb), ei) stop =
     let en = less o.meets.levels in
     let e : start.at ≡ a.start = omega arith in
     record {
-      why = elim stop.why [ inl x ↦ inl x | inr x ↦ inr (stops_pointers o z six (rw (en, es, e, ei) at x)) ];
+      why = elim stop.why [
+        | inl x ↦ inl (
+          x.0,
+          x.1,
+          elim x.2 [
+            | inl y ↦ subst (StopsWithin (form_of b) (WantsWords b x.0) r m) (sym y.0) (here (a, o, as_pointers z six (y.1 ∙ ei)))
+            | inr y ↦ stops_pointers o z six (rw (en, es, e, ei) at y)
+          ],
+          λ f. pointers_value_too_large (length (segment old.words s)) (old.room s) start less (a, o, z, six, (held, es, eb), ei) (x.3 f),
+        )
+        | inr x ↦ inr (stops_pointers o z six (rw (en, es, e, ei) at x))
+      ];
       off = elim stop.off [ inl same ↦ subst (BreaksOff (form_of b) r m) (sym same) (here (inr (a, o))) | inr off ↦ stops_pointers o z six (rw (en, es, e, ei) at off) ];
       left = stop.left;
     }
@@ -139,11 +166,22 @@ structs_value {size = size} start less (a, o, z, seven, (held, eu, eb), ei, ed, 
 
 pub structs_value_stops : {r : Reading} {b : Bool} {s p levels i : ℕ} {old new : View} {m m' m'' : Meter} {size : StructSize} {k : ErrorKind} (start : Place) → (0 < r.levels → levels ≡ pred r.levels) → IsObject r m m' (ObjectStructs start size i) →
     StopsAtStructs (inside r levels start) size i (change b s p old new m' m'') k → StopsAtValue r (change b s p old new m m'') k
-structs_value_stops {r} {b} {m = m} start less (a, o, z, seven, (held, eu, eb), ei, ed, eq) stop =
+structs_value_stops {r} {b} {s} {old = old} {m = m} start less (a, o, z, seven, (held, eu, eb), ei, ed, eq) stop =
     let en = less o.meets.levels in
     let e : start.at ≡ a.start + 1 = omega arith in
     record {
-      why = elim stop.why [ inl x ↦ inl x | inr x ↦ inr (stops_structs o z seven (rw (en, eu, e, ed, eq, ei) at x)) ];
+      why = elim stop.why [
+        | inl x ↦ inl (
+          x.0,
+          x.1,
+          elim x.2 [
+            | inl y ↦ subst (StopsWithin (form_of b) (WantsWords b x.0) r m) (sym y.0) (here (a, o, as_structs (z, seven) y.1 (rw (en, eu, e, ed, eq, ei) at y.2) (rw ei at y.3)))
+            | inr y ↦ stops_structs o z seven (rw (en, eu, e, ed, eq, ei) at y)
+          ],
+          λ f. structs_value_too_large (length (segment old.words s)) (old.room s) start less (a, o, z, seven, (held, eu, eb), ei, ed, eq) (x.3 f),
+        )
+        | inr x ↦ inr (stops_structs o z seven (rw (en, eu, e, ed, eq, ei) at x))
+      ];
       off = elim stop.off [ inl same ↦ subst (BreaksOff (form_of b) r m) (sym same) (here (inr (a, o))) | inr off ↦ stops_structs o z seven (rw (en, eu, e, ed, eq, ei) at off) ];
       left = stop.left;
     }
@@ -162,16 +200,17 @@ flat_read_in {r} {m} {m'} {i} {n} {ws} b start size (a, o, z, small, (held, es, 
     rw here (rw (ez, ei, es, f) (read_flat o z small))
 
 -- Of these elements the copy is made where result is Ok, and else the arena refuses it.
-pub record FlatOutcome (result : Result (Unit {0}) ErrorKind) (s p : ℕ) (old new : View) (t : Tree) : Type 0 where
+pub record FlatOutcome (result : Result (Unit {0}) ErrorKind) (s p n : ℕ) (old new : View) (t : Tree) : Type 0 where
   pub copied : OnOk result (IsReplaced old.words new.words s p Null t)
   pub granted : OnOk result (KeepsMemory old new)
-  pub refused : IfErr result (RefusesGrowth old new)
+  pub refused : IfErr result (RefusesWords old new n)
   pub kept : OnErr result (new.words ≡ old.words)
   pub memory : OnErr result (SpendsMemory old new)
   pub tight : OnOk result (IsCopiedInRoom old new s p t)
+  pub fits : HasOwnRoom old s (word_count (trim t)) → IsOk result
 
 pub flat_value : {r : Reading} {s p i n : ℕ} {old new : View} {m m' : Meter} {ws : List ℕ} (b : Bool) (result : Result (Unit {0}) ErrorKind) (start : Place) (size : ElementSize) → IsObject r m m' (ObjectFlat start size i) → n ≡ words_for (size_number size) i →
-    ws ≡ take n (drop start.at (words_of start.bytes.now)) → FlatOutcome result s p old new (Flat (size_number size) (unpacked (size_number size) i ws)) → IfOk result (λ _. CopiesValue r (change b s p old new m m'))
+    ws ≡ take n (drop start.at (words_of start.bytes.now)) → FlatOutcome result s p (words_for (size_number size) i) old new (Flat (size_number size) (unpacked (size_number size) i ws)) → IfOk result (λ _. CopiesValue r (change b s p old new m m'))
 flat_value {s = s} {p = p} {i = i} {old = old} {new = new} {ws = ws} b (Ok x) start size object words part f = record {
   value = Flat (size_number size) (unpacked (size_number size) i ws);
   is_read = flat_read_in b start size object words part;
@@ -180,11 +219,11 @@ flat_value {s = s} {p = p} {i = i} {old = old} {new = new} {ws = ws} b (Ok x) st
 }
 flat_value b (Err k) start size object words part f = tt
 
-pub flat_stops : {r : Reading} {s p i : ℕ} {old new : View} {m m' : Meter} {t : Tree} (b : Bool) (result : Result (Unit {0}) ErrorKind) (start : Place) (size : ElementSize) → IsObject r m m' (ObjectFlat start size i) → IsPlace old.words s p → word_at old.words s p ≡ 0 →
-    FlatOutcome result s p old new t → IfErr result (StopsAtValue r (change b s p old new m m'))
-flat_stops b (Ok x) start size object place null f = tt
-flat_stops {s = s} {p = p} {old = old} {new = new} b (Err k) start size (a, o, z, small, held, ez, ei) place null f = record {
-  why = inl f.refused;
+pub flat_stops : {r : Reading} {s p i n : ℕ} {old new : View} {m m' : Meter} {ws : List ℕ} (b : Bool) (result : Result (Unit {0}) ErrorKind) (start : Place) (size : ElementSize) → IsObject r m m' (ObjectFlat start size i) → n ≡ words_for (size_number size) i →
+    ws ≡ take n (drop start.at (words_of start.bytes.now)) → IsPlace old.words s p × (word_at old.words s p ≡ 0) → FlatOutcome result s p (words_for (size_number size) i) old new (Flat (size_number size) (unpacked (size_number size) i ws)) → IfErr result (StopsAtValue r (change b s p old new m m'))
+flat_stops b (Ok x) start size object words part (place, null) f = tt
+flat_stops {s = s} {p = p} {i = i} {old = old} {new = new} b (Err k) start size (a, o, z, small, held, ez, ei) words part (place, null) f = record {
+  why = inl (words_for (size_number size) i, f.refused, here (a, o, as_numbers z small (ap₂ words_for ez ei)), λ e. flat_too_large (length (segment old.words s)) (old.room s) (flat_read_in b start size (a, o, z, small, held, ez, ei) words part) (λ room. (let is = f.fits room in cc is)));
   off = here (inr (a, o));
   left = ((Null, nothing_left old.words new.words s p place null f.kept), f.memory);
 }
@@ -194,3 +233,10 @@ pub stands_as_read : {r : Reading} {c : Change} → CopiesValue r c → StandsAs
 stands_as_read {r} {c} copies t is_read =
     let x = copies.is_read in
     subst (StandsWhereItFits c) (one_value r.segments r.levels r.levels r.segment r.at copies.value t x.cost is_read.cost x.means is_read.means).0 copies.tight
+
+-- one that can be copied behind the words of its segment does not stop
+pub stops_rightly : {r : Reading} {c : Change} {k : ErrorKind} → StopsAtValue r c k → c.canonicalize ≡ true → CanBeCopied r c.before (length (segment c.old.words c.segment)) (c.old.room c.segment) → ⊥
+stops_rightly {r} {c} {k} stop canonicalize can = elim stop.why [
+  | inl x ↦ not_too_large r c.before (length (segment c.old.words c.segment)) (c.old.room c.segment) can (x.3 canonicalize)
+  | inr x ↦ not_refused (length (segment c.old.words c.segment)) (c.old.room c.segment) can (subst (λ b. Refused (form_of b) r c.before c.after k) canonicalize x)
+]

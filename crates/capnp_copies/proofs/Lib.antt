@@ -1,4 +1,5 @@
 pub mod ChildrenCopied
+pub mod CopiesNear
 pub mod ChildrenSteps
 pub mod Copying
 pub mod ElementSteps
@@ -17,14 +18,15 @@ pub mod Shapes
 pub mod StructSteps
 pub mod StructsCopied
 pub mod UsedChildren
-pub mod ValueSteps
 pub mod KeptForms
+pub mod StayingNear
 pub mod TightChildren
 pub mod FilledChildren
 pub mod TightElements
 pub mod FilledElements
 pub mod TightFlat
 pub mod TightObjects
+pub mod TooLarge
 pub mod FilledObjects
 pub mod FilledValues
 pub mod ListValues

@@ -1,9 +1,6 @@
--- The copy of a list of structs, from where its words are taken: its elements, and where it stops.
-use Rattle.std.proofs.Common.{◌≡◌, inl, inr, ℕ, ◌+◌, ◌*◌, ◌<◌, ◌≤◌, ◌∷◌, ◌++◌, List, [], length, set, take, replicate, refl, sym, ap, ap₂, ◌∙◌, arith, append_assoc, append-nil}
-use Rattle.std.proofs.lemmas.List.{length-replicate}
+-- A list of structs that is copied into the segment of its pointer, from where its words are taken: its elements.
+use Rattle.std.proofs.Common.{◌≡◌, ℕ, ◌+◌, ◌*◌, ◌<◌, ◌≤◌, ◌∷◌, ◌++◌, List, [], length, set, take, replicate, sym, ap, ap₂, ◌∙◌, arith, append_assoc, append-nil}
 use Rattle.std.proofs.Math.Seq.{take-append-add}
-use Rattle.capnp_words.specs.declared.error.ErrorKind.{ErrorKind}
-use Rattle.capnp_words.specs.declared.error.ErrorKind.TheVariants.{MessageTooLarge}
 use Rattle.capnp_pointers.specs.declared.wire_pointer.StructSize.{StructSize}
 use Rattle.capnp_words.specs.Meter.{Meter}
 use Rattle.capnp_format.specs.Word.{struct_word, list_word}
@@ -13,22 +10,17 @@ use Rattle.capnp_format.specs.Canonical.{trim, trim_elements, cut_to, word_count
 use Rattle.capnp_arena.specs.View.{View}
 use Rattle.capnp_arena.specs.Written.{with_segment, with_word}
 use Rattle.capnp_objects.specs.Outcomes.{ElementsMean}
-use Rattle.capnp_objects.specs.Refusals.{RefusedElements}
 use Rattle.capnp_objects.specs.Reading.{Reading, row}
-use Rattle.capnp_objects.specs.Wanted.{canonical}
 use Rattle.capnp_copies.specs.Copied.{copied, rows_laid}
 use Rattle.capnp_copies.specs.Copies.{IsCopied}
-use Rattle.capnp_copies.specs.Frames.{TakesWords}
-use Rattle.capnp_copies.specs.Parts.{call_of, CopiesElements, StopsAtElements, CopiesStructs, StopsAtStructs}
-use Rattle.capnp_copies.specs.Rooms.{AreTooLargeElements, IsTooLargeList}
+use Rattle.capnp_copies.proofs.CopiesNear.{TakesWords}
+use Rattle.capnp_copies.proofs.CopiesNear.{call_of, CopiesElements}
 use Rattle.capnp_copies.specs.Widths.{data_used, pointers_used}
 use Rattle.capnp_copies.proofs.Copying.{there}
 use Rattle.capnp_copies.proofs.ElementsLaid.{cut_count}
 use Rattle.capnp_copies.proofs.LeastWidths.{data_where_meant, pointers_where_meant}
 use Rattle.capnp_copies.proofs.SegmentsWritten.{then_written}
 use Rattle.capnp_copies.proofs.UsedChildren.{trim-structs}
-use Rattle.capnp_copies.proofs.RoomLemmas.{Wants}
-use Rattle.capnp_copies.proofs.StructSteps.{now_long, same_room}
 
 -- The sections are the least that lose nothing of i elements.
 pub record AreLeast (r : Reading) (size least : StructSize) (i : ℕ) : Type 0 where
@@ -55,31 +47,12 @@ words_of_list {r} {size} {least} {i} es c inside is_least len all =
     let q : ℕ = least.pointers in
     ap word_count (trimmed_list es c inside is_least len all) ∙ ap (λ j. 1 + j * (e + q) + word_count_elements (cut_to e q (trim_elements es))) (cut_count e q es ∙ len)
 
-pub list_lacks_room : {r : Reading} {size least : StructSize} {old new : View} {id i n : ℕ} {m : Meter} → r.at + i * (size.data_words + size.pointers) ≤ length (row r) → AreLeast r size least i → n ≡ 1 + i * (least.data_words + least.pointers) → new ≡ old →
-    old.room id < length (segment old.words id) + n → StopsAtStructs r size i (call_of old new id m m) (MessageTooLarge n)
-list_lacks_room {r} {size} {least} {old} {new} {id} {i} {n} inside is_least is same full =
-    let now : length (segment new.words id) ≡ length (segment old.words id) = ap (λ (v : View). length (segment v.words id)) same in
-    record { why = inl (n, refl, omega arith, λ es c len all. omega (arith, words_of_list es c inside is_least len all)) }
-
 -- The words of a list are taken: its tag, of the least sections that lose nothing, and words of zero for its elements.
 pub record ListBegun (r : Reading) (size least : StructSize) (i : ℕ) (old mid : View) (id at head : ℕ) : Type 0 where
   pub inside : r.at + i * (size.data_words + size.pointers) ≤ length (row r)
   pub is_least : AreLeast r size least i
   pub place : IsPlace old.words id at
   pub taken : TakesWords old mid id head (struct_word i least.data_words least.pointers ∷ replicate (i * (least.data_words + least.pointers)) 0)
-
-pub list_stops : {r : Reading} {size least : StructSize} {i : ℕ} {old mid new : View} {id at head : ℕ} {m m' : Meter} {k : ErrorKind} → ListBegun r size least i old mid id at head →
-    StopsAtElements r (record { source = size; kept = least }) i (call_of mid new id m m') k → StopsAtStructs r size i (call_of old new id m m') k
-list_stops {r} {size} {least} {i} {old} {mid} {new} {id} {at} {head} {m} {m'} {k} begun stop =
-    let used : ℕ = length (segment old.words id) in
-    let now : ℕ = length (segment mid.words id) in
-    let one : Wants new.words id (old.room id) k (AreTooLargeElements r (record { source = size; kept = least }) i now (old.room id)) (RefusedElements canonical r size i m m' k) =
-    rw (sym (same_room begun.taken)) stop.why in
-    let long : now ≡ used + (1 + i * (least.data_words + least.pointers)) =
-    omega (arith, now_long begun.place begun.taken, length-replicate {A = ℕ} (i * (least.data_words + least.pointers)) 0) in
-    let too_large : AreTooLargeElements r (record { source = size; kept = least }) i now (old.room id) → IsTooLargeList r size i used (old.room id) =
-    λ large es c len all. (let b = large es c len all in omega (arith, words_of_list es c begun.inside begun.is_least len all)) in
-    record { why = elim one [ inl x ↦ inl (x.0, x.1, x.2, too_large x.3) | inr x ↦ inr x ] }
 
 -- the tag of a list of structs, and its elements, once they are put, and the list's pointer
 pub list_put : {r : Reading} {size least : StructSize} {i : ℕ} {old mid last new : View} {id at head x : ℕ} {m m' : Meter} → ListBegun r size least i old mid id at head → (elements : CopiesElements r (record { source = size; kept = least }) i (call_of mid last id m m') (head + 1)) →
@@ -104,8 +77,3 @@ list_put {r} {size} {least} {i} {old} {mid} {last} {new} {id} {at} {head} {x} be
     then_written M id (rows_laid (take (length W + 1) (W ++ (tag ∷ Z))) e q es 0) (λ xs. set xs at x) (id_there, second) (ap (λ (v : View). v.words) writes)
     ∙ ap (with_segment M id) (ap₂ (λ xs y. set xs at y) (ap (λ xs. rows_laid xs e q es 0) front ∙ laid ∙ ap (λ j. W ++ ((struct_word j e q ∷ rows e q 0 es) ++ element_bodies es)) (sym len)) same)
     ∙ ap (λ t. with_segment M id (copied W at t)) (sym form)
-
-pub list_is_copied : {r : Reading} {size least : StructSize} {i : ℕ} {old mid last new : View} {id at head x : ℕ} {m m' : Meter} → ListBegun r size least i old mid id at head → CopiesElements r (record { source = size; kept = least }) i (call_of mid last id m m') (head + 1) →
-    x ≡ list_word (offset_to at (length (segment old.words id))) 7 (i * (least.data_words + least.pointers)) → new ≡ record last { words = with_word last.words id at x } → CopiesStructs r size i (call_of old new id m m') at
-list_is_copied begun elements word writes =
-    record { elements = elements.elements; counts = elements.counts; are_read = elements.are_read; made = list_put begun elements word writes }

@@ -91,7 +91,7 @@ numbers_held S start size n width bytes flat held part room = subst (λ i. AreHe
 -- what is made of them
 
 pub numbers_copied : (list : ListElements) (c : Change) (bytes : List ℕ) (result : Result (Unit {0}) ErrorKind) → size_number list.size ≤ 5 → words_of bytes ≡ words_from list.first (words_for (size_number list.size) list.count) → c.after ≡ c.before →
-    FlatOutcome result c.segment c.at c.old c.new (Flat (size_number list.size) (unpacked (size_number list.size) list.count (words_of bytes))) → IfOk result (λ _. CopiesList list c)
+    FlatOutcome result c.segment c.at (words_for (size_number list.size) list.count) c.old c.new (Flat (size_number list.size) (unpacked (size_number list.size) list.count (words_of bytes))) → IfOk result (λ _. CopiesList list c)
 numbers_copied list c bytes (Ok x) flat stand free f =
     let ns : List ℕ = unpacked (size_number list.size) list.count (words_of bytes) in
     record {
@@ -101,10 +101,10 @@ numbers_copied list c bytes (Ok x) flat stand free f =
     }
 numbers_copied list c bytes (Err k) flat stand free f = tt
 
-pub numbers_stop : (list : ListElements) (c : Change) (t : Tree) (result : Result (Unit {0}) ErrorKind) → IsPlace c.old.words c.segment c.at → word_at c.old.words c.segment c.at ≡ 0 → c.after ≡ c.before → FlatOutcome result c.segment c.at c.old c.new t → IfErr result (StopsAtList list c)
-numbers_stop list c t (Ok x) place null free f = tt
-numbers_stop list c t (Err k) place null free f = record {
-  why = inl f.refused;
+pub numbers_stop : (list : ListElements) (c : Change) (n : ℕ) (t : Tree) (result : Result (Unit {0}) ErrorKind) → IsPlace c.old.words c.segment c.at → word_at c.old.words c.segment c.at ≡ 0 → c.after ≡ c.before → FlatOutcome result c.segment c.at n c.old c.new t → IfErr result (StopsAtList list c)
+numbers_stop list c n t (Ok x) place null free f = tt
+numbers_stop list c n t (Err k) place null free f = record {
+  why = inl (n, f.refused);
   off = inl free;
   left = ((Null, nothing_left c.old.words c.new.words c.segment c.at place null f.kept), f.memory);
 }

@@ -1,29 +1,26 @@
 -- What a pointer means, where its object was read.
-use Rattle.std.proofs.Common.{◌≡◌, inl, ℕ, pred, ◌+◌, List, refl, sym, ap, ◌∙◌, subst, arith}
+use Rattle.std.proofs.Common.{◌≡◌, inl, ℕ, pred, ◌+◌, refl, sym, ap, ◌∙◌, subst, arith}
 use Rattle.capnp_words.specs.declared.error.ErrorKind.{ErrorKind}
 use Rattle.capnp_words.specs.declared.error.ErrorKind.TheVariants.{CannotCreateACanonicalMessageWithACapability, InlineCompositeListsElementsOverrunItsWordCount, InlineCompositeListsOfNonStructTypeAreNotSupported, MalformedDoubleFarPointer, MessageContainsOutOfBoundsPointer, MessageIsTooDeeplyNestedOrContainsCycles, UnknownPointerType}
 use Rattle.capnp_pointers.specs.declared.wire_pointer.ElementSize.{ElementSize}
 use Rattle.capnp_format.specs.Word.{kind, offset_bits, data_words, pointer_count, element_size, list_count}
-use Rattle.capnp_format.specs.Numbers.{words_for, unpacked}
 use Rattle.capnp_format.specs.Bytes.{words_of}
-use Rattle.capnp_pointers.specs.Sizes.{size_number}
 use Rattle.capnp_format.specs.Segments.{Segments, segment, words_at, Target}
 use Rattle.capnp_format.specs.Tree.{Tree, Null, Capability, Struct, Flat, Structs, Pointers, Trees, Elements, count, element_count}
 use Rattle.capnp_format.specs.Means.{MeansAll, MeansElements}
 use Rattle.capnp_words.specs.Meter.{Meter, Affords}
 use Rattle.capnp_objects.specs.declared.object.Place.{Place}
-use Rattle.capnp_objects.specs.declared.object.Object.TheVariants.{Null as ObjectNull, Capability as ObjectCapability, Flat as ObjectFlat}
+use Rattle.capnp_objects.specs.declared.object.Object.TheVariants.{Capability as ObjectCapability, Flat as ObjectFlat}
 use Rattle.capnp_objects.specs.Objects.{IsObject}
 use Rattle.capnp_objects.proofs.Followed.{leads_to}
 use Rattle.capnp_objects.proofs.Faultless.{same_target}
 use Rattle.capnp_objects.specs.Demands.{tag}
 use Rattle.capnp_objects.specs.Faults.{LeadsTo}
-use Rattle.capnp_objects.specs.Outcomes.{MeansThere, Reads}
+use Rattle.capnp_objects.specs.Outcomes.{MeansThere}
 use Rattle.capnp_objects.specs.Refusals.{Stopped, pads_exceed, nowhere, broken, claim_exceeds, count_exceeds, Refused, BreaksOff, here}
 use Rattle.capnp_objects.specs.Reading.{Reading}
 use Rattle.capnp_objects.specs.Spending.{after}
 use Rattle.capnp_objects.specs.Wanted.{plain, canonical, BreaksObject}
-use Rattle.capnp_objects.proofs.Objects.{read_null, read_flat}
 
 -- the start of an object, with so many levels
 abbrev pub inside : Reading → ℕ → Place → Reading
@@ -48,9 +45,6 @@ stopped_plain {r} {k = k} (broken a f h paid) = broken a f (still_refused r.segm
 stopped_plain (claim_exceeds a f level object claims short paid named) = claim_exceeds a f level object claims short paid named
 stopped_plain (count_exceeds a f meets short paid named) = count_exceeds a f meets short paid named
 
-pub refused_plain : {r : Reading} {m m' : Meter} {k : ErrorKind} → Stopped plain r m m' k → Refused canonical r m m' k
-refused_plain stopped = here (stopped_plain stopped)
-
 capability_stopped : {r : Reading} (m m' : Meter) (i : ℕ) → IsObject r m m' (ObjectCapability i) → Stopped canonical r m m' CannotCreateACanonicalMessageWithACapability
 capability_stopped {r} m m' i (a, l, low, e, covers, spent) =
     let none : a.pads ≡ a.pads + 0 = omega arith in
@@ -61,9 +55,6 @@ capability_refused m m' i object = here (capability_stopped m m' i object)
 
 pub capability_breaks_off : {r : Reading} (m m' : Meter) (i : ℕ) → IsObject r m m' (ObjectCapability i) → BreaksOff canonical r m m'
 capability_breaks_off m m' i object = here (inl (CannotCreateACanonicalMessageWithACapability, capability_stopped m m' i object))
-
-pub null_read : {r : Reading} (m m' : Meter) → IsObject r m m' ObjectNull → Reads canonical r m m' Null
-null_read {r} m m' h = subst (λ x. Reads canonical r m x Null) (sym h.1) (read_null m h.0)
 
 -- what is meant where an object was read
 
@@ -116,19 +107,7 @@ means_structs r (Structs d q es) a (c, (b, m, k, some, o, claims, t, fits, all, 
       rw (t.data_of, t.pointers) refl,
     )
 
--- a struct that was read
-
--- a list of pointers
-
--- a list of structs
-
 -- a list of numbers
-
-pub flat_read : {r : Reading} {m m' : Meter} (start : Place) (size : ElementSize) (i : ℕ) (ws : List ℕ) → IsObject r m m' (ObjectFlat start size i) → ws ≡ words_at r.segments start.segment start.at (words_for (size_number size) i) →
-    Reads canonical r m m' (Flat (size_number size) (unpacked (size_number size) i ws))
-flat_read start size i ws (a, o, z, small, (held, es, eb), ez, ei) e =
-    let f : start.at ≡ a.start = omega arith in
-    rw e (rw (ez, ei, es, f) (read_flat o z small))
 
 pub flat_held : {r : Reading} (m m' : Meter) (start : Place) (size : ElementSize) (i : ℕ) → IsObject r m m' (ObjectFlat start size i) → words_of start.bytes.now ≡ segment r.segments start.segment
 flat_held m m' start size i (a, o, z, small, (held, es, eb), ez, ei) = held.0

@@ -10,7 +10,7 @@ use Rattle.capnp_format.specs.Segments.{Segments, segment}
 use Rattle.capnp_format.specs.Value.{AreBelow}
 use Rattle.capnp_format.proofs.Digits.{length-digits, digits-from_digits, from_digits-below}
 use Rattle.capnp_format.proofs.Lies.{pow_pow}
-use Rattle.capnp_arena.specs.Written.{with_segment, overwritten, with_word, with_words, extended}
+use Rattle.capnp_arena.specs.Written.{overwritten, with_word, with_words, extended}
 
 -- remainders
 
@@ -143,9 +143,3 @@ pub all_written : {p w : ℕ} (S : Segments) (s : ℕ) (ws : List ℕ) → s < l
 all_written [] s ws l e f = absurd (omega arith)
 all_written {p} {w} (xs ∷ S) zero ws l e f = ap (λ ys. ys ∷ S) (over_zeros xs ws p w e f)
 all_written (xs ∷ S) (suc s) ws l e f = ap (λ T. xs ∷ T) (all_written S s ws (omega arith) e f)
-
--- a word of a segment that was written
-pub word_set : (S : Segments) (s : ℕ) (ws : List ℕ) (at x : ℕ) → with_word (with_segment S s ws) s at x ≡ with_segment S s (set ws at x)
-word_set [] s ws at x = refl
-word_set (xs ∷ S) zero ws at x = refl
-word_set (xs ∷ S) (suc s) ws at x = ap (λ T. xs ∷ T) (word_set S s ws at x)

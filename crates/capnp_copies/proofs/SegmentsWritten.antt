@@ -1,14 +1,9 @@
 -- Writes to one segment, one after another.
-use Rattle.std.proofs.Common.{◌≡◌, ℕ, zero, suc, ◌+◌, ◌-◌, ◌<◌, ◌≤◌, List, [], ◌∷◌, ◌++◌, length, take, drop, set, replicate, refl, sym, ap, ap₂, ◌∙◌, arith, length-append, take_at, drop_at, length-take, set-set, get_or, get_or-drop}
+use Rattle.std.proofs.Common.{◌≡◌, ℕ, zero, suc, ◌+◌, ◌-◌, ◌<◌, ◌≤◌, List, [], ◌∷◌, ◌++◌, length, take, drop, replicate, refl, sym, ap, ap₂, ◌∙◌, arith, length-append, take_at, drop_at, length-take, set-set, get_or, get_or-drop}
 use Rattle.std.proofs.lemmas.Grind.{common_steps}
-use Rattle.std.proofs.lemmas.List.{length-replicate, length-set, drop-replicate, set-get_or, take_all, get_or-append_right}
-use Rattle.std.proofs.Math.Seq.{set-append_seam}
-use Rattle.capnp_format.specs.Segments.{Segments, segment, word_at, IsPlace}
-use Rattle.capnp_format.specs.Bytes.{message}
+use Rattle.std.proofs.lemmas.List.{length-replicate, length-set, drop-replicate, set-get_or, get_or-append_right}
+use Rattle.capnp_format.specs.Segments.{Segments, segment, word_at}
 use Rattle.capnp_arena.specs.Written.{with_segment, overwritten, with_words, with_word, extended}
-use Rattle.capnp_arena.specs.View.{View, KeepsLimits}
-use Rattle.capnp_copies.specs.Copies.{IsCleared}
-use Rattle.capnp_copies.specs.Rooms.{IsSameBelow}
 use Rattle.capnp_copies.proofs.Copying.{segment_written, there}
 
 -- Segment s of M is there, and K has the words ws in it.
@@ -33,31 +28,10 @@ over_zeros ws us n r e =
     ap₂ (λ xs ys. xs ++ (us ++ drop (length us) ys)) (take_at ws (replicate n 0) (length ws) refl) (drop_at ws (replicate n 0) (length ws) refl)
     ∙ ap (λ xs. ws ++ (us ++ xs)) (drop-replicate (length us) n 0 ∙ ap (λ k. replicate k 0) (let f : n - length us ≡ r = omega arith in f))
 
--- zeros taken at the end, counted in another way
-pub zeros_taken : {K : Segments} {n : ℕ} (M : Segments) (s k : ℕ) → K ≡ extended M s (replicate n 0) → n ≡ k → K ≡ extended M s (replicate k 0)
-zeros_taken M s k h e = h ∙ ap (λ i. extended M s (replicate i 0)) e
-
 -- words taken at the end, and the first of them written
 pub begun : {K L : Segments} (M : Segments) (s r : ℕ) (us : List ℕ) → IsWritten M K s (segment M s ++ replicate (length us + r) 0) → L ≡ with_words K s (length (segment M s)) us → L ≡ extended M s (us ++ replicate r 0)
 begun M s r us taken g =
     then_written M s (segment M s ++ replicate (length us + r) 0) (λ ws. overwritten ws (length (segment M s)) us) taken g ∙ ap (with_segment M s) (over_zeros (segment M s) us (length us + r) r refl)
-
--- the segment of a place is one of the arena's
-pub of_arena : (B : List (List ℕ)) (s p : ℕ) → IsPlace (message B) s p → s < length B
-of_arena [] s p l = absurd (omega arith)
-of_arena (b ∷ B) zero p l = omega arith
-of_arena (b ∷ B) (suc s) p l = omega (arith, of_arena B s p l)
-
-pub as_many : (B : List (List ℕ)) → length (message B) ≡ length B
-as_many [] = refl
-as_many (b ∷ B) = ap suc (as_many B)
-
--- words taken at the end, and the first word written
-pub tagged : {K L : Segments} (M : Segments) (s n x : ℕ) → IsWritten M K s (segment M s ++ replicate (1 + n) 0) → L ≡ with_word K s (length (segment M s)) x → L ≡ extended M s (x ∷ replicate n 0)
-tagged M s n x taken h =
-    let more : replicate (1 + n) 0 ≡ 0 ∷ replicate n 0 = ap (λ i. replicate i 0) (let f : 1 + n ≡ suc n = omega arith in f) in
-    then_written M s (segment M s ++ replicate (1 + n) 0) (λ ws. set ws (length (segment M s)) x) taken h
-    ∙ ap (with_segment M s) (ap (λ xs. set (segment M s ++ xs) (length (segment M s)) x) more ∙ set-append_seam (segment M s) 0 (replicate n 0) x)
 
 -- how long a segment is that was written
 pub length-with_word : (S : Segments) (s p x : ℕ) → length (segment (with_word S s p x) s) ≡ length (segment S s)
@@ -79,24 +53,6 @@ length-extended (t ∷ S) zero ws l = length-append t ws
 length-extended (t ∷ S) (suc s) ws l = length-extended S s ws (omega arith)
 
 pub ruleset lengths = (length-with_word, length-with_words, length-extended, there, length-replicate)
-
--- limits that are kept twice
-pub keeps_both : (u v w : View) → KeepsLimits u v → KeepsLimits v w → KeepsLimits u w
-keeps_both u v w e f = f ∙ ap (λ (x : View). record x { words = w.words }) e
-
--- words at the end
-pub grown : (u v : View) (s : ℕ) (ws : List ℕ) → s < length u.words → v ≡ record u { words = extended u.words s ws } → length (segment v.words s) ≡ length (segment u.words s) + length ws
-grown u v s ws l e = ap (λ (x : View). length (segment x.words s)) e ∙ ap length (segment_written u.words s (segment u.words s ++ ws) l) ∙ length-append (segment u.words s) ws
-
--- what was written behind the words, written over with zeros
-pub cleared : {K L : Segments} (M : Segments) (s : ℕ) → s < length M → IsSameBelow M K s (length (segment M s)) →
-    L ≡ with_segment K s (take (length (segment M s)) (segment K s) ++ replicate (length (segment K s) - length (segment M s)) 0) → IsCleared M L s
-cleared M s l (ws, e) h =
-    let W = segment M s in
-    let n = length W in
-    let V = take n W ++ ws in
-    let first : take n V ≡ W = take_at (take n W) ws n (omega (arith, length-take n W)) ∙ take_all n W (omega arith) in
-    (length V - n, then_written M s V (λ xs. take n xs ++ replicate (length xs - n) 0) (l, e) h ∙ ap (λ xs. with_segment M s (xs ++ replicate (length V - n) 0)) first)
 
 -- The words us, of which there are some, are written over those of segment s from position at on.
 pub record WrittenOver (M K : Segments) (s at : ℕ) (us : List ℕ) : Type 0 where

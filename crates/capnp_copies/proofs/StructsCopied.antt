@@ -1,13 +1,12 @@
 -- An object whose children are its last words, the pointer of a struct, and what is left where nothing is copied.
-use Rattle.std.proofs.Common.{◌≡◌, ℕ, ◌+◌, ◌-◌, ◌<◌, List, [], ◌∷◌, ◌++◌, length, set, take, drop, replicate, refl, sym, ap, ap₂, ◌∙◌, arith, append_assoc, append-nil, length-append, take_at}
-use Rattle.std.proofs.lemmas.List.{length-replicate, set-get_or, drop_all, take_all}
+use Rattle.std.proofs.Common.{◌≡◌, ℕ, ◌+◌, ◌-◌, ◌<◌, List, [], ◌∷◌, ◌++◌, length, set, drop, replicate, refl, sym, ap, ap₂, ◌∙◌, arith, append_assoc, append-nil, length-append, take_at}
+use Rattle.std.proofs.lemmas.List.{length-replicate, set-get_or, drop_all}
 use Rattle.capnp_format.specs.Word.{struct_word}
 use Rattle.capnp_format.specs.Segments.{Segments, segment, word_at}
 use Rattle.capnp_format.specs.Tree.{Null, Struct, Trees, no_trees, tree, count}
 use Rattle.capnp_format.specs.Canonical.{pointer, pointers, bodies}
 use Rattle.capnp_arena.specs.Written.{with_segment}
 use Rattle.capnp_copies.specs.Copied.{copied, with_children}
-use Rattle.capnp_copies.specs.Rooms.{IsSameBelow}
 use Rattle.capnp_copies.proofs.SegmentsWritten.{not_written}
 
 -- an object whose children are its last words
@@ -29,6 +28,3 @@ struct_pointer (x ∷ xs) ts k l = refl
 pub null_written : (M : Segments) (s at : ℕ) → word_at M s at ≡ 0 → M ≡ with_segment M s (copied (segment M s) at Null)
 null_written M s at z =
     not_written M s ∙ ap (with_segment M s) (sym (set-get_or (segment M s) at 0) ∙ ap (set (segment M s) at) z ∙ ap (λ ws. set ws at 0) (sym (append-nil (segment M s))))
-
-pub nothing_kept : (M : Segments) (s : ℕ) → IsSameBelow M M s (length (segment M s))
-nothing_kept M s = ([], not_written M s ∙ ap (with_segment M s) (sym (append-nil (take (length (segment M s)) (segment M s)) ∙ take_all (length (segment M s)) (segment M s) (omega arith))))

@@ -1,5 +1,5 @@
 -- Objects in canonical form, in place behind the words of their pointers' segment: structs, lists of pointers and of structs.
-use Rattle.std.proofs.Common.{◌≡◌, ℕ, zero, suc, ◌+◌, ◌*◌, ◌<◌, ◌≤◌, ◌-◌, ◌^◌, Bool, true, false, List, [], ◌∷◌, ◌++◌, length, get_or, set, take, drop, replicate, refl, sym, ap, ap₂, ◌∙◌, subst, arith, append-nil, length-append, length-take}
+use Rattle.std.proofs.Common.{◌≡◌, inl, ℕ, zero, suc, ◌+◌, ◌*◌, ◌<◌, ◌≤◌, ◌-◌, ◌^◌, Bool, true, false, List, [], ◌∷◌, ◌++◌, length, get_or, set, take, drop, replicate, refl, sym, ap, ap₂, ◌∙◌, subst, arith, append-nil, length-append, length-take}
 use Rattle.std.proofs.lemmas.Bool.{false≢true}
 use Rattle.std.proofs.lemmas.List.{length-replicate, get_or-append_right}
 use Rattle.capnp_words.specs.Meter.{Meter}
@@ -7,20 +7,21 @@ use Rattle.capnp_pointers.specs.declared.wire_pointer.StructSize.{StructSize}
 use Rattle.capnp_format.specs.Word.{struct_word, list_word}
 use Rattle.capnp_format.specs.Segments.{Segments, segment, word_at, IsPlace}
 use Rattle.capnp_format.specs.Tree.{Tree, Struct, Pointers, Structs, Trees, no_trees, tree, Elements, count}
-use Rattle.capnp_format.specs.Canonical.{trim, trim_each, word_count, word_count_all, pointers, bodies, rows, element_bodies, offset_to}
+use Rattle.capnp_format.specs.Canonical.{trim, trim_each, word_count, word_count_all, word_count_elements, pointers, bodies, rows, element_bodies, offset_to}
 use Rattle.capnp_format.proofs.Slices.{length_words}
 use Rattle.capnp_format.proofs.Trimming.{trim_each-count}
 use Rattle.capnp_arena.specs.View.{View}
 use Rattle.capnp_arena.specs.Written.{with_segment, with_word, with_words, extended}
-use Rattle.capnp_making.specs.Memory.{KeepsMemory, StandsBehind}
+use Rattle.capnp_making.specs.Memory.{KeepsMemory, StandsBehind, TakesWords as TakesRoom}
 use Rattle.capnp_making.specs.Near.{HasOwnRoom, HasStructRoom, HasStructsRoom, StartsBehind, offset_behind, with_struct, with_list, with_struct_list}
 use Rattle.capnp_making.specs.declared.making.Start.{Start}
 use Rattle.capnp_objects.specs.Reading.{Reading, behind, row, words_from}
-use Rattle.capnp_copies.specs.Changes.{kept, kept_each, KeepsSections, KeepsWidths, change, StandsWhereItFits, EndsInZeros, CopiesChildren, CopiesElements}
+use Rattle.capnp_copies.specs.Changes.{kept, kept_each, KeepsSections, KeepsWidths, change, StayInSegment, StandsWhereItFits, EndsInZeros, CopiesChildren, CopiesElements}
 use Rattle.capnp_copies.specs.Copied.{copied, with_children, rows_laid}
 use Rattle.capnp_copies.specs.Copies.{AreCopied}
-use Rattle.capnp_copies.specs.Frames.{TakesWords}
-use Rattle.capnp_copies.specs.Parts.{Uses, call_of, CopiesChildren as ChildrenCopied, CopiesElements as ElementsCopied}
+use Rattle.capnp_copies.proofs.CopiesNear.{TakesWords}
+use Rattle.capnp_copies.specs.Widths.{Uses}
+use Rattle.capnp_copies.proofs.CopiesNear.{call_of, CopiesChildren as ChildrenCopied, CopiesElements as ElementsCopied}
 use Rattle.capnp_copies.proofs.ChildrenCopied.{no_children}
 use Rattle.capnp_copies.specs.declared.widths.ElementSizes.{ElementSizes}
 use Rattle.capnp_copies.proofs.Copying.{there, segment_written}
@@ -30,6 +31,7 @@ use Rattle.capnp_copies.proofs.Padding.{with_words_none}
 use Rattle.capnp_copies.proofs.PointersFirst.{place_kept, in_first, pointer_stays, pointer_first}
 use Rattle.capnp_copies.proofs.SegmentsWritten.{begun, not_written, words_written, length-with_word, length-extended}
 use Rattle.capnp_copies.proofs.StructSteps.{StructBegun, struct_put, pointers_put}
+use Rattle.capnp_copies.proofs.StayingNear.{stay_fewer, stay_later, own_room}
 use Rattle.capnp_copies.proofs.TightChildren.{room_kept}
 
 -- the pointer stands still, where children were written behind it
@@ -46,10 +48,10 @@ no_trees_left no_trees e = refl
 no_trees_left (tree t ts) e = absurd (omega arith)
 
 -- children that stand where they fit, from a start that is known in another way
-moved : (mid new : View) (n : ℕ) (f : ℕ → ℕ) {s u h a : ℕ} (ts : Trees) → u ≡ s → a ≡ h → (HasOwnRoom mid u n → AreCopied mid.words new.words u (f a) ts) → HasOwnRoom mid s n → AreCopied mid.words new.words s (f h) ts
+moved : (mid new : View) (n : ℕ) (f : ℕ → ℕ) {s u h a : ℕ} (ts : Trees) → u ≡ s → a ≡ h → (StayInSegment mid new u n → AreCopied mid.words new.words u (f a) ts) → StayInSegment mid new s n → AreCopied mid.words new.words s (f h) ts
 moved mid new n f {s} {u} {h} {a} ts es eh =
-    subst (λ i. (HasOwnRoom mid u n → AreCopied mid.words new.words u (f a) ts) → HasOwnRoom mid i n → AreCopied mid.words new.words i (f h) ts) es
-    (subst (λ i. (HasOwnRoom mid u n → AreCopied mid.words new.words u (f a) ts) → HasOwnRoom mid u n → AreCopied mid.words new.words u (f i) ts) eh (λ g. g))
+    subst (λ i. (StayInSegment mid new u n → AreCopied mid.words new.words u (f a) ts) → StayInSegment mid new i n → AreCopied mid.words new.words i (f h) ts) es
+    (subst (λ i. (StayInSegment mid new u n → AreCopied mid.words new.words u (f a) ts) → StayInSegment mid new u n → AreCopied mid.words new.words u (f i) ts) eh (λ g. g))
 
 -- A struct is made near its pointer, or without words, and its data words are written.
 pub record StructMade (r : Reading) (size least : StructSize) (s p : ℕ) (old made mid : View) (h : Start) : Type 0 where
@@ -59,6 +61,7 @@ pub record StructMade (r : Reading) (size least : StructSize) (s p : ℕ) (old m
   pub memory : KeepsMemory old made
   pub writes : mid ≡ record made { words = with_words made.words h.segment h.at (words_from r least.data_words) }
   pub within : length (segment mid.words h.segment) ≤ mid.room h.segment
+  pub taken : TakesRoom old made s (least.data_words + least.pointers)
   pub behind : StandsBehind old s (least.data_words + least.pointers) h
   pub near : HasStructRoom old s least → made.words ≡ with_struct old.words s p least
   pub empty : least.data_words + least.pointers ≡ 0 → made.words ≡ with_word old.words s p (struct_word (2 ^ 30 - 1) 0 0)
@@ -132,7 +135,7 @@ module _ {r : Reading} {size least : StructSize} {s p : ℕ} {old made mid : Vie
       let no_words : us ≡ [] = ap (words_from r) no_data in
       let no_kids : ts ≡ no_trees = no_trees_left ts (omega (arith, children.counts, none)) in
       let words : word_count_all (trim_each ts) ≡ 0 = ap (λ t. word_count_all (trim_each t)) no_kids in
-      let stand : AreCopied mid.words new.words h.segment (h.at + least.data_words) ts = children.tight (refl, omega (arith, o.within, words)) in
+      let stand : AreCopied mid.words new.words h.segment (h.at + least.data_words) ts = children.tight (refl, inl (omega (arith, o.within, words))) in
       let V : List ℕ = segment mid.words h.segment in
       let kept_mid : new.words ≡ mid.words =
       stand ∙ ap (λ t. with_segment mid.words h.segment (with_children V (h.at + least.data_words) (trim_each t))) no_kids
@@ -141,9 +144,9 @@ module _ {r : Reading} {size least : StructSize} {s p : ℕ} {old made mid : Vie
       kept_mid ∙ kept_made ∙ o.empty none ∙ ap (λ ws. with_segment S s (set ws p e)) (sym (append-nil W))
       ∙ ap₂ (λ xs t. with_segment S s (copied W p (Struct xs (trim_each t)))) (sym no_words) (sym no_kids)
 
-  pub struct_tight : {new : View} {m m' : Meter} (b : Bool) → KeepsSections b r size least → (children : CopiesChildren (behind r size.data_words) least.pointers (change b h.segment (h.at + least.data_words) mid new m m')) → (t : Tree) →
+  pub struct_tight : {new : View} {m m' : Meter} (b : Bool) → length made.words ≤ length new.words → KeepsSections b r size least → (children : CopiesChildren (behind r size.data_words) least.pointers (change b h.segment (h.at + least.data_words) mid new m m')) → (t : Tree) →
       kept b t ≡ Struct us (kept_each b children.children) → StandsWhereItFits (change b s p old new m m') t
-  struct_tight {new} {m} {m'} true uses children t form (e, fits) =
+  struct_tight {new} {m} {m'} true longer uses children t form (e, fits) =
       cases_of (least.data_words + least.pointers) refl ∙ ap (λ y. with_segment S s (copied W p y)) (sym form)
     where
       cases_of : (n : ℕ) → n ≡ least.data_words + least.pointers → new.words ≡ with_segment S s (copied W p (Struct us (trim_each children.children)))
@@ -153,26 +156,27 @@ module _ {r : Reading} {size least : StructSize} {s p : ℕ} {old made mid : Vie
           let d : ℕ = least.data_words in
           let q : ℕ = least.pointers in
           let words : word_count (trim t) ≡ d + q + word_count_all (trim_each ts) = ap word_count form ∙ omega (arith, long, trim_each-count ts, children.counts) in
-          let near : HasStructRoom old s least = (omega (arith, same), omega (arith, fits, words)) in
+          let near : HasStructRoom old s least = (omega (arith, same), own_room old made new s p (d + q) o.place o.taken longer (stay_fewer old new s (word_count (trim t)) (d + q) (omega (arith, words)) fits)) in
           let at_end : StartsBehind S s h = o.behind.near near.0 near.1 in
           let ws : List ℕ = us ++ replicate q 0 in
           let width : length (segment mid.words s) ≡ length W + (d + q) =
           ap (λ T. length (segment T s)) (mid_near near) ∙ length-extended P s ws (there P s p place) ∙ omega (arith, same_long, long, length-append us (replicate q 0), length-replicate {A = ℕ} q 0) in
           let room : mid.room s ≡ old.room s = ap (λ (v : View). v.room s) o.writes ∙ room_kept old made s p o.place o.memory in
           let stand : AreCopied mid.words new.words s (length (segment P s) + d) ts =
-          moved mid new (word_count_all (trim_each ts)) (λ i. i + d) ts at_end.0 (at_end.1 ∙ sym same_long) (λ f. children.tight (refl, f)) (omega (arith, width, room, fits, words)) in
+          moved mid new (word_count_all (trim_each ts)) (λ i. i + d) ts at_end.0 (at_end.1 ∙ sym same_long) (λ f. children.tight (refl, f)) (stay_later old mid new s s (word_count (trim t)) (word_count_all (trim_each ts)) (λ f. omega (arith, width, room, f, words)) fits) in
           near_stands {new = new} {m = m} {m' = m'} near uses (record { children = ts; counts = children.counts; are_read = children.are_read; made = stand })
-  struct_tight false uses children t form (e, fits) = absurd (false≢true e)
+  struct_tight false longer uses children t form (e, fits) = absurd (false≢true e)
 
 -- A list of i pointers is made near its pointer.
 pub record PointersMade (i s p : ℕ) (old mid : View) (h : Start) : Type 0 where
   pub place : IsPlace old.words s p
   pub memory : KeepsMemory old mid
+  pub taken : TakesRoom old mid s i
   pub near : HasOwnRoom old s i → mid.words ≡ with_list old.words s p 6 i
   pub at_end : HasOwnRoom old s i → StartsBehind old.words s h
 
-pub pointers_tight : {r : Reading} {i s p : ℕ} {old mid new : View} {h : Start} {m m' : Meter} (b : Bool) → PointersMade i s p old mid h → (children : CopiesChildren r i (change b h.segment h.at mid new m m')) → StandsWhereItFits (change b s p old new m m') (Pointers children.children)
-pointers_tight {r} {i} {s} {p} {old} {mid} {new} {h} {m} {m'} true o children (e, fits) =
+pub pointers_tight : {r : Reading} {i s p : ℕ} {old mid new : View} {h : Start} {m m' : Meter} (b : Bool) → length mid.words ≤ length new.words → PointersMade i s p old mid h → (children : CopiesChildren r i (change b h.segment h.at mid new m m')) → StandsWhereItFits (change b s p old new m m') (Pointers children.children)
+pointers_tight {r} {i} {s} {p} {old} {mid} {new} {h} {m} {m'} true longer o children (e, fits) =
     let S : Segments = old.words in
     let x : ℕ = list_word (offset_behind S s p) 6 i in
     let P : Segments = with_word S s p x in
@@ -182,7 +186,7 @@ pointers_tight {r} {i} {s} {p} {old} {mid} {new} {h} {m} {m'} true o children (e
     let V : List ℕ = segment K s in
     let ts : Trees = trim_each children.children in
     let counts : count ts ≡ i = trim_each-count children.children ∙ children.counts in
-    let room : HasOwnRoom old s i = omega (arith, fits, counts) in
+    let room : HasOwnRoom old s i = own_room old mid new s p i o.place o.taken longer (stay_fewer old new s (word_count (trim (Pointers children.children))) i (omega (arith, counts)) fits) in
     let start : StartsBehind S s h = o.at_end room in
     let mids : mid.words ≡ K = o.near room in
     let place : IsPlace P s p = place_kept S s p x o.place in
@@ -190,7 +194,7 @@ pointers_tight {r} {i} {s} {p} {old} {mid} {new} {h} {m} {m'} true o children (e
     let width : length V ≡ H + i = length-extended P s ws (there P s p place) ∙ ap (λ k. H + k) (length-replicate i 0) in
     let same_room : mid.room s ≡ old.room s = room_kept old mid s p o.place o.memory in
     let stand : AreCopied mid.words new.words s H children.children =
-    moved mid new (word_count_all ts) (λ k. k) children.children start.0 (start.1 ∙ sym same_long) (λ f. children.tight (refl, f)) (omega (arith, ap (λ T. length (segment T s)) mids, width, same_long, same_room, counts, fits)) in
+    moved mid new (word_count_all ts) (λ k. k) children.children start.0 (start.1 ∙ sym same_long) (λ f. children.tight (refl, f)) (stay_later old mid new s s (word_count (trim (Pointers children.children))) (word_count_all ts) (λ f. omega (arith, ap (λ T. length (segment T s)) mids, width, same_long, same_room, counts, f)) fits) in
     let v0 : View = record old { words = P } in
     let v1 : View = record old { words = mid.words } in
     let v2 : View = record old { words = new.words } in
@@ -202,18 +206,45 @@ pointers_tight {r} {i} {s} {p} {old} {mid} {new} {h} {m} {m'} true o children (e
     let is : word_at new.words s p ≡ x =
     stays S s p x H ws (pointers (length V - (H + count ts)) ts) (drop (H + count ts) V) (bodies ts) o.place (omega (arith, same_long, o.place)) (omega (arith, width)) children_there in
     pointer_first S s p (trim (Pointers children.children)) o.place is all
-pointers_tight false o children (e, fits) = absurd (false≢true e)
+pointers_tight false longer o children (e, fits) = absurd (false≢true e)
 
 -- A list of i structs is made near its pointer.
 pub record StructsMade (i s p : ℕ) (least : StructSize) (old mid : View) (h : Start) : Type 0 where
   pub place : IsPlace old.words s p
   pub memory : KeepsMemory old mid
+  pub taken : TakesRoom old mid s (1 + i * (least.data_words + least.pointers))
   pub behind : StandsBehind old s (1 + i * (least.data_words + least.pointers)) h
   pub near : HasStructsRoom old s i least → mid.words ≡ with_struct_list old.words s p i least
 
-pub structs_tight : {r : Reading} {sizes : ElementSizes} {i s p : ℕ} {old mid new : View} {h : Start} {m m' : Meter} (b : Bool) → r.at + i * (sizes.source.data_words + sizes.source.pointers) ≤ length (row r) → KeepsWidths b r sizes.source i sizes.kept → StructsMade i s p sizes.kept old mid h →
+-- the words of its elements are the last of the segment
+pub ends_in_zeros : {i s p : ℕ} {least : StructSize} {old mid new : View} {h : Start} {m m' : Meter} (b : Bool) → StructsMade i s p least old mid h → HasStructsRoom old s i least → EndsInZeros (change b h.segment (h.at + 1) mid new m m') (i * (least.data_words + least.pointers))
+ends_in_zeros {i} {s} {p} {least} {old} {mid} {new} {h} {m} {m'} b o room =
+    let S : Segments = old.words in
+    let d : ℕ = least.data_words in
+    let q : ℕ = least.pointers in
+    let w : ℕ = d + q in
+    let x : ℕ = list_word (offset_behind S s p) 7 (i * w) in
+    let tag : ℕ = struct_word i d q in
+    let P : Segments = with_word S s p x in
+    let H : ℕ = length (segment P s) in
+    let ws : List ℕ = tag ∷ replicate (i * w) 0 in
+    let V : List ℕ = segment (extended P s ws) s in
+    let start : StartsBehind S s h = o.behind.near (omega arith) room in
+    let mids : mid.words ≡ extended P s ws = o.near room in
+    let place : IsPlace P s p = place_kept S s p x o.place in
+    let first : h.at ≡ H = start.1 ∙ sym (length-with_word S s p x) in
+    let shape : V ≡ segment P s ++ ws = segment_written P s (segment P s ++ ws) (there P s p place) in
+    let width : length V ≡ H + (1 + i * w) = ap length shape ∙ length-append (segment P s) ws ∙ (let f : length ws ≡ 1 + i * w = omega (arith, length-replicate {A = ℕ} (i * w) 0) in ap (λ k. H + k) f) in
+    let here : segment mid.words h.segment ≡ V = ap₂ (λ T k. segment T k) mids start.0 in
+    let zero : (j : ℕ) → h.at + 1 ≤ j → word_at mid.words h.segment j ≡ 0 = λ j le.
+    (let less : H + 1 ≤ j = omega (arith, le, first) in
+    let next : j - H ≡ suc (j - (H + 1)) = omega (arith, less) in
+    ap (λ xs. get_or xs j 0) (here ∙ shape) ∙ get_or-append_right (segment P s) ws H j 0 refl (omega (arith, less)) ∙ ap (λ k. get_or ws k 0) next ∙ get_or-zeros (i * w) (j - (H + 1))) in
+    record { ends = omega (arith, first, width, ap length here); zero = zero }
+
+pub structs_tight : {r : Reading} {sizes : ElementSizes} {i s p : ℕ} {old mid new : View} {h : Start} {m m' : Meter} (b : Bool) → length mid.words ≤ length new.words → r.at + i * (sizes.source.data_words + sizes.source.pointers) ≤ length (row r) → KeepsWidths b r sizes.source i sizes.kept → StructsMade i s p sizes.kept old mid h →
     (elements : CopiesElements r sizes i (change b h.segment (h.at + 1) mid new m m')) → StandsWhereItFits (change b s p old new m m') (Structs sizes.source.data_words sizes.source.pointers elements.elements)
-structs_tight {r} {sizes} {i} {s} {p} {old} {mid} {new} {h} {m} {m'} true inside widths o elements (e, fits) =
+structs_tight {r} {sizes} {i} {s} {p} {old} {mid} {new} {h} {m} {m'} true longer inside widths o elements (e, fits) =
     let S : Segments = old.words in
     let d : ℕ = sizes.kept.data_words in
     let q : ℕ = sizes.kept.pointers in
@@ -229,7 +260,8 @@ structs_tight {r} {sizes} {i} {s} {p} {old} {mid} {new} {h} {m} {m'} true inside
     let fs : Elements = cut sizes es in
     let is_least : AreLeast r sizes.source sizes.kept i = record { of_data = widths.of_data; of_pointers = widths.of_pointers } in
     let words = words_of_list es elements.are_read.cost inside is_least elements.counts elements.are_read.means in
-    let room : HasStructsRoom old s i sizes.kept = omega (arith, fits, words) in
+    let all_words : ℕ = word_count (trim (Structs sizes.source.data_words sizes.source.pointers es)) in
+    let room : HasStructsRoom old s i sizes.kept = own_room old mid new s p (1 + i * w) o.place o.taken longer (stay_fewer old new s all_words (1 + i * w) (omega (arith, words)) fits) in
     let start : StartsBehind S s h = o.behind.near (omega arith) room in
     let mids : mid.words ≡ K = o.near room in
     let place : IsPlace P s p = place_kept S s p x o.place in
@@ -238,14 +270,10 @@ structs_tight {r} {sizes} {i} {s} {p} {old} {mid} {new} {h} {m} {m'} true inside
     let shape : V ≡ segment P s ++ ws = segment_written P s (segment P s ++ ws) (there P s p place) in
     let width : length V ≡ H + (1 + i * w) = ap length shape ∙ length-append (segment P s) ws ∙ (let f : length ws ≡ 1 + i * w = omega (arith, length-replicate {A = ℕ} (i * w) 0) in ap (λ k. H + k) f) in
     let here : segment mid.words h.segment ≡ V = ap₂ (λ T k. segment T k) mids start.0 in
-    let zero : (j : ℕ) → h.at + 1 ≤ j → word_at mid.words h.segment j ≡ 0 = λ j le.
-    (let less : H + 1 ≤ j = omega (arith, le, first) in
-    let next : j - H ≡ suc (j - (H + 1)) = omega (arith, less) in
-    ap (λ xs. get_or xs j 0) (here ∙ shape) ∙ get_or-append_right (segment P s) ws H j 0 refl (omega (arith, less)) ∙ ap (λ k. get_or ws k 0) next ∙ get_or-zeros (i * w) (j - (H + 1))) in
     let no_more : (i + 0) * w ≡ i * w = ap (λ k. k * w) (let f : i + 0 ≡ i = omega arith in f) in
-    let zeros : EndsInZeros (change true h.segment (h.at + 1) mid new m m') ((i + 0) * w) = record { ends = omega (arith, first, no_more, width, ap length here); zero = zero } in
+    let zeros : EndsInZeros (change true h.segment (h.at + 1) mid new m m') ((i + 0) * w) = subst (EndsInZeros (change true h.segment (h.at + 1) mid new m m')) (sym no_more) (ends_in_zeros {new = new} {m = m} {m' = m'} true o room) in
     let same_room : mid.room h.segment ≡ old.room s = ap mid.room start.0 ∙ room_kept old mid s p o.place o.memory in
-    let stand : new.words ≡ with_segment mid.words h.segment (rows_laid (take (h.at + 1) (segment mid.words h.segment)) d q fs 0) = elements.tight zeros (refl, omega (arith, fits, words, same_room, width, same_long, ap length here)) in
+    let stand : new.words ≡ with_segment mid.words h.segment (rows_laid (take (h.at + 1) (segment mid.words h.segment)) d q fs 0) = elements.tight zeros (refl, stay_later old mid new s h.segment all_words (word_count_elements fs) (λ f. omega (arith, f, words, same_room, width, same_long, ap length here)) fits) in
     let stands : new.words ≡ with_segment mid.words s (rows_laid (take (H + 1) (segment mid.words s)) d q fs 0) = stand ∙ ap₂ (λ u a. with_segment mid.words u (rows_laid (take (a + 1) (segment mid.words u)) d q fs 0)) start.0 first in
     let v0 : View = record old { words = P } in
     let v1 : View = record old { words = mid.words } in
@@ -258,4 +286,4 @@ structs_tight {r} {sizes} {i} {s} {p} {old} {mid} {new} {h} {m} {m'} true inside
     let is : word_at new.words s p ≡ x =
     stays S s p x (H + 1) ws (rows d q (0 * w) fs) (replicate (0 * w) 0) (element_bodies fs) o.place (omega (arith, same_long, o.place)) (omega (arith, width)) elements_there in
     pointer_first S s p (trim (Structs sizes.source.data_words sizes.source.pointers es)) o.place is all
-structs_tight false inside widths o elements (e, fits) = absurd (false≢true e)
+structs_tight false longer inside widths o elements (e, fits) = absurd (false≢true e)

@@ -10,7 +10,6 @@ use Rattle.capnp_format.proofs.Appending.{append_trees, count-append, means_join
 use Rattle.capnp_copies.proofs.LeastWidths.{used_where_meant}
 use Rattle.capnp_objects.specs.Spending.{after, pointers_in_all}
 use Rattle.capnp_objects.specs.Outcomes.{MeansThere, MeanThere, ReadsAll}
-use Rattle.capnp_objects.specs.Refusals.{StopsAmong}
 use Rattle.capnp_objects.specs.Reading.{Reading, behind, row, words_from}
 use Rattle.capnp_objects.specs.Wanted.{canonical}
 
@@ -148,12 +147,3 @@ fill_nulls {r} {m} {m'} {ts} q read l z =
       };
       first = take_first ts (nulls rest);
     }
-
-pub capabilities-take : (n : ℕ) (ts : Trees) → capabilities_all (take_trees n ts) ≤ capabilities_all ts
-capabilities-take zero ts = omega arith
-capabilities-take (suc n) no_trees = omega arith
-capabilities-take (suc n) (tree t ts) = omega (arith, capabilities-take n ts)
-
--- what stops among the first pointers stops among them all
-pub stops_used : {P : Reading → Meter → Meter → Type 0} {r : Reading} {m m' : Meter} {q used : ℕ} → used ≤ q → StopsAmong canonical P r used m m' → StopsAmong canonical P r q m m'
-stops_used le h = record { first = h.first; fewer = omega (arith, h.fewer, le); mid = h.mid; are_read = h.are_read; stops = h.stops }

@@ -1,24 +1,29 @@
 -- What a copy into a message of any number of segments leaves, and why it stops.
-use Rattle.std.specs.Prelude.{◌≡◌, ◌⊎◌, ℕ, ◌+◌, ◌*◌, ◌≤◌, Bool, true, false, take, length}
+use Rattle.std.specs.Prelude.{◌≡◌, ◌⊎◌, ℕ, pred, ◌+◌, ◌*◌, ◌≤◌, Bool, true, false, take, length}
 use Rattle.capnp_words.specs.declared.error.ErrorKind.{ErrorKind}
 use Rattle.capnp_pointers.specs.declared.wire_pointer.StructSize.{StructSize}
 use Rattle.capnp_words.specs.Meter.{Meter}
-use Rattle.capnp_format.specs.Segments.{segment, word_at, IsPlace}
+use Rattle.capnp_format.specs.Numbers.{words_for}
+use Rattle.capnp_format.specs.Segments.{Target, segment, word_at, IsPlace}
+use Rattle.capnp_format.specs.Word.{kind, offset_bits, data_words, pointer_count, element_size, list_count}
 use Rattle.capnp_format.specs.Tree.{Tree, Null, Struct, Pointers, Structs, Trees, Elements, count, element_count}
 use Rattle.capnp_format.specs.Canonical.{trim, trim_each, trim_elements, cut_to, word_count, word_count_all, word_count_elements}
 use Rattle.capnp_arena.specs.View.{View}
 use Rattle.capnp_arena.specs.Written.{with_segment, overwritten}
 use Rattle.capnp_making.specs.Filled.{AreFilled, IsElementFilled, AreElementsFilled, ArePartlyFilled}
-use Rattle.capnp_making.specs.Memory.{KeepsMemory, SpendsMemory, RefusesGrowth}
+use Rattle.capnp_making.specs.Memory.{KeepsMemory, SpendsMemory, RefusesWords}
 use Rattle.capnp_making.specs.Near.{HasOwnRoom}
 use Rattle.capnp_making.specs.Stored.{IsReplaced}
-use Rattle.capnp_objects.specs.Outcomes.{Reads, ReadsAll, ReadsElements}
-use Rattle.capnp_objects.specs.Refusals.{Refused, RefusedAll, RefusedElements, BreaksOff, BreaksOffAmong, BreaksOffAmongElements}
-use Rattle.capnp_objects.specs.Reading.{Reading, behind, row, words_from}
+use Rattle.capnp_objects.specs.Demands.{IsStructList, tag}
+use Rattle.capnp_objects.specs.Faults.{child_at}
+use Rattle.capnp_objects.specs.Outcomes.{Entered, Reads, ReadsAll, ReadsElements}
+use Rattle.capnp_objects.specs.Refusals.{Refused, RefusedAll, RefusedElements, StopsWithin, StopsAmong, StopsAmongElements, BreaksOff, BreaksOffAmong, BreaksOffAmongElements}
+use Rattle.capnp_objects.specs.Reading.{Reading, behind, row, sized, tag_size, words_from}
 use Rattle.capnp_objects.specs.Wanted.{Form, plain, canonical}
 use Rattle.capnp_copies.specs.Copied.{with_children, rows_laid}
 use Rattle.capnp_copies.specs.Copies.{IsCopied, AreCopied}
-use Rattle.capnp_copies.specs.Parts.{Uses}
+use Rattle.capnp_copies.specs.Widths.{Uses}
+use Rattle.capnp_copies.specs.Rooms.{IsTooLarge, AreTooLarge, IsTooLargePointers, IsTooLargeStruct, AreTooLargeElements, IsTooLargeList}
 use Rattle.capnp_copies.specs.Widths.{data_used, pointers_used}
 use Rattle.capnp_copies.specs.declared.widths.ElementSizes.{ElementSizes}
 
@@ -71,13 +76,54 @@ pub record Change : Type 0 where
 abbrev pub change : Bool → ℕ → ℕ → View → View → Meter → Meter → Change
 change canonicalize s p old new before after = record { canonicalize = canonicalize; segment = s; at = p; old = old; new = new; before = before; after = after }
 
--- A copy in canonical form, whose n words fit behind those of the segment.
-abbrev pub Fits : Change → ℕ → Type 0
-Fits c n = (c.canonicalize ≡ true) × HasOwnRoom c.old c.segment n
+-- n words fit behind those of segment id, or the message has but one segment once they are written.
+abbrev pub StayInSegment : View → View → ℕ → ℕ → Type 0
+StayInSegment old new id n = HasOwnRoom old id n ⊎ (length new.words ≡ 1)
 
--- The canonical words of t, where they fit behind those of segment id, stand there, and their pointer at position at of it.
+-- A copy in canonical form, whose n words stay in the segment.
+abbrev pub Fits : Change → ℕ → Type 0
+Fits c n = (c.canonicalize ≡ true) × StayInSegment c.old c.new c.segment n
+
+-- The canonical words of t, where they stay in segment id, stand behind those that were there, and their pointer at position at of it.
 abbrev pub IsCopiedInRoom : View → View → ℕ → ℕ → Tree → Type 0
-IsCopiedInRoom old new id at t = HasOwnRoom old id (word_count (trim t)) → IsCopied old.words new.words id at t
+IsCopiedInRoom old new id at t = StayInSegment old new id (word_count (trim t)) → IsCopied old.words new.words id at t
+
+-- So many words are made of the object a, to which the pointer at a place leads: of a struct its sections that are kept, of a
+-- list its elements, and of a list of structs its tag and theirs, cut to the sections that are kept.
+pub data IsMadeOf (canonicalize : Bool) (r : Reading) (a : Target) (n : ℕ) : Type 0 where
+  as_struct :
+      kind a.word ≡ 0 →
+      (least : StructSize) →
+      KeepsSections canonicalize (child_at r a (pred r.levels) a.start) (sized (data_words a.word) (pointer_count a.word)) least →
+      n ≡ least.data_words + least.pointers →
+      IsMadeOf canonicalize r a n
+  as_numbers : kind a.word ≡ 1 → element_size a.word ≤ 5 → n ≡ words_for (element_size a.word) (list_count a.word) → IsMadeOf canonicalize r a n
+  as_pointers : kind a.word ≡ 1 → element_size a.word ≡ 6 → n ≡ list_count a.word → IsMadeOf canonicalize r a n
+  as_structs :
+      IsStructList a.word →
+      (least : StructSize) →
+      KeepsWidths canonicalize (child_at r a (pred r.levels) (a.start + 1)) (tag_size r.segments a) (offset_bits (tag r.segments a)) least →
+      n ≡ 1 + offset_bits (tag r.segments a) * (least.data_words + least.pointers) →
+      IsMadeOf canonicalize r a n
+
+-- An object was read, and n words are to be made of it.
+abbrev pub WantsWords : Bool → ℕ → Reading → Meter → Meter → Type 0
+WantsWords canonicalize n r m m' = (a : Target) × Entered r m m' a × IsMadeOf canonicalize r a n
+
+-- The arena has no room, by the name k, for words of which Q says where they are wanted. What is copied in canonical form is then
+-- too large for its segment, as P says of the words in use and the room.
+abbrev pub LacksRoom : Change → ErrorKind → (ℕ → Type 0) → (ℕ → ℕ → Type 0) → Type 0
+LacksRoom c k Q P = (n : ℕ) × RefusesWords c.old c.new n k × Q n × (c.canonicalize ≡ true → P (length (segment c.old.words c.segment)) (c.old.room c.segment))
+
+-- n words are wanted for an object of what a place means; of i pointers from a place on; of i elements.
+abbrev pub WantedAt : Reading → Change → ℕ → Type 0
+WantedAt r c n = StopsWithin (form_of c.canonicalize) (WantsWords c.canonicalize n) r c.before c.after
+
+abbrev pub WantedAmong : Reading → ℕ → Change → ℕ → Type 0
+WantedAmong r i c n = StopsAmong (form_of c.canonicalize) (WantsWords c.canonicalize n) r i c.before c.after
+
+abbrev pub WantedAmongElements : Reading → StructSize → ℕ → Change → ℕ → Type 0
+WantedAmongElements r size i c n = StopsAmongElements (form_of c.canonicalize) (WantsWords c.canonicalize n) r size i c.before c.after
 
 -- The canonical words of t stand in place behind those of the segment, where they fit there; so do those of children.
 abbrev pub StandsWhereItFits : Change → Tree → Type 0
@@ -103,6 +149,10 @@ Puts c t = IsReplaced c.old.words c.new.words c.segment c.at Null t × KeepsMemo
 abbrev pub Leaves : Change → Type 0
 Leaves c = ((t : Tree) × IsReplaced c.old.words c.new.words c.segment c.at Null t) × SpendsMemory c.old c.new
 
+-- The arena has no room for an object of what a place means, by the name k.
+abbrev pub FindsNoRoom : Reading → Change → ErrorKind → Type 0
+FindsNoRoom r c k = LacksRoom c k (WantedAt r c) (IsTooLarge r)
+
 -- What a place means is read and copied; or it is refused by the name k.
 pub record CopiesValue (r : Reading) (c : Change) : Type 0 where
   pub value : Tree
@@ -111,7 +161,7 @@ pub record CopiesValue (r : Reading) (c : Change) : Type 0 where
   pub tight : StandsWhereItFits c value
 
 pub record StopsAtValue (r : Reading) (c : Change) (k : ErrorKind) : Type 0 where
-  pub why : RefusesGrowth c.old c.new k ⊎ Refused (form_of c.canonicalize) r c.before c.after k
+  pub why : FindsNoRoom r c k ⊎ Refused (form_of c.canonicalize) r c.before c.after k
   pub off : BreaksOff (form_of c.canonicalize) r c.before c.after
   pub left : Leaves c
 
@@ -125,7 +175,7 @@ pub record CopiesChildren (r : Reading) (i : ℕ) (c : Change) : Type 0 where
   pub tight : StandWhereTheyFit c children
 
 pub record StopsAtChildren (r : Reading) (i : ℕ) (c : Change) (k : ErrorKind) : Type 0 where
-  pub why : RefusesGrowth c.old c.new k ⊎ RefusedAll (form_of c.canonicalize) r i c.before c.after k
+  pub why : LacksRoom c k (WantedAmong r i c) (AreTooLarge r i) ⊎ RefusedAll (form_of c.canonicalize) r i c.before c.after k
   pub off : BreaksOffAmong (form_of c.canonicalize) r i c.before c.after
   pub left : Trees
   pub few : count left ≤ i
@@ -141,7 +191,7 @@ pub record CopiesPointers (r : Reading) (i : ℕ) (c : Change) : Type 0 where
   pub tight : StandsWhereItFits c (Pointers children)
 
 pub record StopsAtPointers (r : Reading) (i : ℕ) (c : Change) (k : ErrorKind) : Type 0 where
-  pub why : RefusesGrowth c.old c.new k ⊎ RefusedAll (form_of c.canonicalize) r i c.before c.after k
+  pub why : LacksRoom c k (λ n. ((c.after ≡ c.before) × (n ≡ i)) ⊎ WantedAmong r i c n) (IsTooLargePointers r i) ⊎ RefusedAll (form_of c.canonicalize) r i c.before c.after k
   pub off : (c.after ≡ c.before) ⊎ BreaksOffAmong (form_of c.canonicalize) r i c.before c.after
   pub left : Leaves c
 
@@ -153,8 +203,21 @@ pub record CopiesStruct (r : Reading) (size : StructSize) (c : Change) : Type 0 
   pub made : Puts c (kept c.canonicalize (Struct (words_from r size.data_words) children))
   pub tight : StandsWhereItFits c (Struct (words_from r size.data_words) children)
 
-abbrev pub StopsAtStruct : Reading → StructSize → Change → ErrorKind → Type 0
-StopsAtStruct r size c k = StopsAtPointers (behind r size.data_words) size.pointers c k
+-- n words are wanted for the struct of this size itself, or for an object below it; so for the list of i such structs.
+abbrev pub WantedForStruct : Reading → StructSize → Change → ℕ → Type 0
+WantedForStruct r size c n =
+    ((c.after ≡ c.before) × (least : StructSize) × KeepsSections c.canonicalize r size least × (n ≡ least.data_words + least.pointers))
+    ⊎ WantedAmong (behind r size.data_words) size.pointers c n
+
+abbrev pub WantedForStructs : Reading → StructSize → ℕ → Change → ℕ → Type 0
+WantedForStructs r size i c n =
+    ((c.after ≡ c.before) × (least : StructSize) × KeepsWidths c.canonicalize r size i least × (n ≡ 1 + i * (least.data_words + least.pointers)))
+    ⊎ WantedAmongElements r size i c n
+
+pub record StopsAtStruct (r : Reading) (size : StructSize) (c : Change) (k : ErrorKind) : Type 0 where
+  pub why : LacksRoom c k (WantedForStruct r size c) (IsTooLargeStruct r size) ⊎ RefusedAll (form_of c.canonicalize) (behind r size.data_words) size.pointers c.before c.after k
+  pub off : (c.after ≡ c.before) ⊎ BreaksOffAmong (form_of c.canonicalize) (behind r size.data_words) size.pointers c.before c.after
+  pub left : Leaves c
 
 -- So of the list of i structs of this size from a place on.
 pub record CopiesStructs (r : Reading) (size : StructSize) (i : ℕ) (c : Change) : Type 0 where
@@ -165,7 +228,7 @@ pub record CopiesStructs (r : Reading) (size : StructSize) (i : ℕ) (c : Change
   pub tight : StandsWhereItFits c (Structs size.data_words size.pointers elements)
 
 pub record StopsAtStructs (r : Reading) (size : StructSize) (i : ℕ) (c : Change) (k : ErrorKind) : Type 0 where
-  pub why : RefusesGrowth c.old c.new k ⊎ RefusedElements (form_of c.canonicalize) r size i c.before c.after k
+  pub why : LacksRoom c k (WantedForStructs r size i c) (IsTooLargeList r size i) ⊎ RefusedElements (form_of c.canonicalize) r size i c.before c.after k
   pub off : (c.after ≡ c.before) ⊎ BreaksOffAmongElements (form_of c.canonicalize) r size i c.before c.after
   pub left : Leaves c
 
@@ -189,7 +252,7 @@ abbrev pub CopiesElements : Reading → ElementSizes → ℕ → Change → Type
 CopiesElements r sizes i c = CopiesRows r sizes i 0 c
 
 pub record StopsAtElements (r : Reading) (sizes : ElementSizes) (i : ℕ) (c : Change) (k : ErrorKind) : Type 0 where
-  pub why : RefusesGrowth c.old c.new k ⊎ RefusedElements (form_of c.canonicalize) r sizes.source i c.before c.after k
+  pub why : LacksRoom c k (WantedAmongElements r sizes.source i c) (λ used room. EndsInZeros c (i * (sizes.kept.data_words + sizes.kept.pointers)) → AreTooLargeElements r sizes i used room) ⊎ RefusedElements (form_of c.canonicalize) r sizes.source i c.before c.after k
   pub off : BreaksOffAmongElements (form_of c.canonicalize) r sizes.source i c.before c.after
   pub left : ArePartlyFilled c.old.words c.new.words c.segment c.at sizes.kept.data_words sizes.kept.pointers i
   pub memory : SpendsMemory c.old c.new
@@ -208,7 +271,7 @@ pub record CopiesElement (r : Reading) (sizes : ElementSizes) (c : Change) : Typ
       (with_children (overwritten (segment c.old.words c.segment) c.at (words_from r sizes.kept.data_words)) (c.at + sizes.kept.data_words) (trim_each children))
 
 pub record StopsAtElement (r : Reading) (sizes : ElementSizes) (c : Change) (k : ErrorKind) : Type 0 where
-  pub why : RefusesGrowth c.old c.new k ⊎ RefusedAll (form_of c.canonicalize) (behind r sizes.source.data_words) sizes.kept.pointers c.before c.after k
+  pub why : LacksRoom c k (WantedAmong (behind r sizes.source.data_words) sizes.kept.pointers c) (AreTooLarge (behind r sizes.source.data_words) sizes.kept.pointers) ⊎ RefusedAll (form_of c.canonicalize) (behind r sizes.source.data_words) sizes.kept.pointers c.before c.after k
   pub off : BreaksOffAmong (form_of c.canonicalize) (behind r sizes.source.data_words) sizes.kept.pointers c.before c.after
   pub left : Trees
   pub few : count left ≤ sizes.kept.pointers

@@ -21,10 +21,6 @@ rows_laid front d q es n = front ++ rows d q (n * (d + q)) es ++ replicate (n * 
 abbrev pub with_elements : List ℕ → ℕ → StructSize → Elements → List ℕ
 with_elements ws p size es = rows_laid (take p ws) size.data_words size.pointers (cut_to size.data_words size.pointers (trim_elements es)) 0
 
--- the words, with zeros from position p on
-abbrev pub zeroed_from : List ℕ → ℕ → List ℕ
-zeroed_from ws p = take p ws ++ replicate (length ws - p) 0
-
 -- the words, with zeros behind so many bits
 abbrev pub low_bits : List ℕ → ℕ → List ℕ
 low_bits ws bits = digits (2 ^ 64) (length ws) (from_digits (2 ^ 64) ws % 2 ^ bits)

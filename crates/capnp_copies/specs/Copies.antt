@@ -1,10 +1,10 @@
 -- What a canonical copy leaves of the message that it writes, and when there can be one ("Canonicalization").
-use Rattle.std.specs.Prelude.{◌≡◌, ℕ, ◌+◌, ◌≤◌, replicate}
+use Rattle.std.specs.Prelude.{◌≡◌, ℕ, ◌+◌, ◌≤◌}
 use Rattle.capnp_words.specs.Meter.{Meter, Affords}
 use Rattle.capnp_format.specs.Segments.{Segments, segment}
 use Rattle.capnp_format.specs.Tree.{Tree, Trees, capabilities}
 use Rattle.capnp_format.specs.Canonical.{trim, trim_each, word_count}
-use Rattle.capnp_arena.specs.Written.{with_segment, extended}
+use Rattle.capnp_arena.specs.Written.{with_segment}
 use Rattle.capnp_objects.specs.Outcomes.{MeansThere}
 use Rattle.capnp_objects.specs.Reading.{Reading}
 use Rattle.capnp_copies.specs.Copied.{copied, with_children}
@@ -16,10 +16,6 @@ IsCopied M M' id at t = M' ≡ with_segment M id (copied (segment M id) at (trim
 -- So do those of children, and their pointers from position at on.
 abbrev pub AreCopied : Segments → Segments → ℕ → ℕ → Trees → Type 0
 AreCopied M M' id at ts = M' ≡ with_segment M id (with_children (segment M id) at (trim_each ts))
-
--- Nothing is changed but for words of zero behind those of segment id.
-abbrev pub IsCleared : Segments → Segments → ℕ → Type 0
-IsCleared M M' id = (j : ℕ) × (M' ≡ extended M id (replicate j 0))
 
 -- A place means a value without capabilities within its levels, at a cost that the limiter covers, whose canonical words
 -- fit behind so many words of a segment with this room.

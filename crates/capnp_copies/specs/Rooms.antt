@@ -1,20 +1,11 @@
 -- Where a canonical copy finds no room in a segment.
-use Rattle.std.specs.Prelude.{◌≡◌, ℕ, List, ◌++◌, take, ◌+◌, ◌<◌, length}
-use Rattle.capnp_words.specs.declared.error.ErrorKind.{ErrorKind}
-use Rattle.capnp_words.specs.declared.error.ErrorKind.TheVariants.{MessageTooLarge}
+use Rattle.std.specs.Prelude.{◌≡◌, ℕ, ◌+◌, ◌<◌}
 use Rattle.capnp_pointers.specs.declared.wire_pointer.StructSize.{StructSize}
-use Rattle.capnp_format.specs.Segments.{Segments, segment}
 use Rattle.capnp_format.specs.Tree.{Tree, Trees, Elements, Struct, Pointers, Structs, count, element_count}
 use Rattle.capnp_format.specs.Canonical.{trim, trim_each, trim_elements, cut_to, word_count, word_count_all, word_count_elements}
-use Rattle.capnp_arena.specs.View.{View}
-use Rattle.capnp_arena.specs.Written.{with_segment}
 use Rattle.capnp_objects.specs.Outcomes.{MeansThere, MeanThere, ElementsMean}
 use Rattle.capnp_objects.specs.Reading.{Reading, behind, words_from}
 use Rattle.capnp_copies.specs.declared.widths.ElementSizes.{ElementSizes}
-
--- Only segment id is changed, and its first n words are as before.
-abbrev pub IsSameBelow : Segments → Segments → ℕ → ℕ → Type 0
-IsSameBelow M M' id n = (ws : List ℕ) × (M' ≡ with_segment M id (take n (segment M id) ++ ws))
 
 -- What a place means, if it means a value, has more canonical words behind its pointer than fit behind so many words of a
 -- segment with this room.
@@ -43,12 +34,3 @@ AreTooLargeElements r sizes i used room =
 abbrev pub IsTooLargeList : Reading → StructSize → ℕ → ℕ → ℕ → Type 0
 IsTooLargeList r size i used room =
     (es : Elements) (c : ℕ) → element_count es ≡ i → ElementsMean r size es c → room < used + word_count (trim (Structs size.data_words size.pointers es))
-
--- An object of w words found no room behind the words that stood in segment id, and what was to be copied is too large, as P
--- says.
-abbrev pub FindsNoRoom : Segments → ℕ → ℕ → ErrorKind → Type 0 → Type 0
-FindsNoRoom M id room k P = (w : ℕ) × (k ≡ MessageTooLarge w) × (room < length (segment M id) + w) × P
-
--- What is copied found no room in segment id, for which it is too large, as P says of the words in use and the room.
-abbrev pub LacksRoom : View → View → ℕ → ErrorKind → (ℕ → ℕ → Type 0) → Type 0
-LacksRoom old new id k P = FindsNoRoom new.words id (old.room id) k (P (length (segment old.words id)) (old.room id))

@@ -1,6 +1,8 @@
--- How many words of each section the elements of a list of structs use.
-use Rattle.std.specs.Prelude.{ℕ, zero, suc, ◌+◌, List, take, drop, max}
+-- How many words of each section a struct uses, and the elements of a list of structs.
+use Rattle.std.specs.Prelude.{ℕ, zero, suc, ◌≡◌, ◌+◌, ◌≤◌, List, take, drop, max}
+use Rattle.capnp_pointers.specs.declared.wire_pointer.StructSize.{StructSize}
 use Rattle.capnp_format.specs.Canonical.{used_words}
+use Rattle.capnp_objects.specs.Reading.{Reading, behind, words_from}
 
 -- The most data words, up to the last that isn't zero, of so many elements of d data words and q pointers from position p on.
 abbrev pub data_used : List ℕ → ℕ → ℕ → ℕ → ℕ → ℕ
@@ -11,3 +13,10 @@ data_used ws p d q (suc n) = max (used_words (take d (drop p ws))) (data_used ws
 abbrev pub pointers_used : List ℕ → ℕ → ℕ → ℕ → ℕ → ℕ
 pointers_used ws p d q zero = 0
 pointers_used ws p d q (suc n) = max (used_words (take q (drop (p + d) ws))) (pointers_used ws (p + (d + q)) d q n)
+
+-- So many words of each section of a struct are used, up to the last that is not zero.
+pub record Uses (r : Reading) (size used : StructSize) : Type 0 where
+  pub of_data : used.data_words ≡ used_words (words_from r size.data_words)
+  pub of_pointers : used.pointers ≡ used_words (words_from (behind r size.data_words) size.pointers)
+  pub less_data : used.data_words ≤ size.data_words
+  pub less_pointers : used.pointers ≤ size.pointers

@@ -1,92 +1,82 @@
-//! The canonical copy of what a pointer means ("Canonicalization").
-ghost use Rattle.std.specs.Prelude.{◌≡◌, ◌⊎◌, ◌+◌, ◌-◌, ◌<◌, ◌↔◌, ◌≤◌, ◌^◌, length, IsOk, IfOk, IfErr, OnErr};
+//! The copy of what a pointer means into a message of any number of segments, as it stands or in
+//! canonical form ("Structs", "Lists", "Inter-Segment Pointers", "Canonicalization").
+//!
+//! Each object is made before its children: in the segment of its pointer where it fits, else behind
+//! a landing pad. So the place holds a value at each moment.
+ghost use Rattle.std.specs.Prelude.{◌≡◌, ◌⊎◌, true, length, IsOk, IfOk, IfErr, OnOk, OnErr};
 ghost use Rattle.capnp_format.specs.Segments.{segment, word_at, IsPlace};
-ghost use Rattle.capnp_format.specs.Numbers.{words_for};
-ghost use Rattle.capnp_pointers.specs.Sizes.{size_number};
-ghost use Rattle.capnp_format.specs.Tree.{Tree};
-ghost use Rattle.capnp_arena.specs.Written.{with_segment};
+ghost use Rattle.capnp_format.specs.Tree.{Tree, Null};
+ghost use Rattle.capnp_making.specs.Memory.{KeepsMemory, SpendsMemory};
+ghost use Rattle.capnp_making.specs.Stored.{IsReplaced};
 ghost use Rattle.capnp_objects.specs.Outcomes.{Reads};
 ghost use Rattle.capnp_objects.specs.Refusals.{Refused, BreaksOff};
-ghost use Rattle.capnp_objects.specs.Wanted.{canonical};
 ghost use Rattle.capnp_readers.specs.Readers.{reading};
-ghost use Rattle.capnp_copies.specs.Copied.{zeroed_from};
-ghost use Rattle.capnp_copies.specs.Parts.{CopiesValue, StopsAtValue, call_of};
-ghost use Rattle.capnp_copies.specs.Copies.{IsCopied, IsCleared, CanBeCopied};
-ghost use Rattle.capnp_arena.specs.View.{KeepsLimits};
-ghost use Rattle.capnp_copies.specs.Rooms.{IsSameBelow, IsTooLarge, LacksRoom};
+ghost use Rattle.capnp_copies.specs.Changes.{form_of, kept, change, FindsNoRoom, StandsAsRead, CopiesValue, StopsAtValue};
+ghost use Rattle.capnp_copies.specs.Copies.{CanBeCopied};
 
 mod children;
+mod each;
 pub(crate) mod elements;
+mod flat;
+mod list_value;
 mod lists;
-pub(crate) mod structs;
+mod struct_value;
+mod structs;
 
-use crate::flat::copy_flat;
 use capnp_arena::arena::{BuilderArena, ReaderArena};
+use capnp_making::making::clear;
 use capnp_objects::object::Object;
 use capnp_readers::readers::PointerReader;
 use capnp_words::error::ErrorKind;
 use capnp_words::read_limiter::ReadLimiter;
-use capnp_words::wire_pointer::{ElementSize, data_bits_per_element};
+use capnp_words::wire_pointer::WirePointer;
 use capnp_words::words::part;
+pub use each::copy_each;
+pub use list_value::copy_list;
+pub use struct_value::copy_struct_value;
 
-/// Copies what a pointer means, in canonical form, behind the words of a segment, and sets the
-/// pointer at a position of it, which is null.
+/// Copies what a pointer means to the null pointer at a place, as it stands or in canonical form.
 ///
-/// An object that finds no room is `MessageTooLarge`, with its words; a capability is
-/// `CannotCreateACanonicalMessageWithACapability`; a refusal to read keeps its name. Then the
-/// message is as before, but for words of zero behind those of the segment; the limiter keeps what
-/// was charged.
+/// In canonical form its words stand behind those of the pointer's segment, in the canonical order,
+/// where they all fit its room, or where the message has but one segment afterwards; then no other word
+/// changes but the pointer.
+///
+/// A refusal of the arena is `AllocationFailed` or `MessageTooLarge`, and comes in canonical form only
+/// where the words don't fit behind those of the pointer's segment; a capability is
+/// `CannotCreateACanonicalMessageWithACapability` in canonical form; a refusal to read keeps its name.
+/// Then the pointer is null and the words that were allocated are zero; the limiter keeps what was
+/// charged.
 pub fn copy_value<A: BuilderArena, B: ReaderArena>(
     arena: &mut A,
     id: u32,
     at: u32,
     from: PointerReader<'_, B>,
     lim: &mut ReadLimiter,
+    canonicalize: bool,
 ) -> Result<(), ErrorKind>
     requires place { IsPlace (A.view arena.old).words id at }
     requires null { word_at (A.view arena.old).words id at ≡ 0 }
-    ensures copied { IfOk result (λ _. (t : Tree) × Reads canonical (reading B.ReaderArena from.entry) lim.old lim.new t
-        × IsCopied (A.view arena.old).words (A.view arena.new).words id at t) }
-    ensures exactly { IsOk result ↔ CanBeCopied (reading B.ReaderArena from.entry) lim.old (length (segment (A.view arena.old).words id)) ((A.view arena.old).room id) }
-    ensures refused { IfErr result (λ k. LacksRoom (A.view arena.old) (A.view arena.new) id k (IsTooLarge (reading B.ReaderArena from.entry))
-        ⊎ Refused canonical (reading B.ReaderArena from.entry) lim.old lim.new k) }
-    ensures spent { OnErr result (BreaksOff canonical (reading B.ReaderArena from.entry) lim.old lim.new) }
-    ensures cleared { OnErr result (IsCleared (A.view arena.old).words (A.view arena.new).words id) }
-    ensures longer { length (segment (A.view arena.old).words id) ≤ length (segment (A.view arena.new).words id) }
-    ensures limits { KeepsLimits (A.view arena.old) (A.view arena.new) }
+    ensures copied { IfOk result (λ _. (t : Tree) × Reads (form_of canonicalize) (reading B.ReaderArena from.entry) lim.old lim.new t
+        × IsReplaced (A.view arena.old).words (A.view arena.new).words id at Null (kept canonicalize t)) }
+    ensures canonical { OnOk result (StandsAsRead (reading B.ReaderArena from.entry) (change canonicalize id at (A.view arena.old) (A.view arena.new) lim.old lim.new)) }
+    ensures fits { canonicalize ≡ true → CanBeCopied (reading B.ReaderArena from.entry) lim.old (length (segment (A.view arena.old).words id)) ((A.view arena.old).room id) → IsOk result }
+    ensures refused { IfErr result (λ k. FindsNoRoom (reading B.ReaderArena from.entry) (change canonicalize id at (A.view arena.old) (A.view arena.new) lim.old lim.new) k
+        ⊎ Refused (form_of canonicalize) (reading B.ReaderArena from.entry) lim.old lim.new k) }
+    ensures cleared { OnErr result (IsReplaced (A.view arena.old).words (A.view arena.new).words id at Null Null) }
+    ensures spent { OnErr result (BreaksOff (form_of canonicalize) (reading B.ReaderArena from.entry) lim.old lim.new) }
+    ensures granted { OnOk result (KeepsMemory (A.view arena.old) (A.view arena.new)) }
+    ensures memory { OnErr result (SpendsMemory (A.view arena.old) (A.view arena.new)) }
 {
-    let words = length_of(arena, id);
-    match copy_object(arena, id, at, from, lim) {
+    match copy_object(arena, id, at, from, lim, canonicalize) {
         Ok(()) => Ok(()),
         Err(k) => {
-            clear_from(arena, id, words);
+            clear(arena, id, at);
             Err(k)
         }
     }
 }
 
-/// How many words of a segment are allocated.
-fn length_of<A: BuilderArena>(arena: &A, id: u32) -> u32
-    ensures { result ≡ length (segment (A.view arena.now).words id) }
-{
-    match arena.get_segment(id) {
-        Ok(bytes) => (bytes.len() / 8) as u32,
-        Err(_) => 0,
-    }
-}
-
-/// Writes zeros over all words of a segment from a position on.
-#[tactic(auto, using(crate::proofs::SegmentsWritten::lengths))]
-fn clear_from<A: BuilderArena>(arena: &mut A, id: u32, at: u32)
-    requires { at ≤ length (segment (A.view arena.old).words id) }
-    ensures words { A.view arena.new ≡ record (A.view arena.old) { words = with_segment (A.view arena.old).words id (zeroed_from (segment (A.view arena.old).words id) at) } }
-    ensures length { length (segment (A.view arena.new).words id) ≡ length (segment (A.view arena.old).words id) }
-{
-    let end = length_of(arena, id);
-    arena.zero_words(id, at, end - at);
-}
-
-/// Does what `copy_value` does, but leaves the words that it took where it is refused.
+/// Does what `copy_value` does, but leaves what it made where it is refused.
 #[cycle(copies)]
 fn copy_object<A: BuilderArena, B: ReaderArena>(
     arena: &mut A,
@@ -94,15 +84,12 @@ fn copy_object<A: BuilderArena, B: ReaderArena>(
     at: u32,
     from: PointerReader<'_, B>,
     lim: &mut ReadLimiter,
+    canonicalize: bool,
 ) -> Result<(), ErrorKind>
     requires place { IsPlace (A.view arena.old).words id at }
     requires null { word_at (A.view arena.old).words id at ≡ 0 }
-    ensures copied { IfOk result (λ _. CopiesValue (reading B.ReaderArena from.entry) (call_of (A.view arena.old) (A.view arena.new) id lim.old lim.new) at) }
-    ensures refused { IfErr result (StopsAtValue (reading B.ReaderArena from.entry) (call_of (A.view arena.old) (A.view arena.new) id lim.old lim.new)) }
-    ensures spent { OnErr result (BreaksOff canonical (reading B.ReaderArena from.entry) lim.old lim.new) }
-    ensures kept { OnErr result (IsSameBelow (A.view arena.old).words (A.view arena.new).words id (length (segment (A.view arena.old).words id))) }
-    ensures longer { length (segment (A.view arena.old).words id) ≤ length (segment (A.view arena.new).words id) }
-    ensures limits { KeepsLimits (A.view arena.old) (A.view arena.new) }
+    ensures copied { IfOk result (λ _. CopiesValue (reading B.ReaderArena from.entry) (change canonicalize id at (A.view arena.old) (A.view arena.new) lim.old lim.new)) }
+    ensures refused { IfErr result (StopsAtValue (reading B.ReaderArena from.entry) (change canonicalize id at (A.view arena.old) (A.view arena.new) lim.old lim.new)) }
 {
     let object = match from.source.read_object(from.place, from.nesting_limit, lim) {
         Ok(object) => object,
@@ -110,19 +97,25 @@ fn copy_object<A: BuilderArena, B: ReaderArena>(
     };
     match object {
         Object::Null => Ok(()),
-        Object::Capability(_) => Err(ErrorKind::CannotCreateACanonicalMessageWithACapability),
+        Object::Capability(index) => {
+            if canonicalize {
+                return Err(ErrorKind::CannotCreateACanonicalMessageWithACapability);
+            }
+            arena.set_word(id, at, WirePointer::new_capability(index).0);
+            Ok(())
+        }
         Object::Struct { start, size } => {
             let inner = PointerReader {
                 source: from.source,
                 place: start,
                 nesting_limit: from.nesting_limit - 1,
             };
-            structs::copy_struct(arena, id, at, inner, size, lim)
+            structs::copy_struct(arena, id, at, inner, size, lim, canonicalize)
         }
         Object::Flat { start, size, count } => {
-            let words = flat_words(size, count);
+            let words = flat::flat_words(size, count);
             let elements = part(start.bytes, start.at as usize, words as usize);
-            copy_flat(arena, id, at, size, count, elements)
+            flat::copy_flat(arena, id, at, size, count, elements)
         }
         Object::Pointers { start, count } => {
             let inner = PointerReader {
@@ -130,7 +123,7 @@ fn copy_object<A: BuilderArena, B: ReaderArena>(
                 place: start,
                 nesting_limit: from.nesting_limit - 1,
             };
-            lists::copy_pointers(arena, id, at, inner, count, lim)
+            lists::copy_pointers(arena, id, at, inner, count, lim, canonicalize)
         }
         Object::Structs { start, size, count } => {
             let inner = PointerReader {
@@ -138,15 +131,7 @@ fn copy_object<A: BuilderArena, B: ReaderArena>(
                 place: start,
                 nesting_limit: from.nesting_limit - 1,
             };
-            lists::copy_structs(arena, id, at, inner, size, count, lim)
+            lists::copy_structs(arena, id, at, inner, size, count, lim, canonicalize)
         }
     }
-}
-
-/// How many words so many elements take.
-pub(crate) fn flat_words(size: ElementSize, count: u32) -> u32
-    requires { count < 2 ^ 29 }
-    ensures { result ≡ words_for (size_number size) count }
-{
-    ((u64::from(count) * u64::from(data_bits_per_element(size)) + 63) / 64) as u32
 }

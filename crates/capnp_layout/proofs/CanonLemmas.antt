@@ -1,14 +1,22 @@
 -- What a refused copy says of the message that was read.
-use Rattle.std.proofs.Common.{◌≡◌, ◌⊎◌, inl, inr, Some, None, ℕ, ◌+◌, ◌≤◌, List, [], ◌∷◌, length, true, false, Option, IfSome, IsNone, refl, ap, sym, ◌∙◌, subst, arith}
+use Rattle.std.proofs.Common.{◌≡◌, ◌⊎◌, inl, inr, Some, None, ℕ, ◌+◌, ◌≤◌, List, [], ◌∷◌, length, true, false, Option, Result, Ok, Err, IfSome, IsNone, IfOk, OnOk, refl, ap, sym, ◌∙◌, subst, arith, length-set, get_or}
 use Rattle.capnp_words.specs.declared.error.ErrorKind.{ErrorKind}
-use Rattle.capnp_format.specs.Segments.{Segments, segment, word_at}
-use Rattle.capnp_words.specs.Meter.{Meter, unused, less, FitsIn}
+use Rattle.capnp_words.specs.declared.error.ErrorKind.TheVariants.{MessageTooLarge}
+use Rattle.capnp_format.specs.Segments.{Segments, segment}
+use Rattle.capnp_words.specs.Meter.{Meter, Affords, unused, less, FitsIn}
 use Rattle.capnp_objects.specs.Refusals.{Refused}
 use Rattle.capnp_objects.specs.Reading.{Reading}
 use Rattle.capnp_objects.specs.Wanted.{canonical}
+use Rattle.capnp_objects.proofs.Limits.{not_for_memory, not_for_size}
 use Rattle.capnp_copies.specs.Rooms.{IsTooLarge}
-use Rattle.capnp_builders.specs.Building.{Building, LacksWords}
-use Rattle.capnp_layout.specs.Answers.{CoversRoot, LacksMemoryOr, RefusesCopy, RefusesMessage, is_message_too_large, root_of}
+use Rattle.capnp_format.specs.Canonical.{encoding, trim, word_count}
+use Rattle.capnp_format.specs.Tree.{Tree}
+use Rattle.capnp_format.proofs.Levels.{one_value}
+use Rattle.capnp_objects.specs.Outcomes.{Reads}
+use Rattle.std.proofs.lemmas.Bool.{cases_lt}
+use Rattle.capnp_builders.specs.Building.{Building, GainsAsRead, GainsCopy, HasOnlyNull, IsNull, StayNear, built}
+use Rattle.capnp_builders.specs.declared.builders.PointerBuilder.{PointerBuilder}
+use Rattle.capnp_layout.specs.Answers.{CoversRoot, IsMadeWhereAlone, IsWantOfRoom, IsWithin, LacksMemoryOr, RefusesCopy, RefusesCopyAnywhere, RefusesMessage, is_message_too_large, root_of}
 use Rattle.capnp_layout.specs.Answers.RefusesMessage.{below_root}
 use Rattle.capnp_layout.specs.declared.tool.args.Args.TheVariants.{Canon}
 use Rattle.capnp_arena.specs.declared.arena.reader_arena_impl.ReaderOptions.{ReaderOptions}
@@ -17,34 +25,74 @@ use Rattle.capnp_arena.specs.Allocations.{max_segment_words, one_more}
 use Rattle.capnp_arena.specs.View.{View}
 use Rattle.capnp_format.specs.Bytes.{message}
 
--- the root of a fresh message is null
-pub null_root : (M : Segments) (id at : ℕ) → M ≡ (0 ∷ []) ∷ [] → id ≡ 0 → at ≡ 0 → word_at M id at ≡ 0
-null_root M id at root first start = rw (root, first, start) refl
-
 -- A place in a fresh message: its only segment has one word, which is zero, and so much room.
 pub record IsFresh (B : Building) (room : ℕ) : Type 0 where
   pub null : B.segments ≡ (0 ∷ []) ∷ []
   pub first : B.segment ≡ 0
   pub holds : B.room ≡ room
 
--- a copy to the root of a fresh message is refused
-pub refused_copy : {r : Reading} {left : Option ℕ} {B : Building} {room : ℕ} {lim m : Meter} {k : ErrorKind} (C : Building)
-    → IsFresh B room → lim ≡ unused left → LacksWords r B C k ⊎ Refused canonical r lim m k → RefusesCopy r left room k
-refused_copy {r = r} {B = B} {room = room} C place fresh (inl (w, named, most, large)) =
-    let used : length (segment B.segments B.segment) ≡ 1 = ap (λ i. length (segment B.segments i)) place.first ∙ ap (λ (R : Segments). length (segment R 0)) place.null in
-    inl (w, named, subst (λ u. IsTooLarge r u room) used (subst (IsTooLarge r (length (segment B.segments B.segment))) place.holds large))
-refused_copy {r = r} {lim = lim} {m = m} {k = k} C place fresh (inr refused) =
-    inr (m, subst (λ (l : Meter). Refused canonical r l m k) fresh refused)
+-- so is the root
+pub fresh_root : {A : Type 0} (view : A → View) (b : PointerBuilder A) (arena : A) → b.arena.now ≡ arena → b.segment ≡ 0 → (view arena).words ≡ (0 ∷ []) ∷ [] → IsFresh (built view b) ((view arena).room 0)
+fresh_root {A} view b arena same first only = record {
+  null = ap (λ (a : A). (view a).words) same ∙ only;
+  first = first;
+  holds = ap (λ (a : A). (view a).room b.segment) same ∙ ap (view arena).room first;
+}
 
--- words that are taken, if there is room for them, leave the limits
-pub limits_kept : (o : Option ℕ) {old new : View} (P : ℕ → Type 0) (words : Segments) → IfSome o (λ at. P at × (new ≡ record old { words = words })) → (IsNone o → new ≡ old) → (new.room ≡ old.room) × (new.refusals ≡ old.refusals)
-limits_kept (Some at) P words some none = (ap (λ (v : View). v.room) some.1, ap (λ (v : View). v.refusals) some.1)
-limits_kept None P words some none = (ap (λ (v : View). v.room) (none refl), ap (λ (v : View). v.refusals) (none refl))
+-- it has nothing but a null pointer
+pub only_null : {B : Building} {room : ℕ} → IsFresh B room → HasOnlyNull B
+only_null {B} fresh = ap (λ i. segment B.segments i) fresh.first ∙ ap (λ (R : Segments). segment R 0) fresh.null
 
--- a copy that needs more words than there are needs more than fewer
-pub refused_try : {r : Reading} {left : Option ℕ} (more room : ℕ) {old new : ℕ} {k : ErrorKind} → room ≤ more → new ≡ old → RefusesCopy r left more k → LacksMemoryOr old new k (RefusesCopy r left room k)
-refused_try more room least same (inl (w, named, large)) = inr (inl (w, named, λ t c means. (let beyond = large t c means in omega arith)), same)
-refused_try more room least same (inr refused) = inr (inr refused, same)
+pub null_root : {B : Building} {room : ℕ} → IsFresh B room → B.at ≡ 0 → IsNull B
+null_root {B} fresh start = ap (λ (ws : List ℕ). get_or ws B.at 0) (only_null fresh) ∙ ap (λ i. get_or (0 ∷ []) i 0) start
+
+-- a message of one segment is that segment
+only_segment : (M : Segments) (ws : List ℕ) → length M ≡ 1 → segment M 0 ≡ ws → M ≡ ws ∷ []
+only_segment [] ws one e = absurd (omega (arith, one))
+only_segment (x ∷ []) ws one e = ap (λ (s : List ℕ). s ∷ []) e
+only_segment (x ∷ y ∷ M) ws one e = absurd (omega (arith, one))
+
+-- a copy to the root of a fresh message is made, if that has one segment afterwards
+pub made_copy : {B : Building} {room : ℕ} {X : Type 0} (r : Reading) (left : Option ℕ) (l m : Meter) (F : Tree → Type 0) (made : View) (o : Result X ErrorKind) → IsFresh B room → l ≡ unused left
+    → IfOk o (λ _. (t : Tree) × Reads canonical r l m t × (F t ⊎ (length made.words ≡ 1) → segment made.words B.segment ≡ encoding (trim t)))
+    → IfOk o (λ _. (t : Tree) × IsWithin r left t × IsMadeWhereAlone made t)
+made_copy r left l m F made (Ok x) fresh begun (t, reads, copy) = (
+  t,
+  (reads.cost, reads.means, reads.takes tt, subst (λ (x : Meter). Affords r.charging x reads.cost) begun reads.covers),
+  λ one. only_segment made.words (encoding (trim t)) one (subst (λ i. segment made.words i ≡ encoding (trim t)) fresh.first (copy (inr one))),
+)
+made_copy r left l m F made (Err k) fresh begun copied = tt
+
+-- where it has more, not all words fit in the first
+spread : {r : Reading} {B : Building} {room : ℕ} {l m : Meter} {t : Tree} (C : Building) → IsFresh B room → Reads canonical r l m t
+    → (StayNear B C (word_count (trim t)) → GainsCopy B C t) → (length C.segments ≡ 1) ⊎ IsTooLarge r 1 room
+spread {r} {B} {room} {t = t} C fresh reads copy = elim (cases_lt room (1 + word_count (trim t))) [
+  | inl beyond ↦ inr (λ u c means. (let same = ap (λ v. word_count (trim v)) (one_value r.segments r.levels r.levels r.segment r.at t u reads.cost c reads.means means).0 in omega (arith, same, beyond)))
+  | inr fits ↦
+      let used : length (segment B.segments B.segment) ≡ 1 = ap length (only_null fresh) in
+      let same = copy (inl (omega (arith, fits, used, fresh.holds))) in
+      inl (ap length same ∙ length-set B.segments B.segment _ ∙ ap length fresh.null)
+]
+
+pub spread_copy : {B : Building} {room : ℕ} {X : Type 0} (r : Reading) (l m : Meter) (P : Tree → Type 0) (C : Building) (o : Result X ErrorKind) → IsFresh B room
+    → IfOk o (λ _. (t : Tree) × Reads canonical r l m t × P t) → OnOk o (GainsAsRead r l m B C) → OnOk o ((length C.segments ≡ 1) ⊎ IsTooLarge r 1 room)
+spread_copy r l m P C (Ok x) fresh (t, reads, _) gains = spread C fresh reads (gains t reads)
+spread_copy r l m P C (Err k) fresh read gains = tt
+
+-- words that are taken, if there is room for them, leave the room
+pub room_kept : (o : Option ℕ) {old new : View} (P : ℕ → Type 0) (words : Segments) → IfSome o (λ at. P at × (new ≡ record old { words = words })) → (IsNone o → new ≡ old) → new.room ≡ old.room
+room_kept (Some at) P words some none = ap (λ (v : View). v.room) some.1
+room_kept None P words some none = ap (λ (v : View). v.room) (none refl)
+
+-- want of room is no name of a reading that is refused
+never_read : {r : Reading} {l m : Meter} {k : ErrorKind} → IsWantOfRoom k → Refused canonical r l m k → ⊥
+never_read {r} {l} {m} (inl e) refused = not_for_memory (subst (Refused canonical r l m) e refused)
+never_read {r} {l} {m} (inr (w, e)) refused = not_for_size w (subst (Refused canonical r l m) e refused)
+
+-- a copy that finds no room anywhere needs more words than fewer than there are in its segment
+pub refused_try : {r : Reading} {left : Option ℕ} {k : ErrorKind} (more room w : ℕ) → room ≤ more → IsWantOfRoom k → RefusesCopyAnywhere r left more k → RefusesCopy r left room (MessageTooLarge w)
+refused_try more room w least want (inl (named, large)) = inl (w, refl, λ t c means. (let beyond = large t c means in omega arith))
+refused_try more room w least want (inr (m, refused)) = absurd (never_read want refused)
 
 -- the last try speaks for all room there can be
 pub last_try : {r : Reading} {left : Option ℕ} {room old new : ℕ} {k : ErrorKind} → (room ≡ max_segment_words) ⊎ (is_message_too_large k ≡ false) → LacksMemoryOr old new k (RefusesCopy r left room k) → LacksMemoryOr old new k (RefusesCopy r left max_segment_words k)

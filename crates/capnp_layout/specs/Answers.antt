@@ -1,5 +1,5 @@
 -- What the program answers to a message, by its command, and the line that it then prints.
-use Rattle.std.specs.Prelude.{◌≡◌, ◌⊎◌, ℕ, ◌+◌, ◌≤◌, List, [], ◌∷◌, ◌++◌, Bool, true, false, codes, Option, Some}
+use Rattle.std.specs.Prelude.{◌≡◌, ◌⊎◌, ℕ, ◌+◌, ◌≤◌, List, [], ◌∷◌, ◌++◌, Bool, true, false, codes, length, Option, Some}
 use Rattle.std.specs.Fmt.{decimal}
 use Rattle.std.specs.Int.{to_le_bytes, w64}
 use Rattle.hex.specs.Hex.{encode_lower}
@@ -83,13 +83,18 @@ IsWithin r left t = (c : ℕ) × MeansThere r t c × (capabilities t ≡ 0) × A
 abbrev pub RefusesCopy : Reading → Option ℕ → ℕ → ErrorKind → Type 0
 RefusesCopy r left room k = ((w : ℕ) × (k ≡ MessageTooLarge w) × IsTooLarge r 1 room) ⊎ ((m : Meter) × Refused canonical r (unused left) m k)
 
+-- A refusal says that there is no room, or no memory for more.
+abbrev pub IsWantOfRoom : ErrorKind → Type 0
+IsWantOfRoom k = (k ≡ AllocationFailed) ⊎ ((w : ℕ) × (k ≡ MessageTooLarge w))
+
+-- A copy of what a place means, into a fresh segment with this room and into further ones where they are to be had, is refused by
+-- the name k: there is none, and it needs more words than that room; or reading it is refused.
+abbrev pub RefusesCopyAnywhere : Reading → Option ℕ → ℕ → ErrorKind → Type 0
+RefusesCopyAnywhere r left room k = (IsWantOfRoom k × IsTooLarge r 1 room) ⊎ ((m : Meter) × Refused canonical r (unused left) m k)
+
 -- Memory was refused once more, from a count to another; or that is not so, and P holds.
 abbrev pub LacksMemoryOr : ℕ → ℕ → ErrorKind → Type 0 → Type 0
 LacksMemoryOr old new k P = ((k ≡ AllocationFailed) × (new ≡ one_more old)) ⊎ (P × (new ≡ old))
-
--- The same of an arena before and after, by its view, and of what P says of a name.
-abbrev pub LacksMemoryIn : {A : Type 0} → (A → View) → A → A → (ErrorKind → Type 0) → ErrorKind → Type 0
-LacksMemoryIn view old new P k = LacksMemoryOr (view old).refusals (view new).refusals k (P k)
 
 -- The root of a message, where reading is charged and n levels may be entered.
 abbrev pub root_of : Segments → ℕ → Reading
@@ -138,6 +143,14 @@ pub data RefusesRoot (S : Segments) (budget : Option ℕ) (k : ErrorKind) : Type
 -- A message that was made has one segment, the canonical words of t.
 abbrev pub IsMade : View → Tree → Type 0
 IsMade made t = made.words ≡ encoding (trim t) ∷ []
+
+-- If it has one segment, it was made so.
+abbrev pub IsMadeWhereAlone : View → Tree → Type 0
+IsMadeWhereAlone made t = length made.words ≡ 1 → IsMade made t
+
+-- A message has one segment, or P holds.
+abbrev pub IsAloneOr : View → Type 0 → Type 0
+IsAloneOr made P = (length made.words ≡ 1) ⊎ P
 
 -- The test of the message of these segments says that canonical words stand at its root, within the limits of a reader's options,
 -- or that none do.

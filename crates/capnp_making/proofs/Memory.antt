@@ -5,7 +5,7 @@ use Rattle.capnp_format.specs.Segments.{Segments, segment}
 use Rattle.capnp_arena.specs.Allocations.{one_more}
 use Rattle.capnp_arena.specs.Taking.{IsAllocationRefusal}
 use Rattle.capnp_arena.specs.View.{View, KeepsLimits}
-use Rattle.capnp_making.specs.Memory.{HasRoom, KeepsMemory, SpendsMemory, IsRefusedFor, RefusesGrowth}
+use Rattle.capnp_making.specs.Memory.{HasRoom, KeepsMemory, SpendsMemory, IsRefusedFor, RefusesWords, RefusesGrowth}
 use Rattle.capnp_making.specs.Zeroed.{IsPruned}
 
 abbrev pub words_in : View → Segments
@@ -60,27 +60,28 @@ refusal_of a b c d n m k before after (inl (e, f, g, h)) = inl (e, f, g, after �
 refusal_of a b c d n m k before after (inr (inl (e, f, g, h))) = inr (inl (e, f, g, after ∙ h ∙ before))
 refusal_of a b c d n m k before after (inr (inr (e, f, h))) = inr (inr (e, f, after ∙ h ∙ before))
 
-pub refused_after : (a b c : View) (k : ErrorKind) → KeepsMemory a b → RefusesGrowth b c k → RefusesGrowth a c k
-refused_after a b c k x (n, r, full) = (n, refusal_of a b c c (length c.words) (n + 1) k (ap (λ (v : View). v.refusals) x.0) refl r, full)
+pub words_refused_after : (a b c : View) (n : ℕ) (k : ErrorKind) → KeepsMemory a b → RefusesWords b c n k → RefusesWords a c n k
+words_refused_after a b c n k x (r, full) = (refusal_of a b c c (length c.words) (n + 1) k (ap (λ (v : View). v.refusals) x.0) refl r, full)
 
-pub refused_before : (a b c : View) (k : ErrorKind) → RefusesGrowth a b k → KeepsLimits b c → IsPruned b.words c.words → RefusesGrowth a c k
-refused_before a b c k (n, r, full) e pruned =
+pub words_refused_before : (a b c : View) (n : ℕ) (k : ErrorKind) → RefusesWords a b n k → KeepsLimits b c → IsPruned b.words c.words → RefusesWords a c n k
+words_refused_before a b c n k (r, full) e pruned =
     let room : c.room ≡ b.room = ap (λ (v : View). v.room) e in
     let same : (j : ℕ) → c.room j ≡ b.room j = λ j. ap (λ (f : ℕ → ℕ). f j) room in (
-      n,
       subst (λ i. IsAllocationRefusal a c i (n + 1) k) (sym pruned.segments) (refusal_of a a b c (length b.words) (n + 1) k refl (ap (λ (v : View). v.refusals) e) r),
       λ j fit. full j (omega (arith, fit.0, pruned.segments), omega (arith, fit.1, pruned.words j, same j), λ i less. omega (arith, fit.2 i less, pruned.words i, same i)),
     )
 
+pub refused_before : (a b c : View) (k : ErrorKind) → RefusesGrowth a b k → KeepsLimits b c → IsPruned b.words c.words → RefusesGrowth a c k
+refused_before a b c k (n, x) e pruned = (n, words_refused_before a b c n k x e pruned)
+
 -- an object that is refused
-pub made_refused : (a b : View) (id n : ℕ) (k : ErrorKind) → IsRefusedFor a b n k → b.words ≡ a.words → (HasRoom a id n → ⊥) → RefusesGrowth a b k × SpendsMemory a b
+pub made_refused : (a b : View) (id n : ℕ) (k : ErrorKind) → IsRefusedFor a b n k → b.words ≡ a.words → (HasRoom a id n → ⊥) → RefusesWords a b n k × SpendsMemory a b
 made_refused a b id n k (r, e) words full =
     let room : b.room ≡ a.room = ap (λ (v : View). v.room) e in
     let same : (j : ℕ) → b.room j ≡ a.room j = λ j. ap (λ (f : ℕ → ℕ). f j) room in
     let segments : length b.words ≡ length a.words = ap length words in
     let lengths : (j : ℕ) → length (segment b.words j) ≡ length (segment a.words j) = λ j. ap (λ S. length (segment S j)) words in (
       (
-        n,
         subst (λ i. IsAllocationRefusal a b i (n + 1) k) (sym segments) r,
         λ j fit. full (inr (j, (omega (arith, fit.0, segments), omega (arith, fit.1, lengths j, same j), λ i less. omega (arith, fit.2 i less, lengths i, same i)))),
       ),

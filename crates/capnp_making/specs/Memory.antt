@@ -53,6 +53,10 @@ SpendsMemory old new =
     (new ≡ record old { words = new.words; room = new.room; refusals = new.refusals }) × SameRoomBelow (length old.words) old.room new.room
     × ((new.refusals ≡ old.refusals) ⊎ (new.refusals ≡ one_more old.refusals))
 
--- Some words and a pad are refused by this name, and no segment that is there now has room for them.
+-- n words and a pad are refused by this name, and no segment that is there now has room for them.
+abbrev pub RefusesWords : View → View → ℕ → ErrorKind → Type 0
+RefusesWords old new n k = IsAllocationRefusal old new (length new.words) (n + 1) k × ((j : ℕ) → IsFirstFit new (n + 1) j → ⊥)
+
+-- So are some words.
 abbrev pub RefusesGrowth : View → View → ErrorKind → Type 0
-RefusesGrowth old new k = (n : ℕ) × IsAllocationRefusal old new (length new.words) (n + 1) k × ((j : ℕ) → IsFirstFit new (n + 1) j → ⊥)
+RefusesGrowth old new k = (n : ℕ) × RefusesWords old new n k

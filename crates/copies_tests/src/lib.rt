@@ -3,6 +3,6 @@
 #![tactic(auto)]
 
 #[cfg(test)]
-mod anywhere;
-#[cfg(test)]
 mod memory;
+#[cfg(test)]
+mod segments;

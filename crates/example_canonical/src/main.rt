@@ -57,6 +57,11 @@ fn canonical(alloc: Global, segments: &[&[u8]]) -> Result<Built, ErrorKind>
     built.allocate_segment(1024)?;
     let _root = built.allocate(0, 1);
     PointerBuilder::get_root(&mut built).copy_from(root, &mut limiter, true)?;
+
+    // What doesn't fit there goes into further segments, and isn't canonical then.
+    if built.len() != 1 {
+        return Err(ErrorKind::MessageTooLarge(1024));
+    }
     Ok(built)
 }
 

@@ -14,7 +14,7 @@ ghost use Rattle.capnp_builders.specs.Content.{TakesData, both_have, pointers_co
 use super::content::{clear_pointers, write_content};
 use crate::builders::PointerBuilder;
 use capnp_arena::arena::{BuilderArena, ReaderArena};
-use capnp_copies::anywhere;
+use capnp_copies::copy;
 use capnp_making::numbers;
 use capnp_readers::readers::{PointerReader, StructPlace, StructReader};
 use capnp_words::error::ErrorKind;
@@ -122,7 +122,7 @@ impl<'a, A: BuilderArena> StructBuilder<'a, A> {
             nesting_limit: value.nesting_limit,
         };
         let count = u32::from(place.pointers.min(value.pointer_count));
-        anywhere::copy_each(&mut *self.arena, place.segment, at, from, count, lim)
+        copy::copy_each(&mut *self.arena, place.segment, at, from, count, lim)
     }
 
     /// Whether a pointer of the pointer section, which has more than `index`, is zero.

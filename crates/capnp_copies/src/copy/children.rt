@@ -1,13 +1,9 @@
-//! The canonical copy of pointers one behind the other.
-ghost use Rattle.std.specs.Prelude.{◌≡◌, ℕ, ◌+◌, ◌<◌, ◌≤◌, length, IfOk, IfErr, OnErr};
+//! The copy of pointers one behind the other.
+ghost use Rattle.std.specs.Prelude.{◌≡◌, ℕ, ◌+◌, ◌<◌, ◌≤◌, length, IfOk, IfErr};
 ghost use Rattle.capnp_format.specs.Segments.{segment, word_at};
 ghost use Rattle.capnp_objects.specs.Reading.{row};
-ghost use Rattle.capnp_objects.specs.Refusals.{BreaksOffAmong};
-ghost use Rattle.capnp_objects.specs.Wanted.{canonical};
 ghost use Rattle.capnp_readers.specs.Readers.{reading};
-ghost use Rattle.capnp_copies.specs.Parts.{CopiesChildren, StopsAtChildren, call_of};
-ghost use Rattle.capnp_arena.specs.View.{KeepsLimits};
-ghost use Rattle.capnp_copies.specs.Rooms.{IsSameBelow};
+ghost use Rattle.capnp_copies.specs.Changes.{change, CopiesChildren, StopsAtChildren};
 
 use capnp_arena::arena::{BuilderArena, ReaderArena};
 use capnp_objects::object::Place;
@@ -15,8 +11,8 @@ use capnp_readers::readers::PointerReader;
 use capnp_words::error::ErrorKind;
 use capnp_words::read_limiter::ReadLimiter;
 
-/// Copies what so many pointers mean, from that of `from` on, and sets as many pointers of the
-/// segment, which are null, from position `at` on. Their objects go behind the segment's words.
+/// Copies what so many pointers mean, from that of `from` on, to as many null pointers of a segment
+/// from position `at` on.
 #[cycle(copies)]
 pub(crate) fn copy_children<A: BuilderArena, B: ReaderArena>(
     arena: &mut A,
@@ -25,16 +21,13 @@ pub(crate) fn copy_children<A: BuilderArena, B: ReaderArena>(
     from: PointerReader<'_, B>,
     count: u32,
     lim: &mut ReadLimiter,
+    canonicalize: bool,
 ) -> Result<(), ErrorKind>
     requires room { at + count ≤ length (segment (A.view arena.old).words id) }
     requires null { (i : ℕ) → i < count → word_at (A.view arena.old).words id (at + i) ≡ 0 }
     requires inside { from.place.at + count ≤ length (row (reading B.ReaderArena from)) }
-    ensures copied { IfOk result (λ _. CopiesChildren (reading B.ReaderArena from.entry) count (call_of (A.view arena.old) (A.view arena.new) id lim.old lim.new) at) }
-    ensures refused { IfErr result (StopsAtChildren (reading B.ReaderArena from.entry) count (call_of (A.view arena.old) (A.view arena.new) id lim.old lim.new)) }
-    ensures spent { OnErr result (BreaksOffAmong canonical (reading B.ReaderArena from.entry) count lim.old lim.new) }
-    ensures kept { OnErr result (IsSameBelow (A.view arena.old).words (A.view arena.new).words id at) }
-    ensures longer { length (segment (A.view arena.old).words id) ≤ length (segment (A.view arena.new).words id) }
-    ensures limits { KeepsLimits (A.view arena.old) (A.view arena.new) }
+    ensures copied { IfOk result (λ _. CopiesChildren (reading B.ReaderArena from.entry) count (change canonicalize id at (A.view arena.old) (A.view arena.new) lim.old lim.new)) }
+    ensures refused { IfErr result (StopsAtChildren (reading B.ReaderArena from.entry) count (change canonicalize id at (A.view arena.old) (A.view arena.new) lim.old lim.new)) }
 {
     for i in 0..count {
         let child = PointerReader {
@@ -46,7 +39,7 @@ pub(crate) fn copy_children<A: BuilderArena, B: ReaderArena>(
             },
             nesting_limit: from.nesting_limit,
         };
-        match super::copy_object(arena, id, at + i, child, lim) {
+        match super::copy_object(arena, id, at + i, child, lim, canonicalize) {
             Ok(()) => {}
             Err(k) => return Err(k),
         }

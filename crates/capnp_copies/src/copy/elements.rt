@@ -1,55 +1,46 @@
-//! The canonical copy of the elements of a list of structs.
-ghost use Rattle.std.specs.Prelude.{◌≡◌, ℕ, ◌+◌, ◌*◌, ◌<◌, ◌≤◌, length, IfOk, IfErr, OnErr};
+//! The copy of the elements of a list of structs ("Lists", "Canonicalization").
+ghost use Rattle.std.specs.Prelude.{◌≡◌, ℕ, ◌+◌, ◌*◌, ◌<◌, ◌≤◌, length, IfOk, IfErr};
 ghost use Rattle.capnp_format.specs.Bytes.{words_of};
-ghost use Rattle.capnp_format.specs.Segments.{segment, word_at, IsPlace};
+ghost use Rattle.capnp_format.specs.Segments.{segment, word_at};
 ghost use Rattle.capnp_arena.specs.Written.{with_words};
-ghost use Rattle.capnp_objects.specs.Reading.{behind, row};
-ghost use Rattle.capnp_objects.specs.Refusals.{BreaksOffAmong, BreaksOffAmongElements};
-ghost use Rattle.capnp_objects.specs.Wanted.{canonical};
+ghost use Rattle.capnp_objects.specs.Reading.{row};
 ghost use Rattle.capnp_readers.specs.Readers.{reading};
-ghost use Rattle.capnp_copies.specs.Parts.{CopiesElement, CopiesElements, StopsAtElement, StopsAtElements, call_of};
-ghost use Rattle.capnp_arena.specs.View.{KeepsLimits};
-ghost use Rattle.capnp_copies.specs.Rooms.{IsSameBelow};
-ghost use Rattle.capnp_copies.specs.Widths.{pointers_used};
+ghost use Rattle.capnp_copies.specs.Changes.{change, CopiesElement, StopsAtElement, CopiesElements, StopsAtElements, KeepsPointers};
 
 use super::children::copy_children;
 use crate::widths::ElementSizes;
 use capnp_arena::arena::{BuilderArena, ReaderArena};
+use capnp_making::making::Start;
 use capnp_objects::object::Place;
 use capnp_readers::readers::PointerReader;
 use capnp_words::error::ErrorKind;
 use capnp_words::read_limiter::ReadLimiter;
 use capnp_words::words::{count, part};
 
-/// Copies so many elements, of which `from` is the first word, over words of a segment from position
-/// `at` on, which are zero and the segment's last, each cut to the sections of the copy. What their
-/// pointers lead to goes behind the segment's words.
+/// Copies so many elements, of which `from` is the first word, over words of zero, each cut to the
+/// sections that are kept.
 #[cycle(copies)]
 pub(crate) fn copy_elements<A: BuilderArena, B: ReaderArena>(
     arena: &mut A,
-    id: u32,
-    at: u32,
+    to: Start,
     from: PointerReader<'_, B>,
     sizes: ElementSizes,
     count: u32,
     lim: &mut ReadLimiter,
+    canonicalize: bool,
 ) -> Result<(), ErrorKind>
-    requires room { at + count * (sizes.kept.data_words + sizes.kept.pointers) ≡ length (segment (A.view arena.old).words id) }
-    requires zero { (i : ℕ) → at ≤ i → word_at (A.view arena.old).words id i ≡ 0 }
+    requires room { to.at + count * (sizes.kept.data_words + sizes.kept.pointers) ≤ length (segment (A.view arena.old).words to.segment) }
+    requires zero { (i : ℕ) → i < count * (sizes.kept.data_words + sizes.kept.pointers) → word_at (A.view arena.old).words to.segment (to.at + i) ≡ 0 }
     requires inside { from.place.at + count * (sizes.source.data_words + sizes.source.pointers) ≤ length (row (reading B.ReaderArena from)) }
     requires less_data { sizes.kept.data_words ≤ sizes.source.data_words }
     requires less_pointers { sizes.kept.pointers ≤ sizes.source.pointers }
-    requires pointers { pointers_used (row (reading B.ReaderArena from)) from.place.at sizes.source.data_words sizes.source.pointers count ≤ sizes.kept.pointers }
-    ensures copied { IfOk result (λ _. CopiesElements (reading B.ReaderArena from.entry) sizes count (call_of (A.view arena.old) (A.view arena.new) id lim.old lim.new) at) }
-    ensures refused { IfErr result (StopsAtElements (reading B.ReaderArena from.entry) sizes count (call_of (A.view arena.old) (A.view arena.new) id lim.old lim.new)) }
-    ensures spent { OnErr result (BreaksOffAmongElements canonical (reading B.ReaderArena from.entry) sizes.source count lim.old lim.new) }
-    ensures kept { OnErr result (IsSameBelow (A.view arena.old).words (A.view arena.new).words id at) }
-    ensures longer { length (segment (A.view arena.old).words id) ≤ length (segment (A.view arena.new).words id) }
-    ensures limits { KeepsLimits (A.view arena.old) (A.view arena.new) }
+    requires pointers { KeepsPointers canonicalize (reading B.ReaderArena from) sizes count }
+    ensures copied { IfOk result (λ _. CopiesElements (reading B.ReaderArena from.entry) sizes count (change canonicalize to.segment to.at (A.view arena.old) (A.view arena.new) lim.old lim.new)) }
+    ensures refused { IfErr result (StopsAtElements (reading B.ReaderArena from.entry) sizes count (change canonicalize to.segment to.at (A.view arena.old) (A.view arena.new) lim.old lim.new)) }
 {
-    let width = sizes.source.total();
-    let least_width = sizes.kept.total();
-    if least_width == 0 {
+    let source_words = sizes.source.total();
+    let kept_words = sizes.kept.total();
+    if kept_words == 0 {
         return Ok(());
     }
     for i in 0..count {
@@ -58,11 +49,15 @@ pub(crate) fn copy_elements<A: BuilderArena, B: ReaderArena>(
             place: Place {
                 segment: from.place.segment,
                 bytes: from.place.bytes,
-                at: from.place.at + i * width,
+                at: from.place.at + i * source_words,
             },
             nesting_limit: from.nesting_limit,
         };
-        match copy_element(arena, id, at + i * least_width, element, sizes, lim) {
+        let row = Start {
+            segment: to.segment,
+            at: to.at + i * kept_words,
+        };
+        match copy_element(arena, row, element, sizes, lim, canonicalize) {
             Ok(()) => {}
             Err(k) => return Err(k),
         }
@@ -74,28 +69,23 @@ pub(crate) fn copy_elements<A: BuilderArena, B: ReaderArena>(
 #[cycle(copies)]
 fn copy_element<A: BuilderArena, B: ReaderArena>(
     arena: &mut A,
-    id: u32,
-    at: u32,
+    to: Start,
     from: PointerReader<'_, B>,
     sizes: ElementSizes,
     lim: &mut ReadLimiter,
+    canonicalize: bool,
 ) -> Result<(), ErrorKind>
-    requires place { IsPlace (A.view arena.old).words id at }
-    requires room { at + (sizes.kept.data_words + sizes.kept.pointers) ≤ length (segment (A.view arena.old).words id) }
-    requires null { (i : ℕ) → i < sizes.kept.pointers → word_at (A.view arena.old).words id (at + sizes.kept.data_words + i) ≡ 0 }
+    requires room { to.at + (sizes.kept.data_words + sizes.kept.pointers) ≤ length (segment (A.view arena.old).words to.segment) }
+    requires null { (i : ℕ) → i < sizes.kept.pointers → word_at (A.view arena.old).words to.segment (to.at + sizes.kept.data_words + i) ≡ 0 }
     requires inside { from.place.at + (sizes.source.data_words + sizes.source.pointers) ≤ length (row (reading B.ReaderArena from)) }
     requires less_data { sizes.kept.data_words ≤ sizes.source.data_words }
     requires less_pointers { sizes.kept.pointers ≤ sizes.source.pointers }
-    ensures copied { IfOk result (λ _. CopiesElement (reading B.ReaderArena from.entry) sizes (call_of (A.view arena.old) (A.view arena.new) id lim.old lim.new) at) }
-    ensures refused { IfErr result (StopsAtElement (reading B.ReaderArena from.entry) sizes (call_of (A.view arena.old) (A.view arena.new) id lim.old lim.new)) }
-    ensures spent { OnErr result (BreaksOffAmong canonical (behind (reading B.ReaderArena from.entry) sizes.source.data_words) sizes.kept.pointers lim.old lim.new) }
-    ensures kept { OnErr result (IsSameBelow (A.view arena.old).words (A.view arena.new).words id at) }
-    ensures longer { length (segment (A.view arena.old).words id) ≤ length (segment (A.view arena.new).words id) }
-    ensures limits { KeepsLimits (A.view arena.old) (A.view arena.new) }
+    ensures copied { IfOk result (λ _. CopiesElement (reading B.ReaderArena from.entry) sizes (change canonicalize to.segment to.at (A.view arena.old) (A.view arena.new) lim.old lim.new)) }
+    ensures refused { IfErr result (StopsAtElement (reading B.ReaderArena from.entry) sizes (change canonicalize to.segment to.at (A.view arena.old) (A.view arena.new) lim.old lim.new)) }
 {
     let data_words = usize::from(sizes.kept.data_words);
     let data = part(from.place.bytes, from.place.at as usize, data_words);
-    put_words(arena, id, at, data);
+    put_words(arena, to.segment, to.at, data);
     let children = PointerReader {
         source: from.source,
         place: Place {
@@ -105,14 +95,16 @@ fn copy_element<A: BuilderArena, B: ReaderArena>(
         },
         nesting_limit: from.nesting_limit,
     };
-    let first = at + u32::from(sizes.kept.data_words);
+    let first = to.at + u32::from(sizes.kept.data_words);
+    let pointers = u32::from(sizes.kept.pointers);
     copy_children(
         arena,
-        id,
+        to.segment,
         first,
         children,
-        u32::from(sizes.kept.pointers),
+        pointers,
         lim,
+        canonicalize,
     )
 }
 

@@ -1,26 +1,21 @@
-//! The canonical copy of lists of pointers and of structs.
-ghost use Rattle.std.specs.Prelude.{◌≡◌, ◌⊎◌, ℕ, ◌+◌, ◌*◌, ◌<◌, ◌≤◌, ◌∷◌, ◌^◌, length, replicate, IsSome, IfSome, IsNone, ◌↔◌, IfOk, IfErr, OnErr};
-ghost use Rattle.capnp_format.specs.Segments.{segment, word_at, IsPlace};
+//! The copy of lists of pointers and of structs ("Lists", "Canonicalization").
+ghost use Rattle.std.specs.Prelude.{◌≡◌, ◌+◌, ◌*◌, ◌<◌, ◌≤◌, ◌^◌, length, IfOk, IfErr};
+ghost use Rattle.capnp_format.specs.Segments.{word_at, IsPlace};
 ghost use Rattle.capnp_objects.specs.Reading.{row};
-ghost use Rattle.capnp_objects.specs.Refusals.{BreaksOffAmong, BreaksOffAmongElements};
-ghost use Rattle.capnp_objects.specs.Wanted.{canonical};
 ghost use Rattle.capnp_readers.specs.Readers.{reading};
-ghost use Rattle.capnp_arena.specs.View.{KeepsLimits};
-ghost use Rattle.capnp_copies.specs.Frames.{TakesWords};
-ghost use Rattle.capnp_copies.specs.Parts.{CopiesPointers, CopiesStructs, StopsAtPointers, StopsAtStructs, call_of};
-ghost use Rattle.capnp_copies.specs.Rooms.{IsSameBelow};
+ghost use Rattle.capnp_copies.specs.Changes.{change, CopiesPointers, StopsAtPointers, CopiesStructs, StopsAtStructs, KeepsWidths};
 
 use super::children::copy_children;
 use super::elements::copy_elements;
 use crate::widths::{ElementSizes, least_widths};
 use capnp_arena::arena::{BuilderArena, ReaderArena};
+use capnp_making::making::{Start, make_list, make_struct_list};
 use capnp_readers::readers::PointerReader;
 use capnp_words::error::ErrorKind;
 use capnp_words::read_limiter::ReadLimiter;
-use capnp_words::wire_pointer::{ElementSize, StructSize, WirePointer, offset_between};
+use capnp_words::wire_pointer::{ElementSize, StructSize};
 
-/// Copies a list of so many pointers, of which `from` is the first, behind the words of a segment,
-/// and sets the pointer at a position of it.
+/// Copies a list of so many pointers, of which `from` is the first, to the pointer at a place.
 #[cycle(copies)]
 pub(crate) fn copy_pointers<A: BuilderArena, B: ReaderArena>(
     arena: &mut A,
@@ -29,30 +24,31 @@ pub(crate) fn copy_pointers<A: BuilderArena, B: ReaderArena>(
     from: PointerReader<'_, B>,
     count: u32,
     lim: &mut ReadLimiter,
+    canonicalize: bool,
 ) -> Result<(), ErrorKind>
     requires place { IsPlace (A.view arena.old).words id at }
+    requires null { word_at (A.view arena.old).words id at ≡ 0 }
+    requires few { count < 2 ^ 29 }
     requires inside { from.place.at + count ≤ length (row (reading B.ReaderArena from)) }
-    ensures copied { IfOk result (λ _. CopiesPointers (reading B.ReaderArena from.entry) count (call_of (A.view arena.old) (A.view arena.new) id lim.old lim.new) at) }
-    ensures refused { IfErr result (StopsAtPointers (reading B.ReaderArena from.entry) count (call_of (A.view arena.old) (A.view arena.new) id lim.old lim.new)) }
-    ensures spent { OnErr result ((lim.new ≡ lim.old) ⊎ BreaksOffAmong canonical (reading B.ReaderArena from.entry) count lim.old lim.new) }
-    ensures kept { OnErr result (IsSameBelow (A.view arena.old).words (A.view arena.new).words id (length (segment (A.view arena.old).words id))) }
-    ensures longer { length (segment (A.view arena.old).words id) ≤ length (segment (A.view arena.new).words id) }
-    ensures limits { KeepsLimits (A.view arena.old) (A.view arena.new) }
+    ensures copied { IfOk result (λ _. CopiesPointers (reading B.ReaderArena from.entry) count (change canonicalize id at (A.view arena.old) (A.view arena.new) lim.old lim.new)) }
+    ensures refused { IfErr result (StopsAtPointers (reading B.ReaderArena from.entry) count (change canonicalize id at (A.view arena.old) (A.view arena.new) lim.old lim.new)) }
 {
-    let Some(head) = arena.allocate(id, count) else {
-        return Err(ErrorKind::MessageTooLarge(count as usize));
-    };
-    match copy_children(arena, id, head, from, count, lim) {
-        Ok(()) => {}
-        Err(k) => return Err(k),
+    match make_list(arena, id, at, ElementSize::Pointer, count) {
+        Ok(start) => copy_children(
+            arena,
+            start.segment,
+            start.at,
+            from,
+            count,
+            lim,
+            canonicalize,
+        ),
+        Err(k) => Err(k),
     }
-    let word = WirePointer::new_list(offset_between(at, head), ElementSize::Pointer, count);
-    arena.set_word(id, at, word.0);
-    Ok(())
 }
 
-/// Copies a list of so many structs, of which `from` is the first word behind the tag, with the least
-/// sections that lose nothing, behind the words of a segment, and sets the pointer at a position of it.
+/// Copies a list of so many structs, of which `from` is the first word behind the tag, to the pointer
+/// at a place. In canonical form its elements have the least sections that lose nothing.
 #[cycle(copies)]
 pub(crate) fn copy_structs<A: BuilderArena, B: ReaderArena>(
     arena: &mut A,
@@ -62,49 +58,46 @@ pub(crate) fn copy_structs<A: BuilderArena, B: ReaderArena>(
     size: StructSize,
     count: u32,
     lim: &mut ReadLimiter,
+    canonicalize: bool,
 ) -> Result<(), ErrorKind>
     requires place { IsPlace (A.view arena.old).words id at }
-    requires tagged { 0 < from.place.at }
+    requires null { word_at (A.view arena.old).words id at ≡ 0 }
     requires few { count < 2 ^ 30 }
+    requires words { count * (size.data_words + size.pointers) < 2 ^ 29 }
     requires inside { from.place.at + count * (size.data_words + size.pointers) ≤ length (row (reading B.ReaderArena from)) }
-    ensures copied { IfOk result (λ _. CopiesStructs (reading B.ReaderArena from.entry) size count (call_of (A.view arena.old) (A.view arena.new) id lim.old lim.new) at) }
-    ensures refused { IfErr result (StopsAtStructs (reading B.ReaderArena from.entry) size count (call_of (A.view arena.old) (A.view arena.new) id lim.old lim.new)) }
-    ensures spent { OnErr result ((lim.new ≡ lim.old) ⊎ BreaksOffAmongElements canonical (reading B.ReaderArena from.entry) size count lim.old lim.new) }
-    ensures kept { OnErr result (IsSameBelow (A.view arena.old).words (A.view arena.new).words id (length (segment (A.view arena.old).words id))) }
-    ensures longer { length (segment (A.view arena.old).words id) ≤ length (segment (A.view arena.new).words id) }
-    ensures limits { KeepsLimits (A.view arena.old) (A.view arena.new) }
+    ensures copied { IfOk result (λ _. CopiesStructs (reading B.ReaderArena from.entry) size count (change canonicalize id at (A.view arena.old) (A.view arena.new) lim.old lim.new)) }
+    ensures refused { IfErr result (StopsAtStructs (reading B.ReaderArena from.entry) size count (change canonicalize id at (A.view arena.old) (A.view arena.new) lim.old lim.new)) }
 {
-    let least = least_widths(from.place.bytes, from.place.at, count, size);
-    let words = count * least.total();
-    let tag = WirePointer::new_tag(count, least);
-    let Some(head) = begin_structs(arena, id, tag.0, words) else {
-        return Err(ErrorKind::MessageTooLarge(1 + words as usize));
-    };
-    let sizes = ElementSizes {
-        source: size,
-        kept: least,
-    };
-    match copy_elements(arena, id, head + 1, from, sizes, count, lim) {
-        Ok(()) => {}
-        Err(k) => return Err(k),
+    let kept = kept_widths(from, size, count, canonicalize);
+    let sizes = ElementSizes { source: size, kept };
+    match make_struct_list(arena, id, at, count, kept) {
+        Ok(list) => {
+            let first = Start {
+                segment: list.segment,
+                at: list.at + 1,
+            };
+            copy_elements(arena, first, from, sizes, count, lim, canonicalize)
+        }
+        Err(k) => Err(k),
     }
-    let word = WirePointer::new_struct_list(offset_between(at, head), words);
-    arena.set_word(id, at, word.0);
-    Ok(())
 }
 
-/// Takes the words of a list of structs at the end of a segment: this tag, and so many words of
-/// zero. Gives their position; where there is no room nothing changes.
-fn begin_structs<A: BuilderArena>(arena: &mut A, id: u32, tag: u64, words: u32) -> Option<u32>
-    requires there { id < length (A.view arena.old).words }
-    requires few { 1 + words < 2 ^ 32 }
-    ensures exactly { IsSome result ↔ (length (segment (A.view arena.old).words id) + (1 + words) ≤ (A.view arena.old).room id) }
-    ensures taken { IfSome result (λ head. TakesWords (A.view arena.old) (A.view arena.new) id head (tag ∷ replicate words 0)) }
-    ensures zero { IfSome result (λ head. (i : ℕ) → head + 1 ≤ i → word_at (A.view arena.new).words id i ≡ 0) }
-    ensures length { IfSome result (λ head. length (segment (A.view arena.new).words id) ≡ head + (1 + words)) }
-    ensures none { IsNone result → A.view arena.new ≡ A.view arena.old }
+/// The sections that a copy of so many structs keeps of each, of which `from` is the first word: in
+/// canonical form the least that lose nothing.
+fn kept_widths<B: ReaderArena>(
+    from: PointerReader<'_, B>,
+    size: StructSize,
+    count: u32,
+    canonicalize: bool,
+) -> StructSize
+    requires inside { from.place.at + count * (size.data_words + size.pointers) ≤ length (row (reading B.ReaderArena from)) }
+    ensures kept { KeepsWidths canonicalize (reading B.ReaderArena from.entry) size count result }
+    ensures less_data { result.data_words ≤ size.data_words }
+    ensures less_pointers { result.pointers ≤ size.pointers }
 {
-    let head = arena.allocate(id, 1 + words)?;
-    arena.set_word(id, head, tag);
-    Some(head)
+    if canonicalize {
+        least_widths(from.place.bytes, from.place.at, count, size)
+    } else {
+        size
+    }
 }

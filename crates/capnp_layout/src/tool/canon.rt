@@ -1,15 +1,17 @@
 //! The canonical words of a message ("Canonicalization"), in a segment of which the size is found by
 //! tries: each has twice the room of the one before, so that all together take no longer than
-//! twice the last.
-ghost use Rattle.std.specs.Prelude.{◌≡◌, ◌⊎◌, ◌<◌, ◌≤◌, ◌+◌, ◌++◌, ◌∷◌, [], true, false, OnOk, IfOk, IfErr};
+//! twice the last. While one runs, its allocator is taken out, so that it ends where that segment does.
+ghost use Rattle.std.specs.Prelude.{◌≡◌, ◌⊎◌, ◌<◌, ◌≤◌, ◌+◌, ◌++◌, ◌↔◌, ◌∷◌, [], true, false, IsTrue, OnOk, IfOk, IfErr};
 ghost use Rattle.capnp_format.specs.Bytes.{message};
 ghost use Rattle.capnp_format.specs.Canonical.{trim, encoding};
 ghost use Rattle.capnp_format.specs.Tree.{Tree};
+ghost use Rattle.capnp_words.specs.declared.error.ErrorKind.TheVariants.{AllocationFailed};
 ghost use Rattle.capnp_arena.specs.Allocations.{max_segment_words, one_more};
 ghost use Rattle.capnp_arena.specs.Limits.{IsSmall};
 ghost use Rattle.capnp_objects.specs.Source.{levels};
 ghost use Rattle.capnp_readers.specs.Readers.{reading};
-ghost use Rattle.capnp_layout.specs.Answers.{IsMade, IsWithin, LacksMemoryIn, LacksMemoryOr, RefusesCopy, RefusesMessage, ValueOf, is_message_too_large};
+ghost use Rattle.capnp_copies.specs.Rooms.{IsTooLarge};
+ghost use Rattle.capnp_layout.specs.Answers.{IsAloneOr, IsMade, IsMadeWhereAlone, IsWantOfRoom, IsWithin, LacksMemoryOr, RefusesCopy, RefusesCopyAnywhere, RefusesMessage, ValueOf, is_message_too_large};
 ghost use Rattle.capnp_layout.specs.Messages.{segments_in};
 
 use super::args::Args;
@@ -24,43 +26,92 @@ use capnp_words::error::ErrorKind;
 use capnp_words::read_limiter::ReadLimiter;
 use std::alloc::Global;
 
+/// Whether a refusal says that there is no room, or no memory for more.
+fn is_want_of_room(kind: ErrorKind) -> bool
+    ensures { IsTrue result ↔ IsWantOfRoom kind }
+{
+    matches!(
+        kind,
+        ErrorKind::AllocationFailed | ErrorKind::MessageTooLarge(_)
+    )
+}
+
 /// Copies what a pointer means to the root of a message whose only word is that root, which is null.
+/// Words that don't fit behind it go into further segments, if there are any to get.
 fn copy_root<A: BuilderArena, B: ReaderArena>(
     arena: &mut A,
     from: PointerReader<'_, B>,
     left: Option<usize>,
 ) -> Result<(), ErrorKind>
     requires root { (A.view arena.old).words ≡ (0 ∷ []) ∷ [] }
-    ensures copied { IfOk result (λ _. (t : Tree) × IsWithin (reading B.ReaderArena from.entry) left t × IsMade (A.view arena.new) t) }
-    ensures refused { IfErr result (RefusesCopy (reading B.ReaderArena from.entry) left ((A.view arena.old).room 0)) }
-    ensures refusals { (A.view arena.new).refusals ≡ (A.view arena.old).refusals }
+    ensures copied { IfOk result (λ _. (t : Tree) × IsWithin (reading B.ReaderArena from.entry) left t × IsMadeWhereAlone (A.view arena.new) t) }
+    ensures alone { OnOk result (IsAloneOr (A.view arena.new) (IsTooLarge (reading B.ReaderArena from.entry) 1 ((A.view arena.old).room 0))) }
+    ensures refused { IfErr result (RefusesCopyAnywhere (reading B.ReaderArena from.entry) left ((A.view arena.old).room 0)) }
 {
     let mut lim = ReadLimiter::new(left);
     let mut root = PointerBuilder::get_root(arena);
     root.copy_from(from, &mut lim, true)
 }
 
-/// Makes the canonical words of what a pointer means in a fresh segment of so many words.
+/// The same into its only segment, which has room for so many words. What doesn't fit there is
+/// `MessageTooLarge` with that number.
 fn copy_to_segment<A: Allocator, B: ReaderArena>(
     arena: &mut BuilderArenaImpl<A>,
     from: PointerReader<'_, B>,
     left: Option<usize>,
     room: u32,
 ) -> Result<(), ErrorKind>
-    requires empty { ⟦<BuilderArenaImpl<A> as ReaderArena>⟧.segments arena.old ≡ [] }
+    requires root { (⟦<BuilderArenaImpl<A> as BuilderArena>⟧.view arena.old).words ≡ (0 ∷ []) ∷ [] }
+    requires room { room ≤ (⟦<BuilderArenaImpl<A> as BuilderArena>⟧.view arena.old).room 0 }
+    ensures copied { IfOk result (λ _. (t : Tree) × IsWithin (reading B.ReaderArena from.entry) left t × IsMade (⟦<BuilderArenaImpl<A> as BuilderArena>⟧.view arena.new) t) }
+    ensures refused { IfErr result (RefusesCopy (reading B.ReaderArena from.entry) left room) }
+{
+    let too_large = ErrorKind::MessageTooLarge(room as usize);
+    match copy_root(arena, from, left) {
+        Ok(()) => {
+            if arena.len() == 1 {
+                Ok(())
+            } else {
+                Err(too_large)
+            }
+        }
+        Err(kind) => {
+            if is_want_of_room(kind) {
+                Err(too_large)
+            } else {
+                Err(kind)
+            }
+        }
+    }
+}
+
+/// Makes a message of one segment with room for so many words, of which one is taken: the root,
+/// which is null. A refusal gives the allocator back.
+fn make_message<A: Allocator>(
+    alloc: Global,
+    allocator: A,
+    room: u32,
+) -> Result<BuilderArenaImpl<A>, (ErrorKind, A)>
     requires some { 1 ≤ room }
     requires most { room ≤ max_segment_words }
-    ensures copied { IfOk result (λ _. (t : Tree) × IsWithin (reading B.ReaderArena from.entry) left t × IsMade (⟦<BuilderArenaImpl<A> as BuilderArena>⟧.view arena.new) t) }
-    ensures granted { OnOk result ((⟦<BuilderArenaImpl<A> as BuilderArena>⟧.view arena.new).refusals ≡ (⟦<BuilderArenaImpl<A> as BuilderArena>⟧.view arena.old).refusals) }
-    ensures refused { IfErr result (LacksMemoryIn ⟦<BuilderArenaImpl<A> as BuilderArena>⟧.view arena.old arena.new (RefusesCopy (reading B.ReaderArena from.entry) left room)) }
+    ensures root { IfOk result (λ made. (⟦<BuilderArenaImpl<A> as BuilderArena>⟧.view made).words ≡ (0 ∷ []) ∷ []) }
+    ensures room { IfOk result (λ made. room ≤ (⟦<BuilderArenaImpl<A> as BuilderArena>⟧.view made).room 0) }
+    ensures granted { IfOk result (λ made. (⟦<BuilderArenaImpl<A> as BuilderArena>⟧.view made).refusals ≡ A.refusals allocator) }
+    ensures refused { IfErr result (λ e. (e.0 ≡ AllocationFailed) × (A.refusals e.1 ≡ one_more (A.refusals allocator))) }
 {
-    arena.allocate_segment(room)?;
-    let _root = arena.allocate(0, 1);
-    copy_root(arena, from, left)
+    let mut made = BuilderArenaImpl::new(alloc, allocator);
+    match made.allocate_segment(room) {
+        Ok(()) => {
+            let _root = made.allocate(0, 1);
+            Ok(made)
+        }
+        Err(kind) => Err((kind, made.into_allocator())),
+    }
 }
 
 /// Makes the canonical words of what a pointer means in a fresh message with a segment of so many
-/// words. A refusal gives the allocator back.
+/// words, and in that one alone: while it is copied there is no allocator to give another. A refusal
+/// gives the allocator back.
 fn copy_to_message<A: Allocator, B: ReaderArena>(
     alloc: Global,
     allocator: A,
@@ -74,8 +125,11 @@ fn copy_to_message<A: Allocator, B: ReaderArena>(
     ensures granted { IfOk result (λ made. (⟦<BuilderArenaImpl<A> as BuilderArena>⟧.view made).refusals ≡ A.refusals allocator) }
     ensures refused { IfErr result (λ e. LacksMemoryOr (A.refusals allocator) (A.refusals e.1) e.0 (RefusesCopy (reading B.ReaderArena from.entry) left room e.0)) }
 {
-    let mut made = BuilderArenaImpl::new(alloc, allocator);
-    match copy_to_segment(&mut made, from, left, room) {
+    let made = make_message(alloc, allocator, room)?;
+    let (mut segments, allocator) = made.without_allocator();
+    let copied = copy_to_segment(&mut segments, from, left, room);
+    let made = segments.with_allocator(allocator);
+    match copied {
         Ok(()) => Ok(made),
         Err(kind) => Err((kind, made.into_allocator())),
     }

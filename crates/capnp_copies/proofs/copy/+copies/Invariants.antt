@@ -1,10 +1,7 @@
-use Rattle.std.proofs.Common.{◌≡◌, ℕ, ◌+◌, ◌-◌, ◌*◌, ◌≤◌, ◌<◌, length}
-use Rattle.capnp_format.specs.Segments.{segment, word_at}
+use Rattle.std.proofs.Common.{◌+◌, ◌-◌, ◌*◌}
 use Rattle.capnp_objects.specs.Source.{levels}
 use Rattle.capnp_readers.specs.Readers.{reading}
-use Rattle.capnp_arena.specs.View.{KeepsLimits}
-use Rattle.capnp_copies.specs.Parts.{call_of, CopiesChildren}
-use Rattle.capnp_copies.proofs.ElementSteps.{RowsCopied}
+use Rattle.capnp_copies.specs.Changes.{change, CopiesChildren, CopiesRows}
 use Rattle.capnp_copies.proofs.copy.+copies.Given as goal
 
 abbrev pub decreases-copy_object : goal.decreases-copy_object
@@ -29,16 +26,9 @@ abbrev pub decreases-structs::copy_struct : goal.decreases-structs::copy_struct
 decreases-structs::copy_struct g l = 8 * levels l.from.nesting_limit + 4
 
 abbrev pub invariant-children::copy_children-loop-i : goal.invariant-children::copy_children-loop-i
-invariant-children::copy_children-loop-i g l = record {
-  copied : CopiesChildren (reading g.B.ReaderArena l.from) l.i (call_of (g.A.BuilderArena.view l.fn.arena) (g.A.BuilderArena.view l.arena) l.id l.fn.lim l.lim) l.at;
-  null : (j : ℕ) → l.i ≤ j → j < l.count → word_at (g.A.BuilderArena.view l.arena).words l.id (l.at + j) ≡ 0;
-  longer : length (segment (g.A.BuilderArena.view l.fn.arena).words l.id) ≤ length (segment (g.A.BuilderArena.view l.arena).words l.id);
-  limits : KeepsLimits (g.A.BuilderArena.view l.fn.arena) (g.A.BuilderArena.view l.arena);
-}
+invariant-children::copy_children-loop-i g l =
+    CopiesChildren (reading g.B.ReaderArena l.from) l.i (change l.canonicalize l.id l.at (g.A.BuilderArena.view l.fn.arena) (g.A.BuilderArena.view l.arena) l.fn.lim l.lim)
 
 abbrev pub invariant-elements::copy_elements-loop-i : goal.invariant-elements::copy_elements-loop-i
-invariant-elements::copy_elements-loop-i g l = record {
-  copied : RowsCopied (reading g.B.ReaderArena l.from) l.sizes l.i (l.count - l.i) (call_of (g.A.BuilderArena.view l.fn.arena) (g.A.BuilderArena.view l.arena) l.id l.fn.lim l.lim) l.at;
-  longer : length (segment (g.A.BuilderArena.view l.fn.arena).words l.id) ≤ length (segment (g.A.BuilderArena.view l.arena).words l.id);
-  limits : KeepsLimits (g.A.BuilderArena.view l.fn.arena) (g.A.BuilderArena.view l.arena);
-}
+invariant-elements::copy_elements-loop-i g l =
+    CopiesRows (reading g.B.ReaderArena l.from) l.sizes l.i (l.count - l.i) (change l.canonicalize l.to.segment l.to.at (g.A.BuilderArena.view l.fn.arena) (g.A.BuilderArena.view l.arena) l.fn.lim l.lim)

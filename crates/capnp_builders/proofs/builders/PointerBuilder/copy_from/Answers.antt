@@ -1,13 +1,61 @@
-use Rattle.capnp_format.specs.Tree.{Tree}
-use Rattle.capnp_objects.specs.Outcomes.{Reads}
-use Rattle.capnp_objects.specs.Wanted.{plain}
+use Rattle.std.proofs.Common.{◌≡◌, inl, inr, rules, ◌<◌, arith}
+use Rattle.capnp_arena.specs.View.{View}
+use Rattle.capnp_format.specs.Segments.{word_at}
+use Rattle.capnp_format.specs.Tree.{Tree, Null}
+use Rattle.capnp_making.proofs.Replaced.{replaced_again}
 use Rattle.capnp_readers.specs.Readers.{reading}
-use Rattle.capnp_builders.proofs.PlainCopies.{plain_copied}
+use Rattle.capnp_copies.specs.Changes.{change, kept}
+use Rattle.capnp_making.specs.Stored.{IsReplaced}
+use Rattle.capnp_copies.proofs.FlatRead.{ok_so, err_so}
+use Rattle.capnp_builders.proofs.CopiesHeld.{null_replaced, null_cleared, fresh_copied, still_there, words_refused_later, beyond_before}
 use Rattle.capnp_builders.proofs.builders.PointerBuilder.copy_from.Goals as goal
 
--- What the pointer held becomes zero, and then the value is copied to the null pointer.
+-- A null pointer.
+
+pub returns-then-is_null-clause-copied : goal.returns-then-is_null-clause-copied
+returns-then-is_null-clause-copied g c =
+    let null : word_at (g.A.BuilderArena.view c.args.self.now.arena.now).words c.args.self.now.segment c.args.self.now.at ≡ 0 = c.is_null.ensures.0 (search rules) in
+    ok_so c.copy_value.result _ _ c.copy_value.ensures.copied (λ x made. (made.0, made.1, null_replaced _ _ _ _ _ c.requires.place null made.2))
+
+pub returns-then-is_null-clause-fresh : goal.returns-then-is_null-clause-fresh
+returns-then-is_null-clause-fresh g c = λ canonical only.
+    (let old : View = g.A.BuilderArena.view c.args.self.now.arena.now in
+    let new : View = g.A.BuilderArena.view c.copy_value.new.arena in
+    let s = c.args.self.now.segment in
+    let p = c.args.self.now.at in
+    fresh_copied c.copy_value.result (reading g.B.ReaderArena c.args.from) (change c.args.canonicalize s p old new c.args.lim.now c.copy_value.new.lim)
+    (λ (t : Tree). IsReplaced old.words new.words s p Null (kept c.args.canonicalize t)) canonical c.requires.place only c.copy_value.ensures.copied c.copy_value.ensures.canonical)
+
+pub returns-then-is_null-clause-cleared : goal.returns-then-is_null-clause-cleared
+returns-then-is_null-clause-cleared g c =
+    let null : word_at (g.A.BuilderArena.view c.args.self.now.arena.now).words c.args.self.now.segment c.args.self.now.at ≡ 0 = c.is_null.ensures.0 (search rules) in
+    null_cleared c.copy_value.result _ _ _ _ c.requires.place null c.copy_value.ensures.cleared
+
+pub returns-then-is_null-clause-there : goal.returns-then-is_null-clause-there
+returns-then-is_null-clause-there g c = still_there c.copy_value.result _ _ _ _ _ _ c.copy_value.ensures.copied c.copy_value.ensures.cleared c.requires.place
+
+-- What another pointer held becomes zero, and then the value is copied to the null pointer.
+
 pub returns-clause-copied : goal.returns-clause-copied
 returns-clause-copied g c =
-    let view = g.A.BuilderArena.view in
-    rw c.if-canonicalize.false (plain_copied c.copy_value-2.result (view c.args.self.now.arena.now).words (view c.clear.new.arena).words (view c.copy_value-2.new.arena).words c.args.self.now.segment c.args.self.now.at
-    (λ (t : Tree). Reads plain (reading g.B.ReaderArena c.args.from) c.args.lim.now c.copy_value-2.new.lim t) c.clear.ensures.cleared c.copy_value-2.ensures.copied)
+    ok_so c.copy_value-2.result _ _ c.copy_value-2.ensures.copied (λ x made. (made.0, made.1, λ u stored. replaced_again _ _ _ _ _ u _ _ (c.clear.ensures.cleared u stored) made.2))
+
+pub returns-clause-refused : goal.returns-clause-refused
+returns-clause-refused g c =
+    let old : View = g.A.BuilderArena.view c.args.self.now.arena.now in
+    let mid : View = g.A.BuilderArena.view c.clear.new.arena in
+    err_so c.copy_value-2.result _ _ c.copy_value-2.ensures.refused
+    (λ k stop. elim stop [
+      | inl x ↦ inl (
+        x.0,
+        words_refused_later old mid (g.A.BuilderArena.view c.copy_value-2.new.arena) x.0 k c.clear.ensures.limits x.1,
+        x.2,
+        λ canonical. beyond_before (reading g.B.ReaderArena c.args.from) old mid c.args.self.now.segment c.clear.ensures.limits c.clear.ensures.only (x.3 canonical),
+      )
+      | inr x ↦ inr x
+    ])
+
+pub returns-clause-there : goal.returns-clause-there
+returns-clause-there g c =
+    let long = c.clear.ensures.only.words c.args.self.now.segment in
+    still_there c.copy_value-2.result _ _ _ _ _ _ c.copy_value-2.ensures.copied c.copy_value-2.ensures.cleared (omega (arith, long, c.requires.place))

@@ -1,14 +1,8 @@
-use Rattle.std.proofs.Common.{inl, inr, subst}
-use Rattle.capnp_arena.specs.View.{View, KeepsLimits}
-use Rattle.capnp_words.specs.declared.error.ErrorKind.{ErrorKind}
-use Rattle.capnp_making.specs.Memory.{RefusesGrowth}
+use Rattle.std.proofs.Common.{inl, inr}
 use Rattle.capnp_making.proofs.Replaced.{replaced_again}
 use Rattle.capnp_copies.proofs.FlatRead.{ok_so, err_so}
+use Rattle.capnp_builders.proofs.CopiesHeld.{refused_later}
 use Rattle.capnp_builders.proofs.builders.PointerBuilder.set_list.Goals as goal
-
--- what refuses growth once the place is cleared refused it before
-refused_later : (a b c : View) (k : ErrorKind) → KeepsLimits a b → RefusesGrowth b c k → RefusesGrowth a c k
-refused_later a b c k limits x = subst (λ (v : View). RefusesGrowth v c k) limits x
 
 -- What the pointer held becomes zero, and then the list is copied to the null pointer.
 pub returns-clause-copied : goal.returns-clause-copied

@@ -1,16 +1,27 @@
-use Rattle.std.proofs.Common.{rules, ◌≡◌, ◌∙◌, ◌∷◌, [], ap, IsTrue, true}
-use Rattle.std.proofs.lemmas.Result.{IfErr-weaker}
-use Rattle.capnp_builders.specs.Building.{Building, built}
-use Rattle.capnp_layout.proofs.CanonLemmas.{IsFresh, refused_copy, null_root}
+use Rattle.std.proofs.Common.{rules, ◌≡◌, ◌⊎◌, length, subst, IsTrue, true, IfOk, OnOk}
+use Rattle.capnp_format.specs.Tree.{Tree}
+use Rattle.capnp_copies.specs.Rooms.{IsTooLarge}
+use Rattle.capnp_readers.specs.Readers.{reading}
+use Rattle.capnp_builders.specs.Building.{built}
+use Rattle.capnp_layout.specs.Answers.{IsWithin, IsMadeWhereAlone}
+use Rattle.capnp_layout.proofs.CanonLemmas.{fresh_root, null_root, only_null, made_copy, spread_copy}
 use Rattle.capnp_layout.proofs.tool.canon.copy_root.Goals as goal
 
-pub returns-clause-refused : goal.returns-clause-refused
-returns-clause-refused g c =
-    let old : Building = built g.A.BuilderArena.view c.get_root-root.result in
-    let root : old.segments ≡ (0 ∷ []) ∷ [] = ap (λ (a : g.row.A.Denot). (g.A.BuilderArena.view a).words) c.get_root-root.ensures.now ∙ c.requires.root in
+pub returns-clause-copied : goal.returns-clause-copied
+returns-clause-copied g c =
+    let view = g.A.BuilderArena.view in
+    let r = reading g.B.ReaderArena c.args.from in
     let canonical : IsTrue true = search rules in
-    let room : old.room ≡ (g.A.BuilderArena.view c.args.arena.now).room 0 =
-    ap (λ (a : g.row.A.Denot). (g.A.BuilderArena.view a).room c.get_root-root.result.segment) c.get_root-root.ensures.now ∙ ap (g.A.BuilderArena.view c.args.arena.now).room c.get_root-root.ensures.place.0 in
-    let place : IsFresh old _ = record { null = root; first = c.get_root-root.ensures.place.0; holds = room } in
-    IfErr-weaker c.copy_from.result _ _ (λ k. refused_copy (built g.A.BuilderArena.view c.copy_from.new.self) place c.new-lim.ensures)
-    (c.copy_from.ensures.refused canonical (null_root _ _ _ root c.get_root-root.ensures.place.0 c.get_root-root.ensures.place.1))
+    let fresh = fresh_root view c.get_root-root.result c.args.arena.now c.get_root-root.ensures.now c.get_root-root.ensures.place.0 c.requires.root in
+    let made = made_copy r c.args.left _ _ _ (view c.copy_from.new.self.arena.now) c.copy_from.result fresh c.new-lim.ensures (c.copy_from.ensures.fresh canonical (only_null fresh)) in
+    subst (λ (a : g.row.A.Denot). IfOk c.copy_from.result (λ _. (t : Tree) × IsWithin r c.args.left t × IsMadeWhereAlone (view a) t)) (search rules) made
+
+pub returns-clause-alone : goal.returns-clause-alone
+returns-clause-alone g c =
+    let view = g.A.BuilderArena.view in
+    let r = reading g.B.ReaderArena c.args.from in
+    let canonical : IsTrue true = search rules in
+    let fresh = fresh_root view c.get_root-root.result c.args.arena.now c.get_root-root.ensures.now c.get_root-root.ensures.place.0 c.requires.root in
+    let spread =
+    spread_copy r _ _ _ (built view c.copy_from.new.self) c.copy_from.result fresh (c.copy_from.ensures.fresh canonical (only_null fresh)) (c.copy_from.ensures.canonical canonical (null_root fresh c.get_root-root.ensures.place.1)) in
+    subst (λ (a : g.row.A.Denot). OnOk c.copy_from.result ((length (view a).words ≡ 1) ⊎ IsTooLarge r 1 ((view c.args.arena.now).room 0))) (search rules) spread

@@ -1,5 +1,6 @@
-use Rattle.capnp_layout.proofs.CanonLemmas.{moved_try}
+use Rattle.std.proofs.Common.{◌≤◌, ℕ, sym, subst}
 use Rattle.capnp_layout.proofs.tool.canon.copy_to_message.Goals as goal
 
-pub returns-in-Err-clause-refused : goal.returns-in-Err-clause-refused
-returns-in-Err-clause-refused g c = moved_try c.new-made.ensures.refusals c.into_allocator.ensures.refusals c.in-Err.ensures.refused
+pub copy_to_segment-copied-requires-clause-room : goal.copy_to_segment-copied-requires-clause-room
+copy_to_segment-copied-requires-clause-room g c =
+    subst (λ (rooms : ℕ → ℕ). c.args.room ≤ rooms 0) (sym c.without_allocator-segments.ensures.room) c.in_ok-made.ensures.room

@@ -1,0 +1,87 @@
+use Rattle.std.proofs.Common.{◌≡◌, ◌*◌, ◌%◌, ◌^◌, ◌≤◌, ℕ, List, length, replicate, cond, sym, ap, ap₂, ◌∙◌, subst, arith, ne_eqb, pow_pos}
+use Rattle.capnp_format.specs.Bytes.{words_of}
+use Rattle.std.proofs.lemmas.Bool.{false≢true}
+use Rattle.capnp_format.specs.Numbers.{unpacked, packed, words_for, from_digits, digits, element_bits}
+use Rattle.capnp_format.specs.Segments.{Segments, segment}
+use Rattle.capnp_format.specs.Tree.{Null, Pointers, Flat}
+use Rattle.capnp_format.proofs.Bounds.{digits_below}
+use Rattle.capnp_format.proofs.Digits.{length-digits}
+use Rattle.capnp_arena.specs.View.{View}
+use Rattle.capnp_arena.specs.Written.{with_words}
+use Rattle.capnp_making.specs.Made.{zeros, nulls, list_words, LieFrom}
+use Rattle.capnp_making.specs.Memory.{RefusesWords}
+use Rattle.capnp_making.specs.Stored.{IsReplaced}
+use Rattle.capnp_making.proofs.FillingMade.{IsBegun, flat_whole}
+use Rattle.capnp_making.proofs.Memory.{words_in, made_refused}
+use Rattle.capnp_making.proofs.WordsPut.{words_put}
+use Rattle.capnp_pointers.specs.Sizes.{size_number}
+use Rattle.capnp_format.specs.Word.{list_word}
+use Rattle.capnp_making.specs.Near.{HasOwnRoom, offset_behind, with_object}
+use Rattle.capnp_copies.proofs.StayingNear.{stay_fewer, own_room}
+use Rattle.capnp_copies.proofs.TightFlat.{flat_near}
+use Rattle.capnp_copies.proofs.Padding.{packed_again}
+use Rattle.capnp_copies.proofs.copy.flat.copy_flat.Goals as goal
+
+-- The list is made, all zero, and its elements are written.
+pub returns-in-Ok-clause-copied : goal.returns-in-Ok-clause-copied
+returns-in-Ok-clause-copied g c =
+    let S : Segments = (g.A.BuilderArena.view c.args.arena.now).words in
+    let M : Segments = (g.A.BuilderArena.view c.make_list.new.arena).words in
+    let R : Segments = (g.A.BuilderArena.view c.put_elements.new.arena).words in
+    let size : ℕ = size_number c.args.size in
+    let n : ℕ = c.args.count in
+    let b : ℕ = element_bits size in
+    let ws : List ℕ = words_of c.args.elements.now in
+    let ns : List ℕ = unpacked size n ws in
+    let bits : ℕ = c.from.result * c.from-in-Ok.result in
+    let f : ℕ = from_digits (2 ^ 64) ws in
+    let all : bits ≡ n * b = ap₂ (λ i j. i * j) c.from.ensures (c.from-in-Ok.ensures ∙ c.data_bits_per_element.ensures) in
+    let packs : digits (2 ^ 64) (length ws) (f % 2 ^ bits) ≡ packed size ns = ap₂ (λ i j. digits (2 ^ 64) i (f % 2 ^ j)) c.requires.all all ∙ sym (packed_again size n ws) in
+    let other = ne_eqb size 6 (λ e. omega (arith, c.requires.flat)) in
+    let made = subst (λ x. IsReplaced S M c.args.id c.args.at Null (cond x (Pointers (nulls n)) (Flat size (zeros n)))) other c.in-Ok.ensures.made in
+    let inside = subst (λ x. LieFrom M (cond x n (words_for size n)) c.in-Ok.start) other c.in-Ok.ensures.inside in
+    let begun : IsBegun S M c.args.id c.args.at (words_for size n) c.in-Ok.start (Flat size (zeros n)) = record { made = made; start = c.in-Ok.ensures.start; inside = inside } in
+    flat_whole S M R c.args.id c.args.at size n c.in-Ok.start ns begun (length-digits (2 ^ b) n f) (digits_below (2 ^ b) n f (pow_pos b))
+    (ap words_in c.put_elements.ensures ∙ ap (with_words M c.in-Ok.start.segment c.in-Ok.start.at) packs)
+
+-- Where it fits the list is made near its pointer.
+pub returns-in-Ok-clause-tight : goal.returns-in-Ok-clause-tight
+returns-in-Ok-clause-tight g c = λ fits.
+    (let S : Segments = (g.A.BuilderArena.view c.args.arena.now).words in
+    let id : ℕ = c.args.id in
+    let size : ℕ = size_number c.args.size in
+    let n : ℕ = c.args.count in
+    let b : ℕ = element_bits size in
+    let ws : List ℕ = words_of c.args.elements.now in
+    let ns : List ℕ = unpacked size n ws in
+    let bits : ℕ = c.from.result * c.from-in-Ok.result in
+    let f : ℕ = from_digits (2 ^ 64) ws in
+    let D : List ℕ = digits (2 ^ 64) (length ws) (f % 2 ^ bits) in
+    let all : bits ≡ n * b = ap₂ (λ i j. i * j) c.from.ensures (c.from-in-Ok.ensures ∙ c.data_bits_per_element.ensures) in
+    let packs : D ≡ packed size ns = ap₂ (λ i j. digits (2 ^ 64) i (f % 2 ^ j)) c.requires.all all ∙ sym (packed_again size n ws) in
+    let counts : length ns ≡ n = length-digits (2 ^ b) n f in
+    let other = ne_eqb size 6 (λ e. omega (arith, c.requires.flat)) in
+    let list : list_words size n ≡ words_for size n = ap (λ x. cond x n (words_for size n)) other in
+    let old : View = g.A.BuilderArena.view c.args.arena.now in
+    let mid : View = g.A.BuilderArena.view c.make_list.new.arena in
+    let new : View = g.A.BuilderArena.view c.put_elements.new.arena in
+    let laid = words_put mid.words new.words c.in-Ok.start.segment c.in-Ok.start.at D (omega (arith, c.in-Ok.ensures.inside.1, length-digits (2 ^ 64) (length ws) (f % 2 ^ bits), c.requires.all, list)) (ap words_in c.put_elements.ensures) in
+    let longer : length mid.words ≤ length new.words = omega (arith, laid.long.segments) in
+    let room : HasOwnRoom old id (list_words size n) =
+    own_room old mid new id c.args.at (list_words size n) c.requires.place c.in-Ok.ensures.taken longer (stay_fewer old new id (words_for size (length ns)) (list_words size n) (omega (arith, ap (words_for size) counts, list)) fits) in
+    flat_near S id c.args.at size ns D c.requires.place (length-digits (2 ^ 64) (length ws) (f % 2 ^ bits) ∙ c.requires.all ∙ ap (words_for size) (sym counts)) packs
+    (ap words_in c.put_elements.ensures
+    ∙ ap₂ (λ i k. with_words (g.A.BuilderArena.view c.make_list.new.arena).words i k D) (c.in-Ok.ensures.at_end room).0 (c.in-Ok.ensures.at_end room).1
+    ∙ ap (λ T. with_words T id (length (segment S id)) D)
+    (c.in-Ok.ensures.near room ∙ ap₂ (λ i k. with_object S id c.args.at (list_word (offset_behind S id c.args.at) size i) (replicate k 0)) (sym counts) (list ∙ ap (words_for size) (sym counts)))))
+
+pub returns-in-Err-clause-refused : goal.returns-in-Err-clause-refused
+returns-in-Err-clause-refused g c =
+    let old : View = g.A.BuilderArena.view c.args.arena.now in
+    let new : View = g.A.BuilderArena.view c.make_list.new.arena in
+    let size : ℕ = size_number c.args.size in
+    let n : ℕ = c.args.count in
+    let other = ne_eqb size 6 (λ e. omega (arith, c.requires.flat)) in
+    let list : list_words size n ≡ words_for size n = ap (λ x. cond x n (words_for size n)) other in
+    subst (λ i. RefusesWords old new i c.in-Err.k) list
+    (made_refused old new c.args.id (list_words size n) c.in-Err.k c.in-Err.ensures.named c.in-Err.ensures.refused (λ room. absurd (false≢true (c.in-Err.ensures.fits room)))).0

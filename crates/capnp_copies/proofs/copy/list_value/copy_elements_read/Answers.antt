@@ -1,0 +1,44 @@
+use Rattle.std.proofs.Common.{ℕ, ◌+◌, ◌≤◌, refl, rules, arith}
+use Rattle.capnp_format.specs.Bytes.{words_of}
+use Rattle.capnp_format.specs.Numbers.{words_for, unpacked}
+use Rattle.capnp_format.specs.Tree.{Flat}
+use Rattle.capnp_objects.specs.Source.{source_segments}
+use Rattle.capnp_pointers.specs.Sizes.{size_number}
+use Rattle.capnp_copies.specs.Changes.{Change, change}
+use Rattle.capnp_copies.specs.ListValues.{ListElements, FitsListPointer, elements_read}
+use Rattle.capnp_copies.proofs.FilledValues.{FlatOutcome}
+use Rattle.capnp_copies.proofs.FlatRead.{flat_words}
+use Rattle.capnp_copies.proofs.ListValues.{too_long, number_size, few_numbers, numbers_held, numbers_copied, numbers_stop}
+use Rattle.capnp_copies.proofs.copy.list_value.copy_elements_read.Goals as goal
+
+-- A list that is too long.
+pub returns-then-not-fits_list_pointer-clause-refused : goal.returns-then-not-fits_list_pointer-clause-refused
+returns-then-not-fits_list_pointer-clause-refused g c = too_long c.requires.place c.requires.null (λ fits. (let e = c.fits_list_pointer.ensures.1 fits in cc (e, c.if-not-fits_list_pointer.true)))
+
+-- A list of numbers.
+
+pub copy_flat-requires : goal.copy_flat-requires
+copy_flat-requires g c =
+    let value = c.args.value in
+    let width : ℕ = value.struct_size.data_words + value.struct_size.pointers in
+    let flat : size_number value.element_size ≤ 5 = number_size value.element_size c.in_default.not-Pointer c.in_default.not-InlineComposite in
+    let fits : FitsListPointer value.element_size value.count width = c.fits_list_pointer.ensures.0 (search rules) in
+    let held = numbers_held (source_segments g.B.ReaderArena.segments value.source) value.start value.element_size value.count width value.content.now flat value.held value.content_is value.inside in
+    record { place = c.requires.place; flat = flat; few = few_numbers value.element_size value.count width flat fits; whole = held.whole; all = held.counts }
+
+pub returns-in_default : goal.returns-in_default
+returns-in_default g c =
+    let value = c.args.value in
+    let size : ℕ = size_number value.element_size in
+    let width : ℕ = value.struct_size.data_words + value.struct_size.pointers in
+    let flat : size ≤ 5 = number_size value.element_size c.in_default.not-Pointer c.in_default.not-InlineComposite in
+    let held = numbers_held (source_segments g.B.ReaderArena.segments value.source) value.start value.element_size value.count width value.content.now flat value.held value.content_is value.inside in
+    let outcome : FlatOutcome c.copy_flat.result c.args.id c.args.at (words_for size value.count) (g.A.BuilderArena.view c.args.arena.now) (g.A.BuilderArena.view c.copy_flat.new.arena) (Flat size (unpacked size value.count (words_of value.content.now))) =
+    record { copied = c.copy_flat.ensures.copied; granted = c.copy_flat.ensures.granted; refused = c.copy_flat.ensures.refused; kept = c.copy_flat.ensures.kept; memory = c.copy_flat.ensures.memory; tight = c.copy_flat.ensures.tight; fits = λ room. c.copy_flat.ensures.fits (omega (arith, room, flat_words size value.count (words_of value.content.now))) } in
+    let call : Change = change c.args.canonicalize c.args.id c.args.at (g.A.BuilderArena.view c.args.arena.now) (g.A.BuilderArena.view c.copy_flat.new.arena) c.args.lim.now c.args.lim.now in
+    let list : ListElements = elements_read g.B.ReaderArena value in
+    record {
+      long = λ long. absurd (long (c.fits_list_pointer.ensures.0 (search rules)));
+      copied = numbers_copied list call value.content.now c.copy_flat.result flat held.stand refl outcome;
+      refused = numbers_stop list call (words_for size value.count) (Flat size (unpacked size value.count (words_of value.content.now))) c.copy_flat.result c.requires.place c.requires.null refl outcome;
+    }

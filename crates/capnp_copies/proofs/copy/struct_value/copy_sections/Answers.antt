@@ -1,0 +1,94 @@
+use Rattle.std.proofs.Common.{inl, inr, ◌+◌, refl, arith, rules}
+use Rattle.std.proofs.lemmas.Int.{to_z-of_z}
+use Rattle.std.proofs.lemmas.Bool.{false≢true}
+use mir.Syntax.{w32}
+use Rattle.capnp_readers.specs.Sizes.{pointers_read}
+use Rattle.capnp_copies.specs.StructValues.{data_of}
+use Rattle.capnp_copies.proofs.DataSections.{kept_count-le}
+use Rattle.capnp_copies.proofs.FilledObjects.{nothing_made, nothing_left}
+use Rattle.capnp_copies.proofs.FilledSections.{SectionsBegun, sections_null, sections_inside, sections_copied, sections_stop}
+use Rattle.capnp_copies.proofs.FlatRead.{ok_so, err_so}
+use Rattle.capnp_making.proofs.Memory.{keeps_itself, spends_nothing}
+use Rattle.capnp_format.specs.Tree.{Null}
+use Rattle.capnp_copies.proofs.copy.struct_value.copy_sections.Goals as goal
+
+-- A struct of more data words than a struct can have, and one that the arena refuses.
+
+pub returns-in-Err-clause-refused : goal.returns-in-Err-clause-refused
+returns-in-Err-clause-refused g c =
+    let v = g.A.BuilderArena.view c.args.arena.now in
+    record {
+      why = inr (inr c.in-Err.ensures.wide);
+      off = inl refl;
+      left = ((Null, nothing_left v.words v.words c.args.id c.args.at c.requires.place c.requires.null refl), spends_nothing v v (keeps_itself v));
+    }
+
+pub returns-in-Err-make_struct-clause-refused : goal.returns-in-Err-make_struct-clause-refused
+returns-in-Err-make_struct-clause-refused g c =
+    let least = c.in-Ok.kept in
+    let none = nothing_made c.args.canonicalize c.args.id c.args.at (least.data_words + least.pointers) (g.A.BuilderArena.view c.args.arena.now) (g.A.BuilderArena.view c.make_struct.new.arena) c.args.lim.now c.args.lim.now c.in-Err-make_struct.k c.requires.place c.requires.null
+    c.in-Err-make_struct.ensures.named c.in-Err-make_struct.ensures.refused (λ room. absurd (false≢true (c.in-Err-make_struct.ensures.fits room))) in
+    record { why = inl (least.data_words + least.pointers, none.0); off = inl refl; left = none.1 }
+
+-- The struct is made, and its data words are written.
+
+pub put_section-requires-clause-few : goal.put_section-requires-clause-few
+put_section-requires-clause-few g c = omega (arith, c.in-Ok.ensures.data, kept_count-le c.args.canonicalize (data_of g.B.ReaderArena c.args.value))
+
+pub overflow_add-first : goal.overflow_add-first
+overflow_add-first g c =
+    omega (arith, c.from.ensures, c.in-Ok-make_struct.ensures.inside.1, g.met.A.BuilderArena.within c.make_struct.new.arena c.in-Ok-make_struct.start.segment, g.met.A.BuilderArena.small c.make_struct.new.arena c.in-Ok-make_struct.start.segment)
+
+pub copy_children-requires-clause-null : goal.copy_children-requires-clause-null
+copy_children-requires-clause-null g c =
+    let begun : SectionsBegun c.args.canonicalize (data_of g.B.ReaderArena c.args.value) (pointers_read g.B.ReaderArena c.args.value) c.args.value.pointer_count c.in-Ok.kept c.args.id c.args.at (g.A.BuilderArena.view c.args.arena.now) (g.A.BuilderArena.view c.make_struct.new.arena)
+    (g.A.BuilderArena.view c.put_section.new.arena) c.in-Ok-make_struct.start = record {
+      inside = c.args.value.inside;
+      of_data = c.in-Ok.ensures.data;
+      of_pointers = c.in-Ok.ensures.pointers;
+      begun = record { made = c.in-Ok-make_struct.ensures.made; start = c.in-Ok-make_struct.ensures.start; inside = c.in-Ok-make_struct.ensures.inside };
+      memory = c.in-Ok-make_struct.ensures.granted;
+      writes = c.put_section.ensures;
+    } in
+    rw (c.from.ensures, c.from-pointers.ensures) (sections_null begun)
+
+pub copy_children-requires-clause-inside : goal.copy_children-requires-clause-inside
+copy_children-requires-clause-inside g c =
+    let begun : SectionsBegun c.args.canonicalize (data_of g.B.ReaderArena c.args.value) (pointers_read g.B.ReaderArena c.args.value) c.args.value.pointer_count c.in-Ok.kept c.args.id c.args.at (g.A.BuilderArena.view c.args.arena.now) (g.A.BuilderArena.view c.make_struct.new.arena)
+    (g.A.BuilderArena.view c.put_section.new.arena) c.in-Ok-make_struct.start = record {
+      inside = c.args.value.inside;
+      of_data = c.in-Ok.ensures.data;
+      of_pointers = c.in-Ok.ensures.pointers;
+      begun = record { made = c.in-Ok-make_struct.ensures.made; start = c.in-Ok-make_struct.ensures.start; inside = c.in-Ok-make_struct.ensures.inside };
+      memory = c.in-Ok-make_struct.ensures.granted;
+      writes = c.put_section.ensures;
+    } in
+    rw c.from-pointers.ensures (sections_inside begun)
+
+pub returns-clause-copied : goal.returns-clause-copied
+returns-clause-copied g c =
+    let nl = to_z-of_z w32 c.args.value.nesting_limit (search rules) in
+    let begun : SectionsBegun c.args.canonicalize (data_of g.B.ReaderArena c.args.value) (pointers_read g.B.ReaderArena c.args.value) c.args.value.pointer_count c.in-Ok.kept c.args.id c.args.at (g.A.BuilderArena.view c.args.arena.now) (g.A.BuilderArena.view c.make_struct.new.arena)
+    (g.A.BuilderArena.view c.put_section.new.arena) c.in-Ok-make_struct.start = record {
+      inside = c.args.value.inside;
+      of_data = c.in-Ok.ensures.data;
+      of_pointers = c.in-Ok.ensures.pointers;
+      begun = record { made = c.in-Ok-make_struct.ensures.made; start = c.in-Ok-make_struct.ensures.start; inside = c.in-Ok-make_struct.ensures.inside };
+      memory = c.in-Ok-make_struct.ensures.granted;
+      writes = c.put_section.ensures;
+    } in
+    ok_so c.copy_children.result _ _ c.copy_children.ensures.copied (λ x made. sections_copied begun (rw (c.from.ensures, c.from-pointers.ensures, nl) at made))
+
+pub returns-clause-refused : goal.returns-clause-refused
+returns-clause-refused g c =
+    let nl = to_z-of_z w32 c.args.value.nesting_limit (search rules) in
+    let begun : SectionsBegun c.args.canonicalize (data_of g.B.ReaderArena c.args.value) (pointers_read g.B.ReaderArena c.args.value) c.args.value.pointer_count c.in-Ok.kept c.args.id c.args.at (g.A.BuilderArena.view c.args.arena.now) (g.A.BuilderArena.view c.make_struct.new.arena)
+    (g.A.BuilderArena.view c.put_section.new.arena) c.in-Ok-make_struct.start = record {
+      inside = c.args.value.inside;
+      of_data = c.in-Ok.ensures.data;
+      of_pointers = c.in-Ok.ensures.pointers;
+      begun = record { made = c.in-Ok-make_struct.ensures.made; start = c.in-Ok-make_struct.ensures.start; inside = c.in-Ok-make_struct.ensures.inside };
+      memory = c.in-Ok-make_struct.ensures.granted;
+      writes = c.put_section.ensures;
+    } in
+    err_so c.copy_children.result _ _ c.copy_children.ensures.refused (λ k stop. sections_stop begun (rw (c.from.ensures, c.from-pointers.ensures, nl) at stop))

@@ -1,0 +1,76 @@
+//! The copy of a list of numbers: its words, with padding of zero ("Lists", "Canonicalization").
+ghost use Rattle.std.specs.Prelude.{◌≡◌, ◌+◌, ◌*◌, ◌/◌, ◌<◌, ◌≤◌, ◌^◌, length, IsOk, OnOk, OnErr, IfErr};
+ghost use Rattle.capnp_format.specs.Bytes.{words_of};
+ghost use Rattle.capnp_format.specs.Numbers.{words_for, unpacked};
+ghost use Rattle.capnp_format.specs.Segments.{segment, IsPlace};
+ghost use Rattle.capnp_arena.specs.Written.{with_words};
+ghost use Rattle.capnp_copies.specs.Copied.{low_bits};
+ghost use Rattle.capnp_format.specs.Tree.{Null, Flat};
+ghost use Rattle.capnp_making.specs.Memory.{KeepsMemory, SpendsMemory, RefusesWords};
+ghost use Rattle.capnp_making.specs.Near.{HasOwnRoom};
+ghost use Rattle.capnp_making.specs.Stored.{IsReplaced};
+ghost use Rattle.capnp_pointers.specs.Sizes.{size_number};
+ghost use Rattle.capnp_copies.specs.Changes.{IsCopiedInRoom};
+
+use capnp_arena::arena::BuilderArena;
+use capnp_making::making::make_list;
+use capnp_words::error::ErrorKind;
+use capnp_words::wire_pointer::{ElementSize, data_bits_per_element};
+use capnp_words::words;
+
+/// Copies so many elements, of which these are the words, and sets the pointer at a place to them.
+/// Where the arena refuses it, no word changes.
+pub(crate) fn copy_flat<A: BuilderArena>(
+    arena: &mut A,
+    id: u32,
+    at: u32,
+    size: ElementSize,
+    count: u32,
+    elements: &[u8],
+) -> Result<(), ErrorKind>
+    requires place { IsPlace (A.view arena.old).words id at }
+    requires flat { size_number size ≤ 5 }
+    requires few { count < 2 ^ 29 }
+    requires whole { length elements.now ≡ 8 * length (words_of elements.now) }
+    requires all { length (words_of elements.now) ≡ words_for (size_number size) count }
+    ensures copied { OnOk result (IsReplaced (A.view arena.old).words (A.view arena.new).words id at Null (Flat (size_number size) (unpacked (size_number size) count (words_of elements.now)))) }
+    ensures tight { OnOk result (IsCopiedInRoom (A.view arena.old) (A.view arena.new) id at (Flat (size_number size) (unpacked (size_number size) count (words_of elements.now)))) }
+    ensures fits { HasOwnRoom (A.view arena.old) id (words_for (size_number size) count) → IsOk result }
+    ensures granted { OnOk result (KeepsMemory (A.view arena.old) (A.view arena.new)) }
+    ensures refused { IfErr result (RefusesWords (A.view arena.old) (A.view arena.new) (words_for (size_number size) count)) }
+    ensures kept { OnErr result ((A.view arena.new).words ≡ (A.view arena.old).words) }
+    ensures memory { OnErr result (SpendsMemory (A.view arena.old) (A.view arena.new)) }
+{
+    match make_list(arena, id, at, size, count) {
+        Ok(start) => {
+            let bits = u64::from(count) * u64::from(data_bits_per_element(size));
+            put_elements(arena, start.segment, start.at, elements, bits);
+            Ok(())
+        }
+        Err(k) => Err(k),
+    }
+}
+
+/// Writes elements of so many bits together over words of a segment, with padding of zero.
+fn put_elements<A: BuilderArena>(arena: &mut A, id: u32, start: u32, elements: &[u8], bits: u64)
+    requires whole { length elements.now ≡ 8 * length (words_of elements.now) }
+    requires inside { start + length (words_of elements.now) ≤ length (segment (A.view arena.old).words id) }
+    requires all { (bits + 63) / 64 ≡ length (words_of elements.now) }
+    ensures { A.view arena.new ≡ record (A.view arena.old) { words = with_words (A.view arena.old).words id start (low_bits (words_of elements.now) bits) } }
+{
+    arena.copy_words(id, start, elements);
+    let used = bits % 64;
+    if used != 0 {
+        let last = words::count(elements) - 1;
+        let word = words::word_at(elements, last);
+        arena.set_word(id, start + last as u32, word & ((1 << used) - 1));
+    }
+}
+
+/// How many words so many elements take.
+pub(crate) fn flat_words(size: ElementSize, count: u32) -> u32
+    requires { count < 2 ^ 29 }
+    ensures { result ≡ words_for (size_number size) count }
+{
+    ((u64::from(count) * u64::from(data_bits_per_element(size)) + 63) / 64) as u32
+}
