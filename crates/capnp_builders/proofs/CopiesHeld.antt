@@ -6,7 +6,7 @@ use Rattle.capnp_format.specs.Segments.{Segments, segment, word_at, IsPlace}
 use Rattle.capnp_format.specs.Tree.{Tree, Null}
 use Rattle.capnp_format.proofs.Levels.{one_value}
 use Rattle.capnp_arena.specs.View.{View, KeepsLimits}
-use Rattle.capnp_making.specs.Memory.{RefusesWords, RefusesGrowth}
+use Rattle.capnp_making.specs.Memory.{RefusesWords}
 use Rattle.capnp_making.specs.Stored.{IsReplaced, Puts}
 use Rattle.capnp_making.specs.Zeroed.{IsPruned}
 use Rattle.capnp_making.proofs.FillingMade.{null_stored}
@@ -45,9 +45,6 @@ still_there (Err k) S R s p P f copied made place = omega (arith, made.words s, 
 
 pub words_refused_later : (a b c : View) (n : ℕ) (k : ErrorKind) → KeepsLimits a b → RefusesWords b c n k → RefusesWords a c n k
 words_refused_later a b c n k limits x = subst (λ (v : View). RefusesWords v c n k) limits x
-
-pub refused_later : (a b c : View) (k : ErrorKind) → KeepsLimits a b → RefusesGrowth b c k → RefusesGrowth a c k
-refused_later a b c k limits (n, x) = (n, words_refused_later a b c n k limits x)
 
 pub beyond_before : (r : Reading) (a b : View) (s : ℕ) → KeepsLimits a b → IsPruned a.words b.words → IsTooLarge r (length (segment b.words s)) (b.room s) → IsTooLarge r (length (segment a.words s)) (a.room s)
 beyond_before r a b s limits pruned large =

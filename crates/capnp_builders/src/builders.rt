@@ -14,7 +14,7 @@ ghost use Rattle.capnp_builders.specs.Found.{place_of, void_list, in_place_of_nu
 ghost use Rattle.capnp_words.specs.declared.error.ErrorKind.{ErrorKind};
 ghost use Rattle.capnp_pointers.specs.Sizes.{size_number};
 ghost use Rattle.capnp_making.specs.Made.{zero_struct, zero_structs, zero_list, list_words};
-ghost use Rattle.capnp_making.specs.Memory.{HasRoom, KeepsMemory, TakesWords, SpendsMemory, IsRefusedFor, RefusesGrowth, CanRefuse};
+ghost use Rattle.capnp_making.specs.Memory.{HasRoom, KeepsMemory, TakesWords, SpendsMemory, IsRefusedFor, CanRefuse};
 ghost use Rattle.capnp_making.specs.Zeroed.{IsPruned};
 ghost use Rattle.capnp_builders.specs.Places.{IsAligned, IsStructOf, IsListOf, IsStructListOf};
 ghost use Rattle.capnp_words.specs.declared.error.ErrorKind.TheVariants.{MessageTooLarge, UnknownPointerType};
@@ -23,8 +23,8 @@ ghost use Rattle.capnp_objects.specs.Outcomes.{Reads, ReadsAll};
 ghost use Rattle.capnp_objects.specs.Refusals.{BreaksOff, BreaksOffAmong, Refused, RefusedAll};
 ghost use Rattle.capnp_objects.specs.Wanted.{canonical, plain};
 ghost use Rattle.capnp_copies.specs.Changes.{form_of, kept, change, FindsNoRoom};
-ghost use Rattle.capnp_copies.specs.ListValues.{ReadsList, RefusedList, BreaksOffList, IsTooLong, elements_read};
-ghost use Rattle.capnp_copies.specs.StructValues.{IsTooWide, kept_count, data_of};
+ghost use Rattle.capnp_copies.specs.ListValues.{LacksListRoom, ReadsList, RefusedList, BreaksOffList, IsTooLong, elements_read};
+ghost use Rattle.capnp_copies.specs.StructValues.{LacksSections, IsTooWide, kept_count, data_of};
 ghost use Rattle.capnp_readers.specs.Sizes.{pointers_read};
 ghost use Rattle.capnp_readers.specs.Readers.{reading};
 
@@ -666,7 +666,8 @@ impl<'a, A: BuilderArena> PointerBuilder<'a, A> {
         ensures copied { IfOk result (λ _. (ts : Trees) × (count ts ≡ value.now.pointer_count)
             × ReadsAll (form_of canonicalize) (pointers_read B.ReaderArena value.now) lim.old lim.new ts
             × Becomes (built A.view self.old) (built A.view self.new) (kept canonicalize (Struct (data_of B.ReaderArena value.now) ts))) }
-        ensures refused { IfErr result (λ k. RefusesGrowth (A.view self.old.arena.now) (A.view self.new.arena.now) k
+        ensures refused { IfErr result (λ k. LacksSections (data_of B.ReaderArena value.now) (pointers_read B.ReaderArena value.now) value.now.pointer_count
+            (change canonicalize self.old.segment self.old.at (A.view self.old.arena.now) (A.view self.new.arena.now) lim.old lim.new) k
             ⊎ RefusedAll (form_of canonicalize) (pointers_read B.ReaderArena value.now) value.now.pointer_count lim.old lim.new k
             ⊎ IsTooWide (kept_count canonicalize (data_of B.ReaderArena value.now)) k) }
         ensures spent { OnErr result ((lim.new ≡ lim.old) ⊎ BreaksOffAmong (form_of canonicalize) (pointers_read B.ReaderArena value.now) value.now.pointer_count lim.old lim.new) }
@@ -709,7 +710,8 @@ impl<'a, A: BuilderArena> PointerBuilder<'a, A> {
         requires place { IsThere (built A.view self.old) }
         ensures copied { IfOk result (λ _. (t : Tree) × ReadsList (form_of canonicalize) (elements_read B.ReaderArena value.now) lim.old lim.new t
             × Becomes (built A.view self.old) (built A.view self.new) (kept canonicalize t)) }
-        ensures refused { IfErr result (λ k. RefusesGrowth (A.view self.old.arena.now) (A.view self.new.arena.now) k
+        ensures refused { IfErr result (λ k. LacksListRoom (elements_read B.ReaderArena value.now)
+            (change canonicalize self.old.segment self.old.at (A.view self.old.arena.now) (A.view self.new.arena.now) lim.old lim.new) k
             ⊎ RefusedList (form_of canonicalize) (elements_read B.ReaderArena value.now) lim.old lim.new k
             ⊎ (IsTooLong (elements_read B.ReaderArena value.now) × (k ≡ MessageTooLarge (2 ^ 64 - 1)))) }
         ensures spent { OnErr result ((lim.new ≡ lim.old) ⊎ BreaksOffList (form_of canonicalize) (elements_read B.ReaderArena value.now) lim.old lim.new) }

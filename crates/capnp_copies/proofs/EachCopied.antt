@@ -10,10 +10,10 @@ use Rattle.capnp_making.specs.Memory.{KeepsMemory, SpendsMemory}
 use Rattle.capnp_making.specs.Stored.{IsReplaced}
 use Rattle.capnp_making.proofs.Memory.{keeps_then_spends, words_refused_after}
 use Rattle.capnp_objects.specs.Outcomes.{Reads}
-use Rattle.capnp_objects.specs.Refusals.{Refused, BreaksOff}
+use Rattle.capnp_objects.specs.Refusals.{Refused, StopsWithin, BreaksOff}
 use Rattle.capnp_objects.specs.Reading.{Reading, behind}
 use Rattle.capnp_objects.specs.Wanted.{plain}
-use Rattle.capnp_copies.specs.Changes.{change, LacksRoom, WantedAt, CopiesChildren}
+use Rattle.capnp_copies.specs.Changes.{change, LacksRoom, WantsWords, WantedAt, CopiesChildren}
 use Rattle.capnp_copies.specs.Rooms.{IsTooLarge}
 use Rattle.capnp_copies.specs.StructValues.{CopiesFirst}
 use Rattle.capnp_copies.proofs.FilledChildren.{children_grow, child_copied}
@@ -33,7 +33,7 @@ each_stops {r} {s} {p} {i} {n} {old} {mid} {new} {m} {m'} {m''} {k} less first w
   made = first.made;
   cleared = subst (λ j. IsReplaced mid.words new.words s (p + j) Null Null) (sym first.counts) cleared;
   why = elim why [
-    | inl x ↦ inl (x.0, words_refused_after old mid new x.0 k first.memory x.1)
+    | inl x ↦ inl (x.0, words_refused_after old mid new x.0 k first.memory x.1, subst (λ j. StopsWithin plain (WantsWords false x.0) (behind r j) m' m'') (sym first.counts) x.2)
     | inr x ↦ inr (subst (λ j. Refused plain (behind r j) m' m'' k) (sym first.counts) x)
   ];
   off = subst (λ j. BreaksOff plain (behind r j) m' m'') (sym first.counts) off;

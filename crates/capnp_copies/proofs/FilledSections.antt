@@ -105,7 +105,7 @@ module _ {b : Bool} {ws : List ℕ} {r : Reading} {q : ℕ} {least : StructSize}
   sections_stop {new} {m} {m'} {k} stop =
       record {
         why = elim stop.why [
-          | inl x ↦ inl (x.0, words_refused_after old mid new x.0 k keeps x.1)
+          | inl x ↦ inl (x.0, words_refused_after old mid new x.0 k keeps x.1, inr (stops_sooner fewer x.2))
           | inr x ↦ inr (inl (stops_sooner fewer x))
         ];
         off = inr (stops_sooner fewer stop.off);

@@ -18,7 +18,7 @@ use Rattle.capnp_objects.specs.Objects.{IsHeld}
 use Rattle.capnp_objects.specs.Reading.{words_from}
 use Rattle.capnp_objects.specs.declared.object.Place.{Place}
 use Rattle.capnp_readers.specs.Sections.{IsPart, HasRoom, list_words}
-use Rattle.capnp_copies.specs.Changes.{Change, change}
+use Rattle.capnp_copies.specs.Changes.{Change, change, StopsAtPointers, StopsAtStructs}
 use Rattle.capnp_copies.specs.ListValues.{ListElements, FitsListPointer, IsTooLong, CopiesList, StopsAtList}
 use Rattle.capnp_copies.proofs.FilledObjects.{nothing_left}
 use Rattle.capnp_copies.proofs.FilledValues.{FlatOutcome, kept_flat}
@@ -101,10 +101,32 @@ numbers_copied list c bytes (Ok x) flat stand free f =
     }
 numbers_copied list c bytes (Err k) flat stand free f = tt
 
-pub numbers_stop : (list : ListElements) (c : Change) (n : ℕ) (t : Tree) (result : Result (Unit {0}) ErrorKind) → IsPlace c.old.words c.segment c.at → word_at c.old.words c.segment c.at ≡ 0 → c.after ≡ c.before → FlatOutcome result c.segment c.at n c.old c.new t → IfErr result (StopsAtList list c)
-numbers_stop list c n t (Ok x) place null free f = tt
-numbers_stop list c n t (Err k) place null free f = record {
-  why = inl (n, f.refused);
+pub numbers_stop : (list : ListElements) (c : Change) (n : ℕ) (t : Tree) (result : Result (Unit {0}) ErrorKind) → size_number list.size ≤ 5 → n ≡ words_for (size_number list.size) list.count → IsPlace c.old.words c.segment c.at → word_at c.old.words c.segment c.at ≡ 0 → c.after ≡ c.before → FlatOutcome result c.segment c.at n c.old c.new t → IfErr result (StopsAtList list c)
+numbers_stop list c n t (Ok x) flat is place null free f = tt
+numbers_stop list c n t (Err k) flat is place null free f = record {
+  why = inl (n, f.refused, inl (free, inl (flat, is)));
   off = inl free;
   left = ((Null, nothing_left c.old.words c.new.words c.segment c.at place null f.kept), f.memory);
+}
+
+-- pointers, and structs
+
+pub pointers_list_stops : {list : ListElements} {c : Change} {k : ErrorKind} → list.size ≡ Pointer → StopsAtPointers list.first list.count c k → StopsAtList list c k
+pointers_list_stops is stop = record {
+  why = elim stop.why [
+    | inl x ↦ inl (x.0, x.1, elim x.2 [ inl y ↦ inl (y.0, inr (inl (is, y.1))) | inr y ↦ inr (inl (is, y)) ])
+    | inr x ↦ inr (inl (inl (is, x)))
+  ];
+  off = elim stop.off [ inl same ↦ inl same | inr y ↦ inr (inl (is, y)) ];
+  left = stop.left;
+}
+
+pub structs_list_stops : {list : ListElements} {c : Change} {k : ErrorKind} → list.size ≡ InlineComposite → StopsAtStructs list.first list.sections list.count c k → StopsAtList list c k
+structs_list_stops is stop = record {
+  why = elim stop.why [
+    | inl x ↦ inl (x.0, x.1, elim x.2 [ inl y ↦ inl (y.0, inr (inr (is, y.1, y.2, y.3))) | inr y ↦ inr (inr (is, y)) ])
+    | inr x ↦ inr (inl (inr (is, x)))
+  ];
+  off = elim stop.off [ inl same ↦ inl same | inr y ↦ inr (inr (is, y)) ];
+  left = stop.left;
 }

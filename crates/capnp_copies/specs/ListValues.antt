@@ -1,5 +1,5 @@
 -- The copy of a list that is read: its elements' words are at hand, and its first element is read at its place.
-use Rattle.std.specs.Prelude.{◌≡◌, ◌⊎◌, ℕ, ◌-◌, ◌*◌, ◌+◌, ◌^◌, ◌<◌, ◌≤◌}
+use Rattle.std.specs.Prelude.{◌≡◌, ◌⊎◌, ℕ, Bool, ◌-◌, ◌*◌, ◌+◌, ◌^◌, ◌<◌, ◌≤◌}
 use Rattle.capnp_words.specs.declared.error.ErrorKind.{ErrorKind}
 use Rattle.capnp_words.specs.declared.error.ErrorKind.TheVariants.{MessageTooLarge}
 use Rattle.capnp_words.specs.Meter.{Meter}
@@ -10,13 +10,13 @@ use Rattle.capnp_pointers.specs.Sizes.{size_number}
 use Rattle.capnp_format.specs.Numbers.{words_for, unpacked}
 use Rattle.capnp_format.specs.Tree.{Tree, Flat, Pointers, Structs, count, element_count}
 use Rattle.capnp_arena.specs.declared.arena.reader_arena.ReaderArena.{Ghosts}
-use Rattle.capnp_making.specs.Memory.{RefusesGrowth}
+use Rattle.capnp_making.specs.Memory.{RefusesWords}
 use Rattle.capnp_objects.specs.Outcomes.{ReadsAll, ReadsElements}
 use Rattle.capnp_objects.specs.Refusals.{RefusedAll, RefusedElements, BreaksOffAmong, BreaksOffAmongElements}
 use Rattle.capnp_objects.specs.Reading.{Reading, reading_at, words_from}
 use Rattle.capnp_objects.specs.Wanted.{Form}
 use Rattle.capnp_readers.specs.declared.readers.list_reader.ListReader.{ListReader}
-use Rattle.capnp_copies.specs.Changes.{Change, Puts, Leaves, form_of, kept}
+use Rattle.capnp_copies.specs.Changes.{Change, KeepsWidths, WantedAmong, WantedAmongElements, Puts, Leaves, form_of, kept}
 
 -- So many elements of a size, with these sections where they are structs, of which the first is read at a place.
 pub record ListElements : Type 0 where
@@ -55,6 +55,25 @@ BreaksOffList form list m m' =
     ((list.size ≡ Pointer) × BreaksOffAmong form list.first list.count m m')
     ⊎ ((list.size ≡ InlineComposite) × BreaksOffAmongElements form list.first list.sections list.count m m')
 
+-- So many words are made of the list itself: its elements, or its tag and theirs, cut to the sections that are kept.
+abbrev pub IsMadeOfList : Bool → ListElements → ℕ → Type 0
+IsMadeOfList canonicalize list n =
+    ((size_number list.size ≤ 5) × (n ≡ words_for (size_number list.size) list.count)) ⊎ ((list.size ≡ Pointer) × (n ≡ list.count))
+    ⊎ (
+    (list.size ≡ InlineComposite) × (least : StructSize) × KeepsWidths canonicalize list.first list.sections list.count least
+    × (n ≡ 1 + list.count * (least.data_words + least.pointers))
+    )
+
+-- n words are wanted for the list itself, or for an object that its elements lead to.
+abbrev pub WantedInList : ListElements → Change → ℕ → Type 0
+WantedInList list c n =
+    ((c.after ≡ c.before) × IsMadeOfList c.canonicalize list n) ⊎ ((list.size ≡ Pointer) × WantedAmong list.first list.count c n)
+    ⊎ ((list.size ≡ InlineComposite) × WantedAmongElements list.first list.sections list.count c n)
+
+-- The arena has no room for them, by the name k.
+abbrev pub LacksListRoom : ListElements → Change → ErrorKind → Type 0
+LacksListRoom list c k = (n : ℕ) × RefusesWords c.old c.new n k × WantedInList list c n
+
 -- The list is read and copied; or it is refused by the name k.
 pub record CopiesList (list : ListElements) (c : Change) : Type 0 where
   pub value : Tree
@@ -62,7 +81,7 @@ pub record CopiesList (list : ListElements) (c : Change) : Type 0 where
   pub made : Puts c (kept c.canonicalize value)
 
 pub record StopsAtList (list : ListElements) (c : Change) (k : ErrorKind) : Type 0 where
-  pub why : RefusesGrowth c.old c.new k ⊎ RefusedList (form_of c.canonicalize) list c.before c.after k ⊎ (IsTooLong list × (k ≡ MessageTooLarge (2 ^ 64 - 1)))
+  pub why : LacksListRoom list c k ⊎ RefusedList (form_of c.canonicalize) list c.before c.after k ⊎ (IsTooLong list × (k ≡ MessageTooLarge (2 ^ 64 - 1)))
   pub off : (c.after ≡ c.before) ⊎ BreaksOffList (form_of c.canonicalize) list c.before c.after
   pub left : Leaves c
 

@@ -8,17 +8,17 @@ use Rattle.capnp_format.specs.Numbers.{from_digits}
 use Rattle.capnp_format.specs.Segments.{Segments}
 use Rattle.capnp_format.specs.Tree.{Null, Struct, Trees, count}
 use Rattle.capnp_arena.specs.declared.arena.reader_arena.ReaderArena.{Ghosts}
-use Rattle.capnp_making.specs.Memory.{RefusesGrowth, SpendsMemory}
+use Rattle.capnp_making.specs.Memory.{RefusesWords, SpendsMemory}
 use Rattle.capnp_making.specs.Filled.{AreFilled}
 use Rattle.capnp_making.specs.Stored.{IsReplaced}
 use Rattle.capnp_words.specs.Meter.{Meter}
 use Rattle.capnp_objects.specs.Wanted.{plain}
 use Rattle.capnp_objects.specs.Outcomes.{ReadsAll}
-use Rattle.capnp_objects.specs.Refusals.{Refused, RefusedAll, BreaksOff, BreaksOffAmong}
+use Rattle.capnp_objects.specs.Refusals.{Refused, RefusedAll, StopsWithin, BreaksOff, BreaksOffAmong}
 use Rattle.capnp_objects.specs.Reading.{Reading, behind, words_from}
 use Rattle.capnp_readers.specs.Sizes.{pointers_read}
 use Rattle.capnp_readers.specs.declared.readers.struct_reader.StructReader.{StructReader}
-use Rattle.capnp_copies.specs.Changes.{Change, Puts, Leaves, form_of, kept}
+use Rattle.capnp_copies.specs.Changes.{Change, WantsWords, WantedAmong, Puts, Leaves, form_of, kept}
 
 -- The word of the first n bits of bytes, the lowest first, with zeros behind them; none where n is 0.
 abbrev pub bits_left : ℕ → List ℕ → List ℕ
@@ -49,8 +49,17 @@ pub record CopiesSections (ws : List ℕ) (r : Reading) (q : ℕ) (c : Change) :
   pub are_read : ReadsAll (form_of c.canonicalize) r c.before c.after children
   pub made : Puts c (kept c.canonicalize (Struct ws children))
 
+-- n words are wanted for the struct itself, of which both sections are cut, or for an object that one of its pointers leads to.
+abbrev pub WantedInSections : List ℕ → Reading → ℕ → Change → ℕ → Type 0
+WantedInSections ws r q c n =
+    ((c.after ≡ c.before) × (n ≡ kept_count c.canonicalize ws + kept_count c.canonicalize (words_from r q))) ⊎ WantedAmong r q c n
+
+-- The arena has no room for them, by the name k.
+abbrev pub LacksSections : List ℕ → Reading → ℕ → Change → ErrorKind → Type 0
+LacksSections ws r q c k = (n : ℕ) × RefusesWords c.old c.new n k × WantedInSections ws r q c n
+
 pub record StopsAtSections (ws : List ℕ) (r : Reading) (q : ℕ) (c : Change) (k : ErrorKind) : Type 0 where
-  pub why : RefusesGrowth c.old c.new k ⊎ RefusedAll (form_of c.canonicalize) r q c.before c.after k ⊎ IsTooWide (kept_count c.canonicalize ws) k
+  pub why : LacksSections ws r q c k ⊎ RefusedAll (form_of c.canonicalize) r q c.before c.after k ⊎ IsTooWide (kept_count c.canonicalize ws) k
   pub off : (c.after ≡ c.before) ⊎ BreaksOffAmong (form_of c.canonicalize) r q c.before c.after
   pub left : Leaves c
 
@@ -64,7 +73,7 @@ pub record CopiesFirst (r : Reading) (i : ℕ) (c : Change) (k : ErrorKind) : Ty
   pub filled : Segments
   pub made : AreFilled c.old.words filled c.segment c.at first
   pub cleared : IsReplaced filled c.new.words c.segment (c.at + count first) Null Null
-  pub why : RefusesGrowth c.old c.new k ⊎ Refused plain (behind r (count first)) between c.after k
+  pub why : ((n : ℕ) × RefusesWords c.old c.new n k × StopsWithin plain (WantsWords false n) (behind r (count first)) between c.after) ⊎ Refused plain (behind r (count first)) between c.after k
   pub off : BreaksOff plain (behind r (count first)) between c.after
   pub memory : SpendsMemory c.old c.new
 

@@ -2,11 +2,11 @@
 ghost use Rattle.std.specs.Prelude.{◌≡◌, ◌⊎◌, ◌+◌, ◌-◌, ◌^◌, ◌↔◌, IsTrue, Err, IfOk, IfErr, OnOk, OnErr};
 ghost use Rattle.capnp_format.specs.Segments.{word_at, IsPlace};
 ghost use Rattle.capnp_format.specs.Tree.{Tree, Null};
-ghost use Rattle.capnp_making.specs.Memory.{KeepsMemory, SpendsMemory, RefusesGrowth};
+ghost use Rattle.capnp_making.specs.Memory.{KeepsMemory, SpendsMemory};
 ghost use Rattle.capnp_making.specs.Stored.{IsReplaced};
 ghost use Rattle.capnp_words.specs.declared.error.ErrorKind.TheVariants.{MessageTooLarge};
 ghost use Rattle.capnp_copies.specs.Changes.{change, form_of, kept};
-ghost use Rattle.capnp_copies.specs.ListValues.{CopiesList, StopsAtList, ReadsList, RefusedList, BreaksOffList, IsTooLong, FitsListPointer, elements_read};
+ghost use Rattle.capnp_copies.specs.ListValues.{CopiesList, StopsAtList, LacksListRoom, ReadsList, RefusedList, BreaksOffList, IsTooLong, FitsListPointer, elements_read};
 
 use super::flat::copy_flat;
 use super::lists::{copy_pointers, copy_structs};
@@ -38,7 +38,7 @@ pub fn copy_list<A: BuilderArena, B: ReaderArena>(
     requires null { word_at (A.view arena.old).words id at ≡ 0 }
     ensures copied { IfOk result (λ _. (t : Tree) × ReadsList (form_of canonicalize) (elements_read B.ReaderArena value.entry) lim.old lim.new t
         × IsReplaced (A.view arena.old).words (A.view arena.new).words id at Null (kept canonicalize t)) }
-    ensures refused { IfErr result (λ k. RefusesGrowth (A.view arena.old) (A.view arena.new) k
+    ensures refused { IfErr result (λ k. LacksListRoom (elements_read B.ReaderArena value.entry) (change canonicalize id at (A.view arena.old) (A.view arena.new) lim.old lim.new) k
         ⊎ RefusedList (form_of canonicalize) (elements_read B.ReaderArena value.entry) lim.old lim.new k
         ⊎ (IsTooLong (elements_read B.ReaderArena value.entry) × (k ≡ MessageTooLarge (2 ^ 64 - 1)))) }
     ensures cleared { OnErr result (IsReplaced (A.view arena.old).words (A.view arena.new).words id at Null Null) }

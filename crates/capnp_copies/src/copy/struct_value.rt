@@ -3,13 +3,13 @@
 ghost use Rattle.std.specs.Prelude.{◌≡◌, ◌⊎◌, ◌≤◌, length, IfOk, IfErr, OnOk, OnErr};
 ghost use Rattle.capnp_format.specs.Segments.{word_at, IsPlace};
 ghost use Rattle.capnp_format.specs.Tree.{Null, Struct, Trees, count};
-ghost use Rattle.capnp_making.specs.Memory.{KeepsMemory, SpendsMemory, RefusesGrowth};
+ghost use Rattle.capnp_making.specs.Memory.{KeepsMemory, SpendsMemory};
 ghost use Rattle.capnp_making.specs.Stored.{IsReplaced};
 ghost use Rattle.capnp_objects.specs.Outcomes.{ReadsAll};
 ghost use Rattle.capnp_objects.specs.Refusals.{RefusedAll, BreaksOffAmong};
 ghost use Rattle.capnp_readers.specs.Sizes.{pointers_read};
 ghost use Rattle.capnp_copies.specs.Changes.{change, form_of, kept};
-ghost use Rattle.capnp_copies.specs.StructValues.{CopiesSections, StopsAtSections, IsTooWide, kept_count, data_of, pointer_words};
+ghost use Rattle.capnp_copies.specs.StructValues.{CopiesSections, StopsAtSections, LacksSections, IsTooWide, kept_count, data_of, pointer_words};
 
 use super::children::copy_children;
 use crate::section::{kept_words, put_section};
@@ -42,7 +42,7 @@ pub fn copy_struct_value<A: BuilderArena, B: ReaderArena>(
     ensures copied { IfOk result (λ _. (ts : Trees) × (count ts ≡ value.entry.pointer_count)
         × ReadsAll (form_of canonicalize) (pointers_read B.ReaderArena value.entry) lim.old lim.new ts
         × IsReplaced (A.view arena.old).words (A.view arena.new).words id at Null (kept canonicalize (Struct (data_of B.ReaderArena value.entry) ts))) }
-    ensures refused { IfErr result (λ k. RefusesGrowth (A.view arena.old) (A.view arena.new) k
+    ensures refused { IfErr result (λ k. LacksSections (data_of B.ReaderArena value.entry) (pointers_read B.ReaderArena value.entry) value.entry.pointer_count (change canonicalize id at (A.view arena.old) (A.view arena.new) lim.old lim.new) k
         ⊎ RefusedAll (form_of canonicalize) (pointers_read B.ReaderArena value.entry) value.entry.pointer_count lim.old lim.new k
         ⊎ IsTooWide (kept_count canonicalize (data_of B.ReaderArena value.entry)) k) }
     ensures cleared { OnErr result (IsReplaced (A.view arena.old).words (A.view arena.new).words id at Null Null) }

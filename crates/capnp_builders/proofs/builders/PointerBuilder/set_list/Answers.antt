@@ -1,7 +1,7 @@
 use Rattle.std.proofs.Common.{inl, inr}
 use Rattle.capnp_making.proofs.Replaced.{replaced_again}
 use Rattle.capnp_copies.proofs.FlatRead.{ok_so, err_so}
-use Rattle.capnp_builders.proofs.CopiesHeld.{refused_later}
+use Rattle.capnp_builders.proofs.CopiesHeld.{words_refused_later}
 use Rattle.capnp_builders.proofs.builders.PointerBuilder.set_list.Goals as goal
 
 -- What the pointer held becomes zero, and then the list is copied to the null pointer.
@@ -11,4 +11,4 @@ returns-clause-copied g c = ok_so c.copy_list.result _ _ c.copy_list.ensures.cop
 pub returns-clause-refused : goal.returns-clause-refused
 returns-clause-refused g c =
     err_so c.copy_list.result _ _ c.copy_list.ensures.refused
-    (λ k stop. elim stop [ inl x ↦ inl (refused_later (g.A.BuilderArena.view c.args.self.now.arena.now) (g.A.BuilderArena.view c.clear.new.arena) (g.A.BuilderArena.view c.copy_list.new.arena) k c.clear.ensures.limits x) | inr x ↦ inr x ])
+    (λ k stop. elim stop [ inl x ↦ inl (x.0, words_refused_later (g.A.BuilderArena.view c.args.self.now.arena.now) (g.A.BuilderArena.view c.clear.new.arena) (g.A.BuilderArena.view c.copy_list.new.arena) x.0 k c.clear.ensures.limits x.1, x.2) | inr x ↦ inr x ])

@@ -1,7 +1,7 @@
 use Rattle.std.proofs.Common.{inl, inr}
 use Rattle.capnp_making.proofs.Replaced.{replaced_again}
 use Rattle.capnp_copies.proofs.FlatRead.{ok_so, err_so}
-use Rattle.capnp_builders.proofs.CopiesHeld.{refused_later}
+use Rattle.capnp_builders.proofs.CopiesHeld.{words_refused_later}
 use Rattle.capnp_builders.proofs.builders.PointerBuilder.set_struct.Goals as goal
 
 -- What the pointer held becomes zero, and then the struct is copied to the null pointer.
@@ -13,4 +13,4 @@ returns-clause-copied g c =
 pub returns-clause-refused : goal.returns-clause-refused
 returns-clause-refused g c =
     err_so c.copy_struct_value.result _ _ c.copy_struct_value.ensures.refused
-    (λ k stop. elim stop [ inl x ↦ inl (refused_later (g.A.BuilderArena.view c.args.self.now.arena.now) (g.A.BuilderArena.view c.clear.new.arena) (g.A.BuilderArena.view c.copy_struct_value.new.arena) k c.clear.ensures.limits x) | inr x ↦ inr x ])
+    (λ k stop. elim stop [ inl x ↦ inl (x.0, words_refused_later (g.A.BuilderArena.view c.args.self.now.arena.now) (g.A.BuilderArena.view c.clear.new.arena) (g.A.BuilderArena.view c.copy_struct_value.new.arena) x.0 k c.clear.ensures.limits x.1, x.2) | inr x ↦ inr x ])

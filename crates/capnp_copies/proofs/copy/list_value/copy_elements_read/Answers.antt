@@ -1,4 +1,6 @@
 use Rattle.std.proofs.Common.{ℕ, ◌+◌, ◌≤◌, refl, rules, arith}
+use Rattle.std.proofs.lemmas.Int.{to_z-of_z}
+use mir.Syntax.{w32}
 use Rattle.capnp_format.specs.Bytes.{words_of}
 use Rattle.capnp_format.specs.Numbers.{words_for, unpacked}
 use Rattle.capnp_format.specs.Tree.{Flat}
@@ -7,8 +9,8 @@ use Rattle.capnp_pointers.specs.Sizes.{size_number}
 use Rattle.capnp_copies.specs.Changes.{Change, change}
 use Rattle.capnp_copies.specs.ListValues.{ListElements, FitsListPointer, elements_read}
 use Rattle.capnp_copies.proofs.FilledValues.{FlatOutcome}
-use Rattle.capnp_copies.proofs.FlatRead.{flat_words}
-use Rattle.capnp_copies.proofs.ListValues.{too_long, number_size, few_numbers, numbers_held, numbers_copied, numbers_stop}
+use Rattle.capnp_copies.proofs.FlatRead.{err_so, flat_words}
+use Rattle.capnp_copies.proofs.ListValues.{too_long, number_size, few_numbers, numbers_held, numbers_copied, numbers_stop, pointers_list_stops, structs_list_stops}
 use Rattle.capnp_copies.proofs.copy.list_value.copy_elements_read.Goals as goal
 
 -- A list that is too long.
@@ -40,5 +42,17 @@ returns-in_default g c =
     record {
       long = λ long. absurd (long (c.fits_list_pointer.ensures.0 (search rules)));
       copied = numbers_copied list call value.content.now c.copy_flat.result flat held.stand refl outcome;
-      refused = numbers_stop list call (words_for size value.count) (Flat size (unpacked size value.count (words_of value.content.now))) c.copy_flat.result c.requires.place c.requires.null refl outcome;
+      refused = numbers_stop list call (words_for size value.count) (Flat size (unpacked size value.count (words_of value.content.now))) c.copy_flat.result flat refl c.requires.place c.requires.null refl outcome;
     }
+
+-- Pointers, and structs.
+
+pub returns-in-Pointer-clause-refused : goal.returns-in-Pointer-clause-refused
+returns-in-Pointer-clause-refused g c =
+    let nl = to_z-of_z w32 c.args.value.nesting_limit (search rules) in
+    err_so c.copy_pointers.result _ _ c.copy_pointers.ensures.refused (λ k stop. pointers_list_stops c.in-Pointer.is (rw nl at stop))
+
+pub returns-in-InlineComposite-clause-refused : goal.returns-in-InlineComposite-clause-refused
+returns-in-InlineComposite-clause-refused g c =
+    let nl = to_z-of_z w32 c.args.value.nesting_limit (search rules) in
+    err_so c.copy_structs.result _ _ c.copy_structs.ensures.refused (λ k stop. structs_list_stops c.in-InlineComposite.is (rw nl at stop))

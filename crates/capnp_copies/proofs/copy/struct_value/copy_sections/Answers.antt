@@ -1,4 +1,4 @@
-use Rattle.std.proofs.Common.{inl, inr, ◌+◌, refl, arith, rules}
+use Rattle.std.proofs.Common.{inl, inr, ◌+◌, refl, ap₂, arith, rules}
 use Rattle.std.proofs.lemmas.Int.{to_z-of_z}
 use Rattle.std.proofs.lemmas.Bool.{false≢true}
 use mir.Syntax.{w32}
@@ -28,7 +28,7 @@ returns-in-Err-make_struct-clause-refused g c =
     let least = c.in-Ok.kept in
     let none = nothing_made c.args.canonicalize c.args.id c.args.at (least.data_words + least.pointers) (g.A.BuilderArena.view c.args.arena.now) (g.A.BuilderArena.view c.make_struct.new.arena) c.args.lim.now c.args.lim.now c.in-Err-make_struct.k c.requires.place c.requires.null
     c.in-Err-make_struct.ensures.named c.in-Err-make_struct.ensures.refused (λ room. absurd (false≢true (c.in-Err-make_struct.ensures.fits room))) in
-    record { why = inl (least.data_words + least.pointers, none.0); off = inl refl; left = none.1 }
+    record { why = inl (least.data_words + least.pointers, none.0, inl (refl, ap₂ (λ i j. i + j) c.in-Ok.ensures.data c.in-Ok.ensures.pointers)); off = inl refl; left = none.1 }
 
 -- The struct is made, and its data words are written.
 
