@@ -101,6 +101,10 @@ pub record IsObjectApart (S : Segments) (a : Target) (t : Tree) : Type 0 where
   pub stands : (n : ℕ) × IsObjectAt S n a t
   pub apart : (v r : ℕ) → times (object_cover S a t) v r ≤ 1
 
+-- From S to R the object that a target leads to becomes zero, with all below it, if it is a value that holds no word twice.
+abbrev pub IsObjectZeroed : Segments → Segments → Target → Type 0
+IsObjectZeroed S R a = (t : Tree) → IsObjectApart S a t → IsZeroed S R (object_cover S a t)
+
 -- Pointers one behind the other, each with what is reached from it.
 abbrev pub child_extents : Segments → ℕ → ℕ → Trees → List Interval
 child_extents S s p no_trees = []

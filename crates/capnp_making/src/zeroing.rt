@@ -6,7 +6,7 @@ ghost use Rattle.capnp_format.specs.Tree.{Tree};
 ghost use Rattle.capnp_format.specs.Forest.{pads_of};
 ghost use Rattle.capnp_making.specs.Path.{extent};
 ghost use Rattle.capnp_making.specs.Landings.{target_of};
-ghost use Rattle.capnp_making.specs.Zeroed.{row, IsZeroed, IsPruned, PadsInside, IsApart, IsObjectApart, object_cover, IsStructZeroed, ArePointersZeroed, IsStructListZeroed, AreElementsZeroed, element_row};
+ghost use Rattle.capnp_making.specs.Zeroed.{row, IsZeroed, IsPruned, PadsInside, IsApart, IsObjectZeroed, IsStructZeroed, ArePointersZeroed, IsStructListZeroed, AreElementsZeroed, element_row};
 
 use crate::landing::{Landing, follow, length_of, word_of};
 use capnp_arena::arena::BuilderArena;
@@ -75,7 +75,7 @@ pub fn zero_object<A: BuilderArena>(arena: &mut A, id: u32, at: u32)
 #[cold]
 #[inline(never)]
 fn zero_landed<A: BuilderArena>(arena: &mut A, landing: Landing)
-    ensures zeroed { (t : Tree) → IsObjectApart (A.view arena.old).words (target_of landing) t → IsZeroed (A.view arena.old).words (A.view arena.new).words (object_cover (A.view arena.old).words (target_of landing) t) }
+    ensures zeroed { IsObjectZeroed (A.view arena.old).words (A.view arena.new).words (target_of landing) }
     ensures pruned { IsPruned (A.view arena.old).words (A.view arena.new).words }
     ensures limits { KeepsLimits (A.view arena.old) (A.view arena.new) }
 {

@@ -64,6 +64,10 @@ pub record Measured (r : Reading) (m m' : Meter) (a : Target) : Type 0 where
 abbrev pub near_at : Reading → ℕ → Target
 near_at r at = record { word = word_of r; segment = r.segment; start = at; pads = 0 }
 
+-- The object that a near pointer at a place leads to is measured, and starts at a position of the place's own segment.
+abbrev pub MeasuredNear : Reading → Meter → Meter → ℕ → Type 0
+MeasuredNear r m m' at = Measured r m m' (near_at r at)
+
 -- The pointer at a place, for which there is a level, is counted and followed to a landing, from m to m'.
 pub record IsReached (r : Reading) (m m' : Meter) (l : Landing) : Type 0 where
   pub held : IsHeld r.segments l.start

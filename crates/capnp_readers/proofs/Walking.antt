@@ -1,5 +1,5 @@
 -- One level less, as a nesting limit counts it; and results that are handed on.
-use Rattle.std.proofs.Common.{◌≡◌, ◌↔◌, ℕ, zero, suc, pred, ◌+◌, ◌*◌, ◌-◌, ◌^◌, ◌<◌, ◌≤◌, length, Result, Ok, Err, IsOk, IfOk, IfErr, ap, sym, refl, subst, ◌∙◌, arith, add-zero}
+use Rattle.std.proofs.Common.{◌≡◌, ◌↔◌, ℕ, zero, suc, pred, ◌+◌, ◌*◌, ◌-◌, ◌^◌, ◌<◌, ◌≤◌, length, Result, Ok, Err, IsOk, IfOk, IfErr, OnErr, ap, sym, refl, subst, ◌∙◌, arith, add-zero}
 use Rattle.std.proofs.lemmas.Bool.{false≢true}
 use Rattle.std.proofs.lemmas.Int.{ints, to_z-of_z}
 use mir.Syntax.{w32}
@@ -41,6 +41,10 @@ ok_so (Err k) h f = tt
 pub err_so : {A E : Type 0} (r : Result A E) {P Q : E → Type 0} → IfErr r P → ((k : E) → P k → Q k) → IfErr r Q
 err_so (Ok x) h f = tt
 err_so (Err k) h f = f k h
+
+pub err_with : {A E : Type 0} (r : Result A E) {X : Type 0} {P Q : E → Type 0} → OnErr r X → IfErr r P → (X → (k : E) → P k → Q k) → IfErr r Q
+err_with (Ok x) e h f = tt
+err_with (Err k) e h f = f e k h
 
 -- a sum that doesn't fit
 pub beyond_so : {A : Type 0} (r : Result A ErrorKind) {F : Type 0} (Q : ErrorKind → Type 0) → IsOk r ↔ F → IfErr r (λ k. k ≡ MessageTooLarge (2 ^ 64 - 1)) → ((F → ⊥) → Q (MessageTooLarge (2 ^ 64 - 1))) → IfErr r Q

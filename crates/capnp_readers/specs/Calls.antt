@@ -99,6 +99,10 @@ module _ {A : Type 0} (g : Ghosts A) where
   abbrev pub IsListRead : ElementSize → PointerReader A g → Meter → Meter → ListReader A g → Type 0
   IsListRead expected p m m' r = (IsNull p m m' × IsNoList r) ⊎ (IsTarget g p m m' (ListTarget r) × IsWide expected r.element_size r.struct_size)
 
+  -- A call gives the list that is read of its pointer, or of the default's.
+  abbrev pub GivesList : ElementSize → Call → Meter → Meter → ListReader A g → Type 0
+  GivesList expected c m m' r = WhereRead c (λ p. IsListRead expected p m m' r)
+
   -- How many bytes of a list of n bytes are a text's, without its last 0, or are data.
   abbrev pub bytes_of : Expected → ℕ → ℕ
   bytes_of Text n = n - 1

@@ -210,6 +210,10 @@ pub record RowTestsStop (r : Reading) (size : StructSize) (i : ℕ) (from : Prog
   pub are_found : FindsElements r size from mid first
   pub stops : TestsStop (pointers_of r size (element_count first)) size.pointers mid m' k
 
+-- So does that of a pointer of a struct of this size that starts at a place, the first object behind the struct.
+abbrev pub StructTestStops : Reading → StructSize → Meter → Meter → ErrorKind → Type 0
+StructTestStops r size m m' k = TestsStop (behind r size.data_words) size.pointers (progress (r.at + size.data_words + size.pointers) m) m' k
+
 module _ {A : Type 0} (g : Ghosts A) where
   -- A struct has whole words of data, and starts at the head.
   abbrev pub StartsWhole : StructReader A g → ℕ → Type 0
@@ -218,6 +222,13 @@ module _ {A : Type 0} (g : Ghosts A) where
   -- A struct starts at a head, and its pointers are canonical from another head on.
   abbrev pub IsCanonicalStruct : StructReader A g → ℕ → ℕ → Type 0
   IsCanonicalStruct r h bodies = StartsWhole r h × AreCanonicalAt (pointers_read g r) r.pointer_count bodies
+
+  -- A struct's pointers are canonical, from one progress to another; or the test of one of them stops by the name k.
+  abbrev pub ArePointersFound : StructReader A g → Progress → Progress → Type 0
+  ArePointersFound r from to = AreFound (pointers_read g r) r.pointer_count from to
+
+  abbrev pub PointerTestsStop : StructReader A g → Progress → Meter → ErrorKind → Type 0
+  PointerTestsStop r from m' k = TestsStop (pointers_read g r) r.pointer_count from m' k
 
   -- The data section is empty or ends in a word that is not zero; so does the pointer section.
   abbrev pub IsDataUsed : StructReader A g → Type 0

@@ -78,7 +78,7 @@ impl<'a, A: ReaderArena> Copy for PointerReader<'a, A> {}
 
 impl<'a, A: ReaderArena> PointerReader<'a, A> {
     ghost use Rattle.capnp_readers.specs.Readers.{IsTarget, WasRead, reading};
-    ghost use Rattle.capnp_readers.specs.Calls.{call, IsRead, IsUnread, IsAnswered, IsRefused, WhereRead, IsStructRead, IsListRead, AreBytesRead};
+    ghost use Rattle.capnp_readers.specs.Calls.{call, IsRead, IsUnread, IsAnswered, IsRefused, WhereRead, GivesList, IsStructRead, AreBytesRead};
 
     /// The pointer from nothing, which is null. Its nesting limit is `i32::MAX`.
     pub fn new_default() -> Self
@@ -314,8 +314,8 @@ impl<'a, A: ReaderArena> PointerReader<'a, A> {
         default: Option<&'a [u8]>,
     ) -> Result<ListReader<'a, A>, ErrorKind>
         requires small { IfSome default (λ bytes. length bytes.now / 8 < 2 ^ 32) }
-        ensures read { IfOk result (λ r.
-            WhereRead A.ReaderArena (call A.ReaderArena self.entry (Expected.List expected_element_size) default.entry) (λ p. IsListRead A.ReaderArena expected_element_size p lim.old lim.new r)) }
+        ensures read { IfOk result (GivesList A.ReaderArena expected_element_size
+            (call A.ReaderArena self.entry (Expected.List expected_element_size) default.entry) lim.old lim.new) }
         ensures exactly { IsOk result ↔ IsAnswered A.ReaderArena (call A.ReaderArena self.entry (Expected.List expected_element_size) default.entry) lim.old }
         ensures refused { IfErr result (IsRefused A.ReaderArena (call A.ReaderArena self.entry (Expected.List expected_element_size) default.entry) lim.old lim.new) }
     {

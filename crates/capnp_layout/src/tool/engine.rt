@@ -1,6 +1,6 @@
 //! One run of the program: an input is read, and one line is written.
 ghost use Rattle.std.specs.Prelude.{◌≡◌, ◌≢◌, ◌⊎◌, ◌∷◌, ◌++◌, [], ℕ, List, length, ◌≤◌, ◌+◌, true, false, Some, None, IfSome, OnOk, OnErr, IfOk, IfErr};
-ghost use Rattle.std.specs.Io.KnownBytes.{Appends, Keeps};
+ghost use Rattle.std.specs.Io.KnownBytes.{Keeps};
 ghost use Rattle.capnp_arena.specs.Allocations.{one_more};
 ghost use Rattle.capnp_layout.specs.Lines.{segments_of};
 ghost use Rattle.capnp_layout.specs.Messages.{segments_in};
@@ -8,6 +8,7 @@ ghost use Rattle.capnp_arena.specs.Limits.{IsSmall};
 ghost use Rattle.capnp_words.specs.declared.error.ErrorKind.{ErrorKind};
 ghost use Rattle.capnp_words.specs.declared.error.ErrorKind.TheVariants.{AllocationFailed};
 ghost use Rattle.capnp_layout.specs.Answers.{Answers, AnswersRefusal, AnswersWords, IsDone, IsDoneOr, IsRefused, LacksMemoryOr, RefusesMessage, ValueOf, WhereAnswered, WantsMemory, canonical_line, digits_of, refusal_line};
+ghost use Rattle.capnp_layout.specs.Writing.{Prints};
 ghost use Rattle.capnp_layout.specs.Runs.{IsNoMessage, WhereItIsAnswered, WritesAnswer, WritesCountedRefusal, WritesRefusal};
 ghost use Rattle.capnp_format.specs.Bytes.{message, words_of};
 
@@ -61,7 +62,7 @@ fn read_message<A: Allocator, R: Input>(
 fn refuse<W: Output>(output: &mut W, kind: ErrorKind) -> Outcome
     requires { W.has_failed output.old ≡ false }
     ensures either { (result ≡ Outcome.Refused) ⊎ (result ≡ Outcome.WriteFailed) }
-    ensures written { result ≡ Outcome.Refused → Appends (W.contents output.old) (W.contents output.new) (refusal_line kind) }
+    ensures written { result ≡ Outcome.Refused → Prints W.Output output.old output.new (refusal_line kind) }
     ensures works { result ≡ Outcome.Refused → W.has_failed output.new ≡ false }
     ensures failed { result ≡ Outcome.WriteFailed → W.has_failed output.new ≡ true }
 {
@@ -87,7 +88,7 @@ fn answer<A: Allocator, W: Output>(output: &mut W, made: &BuilderArenaImpl<A>) -
     requires works { W.has_failed output.old ≡ false }
     requires single { length (⟦<BuilderArenaImpl<A> as ReaderArena>⟧.segments made.now) ≡ 1 }
     ensures either { (result ≡ Outcome.Done) ⊎ (result ≡ Outcome.WriteFailed) }
-    ensures written { result ≡ Outcome.Done → AnswersWords (⟦<BuilderArenaImpl<A> as BuilderArena>⟧.view made.now) (Appends (W.contents output.old) (W.contents output.new)) }
+    ensures written { result ≡ Outcome.Done → AnswersWords (⟦<BuilderArenaImpl<A> as BuilderArena>⟧.view made.now) (Prints W.Output output.old output.new) }
     ensures works { result ≡ Outcome.Done → W.has_failed output.new ≡ false }
     ensures failed { result ≡ Outcome.WriteFailed → W.has_failed output.new ≡ true }
 {
@@ -107,11 +108,11 @@ fn canon<A: Allocator, W: Output>(
 ) -> (Outcome, A)
     requires { W.has_failed output.old ≡ false }
     ensures small { result.0 ≡ Outcome.Done → IsSmall (segments_in source) }
-    ensures done { result.0 ≡ Outcome.Done → Answers (segments_in source) (Args.Canon options) (Appends (W.contents output.old) (W.contents output.new)) }
+    ensures done { result.0 ≡ Outcome.Done → Answers (segments_in source) (Args.Canon options) (Prints W.Output output.old output.new) }
     ensures refused { result.0 ≡ Outcome.Refused →
-        AnswersRefusal (segments_in source) (Args.Canon options) (A.refusals allocator) (A.refusals result.1) (Appends (W.contents output.old) (W.contents output.new)) }
+        AnswersRefusal (segments_in source) (Args.Canon options) (A.refusals allocator) (A.refusals result.1) (Prints W.Output output.old output.new) }
     ensures exactly { WhereAnswered (segments_in source) (Args.Canon options)
-        (IsDoneOr result.0 (WantsMemory (A.refusals allocator) (A.refusals result.1) (Appends (W.contents output.old) (W.contents output.new)))) }
+        (IsDoneOr result.0 (WantsMemory (A.refusals allocator) (A.refusals result.1) (Prints W.Output output.old output.new))) }
     ensures input { result.0 ≢ Outcome.BadInput }
     ensures works { result.0 ≢ Outcome.WriteFailed → W.has_failed output.new ≡ false }
     ensures failed { result.0 ≡ Outcome.WriteFailed → W.has_failed output.new ≡ true }
@@ -129,9 +130,9 @@ fn canon<A: Allocator, W: Output>(
 fn check<W: Output>(source: Message, options: ReaderOptions, output: &mut W) -> Outcome
     requires { W.has_failed output.old ≡ false }
     ensures small { result ≡ Outcome.Done → IsSmall (segments_in source) }
-    ensures done { result ≡ Outcome.Done → Answers (segments_in source) (Args.Check options) (Appends (W.contents output.old) (W.contents output.new)) }
+    ensures done { result ≡ Outcome.Done → Answers (segments_in source) (Args.Check options) (Prints W.Output output.old output.new) }
     ensures refused { result ≡ Outcome.Refused →
-        (k : ErrorKind) × RefusesMessage (segments_in source) (Args.Check options) k × Appends (W.contents output.old) (W.contents output.new) (refusal_line k) }
+        (k : ErrorKind) × RefusesMessage (segments_in source) (Args.Check options) k × Prints W.Output output.old output.new (refusal_line k) }
     ensures exactly { WhereAnswered (segments_in source) (Args.Check options) (IsDone result ⊎ (result ≡ Outcome.WriteFailed)) }
     ensures input { result ≢ Outcome.BadInput }
     ensures works { result ≢ Outcome.WriteFailed → W.has_failed output.new ≡ false }
@@ -150,9 +151,9 @@ fn check<W: Output>(source: Message, options: ReaderOptions, output: &mut W) -> 
 fn size<W: Output>(source: Message, options: ReaderOptions, output: &mut W) -> Outcome
     requires { W.has_failed output.old ≡ false }
     ensures small { result ≡ Outcome.Done → IsSmall (segments_in source) }
-    ensures done { result ≡ Outcome.Done → Answers (segments_in source) (Args.Size options) (Appends (W.contents output.old) (W.contents output.new)) }
+    ensures done { result ≡ Outcome.Done → Answers (segments_in source) (Args.Size options) (Prints W.Output output.old output.new) }
     ensures refused { result ≡ Outcome.Refused →
-        (k : ErrorKind) × RefusesMessage (segments_in source) (Args.Size options) k × Appends (W.contents output.old) (W.contents output.new) (refusal_line k) }
+        (k : ErrorKind) × RefusesMessage (segments_in source) (Args.Size options) k × Prints W.Output output.old output.new (refusal_line k) }
     ensures exactly { WhereAnswered (segments_in source) (Args.Size options) (IsDone result ⊎ (result ≡ Outcome.WriteFailed)) }
     ensures input { result ≢ Outcome.BadInput }
     ensures works { result ≢ Outcome.WriteFailed → W.has_failed output.new ≡ false }
@@ -177,11 +178,11 @@ fn respond<A: Allocator, W: Output>(
 ) -> (Outcome, A)
     requires { W.has_failed output.old ≡ false }
     ensures small { result.0 ≡ Outcome.Done → IsSmall (segments_in source) }
-    ensures done { result.0 ≡ Outcome.Done → Answers (segments_in source) args.now (Appends (W.contents output.old) (W.contents output.new)) }
+    ensures done { result.0 ≡ Outcome.Done → Answers (segments_in source) args.now (Prints W.Output output.old output.new) }
     ensures refused { result.0 ≡ Outcome.Refused →
-        AnswersRefusal (segments_in source) args.now (A.refusals allocator) (A.refusals result.1) (Appends (W.contents output.old) (W.contents output.new)) }
+        AnswersRefusal (segments_in source) args.now (A.refusals allocator) (A.refusals result.1) (Prints W.Output output.old output.new) }
     ensures exactly { WhereAnswered (segments_in source) args.now
-        (IsDoneOr result.0 (WantsMemory (A.refusals allocator) (A.refusals result.1) (Appends (W.contents output.old) (W.contents output.new)))) }
+        (IsDoneOr result.0 (WantsMemory (A.refusals allocator) (A.refusals result.1) (Prints W.Output output.old output.new))) }
     ensures input { result.0 ≢ Outcome.BadInput }
     ensures works { result.0 ≢ Outcome.WriteFailed → W.has_failed output.new ≡ false }
     ensures failed { result.0 ≡ Outcome.WriteFailed → W.has_failed output.new ≡ true }
@@ -212,11 +213,13 @@ pub fn run_with<A: Allocator, R: Input, W: Output>(
 ) -> (Outcome, A)
     requires input { R.has_failed input.old ≡ false }
     requires output { W.has_failed output.old ≡ false }
-    ensures done { result.0 ≡ Outcome.Done → WritesAnswer (R.remaining input.old) args.now (Appends (W.contents output.old) (W.contents output.new)) }
+    ensures done { result.0 ≡ Outcome.Done → WritesAnswer (R.remaining input.old) args.now (Prints W.Output output.old output.new) }
     ensures refused { result.0 ≡ Outcome.Refused →
-        WritesCountedRefusal (R.remaining input.old) args.now (A.refusals allocator) (A.refusals result.1) (Appends (W.contents output.old) (W.contents output.new)) }
-    ensures exactly { WhereItIsAnswered (R.remaining input.old) args.now (IsDone result.0 ⊎ (R.has_failed input.new ≡ true) ⊎ (W.has_failed output.new ≡ true)
-        ⊎ (IsRefused result.0 × WantsMemory (A.refusals allocator) (A.refusals result.1) (Appends (W.contents output.old) (W.contents output.new)))) }
+        WritesCountedRefusal (R.remaining input.old) args.now (A.refusals allocator) (A.refusals result.1) (Prints W.Output output.old output.new) }
+    ensures exactly { WhereItIsAnswered (R.remaining input.old) args.now
+        (IsDone result.0 ⊎ (R.has_failed input.new ≡ true) ⊎ (W.has_failed output.new ≡ true) ⊎ IsRefused result.0) }
+    ensures memory { IsRefused result.0 → WhereItIsAnswered (R.remaining input.old) args.now
+        (WantsMemory (A.refusals allocator) (A.refusals result.1) (Prints W.Output output.old output.new)) }
     ensures input { result.0 ≡ Outcome.BadInput → (R.has_failed input.new ≡ true) ⊎ IsNoMessage (R.remaining input.old) }
     ensures read { result.0 ≢ Outcome.BadInput → R.has_failed input.new ≡ false }
     ensures unwritten { result.0 ≡ Outcome.BadInput → W.contents output.new ≡ W.contents output.old }
@@ -253,10 +256,12 @@ pub fn run<R: Input, W: Output>(
 ) -> Outcome
     requires input { R.has_failed input.old ≡ false }
     requires output { W.has_failed output.old ≡ false }
-    ensures done { result ≡ Outcome.Done → WritesAnswer (R.remaining input.old) args.now (Appends (W.contents output.old) (W.contents output.new)) }
-    ensures refused { result ≡ Outcome.Refused → WritesRefusal (R.remaining input.old) args.now (Appends (W.contents output.old) (W.contents output.new)) }
-    ensures exactly { WhereItIsAnswered (R.remaining input.old) args.now (IsDone result ⊎ (R.has_failed input.new ≡ true) ⊎ (W.has_failed output.new ≡ true)
-        ⊎ (IsRefused result × Appends (W.contents output.old) (W.contents output.new) (refusal_line AllocationFailed))) }
+    ensures done { result ≡ Outcome.Done → WritesAnswer (R.remaining input.old) args.now (Prints W.Output output.old output.new) }
+    ensures refused { result ≡ Outcome.Refused → WritesRefusal (R.remaining input.old) args.now (Prints W.Output output.old output.new) }
+    ensures exactly { WhereItIsAnswered (R.remaining input.old) args.now
+        (IsDone result ⊎ (R.has_failed input.new ≡ true) ⊎ (W.has_failed output.new ≡ true) ⊎ IsRefused result) }
+    ensures memory { IsRefused result → WhereItIsAnswered (R.remaining input.old) args.now
+        (Prints W.Output output.old output.new (refusal_line AllocationFailed)) }
     ensures input { result ≡ Outcome.BadInput → (R.has_failed input.new ≡ true) ⊎ IsNoMessage (R.remaining input.old) }
     ensures read { result ≢ Outcome.BadInput → R.has_failed input.new ≡ false }
     ensures unwritten { result ≡ Outcome.BadInput → W.contents output.new ≡ W.contents output.old }

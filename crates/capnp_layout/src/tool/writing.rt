@@ -1,9 +1,9 @@
 //! The lines that the program prints.
 ghost use Rattle.std.specs.Prelude.{◌≡◌, ◌+◌, ◌++◌, ◌∷◌, [], false, true, OnOk, OnErr};
-ghost use Rattle.std.specs.Io.KnownBytes.{Appends};
 ghost use Rattle.capnp_format.specs.Bytes.{words_of};
 ghost use Rattle.std.specs.Fmt.{decimal};
 ghost use Rattle.capnp_layout.specs.Answers.{check_line, word_digits, digits_of, refusal_line, size_line};
+ghost use Rattle.capnp_layout.specs.Writing.{Prints};
 
 use crate::devices::{DeviceFault, Output, write_all};
 use capnp_readers::readers::MessageSize;
@@ -13,7 +13,7 @@ use capnp_words::words::word_at;
 /// Writes the bytes of a word, the lowest first, as 16 hex digits.
 fn write_word<W: Output>(output: &mut W, word: u64) -> Result<(), DeviceFault>
     requires { W.has_failed output.old ≡ false }
-    ensures written { OnOk result (Appends (W.contents output.old) (W.contents output.new) (word_digits word)) }
+    ensures written { OnOk result (Prints W.Output output.old output.new (word_digits word)) }
     ensures works { OnOk result (W.has_failed output.new ≡ false) }
     ensures fails { OnErr result (W.has_failed output.new ≡ true) }
 {
@@ -25,7 +25,7 @@ fn write_word<W: Output>(output: &mut W, word: u64) -> Result<(), DeviceFault>
 /// Writes all whole words of a segment as one line of hex digits.
 pub(crate) fn write_words<W: Output>(output: &mut W, segment: &[u8]) -> Result<(), DeviceFault>
     requires { W.has_failed output.old ≡ false }
-    ensures written { OnOk result (Appends (W.contents output.old) (W.contents output.new) (digits_of (words_of segment.now) ++ 10 ∷ [])) }
+    ensures written { OnOk result (Prints W.Output output.old output.new (digits_of (words_of segment.now) ++ 10 ∷ [])) }
     ensures works { OnOk result (W.has_failed output.new ≡ false) }
     ensures fails { OnErr result (W.has_failed output.new ≡ true) }
 {
@@ -38,7 +38,7 @@ pub(crate) fn write_words<W: Output>(output: &mut W, segment: &[u8]) -> Result<(
 /// Writes the line that says whether a message is canonical.
 pub(crate) fn write_check<W: Output>(output: &mut W, is_canonical: bool) -> Result<(), DeviceFault>
     requires { W.has_failed output.old ≡ false }
-    ensures written { OnOk result (Appends (W.contents output.old) (W.contents output.new) (check_line is_canonical)) }
+    ensures written { OnOk result (Prints W.Output output.old output.new (check_line is_canonical)) }
     ensures works { OnOk result (W.has_failed output.new ≡ false) }
     ensures fails { OnErr result (W.has_failed output.new ≡ true) }
 {
@@ -52,7 +52,7 @@ pub(crate) fn write_check<W: Output>(output: &mut W, is_canonical: bool) -> Resu
 /// Writes a number in decimal digits.
 fn write_number<W: Output>(output: &mut W, n: u64) -> Result<(), DeviceFault>
     requires { W.has_failed output.old ≡ false }
-    ensures written { OnOk result (Appends (W.contents output.old) (W.contents output.new) (decimal n)) }
+    ensures written { OnOk result (Prints W.Output output.old output.new (decimal n)) }
     ensures works { OnOk result (W.has_failed output.new ≡ false) }
     ensures fails { OnErr result (W.has_failed output.new ≡ true) }
 {
@@ -65,7 +65,7 @@ fn write_number<W: Output>(output: &mut W, n: u64) -> Result<(), DeviceFault>
 /// Writes the line of a size.
 pub(crate) fn write_size<W: Output>(output: &mut W, size: MessageSize) -> Result<(), DeviceFault>
     requires { W.has_failed output.old ≡ false }
-    ensures written { OnOk result (Appends (W.contents output.old) (W.contents output.new) (size_line size.word_count size.cap_count)) }
+    ensures written { OnOk result (Prints W.Output output.old output.new (size_line size.word_count size.cap_count)) }
     ensures works { OnOk result (W.has_failed output.new ≡ false) }
     ensures fails { OnErr result (W.has_failed output.new ≡ true) }
 {
@@ -79,7 +79,7 @@ pub(crate) fn write_size<W: Output>(output: &mut W, size: MessageSize) -> Result
 /// Writes the line that names a refusal.
 pub(crate) fn write_refusal<W: Output>(output: &mut W, kind: ErrorKind) -> Result<(), DeviceFault>
     requires { W.has_failed output.old ≡ false }
-    ensures written { OnOk result (Appends (W.contents output.old) (W.contents output.new) (refusal_line kind)) }
+    ensures written { OnOk result (Prints W.Output output.old output.new (refusal_line kind)) }
     ensures works { OnOk result (W.has_failed output.new ≡ false) }
     ensures fails { OnErr result (W.has_failed output.new ≡ true) }
 {

@@ -7,7 +7,7 @@ ghost use Rattle.capnp_objects.specs.Demands.{claim, IsStructList};
 ghost use Rattle.capnp_objects.specs.Reading.{reading_at, word_of};
 ghost use Rattle.capnp_objects.specs.Objects.{IsHeld, IsFew};
 ghost use Rattle.capnp_objects.specs.Landings.{target};
-ghost use Rattle.capnp_objects.specs.Measures.{IsVoidList, IsReached, Measured, IsMeasured, CanBeMeasured, NotMeasured, near_at, step, PaysClaim, FailsMeasure, OpensMeasure};
+ghost use Rattle.capnp_objects.specs.Measures.{IsVoidList, IsReached, MeasuredNear, IsMeasured, CanBeMeasured, NotMeasured, step, PaysClaim, FailsMeasure, OpensMeasure};
 
 use super::{Landing, Source, depth_of};
 use crate::object::{Object, Place};
@@ -76,7 +76,7 @@ impl<'a, A: ReaderArena> Source<'a, A> {
         requires of_bits { IsVoidList word.0 → ⊥ }
         requires untagged { IsStructList word.0 → ⊥ }
         requires claimed { words ≡ claim word.0 }
-        ensures object { IfOk result (λ at. Measured (reading_at A.ReaderArena self.entry place.entry nesting_limit) lim.old lim.new (near_at (reading_at A.ReaderArena self.entry place.entry nesting_limit) at)) }
+        ensures object { IfOk result (MeasuredNear (reading_at A.ReaderArena self.entry place.entry nesting_limit) lim.old lim.new) }
         ensures refused { IfErr result (NotMeasured (reading_at A.ReaderArena self.entry place.entry nesting_limit) lim.old lim.new) }
     {
         let landing = match self.reach(place, word, nesting_limit, lim) {

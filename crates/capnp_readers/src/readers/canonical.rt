@@ -1,5 +1,5 @@
 //! The test for canonical form, in place.
-ghost use Rattle.std.specs.Prelude.{ℕ, ◌≡◌, ◌≢◌, ◌<◌, ◌≤◌, ◌+◌, ◌*◌, ◌-◌, ◌⊎◌, ◌↔◌, pred, ◌^◌, None, IsTrue, Ok, true, IfOk, IfErr, length, slice_index};
+ghost use Rattle.std.specs.Prelude.{ℕ, ◌≡◌, ◌≢◌, ◌<◌, ◌≤◌, ◌+◌, ◌*◌, ◌-◌, ◌⊎◌, ◌↔◌, pred, ◌^◌, None, IsTrue, Ok, true, IfOk, IfErr, OnErr, length, slice_index};
 ghost use Rattle.capnp_format.specs.Bytes.{words_of};
 ghost use Rattle.capnp_format.specs.Word.{kind};
 ghost use Rattle.capnp_format.specs.Numbers.{words_for};
@@ -7,8 +7,8 @@ ghost use Rattle.capnp_pointers.specs.Sizes.{size_number};
 ghost use Rattle.capnp_objects.specs.Reading.{row, word_of};
 ghost use Rattle.capnp_objects.specs.Source.{levels};
 ghost use Rattle.capnp_readers.specs.Readers.{reading};
-ghost use Rattle.capnp_readers.specs.Sizes.{pointers_read, reading_on};
-ghost use Rattle.capnp_readers.specs.Checking.{progress, refusal_name, IsFound, AreFound, IsCanonicalAt, IsTested, StartsRight, Tells, TellsAll, TellsFlat, TellsStruct, TellsRows, TellsClaimed, TestStops, TestsStop, RowTestsStop, StartsWhole, IsCanonicalStruct, IsDataUsed, ArePointersUsed, head_behind};
+ghost use Rattle.capnp_readers.specs.Sizes.{reading_on};
+ghost use Rattle.capnp_readers.specs.Checking.{progress, refusal_name, IsFound, ArePointersFound, IsCanonicalAt, IsTested, StartsRight, Tells, TellsAll, TellsFlat, TellsStruct, TellsRows, TellsClaimed, TestStops, TestsStop, StructTestStops, RowTestsStop, PointerTestsStop, StartsWhole, IsCanonicalStruct, IsDataUsed, ArePointersUsed, head_behind};
 
 use crate::readers::{PointerReader, StructReader};
 use capnp_arena::arena::ReaderArena;
@@ -77,12 +77,12 @@ impl<'a, A: ReaderArena> StructReader<'a, A> {
         ptr_trunc: &mut bool,
     ) -> Result<bool, ErrorKind>
         ensures exactly { IfOk result (λ b. IsTrue b ↔ IsCanonicalStruct A.ReaderArena self.now read_head.old ptr_head.old) }
-        ensures found { IfOk result (λ b. IsTrue b → AreFound (pointers_read A.ReaderArena self.now) self.now.pointer_count (progress ptr_head.old lim.old) (progress ptr_head.new lim.new)) }
+        ensures found { IfOk result (λ b. IsTrue b → ArePointersFound A.ReaderArena self.now (progress ptr_head.old lim.old) (progress ptr_head.new lim.new)) }
         ensures behind { IfOk result (λ b. IsTrue b → read_head.new ≡ head_behind A.ReaderArena self.now read_head.old) }
         ensures data { IfOk result (λ b. IsTrue b → IsTrue data_trunc.new ↔ IsDataUsed A.ReaderArena self.now) }
         ensures pointers { IfOk result (λ b. IsTrue b → IsTrue ptr_trunc.new ↔ ArePointersUsed A.ReaderArena self.now) }
         ensures started { IfErr result (λ k. StartsWhole A.ReaderArena self.now read_head.old) }
-        ensures refused { IfErr result (TestsStop (pointers_read A.ReaderArena self.now) self.now.pointer_count (progress ptr_head.old lim.old) lim.new) }
+        ensures refused { IfErr result (PointerTestsStop A.ReaderArena self.now (progress ptr_head.old lim.old) lim.new) }
         ensures kept { (result ≡ Ok true → ⊥) → (read_head.new ≡ read_head.old) × (ptr_head.new ≡ ptr_head.old) }
         ensures flags { (result ≡ Ok true → ⊥) → (data_trunc.new ≡ data_trunc.old) × (ptr_trunc.new ≡ ptr_trunc.old) }
     {
@@ -125,11 +125,11 @@ impl<'a, A: ReaderArena> StructReader<'a, A> {
         ptr_trunc: &mut bool,
     ) -> Result<bool, ErrorKind>
         ensures exactly { IfOk result (λ b. IsTrue b ↔ IsCanonicalStruct A.ReaderArena self.now head.old (head_behind A.ReaderArena self.now head.old)) }
-        ensures found { IfOk result (λ b. IsTrue b → AreFound (pointers_read A.ReaderArena self.now) self.now.pointer_count (progress (head_behind A.ReaderArena self.now head.old) lim.old) (progress head.new lim.new)) }
+        ensures found { IfOk result (λ b. IsTrue b → ArePointersFound A.ReaderArena self.now (progress (head_behind A.ReaderArena self.now head.old) lim.old) (progress head.new lim.new)) }
         ensures data { IfOk result (λ b. IsTrue b → IsTrue data_trunc.new ↔ IsDataUsed A.ReaderArena self.now) }
         ensures pointers { IfOk result (λ b. IsTrue b → IsTrue ptr_trunc.new ↔ ArePointersUsed A.ReaderArena self.now) }
         ensures started { IfErr result (λ k. StartsWhole A.ReaderArena self.now head.old) }
-        ensures refused { IfErr result (TestsStop (pointers_read A.ReaderArena self.now) self.now.pointer_count (progress (head_behind A.ReaderArena self.now head.old) lim.old) lim.new) }
+        ensures refused { IfErr result (PointerTestsStop A.ReaderArena self.now (progress (head_behind A.ReaderArena self.now head.old) lim.old) lim.new) }
         ensures kept { (result ≡ Ok true → ⊥) → head.new ≡ head.old }
         ensures flags { (result ≡ Ok true → ⊥) → (data_trunc.new ≡ data_trunc.old) × (ptr_trunc.new ≡ ptr_trunc.old) }
     {
@@ -250,7 +250,7 @@ fn test_sections<A: ReaderArena>(
 ) -> Result<Option<u32>, ErrorKind>
     requires inside { start + (size.data_words + size.pointers) ≤ length (row (reading A.ReaderArena from.now)) }
     ensures tells { IfOk result (TellsStruct (reading_on A.ReaderArena from.now start nesting_limit) size lim.old lim.new) }
-    ensures refused { IfErr result (TestsStop (reading_on A.ReaderArena from.now (start + size.data_words) nesting_limit) size.pointers (progress (start + size.data_words + size.pointers) lim.old) lim.new) }
+    ensures refused { IfErr result (StructTestStops (reading_on A.ReaderArena from.now start nesting_limit) size lim.old lim.new) }
 {
     let data_words = u32::from(size.data_words);
     let pointers = u32::from(size.pointers);
@@ -319,7 +319,8 @@ fn test_structs<A: ReaderArena>(
 ) -> Result<Option<u32>, ErrorKind>
     requires inside { start + claimed ≤ length (row (reading A.ReaderArena from.now)) }
     ensures tells { IfOk result (TellsClaimed (reading_on A.ReaderArena from.now start nesting_limit) size count claimed lim.old lim.new) }
-    ensures refused { IfErr result (λ k. (count * (size.data_words + size.pointers) ≡ claimed) × RowTestsStop (reading_on A.ReaderArena from.now start nesting_limit) size count (progress (start + claimed) lim.old) lim.new k) }
+    ensures exact { OnErr result (count * (size.data_words + size.pointers) ≡ claimed) }
+    ensures refused { IfErr result (RowTestsStop (reading_on A.ReaderArena from.now start nesting_limit) size count (progress (start + claimed) lim.old) lim.new) }
 {
     if u64::from(count) * u64::from(size.total()) != u64::from(claimed) {
         return Ok(None);
