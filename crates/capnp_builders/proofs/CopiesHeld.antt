@@ -1,7 +1,7 @@
 -- What a place holds once a value was copied to it: one that was null, or was cleared first.
-use Rattle.std.proofs.Common.{◌≡◌, ℕ, true, length, Result, Ok, Err, IfOk, OnOk, OnErr, [], ◌∷◌, ap, sym, subst, ◌<◌, ◌≤◌, arith}
+use Rattle.std.proofs.Common.{◌≡◌, inl, inr, ℕ, zero, suc, List, length, refl, ◌∙◌, Result, Ok, Err, IfOk, OnOk, OnErr, [], ◌∷◌, ap, sym, subst, arith}
 use Rattle.capnp_words.specs.declared.error.ErrorKind.{ErrorKind}
-use Rattle.capnp_format.specs.Canonical.{trim, encoding, word_count}
+use Rattle.capnp_format.specs.Canonical.{trim, encoding}
 use Rattle.capnp_format.specs.Segments.{Segments, segment, word_at, IsPlace}
 use Rattle.capnp_format.specs.Tree.{Tree, Null}
 use Rattle.capnp_format.proofs.Levels.{one_value}
@@ -12,9 +12,9 @@ use Rattle.capnp_making.specs.Zeroed.{IsPruned}
 use Rattle.capnp_making.proofs.FillingMade.{null_stored}
 use Rattle.capnp_objects.specs.Outcomes.{Reads}
 use Rattle.capnp_objects.specs.Reading.{Reading}
-use Rattle.capnp_objects.specs.Wanted.{canonical}
-use Rattle.capnp_copies.specs.Changes.{Change, StayInSegment, StandsAsRead, form_of}
+use Rattle.capnp_copies.specs.Changes.{Change, StandsAsRead, form_of}
 use Rattle.capnp_copies.specs.Rooms.{IsTooLarge}
+use Rattle.capnp_builders.specs.Kept.{StandsOnceCleared, FillsSegment, FillsMessage}
 use Rattle.capnp_copies.proofs.Copying.{fresh_made}
 
 -- a null pointer stores nothing else
@@ -29,17 +29,43 @@ null_cleared (Ok x) S R s p place null made = tt
 null_cleared (Err k) S R s p place null made = null_replaced S R s p Null place null made
 
 -- a segment whose one word was null is the canonical words
-pub fresh_copied : {X : Type 0} (o : Result X ErrorKind) (r : Reading) (c : Change) (Q : Tree → Type 0) → c.canonicalize ≡ true → IsPlace c.old.words c.segment c.at → segment c.old.words c.segment ≡ 0 ∷ [] →
-    IfOk o (λ _. (t : Tree) × Reads (form_of c.canonicalize) r c.before c.after t × Q t) → OnOk o (StandsAsRead r c) →
-    IfOk o (λ _. (t : Tree) × Reads canonical r c.before c.after t × (StayInSegment c.old c.new c.segment (word_count (trim t)) → segment c.new.words c.segment ≡ encoding (trim t)))
-fresh_copied (Ok x) r c Q form place one (t, is_read, held) stands =
-    (t, subst (λ b. Reads (form_of b) r c.before c.after t) form is_read, λ stay. fresh_made c.old.words c.segment c.at t (place, one) (stands t is_read (form, stay)))
-fresh_copied (Err k) r c Q form place one copied stands = tt
+pub fresh_copied : {X : Type 0} (o : Result X ErrorKind) (r : Reading) (c : Change) (Q : Tree → Type 0) → IsPlace c.old.words c.segment c.at → segment c.old.words c.segment ≡ 0 ∷ [] →
+    IfOk o (λ _. (t : Tree) × Reads (form_of c.canonicalize) r c.before c.after t × Q t) → OnOk o (StandsAsRead r c) → IfOk o (λ _. FillsSegment r c)
+fresh_copied (Ok x) r c Q place one (t, is_read, held) stands = (t, is_read, λ fits. fresh_made c.old.words c.segment c.at t (place, one) (stands t is_read fits))
+fresh_copied (Err k) r c Q place one copied stands = tt
 
--- the place is in the message still
-pub still_there : {X E : Type 0} (o : Result X E) (S R : Segments) (s p : ℕ) (P : Tree → Type 0) (f : Tree → Tree) → IfOk o (λ _. (t : Tree) × P t × IsReplaced S R s p Null (f t)) → OnErr o (IsReplaced S R s p Null Null) → IsPlace S s p → IsPlace R s p
-still_there (Ok x) S R s p P f (t, is_so, made) cleared place = omega (arith, made.words s, place)
-still_there (Err k) S R s p P f copied made place = omega (arith, made.words s, place)
+-- a message of one segment is that segment
+only_segment : (M : Segments) (ws : List ℕ) → length M ≡ 1 → segment M 0 ≡ ws → M ≡ ws ∷ []
+only_segment [] ws one e = absurd (omega (arith, one))
+only_segment (x ∷ []) ws one e = ap (λ (s : List ℕ). s ∷ []) e
+only_segment (x ∷ y ∷ M) ws one e = absurd (omega (arith, one))
+
+first_segment : (s p : ℕ) → IsPlace ((0 ∷ []) ∷ []) s p → s ≡ 0
+first_segment zero p place = refl
+first_segment (suc s) p place = absurd (omega (arith, place))
+
+-- a message of one word that was null, and has one segment still, is the canonical words
+pub alone_copied : {X : Type 0} (o : Result X ErrorKind) (r : Reading) (c : Change) (Q : Tree → Type 0) → IsPlace c.old.words c.segment c.at → c.old.words ≡ (0 ∷ []) ∷ [] →
+    IfOk o (λ _. (t : Tree) × Reads (form_of c.canonicalize) r c.before c.after t × Q t) → OnOk o (StandsAsRead r c) → IfOk o (λ _. FillsMessage r c)
+alone_copied (Ok x) r c Q place fresh copied stands =
+    let first : c.segment ≡ 0 = first_segment c.segment c.at (subst (λ (S : Segments). IsPlace S c.segment c.at) fresh place) in
+    let only : segment c.old.words c.segment ≡ 0 ∷ [] = ap (λ i. segment c.old.words i) first ∙ ap (λ (S : Segments). segment S 0) fresh in
+    let made = fresh_copied (Ok x) r c Q place only copied stands in
+    (made.0, made.1, λ form one. only_segment c.new.words (encoding (trim made.0)) one (subst (λ i. segment c.new.words i ≡ encoding (trim made.0)) first (made.2 (form, inr one))))
+alone_copied (Err k) r c Q place fresh copied stands = tt
+
+-- the canonical words stand behind what was cleared, or was null
+pub stands_once : {X E : Type 0} (o : Result X E) (r : Reading) (c : Change) (mid : View) → IsPruned c.old.words mid.words → KeepsLimits c.old mid → Puts c.old.words mid.words c.segment c.at Null → OnOk o (StandsAsRead r (record c { old = mid })) → OnOk o (StandsOnceCleared r c)
+stands_once (Ok x) r c mid zeroed limits null stands = record { cleared = mid; zeroed = zeroed; limits = limits; null = null; stands = stands }
+stands_once (Err k) r c mid zeroed limits null stands = tt
+
+pub nothing_zeroed : (S : Segments) → IsPruned S S
+nothing_zeroed S = record { segments = refl; words = λ v. refl; only = λ v r. inl refl; fewer = omega arith }
+
+-- what either outcome gives
+pub either_way : {X E : Type 0} (o : Result X E) (P Q G : Type 0) → IfOk o (λ _. P) → OnErr o Q → (P → G) → (Q → G) → G
+either_way (Ok x) P Q G copied cleared f h = f copied
+either_way (Err k) P Q G copied cleared f h = h cleared
 
 -- what is refused once the place is cleared was refused before
 

@@ -6,3 +6,4 @@ pub mod FoundBytes
 pub mod FoundLists
 pub mod CopiesHeld
 pub mod ContentWritten
+pub mod ContentTaken

@@ -1,21 +1,18 @@
--- A pointer of a message that is built, and what a canonical copy to it leaves.
-use Rattle.std.specs.Prelude.{◌≡◌, ◌⊎◌, ℕ, ◌+◌, ◌≤◌, Option, Result, [], ◌∷◌, length}
+-- A pointer of a message that is built.
+use Rattle.std.specs.Prelude.{◌≡◌, ℕ, Option, Result, Some, Ok, [], ◌∷◌, length}
 use Rattle.capnp_words.specs.Meter.{Meter}
 use Rattle.capnp_words.specs.declared.error.ErrorKind.{ErrorKind}
 use Rattle.capnp_format.specs.Segments.{Segments, segment, word_at, IsPlace}
 use Rattle.capnp_format.specs.Forest.{target}
 use Rattle.capnp_format.specs.Tree.{Tree}
-use Rattle.capnp_format.specs.Canonical.{trim, encoding, word_count}
 use Rattle.capnp_arena.specs.View.{View}
 use Rattle.capnp_making.specs.declared.existing.ExistingBytes.{ExistingBytes}
 use Rattle.capnp_making.specs.declared.existing.ExistingList.{ExistingList}
 use Rattle.capnp_making.specs.Existing.{list_in, data_in, text_in}
 use Rattle.capnp_making.specs.Stored.{IsStored, Puts}
 use Rattle.capnp_pointers.specs.declared.wire_pointer.ElementSize.{ElementSize}
-use Rattle.capnp_objects.specs.Outcomes.{Reads}
 use Rattle.capnp_objects.specs.Reading.{Reading}
-use Rattle.capnp_objects.specs.Wanted.{canonical}
-use Rattle.capnp_copies.specs.Copies.{IsCopied, CanBeCopied}
+use Rattle.capnp_copies.specs.Copies.{CanBeCopied}
 use Rattle.capnp_builders.specs.declared.builders.PointerBuilder.{PointerBuilder}
 
 -- A place that is written: the message, where in it, and how many words its segment can hold.
@@ -48,6 +45,13 @@ data_at b t = data_in (target b.segments b.segment b.at) t
 abbrev pub text_at : Building → Tree → Result (Option ExistingBytes) ErrorKind
 text_at b t = text_in (target b.segments b.segment b.at) t
 
+-- So it is of the bytes, wherever a value there is data, or text.
+abbrev pub WhereData : Building → (ExistingBytes → Type 0) → Type 0
+WhereData b P = (t : Tree) (bytes : ExistingBytes) → Stores b t → data_at b t ≡ Ok (Some bytes) → P bytes
+
+abbrev pub WhereText : Building → (ExistingBytes → Type 0) → Type 0
+WhereText b P = (t : Tree) (bytes : ExistingBytes) → Stores b t → text_at b t ≡ Ok (Some bytes) → P bytes
+
 -- Whatever value the place had, it has t in its stead.
 abbrev pub Becomes : Building → Building → Tree → Type 0
 Becomes old new t = Puts old.segments new.segments old.segment old.at t
@@ -68,30 +72,6 @@ HasOnlyNull b = segment b.segments b.segment ≡ 0 ∷ []
 abbrev pub IsFresh : Building → Type 0
 IsFresh b = b.segments ≡ (0 ∷ []) ∷ []
 
--- it has one segment
-abbrev pub IsSingle : Building → Type 0
-IsSingle b = length b.segments ≡ 1
-
--- The canonical words of t stand behind the words that were there, and the pointer leads to them.
-abbrev pub GainsCopy : Building → Building → Tree → Type 0
-GainsCopy old new t = IsCopied old.segments new.segments old.segment old.at t
-
--- n words fit behind those of the place's segment, or the message has but one segment once they are written.
-abbrev pub StayNear : Building → Building → ℕ → Type 0
-StayNear old new n = (length (segment old.segments old.segment) + n ≤ old.room) ⊎ IsSingle new
-
--- Whatever value is read with the limiter from m to m', its canonical words stand so, where they stay near.
-abbrev pub GainsAsRead : Reading → Meter → Meter → Building → Building → Type 0
-GainsAsRead r m m' old new = (t : Tree) → Reads canonical r m m' t → StayNear old new (word_count (trim t)) → GainsCopy old new t
-
--- The segment is the canonical words of t.
-abbrev pub IsCopy : Building → Building → Tree → Type 0
-IsCopy old new t = segment new.segments old.segment ≡ encoding (trim t)
-
--- The message is the canonical words of t.
-abbrev pub IsMessageOf : Building → Tree → Type 0
-IsMessageOf b t = b.segments ≡ encoding (trim t) ∷ []
-
 -- What is read has a value without capabilities, at a cost that m covers, whose canonical words fit.
-abbrev pub Fits : Reading → Meter → Building → Type 0
-Fits r m b = CanBeCopied r m (length (segment b.segments b.segment)) b.room
+abbrev pub CanonicalFits : Reading → Meter → Building → Type 0
+CanonicalFits r m b = CanBeCopied r m (length (segment b.segments b.segment)) b.room

@@ -9,7 +9,11 @@ use Rattle.capnp_making.specs.Fields.{with_field}
 use Rattle.capnp_making.specs.Stored.{Puts}
 use Rattle.capnp_readers.specs.declared.readers.struct_reader.StructPlace.{StructPlace}
 use Rattle.capnp_readers.specs.declared.readers.struct_reader.StructReader.{StructReader}
-use Rattle.capnp_copies.specs.Changes.{Change, change}
+use Rattle.capnp_words.specs.declared.error.ErrorKind.{ErrorKind}
+use Rattle.capnp_readers.specs.Sizes.{pointers_read}
+use Rattle.capnp_copies.specs.Changes.{Change, CopiesChildren, change}
+use Rattle.capnp_copies.specs.Growth.{TakesAtMost}
+use Rattle.capnp_copies.specs.StructValues.{CopiesFirst}
 
 -- Byte number i of content of so many bits: the bits behind these are zero.
 abbrev pub content_byte : ℕ → List ℕ → ℕ → ℕ
@@ -48,3 +52,14 @@ module _ {A : Type 0} (g : Ghosts A) where
   -- How many pointers both have.
   abbrev pub both_have : StructReader A g → StructPlace → ℕ
   both_have value place = min place.pointers value.pointer_count
+
+  -- The data is taken, and then as many pointers are copied as both have; or copying these is refused by the name k.
+  abbrev pub TakesContent : StructReader A g → StructPlace → Change → Type 0
+  TakesContent value place c = (mid : View) × TakesData value place c.old mid × CopiesChildren (pointers_read g value) (both_have value place) (record c { old = mid })
+
+  abbrev pub StopsAtContent : StructReader A g → StructPlace → Change → ErrorKind → Type 0
+  StopsAtContent value place c k = (mid : View) × TakesData value place c.old mid × CopiesFirst (pointers_read g value) (both_have value place) (record c { old = mid }) k
+
+  -- Words are taken for the copies of these pointers alone.
+  abbrev pub TakesForContent : StructReader A g → StructPlace → Change → Type 0
+  TakesForContent value place c = TakesAtMost (pointers_read g value).charging 0 (both_have value place) c

@@ -5,3 +5,5 @@ pub mod Lent
 pub mod Places
 pub mod Reads
 pub mod Content
+pub mod Kept
+pub mod Laws

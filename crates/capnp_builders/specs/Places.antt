@@ -71,6 +71,10 @@ pub record Field : Type 0 where
 abbrev pub field : ℕ → ℕ → ℕ → Field
 field start bits value = record { start = start; bits = bits; value = value }
 
+-- A number of so many bytes, which is element number i of a data section.
+abbrev pub number_field : ℕ → ℕ → ℕ → Field
+number_field bytes i value = field (8 * (i * bytes)) (8 * bytes) value
+
 -- A field is written behind a byte of a segment, and nothing else is changed.
 abbrev pub WritesField : View → View → ℕ → ℕ → Field → Type 0
 WritesField old new segment byte f = new ≡ record old { words = with_field old.words segment (8 * byte + f.start) f.bits f.value }

@@ -1,14 +1,13 @@
 //! Builders: places of a message that is built, each with the message borrowed for writing.
 ghost use Rattle.std.specs.Prelude.{◌≡◌, ◌≢◌, ℕ, List, ◌⊎◌, ◌↔◌, ◌∷◌, ◌++◌, [], ◌+◌, ◌-◌, ◌*◌, ◌^◌, ◌<◌, ◌≤◌, IsTrue, false, true, length, pos, Option, Some, IsNone, IfSome, Ok, Err, IsOk, IsOkAnd, IfOk, IfErr, OnOk, OnErr};
 ghost use Rattle.capnp_format.specs.Bytes.{message, words_of};
-ghost use Rattle.capnp_format.specs.Canonical.{trim, encoding, word_count};
 ghost use Rattle.capnp_format.specs.Segments.{segment, word_at, IsPlace};
-ghost use Rattle.capnp_format.specs.Tree.{Tree, Null, Capability, Struct, Flat, Trees, count};
+ghost use Rattle.capnp_format.specs.Tree.{Tree, Null, Capability, Flat, count};
 ghost use Rattle.capnp_format.specs.Numbers.{words_for};
 ghost use Rattle.capnp_making.specs.declared.existing.ExistingBytes.{ExistingBytes};
 ghost use Rattle.capnp_making.specs.declared.existing.ExistingList.{ExistingList};
 ghost use Rattle.capnp_making.specs.Existing.{AreInside, LieIn, capability_of};
-ghost use Rattle.capnp_making.specs.InPlace.{bytes_of, rewritten, AreBytes, AreZeroOnce, FillsZeros};
+ghost use Rattle.capnp_making.specs.InPlace.{bytes_of, rewritten, AreBytes, AreZeroOnce, Overwrites};
 ghost use Rattle.capnp_readers.specs.Readers.{IsListPlace};
 ghost use Rattle.capnp_builders.specs.Found.{place_of, void_list, in_place_of_null, GivesInstead, no_bytes, refusal_of_default};
 ghost use Rattle.capnp_words.specs.declared.error.ErrorKind.{ErrorKind};
@@ -19,12 +18,13 @@ ghost use Rattle.capnp_making.specs.Zeroed.{IsPruned};
 ghost use Rattle.capnp_builders.specs.Places.{IsAligned, IsStructOf, IsListOf, IsStructListOf};
 ghost use Rattle.capnp_words.specs.declared.error.ErrorKind.TheVariants.{MessageTooLarge, UnknownPointerType};
 ghost use Rattle.capnp_builders.specs.Reads.{IsArenaOf};
-ghost use Rattle.capnp_objects.specs.Outcomes.{Reads, ReadsAll};
-ghost use Rattle.capnp_objects.specs.Refusals.{BreaksOff, BreaksOffAmong, Refused, RefusedAll};
+ghost use Rattle.capnp_objects.specs.Outcomes.{Reads};
+ghost use Rattle.capnp_objects.specs.Refusals.{BreaksOff, BreaksOffAmong, Refused};
 ghost use Rattle.capnp_objects.specs.Wanted.{canonical, plain};
-ghost use Rattle.capnp_copies.specs.Changes.{form_of, kept, change, FindsNoRoom};
-ghost use Rattle.capnp_copies.specs.ListValues.{LacksListRoom, ReadsList, RefusedList, BreaksOffList, IsTooLong, elements_read};
-ghost use Rattle.capnp_copies.specs.StructValues.{LacksSections, IsTooWide, kept_count, data_of};
+ghost use Rattle.capnp_copies.specs.Changes.{form_of, RefusesValue, StandsAsRead};
+ghost use Rattle.capnp_copies.specs.Growth.{TakesAtMost, TakesForStruct, TakesForList};
+ghost use Rattle.capnp_copies.specs.ListValues.{RefusesList, BreaksOffList, IsTooLong, elements_read};
+ghost use Rattle.capnp_copies.specs.StructValues.{RefusesStruct};
 ghost use Rattle.capnp_readers.specs.Sizes.{pointers_read};
 ghost use Rattle.capnp_readers.specs.Readers.{reading};
 
@@ -70,7 +70,8 @@ pub struct PointerBuilder<'a, A> {
 impl<'a, A: BuilderArena> PointerBuilder<'a, A> {
     ghost use Rattle.std.specs.Borrow.{sem, follows, Array, u8 as byte};
     ghost use Rattle.capnp_arena.specs.View.{KeepsLimits};
-    ghost use Rattle.capnp_builders.specs.Building.{Becomes, GainsAsRead, StayNear, IsFresh, IsSingle, IsMessageOf, Stores, listed_in, data_at, text_at, Fits, IsCopy, HasOnlyNull, IsNull, IsThere, built, built_at};
+    ghost use Rattle.capnp_builders.specs.Building.{Becomes, IsFresh, Stores, WhereData, WhereText, listed_in, data_at, text_at, CanonicalFits, HasOnlyNull, IsNull, IsThere, built, built_at};
+    ghost use Rattle.capnp_builders.specs.Kept.{PutsCopy, PutsStruct, PutsList, StandsOnceCleared, FillsSegment, FillsMessage, copying};
     ghost use Rattle.capnp_builders.specs.Lent.{with_arena};
     ghost use Rattle.capnp_builders.specs.contracts.builders.PointerBuilder.{the_row};
     ghost use mir.Syntax.{named};
@@ -134,6 +135,7 @@ impl<'a, A: BuilderArena> PointerBuilder<'a, A> {
     pub fn clear(&mut self)
         requires { IsThere (built A.view self.old) }
         ensures cleared { Becomes (built A.view self.old) (built A.view self.new) Null }
+        ensures there { IsThere (built A.view self.new) }
         ensures limits { KeepsLimits (A.view self.old.arena.now) (A.view self.new.arena.now) }
         ensures same { self.new.arena.ghost_name ≡ self.old.arena.ghost_name }
         ensures builder { (self.new.segment ≡ self.old.segment) × (self.new.at ≡ self.old.at) }
@@ -145,6 +147,7 @@ impl<'a, A: BuilderArena> PointerBuilder<'a, A> {
     pub fn set_capability(&mut self, index: u32)
         requires { IsThere (built A.view self.old) }
         ensures made { Becomes (built A.view self.old) (built A.view self.new) (Capability index) }
+        ensures there { IsThere (built A.view self.new) }
         ensures limits { KeepsLimits (A.view self.old.arena.now) (A.view self.new.arena.now) }
         ensures same { self.new.arena.ghost_name ≡ self.old.arena.ghost_name }
         ensures builder { (self.new.segment ≡ self.old.segment) × (self.new.at ≡ self.old.at) }
@@ -356,8 +359,8 @@ impl<'a, A: BuilderArena> PointerBuilder<'a, A> {
             (λ ws. with_arena self.old (rewritten A.with_bytes A.segments self.old.arena.now bytes ws))) }
         ensures now { result.now ≡ bytes_of (A.segments self.old.arena.now) bytes }
         ensures count { length result.now ≡ bytes.length }
-        ensures filled { (ws : List ℕ) → AreBytes bytes.length ws →
-            FillsZeros (A.view self.old.arena.now).words (A.view (rewritten A.with_bytes A.segments self.old.arena.now bytes ws)).words bytes ws }
+        ensures written { (ws : List ℕ) → AreBytes bytes.length ws →
+            Overwrites (A.view self.old.arena.now).words (A.view (rewritten A.with_bytes A.segments self.old.arena.now bytes ws)).words bytes ws }
     {
         let arena = &mut *self.arena;
         lent::bytes_mut(arena, bytes)
@@ -514,7 +517,7 @@ impl<'a, A: BuilderArena> PointerBuilder<'a, A> {
     /// Where the data is that the pointer leads to, as `get_data` looks for it; nothing is changed.
     pub fn find_data(&self, default: Option<&[u8]>) -> Result<ExistingBytes, ErrorKind>
         requires { IsThere (built A.view self.now) }
-        ensures found { (t : Tree) (b : ExistingBytes) → Stores (built A.view self.now) t → data_at (built A.view self.now) t ≡ Ok (Some b) → result ≡ Ok b }
+        ensures found { WhereData (built A.view self.now) (λ b. result ≡ Ok b) }
         ensures refused { (t : Tree) (k : ErrorKind) → Stores (built A.view self.now) t → data_at (built A.view self.now) t ≡ Err k → result ≡ Err k }
         ensures null { Stores (built A.view self.now) Null → IsNone default.entry → result ≡ Ok (no_bytes self.now.segment) }
         ensures of_default { Stores (built A.view self.now) Null → IfSome default.entry (λ d. result ≡ Err (refusal_of_default (words_of d.now))) }
@@ -536,7 +539,7 @@ impl<'a, A: BuilderArena> PointerBuilder<'a, A> {
     /// `find_data` and `bytes_mut`, which do the same in two steps.
     pub fn get_data(self, default: Option<&[u8]>) -> Result<&'a mut [u8], ErrorKind>
         requires { IsThere (built A.view self) }
-        ensures found { (t : Tree) (b : ExistingBytes) → Stores (built A.view self.entry) t → data_at (built A.view self.entry) t ≡ Ok (Some b) → IsOkAnd result (λ s. s.now ≡ bytes_of (A.segments self.entry.arena.now) b) }
+        ensures found { WhereData (built A.view self.entry) (λ b. IsOkAnd result (λ s. s.now ≡ bytes_of (A.segments self.entry.arena.now) b)) }
         ensures refused { (t : Tree) (k : ErrorKind) → Stores (built A.view self.entry) t → data_at (built A.view self.entry) t ≡ Err k → result ≡ Err k }
         ensures null { Stores (built A.view self.entry) Null → IsNone default.entry → IsOkAnd result (λ s. s.now ≡ []) }
         ensures of_default { Stores (built A.view self.entry) Null → IfSome default.entry (λ d. result ≡ Err (refusal_of_default (words_of d.now))) }
@@ -557,7 +560,7 @@ impl<'a, A: BuilderArena> PointerBuilder<'a, A> {
     /// Where the text is that the pointer leads to, as `get_text` looks for it; nothing is changed.
     pub fn find_text(&self, default: Option<&[u8]>) -> Result<ExistingBytes, ErrorKind>
         requires { IsThere (built A.view self.now) }
-        ensures found { (t : Tree) (b : ExistingBytes) → Stores (built A.view self.now) t → text_at (built A.view self.now) t ≡ Ok (Some b) → result ≡ Ok b }
+        ensures found { WhereText (built A.view self.now) (λ b. result ≡ Ok b) }
         ensures refused { (t : Tree) (k : ErrorKind) → Stores (built A.view self.now) t → text_at (built A.view self.now) t ≡ Err k → result ≡ Err k }
         ensures null { Stores (built A.view self.now) Null → IsNone default.entry → result ≡ Ok (no_bytes self.now.segment) }
         ensures of_default { Stores (built A.view self.now) Null → IfSome default.entry (λ d. result ≡ Err (refusal_of_default (words_of d.now))) }
@@ -577,7 +580,7 @@ impl<'a, A: BuilderArena> PointerBuilder<'a, A> {
     /// `find_text` and `bytes_mut`, which do the same in two steps.
     pub fn get_text(self, default: Option<&[u8]>) -> Result<&'a mut [u8], ErrorKind>
         requires { IsThere (built A.view self) }
-        ensures found { (t : Tree) (b : ExistingBytes) → Stores (built A.view self.entry) t → text_at (built A.view self.entry) t ≡ Ok (Some b) → IsOkAnd result (λ s. s.now ≡ bytes_of (A.segments self.entry.arena.now) b) }
+        ensures found { WhereText (built A.view self.entry) (λ b. IsOkAnd result (λ s. s.now ≡ bytes_of (A.segments self.entry.arena.now) b)) }
         ensures refused { (t : Tree) (k : ErrorKind) → Stores (built A.view self.entry) t → text_at (built A.view self.entry) t ≡ Err k → result ≡ Err k }
         ensures null { Stores (built A.view self.entry) Null → IsNone default.entry → IsOkAnd result (λ s. s.now ≡ []) }
         ensures of_default { Stores (built A.view self.entry) Null → IfSome default.entry (λ d. result ≡ Err (refusal_of_default (words_of d.now))) }
@@ -599,16 +602,17 @@ impl<'a, A: BuilderArena> PointerBuilder<'a, A> {
     /// form ("Canonicalization"). The source is charged as reading all of it costs.
     ///
     /// It is copied onto any pointer, over as many segments as it takes. What the pointer held before
-    /// becomes zero first. In canonical form the words of a null pointer's value stand behind those of its
-    /// segment, in the canonical order, wherever they fit there, or where the message has but one segment
-    /// afterwards.
+    /// becomes zero first, and its words stay allocated. In canonical form the words of the value stand
+    /// behind those of the pointer's segment, in the canonical order, wherever they fit there, or where the
+    /// message has but one segment afterwards.
     ///
     /// A refusal is the first one of reading the source; `CannotCreateACanonicalMessageWithACapability` in
     /// canonical form; or, where an object finds no room, `AllocationFailed`, or `MessageTooLarge` of its
     /// words and one more. In canonical form that comes only where the words don't fit the segment.
     ///
     /// After a refusal the pointer is null, the words that were taken are zero and stay allocated, and
-    /// what was charged stays charged.
+    /// what was charged stays charged. Refused or not, at most as many words are taken as were charged,
+    /// and a landing pad for each pointer that was followed.
     pub fn copy_from<B: ReaderArena>(
         &mut self,
         from: PointerReader<'_, B>,
@@ -616,19 +620,14 @@ impl<'a, A: BuilderArena> PointerBuilder<'a, A> {
         canonicalize: bool,
     ) -> Result<(), ErrorKind>
         requires place { IsThere (built A.view self.old) }
-        ensures copied { IfOk result (λ _. (t : Tree) × Reads (form_of canonicalize) (reading B.ReaderArena from.entry) lim.old lim.new t
-            × Becomes (built A.view self.old) (built A.view self.new) (kept canonicalize t)) }
-        ensures canonical { IsTrue canonicalize → IsNull (built A.view self.old) →
-            OnOk result (GainsAsRead (reading B.ReaderArena from.entry) lim.old lim.new (built A.view self.old) (built A.view self.new)) }
-        ensures fresh { IsTrue canonicalize → HasOnlyNull (built A.view self.old) →
-            IfOk result (λ _. (t : Tree) × Reads canonical (reading B.ReaderArena from.entry) lim.old lim.new t
-            × (StayNear (built A.view self.old) (built A.view self.new) (word_count (trim t)) → IsCopy (built A.view self.old) (built A.view self.new) t)) }
-        ensures alone { IsTrue canonicalize → IsFresh (built A.view self.old) → IsSingle (built A.view self.new) →
-            IfOk result (λ _. (t : Tree) × Reads canonical (reading B.ReaderArena from.entry) lim.old lim.new t × IsMessageOf (built A.view self.new) t) }
-        ensures fits { IsTrue canonicalize → Fits (reading B.ReaderArena from.entry) lim.old (built A.view self.old) → IsOk result }
-        ensures refused { IfErr result (λ k. FindsNoRoom (reading B.ReaderArena from.entry)
-            (change canonicalize self.old.segment self.old.at (A.view self.old.arena.now) (A.view self.new.arena.now) lim.old lim.new) k
-            ⊎ Refused (form_of canonicalize) (reading B.ReaderArena from.entry) lim.old lim.new k) }
+        ensures copied { IfOk result (λ _. PutsCopy (reading B.ReaderArena from.entry) (copying A.view canonicalize self.old self.new lim.old lim.new)) }
+        ensures canonical { IsNull (built A.view self.old) → OnOk result (StandsAsRead (reading B.ReaderArena from.entry) (copying A.view canonicalize self.old self.new lim.old lim.new)) }
+        ensures stands { OnOk result (StandsOnceCleared (reading B.ReaderArena from.entry) (copying A.view canonicalize self.old self.new lim.old lim.new)) }
+        ensures fresh { HasOnlyNull (built A.view self.old) → IfOk result (λ _. FillsSegment (reading B.ReaderArena from.entry) (copying A.view canonicalize self.old self.new lim.old lim.new)) }
+        ensures alone { IsFresh (built A.view self.old) → IfOk result (λ _. FillsMessage (reading B.ReaderArena from.entry) (copying A.view canonicalize self.old self.new lim.old lim.new)) }
+        ensures fits { IsTrue canonicalize → CanonicalFits (reading B.ReaderArena from.entry) lim.old (built A.view self.old) → IsOk result }
+        ensures refused { IfErr result (RefusesValue (reading B.ReaderArena from.entry) (copying A.view canonicalize self.old self.new lim.old lim.new)) }
+        ensures taken { TakesAtMost (reading B.ReaderArena from.entry).charging 0 1 (copying A.view canonicalize self.old self.new lim.old lim.new) }
         ensures spent { OnErr result (BreaksOff (form_of canonicalize) (reading B.ReaderArena from.entry) lim.old lim.new) }
         ensures cleared { OnErr result (Becomes (built A.view self.old) (built A.view self.new) Null) }
         ensures there { IsThere (built A.view self.new) }
@@ -663,15 +662,12 @@ impl<'a, A: BuilderArena> PointerBuilder<'a, A> {
         canonicalize: bool,
     ) -> Result<(), ErrorKind>
         requires place { IsThere (built A.view self.old) }
-        ensures copied { IfOk result (λ _. (ts : Trees) × (count ts ≡ value.now.pointer_count)
-            × ReadsAll (form_of canonicalize) (pointers_read B.ReaderArena value.now) lim.old lim.new ts
-            × Becomes (built A.view self.old) (built A.view self.new) (kept canonicalize (Struct (data_of B.ReaderArena value.now) ts))) }
-        ensures refused { IfErr result (λ k. LacksSections (data_of B.ReaderArena value.now) (pointers_read B.ReaderArena value.now) value.now.pointer_count
-            (change canonicalize self.old.segment self.old.at (A.view self.old.arena.now) (A.view self.new.arena.now) lim.old lim.new) k
-            ⊎ RefusedAll (form_of canonicalize) (pointers_read B.ReaderArena value.now) value.now.pointer_count lim.old lim.new k
-            ⊎ IsTooWide (kept_count canonicalize (data_of B.ReaderArena value.now)) k) }
+        ensures copied { IfOk result (λ _. PutsStruct B.ReaderArena value.now (copying A.view canonicalize self.old self.new lim.old lim.new)) }
+        ensures refused { IfErr result (RefusesStruct B.ReaderArena value.now (copying A.view canonicalize self.old self.new lim.old lim.new)) }
+        ensures taken { TakesForStruct B.ReaderArena value.now (copying A.view canonicalize self.old self.new lim.old lim.new) }
         ensures spent { OnErr result ((lim.new ≡ lim.old) ⊎ BreaksOffAmong (form_of canonicalize) (pointers_read B.ReaderArena value.now) value.now.pointer_count lim.old lim.new) }
         ensures cleared { OnErr result (Becomes (built A.view self.old) (built A.view self.new) Null) }
+        ensures there { IsThere (built A.view self.new) }
         ensures granted { OnOk result (KeepsMemory (A.view self.old.arena.now) (A.view self.new.arena.now)) }
         ensures memory { OnErr result (SpendsMemory (A.view self.old.arena.now) (A.view self.new.arena.now)) }
         ensures same { self.new.arena.ghost_name ≡ self.old.arena.ghost_name }
@@ -708,15 +704,13 @@ impl<'a, A: BuilderArena> PointerBuilder<'a, A> {
         canonicalize: bool,
     ) -> Result<(), ErrorKind>
         requires place { IsThere (built A.view self.old) }
-        ensures copied { IfOk result (λ _. (t : Tree) × ReadsList (form_of canonicalize) (elements_read B.ReaderArena value.now) lim.old lim.new t
-            × Becomes (built A.view self.old) (built A.view self.new) (kept canonicalize t)) }
-        ensures refused { IfErr result (λ k. LacksListRoom (elements_read B.ReaderArena value.now)
-            (change canonicalize self.old.segment self.old.at (A.view self.old.arena.now) (A.view self.new.arena.now) lim.old lim.new) k
-            ⊎ RefusedList (form_of canonicalize) (elements_read B.ReaderArena value.now) lim.old lim.new k
-            ⊎ (IsTooLong (elements_read B.ReaderArena value.now) × (k ≡ MessageTooLarge (2 ^ 64 - 1)))) }
+        ensures copied { IfOk result (λ _. PutsList B.ReaderArena value.now (copying A.view canonicalize self.old self.new lim.old lim.new)) }
+        ensures refused { IfErr result (RefusesList B.ReaderArena value.now (copying A.view canonicalize self.old self.new lim.old lim.new)) }
+        ensures taken { TakesForList B.ReaderArena value.now (copying A.view canonicalize self.old self.new lim.old lim.new) }
         ensures spent { OnErr result ((lim.new ≡ lim.old) ⊎ BreaksOffList (form_of canonicalize) (elements_read B.ReaderArena value.now) lim.old lim.new) }
         ensures long { IsTooLong (elements_read B.ReaderArena value.now) → (result ≡ Err (MessageTooLarge (2 ^ 64 - 1))) × (lim.new ≡ lim.old) }
         ensures cleared { OnErr result (Becomes (built A.view self.old) (built A.view self.new) Null) }
+        ensures there { IsThere (built A.view self.new) }
         ensures granted { OnOk result (KeepsMemory (A.view self.old.arena.now) (A.view self.new.arena.now)) }
         ensures memory { OnErr result (SpendsMemory (A.view self.old.arena.now) (A.view self.new.arena.now)) }
         ensures same { self.new.arena.ghost_name ≡ self.old.arena.ghost_name }

@@ -2,3 +2,4 @@
 #![tactic(auto)]
 
 pub mod builders;
+pub mod laws;

@@ -20,7 +20,7 @@ use Rattle.capnp_copies.proofs.FilledChildren.{children_grow, child_copied}
 
 pub each_copied : {r : Reading} {s p i : ℕ} {old mid new : View} {m m' m'' : Meter} → IsPlace old.words s (p + i) → length (segment mid.words s) < 2 ^ 29 → CopiesChildren r i (change false s p old mid m m') → ((t : Tree) × Reads plain (behind r i) m' m'' t × IsReplaced mid.words new.words s (p + i) Null t) → KeepsMemory mid new →
     CopiesChildren r (i + 1) (change false s p old new m m'')
-each_copied place few first (t, read, made) memory = child_copied place few first (record { value = t; is_read = read; made = (made, memory); tight = λ fits. absurd (false≢true fits.0) })
+each_copied place few first (t, read, made) memory = child_copied place few first (record { value = t; is_read = read; made = (made, memory); stands = λ fits. absurd (false≢true fits.0) })
 
 pub each_stops : {r : Reading} {s p i n : ℕ} {old mid new : View} {m m' m'' : Meter} {k : ErrorKind} → i < n → CopiesChildren r i (change false s p old mid m m') → LacksRoom (change false s (p + i) mid new m' m'') k (WantedAt (behind r i) (change false s (p + i) mid new m' m'')) (IsTooLarge (behind r i)) ⊎ Refused plain (behind r i) m' m'' k → BreaksOff plain (behind r i) m' m'' →
     IsReplaced mid.words new.words s (p + i) Null Null → SpendsMemory mid new → CopiesFirst r n (change false s p old new m m'') k

@@ -29,7 +29,7 @@ no_child r b s p v m = record {
   are_read = read_none (form_of b) r m;
   made = subst (AreFilled v.words v.words s p) (sym (kept_none b)) refl;
   memory = keeps_itself v;
-  tight = λ fits. not_written v.words s ∙ ap (with_segment v.words s) (sym (no_children (segment v.words s) p));
+  stands = λ fits. not_written v.words s ∙ ap (with_segment v.words s) (sym (no_children (segment v.words s) p));
 }
 
 -- the segments, once the first children are copied
@@ -57,7 +57,7 @@ child_copied {r} {b} {s} {p} {i} {old} {mid} {new} {m} {m'} {m''} place few firs
       are_read = read_more first.are_read here;
       made = subst (AreFilled old.words new.words s p) (sym (kept_each-with_last b ts u)) (one_filled new (kept b u) first next.made.0);
       memory = keeps_both old mid new (children_grow first).segments first.memory next.made.1;
-      tight = child_tight b place few (children_grow first).segments next.made.0.segments first next;
+      stands = child_tight b place few (children_grow first).segments next.made.0.segments first next;
     }
 
 pub child_stops : {r : Reading} {b : Bool} {s p i n : ℕ} {old mid new : View} {m m' m'' : Meter} {k : ErrorKind} → IsPlace old.words s (p + i) → i < n → CopiesChildren r i (change b s p old mid m m') → StopsAtValue (behind r i) (change b s (p + i) mid new m' m'') k →

@@ -53,7 +53,7 @@ element_copied {r} {sizes} {b} {s} {p} {old} {mid} {new} put children = record {
   are_read = children.are_read;
   made = element_made new (kept_each b children.children) put children.made;
   memory = keeps_both old mid new (same_segments put) (keeps_written old mid _ put.writes) children.memory;
-  tight = element_tight {r = r} {sizes = sizes} b (record { long = data_long put; room = put.room; writes = put.writes }) children;
+  stands = element_tight {r = r} {sizes = sizes} b (record { long = data_long put; room = put.room; writes = put.writes }) children;
 }
 
 element_too_large : (from : Reading) (n : ℕ) {r : Reading} {sizes : ElementSizes} {s p : ℕ} {old mid : View} → DataWritten r sizes old mid s p → AreTooLarge from n (length (segment mid.words s)) (mid.room s) → AreTooLarge from n (length (segment old.words s)) (old.room s)
@@ -100,7 +100,7 @@ no_row r sizes n b s p v m = record {
   are_read = read_no_element (form_of b) r sizes.source m;
   made = none b;
   memory = keeps_itself v;
-  tight = λ last fits. no_row_tight b sizes s p n v m last;
+  stands = λ last fits. no_row_tight b sizes s p n v m last;
 }
   where
     none : (b : Bool) → AreElementsFilled v.words v.words s p sizes.kept.data_words sizes.kept.pointers (cut_to sizes.kept.data_words sizes.kept.pointers (kept_elements b no_elements))
@@ -120,7 +120,7 @@ no_width r sizes n b s p v m fits none =
       made = subst (λ q. AreElementsFilled v.words v.words s p sizes.kept.data_words q (cut_to sizes.kept.data_words q (kept_elements b x.all))) no_pointers
           (subst (λ d. AreElementsFilled v.words v.words s p d 0 (cut_to d 0 (kept_elements b x.all))) no_data (nothing_filled v.words s p (kept_elements b x.all)));
       memory = keeps_itself v;
-      tight = λ last fits. no_width_tight b sizes s p n v m x.all none last;
+      stands = λ last fits. no_width_tight b sizes s p n v m x.all none last;
     }
 
 -- The loop over n elements is at element number i; their rows of zeros lie in a segment.
@@ -194,7 +194,7 @@ module _ {r : Reading} {sizes : ElementSizes} {n i : ℕ} {b : Bool} {s p : ℕ}
         are_read = a.are_read;
         made = subst (AreElementsFilled old.words new.words s p d q) (sym shape) made;
         memory = keeps_both old mid new rows_grow.segments here.rows.memory next.memory;
-        tight = row_tight {r = r} {sizes = sizes} b row_place rows_grow.segments (element_grows mid.words new.words s (p + i * (d + q)) next_words (kept_each b next.children) next.made (omega (arith, next_room, next_long))).segments here.fits here.wide here.more here.rows next a.all shape;
+        stands = row_tight {r = r} {sizes = sizes} b row_place rows_grow.segments (element_grows mid.words new.words s (p + i * (d + q)) next_words (kept_each b next.children) next.made (omega (arith, next_room, next_long))).segments here.fits here.wide here.more here.rows next a.all shape;
       }
 
   pub row_stops : {new : View} {m'' : Meter} {k : ErrorKind} → StopsAtElement (behind r (i * (sizes.source.data_words + sizes.source.pointers))) sizes (change b s (p + i * (d + q)) mid new m' m'') k → StopsAtElements r sizes n (change b s p old new m m'') k

@@ -116,7 +116,7 @@ module _ {b : Bool} {r : Reading} {size least : StructSize} {s p : ℕ} {old mad
         counts = f.counts;
         are_read = f.are_read;
         made = (subst (IsReplaced old.words new.words s p Null) (sym f.form) whole, keeps_both old mid new segments keeps children.memory);
-        tight = struct_tight is_made b (le_trans longer (children_grow children).segments) o.sections children (Struct (words_from r size.data_words) f.all) f.form;
+        stands = struct_tight is_made b (le_trans longer (children_grow children).segments) o.sections children (Struct (words_from r size.data_words) f.all) f.form;
       }
 
   pub struct_stops : {new : View} {m m' : Meter} {k : ErrorKind} → StopsAtChildren (behind r size.data_words) least.pointers (change b h.segment (h.at + least.data_words) mid new m m') k → StopsAtStruct r size (change b s p old new m m') k
@@ -150,7 +150,7 @@ pointers_copied {b} {r} {i} {s} {p} {old} {mid} {new} {h} o near children =
       counts = children.counts;
       are_read = children.are_read;
       made = (subst (IsReplaced old.words new.words s p Null) (sym (kept_pointers b children.children)) whole, keeps_both old mid new o.begun.made.segments o.memory children.memory);
-      tight = pointers_tight b (children_grow children).segments near children;
+      stands = pointers_tight b (children_grow children).segments near children;
     }
 
 pub pointers_stop : {b : Bool} {r : Reading} {i s p : ℕ} {old mid new : View} {h : Start} {m m' : Meter} {k : ErrorKind} → ObjectBegun s p i old mid h (Pointers (nulls i)) → ObjectMade s p i old mid h → (HasOwnRoom old s i → StartsBehind old.words s h) → StopsAtChildren r i (change b h.segment h.at mid new m m') k →
@@ -183,7 +183,7 @@ structs_copied {b} {r} {sizes} {i} {s} {p} {old} {mid} {new} {h} inside widths o
       counts = elements.counts;
       are_read = elements.are_read;
       made = (subst (IsReplaced old.words new.words s p Null) (sym form) whole, keeps_both old mid new o.begun.made.segments o.memory elements.memory);
-      tight = structs_tight {r = r} {sizes = sizes} b (elements_grow mid.words new.words h.segment (h.at + 1) d q (cut_to d q (kept_elements b es)) elements.made (omega (arith, cut_to-count d q b es, elements.counts, ap (λ j. j * (d + q)) (cut_to-count d q b es ∙ elements.counts), o.begun.inside.1))).segments inside widths near elements;
+      stands = structs_tight {r = r} {sizes = sizes} b (elements_grow mid.words new.words h.segment (h.at + 1) d q (cut_to d q (kept_elements b es)) elements.made (omega (arith, cut_to-count d q b es, elements.counts, ap (λ j. j * (d + q)) (cut_to-count d q b es ∙ elements.counts), o.begun.inside.1))).segments inside widths near elements;
     }
 
 pub structs_stop : {b : Bool} {r : Reading} {sizes : ElementSizes} {i s p : ℕ} {old mid new : View} {h : Start} {m m' : Meter} {k : ErrorKind} → r.at + i * (sizes.source.data_words + sizes.source.pointers) ≤ length (row r) → KeepsWidths b r sizes.source i sizes.kept →

@@ -61,7 +61,7 @@ null_copied {r} {b} {s} {p} {v} {m} {m'} object place null = record {
   value = Null;
   is_read = subst (λ x. Reads (form_of b) r m x Null) (sym object.1) (read_null m object.0);
   made = (subst (IsReplaced v.words v.words s p Null) (sym (kept_null b)) (nothing_left v.words v.words s p place null refl), keeps_itself v);
-  tight = λ fits. null_written v.words s p null;
+  stands = λ fits. null_written v.words s p null;
 }
 
 capability_read : {r : Reading} (m m' : Meter) (i : ℕ) → IsObject r m m' (ObjectCapability i) → Reads plain r m m' (Capability i)
@@ -73,7 +73,7 @@ capability_copied {r} {s} {p} {i} {old} {new} {m} {m'} object place writes = rec
   value = Capability i;
   is_read = capability_read m m' i object;
   made = (capability_made old.words new.words s p i place (ap (λ (v : View). v.words) writes), keeps_written old new _ writes);
-  tight = λ fits. absurd (false≢true fits.0);
+  stands = λ fits. absurd (false≢true fits.0);
 }
 
 pub capability_stops : {r : Reading} {s p i : ℕ} {v : View} {m m' : Meter} → IsObject r m m' (ObjectCapability i) → IsPlace v.words s p → word_at v.words s p ≡ 0 → StopsAtValue r (change true s p v v m m') CannotCreateACanonicalMessageWithACapability
@@ -94,7 +94,7 @@ struct_value {r} {size = size} start less (a, o, z, (held, es, eb), ed, eq) stru
       value = Struct (words_at r.segments start.segment start.at size.data_words) struct.children;
       is_read = rw (es, e, ed) (read_struct o z (struct.counts ∙ eq) (rw (en, es, e, ed) at struct.are_read));
       made = struct.made;
-      tight = struct.tight;
+      stands = struct.stands;
     }
 
 pub struct_value_stops : {r : Reading} {b : Bool} {s p levels : ℕ} {old new : View} {m m' m'' : Meter} {size : StructSize} {k : ErrorKind} (start : Place) → (0 < r.levels → levels ≡ pred r.levels) → IsObject r m m' (ObjectStruct start size) →
@@ -126,7 +126,7 @@ pub pointers_value : {r : Reading} {b : Bool} {s p levels i : ℕ} {old new : Vi
 pointers_value start less (a, o, z, six, (held, es, eb), ei) list =
     let en = less o.meets.levels in
     let e : start.at ≡ a.start = omega arith in
-    record { value = Pointers list.children; is_read = read_pointers o z six (list.counts ∙ ei) (rw (en, es, e) at list.are_read); made = list.made; tight = list.tight }
+    record { value = Pointers list.children; is_read = read_pointers o z six (list.counts ∙ ei) (rw (en, es, e) at list.are_read); made = list.made; stands = list.stands }
 
 pub pointers_value_stops : {r : Reading} {b : Bool} {s p levels i : ℕ} {old new : View} {m m' m'' : Meter} {k : ErrorKind} (start : Place) → (0 < r.levels → levels ≡ pred r.levels) → IsObject r m m' (ObjectPointers start i) →
     StopsAtPointers (inside r levels start) i (change b s p old new m' m'') k → StopsAtValue r (change b s p old new m m'') k
@@ -161,7 +161,7 @@ structs_value {size = size} start less (a, o, z, seven, (held, eu, eb), ei, ed, 
       value = Structs size.data_words size.pointers list.elements;
       is_read = rw (ed, eq) (read_structs o z seven (list.counts ∙ ei) (rw (en, eu, e, ed, eq) at list.are_read));
       made = list.made;
-      tight = list.tight;
+      stands = list.stands;
     }
 
 pub structs_value_stops : {r : Reading} {b : Bool} {s p levels i : ℕ} {old new : View} {m m' m'' : Meter} {size : StructSize} {k : ErrorKind} (start : Place) → (0 < r.levels → levels ≡ pred r.levels) → IsObject r m m' (ObjectStructs start size i) →
@@ -206,7 +206,7 @@ pub record FlatOutcome (result : Result (Unit {0}) ErrorKind) (s p n : ℕ) (old
   pub refused : IfErr result (RefusesWords old new n)
   pub kept : OnErr result (new.words ≡ old.words)
   pub memory : OnErr result (SpendsMemory old new)
-  pub tight : OnOk result (IsCopiedInRoom old new s p t)
+  pub stands : OnOk result (IsCopiedInRoom old new s p t)
   pub fits : HasOwnRoom old s (word_count (trim t)) → IsOk result
 
 pub flat_value : {r : Reading} {s p i n : ℕ} {old new : View} {m m' : Meter} {ws : List ℕ} (b : Bool) (result : Result (Unit {0}) ErrorKind) (start : Place) (size : ElementSize) → IsObject r m m' (ObjectFlat start size i) → n ≡ words_for (size_number size) i →
@@ -215,7 +215,7 @@ flat_value {s = s} {p = p} {i = i} {old = old} {new = new} {ws = ws} b (Ok x) st
   value = Flat (size_number size) (unpacked (size_number size) i ws);
   is_read = flat_read_in b start size object words part;
   made = (subst (IsReplaced old.words new.words s p Null) (sym (kept_flat b (size_number size) (unpacked (size_number size) i ws))) f.copied, f.granted);
-  tight = λ fits. f.tight fits.1;
+  stands = λ fits. f.stands fits.1;
 }
 flat_value b (Err k) start size object words part f = tt
 
@@ -232,7 +232,7 @@ flat_stops {s = s} {p = p} {i = i} {old = old} {new = new} b (Err k) start size 
 pub stands_as_read : {r : Reading} {c : Change} → CopiesValue r c → StandsAsRead r c
 stands_as_read {r} {c} copies t is_read =
     let x = copies.is_read in
-    subst (StandsWhereItFits c) (one_value r.segments r.levels r.levels r.segment r.at copies.value t x.cost is_read.cost x.means is_read.means).0 copies.tight
+    subst (StandsWhereItFits c) (one_value r.segments r.levels r.levels r.segment r.at copies.value t x.cost is_read.cost x.means is_read.means).0 copies.stands
 
 -- one that can be copied behind the words of its segment does not stop
 pub stops_rightly : {r : Reading} {c : Change} {k : ErrorKind} → StopsAtValue r c k → c.canonicalize ≡ true → CanBeCopied r c.before (length (segment c.old.words c.segment)) (c.old.room c.segment) → ⊥

@@ -33,3 +33,4 @@ pub mod ListValues
 pub mod DataSections
 pub mod FilledSections
 pub mod EachCopied
+pub mod Growth

@@ -30,11 +30,11 @@ child_tight {r} {s} {p} {i} {old} {mid} {new} {m} {m'} {m''} true place few grow
     let ts : Trees = first.children in
     let u : Tree = next.value in
     let words = words-with_last ts u in
-    let stand : AreCopied old.words mid.words s p ts = first.tight (refl, stay_first old mid new s (p + i) (word_count_all (trim_each (with_last ts u))) (word_count_all (trim_each ts)) (omega (arith, words)) place grows more fits) in
+    let stand : AreCopied old.words mid.words s p ts = first.stands (refl, stay_first old mid new s (p + i) (word_count_all (trim_each (with_last ts u))) (word_count_all (trim_each ts)) (omega (arith, words)) place grows more fits) in
     let one : ChildrenCopied r i (call_of old mid s m m') p = record { children = ts; counts = first.counts; are_read = first.are_read; made = stand } in
     let long : length (segment mid.words s) ≡ length (segment old.words s) + word_count_all (trim_each ts) = ap length (now place one) ∙ now_long (omega (arith, place)) one in
     let room : mid.room s ≡ old.room s = room_kept old mid s (p + i) place first.memory in
-    let stands : IsCopied mid.words new.words s (p + i) u = next.tight (refl, stay_later old mid new s s (word_count_all (trim_each (with_last ts u))) (word_count (trim u)) (λ f. omega (arith, f, words, long, room)) fits) in
+    let stands : IsCopied mid.words new.words s (p + i) u = next.stands (refl, stay_later old mid new s s (word_count_all (trim_each (with_last ts u))) (word_count (trim u)) (λ f. omega (arith, f, words, long, room)) fits) in
     let two : ValueCopied (behind r i) (call_of mid new s m' m'') (p + i) = record { value = u; is_read = next.is_read; made = stands } in
     child_put place few one two
 child_tight false place few grows more first next (e, fits) = absurd (false≢true e)

@@ -37,7 +37,7 @@ element_tight {r} {sizes} {s} {p} {old} {mid} {new} {m} {m'} true put children p
     let long : length (segment mid.words s) ≡ length (segment old.words s) = ap (λ (v : View). length (segment v.words s)) put.writes ∙ length-with_words old.words s p us (omega (arith, put.long, put.room)) in
     let room : mid.room s ≡ old.room s = ap (λ (v : View). v.room s) put.writes in
     let one : ChildrenCopied (behind r sizes.source.data_words) sizes.kept.pointers (call_of mid new s m m') (p + sizes.kept.data_words) =
-    record { children = children.children; counts = children.counts; are_read = children.are_read; made = children.tight (refl, stay_later old mid new s s (word_count_all (trim_each children.children)) (word_count_all (trim_each children.children)) (λ f. omega (arith, f, long, room)) fits) } in
+    record { children = children.children; counts = children.counts; are_read = children.are_read; made = children.stands (refl, stay_later old mid new s s (word_count_all (trim_each children.children)) (word_count_all (trim_each children.children)) (λ f. omega (arith, f, long, room)) fits) } in
     let written : DataPut r sizes old mid s p us = record { place = place; are_words = refl; counts = put.long; writes = put.writes } in
     children_put written one
 element_tight false put children place (e, fits) = absurd (false≢true e)
@@ -76,13 +76,13 @@ row_tight {r} {sizes} {n} {i} {s} {p} {old} {mid} {new} {m} {m'} {m''} true plac
     let ends : p + n * w ≡ length (segment old.words s) = subst (λ k. p + k * w ≡ length (segment old.words s)) to_n last.ends in
     let before : EndsInZeros (change true s p old mid m m') ((i + (n - i)) * w) = record { ends = subst (λ k. p + k * w ≡ length (segment old.words s)) to_i ends; zero = last.zero } in
     let rows : RowsCopied r sizes i (n - i) (call_of old mid s m m') p =
-    record { elements = first.elements; counts = first.counts; are_read = first.are_read; made = first.tight before (refl, stay_first old mid new s p (word_count_elements (cut sizes all)) (word_count_elements fs) (omega (arith, words)) place grows longer fits) } in
+    record { elements = first.elements; counts = first.counts; are_read = first.are_read; made = first.stands before (refl, stay_first old mid new s p (word_count_elements (cut sizes all)) (word_count_elements fs) (omega (arith, words)) place grows longer fits) } in
     let fitting : ElementsFit r sizes n (segment old.words s) p = record { room = ends; inside = fit.inside; less_data = fit.less_data; less_pointers = fit.less_pointers; used = fit.used } in
     let here : AtRow r sizes n i w (call_of old mid s m m') p = record { fits = fitting; width = refl; wide = wide; more = more; rows = rows } in
     let x = next_row here in
     let room : mid.room s ≡ old.room s = first.memory.1 s x.there in
     let one : ElementCopied (behind r (i * (sizes.source.data_words + sizes.source.pointers))) sizes (call_of mid new s m' m'') (p + i * w) =
-    record { children = next.children; counts = next.counts; are_read = next.are_read; made = next.tight (omega (arith, x.room, wide)) (refl, stay_later old mid new s s (word_count_elements (cut sizes all)) (word_count_all ts) (λ f. omega (arith, f, words, x.long, room)) fits) } in
+    record { children = next.children; counts = next.counts; are_read = next.are_read; made = next.stands (omega (arith, x.room, wide)) (refl, stay_later old mid new s s (word_count_elements (cut sizes all)) (word_count_all ts) (λ f. omega (arith, f, words, x.long, room)) fits) } in
     row_put here one ∙ ap (λ y. with_segment old.words s (rows_laid (take p (segment old.words s)) sizes.kept.data_words sizes.kept.pointers y (n - (i + 1)))) (sym shape)
 row_tight false place grows longer fit wide more first next all shape last (e, fits) = absurd (false≢true e)
 

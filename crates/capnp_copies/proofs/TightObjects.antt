@@ -135,7 +135,7 @@ module _ {r : Reading} {size least : StructSize} {s p : ℕ} {old made mid : Vie
       let no_words : us ≡ [] = ap (words_from r) no_data in
       let no_kids : ts ≡ no_trees = no_trees_left ts (omega (arith, children.counts, none)) in
       let words : word_count_all (trim_each ts) ≡ 0 = ap (λ t. word_count_all (trim_each t)) no_kids in
-      let stand : AreCopied mid.words new.words h.segment (h.at + least.data_words) ts = children.tight (refl, inl (omega (arith, o.within, words))) in
+      let stand : AreCopied mid.words new.words h.segment (h.at + least.data_words) ts = children.stands (refl, inl (omega (arith, o.within, words))) in
       let V : List ℕ = segment mid.words h.segment in
       let kept_mid : new.words ≡ mid.words =
       stand ∙ ap (λ t. with_segment mid.words h.segment (with_children V (h.at + least.data_words) (trim_each t))) no_kids
@@ -163,7 +163,7 @@ module _ {r : Reading} {size least : StructSize} {s p : ℕ} {old made mid : Vie
           ap (λ T. length (segment T s)) (mid_near near) ∙ length-extended P s ws (there P s p place) ∙ omega (arith, same_long, long, length-append us (replicate q 0), length-replicate {A = ℕ} q 0) in
           let room : mid.room s ≡ old.room s = ap (λ (v : View). v.room s) o.writes ∙ room_kept old made s p o.place o.memory in
           let stand : AreCopied mid.words new.words s (length (segment P s) + d) ts =
-          moved mid new (word_count_all (trim_each ts)) (λ i. i + d) ts at_end.0 (at_end.1 ∙ sym same_long) (λ f. children.tight (refl, f)) (stay_later old mid new s s (word_count (trim t)) (word_count_all (trim_each ts)) (λ f. omega (arith, width, room, f, words)) fits) in
+          moved mid new (word_count_all (trim_each ts)) (λ i. i + d) ts at_end.0 (at_end.1 ∙ sym same_long) (λ f. children.stands (refl, f)) (stay_later old mid new s s (word_count (trim t)) (word_count_all (trim_each ts)) (λ f. omega (arith, width, room, f, words)) fits) in
           near_stands {new = new} {m = m} {m' = m'} near uses (record { children = ts; counts = children.counts; are_read = children.are_read; made = stand })
   struct_tight false longer uses children t form (e, fits) = absurd (false≢true e)
 
@@ -194,7 +194,7 @@ pointers_tight {r} {i} {s} {p} {old} {mid} {new} {h} {m} {m'} true longer o chil
     let width : length V ≡ H + i = length-extended P s ws (there P s p place) ∙ ap (λ k. H + k) (length-replicate i 0) in
     let same_room : mid.room s ≡ old.room s = room_kept old mid s p o.place o.memory in
     let stand : AreCopied mid.words new.words s H children.children =
-    moved mid new (word_count_all ts) (λ k. k) children.children start.0 (start.1 ∙ sym same_long) (λ f. children.tight (refl, f)) (stay_later old mid new s s (word_count (trim (Pointers children.children))) (word_count_all ts) (λ f. omega (arith, ap (λ T. length (segment T s)) mids, width, same_long, same_room, counts, f)) fits) in
+    moved mid new (word_count_all ts) (λ k. k) children.children start.0 (start.1 ∙ sym same_long) (λ f. children.stands (refl, f)) (stay_later old mid new s s (word_count (trim (Pointers children.children))) (word_count_all ts) (λ f. omega (arith, ap (λ T. length (segment T s)) mids, width, same_long, same_room, counts, f)) fits) in
     let v0 : View = record old { words = P } in
     let v1 : View = record old { words = mid.words } in
     let v2 : View = record old { words = new.words } in
@@ -273,7 +273,7 @@ structs_tight {r} {sizes} {i} {s} {p} {old} {mid} {new} {h} {m} {m'} true longer
     let no_more : (i + 0) * w ≡ i * w = ap (λ k. k * w) (let f : i + 0 ≡ i = omega arith in f) in
     let zeros : EndsInZeros (change true h.segment (h.at + 1) mid new m m') ((i + 0) * w) = subst (EndsInZeros (change true h.segment (h.at + 1) mid new m m')) (sym no_more) (ends_in_zeros {new = new} {m = m} {m' = m'} true o room) in
     let same_room : mid.room h.segment ≡ old.room s = ap mid.room start.0 ∙ room_kept old mid s p o.place o.memory in
-    let stand : new.words ≡ with_segment mid.words h.segment (rows_laid (take (h.at + 1) (segment mid.words h.segment)) d q fs 0) = elements.tight zeros (refl, stay_later old mid new s h.segment all_words (word_count_elements fs) (λ f. omega (arith, f, words, same_room, width, same_long, ap length here)) fits) in
+    let stand : new.words ≡ with_segment mid.words h.segment (rows_laid (take (h.at + 1) (segment mid.words h.segment)) d q fs 0) = elements.stands zeros (refl, stay_later old mid new s h.segment all_words (word_count_elements fs) (λ f. omega (arith, f, words, same_room, width, same_long, ap length here)) fits) in
     let stands : new.words ≡ with_segment mid.words s (rows_laid (take (H + 1) (segment mid.words s)) d q fs 0) = stand ∙ ap₂ (λ u a. with_segment mid.words u (rows_laid (take (a + 1) (segment mid.words u)) d q fs 0)) start.0 first in
     let v0 : View = record old { words = P } in
     let v1 : View = record old { words = mid.words } in

@@ -142,8 +142,8 @@ pub record EndsInZeros (c : Change) (n : ℕ) : Type 0 where
   pub zero : (j : ℕ) → c.at ≤ j → word_at c.old.words c.segment j ≡ 0
 
 -- The call puts this value at its place, which was null.
-abbrev pub Puts : Change → Tree → Type 0
-Puts c t = IsReplaced c.old.words c.new.words c.segment c.at Null t × KeepsMemory c.old c.new
+abbrev pub PutsAtNull : Change → Tree → Type 0
+PutsAtNull c t = IsReplaced c.old.words c.new.words c.segment c.at Null t × KeepsMemory c.old c.new
 
 -- The call leaves some value there, and what it allocated.
 abbrev pub Leaves : Change → Type 0
@@ -153,15 +153,23 @@ Leaves c = ((t : Tree) × IsReplaced c.old.words c.new.words c.segment c.at Null
 abbrev pub FindsNoRoom : Reading → Change → ErrorKind → Type 0
 FindsNoRoom r c k = LacksRoom c k (WantedAt r c) (IsTooLarge r)
 
+-- What a place means is read, and what of it is kept stands at the place that was null.
+abbrev pub IsCopyOf : Reading → Change → Type 0
+IsCopyOf r c = (t : Tree) × Reads (form_of c.canonicalize) r c.before c.after t × IsReplaced c.old.words c.new.words c.segment c.at Null (kept c.canonicalize t)
+
+-- Why the copy of what a place means is refused by the name k: the arena has no room, or reading is refused.
+abbrev pub RefusesValue : Reading → Change → ErrorKind → Type 0
+RefusesValue r c k = FindsNoRoom r c k ⊎ Refused (form_of c.canonicalize) r c.before c.after k
+
 -- What a place means is read and copied; or it is refused by the name k.
 pub record CopiesValue (r : Reading) (c : Change) : Type 0 where
   pub value : Tree
   pub is_read : Reads (form_of c.canonicalize) r c.before c.after value
-  pub made : Puts c (kept c.canonicalize value)
-  pub tight : StandsWhereItFits c value
+  pub made : PutsAtNull c (kept c.canonicalize value)
+  pub stands : StandsWhereItFits c value
 
 pub record StopsAtValue (r : Reading) (c : Change) (k : ErrorKind) : Type 0 where
-  pub why : FindsNoRoom r c k ⊎ Refused (form_of c.canonicalize) r c.before c.after k
+  pub why : RefusesValue r c k
   pub off : BreaksOff (form_of c.canonicalize) r c.before c.after
   pub left : Leaves c
 
@@ -172,7 +180,7 @@ pub record CopiesChildren (r : Reading) (i : ℕ) (c : Change) : Type 0 where
   pub are_read : ReadsAll (form_of c.canonicalize) r c.before c.after children
   pub made : AreFilled c.old.words c.new.words c.segment c.at (kept_each c.canonicalize children)
   pub memory : KeepsMemory c.old c.new
-  pub tight : StandWhereTheyFit c children
+  pub stands : StandWhereTheyFit c children
 
 pub record StopsAtChildren (r : Reading) (i : ℕ) (c : Change) (k : ErrorKind) : Type 0 where
   pub why : LacksRoom c k (WantedAmong r i c) (AreTooLarge r i) ⊎ RefusedAll (form_of c.canonicalize) r i c.before c.after k
@@ -187,8 +195,8 @@ pub record CopiesPointers (r : Reading) (i : ℕ) (c : Change) : Type 0 where
   pub children : Trees
   pub counts : count children ≡ i
   pub are_read : ReadsAll (form_of c.canonicalize) r c.before c.after children
-  pub made : Puts c (kept c.canonicalize (Pointers children))
-  pub tight : StandsWhereItFits c (Pointers children)
+  pub made : PutsAtNull c (kept c.canonicalize (Pointers children))
+  pub stands : StandsWhereItFits c (Pointers children)
 
 pub record StopsAtPointers (r : Reading) (i : ℕ) (c : Change) (k : ErrorKind) : Type 0 where
   pub why : LacksRoom c k (λ n. ((c.after ≡ c.before) × (n ≡ i)) ⊎ WantedAmong r i c n) (IsTooLargePointers r i) ⊎ RefusedAll (form_of c.canonicalize) r i c.before c.after k
@@ -200,8 +208,8 @@ pub record CopiesStruct (r : Reading) (size : StructSize) (c : Change) : Type 0 
   pub children : Trees
   pub counts : count children ≡ size.pointers
   pub are_read : ReadsAll (form_of c.canonicalize) (behind r size.data_words) c.before c.after children
-  pub made : Puts c (kept c.canonicalize (Struct (words_from r size.data_words) children))
-  pub tight : StandsWhereItFits c (Struct (words_from r size.data_words) children)
+  pub made : PutsAtNull c (kept c.canonicalize (Struct (words_from r size.data_words) children))
+  pub stands : StandsWhereItFits c (Struct (words_from r size.data_words) children)
 
 -- n words are wanted for the struct of this size itself, or for an object below it; so for the list of i such structs.
 abbrev pub WantedForStruct : Reading → StructSize → Change → ℕ → Type 0
@@ -224,8 +232,8 @@ pub record CopiesStructs (r : Reading) (size : StructSize) (i : ℕ) (c : Change
   pub elements : Elements
   pub counts : element_count elements ≡ i
   pub are_read : ReadsElements (form_of c.canonicalize) r size c.before c.after elements
-  pub made : Puts c (kept c.canonicalize (Structs size.data_words size.pointers elements))
-  pub tight : StandsWhereItFits c (Structs size.data_words size.pointers elements)
+  pub made : PutsAtNull c (kept c.canonicalize (Structs size.data_words size.pointers elements))
+  pub stands : StandsWhereItFits c (Structs size.data_words size.pointers elements)
 
 pub record StopsAtStructs (r : Reading) (size : StructSize) (i : ℕ) (c : Change) (k : ErrorKind) : Type 0 where
   pub why : LacksRoom c k (WantedForStructs r size i c) (IsTooLargeList r size i) ⊎ RefusedElements (form_of c.canonicalize) r size i c.before c.after k
@@ -241,7 +249,7 @@ pub record CopiesRows (r : Reading) (sizes : ElementSizes) (i left : ℕ) (c : C
       AreElementsFilled c.old.words c.new.words c.segment c.at sizes.kept.data_words sizes.kept.pointers
       (cut_to sizes.kept.data_words sizes.kept.pointers (kept_elements c.canonicalize elements))
   pub memory : KeepsMemory c.old c.new
-  pub tight :
+  pub stands :
       EndsInZeros c ((i + left) * (sizes.kept.data_words + sizes.kept.pointers))
       → Fits c (word_count_elements (cut_to sizes.kept.data_words sizes.kept.pointers (trim_elements elements)))
       → c.new.words
@@ -264,7 +272,7 @@ pub record CopiesElement (r : Reading) (sizes : ElementSizes) (c : Change) : Typ
   pub are_read : ReadsAll (form_of c.canonicalize) (behind r sizes.source.data_words) c.before c.after children
   pub made : IsElementFilled c.old.words c.new.words c.segment c.at (words_from r sizes.kept.data_words) (kept_each c.canonicalize children)
   pub memory : KeepsMemory c.old c.new
-  pub tight :
+  pub stands :
       IsPlace c.old.words c.segment c.at → Fits c (word_count_all (trim_each children))
       → c.new.words
       ≡ with_segment c.old.words c.segment

@@ -8,15 +8,16 @@ use Rattle.capnp_pointers.specs.declared.wire_pointer.ElementSize.TheVariants.{P
 use Rattle.capnp_pointers.specs.declared.wire_pointer.StructSize.{StructSize}
 use Rattle.capnp_pointers.specs.Sizes.{size_number}
 use Rattle.capnp_format.specs.Numbers.{words_for, unpacked}
-use Rattle.capnp_format.specs.Tree.{Tree, Flat, Pointers, Structs, count, element_count}
+use Rattle.capnp_format.specs.Tree.{Tree, Null, Flat, Pointers, Structs, count, element_count}
 use Rattle.capnp_arena.specs.declared.arena.reader_arena.ReaderArena.{Ghosts}
 use Rattle.capnp_making.specs.Memory.{RefusesWords}
+use Rattle.capnp_making.specs.Stored.{IsReplaced}
 use Rattle.capnp_objects.specs.Outcomes.{ReadsAll, ReadsElements}
 use Rattle.capnp_objects.specs.Refusals.{RefusedAll, RefusedElements, BreaksOffAmong, BreaksOffAmongElements}
 use Rattle.capnp_objects.specs.Reading.{Reading, reading_at, words_from}
 use Rattle.capnp_objects.specs.Wanted.{Form}
 use Rattle.capnp_readers.specs.declared.readers.list_reader.ListReader.{ListReader}
-use Rattle.capnp_copies.specs.Changes.{Change, KeepsWidths, WantedAmong, WantedAmongElements, Puts, Leaves, form_of, kept}
+use Rattle.capnp_copies.specs.Changes.{Change, KeepsWidths, WantedAmong, WantedAmongElements, PutsAtNull, Leaves, form_of, kept}
 
 -- So many elements of a size, with these sections where they are structs, of which the first is read at a place.
 pub record ListElements : Type 0 where
@@ -74,14 +75,18 @@ WantedInList list c n =
 abbrev pub LacksListRoom : ListElements → Change → ErrorKind → Type 0
 LacksListRoom list c k = (n : ℕ) × RefusesWords c.old c.new n k × WantedInList list c n
 
+-- Why its copy is refused by the name k.
+abbrev pub RefusesElements : ListElements → Change → ErrorKind → Type 0
+RefusesElements list c k = LacksListRoom list c k ⊎ RefusedList (form_of c.canonicalize) list c.before c.after k ⊎ (IsTooLong list × (k ≡ MessageTooLarge (2 ^ 64 - 1)))
+
 -- The list is read and copied; or it is refused by the name k.
 pub record CopiesList (list : ListElements) (c : Change) : Type 0 where
   pub value : Tree
   pub is_read : ReadsList (form_of c.canonicalize) list c.before c.after value
-  pub made : Puts c (kept c.canonicalize value)
+  pub made : PutsAtNull c (kept c.canonicalize value)
 
 pub record StopsAtList (list : ListElements) (c : Change) (k : ErrorKind) : Type 0 where
-  pub why : LacksListRoom list c k ⊎ RefusedList (form_of c.canonicalize) list c.before c.after k ⊎ (IsTooLong list × (k ≡ MessageTooLarge (2 ^ 64 - 1)))
+  pub why : RefusesElements list c k
   pub off : (c.after ≡ c.before) ⊎ BreaksOffList (form_of c.canonicalize) list c.before c.after
   pub left : Leaves c
 
@@ -89,3 +94,13 @@ module _ {A : Type 0} (g : Ghosts A) where
   -- The elements of a list that is read.
   abbrev pub elements_read : ListReader A g → ListElements
   elements_read value = record { size = value.element_size; sections = value.struct_size; count = value.count; first = reading_at g value.source value.start value.nesting_limit }
+
+  -- The list is read, and what of it is kept stands at the place that was null.
+  abbrev pub IsListCopy : ListReader A g → Change → Type 0
+  IsListCopy value c =
+      (t : Tree) × ReadsList (form_of c.canonicalize) (elements_read value) c.before c.after t
+      × IsReplaced c.old.words c.new.words c.segment c.at Null (kept c.canonicalize t)
+
+  -- Why its copy is refused by the name k.
+  abbrev pub RefusesList : ListReader A g → Change → ErrorKind → Type 0
+  RefusesList value c k = RefusesElements (elements_read value) c k

@@ -18,7 +18,7 @@ use Rattle.capnp_objects.specs.Refusals.{Refused, RefusedAll, StopsWithin, Break
 use Rattle.capnp_objects.specs.Reading.{Reading, behind, words_from}
 use Rattle.capnp_readers.specs.Sizes.{pointers_read}
 use Rattle.capnp_readers.specs.declared.readers.struct_reader.StructReader.{StructReader}
-use Rattle.capnp_copies.specs.Changes.{Change, WantsWords, WantedAmong, Puts, Leaves, form_of, kept}
+use Rattle.capnp_copies.specs.Changes.{Change, WantsWords, WantedAmong, PutsAtNull, Leaves, form_of, kept}
 
 -- The word of the first n bits of bytes, the lowest first, with zeros behind them; none where n is 0.
 abbrev pub bits_left : ℕ → List ℕ → List ℕ
@@ -47,7 +47,7 @@ pub record CopiesSections (ws : List ℕ) (r : Reading) (q : ℕ) (c : Change) :
   pub children : Trees
   pub counts : count children ≡ q
   pub are_read : ReadsAll (form_of c.canonicalize) r c.before c.after children
-  pub made : Puts c (kept c.canonicalize (Struct ws children))
+  pub made : PutsAtNull c (kept c.canonicalize (Struct ws children))
 
 -- n words are wanted for the struct itself, of which both sections are cut, or for an object that one of its pointers leads to.
 abbrev pub WantedInSections : List ℕ → Reading → ℕ → Change → ℕ → Type 0
@@ -58,8 +58,12 @@ WantedInSections ws r q c n =
 abbrev pub LacksSections : List ℕ → Reading → ℕ → Change → ErrorKind → Type 0
 LacksSections ws r q c k = (n : ℕ) × RefusesWords c.old c.new n k × WantedInSections ws r q c n
 
+-- Why its copy is refused by the name k.
+abbrev pub RefusesSections : List ℕ → Reading → ℕ → Change → ErrorKind → Type 0
+RefusesSections ws r q c k = LacksSections ws r q c k ⊎ RefusedAll (form_of c.canonicalize) r q c.before c.after k ⊎ IsTooWide (kept_count c.canonicalize ws) k
+
 pub record StopsAtSections (ws : List ℕ) (r : Reading) (q : ℕ) (c : Change) (k : ErrorKind) : Type 0 where
-  pub why : LacksSections ws r q c k ⊎ RefusedAll (form_of c.canonicalize) r q c.before c.after k ⊎ IsTooWide (kept_count c.canonicalize ws) k
+  pub why : RefusesSections ws r q c k
   pub off : (c.after ≡ c.before) ⊎ BreaksOffAmong (form_of c.canonicalize) r q c.before c.after
   pub left : Leaves c
 
@@ -85,3 +89,20 @@ module _ {A : Type 0} (g : Ghosts A) where
   -- The words of its pointers.
   abbrev pub pointer_words : StructReader A g → List ℕ
   pointer_words value = words_from (pointers_read g value) value.pointer_count
+
+  -- What its pointers mean is read, and what of the struct is kept stands at the place that was null.
+  abbrev pub IsStructCopy : StructReader A g → Change → Type 0
+  IsStructCopy value c =
+      (ts : Trees) × (count ts ≡ value.pointer_count) × ReadsAll (form_of c.canonicalize) (pointers_read g value) c.before c.after ts
+      × IsReplaced c.old.words c.new.words c.segment c.at Null (kept c.canonicalize (Struct (data_of value) ts))
+
+  -- Why its copy is refused by the name k.
+  abbrev pub RefusesStruct : StructReader A g → Change → ErrorKind → Type 0
+  RefusesStruct value c k = RefusesSections (data_of value) (pointers_read g value) value.pointer_count c k
+
+  -- It is read and copied; or it is refused by the name k.
+  abbrev pub CopiesStructRead : StructReader A g → Change → Type 0
+  CopiesStructRead value c = CopiesSections (data_of value) (pointers_read g value) value.pointer_count c
+
+  abbrev pub StopsAtStructRead : StructReader A g → Change → ErrorKind → Type 0
+  StopsAtStructRead value c k = StopsAtSections (data_of value) (pointers_read g value) value.pointer_count c k

@@ -5,13 +5,13 @@
 //! a landing pad. So the place holds a value at each moment.
 ghost use Rattle.std.specs.Prelude.{◌≡◌, ◌⊎◌, true, length, IsOk, IfOk, IfErr, OnOk, OnErr};
 ghost use Rattle.capnp_format.specs.Segments.{segment, word_at, IsPlace};
-ghost use Rattle.capnp_format.specs.Tree.{Tree, Null};
+ghost use Rattle.capnp_format.specs.Tree.{Null};
 ghost use Rattle.capnp_making.specs.Memory.{KeepsMemory, SpendsMemory};
 ghost use Rattle.capnp_making.specs.Stored.{IsReplaced};
-ghost use Rattle.capnp_objects.specs.Outcomes.{Reads};
-ghost use Rattle.capnp_objects.specs.Refusals.{Refused, BreaksOff};
+ghost use Rattle.capnp_objects.specs.Refusals.{BreaksOff};
 ghost use Rattle.capnp_readers.specs.Readers.{reading};
-ghost use Rattle.capnp_copies.specs.Changes.{form_of, kept, change, FindsNoRoom, StandsAsRead, CopiesValue, StopsAtValue};
+ghost use Rattle.capnp_copies.specs.Growth.{TakesAtMost};
+ghost use Rattle.capnp_copies.specs.Changes.{IsCopyOf, RefusesValue, form_of, change, StandsAsRead, CopiesValue, StopsAtValue};
 ghost use Rattle.capnp_copies.specs.Copies.{CanBeCopied};
 
 mod children;
@@ -41,6 +41,9 @@ pub use struct_value::copy_struct_value;
 /// where they all fit its room, or where the message has but one segment afterwards; then no other word
 /// changes but the pointer.
 ///
+/// A copy, refused or not, takes at most as many words as it is granted to read, and a landing pad for
+/// each pointer that it follows.
+///
 /// A refusal of the arena is `AllocationFailed` or `MessageTooLarge`, and comes in canonical form only
 /// where the words don't fit behind those of the pointer's segment; a capability is
 /// `CannotCreateACanonicalMessageWithACapability` in canonical form; a refusal to read keeps its name.
@@ -56,14 +59,13 @@ pub fn copy_value<A: BuilderArena, B: ReaderArena>(
 ) -> Result<(), ErrorKind>
     requires place { IsPlace (A.view arena.old).words id at }
     requires null { word_at (A.view arena.old).words id at ≡ 0 }
-    ensures copied { IfOk result (λ _. (t : Tree) × Reads (form_of canonicalize) (reading B.ReaderArena from.entry) lim.old lim.new t
-        × IsReplaced (A.view arena.old).words (A.view arena.new).words id at Null (kept canonicalize t)) }
+    ensures copied { IfOk result (λ _. IsCopyOf (reading B.ReaderArena from.entry) (change canonicalize id at (A.view arena.old) (A.view arena.new) lim.old lim.new)) }
     ensures canonical { OnOk result (StandsAsRead (reading B.ReaderArena from.entry) (change canonicalize id at (A.view arena.old) (A.view arena.new) lim.old lim.new)) }
     ensures fits { canonicalize ≡ true → CanBeCopied (reading B.ReaderArena from.entry) lim.old (length (segment (A.view arena.old).words id)) ((A.view arena.old).room id) → IsOk result }
-    ensures refused { IfErr result (λ k. FindsNoRoom (reading B.ReaderArena from.entry) (change canonicalize id at (A.view arena.old) (A.view arena.new) lim.old lim.new) k
-        ⊎ Refused (form_of canonicalize) (reading B.ReaderArena from.entry) lim.old lim.new k) }
+    ensures refused { IfErr result (RefusesValue (reading B.ReaderArena from.entry) (change canonicalize id at (A.view arena.old) (A.view arena.new) lim.old lim.new)) }
     ensures cleared { OnErr result (IsReplaced (A.view arena.old).words (A.view arena.new).words id at Null Null) }
     ensures spent { OnErr result (BreaksOff (form_of canonicalize) (reading B.ReaderArena from.entry) lim.old lim.new) }
+    ensures taken { TakesAtMost (reading B.ReaderArena from.entry).charging 0 1 (change canonicalize id at (A.view arena.old) (A.view arena.new) lim.old lim.new) }
     ensures granted { OnOk result (KeepsMemory (A.view arena.old) (A.view arena.new)) }
     ensures memory { OnErr result (SpendsMemory (A.view arena.old) (A.view arena.new)) }
 {
@@ -90,6 +92,7 @@ fn copy_object<A: BuilderArena, B: ReaderArena>(
     requires null { word_at (A.view arena.old).words id at ≡ 0 }
     ensures copied { IfOk result (λ _. CopiesValue (reading B.ReaderArena from.entry) (change canonicalize id at (A.view arena.old) (A.view arena.new) lim.old lim.new)) }
     ensures refused { IfErr result (StopsAtValue (reading B.ReaderArena from.entry) (change canonicalize id at (A.view arena.old) (A.view arena.new) lim.old lim.new)) }
+    ensures taken { TakesAtMost (reading B.ReaderArena from.entry).charging 0 1 (change canonicalize id at (A.view arena.old) (A.view arena.new) lim.old lim.new) }
 {
     let object = match from.source.read_object(from.place, from.nesting_limit, lim) {
         Ok(object) => object,

@@ -14,7 +14,9 @@ use Rattle.capnp_format.specs.Tree.{Tree}
 use Rattle.capnp_format.proofs.Levels.{one_value}
 use Rattle.capnp_objects.specs.Outcomes.{Reads}
 use Rattle.std.proofs.lemmas.Bool.{cases_lt}
-use Rattle.capnp_builders.specs.Building.{Building, GainsAsRead, GainsCopy, HasOnlyNull, IsNull, StayNear, built}
+use Rattle.capnp_copies.specs.Changes.{StandsAsRead, StandsWhereItFits, change}
+use Rattle.capnp_builders.specs.Building.{Building, HasOnlyNull, IsNull, built}
+use Rattle.capnp_builders.specs.Kept.{FillsMessage}
 use Rattle.capnp_builders.specs.declared.builders.PointerBuilder.{PointerBuilder}
 use Rattle.capnp_layout.specs.Answers.{CoversRoot, IsMadeWhereAlone, IsWantOfRoom, IsWithin, LacksMemoryOr, RefusesCopy, RefusesCopyAnywhere, RefusesMessage, is_message_too_large, root_of}
 use Rattle.capnp_layout.specs.Answers.RefusesMessage.{below_root}
@@ -26,13 +28,13 @@ use Rattle.capnp_arena.specs.View.{View}
 use Rattle.capnp_format.specs.Bytes.{message}
 
 -- A place in a fresh message: its only segment has one word, which is zero, and so much room.
-pub record IsFresh (B : Building) (room : ℕ) : Type 0 where
+pub record IsFreshPlace (B : Building) (room : ℕ) : Type 0 where
   pub null : B.segments ≡ (0 ∷ []) ∷ []
   pub first : B.segment ≡ 0
   pub holds : B.room ≡ room
 
 -- so is the root
-pub fresh_root : {A : Type 0} (view : A → View) (b : PointerBuilder A) (arena : A) → b.arena.now ≡ arena → b.segment ≡ 0 → (view arena).words ≡ (0 ∷ []) ∷ [] → IsFresh (built view b) ((view arena).room 0)
+pub fresh_root : {A : Type 0} (view : A → View) (b : PointerBuilder A) (arena : A) → b.arena.now ≡ arena → b.segment ≡ 0 → (view arena).words ≡ (0 ∷ []) ∷ [] → IsFreshPlace (built view b) ((view arena).room 0)
 fresh_root {A} view b arena same first only = record {
   null = ap (λ (a : A). (view a).words) same ∙ only;
   first = first;
@@ -40,44 +42,34 @@ fresh_root {A} view b arena same first only = record {
 }
 
 -- it has nothing but a null pointer
-pub only_null : {B : Building} {room : ℕ} → IsFresh B room → HasOnlyNull B
+pub only_null : {B : Building} {room : ℕ} → IsFreshPlace B room → HasOnlyNull B
 only_null {B} fresh = ap (λ i. segment B.segments i) fresh.first ∙ ap (λ (R : Segments). segment R 0) fresh.null
 
-pub null_root : {B : Building} {room : ℕ} → IsFresh B room → B.at ≡ 0 → IsNull B
+pub null_root : {B : Building} {room : ℕ} → IsFreshPlace B room → B.at ≡ 0 → IsNull B
 null_root {B} fresh start = ap (λ (ws : List ℕ). get_or ws B.at 0) (only_null fresh) ∙ ap (λ i. get_or (0 ∷ []) i 0) start
 
--- a message of one segment is that segment
-only_segment : (M : Segments) (ws : List ℕ) → length M ≡ 1 → segment M 0 ≡ ws → M ≡ ws ∷ []
-only_segment [] ws one e = absurd (omega (arith, one))
-only_segment (x ∷ []) ws one e = ap (λ (s : List ℕ). s ∷ []) e
-only_segment (x ∷ y ∷ M) ws one e = absurd (omega (arith, one))
-
 -- a copy to the root of a fresh message is made, if that has one segment afterwards
-pub made_copy : {B : Building} {room : ℕ} {X : Type 0} (r : Reading) (left : Option ℕ) (l m : Meter) (F : Tree → Type 0) (made : View) (o : Result X ErrorKind) → IsFresh B room → l ≡ unused left
-    → IfOk o (λ _. (t : Tree) × Reads canonical r l m t × (F t ⊎ (length made.words ≡ 1) → segment made.words B.segment ≡ encoding (trim t)))
-    → IfOk o (λ _. (t : Tree) × IsWithin r left t × IsMadeWhereAlone made t)
-made_copy r left l m F made (Ok x) fresh begun (t, reads, copy) = (
-  t,
-  (reads.cost, reads.means, reads.takes tt, subst (λ (x : Meter). Affords r.charging x reads.cost) begun reads.covers),
-  λ one. only_segment made.words (encoding (trim t)) one (subst (λ i. segment made.words i ≡ encoding (trim t)) fresh.first (copy (inr one))),
-)
-made_copy r left l m F made (Err k) fresh begun copied = tt
+pub made_copy : {X : Type 0} (r : Reading) (left : Option ℕ) (s p : ℕ) (old made : View) (l m : Meter) (o : Result X ErrorKind) → l ≡ unused left → IfOk o (λ _. FillsMessage r (change true s p old made l m)) →
+    IfOk o (λ _. (t : Tree) × IsWithin r left t × IsMadeWhereAlone made t)
+made_copy r left s p old made l m (Ok x) begun (t, reads, copy) =
+    (t, (reads.cost, reads.means, reads.takes tt, subst (λ (x : Meter). Affords r.charging x reads.cost) begun reads.covers), copy refl)
+made_copy r left s p old made l m (Err k) begun copied = tt
 
 -- where it has more, not all words fit in the first
-spread : {r : Reading} {B : Building} {room : ℕ} {l m : Meter} {t : Tree} (C : Building) → IsFresh B room → Reads canonical r l m t
-    → (StayNear B C (word_count (trim t)) → GainsCopy B C t) → (length C.segments ≡ 1) ⊎ IsTooLarge r 1 room
-spread {r} {B} {room} {t = t} C fresh reads copy = elim (cases_lt room (1 + word_count (trim t))) [
+spread : {r : Reading} {room : ℕ} {l m : Meter} {t : Tree} (old new : View) (s p : ℕ) → IsFreshPlace (record { segments = old.words; segment = s; at = p; room = old.room s }) room → Reads canonical r l m t → StandsWhereItFits (change true s p old new l m) t →
+    (length new.words ≡ 1) ⊎ IsTooLarge r 1 room
+spread {r} {room} {t = t} old new s p fresh reads copy = elim (cases_lt room (1 + word_count (trim t))) [
   | inl beyond ↦ inr (λ u c means. (let same = ap (λ v. word_count (trim v)) (one_value r.segments r.levels r.levels r.segment r.at t u reads.cost c reads.means means).0 in omega (arith, same, beyond)))
   | inr fits ↦
-      let used : length (segment B.segments B.segment) ≡ 1 = ap length (only_null fresh) in
-      let same = copy (inl (omega (arith, fits, used, fresh.holds))) in
-      inl (ap length same ∙ length-set B.segments B.segment _ ∙ ap length fresh.null)
+      let used : length (segment old.words s) ≡ 1 = ap length (only_null fresh) in
+      let same = copy (refl, inl (omega (arith, fits, used, fresh.holds))) in
+      inl (ap length same ∙ length-set old.words s _ ∙ ap length fresh.null)
 ]
 
-pub spread_copy : {B : Building} {room : ℕ} {X : Type 0} (r : Reading) (l m : Meter) (P : Tree → Type 0) (C : Building) (o : Result X ErrorKind) → IsFresh B room
-    → IfOk o (λ _. (t : Tree) × Reads canonical r l m t × P t) → OnOk o (GainsAsRead r l m B C) → OnOk o ((length C.segments ≡ 1) ⊎ IsTooLarge r 1 room)
-spread_copy r l m P C (Ok x) fresh (t, reads, _) gains = spread C fresh reads (gains t reads)
-spread_copy r l m P C (Err k) fresh read gains = tt
+pub spread_copy : {X : Type 0} {room : ℕ} (r : Reading) (s p : ℕ) (old new : View) (l m : Meter) (P : Tree → Type 0) (o : Result X ErrorKind) → IsFreshPlace (record { segments = old.words; segment = s; at = p; room = old.room s }) room →
+    IfOk o (λ _. (t : Tree) × Reads canonical r l m t × P t) → OnOk o (StandsAsRead r (change true s p old new l m)) → OnOk o ((length new.words ≡ 1) ⊎ IsTooLarge r 1 room)
+spread_copy r s p old new l m P (Ok x) fresh (t, reads, _) stands = spread old new s p fresh reads (stands t reads)
+spread_copy r s p old new l m P (Err k) fresh read stands = tt
 
 -- words that are taken, if there is room for them, leave the room
 pub room_kept : (o : Option ℕ) {old new : View} (P : ℕ → Type 0) (words : Segments) → IfSome o (λ at. P at × (new ≡ record old { words = words })) → (IsNone o → new ≡ old) → new.room ≡ old.room

@@ -48,10 +48,10 @@ segment_bytes (b ∷ B) zero = refl
 segment_bytes (b ∷ B) (suc id) = segment_bytes B id
 
 -- the bytes xs over the first of k words from word a on
-abbrev over_front : List ℕ → ℕ → ℕ → List ℕ → List ℕ
+abbrev pub over_front : List ℕ → ℕ → ℕ → List ℕ → List ℕ
 over_front bs a k xs = xs ++ drop (length xs) (take (8 * k) (drop (8 * a) bs))
 
-length-front : (bs : List ℕ) (a k : ℕ) (xs : List ℕ) → length xs ≤ 8 * k → 8 * (a + k) ≤ length bs → length (over_front bs a k xs) ≡ 8 * k
+pub length-front : (bs : List ℕ) (a k : ℕ) (xs : List ℕ) → length xs ≤ 8 * k → 8 * (a + k) ≤ length bs → length (over_front bs a k xs) ≡ 8 * k
 length-front bs a k xs l m =
     let D : List ℕ = drop (8 * a) bs in
     omega (arith, length-append xs (drop (length xs) (take (8 * k) D)), length-drop (length xs) (take (8 * k) D), length-take (8 * k) D, length-drop (8 * a) bs)
@@ -98,7 +98,7 @@ zero_rest (suc n) [] e = refl
 zero_rest (suc n) (x ∷ xs) e = zero_rest n xs (omega arith)
 
 -- such bytes behind others
-same_number : (xs ys : List ℕ) → from_digits 256 ys ≡ 0 → from_digits 256 (xs ++ ys) ≡ from_digits 256 xs
+pub same_number : (xs ys : List ℕ) → from_digits 256 ys ≡ 0 → from_digits 256 (xs ++ ys) ≡ from_digits 256 xs
 same_number [] ys e = e
 same_number (x ∷ xs) ys e = omega (arith, same_number xs ys e)
 
@@ -108,17 +108,17 @@ small_bytes xs ys h e i = elim (cases_lt i (length xs)) [
   | inr l ↦ omega (arith, get_or-append_right xs ys (length xs) i 0 refl l, zero_byte ys (i - length xs) e)
 ]
 
-all_below : (limit : ℕ) (xs : List ℕ) → ((i : ℕ) → get_or xs i 0 < limit) → AreBelow limit xs
+pub all_below : (limit : ℕ) (xs : List ℕ) → ((i : ℕ) → get_or xs i 0 < limit) → AreBelow limit xs
 all_below limit [] h = tt
 all_below limit (x ∷ xs) h = (h zero, all_below limit xs (λ i. h (suc i)))
 
 -- words written over others
-record AreWritten (S R : Segments) (s p n : ℕ) (ws : List ℕ) : Type 0 where
-  long : SameLengths S R
-  but : SameBut S R (row s p n)
-  here : words_at R s p n ≡ ws
+pub record AreWritten (S R : Segments) (s p n : ℕ) (ws : List ℕ) : Type 0 where
+  pub long : SameLengths S R
+  pub but : SameBut S R (row s p n)
+  pub here : words_at R s p n ≡ ws
 
-words_written : (S R : Segments) (s p n : ℕ) (ws : List ℕ) → 0 < n → length ws ≡ n → p + n ≤ length (segment S s) → R ≡ with_words S s p ws → AreWritten S R s p n ws
+pub words_written : (S R : Segments) (s p n : ℕ) (ws : List ℕ) → 0 < n → length ws ≡ n → p + n ≤ length (segment S s) → R ≡ with_words S s p ws → AreWritten S R s p n ws
 words_written S R s p n ws some long l e =
     let W = segment S s in
     let fits : p + length ws ≤ length W = omega arith in
@@ -147,7 +147,7 @@ words_written S R s p n ws some long l e =
     ]
 
 -- the words that a list of numbers takes lie in their segment
-flat_claims : (S : Segments) (s p size : ℕ) (ns : List ℕ) → IsStored S s p (Flat size ns) → (target S s p).start + words_for size (length ns) ≤ length (segment S (target S s p).segment)
+pub flat_claims : (S : Segments) (s p size : ℕ) (ns : List ℕ) → IsStored S s p (Flat size ns) → (target S s p).start + words_for size (length ns) ≤ length (segment S (target S s p).segment)
 flat_claims S s p size ns x =
     let m = x.means in
     go m.0 m.1 m.2
@@ -184,14 +184,14 @@ pub record WritesBytes (S R : Segments) (h : Start) (xs : List ℕ) : Type 0 whe
   pub written : 0 < length xs → HoldsBytes S h (length xs) → new ≡ bytes_over old h xs
 
 -- so the words are written that hold these bytes
-whole_words : (S R : Segments) (h : Start) (xs : List ℕ) (u a k : ℕ) → WritesBytes S R h xs → h.segment ≡ u → h.at ≡ a → 0 < length xs → length xs ≤ 8 * k → a + k ≤ length (segment S u) → (bs : List ℕ) × (segment S u ≡ words_of bs) × (8 * (a + k) ≤ length bs) × (R ≡ with_words S u a (words_of (over_front bs a k xs)))
+pub whole_words : (S R : Segments) (h : Start) (xs : List ℕ) (u a k : ℕ) (w : WritesBytes S R h xs) → h.segment ≡ u → h.at ≡ a → 0 < length xs → length xs ≤ 8 * k → a + k ≤ length (segment S u) →
+    (segment S u ≡ words_of (slice_index_or w.old u [])) × (8 * (a + k) ≤ length (slice_index_or w.old u [])) × (R ≡ with_words S u a (words_of (over_front (slice_index_or w.old u []) a k xs)))
 whole_words S R h xs u a k w is_u is_a some enough claim =
     let B : List (List ℕ) = w.old in
     let bs : List ℕ = slice_index_or B u [] in
     let shown : segment S u ≡ words_of bs = ap (λ T. segment T u) w.old_read ∙ segment_bytes B u in
     let room : 8 * (a + k) ≤ length bs = omega (arith, claim, ap length shown, words bs) in
     let holds : HoldsBytes S h (length xs) = omega (arith, claim, enough, is_a, ap (λ v. length (segment S v)) is_u) in (
-      bs,
       shown,
       room,
       w.new_read ∙ ap message (w.written some holds ∙ ap₂ (λ v q. slice_set B v (overwritten (slice_index_or B v []) (8 * q) xs)) is_u is_a)
@@ -205,7 +205,8 @@ written_lengths S R h xs k w enough claim = elim (cases_eq (length xs) 0) [
   | inr some ↦ (
       let u : ℕ = h.segment in
       let a : ℕ = h.at in
-      let (bs, shown, room, whole) = whole_words S R h xs u a k w refl refl (omega arith) enough claim in
+      let bs : List ℕ = slice_index_or w.old u [] in
+      let (shown, room, whole) = whole_words S R h xs u a k w refl refl (omega arith) enough claim in
       let new : List ℕ = over_front bs a k xs in
       let long : length new ≡ 8 * k = length-front bs a k xs enough room in
       (words_written S R u a k (words_of new) (omega arith) (length-words_of k new (omega (arith, long)) (omega (arith, long))) claim whole).long
@@ -223,7 +224,8 @@ some_bytes S R s p n h xs w x lead some few =
     let ln : length (zeros n) ≡ n = length-replicate {A = ℕ} n 0 in
     let same_length : length ms ≡ length (zeros n) = omega (arith, ln, length-append xs (zeros (n - length xs)), length-replicate {A = ℕ} (n - length xs) 0) in
     let claim : a + k ≤ length (segment S u) = flat_claims S s p 2 (zeros n) x in
-    let (bs, shown, room, whole) = whole_words S R h xs u a k w lead.0 lead.1 some (omega (arith, ln)) claim in
+    let bs : List ℕ = slice_index_or w.old u [] in
+    let (shown, room, whole) = whole_words S R h xs u a k w lead.0 lead.1 some (omega (arith, ln)) claim in
     let list = packed_over bs a k n xs few (ap (words_for 2) (sym ln)) room w.small (ap (λ ws. take k (drop a ws)) (sym shown) ∙ x.tidy) in
     let done = words_written S R u a k (words_of (over_front bs a k xs)) (omega (arith, ln)) list.0 claim whole in
     flat_written S R s p 2 (zeros n) ms done.long x same_length (all_below 256 ms (small_bytes xs (zeros (n - length xs)) w.small (from_zeros (n - length xs)))) done.but (done.here ∙ list.1)

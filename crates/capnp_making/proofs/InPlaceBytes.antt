@@ -1,22 +1,19 @@
 -- Bytes of a segment that are written in place.
-use Rattle.std.proofs.Common.{◌≡◌, ℕ, zero, suc, ◌+◌, ◌-◌, ◌*◌, ◌^◌, ◌<◌, ◌≤◌, List, [], ◌∷◌, ◌++◌, length, take, drop, get_or, slice_get, slice_set, slice_index_or, Some, refl, sym, ap, ap₂, subst, ◌∙◌, arith, take-append-drop, length-take, length-drop}
+use Rattle.std.proofs.Common.{◌≡◌, ℕ, zero, suc, ◌+◌, ◌*◌, ◌^◌, ◌<◌, ◌≤◌, List, [], ◌∷◌, length, take, drop, slice_get, slice_index_or, Some, refl, sym, ap, ap₂, ◌∙◌, arith, length-take, length-drop}
 use Rattle.std.proofs.lemmas.List.{length-replicate}
 use Rattle.capnp_format.specs.Bytes.{words_of, message}
 use Rattle.capnp_format.specs.Forest.{target}
 use Rattle.capnp_format.specs.Numbers.{from_digits, words_for, packed}
 use Rattle.capnp_format.specs.Segments.{Segments, segment}
 use Rattle.capnp_format.specs.Tree.{Tree, Flat}
-use Rattle.capnp_format.specs.Value.{AreBelow}
 use Rattle.capnp_format.proofs.BytesLemmas.{words_are_bytes}
 use Rattle.capnp_format.proofs.WordsOf.{words, words_of-part}
-use Rattle.capnp_arena.specs.Written.{overwritten}
 use Rattle.capnp_making.specs.Existing.{AreInside}
-use Rattle.capnp_making.specs.InPlace.{bytes_of, segments_with, AreBytes, FillsZeros}
+use Rattle.capnp_making.specs.InPlace.{bytes_of}
 use Rattle.capnp_making.specs.Made.{zeros}
 use Rattle.capnp_making.specs.Stored.{IsReplaced}
 use Rattle.capnp_making.specs.declared.existing.ExistingBytes.{ExistingBytes}
-use Rattle.capnp_making.specs.declared.making.Start.{Start}
-use Rattle.capnp_making.proofs.BytesWritten.{WritesBytes, bytes_written, segment_bytes, zeros_packed}
+use Rattle.capnp_making.proofs.BytesWritten.{segment_bytes, zeros_packed}
 
 got : (B : List (List ℕ)) (id : ℕ) → id < length (message B) → slice_get B id ≡ Some (slice_index_or B id [])
 got [] id l = absurd (omega arith)
@@ -69,34 +66,3 @@ made_zero Q S B s p n t b e made is_segment is_start inside few =
     sym (words_are_bytes k old (omega (arith, room, length-take (8 * k) (drop (8 * a) bs), length-drop (8 * a) bs)))
     ∙ ap (from_digits (2 ^ 64)) (words_of-part a k (8 * a) (8 * k) bs refl refl room ∙ here) ∙ zeros_packed n in
     all_zero (bytes_of B b) (zero_front b.length (8 * k) (drop (8 * a) bs) (omega (arith, few)) nothing)
-
--- each of some bytes
-each_small : (ws : List ℕ) → AreBelow 256 ws → (i : ℕ) → get_or ws i 0 < 256
-each_small [] h i = omega arith
-each_small (w ∷ ws) h zero = h.0
-each_small (w ∷ ws) h (suc i) = each_small ws h.1 i
-
--- no bytes written
-same_set : (B : List (List ℕ)) (id : ℕ) → slice_set B id (slice_index_or B id []) ≡ B
-same_set [] id = refl
-same_set (b ∷ B) zero = refl
-same_set (b ∷ B) (suc id) = ap (λ C. b ∷ C) (same_set B id)
-
-none_over : (a : ℕ) (bs ws : List ℕ) → length ws ≡ 0 → overwritten bs a ws ≡ bs
-none_over a bs [] e = take-append-drop a bs
-none_over a bs (w ∷ ws) e = absurd (omega arith)
-
--- bytes written at the start of a list that was made of zeros
-pub fills_zeros : (S R : Segments) (B C : List (List ℕ)) (b : ExistingBytes) (ws : List ℕ) → S ≡ message B → R ≡ message C → C ≡ segments_with B b ws → AreBytes b.length ws → FillsZeros S R b ws
-fills_zeros S R B C b ws e f g are Q s p n t made is_segment is_start few =
-    let h : Start = record { segment = b.segment; at = b.start } in
-    let writes : WritesBytes S R h ws = record {
-      old = B;
-      new = C;
-      old_read = e;
-      new_read = f;
-      small = each_small ws are.1;
-      nothing = λ z. f ∙ ap message (g ∙ ap (slice_set B b.segment) (none_over (8 * b.start) (slice_index_or B b.segment []) ws z) ∙ same_set B b.segment) ∙ sym e;
-      written = λ some holds. g;
-    } in
-    subst (λ k. IsReplaced Q R s p t (Flat 2 (ws ++ zeros (n - k)))) are.0 (bytes_written Q S R s p n t h ws writes made (is_segment, is_start) (omega (arith, few, are.0)))

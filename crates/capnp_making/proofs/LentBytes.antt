@@ -1,14 +1,15 @@
--- A part of a slice of bytes is lent as a slice, and the whole slice follows it.
+-- A part of a slice of bytes is lent as a slice, and the whole slice follows it; and each of its bytes is one.
 use Rattle.std.proofs.Common.{◌≡◌, ℕ, ◌+◌, ◌*◌, ◌≤◌, List, [], ◌∷◌, ◌++◌, length, take, drop as drop_list, sym, ap, refl, ◌∙◌, arith, MutBor, length-drop}
 use lib.ListN.{take-append-drop, length-append}
 use seplogic.Ra.Ura.{Ura}
-use base.Logic.{SProp, ent, sep, ex}
+use base.Logic.{SProp, ent, sep, ex, guard}
 use base.Stored.{coded_list}
 use base.Fml.{Lft, GName, Share, flft, fobs, fbor}
-use mir.Syntax.{named}
+use base.Fraction.{full_share}
+use mir.Syntax.{named, w8}
 use mir.Val.{Val}
 use types.Logic.{Logic, sem}
-use types.Kit.{‵, ◌⊛◌, some, later, ◌$◌, ◌∵◌, !, qed, move, drop, use1, use2, split, split3, join, fsplit, fsplit3, fjoin, feq_i, feq_l, rewrite, updating, group, await, pick, now, show, done}
+use types.Kit.{‵, ◌⊛◌, some, later, ◌$◌, ◌∵◌, !, qed, move, drop, use1, use2, split, split3, join, fsplit, fsplit3, fjoin, feq_i, feq_l, rewrite, updating, group, await, pick, given, learn, check, now, show, done}
 use types.SemTy.{cells, Arr, Body}
 use types.Follow.{takes_part}
 use types.Mut.{open_ref}
@@ -18,6 +19,9 @@ use denote.Follow.{follows}
 use denote.FollowSlice.{heres_id, slice_of}
 use denote.Memory.{mem}
 use denote.Slice.{MutSlice, Room, slice_val}
+use borrow.Rule.Slice.Know.{AllWt, cells_fit}
+use borrow.Rule.Slice.Shared.{Sh}
+use borrow.Table.Referent.{f_int, rt_f}
 use borrow.Table.Elements.{at, at_mul, cut_app, join_app, length-take-le}
 use Rattle.capnp_arena.specs.Written.{overwritten}
 
@@ -75,10 +79,11 @@ module _ {M : Type 1} {𝓤 : Ura M} (𝓛 : Logic 𝓤) (κ : Lft) (q : Share) 
       feq_i ! ℕ (length (overwritten xs a ws)) (length xs) (ap length (sym same) ∙ total) $ fjoin ! $ done !)
 
   pub lends_part : Room u8 (length part) → (vs : List Val)
-      → ent 𝓤 (sep 𝓤 (sem 𝓛 ((MutSlice (named 0) κ u8).own_val (bytes o γ xs) vs)) (A.lft κ q)) (H.⇛ (ex 𝓤 PartLent))
+      → ent 𝓤 (sep 𝓤 (sem 𝓛 ((MutSlice (named 0) κ u8).own_val (bytes o γ xs) vs)) (A.lft κ q)) (H.⇛ (guard 𝓤 (AllWt (f_int w8) xs) (ex 𝓤 PartLent)))
   lends_part room vs =
       qed 𝓛 (‵ ((MutSlice (named 0) κ u8).own_val (bytes o γ xs) vs) ∷ ‵ (flft κ q) ∷ []) ∵ updating ! $ fsplit3 ! $ drop ! $
       rewrite ! 0 (λ (l : List ℕ). ‵ (fobs γ ((coded_list u8.coded).code l))) (heres_id u8 xs) refl $ open_ref ! tt (Arr (mem u8) (length xs)) {b = b} {o = o} $ fsplit ! $ drop ! $
+      use1 𝓛 (given (AllWt (f_int w8) xs) (‵ (cells (Sh (rt_f (f_int w8)) full_share) xs b o))) (cells_fit 𝓛 (f_int w8) full_share xs b o) $ learn ! (λ fit.
       rewrite ! 0 (λ (l : List ℕ). ‵ (cells (mem u8) l b o)) cut refl $
       use1 𝓛 (‵ (cells (mem u8) front b o) ⊛ ‵ (cells (mem u8) (part ++ back) b (at o (mem u8).size (length front)))) (cut_app 𝓛 (mem u8) front (part ++ back) b o) $ split ! $ move ! (1 ∷ []) $
       rewrite ! 0 (λ (k : ℕ). ‵ (cells (mem u8) (part ++ back) b k)) on refl $
@@ -89,4 +94,4 @@ module _ {M : Type 1} {𝓤 : Ura M} (𝓛 : Logic 𝓤) (κ : Lft) (q : Share) 
       move ! (2 ∷ 1 ∷ []) $ join ! $ move ! (2 ∷ 3 ∷ 4 ∷ 1 ∷ 0 ∷ []) $ group ! 5 $
       use1 𝓛 (later (some (λ (δ : GName). ‵ (fobs δ ((coded_list u8.coded).code part)) ⊛ ‵ (fbor κ (Body (Arr (mem u8) (length part)) b (a + o) δ)) ⊛ ‵ (flft κ q) ⊛ ‵ (follows (Array u8 0) (Array u8 0) γ δ (overwritten xs a)))))
       (takes_part 𝓛 (Arr (mem u8) (length xs)) (Arr (mem u8) (length part)) (overwritten xs a) κ q b o b (a + o) γ Others put ((coded_list u8.coded).code xs) ((coded_list u8.coded).code xs) part) $ await ! tt $ pick ! (λ δ. split3 ! $
-      use2 𝓛 (‵ ((MutSlice (named 0) κ u8).own_val (bytes (a + o) δ part) (slice_val (b, a + o) (length part) ∷ []))) (slice_of 𝓛 u8 (named 0) κ b (a + o) δ part room) $ now ! $ show ! PartLent δ $ done !)
+      use2 𝓛 (‵ ((MutSlice (named 0) κ u8).own_val (bytes (a + o) δ part) (slice_val (b, a + o) (length part) ∷ []))) (slice_of 𝓛 u8 (named 0) κ b (a + o) δ part room) $ now ! $ check ! fit $ show ! PartLent δ $ done !))

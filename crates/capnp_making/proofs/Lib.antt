@@ -1,5 +1,6 @@
 pub mod Below
 pub mod BelowElements
+pub mod BytesOver
 pub mod BytesWritten
 pub mod Extents
 pub mod FieldBit

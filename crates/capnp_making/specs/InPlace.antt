@@ -1,11 +1,10 @@
 -- Bytes of a segment that are written in place ("Lists").
-use Rattle.std.specs.Prelude.{◌≡◌, ℕ, ◌-◌, ◌*◌, ◌≤◌, ◌++◌, List, [], length, take, drop, slice_index_or, slice_set, replicate}
+use Rattle.std.specs.Prelude.{◌≡◌, ℕ, ◌*◌, ◌≤◌, ◌++◌, List, [], length, take, drop, slice_index_or, slice_set, replicate}
 use Rattle.capnp_format.specs.Forest.{target}
 use Rattle.capnp_format.specs.Segments.{Segments}
 use Rattle.capnp_format.specs.Tree.{Tree, Flat}
 use Rattle.capnp_format.specs.Value.{AreBelow}
 use Rattle.capnp_arena.specs.Written.{overwritten}
-use Rattle.capnp_making.specs.Made.{zeros}
 use Rattle.capnp_making.specs.Stored.{IsStored, IsReplaced}
 use Rattle.capnp_making.specs.declared.existing.ExistingBytes.{ExistingBytes}
 
@@ -29,11 +28,11 @@ rewritten with_bytes segments a b ws = with_bytes a b.segment (segment_with (seg
 abbrev pub AreBytes : ℕ → List ℕ → Type 0
 AreBytes n ws = (length ws ≡ n) × AreBelow 256 ws
 
--- From S to R the bytes ws are written at b: where b is the start of a new list of n bytes, all zero, ws stand in it, and the others are zero.
-abbrev pub FillsZeros : Segments → Segments → ExistingBytes → List ℕ → Type 0
-FillsZeros S R b ws =
-    (Q : Segments) (s p n : ℕ) (t : Tree) → IsReplaced Q S s p t (Flat 2 (zeros n)) → b.segment ≡ (target S s p).segment → b.start ≡ (target S s p).start → b.length ≤ n
-    → IsReplaced Q R s p t (Flat 2 (ws ++ zeros (n - b.length)))
+-- From S to R the bytes ws are written at b: where b is the start of a list of bytes, ws stand in it, and the others are as they were.
+abbrev pub Overwrites : Segments → Segments → ExistingBytes → List ℕ → Type 0
+Overwrites S R b ws =
+    (s p : ℕ) (ns : List ℕ) → IsStored S s p (Flat 2 ns) → b.segment ≡ (target S s p).segment → b.start ≡ (target S s p).start → b.length ≤ length ns
+    → IsReplaced S R s p (Flat 2 ns) (Flat 2 (ws ++ drop b.length ns))
 
 -- Where a place of the message holds a value, these bytes are zero.
 abbrev pub AreZeroOnce : Segments → ℕ → ℕ → List ℕ → Type 0

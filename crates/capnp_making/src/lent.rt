@@ -1,11 +1,11 @@
 //! Bytes of a message that is built, lent to be written in place ("Lists").
-ghost use Rattle.std.specs.Prelude.{◌≡◌, ℕ, ◌+◌, ◌-◌, ◌^◌, ◌<◌, ◌≤◌, List, [], length, take, drop, slice_index_or, IsOk, IfOk, IfErr};
+ghost use Rattle.std.specs.Prelude.{◌≡◌, ℕ, ◌+◌, ◌-◌, ◌^◌, ◌<◌, ◌≤◌, List, [], length, take, drop, get_or, slice_index_or, IsOk, IfOk, IfErr};
 ghost use Rattle.std.specs.Borrow.{sem, Lends, Array, u8 as byte};
 ghost use Rattle.capnp_format.specs.Numbers.{words_for};
 ghost use Rattle.capnp_format.specs.Segments.{IsPlace};
 ghost use Rattle.capnp_arena.specs.Written.{overwritten};
 ghost use Rattle.capnp_making.specs.Existing.{AreInside};
-ghost use Rattle.capnp_making.specs.InPlace.{bytes_of, rewritten, segments_with, AreBytes, AreZeroOnce, FillsZeros};
+ghost use Rattle.capnp_making.specs.InPlace.{bytes_of, rewritten, segments_with, AreBytes, AreZeroOnce, Overwrites};
 ghost use Rattle.capnp_making.specs.Memory.{HasRoom, CanRefuse};
 
 use crate::existing::ExistingBytes;
@@ -21,6 +21,7 @@ fn part_of<A: BuilderArena>(arena: &mut A, id: u32, from: usize, end: usize) -> 
     requires inside { end ≤ length (slice_index_or (A.segments arena.old) id []) }
     ensures* lends { sem 𝓛 (Lends A.row (Array byte 0) arena.entry result (λ ws. A.with_bytes arena.old id (overwritten (slice_index_or (A.segments arena.old) id []) from ws))) }
     ensures now { result.now ≡ take (end - from) (drop from (slice_index_or (A.segments arena.old) id [])) }
+    ensures small { (i : ℕ) → get_or (slice_index_or (A.segments arena.old) id []) i 0 < 2 ^ 8 }
 {
     let bytes = arena.segment_mut(id);
     &mut bytes[from..end]
@@ -33,10 +34,10 @@ pub fn bytes_mut<A: BuilderArena>(arena: &mut A, bytes: ExistingBytes) -> &mut [
     ensures* lends { sem 𝓛 (Lends A.row (Array byte 0) arena.entry result (rewritten A.with_bytes A.segments arena.old bytes)) }
     ensures now { result.now ≡ bytes_of (A.segments arena.old) bytes }
     ensures count { length result.now ≡ bytes.length }
-    ensures written { (ws : List ℕ) → length ws ≡ bytes.length →
+    ensures segments { (ws : List ℕ) → length ws ≡ bytes.length →
         A.segments (rewritten A.with_bytes A.segments arena.old bytes ws) ≡ segments_with (A.segments arena.old) bytes ws }
-    ensures filled { (ws : List ℕ) → AreBytes bytes.length ws →
-        FillsZeros (A.view arena.old).words (A.view (rewritten A.with_bytes A.segments arena.old bytes ws)).words bytes ws }
+    ensures written { (ws : List ℕ) → AreBytes bytes.length ws →
+        Overwrites (A.view arena.old).words (A.view (rewritten A.with_bytes A.segments arena.old bytes ws)).words bytes ws }
 {
     let from = 8 * bytes.start as usize;
     let end = from + bytes.length as usize;

@@ -3,9 +3,9 @@
 //! An object goes behind the words of its pointer's segment where it fits, with a near pointer. Else
 //! it goes behind a landing pad of one word, where the arena finds room. What a pointer held before
 //! becomes zero first, with all below it and its landing pads; these words stay allocated.
-ghost use Rattle.std.specs.Prelude.{◌≡◌, ◌≢◌, ℕ, ◌<◌, ◌≤◌, ◌+◌, ◌-◌, ◌*◌, ◌^◌, IfOk, IsOk, OnOk, OnErr, IfErr};
+ghost use Rattle.std.specs.Prelude.{◌≡◌, ◌≢◌, ℕ, length, ◌<◌, ◌≤◌, ◌+◌, ◌-◌, ◌*◌, ◌^◌, IfOk, IsOk, OnOk, OnErr, IfErr};
 ghost use Rattle.capnp_format.specs.Canonical.{offset_to, Reaches};
-ghost use Rattle.capnp_format.specs.Segments.{word_at, IsPlace};
+ghost use Rattle.capnp_format.specs.Segments.{segment, word_at, IsPlace};
 ghost use Rattle.capnp_format.specs.Tree.{Null, Capability};
 ghost use Rattle.capnp_format.specs.Word.{offset_bits, struct_word};
 ghost use Rattle.capnp_pointers.specs.Sizes.{size_number};
@@ -125,6 +125,7 @@ pub fn clear<A: BuilderArena>(arena: &mut A, id: u32, at: u32)
 pub fn set_capability<A: BuilderArena>(arena: &mut A, id: u32, at: u32, index: u32)
     requires place { IsPlace (A.view arena.old).words id at }
     ensures made { Puts (A.view arena.old).words (A.view arena.new).words id at (Capability index) }
+    ensures lengths { (v : ℕ) → length (segment (A.view arena.new).words v) ≡ length (segment (A.view arena.old).words v) }
     ensures limits { KeepsLimits (A.view arena.old) (A.view arena.new) }
 {
     zero_object(arena, id, at);

@@ -3,13 +3,10 @@ ghost use Rattle.std.specs.Prelude.{◌≡◌, ◌≢◌, ◌↔◌, ◌+◌, �
 ghost use Rattle.capnp_format.specs.Segments.{word_at, IsPlace};
 ghost use Rattle.capnp_readers.specs.Readers.{IsStructPlace};
 ghost use Rattle.capnp_builders.specs.Reads.{IsArenaOf, IsReadAt};
-ghost use Rattle.capnp_builders.specs.Places.{IsAligned, WritesField, field, field_behind};
+ghost use Rattle.capnp_builders.specs.Places.{IsAligned, WritesField, number_field, field, field_behind};
 ghost use Rattle.capnp_readers.specs.Sections.{IsInside};
-ghost use Rattle.capnp_readers.specs.Sizes.{pointers_read};
 ghost use Rattle.capnp_arena.specs.View.{View};
-ghost use Rattle.capnp_copies.specs.Changes.{CopiesChildren};
-ghost use Rattle.capnp_copies.specs.StructValues.{CopiesFirst};
-ghost use Rattle.capnp_builders.specs.Content.{TakesData, both_have, pointers_copied};
+ghost use Rattle.capnp_builders.specs.Content.{TakesContent, StopsAtContent, TakesForContent, pointers_copied};
 
 use super::content::{clear_pointers, write_content};
 use crate::builders::PointerBuilder;
@@ -104,10 +101,9 @@ impl<'a, A: BuilderArena> StructBuilder<'a, A> {
         lim: &mut ReadLimiter,
     ) -> Result<(), ErrorKind>
         requires inside { IsStructPlace (A.view self.old.arena.now).words self.old.place }
-        ensures copied { IfOk result (λ _. (mid : View) × TakesData B.ReaderArena value.now self.old.place (A.view self.old.arena.now) mid
-            × CopiesChildren (pointers_read B.ReaderArena value.now) (both_have B.ReaderArena value.now self.old.place) (pointers_copied self.old.place mid (A.view self.new.arena.now) lim.old lim.new)) }
-        ensures refused { IfErr result (λ k. (mid : View) × TakesData B.ReaderArena value.now self.old.place (A.view self.old.arena.now) mid
-            × CopiesFirst (pointers_read B.ReaderArena value.now) (both_have B.ReaderArena value.now self.old.place) (pointers_copied self.old.place mid (A.view self.new.arena.now) lim.old lim.new) k) }
+        ensures copied { IfOk result (λ _. TakesContent B.ReaderArena value.now self.old.place (pointers_copied self.old.place (A.view self.old.arena.now) (A.view self.new.arena.now) lim.old lim.new)) }
+        ensures refused { IfErr result (StopsAtContent B.ReaderArena value.now self.old.place (pointers_copied self.old.place (A.view self.old.arena.now) (A.view self.new.arena.now) lim.old lim.new)) }
+        ensures taken { TakesForContent B.ReaderArena value.now self.old.place (pointers_copied self.old.place (A.view self.old.arena.now) (A.view self.new.arena.now) lim.old lim.new) }
         ensures inside { IsStructPlace (A.view self.new.arena.now).words self.new.place }
         ensures same { self.new.arena.ghost_name ≡ self.old.arena.ghost_name }
         ensures place { self.new.place ≡ self.old.place }
@@ -139,7 +135,7 @@ impl<'a, A: BuilderArena> StructBuilder<'a, A> {
     pub fn set_data_field<T: Primitive + Zero>(&mut self, offset: usize, value: T)
         requires inside { IsStructPlace (A.view self.old.arena.now).words self.old.place }
         requires field { IsInside self.old.place.bits (8 * T.BYTES) offset }
-        ensures written { WritesField (A.view self.old.arena.now) (A.view self.new.arena.now) self.old.place.segment self.old.place.byte (field (8 * (offset * T.BYTES)) (8 * T.BYTES) (T.bits_of value)) }
+        ensures written { WritesField (A.view self.old.arena.now) (A.view self.new.arena.now) self.old.place.segment self.old.place.byte (number_field T.BYTES offset (T.bits_of value)) }
         ensures inside { IsStructPlace (A.view self.new.arena.now).words self.new.place }
         ensures same { self.new.arena.ghost_name ≡ self.old.arena.ghost_name }
         ensures place { self.new.place ≡ self.old.place }
@@ -158,7 +154,7 @@ impl<'a, A: BuilderArena> StructBuilder<'a, A> {
     )
         requires inside { IsStructPlace (A.view self.old.arena.now).words self.old.place }
         requires field { IsInside self.old.place.bits (8 * T.BYTES) offset }
-        ensures written { WritesField (A.view self.old.arena.now) (A.view self.new.arena.now) self.old.place.segment self.old.place.byte (field (8 * (offset * T.BYTES)) (8 * T.BYTES) (T.bits_of (T.masked value mask))) }
+        ensures written { WritesField (A.view self.old.arena.now) (A.view self.new.arena.now) self.old.place.segment self.old.place.byte (number_field T.BYTES offset (T.bits_of (T.masked value mask))) }
         ensures inside { IsStructPlace (A.view self.new.arena.now).words self.new.place }
         ensures same { self.new.arena.ghost_name ≡ self.old.arena.ghost_name }
         ensures place { self.new.place ≡ self.old.place }

@@ -1,12 +1,13 @@
 //! The copy of a list that is read, whose words are at hand ("Lists", "Canonicalization").
 ghost use Rattle.std.specs.Prelude.{◌≡◌, ◌⊎◌, ◌+◌, ◌-◌, ◌^◌, ◌↔◌, IsTrue, Err, IfOk, IfErr, OnOk, OnErr};
 ghost use Rattle.capnp_format.specs.Segments.{word_at, IsPlace};
-ghost use Rattle.capnp_format.specs.Tree.{Tree, Null};
+ghost use Rattle.capnp_format.specs.Tree.{Null};
 ghost use Rattle.capnp_making.specs.Memory.{KeepsMemory, SpendsMemory};
 ghost use Rattle.capnp_making.specs.Stored.{IsReplaced};
 ghost use Rattle.capnp_words.specs.declared.error.ErrorKind.TheVariants.{MessageTooLarge};
-ghost use Rattle.capnp_copies.specs.Changes.{change, form_of, kept};
-ghost use Rattle.capnp_copies.specs.ListValues.{CopiesList, StopsAtList, LacksListRoom, ReadsList, RefusedList, BreaksOffList, IsTooLong, FitsListPointer, elements_read};
+ghost use Rattle.capnp_copies.specs.Changes.{change, form_of};
+ghost use Rattle.capnp_copies.specs.Growth.{TakesForList};
+ghost use Rattle.capnp_copies.specs.ListValues.{IsListCopy, RefusesList, CopiesList, StopsAtList, BreaksOffList, IsTooLong, FitsListPointer, elements_read};
 
 use super::flat::copy_flat;
 use super::lists::{copy_pointers, copy_structs};
@@ -36,14 +37,12 @@ pub fn copy_list<A: BuilderArena, B: ReaderArena>(
 ) -> Result<(), ErrorKind>
     requires place { IsPlace (A.view arena.old).words id at }
     requires null { word_at (A.view arena.old).words id at ≡ 0 }
-    ensures copied { IfOk result (λ _. (t : Tree) × ReadsList (form_of canonicalize) (elements_read B.ReaderArena value.entry) lim.old lim.new t
-        × IsReplaced (A.view arena.old).words (A.view arena.new).words id at Null (kept canonicalize t)) }
-    ensures refused { IfErr result (λ k. LacksListRoom (elements_read B.ReaderArena value.entry) (change canonicalize id at (A.view arena.old) (A.view arena.new) lim.old lim.new) k
-        ⊎ RefusedList (form_of canonicalize) (elements_read B.ReaderArena value.entry) lim.old lim.new k
-        ⊎ (IsTooLong (elements_read B.ReaderArena value.entry) × (k ≡ MessageTooLarge (2 ^ 64 - 1)))) }
+    ensures copied { IfOk result (λ _. IsListCopy B.ReaderArena value.entry (change canonicalize id at (A.view arena.old) (A.view arena.new) lim.old lim.new)) }
+    ensures refused { IfErr result (RefusesList B.ReaderArena value.entry (change canonicalize id at (A.view arena.old) (A.view arena.new) lim.old lim.new)) }
     ensures cleared { OnErr result (IsReplaced (A.view arena.old).words (A.view arena.new).words id at Null Null) }
     ensures spent { OnErr result ((lim.new ≡ lim.old) ⊎ BreaksOffList (form_of canonicalize) (elements_read B.ReaderArena value.entry) lim.old lim.new) }
     ensures long { IsTooLong (elements_read B.ReaderArena value.entry) → (result ≡ Err (MessageTooLarge (2 ^ 64 - 1))) × (lim.new ≡ lim.old) }
+    ensures taken { TakesForList B.ReaderArena value.entry (change canonicalize id at (A.view arena.old) (A.view arena.new) lim.old lim.new) }
     ensures granted { OnOk result (KeepsMemory (A.view arena.old) (A.view arena.new)) }
     ensures memory { OnErr result (SpendsMemory (A.view arena.old) (A.view arena.new)) }
 {
@@ -70,6 +69,7 @@ fn copy_elements_read<A: BuilderArena, B: ReaderArena>(
     ensures copied { IfOk result (λ _. CopiesList (elements_read B.ReaderArena value.entry) (change canonicalize id at (A.view arena.old) (A.view arena.new) lim.old lim.new)) }
     ensures refused { IfErr result (StopsAtList (elements_read B.ReaderArena value.entry) (change canonicalize id at (A.view arena.old) (A.view arena.new) lim.old lim.new)) }
     ensures long { IsTooLong (elements_read B.ReaderArena value.entry) → (result ≡ Err (MessageTooLarge (2 ^ 64 - 1))) × (lim.new ≡ lim.old) }
+    ensures taken { TakesForList B.ReaderArena value.entry (change canonicalize id at (A.view arena.old) (A.view arena.new) lim.old lim.new) }
 {
     let count = value.count;
     if !fits_list_pointer(value.element_size, value.struct_size, count) {

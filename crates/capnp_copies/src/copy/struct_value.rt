@@ -2,14 +2,14 @@
 //! "Canonicalization").
 ghost use Rattle.std.specs.Prelude.{◌≡◌, ◌⊎◌, ◌≤◌, length, IfOk, IfErr, OnOk, OnErr};
 ghost use Rattle.capnp_format.specs.Segments.{word_at, IsPlace};
-ghost use Rattle.capnp_format.specs.Tree.{Null, Struct, Trees, count};
+ghost use Rattle.capnp_format.specs.Tree.{Null};
 ghost use Rattle.capnp_making.specs.Memory.{KeepsMemory, SpendsMemory};
 ghost use Rattle.capnp_making.specs.Stored.{IsReplaced};
-ghost use Rattle.capnp_objects.specs.Outcomes.{ReadsAll};
-ghost use Rattle.capnp_objects.specs.Refusals.{RefusedAll, BreaksOffAmong};
+ghost use Rattle.capnp_objects.specs.Refusals.{BreaksOffAmong};
 ghost use Rattle.capnp_readers.specs.Sizes.{pointers_read};
 ghost use Rattle.capnp_copies.specs.Changes.{change, form_of, kept};
-ghost use Rattle.capnp_copies.specs.StructValues.{CopiesSections, StopsAtSections, LacksSections, IsTooWide, kept_count, data_of, pointer_words};
+ghost use Rattle.capnp_copies.specs.Growth.{TakesForStruct};
+ghost use Rattle.capnp_copies.specs.StructValues.{IsStructCopy, RefusesStruct, CopiesStructRead, StopsAtStructRead, IsTooWide, kept_count, data_of, pointer_words};
 
 use super::children::copy_children;
 use crate::section::{kept_words, put_section};
@@ -39,14 +39,11 @@ pub fn copy_struct_value<A: BuilderArena, B: ReaderArena>(
 ) -> Result<(), ErrorKind>
     requires place { IsPlace (A.view arena.old).words id at }
     requires null { word_at (A.view arena.old).words id at ≡ 0 }
-    ensures copied { IfOk result (λ _. (ts : Trees) × (count ts ≡ value.entry.pointer_count)
-        × ReadsAll (form_of canonicalize) (pointers_read B.ReaderArena value.entry) lim.old lim.new ts
-        × IsReplaced (A.view arena.old).words (A.view arena.new).words id at Null (kept canonicalize (Struct (data_of B.ReaderArena value.entry) ts))) }
-    ensures refused { IfErr result (λ k. LacksSections (data_of B.ReaderArena value.entry) (pointers_read B.ReaderArena value.entry) value.entry.pointer_count (change canonicalize id at (A.view arena.old) (A.view arena.new) lim.old lim.new) k
-        ⊎ RefusedAll (form_of canonicalize) (pointers_read B.ReaderArena value.entry) value.entry.pointer_count lim.old lim.new k
-        ⊎ IsTooWide (kept_count canonicalize (data_of B.ReaderArena value.entry)) k) }
+    ensures copied { IfOk result (λ _. IsStructCopy B.ReaderArena value.entry (change canonicalize id at (A.view arena.old) (A.view arena.new) lim.old lim.new)) }
+    ensures refused { IfErr result (RefusesStruct B.ReaderArena value.entry (change canonicalize id at (A.view arena.old) (A.view arena.new) lim.old lim.new)) }
     ensures cleared { OnErr result (IsReplaced (A.view arena.old).words (A.view arena.new).words id at Null Null) }
     ensures spent { OnErr result ((lim.new ≡ lim.old) ⊎ BreaksOffAmong (form_of canonicalize) (pointers_read B.ReaderArena value.entry) value.entry.pointer_count lim.old lim.new) }
+    ensures taken { TakesForStruct B.ReaderArena value.entry (change canonicalize id at (A.view arena.old) (A.view arena.new) lim.old lim.new) }
     ensures granted { OnOk result (KeepsMemory (A.view arena.old) (A.view arena.new)) }
     ensures memory { OnErr result (SpendsMemory (A.view arena.old) (A.view arena.new)) }
 {
@@ -70,10 +67,9 @@ fn copy_sections<A: BuilderArena, B: ReaderArena>(
 ) -> Result<(), ErrorKind>
     requires place { IsPlace (A.view arena.old).words id at }
     requires null { word_at (A.view arena.old).words id at ≡ 0 }
-    ensures copied { IfOk result (λ _. CopiesSections (data_of B.ReaderArena value.entry) (pointers_read B.ReaderArena value.entry) value.entry.pointer_count
-        (change canonicalize id at (A.view arena.old) (A.view arena.new) lim.old lim.new)) }
-    ensures refused { IfErr result (StopsAtSections (data_of B.ReaderArena value.entry) (pointers_read B.ReaderArena value.entry) value.entry.pointer_count
-        (change canonicalize id at (A.view arena.old) (A.view arena.new) lim.old lim.new)) }
+    ensures copied { IfOk result (λ _. CopiesStructRead B.ReaderArena value.entry (change canonicalize id at (A.view arena.old) (A.view arena.new) lim.old lim.new)) }
+    ensures refused { IfErr result (StopsAtStructRead B.ReaderArena value.entry (change canonicalize id at (A.view arena.old) (A.view arena.new) lim.old lim.new)) }
+    ensures taken { TakesForStruct B.ReaderArena value.entry (change canonicalize id at (A.view arena.old) (A.view arena.new) lim.old lim.new) }
 {
     let kept = match kept_sections(value, canonicalize) {
         Ok(kept) => kept,

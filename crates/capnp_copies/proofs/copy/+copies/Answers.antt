@@ -11,13 +11,18 @@ use Rattle.capnp_making.specs.Made.{zero_structs, nulls}
 use Rattle.capnp_making.specs.Memory.{HasRoom}
 use Rattle.capnp_making.proofs.FillingMade.{IsBegun, pointers_ready, structs_ready}
 use Rattle.capnp_objects.specs.Reading.{Reading, row, words_from}
+use Rattle.capnp_arena.specs.View.{View}
+use Rattle.capnp_objects.proofs.Budgets.{one_element_more}
+use Rattle.capnp_objects.proofs.Refusals.{stopped_spends}
 use Rattle.capnp_readers.specs.Readers.{reading}
+use Rattle.capnp_copies.specs.Growth.{message_words}
 use Rattle.capnp_copies.specs.Changes.{KeepsPointers}
 use Rattle.capnp_copies.proofs.FlatRead.{ok_so, err_so, one_level_in, flat_words}
 use Rattle.capnp_copies.proofs.FilledChildren.{no_child, children_grow, child_ahead, child_copied, child_stops}
 use Rattle.capnp_copies.proofs.FilledElements.{DataWritten, element_copied, element_stops, no_row, no_width, AtRow, row_end, next_room, next_null, next_inside, row_copied, row_stops}
 use Rattle.capnp_copies.proofs.FilledObjects.{nothing_made, StructBegun, struct_fits, struct_null, struct_copied, struct_stops, ObjectBegun, pointers_copied, pointers_stop, widths_keep, structs_copied, structs_stop}
 use Rattle.capnp_copies.proofs.FilledValues.{read_stops, null_copied, capability_copied, capability_stops, struct_value, struct_value_stops, pointers_value, pointers_value_stops, structs_value, structs_value_stops, FlatOutcome, flat_value, flat_stops}
+use Rattle.capnp_copies.proofs.Growth.{nothing_read, nothing_taken, takes_both, takes_first, takes_from, takes_less, takes_words, words_same, word_over, no_wider, null_takes, capability_takes, struct_takes, flat_takes, pointers_take, structs_take}
 use Rattle.capnp_copies.proofs.KeptForms.{SourceKept}
 use Rattle.capnp_copies.proofs.TightElements.{all_rows}
 use Rattle.capnp_copies.proofs.TooLarge.{no_struct_room, no_pointers_room, no_structs_room}
@@ -26,26 +31,32 @@ use Rattle.capnp_copies.proofs.copy.+copies.Goals as goal
 -- Pointers one behind the other.
 
 pub children::copy_children-loop-i-init : goal.children::copy_children-loop-i-init
-children::copy_children-loop-i-init g t c = no_child (reading g.B.ReaderArena c.args.from) c.args.canonicalize c.args.id c.args.at (g.A.BuilderArena.view c.args.arena.now) c.args.lim.now
+children::copy_children-loop-i-init g t c =
+    (no_child (reading g.B.ReaderArena c.args.from) c.args.canonicalize c.args.id c.args.at (g.A.BuilderArena.view c.args.arena.now) c.args.lim.now, nothing_read 0 refl (omega arith))
 
 pub children::copy_children-copy_object-requires : goal.children::copy_children-copy_object-requires
 children::copy_children-copy_object-requires g t c κs within =
-    let grows = children_grow c.loop-i.invariant in
+    let grows = children_grow c.loop-i.invariant.0 in
     let PLACE : IsPlace (g.A.BuilderArena.view c.loop-i.arena).words c.args.id (c.args.at + c.loop-i.i) = omega (arith, c.requires.room, c.loop-i-test.true, grows.words c.args.id) in
-    let NULL : word_at (g.A.BuilderArena.view c.loop-i.arena).words c.args.id (c.args.at + c.loop-i.i) ≡ 0 = child_ahead c.loop-i.invariant (omega (arith, c.requires.room, c.loop-i-test.true)) ∙ c.requires.null c.loop-i.i c.loop-i-test.true in
+    let NULL : word_at (g.A.BuilderArena.view c.loop-i.arena).words c.args.id (c.args.at + c.loop-i.i) ≡ 0 = child_ahead c.loop-i.invariant.0 (omega (arith, c.requires.room, c.loop-i-test.true)) ∙ c.requires.null c.loop-i.i c.loop-i-test.true in
     search rules
 
 pub children::copy_children-returns-in-Err-clause-refused : goal.children::copy_children-returns-in-Err-clause-refused
 children::copy_children-returns-in-Err-clause-refused g t c =
     let nl = to_z-of_z w32 c.args.from.nesting_limit (search rules) in
-    child_stops (omega (arith, c.requires.room, c.loop-i-test.true)) c.loop-i-test.true c.loop-i.invariant (rw nl at c.in-Err.ensures.refused)
+    child_stops (omega (arith, c.requires.room, c.loop-i-test.true)) c.loop-i-test.true c.loop-i.invariant.0 (rw nl at c.in-Err.ensures.refused)
 
 pub children::copy_children-loop-i-preserved : goal.children::copy_children-loop-i-preserved
 children::copy_children-loop-i-preserved g t c =
     let nl = to_z-of_z w32 c.args.from.nesting_limit (search rules) in
     let few : length (segment (g.A.BuilderArena.view c.loop-i.arena).words c.args.id) < 2 ^ 29 =
-    omega (arith, g.met.A.BuilderArena.within c.loop-i.arena c.args.id, g.met.A.BuilderArena.small c.loop-i.arena c.args.id) in
-    child_copied (omega (arith, c.requires.room, c.loop-i-test.true)) few c.loop-i.invariant (rw nl at c.in-Ok.ensures.copied)
+    omega (arith, g.met.A.BuilderArena.within c.loop-i.arena c.args.id, g.met.A.BuilderArena.small c.loop-i.arena c.args.id) in (
+      child_copied (omega (arith, c.requires.room, c.loop-i-test.true)) few c.loop-i.invariant.0 (rw nl at c.in-Ok.ensures.copied),
+      takes_less (omega arith) (omega arith) (takes_both c.loop-i.invariant.1 c.in-Ok.ensures.taken),
+    )
+
+pub children::copy_children-returns-in-Err-clause-taken : goal.children::copy_children-returns-in-Err-clause-taken
+children::copy_children-returns-in-Err-clause-taken g t c = takes_less (omega arith) (omega (arith, c.loop-i-test.true)) (takes_both c.loop-i.invariant.1 c.in-Err.ensures.taken)
 
 -- What a pointer means.
 
@@ -54,10 +65,16 @@ copy_object-returns-in-Err-clause-refused g t c =
     let nl = to_z-of_z w32 c.args.from.nesting_limit (search rules) in
     read_stops c.requires.place c.requires.null (rw nl at c.in-Err.ensures.refused)
 
+pub copy_object-returns-in-Err-clause-taken : goal.copy_object-returns-in-Err-clause-taken
+copy_object-returns-in-Err-clause-taken g t c = nothing_taken (stopped_spends c.in-Err.ensures.refused)
+
 pub copy_object-returns-then-canonicalize-clause-refused : goal.copy_object-returns-then-canonicalize-clause-refused
 copy_object-returns-then-canonicalize-clause-refused g t c =
     let object = rw c.in-Capability.is at c.in-Ok.ensures.object in
     rw c.if-canonicalize.true (capability_stops object c.requires.place c.requires.null)
+
+pub copy_object-returns-then-canonicalize-clause-taken : goal.copy_object-returns-then-canonicalize-clause-taken
+copy_object-returns-then-canonicalize-clause-taken g t c = capability_takes (reading g.B.ReaderArena c.args.from) (rw c.in-Capability.is at c.in-Ok.ensures.object) (omega arith)
 
 pub copy_object-copy_pointers-requires : goal.copy_object-copy_pointers-requires
 copy_object-copy_pointers-requires g t c κs within =
@@ -75,10 +92,18 @@ pub copy_object-returns-in-Null-clause-copied : goal.copy_object-returns-in-Null
 copy_object-returns-in-Null-clause-copied g t c =
     null_copied (rw c.in-Null.is at c.in-Ok.ensures.object) c.requires.place c.requires.null
 
+pub copy_object-returns-in-Null-clause-taken : goal.copy_object-returns-in-Null-clause-taken
+copy_object-returns-in-Null-clause-taken g t c = null_takes (reading g.B.ReaderArena c.args.from) (rw c.in-Null.is at c.in-Ok.ensures.object)
+
 pub copy_object-returns-else-canonicalize-clause-copied : goal.copy_object-returns-else-canonicalize-clause-copied
 copy_object-returns-else-canonicalize-clause-copied g t c =
     let object = rw c.in-Capability.is at c.in-Ok.ensures.object in
     rw c.if-canonicalize.false (capability_copied object c.requires.place (rw c.new_capability.ensures.word at c.set_word.ensures))
+
+pub copy_object-returns-else-canonicalize-clause-taken : goal.copy_object-returns-else-canonicalize-clause-taken
+copy_object-returns-else-canonicalize-clause-taken g t c =
+    let words : message_words (g.A.BuilderArena.view c.set_word.new.self).words ≤ message_words (g.A.BuilderArena.view c.args.arena.now).words = omega (arith, ap (λ (v : View). message_words v.words) c.set_word.ensures, word_over (g.A.BuilderArena.view c.args.arena.now).words c.args.id c.args.at c.new_capability.result.0) in
+    capability_takes (reading g.B.ReaderArena c.args.from) (rw c.in-Capability.is at c.in-Ok.ensures.object) words
 
 pub copy_object-returns-in-Struct-clause-copied : goal.copy_object-returns-in-Struct-clause-copied
 copy_object-returns-in-Struct-clause-copied g t c =
@@ -94,12 +119,17 @@ copy_object-returns-in-Struct-clause-refused g t c =
     let less = one_level_in c.args.from.nesting_limit (search rules) in
     err_so c.copy_struct.result _ _ c.copy_struct.ensures.refused (λ k stop. struct_value_stops c.in-Struct.start less object stop)
 
+pub copy_object-returns-in-Struct-clause-taken : goal.copy_object-returns-in-Struct-clause-taken
+copy_object-returns-in-Struct-clause-taken g t c =
+    let nl = to_z-of_z w32 c.args.from.nesting_limit (search rules) in
+    struct_takes (reading g.B.ReaderArena c.args.from) c.in-Struct.start (rw (c.in-Struct.is, nl) at c.in-Ok.ensures.object) c.copy_struct.ensures.taken
+
 pub copy_object-returns-in-Flat-clause-copied : goal.copy_object-returns-in-Flat-clause-copied
 copy_object-returns-in-Flat-clause-copied g t c =
     let nl = to_z-of_z w32 c.args.from.nesting_limit (search rules) in
     let object = rw (c.in-Flat.is, nl) at c.in-Ok.ensures.object in
     let outcome : FlatOutcome c.copy_flat.result c.args.id c.args.at (words_for (size_number c.in-Flat.size) c.in-Flat.count) (g.A.BuilderArena.view c.args.arena.now) (g.A.BuilderArena.view c.copy_flat.new.arena) (Flat (size_number c.in-Flat.size) (unpacked (size_number c.in-Flat.size) c.in-Flat.count (words_of c.part-elements.result.now))) =
-    record { copied = c.copy_flat.ensures.copied; granted = c.copy_flat.ensures.granted; refused = c.copy_flat.ensures.refused; kept = c.copy_flat.ensures.kept; memory = c.copy_flat.ensures.memory; tight = c.copy_flat.ensures.tight; fits = λ room. c.copy_flat.ensures.fits (omega (arith, room, flat_words (size_number c.in-Flat.size) c.in-Flat.count (words_of c.part-elements.result.now))) } in
+    record { copied = c.copy_flat.ensures.copied; granted = c.copy_flat.ensures.granted; refused = c.copy_flat.ensures.refused; kept = c.copy_flat.ensures.kept; memory = c.copy_flat.ensures.memory; stands = c.copy_flat.ensures.stands; fits = λ room. c.copy_flat.ensures.fits (omega (arith, room, flat_words (size_number c.in-Flat.size) c.in-Flat.count (words_of c.part-elements.result.now))) } in
     flat_value c.args.canonicalize c.copy_flat.result c.in-Flat.start c.in-Flat.size object c.flat_words-words.ensures c.part-elements.ensures.words outcome
 
 pub copy_object-returns-in-Flat-clause-refused : goal.copy_object-returns-in-Flat-clause-refused
@@ -107,8 +137,13 @@ copy_object-returns-in-Flat-clause-refused g t c =
     let nl = to_z-of_z w32 c.args.from.nesting_limit (search rules) in
     let object = rw (c.in-Flat.is, nl) at c.in-Ok.ensures.object in
     let outcome : FlatOutcome c.copy_flat.result c.args.id c.args.at (words_for (size_number c.in-Flat.size) c.in-Flat.count) (g.A.BuilderArena.view c.args.arena.now) (g.A.BuilderArena.view c.copy_flat.new.arena) (Flat (size_number c.in-Flat.size) (unpacked (size_number c.in-Flat.size) c.in-Flat.count (words_of c.part-elements.result.now))) =
-    record { copied = c.copy_flat.ensures.copied; granted = c.copy_flat.ensures.granted; refused = c.copy_flat.ensures.refused; kept = c.copy_flat.ensures.kept; memory = c.copy_flat.ensures.memory; tight = c.copy_flat.ensures.tight; fits = λ room. c.copy_flat.ensures.fits (omega (arith, room, flat_words (size_number c.in-Flat.size) c.in-Flat.count (words_of c.part-elements.result.now))) } in
+    record { copied = c.copy_flat.ensures.copied; granted = c.copy_flat.ensures.granted; refused = c.copy_flat.ensures.refused; kept = c.copy_flat.ensures.kept; memory = c.copy_flat.ensures.memory; stands = c.copy_flat.ensures.stands; fits = λ room. c.copy_flat.ensures.fits (omega (arith, room, flat_words (size_number c.in-Flat.size) c.in-Flat.count (words_of c.part-elements.result.now))) } in
     flat_stops c.args.canonicalize c.copy_flat.result c.in-Flat.start c.in-Flat.size object c.flat_words-words.ensures c.part-elements.ensures.words (c.requires.place, c.requires.null) outcome
+
+pub copy_object-returns-in-Flat-clause-taken : goal.copy_object-returns-in-Flat-clause-taken
+copy_object-returns-in-Flat-clause-taken g t c =
+    let nl = to_z-of_z w32 c.args.from.nesting_limit (search rules) in
+    flat_takes (reading g.B.ReaderArena c.args.from) c.in-Flat.size c.in-Flat.start (rw (c.in-Flat.is, nl) at c.in-Ok.ensures.object) c.copy_flat.ensures.taken
 
 pub copy_object-returns-in-Pointers-clause-copied : goal.copy_object-returns-in-Pointers-clause-copied
 copy_object-returns-in-Pointers-clause-copied g t c =
@@ -123,6 +158,11 @@ copy_object-returns-in-Pointers-clause-refused g t c =
     let object = rw (c.in-Pointers.is, nl) at c.in-Ok.ensures.object in
     let less = one_level_in c.args.from.nesting_limit (search rules) in
     err_so c.copy_pointers.result _ _ c.copy_pointers.ensures.refused (λ k stop. pointers_value_stops c.in-Pointers.start less object stop)
+
+pub copy_object-returns-in-Pointers-clause-taken : goal.copy_object-returns-in-Pointers-clause-taken
+copy_object-returns-in-Pointers-clause-taken g t c =
+    let nl = to_z-of_z w32 c.args.from.nesting_limit (search rules) in
+    pointers_take (reading g.B.ReaderArena c.args.from) c.in-Pointers.start (rw (c.in-Pointers.is, nl) at c.in-Ok.ensures.object) c.copy_pointers.ensures.taken
 
 pub copy_object-returns-in-Structs-clause-copied : goal.copy_object-returns-in-Structs-clause-copied
 copy_object-returns-in-Structs-clause-copied g t c =
@@ -139,6 +179,11 @@ copy_object-returns-in-Structs-clause-refused g t c =
     err_so c.copy_structs.result _ _ c.copy_structs.ensures.refused (λ k stop. structs_value_stops c.in-Structs.start less object stop)
 
 -- The elements of a list of structs.
+
+pub copy_object-returns-in-Structs-clause-taken : goal.copy_object-returns-in-Structs-clause-taken
+copy_object-returns-in-Structs-clause-taken g t c =
+    let nl = to_z-of_z w32 c.args.from.nesting_limit (search rules) in
+    structs_take (reading g.B.ReaderArena c.args.from) c.in-Structs.start (rw (c.in-Structs.is, nl) at c.in-Ok.ensures.object) c.copy_structs.ensures.taken
 
 pub elements::copy_element-returns-clause-copied : goal.elements::copy_element-returns-clause-copied
 elements::copy_element-returns-clause-copied g t c =
@@ -160,14 +205,21 @@ elements::copy_element-returns-clause-refused g t c =
     record { inside = omega (arith, c.requires.inside, c.requires.less_data); room = omega (arith, c.requires.room); writes = rw section at c.put_words.ensures.words } in
     err_so c.copy_children.result _ _ c.copy_children.ensures.refused (λ k stop. element_stops put (rw (c.from.ensures, c.from-2.ensures, c.from-pointers.ensures, nl) at stop))
 
+pub elements::copy_element-returns-clause-taken : goal.elements::copy_element-returns-clause-taken
+elements::copy_element-returns-clause-taken g t c = takes_less (omega arith) (omega (arith, c.from-pointers.ensures)) (takes_from c.put_words.ensures.none_more c.copy_children.ensures.taken)
+
 pub elements::copy_elements-returns-then-kept_words-eq0-clause-copied : goal.elements::copy_elements-returns-then-kept_words-eq0-clause-copied
 elements::copy_elements-returns-then-kept_words-eq0-clause-copied g t c =
     let from : Reading = reading g.B.ReaderArena c.args.from in
     let fits : SourceKept c.args.canonicalize from c.args.sizes c.args.count = record { inside = c.requires.inside; less_data = c.requires.less_data; less_pointers = c.requires.less_pointers; used = c.requires.pointers } in
     no_width from c.args.sizes c.args.count c.args.canonicalize c.args.to.segment c.args.to.at (g.A.BuilderArena.view c.args.arena.now) c.args.lim.now fits (omega (arith, c.total-kept_words.ensures, c.if-kept_words-eq0.true))
 
+pub elements::copy_elements-returns-then-kept_words-eq0-clause-taken : goal.elements::copy_elements-returns-then-kept_words-eq0-clause-taken
+elements::copy_elements-returns-then-kept_words-eq0-clause-taken g t c = nothing_read _ refl (omega arith)
+
 pub elements::copy_elements-loop-i-init : goal.elements::copy_elements-loop-i-init
-elements::copy_elements-loop-i-init g t c = no_row (reading g.B.ReaderArena c.args.from) c.args.sizes _ c.args.canonicalize c.args.to.segment c.args.to.at (g.A.BuilderArena.view c.args.arena.now) c.args.lim.now
+elements::copy_elements-loop-i-init g t c =
+    (no_row (reading g.B.ReaderArena c.args.from) c.args.sizes _ c.args.canonicalize c.args.to.segment c.args.to.at (g.A.BuilderArena.view c.args.arena.now) c.args.lim.now, nothing_read _ refl (omega arith))
 
 pub elements::copy_elements-overflow_mul-element : goal.elements::copy_elements-overflow_mul-element
 elements::copy_elements-overflow_mul-element g t c =
@@ -190,7 +242,7 @@ elements::copy_elements-copy_element-requires g t c κs within =
       zero = c.requires.zero;
       wide = omega (arith, c.total-kept_words.ensures, c.if-kept_words-eq0.false);
       more = c.loop-i-test.true;
-      rows = c.loop-i.invariant;
+      rows = c.loop-i.invariant.0;
     } in
     let ROOM : c.args.to.at + c.loop-i.i * c.total-kept_words.result + (c.args.sizes.kept.data_words + c.args.sizes.kept.pointers) ≤ length (segment (g.A.BuilderArena.view c.loop-i.arena).words c.args.to.segment) = rw c.total-kept_words.ensures (next_room here) in
     let NULL : (j : ℕ) → j < c.args.sizes.kept.pointers → word_at (g.A.BuilderArena.view c.loop-i.arena).words c.args.to.segment (c.args.to.at + c.loop-i.i * c.total-kept_words.result + c.args.sizes.kept.data_words + j) ≡ 0 = rw c.total-kept_words.ensures (next_null here) in
@@ -207,7 +259,7 @@ elements::copy_elements-returns-in-Err-clause-refused g t c =
       zero = c.requires.zero;
       wide = omega (arith, c.total-kept_words.ensures, c.if-kept_words-eq0.false);
       more = c.loop-i-test.true;
-      rows = c.loop-i.invariant;
+      rows = c.loop-i.invariant.0;
     } in
     row_stops here (rw (c.total-source_words.ensures, c.total-kept_words.ensures, nl) at c.in-Err.ensures.refused)
 
@@ -221,12 +273,18 @@ elements::copy_elements-loop-i-preserved g t c =
       zero = c.requires.zero;
       wide = omega (arith, c.total-kept_words.ensures, c.if-kept_words-eq0.false);
       more = c.loop-i-test.true;
-      rows = c.loop-i.invariant;
-    } in
-    row_copied here (rw (c.total-source_words.ensures, c.total-kept_words.ensures, nl) at c.in-Ok.ensures.copied)
+      rows = c.loop-i.invariant.0;
+    } in (
+      row_copied here (rw (c.total-source_words.ensures, c.total-kept_words.ensures, nl) at c.in-Ok.ensures.copied),
+      takes_less (omega arith) (one_element_more c.loop-i.i (c.loop-i.i + 1) c.args.sizes.kept.pointers (omega arith)) (takes_both c.loop-i.invariant.1 c.in-Ok.ensures.taken),
+    )
+
+pub elements::copy_elements-returns-in-Err-clause-taken : goal.elements::copy_elements-returns-in-Err-clause-taken
+elements::copy_elements-returns-in-Err-clause-taken g t c =
+    takes_less (omega arith) (one_element_more c.loop-i.i c.args.count c.args.sizes.kept.pointers c.loop-i-test.true) (takes_both c.loop-i.invariant.1 c.in-Err.ensures.taken)
 
 pub elements::copy_elements-returns-clause-copied : goal.elements::copy_elements-returns-clause-copied
-elements::copy_elements-returns-clause-copied g t c = all_rows (omega arith) (omega arith) c.loop-i.invariant
+elements::copy_elements-returns-clause-copied g t c = all_rows (omega arith) (omega arith) c.loop-i.invariant.0
 
 pub elements::copy_elements-overflow_add-element : goal.elements::copy_elements-overflow_add-element
 elements::copy_elements-overflow_add-element g t c =
@@ -257,6 +315,10 @@ lists::copy_pointers-returns-in-Ok-clause-refused g t c =
     record { begun = record { made = c.in-Ok.ensures.made; start = c.in-Ok.ensures.start; inside = c.in-Ok.ensures.inside }; memory = c.in-Ok.ensures.granted } in
     err_so c.copy_children.result _ _ c.copy_children.ensures.refused (λ k stop. pointers_stop begun (record { place = c.requires.place; memory = c.in-Ok.ensures.granted; taken = c.in-Ok.ensures.taken; behind = c.in-Ok.ensures.behind }) c.in-Ok.ensures.at_end stop)
 
+pub lists::copy_pointers-returns-in-Ok-clause-taken : goal.lists::copy_pointers-returns-in-Ok-clause-taken
+lists::copy_pointers-returns-in-Ok-clause-taken g t c =
+    takes_less (omega arith) (omega arith) (takes_first (c.args.count + 1) (takes_words (g.A.BuilderArena.view c.args.arena.now) (g.A.BuilderArena.view c.make_list.new.arena) c.args.id c.args.count c.in-Ok.ensures.taken) c.copy_children.ensures.taken)
+
 pub lists::copy_pointers-returns-in-Err-clause-refused : goal.lists::copy_pointers-returns-in-Err-clause-refused
 lists::copy_pointers-returns-in-Err-clause-refused g t c =
     let full : HasRoom (g.A.BuilderArena.view c.args.arena.now) c.args.id c.args.count → ⊥ = λ room. absurd (false≢true (c.in-Err.ensures.fits room)) in
@@ -265,6 +327,10 @@ lists::copy_pointers-returns-in-Err-clause-refused g t c =
     record { why = inl (c.args.count, none.0, inl (refl, refl), λ e. no_pointers_room (reading g.B.ReaderArena c.args.from) c.args.count c.args.id (g.A.BuilderArena.view c.args.arena.now) full); off = inl refl; left = none.1 }
 
 -- Lists of structs.
+
+pub lists::copy_pointers-returns-in-Err-clause-taken : goal.lists::copy_pointers-returns-in-Err-clause-taken
+lists::copy_pointers-returns-in-Err-clause-taken g t c =
+    nothing_read _ refl (omega (arith, words_same (g.A.BuilderArena.view c.args.arena.now) (g.A.BuilderArena.view c.make_list.new.arena) c.in-Err.ensures.refused))
 
 pub lists::copy_structs-copy_elements-requires : goal.lists::copy_structs-copy_elements-requires
 lists::copy_structs-copy_elements-requires g t c κs within =
@@ -292,6 +358,12 @@ lists::copy_structs-returns-in-Ok-clause-refused g t c =
     record { begun = record { made = c.in-Ok.ensures.made; start = c.in-Ok.ensures.start; inside = c.in-Ok.ensures.inside }; memory = c.in-Ok.ensures.granted } in
     err_so c.copy_elements.result _ _ c.copy_elements.ensures.refused (λ k stop. structs_stop c.requires.inside c.kept_widths-kept.ensures.kept begun (record { place = c.requires.place; memory = c.in-Ok.ensures.granted; taken = c.in-Ok.ensures.taken; behind = c.in-Ok.ensures.behind; near = c.in-Ok.ensures.near }) stop)
 
+pub lists::copy_structs-returns-in-Ok-clause-taken : goal.lists::copy_structs-returns-in-Ok-clause-taken
+lists::copy_structs-returns-in-Ok-clause-taken g t c =
+    let least = c.kept_widths-kept.result in
+    let less = no_wider c.args.count least.data_words least.pointers c.args.size.data_words c.args.size.pointers c.kept_widths-kept.ensures.less_data c.kept_widths-kept.ensures.less_pointers in
+    takes_less (omega (arith, less.0)) less.1 (takes_first (1 + c.args.count * (least.data_words + least.pointers) + 1) (takes_words (g.A.BuilderArena.view c.args.arena.now) (g.A.BuilderArena.view c.make_struct_list.new.arena) c.args.id (1 + c.args.count * (least.data_words + least.pointers)) c.in-Ok.ensures.taken) c.copy_elements.ensures.taken)
+
 pub lists::copy_structs-returns-in-Err-clause-refused : goal.lists::copy_structs-returns-in-Err-clause-refused
 lists::copy_structs-returns-in-Err-clause-refused g t c =
     let least = c.kept_widths-kept.result in
@@ -302,6 +374,10 @@ lists::copy_structs-returns-in-Err-clause-refused g t c =
 
 -- Structs.
 
+pub lists::copy_structs-returns-in-Err-clause-taken : goal.lists::copy_structs-returns-in-Err-clause-taken
+lists::copy_structs-returns-in-Err-clause-taken g t c =
+    nothing_read _ refl (omega (arith, words_same (g.A.BuilderArena.view c.args.arena.now) (g.A.BuilderArena.view c.make_struct_list.new.arena) c.in-Err.ensures.refused))
+
 pub structs::copy_struct-returns-in-Err-clause-refused : goal.structs::copy_struct-returns-in-Err-clause-refused
 structs::copy_struct-returns-in-Err-clause-refused g t c =
     let least = c.kept_sections-kept.result in
@@ -309,6 +385,10 @@ structs::copy_struct-returns-in-Err-clause-refused g t c =
     let none = nothing_made c.args.canonicalize c.args.id c.args.at (least.data_words + least.pointers) (g.A.BuilderArena.view c.args.arena.now) (g.A.BuilderArena.view c.make_struct.new.arena) c.args.lim.now c.args.lim.now c.in-Err.k c.requires.place c.requires.null
     c.in-Err.ensures.named c.in-Err.ensures.refused full in
     record { why = inl (least.data_words + least.pointers, none.0, inl (refl, least, c.kept_sections-kept.ensures.kept, refl), no_struct_room (reading g.B.ReaderArena c.args.from) c.args.size least c.args.id (g.A.BuilderArena.view c.args.arena.now) c.args.canonicalize c.requires.inside c.kept_sections-kept.ensures.kept full); off = inl refl; left = none.1 }
+
+pub structs::copy_struct-returns-in-Err-clause-taken : goal.structs::copy_struct-returns-in-Err-clause-taken
+structs::copy_struct-returns-in-Err-clause-taken g t c =
+    nothing_read _ refl (omega (arith, words_same (g.A.BuilderArena.view c.args.arena.now) (g.A.BuilderArena.view c.make_struct.new.arena) c.in-Err.ensures.refused))
 
 pub structs::copy_struct-returns-clause-copied : goal.structs::copy_struct-returns-clause-copied
 structs::copy_struct-returns-clause-copied g t c =
@@ -355,6 +435,13 @@ structs::copy_struct-returns-clause-refused g t c =
       empty = c.in-Ok.ensures.empty;
     } in
     err_so c.copy_children.result _ _ c.copy_children.ensures.refused (λ k stop. struct_stops begun (rw (c.from.ensures, c.from-2.ensures, c.from-pointers.ensures, nl) at stop))
+
+pub structs::copy_struct-returns-clause-taken : goal.structs::copy_struct-returns-clause-taken
+structs::copy_struct-returns-clause-taken g t c =
+    let least = c.kept_sections-kept.result in
+    let words = takes_words (g.A.BuilderArena.view c.args.arena.now) (g.A.BuilderArena.view c.make_struct.new.arena) c.args.id (least.data_words + least.pointers) c.in-Ok.ensures.taken in
+    takes_less (omega (arith, c.kept_sections-kept.ensures.less_data, c.kept_sections-kept.ensures.less_pointers)) (omega (arith, c.from-pointers.ensures, c.kept_sections-kept.ensures.less_pointers))
+    (takes_first (least.data_words + least.pointers + 1) (omega (arith, words, c.put_words.ensures.none_more)) c.copy_children.ensures.taken)
 
 pub structs::copy_struct-copy_children-requires : goal.structs::copy_struct-copy_children-requires
 structs::copy_struct-copy_children-requires g t c κs within =

@@ -1,7 +1,8 @@
 use Rattle.std.proofs.Common.{◌≡◌, ℕ, ◌+◌, ◌-◌, ◌*◌, List, [], length, drop, take, slice_index_or, refl, ap, ◌∙◌, arith}
 use Rattle.capnp_format.specs.Segments.{Segments}
 use Rattle.capnp_making.specs.InPlace.{bytes_of, rewritten, segment_with, segments_with}
-use Rattle.capnp_making.proofs.InPlaceBytes.{there_got, inside_bytes, count_bytes, fills_zeros}
+use Rattle.capnp_making.proofs.InPlaceBytes.{there_got, inside_bytes, count_bytes}
+use Rattle.capnp_making.proofs.BytesOver.{overwrites}
 use Rattle.capnp_making.proofs.Zeros.{length-over}
 use Rattle.capnp_making.proofs.lent.bytes_mut.Goals as goal
 
@@ -20,7 +21,7 @@ returns g c =
     let same = g.met.A.BuilderArena.read c.args.arena.now in
     let now : c.part_of.result.now ≡ bytes_of B c.args.bytes = c.part_of.ensures.now ∙ ap (λ k. take k (drop a bs)) (let e : a + n - a ≡ n = omega arith in e) in
     let room = inside_bytes S B c.args.bytes same c.requires.inside in
-    let written : (ws : List ℕ) → length ws ≡ n → g.A.ReaderArena.segments (then ws) ≡ segments_with B c.args.bytes ws = λ ws l.
+    let segments : (ws : List ℕ) → length ws ≡ n → g.A.ReaderArena.segments (then ws) ≡ segments_with B c.args.bytes ws = λ ws l.
     g.met.A.BuilderArena.with_bytes_segments c.args.arena.now c.args.bytes.segment bs (segment_with B c.args.bytes ws)
     (there_got S B c.args.bytes.segment same c.requires.there) (length-over bs a ws (omega (arith, room, l))) in (
       (refl {a = c.part_of.result.ghost_name}, λ w. refl {a = then w}),
@@ -28,7 +29,7 @@ returns g c =
         lends = tt;
         now = now;
         count = ap length now ∙ count_bytes S B c.args.bytes same c.requires.inside;
-        written = written;
-        filled = λ ws are. fills_zeros S (g.A.BuilderArena.view (then ws)).words B (g.A.ReaderArena.segments (then ws)) c.args.bytes ws same (g.met.A.BuilderArena.read (then ws)) (written ws are.0) are;
+        segments = segments;
+        written = λ ws are. overwrites S (g.A.BuilderArena.view (then ws)).words B (g.A.ReaderArena.segments (then ws)) c.args.bytes ws same (g.met.A.BuilderArena.read (then ws)) (segments ws are.0) c.part_of.ensures.small are;
       },
     )

@@ -1,15 +1,17 @@
 -- A segment lends its bytes, and of these a part is lent on: a walk of the function's MIR by hand.
-use Rattle.std.proofs.Common.{◌≡◌, ℕ, ◌+◌, ◌-◌, ◌^◌, ◌<◌, ◌≤◌, List, [], ◌∷◌, length, take, drop as drop_list, slice_get, slice_index_or, Some, refl, sym, ap, arith, w32, w64, MutBor}
+use Rattle.std.proofs.Common.{◌≡◌, ℕ, ◌+◌, ◌-◌, ◌^◌, ◌<◌, ◌≤◌, List, [], ◌∷◌, length, take, drop as drop_list, get_or, slice_get, slice_index_or, Some, refl, sym, ap, subst, arith, w8, w32, w64, MutBor}
 use Rattle.std.proofs.raw_atomic.Walks.{proved}
 use base.Logic.{emp, id⊢}
 use base.Fml.{GName, ftrue, flft}
 use mir.Syntax.{Args, Dict, Fn, a_type, dcons, dnil, named}
 use mir.MapTy.{inst_fn}
 use mir.Val.{vint}
-use types.Kit.{‵, ◌⊛◌, raw, some, later, ◌$◌, ◌∵◌, !, qed, move, keep, drop, use0, use1, use2, split, split3, join, fsplit, fjoin, rewrite, await, pick, suffices, frame, done}
+use types.Kit.{‵, ◌⊛◌, raw, some, later, given, learn, ◌$◌, ◌∵◌, !, qed, move, keep, drop, use0, use1, use2, split, split3, join, fsplit, fjoin, rewrite, await, pick, suffices, frame, done}
 use types.Part.{whole, sub, agg}
 use types.Run.{stop, fld, addr, bin, and_then, no_more, returns, enter}
 use types.ByLocal.{alloc_all, pass_all, free_all, look_at, get, get_in, through, sets, lands_as}
+use borrow.Rule.Slice.Know.{AllWt, fit_at}
+use borrow.Table.Referent.{f_int}
 use contract.BorrowLft.{◌⊑◌}
 use contract.Monad.{fact, fact_i}
 use contract.Running.{tables}
@@ -102,8 +104,9 @@ part_of_spec {M} 𝓤 𝓛 𝓜 𝓡 wired A L b bd r rd cl cd met _ _ =
     sets ! (agg ! (and_then ! (get ! refl) (and_then ! (get ! refl) (no_more !)))) refl (tt, (tt, (record { fits = few }, tt))) $
     -- [the bytes; what the arena ends as; the tokens]
     move ! (2 ∷ []) $ split ! $ move ! (2 ∷ 0 ∷ []) $
-    use2 𝓛 (later (some (λ (δ : GName). ‵ (Bytes.own_val (record { ref_ptr = p; ghost_name = δ; now = take n (drop_list from m.now) }) (slice_val p (length (take n (drop_list from m.now))) ∷ [])) ⊛ ‵ (flft κ q) ⊛ ‵ (follows (Array u8 0) (Array u8 0) m.ghost_name δ (overwritten m.now from)))))
-    (lends_part 𝓛 κ q m.ref_ptr.0 m.ref_ptr.1 m.ghost_name from n m.now inside less (v ∷ [])) $ await ! tt $ pick ! (λ δ.
+    use2 𝓛 (later (given (AllWt (f_int w8) m.now) (some (λ (δ : GName). ‵ (Bytes.own_val (record { ref_ptr = p; ghost_name = δ; now = take n (drop_list from m.now) }) (slice_val p (length (take n (drop_list from m.now))) ∷ [])) ⊛ ‵ (flft κ q) ⊛ ‵ (follows (Array u8 0) (Array u8 0) m.ghost_name δ (overwritten m.now from))))))
+    (lends_part 𝓛 κ q m.ref_ptr.0 m.ref_ptr.1 m.ghost_name from n m.now inside less (v ∷ [])) $ await ! tt $ learn ! (λ fit. pick ! (λ δ.
+    let each : (i : ℕ) → get_or all i 0 < 2 ^ 8 = subst (λ (xs : List ℕ). (i : ℕ) → get_or xs i 0 < 2 ^ 8) (sym same) (λ i. (fit_at (f_int w8) 0 (record { fits = omega arith }) m.now fit i).fits) in
     -- [the part, κ, what the bytes end as; the other token; what the arena ends as]
     returns ! (look_at ! 0 refl) $ free_all ! refl $ split3 ! $ move ! (4 ∷ 2 ∷ []) $
     use2 𝓛 (‵ (follows (param 0 A) (Array u8 0) γ δ (λ w. b.with_bytes h id (overwritten m.now from w)))) (follows_then 𝓛 (param 0 A) (Array u8 0) (Array u8 0) (b.with_bytes h id) (overwritten m.now from) γ m.ghost_name δ) $
@@ -112,4 +115,4 @@ part_of_spec {M} 𝓤 𝓛 𝓜 𝓡 wired A L b bd r rd cl cd met _ _ =
     rewrite ! 0 (λ (k : ℕ). ‵ (Bytes.own_val (record { ref_ptr = p; ghost_name = δ; now = take n (drop_list from m.now) }) (slice_val p k ∷ []))) count refl $
     suffices ! _ (ends_at 𝓛 (ended A b bd r rd cl cd) (stayed A b bd r rd cl cd) c y (slice_val p n) (record { ref_ptr = p; ghost_name = δ; now = take n (drop_list from m.now) }) (tt, (tt, (tt, (tt, tt)))) (tt, (tt, (tt, (tt, tt))))) $ keep ! (0 ∷ 1 ∷ 2 ∷ 3 ∷ []) $
     nothing ! $ nothing ! $ fjoin ! $ nothing ! $ fjoin ! $ nothing ! $ fjoin ! $ nothing ! $ fjoin ! $ join ! $ move ! (2 ∷ 3 ∷ []) $ join ! $ join ! $ frame ! $
-    says ! (ap (λ (xs : List ℕ). take n (drop_list from xs)) (sym same)) $ done !))))))))))))
+    frame ! $ says ! each $ use0 𝓛 (raw (fact 𝓤 (take n (drop_list from m.now) ≡ take n (drop_list from all)))) (fact_i 𝓤 (take n (drop_list from m.now) ≡ take n (drop_list from all)) (emp 𝓤) (ap (λ (xs : List ℕ). take n (drop_list from xs)) (sym same))) $ done !)))))))))))))

@@ -1,7 +1,8 @@
-use Rattle.std.proofs.Common.{inl, inr}
+use Rattle.std.proofs.Common.{inl, inr, arith}
 use Rattle.capnp_making.proofs.Replaced.{replaced_again}
+use Rattle.capnp_copies.proofs.Growth.{takes_from, words_pruned}
 use Rattle.capnp_copies.proofs.FlatRead.{ok_so, err_so}
-use Rattle.capnp_builders.proofs.CopiesHeld.{words_refused_later}
+use Rattle.capnp_builders.proofs.CopiesHeld.{either_way, words_refused_later}
 use Rattle.capnp_builders.proofs.builders.PointerBuilder.set_struct.Goals as goal
 
 -- What the pointer held becomes zero, and then the struct is copied to the null pointer.
@@ -14,3 +15,11 @@ pub returns-clause-refused : goal.returns-clause-refused
 returns-clause-refused g c =
     err_so c.copy_struct_value.result _ _ c.copy_struct_value.ensures.refused
     (λ k stop. elim stop [ inl x ↦ inl (x.0, words_refused_later (g.A.BuilderArena.view c.args.self.now.arena.now) (g.A.BuilderArena.view c.clear.new.arena) (g.A.BuilderArena.view c.copy_struct_value.new.arena) x.0 k c.clear.ensures.limits x.1, x.2) | inr x ↦ inr x ])
+
+pub returns-clause-taken : goal.returns-clause-taken
+returns-clause-taken g c = takes_from (words_pruned (g.A.BuilderArena.view c.args.self.now.arena.now) (g.A.BuilderArena.view c.clear.new.arena) c.clear.ensures.only) c.copy_struct_value.ensures.taken
+
+pub returns-clause-there : goal.returns-clause-there
+returns-clause-there g c =
+    let long = c.clear.ensures.only.words c.args.self.now.segment in
+    either_way c.copy_struct_value.result _ _ _ c.copy_struct_value.ensures.copied c.copy_struct_value.ensures.cleared (λ x. omega (arith, x.3.words c.args.self.now.segment, long, c.requires.place)) (λ x. omega (arith, x.words c.args.self.now.segment, long, c.requires.place))

@@ -1,30 +1,36 @@
-use Rattle.std.proofs.Common.{◌≡◌, ◌+◌, ◌^◌, ◌<◌, false, length, ◌∙◌, arith, rules}
+use Rattle.std.proofs.Common.{◌≡◌, ◌+◌, ◌^◌, ◌<◌, false, length, refl, ◌∙◌, arith, rules}
 use Rattle.std.proofs.lemmas.Int.{to_z-of_z}
 use mir.Syntax.{w32}
 use Rattle.capnp_format.specs.Segments.{segment, word_at, IsPlace}
 use Rattle.capnp_readers.specs.Readers.{reading}
 use Rattle.capnp_copies.proofs.FilledChildren.{no_child, children_grow, child_ahead}
+use Rattle.capnp_copies.proofs.Growth.{nothing_read, takes_both, takes_less}
 use Rattle.capnp_copies.proofs.EachCopied.{each_copied, each_stops}
 use Rattle.capnp_copies.proofs.copy.each.copy_each.Goals as goal
 
 pub loop-i-init : goal.loop-i-init
-loop-i-init g c = no_child (reading g.B.ReaderArena c.args.from) false c.args.id c.args.at (g.A.BuilderArena.view c.args.arena.now) c.args.lim.now
+loop-i-init g c = (no_child (reading g.B.ReaderArena c.args.from) false c.args.id c.args.at (g.A.BuilderArena.view c.args.arena.now) c.args.lim.now, nothing_read 0 refl (omega arith))
 
 pub copy_value-requires : goal.copy_value-requires
 copy_value-requires g c =
-    let grows = children_grow c.loop-i.invariant in
+    let grows = children_grow c.loop-i.invariant.0 in
     let PLACE : IsPlace (g.A.BuilderArena.view c.loop-i.arena).words c.args.id (c.args.at + c.loop-i.i) = omega (arith, c.requires.room, c.loop-i-test.true, grows.words c.args.id) in
-    let NULL : word_at (g.A.BuilderArena.view c.loop-i.arena).words c.args.id (c.args.at + c.loop-i.i) ≡ 0 = child_ahead c.loop-i.invariant (omega (arith, c.requires.room, c.loop-i-test.true)) ∙ c.requires.null c.loop-i.i c.loop-i-test.true in
+    let NULL : word_at (g.A.BuilderArena.view c.loop-i.arena).words c.args.id (c.args.at + c.loop-i.i) ≡ 0 = child_ahead c.loop-i.invariant.0 (omega (arith, c.requires.room, c.loop-i-test.true)) ∙ c.requires.null c.loop-i.i c.loop-i-test.true in
     search rules
 
 pub returns-in-Err-clause-refused : goal.returns-in-Err-clause-refused
 returns-in-Err-clause-refused g c =
     let nl = to_z-of_z w32 c.args.from.nesting_limit (search rules) in
-    each_stops c.loop-i-test.true c.loop-i.invariant (rw nl at c.in-Err.ensures.refused) (rw nl at c.in-Err.ensures.spent) c.in-Err.ensures.cleared c.in-Err.ensures.memory
+    each_stops c.loop-i-test.true c.loop-i.invariant.0 (rw nl at c.in-Err.ensures.refused) (rw nl at c.in-Err.ensures.spent) c.in-Err.ensures.cleared c.in-Err.ensures.memory
 
 pub loop-i-preserved : goal.loop-i-preserved
 loop-i-preserved g c =
     let nl = to_z-of_z w32 c.args.from.nesting_limit (search rules) in
     let few : length (segment (g.A.BuilderArena.view c.loop-i.arena).words c.args.id) < 2 ^ 29 =
-    omega (arith, g.met.A.BuilderArena.within c.loop-i.arena c.args.id, g.met.A.BuilderArena.small c.loop-i.arena c.args.id) in
-    each_copied (omega (arith, c.requires.room, c.loop-i-test.true)) few c.loop-i.invariant (rw nl at c.in-Ok.ensures.copied) c.in-Ok.ensures.granted
+    omega (arith, g.met.A.BuilderArena.within c.loop-i.arena c.args.id, g.met.A.BuilderArena.small c.loop-i.arena c.args.id) in (
+      each_copied (omega (arith, c.requires.room, c.loop-i-test.true)) few c.loop-i.invariant.0 (rw nl at c.in-Ok.ensures.copied) c.in-Ok.ensures.granted,
+      takes_less (omega arith) (omega arith) (takes_both c.loop-i.invariant.1 c.in-Ok.ensures.taken),
+    )
+
+pub returns-in-Err-clause-taken : goal.returns-in-Err-clause-taken
+returns-in-Err-clause-taken g c = takes_less (omega arith) (omega (arith, c.loop-i-test.true)) (takes_both c.loop-i.invariant.1 c.in-Err.ensures.taken)

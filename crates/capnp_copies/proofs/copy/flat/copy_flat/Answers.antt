@@ -17,6 +17,7 @@ use Rattle.capnp_making.proofs.WordsPut.{words_put}
 use Rattle.capnp_pointers.specs.Sizes.{size_number}
 use Rattle.capnp_format.specs.Word.{list_word}
 use Rattle.capnp_making.specs.Near.{HasOwnRoom, offset_behind, with_object}
+use Rattle.capnp_copies.proofs.Growth.{takes_words, words_over, words_same}
 use Rattle.capnp_copies.proofs.StayingNear.{stay_fewer, own_room}
 use Rattle.capnp_copies.proofs.TightFlat.{flat_near}
 use Rattle.capnp_copies.proofs.Padding.{packed_again}
@@ -45,8 +46,8 @@ returns-in-Ok-clause-copied g c =
     (ap words_in c.put_elements.ensures ∙ ap (with_words M c.in-Ok.start.segment c.in-Ok.start.at) packs)
 
 -- Where it fits the list is made near its pointer.
-pub returns-in-Ok-clause-tight : goal.returns-in-Ok-clause-tight
-returns-in-Ok-clause-tight g c = λ fits.
+pub returns-in-Ok-clause-stands : goal.returns-in-Ok-clause-stands
+returns-in-Ok-clause-stands g c = λ fits.
     (let S : Segments = (g.A.BuilderArena.view c.args.arena.now).words in
     let id : ℕ = c.args.id in
     let size : ℕ = size_number c.args.size in
@@ -74,6 +75,23 @@ returns-in-Ok-clause-tight g c = λ fits.
     ∙ ap₂ (λ i k. with_words (g.A.BuilderArena.view c.make_list.new.arena).words i k D) (c.in-Ok.ensures.at_end room).0 (c.in-Ok.ensures.at_end room).1
     ∙ ap (λ T. with_words T id (length (segment S id)) D)
     (c.in-Ok.ensures.near room ∙ ap₂ (λ i k. with_object S id c.args.at (list_word (offset_behind S id c.args.at) size i) (replicate k 0)) (sym counts) (list ∙ ap (words_for size) (sym counts)))))
+
+pub returns-in-Ok-clause-taken : goal.returns-in-Ok-clause-taken
+returns-in-Ok-clause-taken g c =
+    let old : View = g.A.BuilderArena.view c.args.arena.now in
+    let mid : View = g.A.BuilderArena.view c.make_list.new.arena in
+    let new : View = g.A.BuilderArena.view c.put_elements.new.arena in
+    let size : ℕ = size_number c.args.size in
+    let n : ℕ = c.args.count in
+    let ws : List ℕ = words_of c.args.elements.now in
+    let D : List ℕ = digits (2 ^ 64) (length ws) (from_digits (2 ^ 64) ws % 2 ^ (c.from.result * c.from-in-Ok.result)) in
+    let other = ne_eqb size 6 (λ e. omega (arith, c.requires.flat)) in
+    let list : list_words size n ≡ words_for size n = ap (λ x. cond x n (words_for size n)) other in
+    let over = words_over mid new c.in-Ok.start.segment c.in-Ok.start.at D (omega (arith, c.in-Ok.ensures.inside.1, length-digits (2 ^ 64) (length ws) (from_digits (2 ^ 64) ws % 2 ^ (c.from.result * c.from-in-Ok.result)), c.requires.all, list)) (ap words_in c.put_elements.ensures) in
+    omega (arith, over, takes_words old mid c.args.id (list_words size n) c.in-Ok.ensures.taken, list)
+
+pub returns-in-Err-clause-taken : goal.returns-in-Err-clause-taken
+returns-in-Err-clause-taken g c = omega (arith, words_same (g.A.BuilderArena.view c.args.arena.now) (g.A.BuilderArena.view c.make_list.new.arena) c.in-Err.ensures.refused)
 
 pub returns-in-Err-clause-refused : goal.returns-in-Err-clause-refused
 returns-in-Err-clause-refused g c =

@@ -10,6 +10,7 @@ use Rattle.capnp_copies.specs.Changes.{Change, change}
 use Rattle.capnp_copies.specs.ListValues.{ListElements, FitsListPointer, elements_read}
 use Rattle.capnp_copies.proofs.FilledValues.{FlatOutcome}
 use Rattle.capnp_copies.proofs.FlatRead.{err_so, flat_words}
+use Rattle.capnp_copies.proofs.Growth.{nothing_read, numbers_take}
 use Rattle.capnp_copies.proofs.ListValues.{too_long, number_size, few_numbers, numbers_held, numbers_copied, numbers_stop, pointers_list_stops, structs_list_stops}
 use Rattle.capnp_copies.proofs.copy.list_value.copy_elements_read.Goals as goal
 
@@ -36,11 +37,12 @@ returns-in_default g c =
     let flat : size ≤ 5 = number_size value.element_size c.in_default.not-Pointer c.in_default.not-InlineComposite in
     let held = numbers_held (source_segments g.B.ReaderArena.segments value.source) value.start value.element_size value.count width value.content.now flat value.held value.content_is value.inside in
     let outcome : FlatOutcome c.copy_flat.result c.args.id c.args.at (words_for size value.count) (g.A.BuilderArena.view c.args.arena.now) (g.A.BuilderArena.view c.copy_flat.new.arena) (Flat size (unpacked size value.count (words_of value.content.now))) =
-    record { copied = c.copy_flat.ensures.copied; granted = c.copy_flat.ensures.granted; refused = c.copy_flat.ensures.refused; kept = c.copy_flat.ensures.kept; memory = c.copy_flat.ensures.memory; tight = c.copy_flat.ensures.tight; fits = λ room. c.copy_flat.ensures.fits (omega (arith, room, flat_words size value.count (words_of value.content.now))) } in
+    record { copied = c.copy_flat.ensures.copied; granted = c.copy_flat.ensures.granted; refused = c.copy_flat.ensures.refused; kept = c.copy_flat.ensures.kept; memory = c.copy_flat.ensures.memory; stands = c.copy_flat.ensures.stands; fits = λ room. c.copy_flat.ensures.fits (omega (arith, room, flat_words size value.count (words_of value.content.now))) } in
     let call : Change = change c.args.canonicalize c.args.id c.args.at (g.A.BuilderArena.view c.args.arena.now) (g.A.BuilderArena.view c.copy_flat.new.arena) c.args.lim.now c.args.lim.now in
     let list : ListElements = elements_read g.B.ReaderArena value in
     record {
       long = λ long. absurd (long (c.fits_list_pointer.ensures.0 (search rules)));
+      taken = numbers_take list call c.in_default.not-Pointer c.in_default.not-InlineComposite refl c.copy_flat.ensures.taken;
       copied = numbers_copied list call value.content.now c.copy_flat.result flat held.stand refl outcome;
       refused = numbers_stop list call (words_for size value.count) (Flat size (unpacked size value.count (words_of value.content.now))) c.copy_flat.result flat refl c.requires.place c.requires.null refl outcome;
     }
@@ -51,6 +53,15 @@ pub returns-in-Pointer-clause-refused : goal.returns-in-Pointer-clause-refused
 returns-in-Pointer-clause-refused g c =
     let nl = to_z-of_z w32 c.args.value.nesting_limit (search rules) in
     err_so c.copy_pointers.result _ _ c.copy_pointers.ensures.refused (λ k stop. pointers_list_stops c.in-Pointer.is (rw nl at stop))
+
+pub returns-then-not-fits_list_pointer-clause-taken : goal.returns-then-not-fits_list_pointer-clause-taken
+returns-then-not-fits_list_pointer-clause-taken g c = nothing_read _ refl (omega arith)
+
+pub returns-in-Pointer-clause-taken : goal.returns-in-Pointer-clause-taken
+returns-in-Pointer-clause-taken g c = rw c.in-Pointer.is c.copy_pointers.ensures.taken
+
+pub returns-in-InlineComposite-clause-taken : goal.returns-in-InlineComposite-clause-taken
+returns-in-InlineComposite-clause-taken g c = rw c.in-InlineComposite.is c.copy_structs.ensures.taken
 
 pub returns-in-InlineComposite-clause-refused : goal.returns-in-InlineComposite-clause-refused
 returns-in-InlineComposite-clause-refused g c =

@@ -1,15 +1,19 @@
-use Rattle.std.proofs.Common.{inl, inr, ◌+◌, refl, ap₂, arith, rules}
+use Rattle.std.proofs.Common.{inl, inr, ℕ, ◌+◌, ◌≤◌, List, length, take, refl, ap, ap₂, arith, length-take, rules}
 use Rattle.std.proofs.lemmas.Int.{to_z-of_z}
 use Rattle.std.proofs.lemmas.Bool.{false≢true}
 use mir.Syntax.{w32}
+use Rattle.capnp_format.proofs.Slices.{length_words}
+use Rattle.capnp_arena.specs.View.{View}
+use Rattle.capnp_objects.specs.Reading.{Reading, words_from}
 use Rattle.capnp_readers.specs.Sizes.{pointers_read}
 use Rattle.capnp_copies.specs.StructValues.{data_of}
-use Rattle.capnp_copies.proofs.DataSections.{kept_count-le}
+use Rattle.capnp_copies.proofs.DataSections.{kept_count-le, section_long}
 use Rattle.capnp_copies.proofs.FilledObjects.{nothing_made, nothing_left}
 use Rattle.capnp_copies.proofs.FilledSections.{SectionsBegun, sections_null, sections_inside, sections_copied, sections_stop}
 use Rattle.capnp_copies.proofs.FlatRead.{ok_so, err_so}
 use Rattle.capnp_making.proofs.Memory.{keeps_itself, spends_nothing}
 use Rattle.capnp_format.specs.Tree.{Null}
+use Rattle.capnp_copies.proofs.Growth.{nothing_read, takes_first, takes_less, takes_words, words_over, words_same}
 use Rattle.capnp_copies.proofs.copy.struct_value.copy_sections.Goals as goal
 
 -- A struct of more data words than a struct can have, and one that the arena refuses.
@@ -92,3 +96,28 @@ returns-clause-refused g c =
       writes = c.put_section.ensures;
     } in
     err_so c.copy_children.result _ _ c.copy_children.ensures.refused (λ k stop. sections_stop begun (rw (c.from.ensures, c.from-pointers.ensures, nl) at stop))
+
+-- What is taken.
+
+pub returns-in-Err-clause-taken : goal.returns-in-Err-clause-taken
+returns-in-Err-clause-taken g c = nothing_read _ refl (omega arith)
+
+pub returns-in-Err-make_struct-clause-taken : goal.returns-in-Err-make_struct-clause-taken
+returns-in-Err-make_struct-clause-taken g c =
+    nothing_read _ refl (omega (arith, words_same (g.A.BuilderArena.view c.args.arena.now) (g.A.BuilderArena.view c.make_struct.new.arena) c.in-Err-make_struct.ensures.refused))
+
+pub returns-clause-taken : goal.returns-clause-taken
+returns-clause-taken g c =
+    let value = c.args.value in
+    let r : Reading = pointers_read g.B.ReaderArena value in
+    let made : View = g.A.BuilderArena.view c.make_struct.new.arena in
+    let put : View = g.A.BuilderArena.view c.put_section.new.arena in
+    let ws : List ℕ = data_of g.B.ReaderArena value in
+    let size = c.in-Ok.kept in
+    let words_kept : size.data_words ≤ length ws = omega (arith, c.in-Ok.ensures.data, kept_count-le c.args.canonicalize ws) in
+    let pointers_kept : size.pointers ≤ value.pointer_count =
+    omega (arith, c.in-Ok.ensures.pointers, kept_count-le c.args.canonicalize (words_from r value.pointer_count), length_words r.segments r.segment r.at value.pointer_count value.inside) in
+    let long = section_long value.bits value.content.now (search rules) in
+    let words = takes_words (g.A.BuilderArena.view c.args.arena.now) made c.args.id (size.data_words + size.pointers) c.in-Ok-make_struct.ensures.taken in
+    let over = words_over made put c.in-Ok-make_struct.start.segment c.in-Ok-make_struct.start.at (take size.data_words ws) (omega (arith, c.in-Ok-make_struct.ensures.inside.1, length-take size.data_words ws)) (ap (λ (v : View). v.words) c.put_section.ensures) in
+    takes_less (omega (arith, words_kept, pointers_kept, long)) (omega (arith, c.from-pointers.ensures, pointers_kept)) (takes_first (size.data_words + size.pointers + 1) (omega (arith, words, over)) c.copy_children.ensures.taken)

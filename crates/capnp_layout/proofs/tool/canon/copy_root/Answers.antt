@@ -2,7 +2,6 @@ use Rattle.std.proofs.Common.{rules, ◌≡◌, ◌⊎◌, length, subst, IsTrue
 use Rattle.capnp_format.specs.Tree.{Tree}
 use Rattle.capnp_copies.specs.Rooms.{IsTooLarge}
 use Rattle.capnp_readers.specs.Readers.{reading}
-use Rattle.capnp_builders.specs.Building.{built}
 use Rattle.capnp_layout.specs.Answers.{IsWithin, IsMadeWhereAlone}
 use Rattle.capnp_layout.proofs.CanonLemmas.{fresh_root, null_root, only_null, made_copy, spread_copy}
 use Rattle.capnp_layout.proofs.tool.canon.copy_root.Goals as goal
@@ -11,17 +10,17 @@ pub returns-clause-copied : goal.returns-clause-copied
 returns-clause-copied g c =
     let view = g.A.BuilderArena.view in
     let r = reading g.B.ReaderArena c.args.from in
-    let canonical : IsTrue true = search rules in
-    let fresh = fresh_root view c.get_root-root.result c.args.arena.now c.get_root-root.ensures.now c.get_root-root.ensures.place.0 c.requires.root in
-    let made = made_copy r c.args.left _ _ _ (view c.copy_from.new.self.arena.now) c.copy_from.result fresh c.new-lim.ensures (c.copy_from.ensures.fresh canonical (only_null fresh)) in
+    let root = c.get_root-root.result in
+    let fresh = fresh_root view root c.args.arena.now c.get_root-root.ensures.now c.get_root-root.ensures.place.0 c.requires.root in
+    let made = made_copy r c.args.left root.segment root.at (view root.arena.now) (view c.copy_from.new.self.arena.now) _ _ c.copy_from.result c.new-lim.ensures (c.copy_from.ensures.alone fresh.null) in
     subst (λ (a : g.row.A.Denot). IfOk c.copy_from.result (λ _. (t : Tree) × IsWithin r c.args.left t × IsMadeWhereAlone (view a) t)) (search rules) made
 
 pub returns-clause-alone : goal.returns-clause-alone
 returns-clause-alone g c =
     let view = g.A.BuilderArena.view in
     let r = reading g.B.ReaderArena c.args.from in
-    let canonical : IsTrue true = search rules in
     let fresh = fresh_root view c.get_root-root.result c.args.arena.now c.get_root-root.ensures.now c.get_root-root.ensures.place.0 c.requires.root in
+    let root = c.get_root-root.result in
     let spread =
-    spread_copy r _ _ _ (built view c.copy_from.new.self) c.copy_from.result fresh (c.copy_from.ensures.fresh canonical (only_null fresh)) (c.copy_from.ensures.canonical canonical (null_root fresh c.get_root-root.ensures.place.1)) in
+    spread_copy r root.segment root.at (view root.arena.now) (view c.copy_from.new.self.arena.now) _ _ _ c.copy_from.result fresh (c.copy_from.ensures.fresh (only_null fresh)) (c.copy_from.ensures.canonical (null_root fresh c.get_root-root.ensures.place.1)) in
     subst (λ (a : g.row.A.Denot). OnOk c.copy_from.result ((length (view a).words ≡ 1) ⊎ IsTooLarge r 1 ((view c.args.arena.now).room 0))) (search rules) spread

@@ -4,6 +4,7 @@ use Rattle.capnp_format.specs.Segments.{Segments, segment}
 use Rattle.capnp_making.specs.Zeroed.{IsPruned}
 use Rattle.capnp_readers.specs.declared.readers.struct_reader.StructPlace.{StructPlace}
 use Rattle.capnp_builders.specs.Content.{with_content}
+use Rattle.capnp_copies.proofs.Growth.{no_longer, takes_from, takes_less, words_pruned}
 use Rattle.capnp_builders.proofs.ContentWritten.{content_long, each_grows, content_inside}
 use Rattle.capnp_builders.proofs.builders.struct_builder.StructBuilder.copy_content_from.Goals as goal
 
@@ -31,3 +32,13 @@ returns-clause-inside g c =
     let pruned : IsPruned (with_content M place c.args.value.now.bits c.args.value.now.content.now) (g.A.BuilderArena.view c.clear_pointers.new.arena).words = subst (λ (T : Segments). IsPruned T (g.A.BuilderArena.view c.clear_pointers.new.arena).words) written c.clear_pointers.ensures.only in
     let grows = each_grows _ _ _ c.copy_each.result c.copy_each.ensures.copied c.copy_each.ensures.refused in
     content_inside M (g.A.BuilderArena.view c.clear_pointers.new.arena).words (g.A.BuilderArena.view c.copy_each.new.arena).words place c.args.value.now.bits c.args.value.now.content.now pruned grows c.requires.inside
+
+pub returns-clause-taken : goal.returns-clause-taken
+returns-clause-taken g c =
+    let old : View = g.A.BuilderArena.view c.args.self.now.arena.now in
+    let put : View = g.A.BuilderArena.view c.write_content.new.arena in
+    let mid : View = g.A.BuilderArena.view c.clear_pointers.new.arena in
+    let place : StructPlace = c.args.self.now.place in
+    let same : put.words ≡ with_content old.words place c.args.value.now.bits c.args.value.now.content.now = ap (λ (v : View). v.words) c.write_content.ensures in
+    let written = no_longer old.words put.words (λ v. omega (arith, ap (λ (T : Segments). length (segment T v)) same, content_long old.words place c.args.value.now.bits c.args.value.now.content.now v)) in
+    takes_less (omega arith) (omega (arith, c.min.ensures, c.from-count.ensures)) (takes_from (omega (arith, words_pruned put mid c.clear_pointers.ensures.only, written)) c.copy_each.ensures.taken)
