@@ -1,7 +1,7 @@
 -- What a place holds once a value was copied to it: one that was null, or was cleared first.
 use Rattle.std.proofs.Common.{◌≡◌, inl, inr, ℕ, zero, suc, List, length, refl, ◌∙◌, Result, Ok, Err, IfOk, OnOk, OnErr, [], ◌∷◌, ap, sym, subst, arith}
 use Rattle.capnp_words.specs.declared.error.ErrorKind.{ErrorKind}
-use Rattle.capnp_format.specs.Canonical.{trim, encoding}
+use Rattle.capnp_format.specs.Canonical.{encoding}
 use Rattle.capnp_format.specs.Segments.{Segments, segment, word_at, IsPlace}
 use Rattle.capnp_format.specs.Tree.{Tree, Null}
 use Rattle.capnp_format.proofs.Levels.{one_value}
@@ -12,7 +12,7 @@ use Rattle.capnp_making.specs.Zeroed.{IsPruned}
 use Rattle.capnp_making.proofs.FillingMade.{null_stored}
 use Rattle.capnp_objects.specs.Outcomes.{Reads}
 use Rattle.capnp_objects.specs.Reading.{Reading}
-use Rattle.capnp_copies.specs.Changes.{Change, StandsAsRead, form_of}
+use Rattle.capnp_copies.specs.Changes.{Change, StandsAsRead, form_of, kept}
 use Rattle.capnp_copies.specs.Rooms.{IsTooLarge}
 use Rattle.capnp_builders.specs.Kept.{StandsOnceCleared, FillsSegment, FillsMessage}
 use Rattle.capnp_copies.proofs.Copying.{fresh_made}
@@ -28,10 +28,10 @@ pub null_cleared : {X E : Type 0} (o : Result X E) (S R : Segments) (s p : ℕ) 
 null_cleared (Ok x) S R s p place null made = tt
 null_cleared (Err k) S R s p place null made = null_replaced S R s p Null place null made
 
--- a segment whose one word was null is the canonical words
+-- a segment whose one word was null is the words of the copy
 pub fresh_copied : {X : Type 0} (o : Result X ErrorKind) (r : Reading) (c : Change) (Q : Tree → Type 0) → IsPlace c.old.words c.segment c.at → segment c.old.words c.segment ≡ 0 ∷ [] →
     IfOk o (λ _. (t : Tree) × Reads (form_of c.canonicalize) r c.before c.after t × Q t) → OnOk o (StandsAsRead r c) → IfOk o (λ _. FillsSegment r c)
-fresh_copied (Ok x) r c Q place one (t, is_read, held) stands = (t, is_read, λ fits. fresh_made c.old.words c.segment c.at t (place, one) (stands t is_read fits))
+fresh_copied (Ok x) r c Q place one (t, is_read, held) stands = (t, is_read, λ fits. fresh_made c.old.words c.segment c.at (kept c.canonicalize t) (place, one) (stands t is_read fits))
 fresh_copied (Err k) r c Q place one copied stands = tt
 
 -- a message of one segment is that segment
@@ -44,17 +44,17 @@ first_segment : (s p : ℕ) → IsPlace ((0 ∷ []) ∷ []) s p → s ≡ 0
 first_segment zero p place = refl
 first_segment (suc s) p place = absurd (omega (arith, place))
 
--- a message of one word that was null, and has one segment still, is the canonical words
+-- a message of one word that was null, and has one segment still, is the words of the copy
 pub alone_copied : {X : Type 0} (o : Result X ErrorKind) (r : Reading) (c : Change) (Q : Tree → Type 0) → IsPlace c.old.words c.segment c.at → c.old.words ≡ (0 ∷ []) ∷ [] →
     IfOk o (λ _. (t : Tree) × Reads (form_of c.canonicalize) r c.before c.after t × Q t) → OnOk o (StandsAsRead r c) → IfOk o (λ _. FillsMessage r c)
 alone_copied (Ok x) r c Q place fresh copied stands =
     let first : c.segment ≡ 0 = first_segment c.segment c.at (subst (λ (S : Segments). IsPlace S c.segment c.at) fresh place) in
     let only : segment c.old.words c.segment ≡ 0 ∷ [] = ap (λ i. segment c.old.words i) first ∙ ap (λ (S : Segments). segment S 0) fresh in
     let made = fresh_copied (Ok x) r c Q place only copied stands in
-    (made.0, made.1, λ form one. only_segment c.new.words (encoding (trim made.0)) one (subst (λ i. segment c.new.words i ≡ encoding (trim made.0)) first (made.2 (form, inr one))))
+    (made.0, made.1, λ one. only_segment c.new.words (encoding (kept c.canonicalize made.0)) one (subst (λ i. segment c.new.words i ≡ encoding (kept c.canonicalize made.0)) first (made.2 (inr one))))
 alone_copied (Err k) r c Q place fresh copied stands = tt
 
--- the canonical words stand behind what was cleared, or was null
+-- the words of the copy stand behind what was cleared, or was null
 pub stands_once : {X E : Type 0} (o : Result X E) (r : Reading) (c : Change) (mid : View) → IsPruned c.old.words mid.words → KeepsLimits c.old mid → Puts c.old.words mid.words c.segment c.at Null → OnOk o (StandsAsRead r (record c { old = mid })) → OnOk o (StandsOnceCleared r c)
 stands_once (Ok x) r c mid zeroed limits null stands = record { cleared = mid; zeroed = zeroed; limits = limits; null = null; stands = stands }
 stands_once (Err k) r c mid zeroed limits null stands = tt

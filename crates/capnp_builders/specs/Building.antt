@@ -45,7 +45,7 @@ data_at b t = data_in (target b.segments b.segment b.at) t
 abbrev pub text_at : Building → Tree → Result (Option ExistingBytes) ErrorKind
 text_at b t = text_in (target b.segments b.segment b.at) t
 
--- So it is of the bytes, wherever a value there is data, or text.
+-- P holds of the bytes, wherever the value there is data, or text.
 abbrev pub WhereData : Building → (ExistingBytes → Type 0) → Type 0
 WhereData b P = (t : Tree) (bytes : ExistingBytes) → Stores b t → data_at b t ≡ Ok (Some bytes) → P bytes
 

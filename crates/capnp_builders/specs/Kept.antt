@@ -1,9 +1,9 @@
 -- What a copy to the place of a builder leaves there.
-use Rattle.std.specs.Prelude.{◌≡◌, Bool, true, [], ◌∷◌, length}
+use Rattle.std.specs.Prelude.{◌≡◌, Bool, [], ◌∷◌, length}
 use Rattle.capnp_words.specs.Meter.{Meter}
 use Rattle.capnp_format.specs.Segments.{segment}
 use Rattle.capnp_format.specs.Tree.{Tree, Null, Struct, Trees, count}
-use Rattle.capnp_format.specs.Canonical.{trim, encoding, word_count}
+use Rattle.capnp_format.specs.Canonical.{encoding, word_count}
 use Rattle.capnp_arena.specs.declared.arena.reader_arena.ReaderArena.{Ghosts}
 use Rattle.capnp_arena.specs.View.{View, KeepsLimits}
 use Rattle.capnp_making.specs.Stored.{Puts}
@@ -30,8 +30,8 @@ IsKept c t = Puts c.old.words c.new.words c.segment c.at (kept c.canonicalize t)
 abbrev pub PutsCopy : Reading → Change → Type 0
 PutsCopy r c = (t : Tree) × Reads (form_of c.canonicalize) r c.before c.after t × IsKept c t
 
--- What the place held becomes zero first, and its words stay allocated. Then the canonical words of what is read stand behind those
--- of the segment, where they stay in it.
+-- What the place held becomes zero first, and its words stay allocated. Then the words of what is kept stand behind those of the
+-- segment, where they stay in it.
 pub record StandsOnceCleared (r : Reading) (c : Change) : Type 0 where
   pub cleared : View
   pub zeroed : IsPruned c.old.words cleared.words
@@ -39,14 +39,16 @@ pub record StandsOnceCleared (r : Reading) (c : Change) : Type 0 where
   pub null : Puts c.old.words cleared.words c.segment c.at Null
   pub stands : StandsAsRead r (record c { old = cleared })
 
--- It is read, and a copy in canonical form that stays in the segment is all of the segment.
+-- It is read, and a copy that stays in the segment is all of the segment.
 abbrev pub FillsSegment : Reading → Change → Type 0
-FillsSegment r c = (t : Tree) × Reads (form_of c.canonicalize) r c.before c.after t × (Fits c (word_count (trim t)) → segment c.new.words c.segment ≡ encoding (trim t))
+FillsSegment r c =
+    (t : Tree) × Reads (form_of c.canonicalize) r c.before c.after t
+    × (Fits c (word_count (kept c.canonicalize t)) → segment c.new.words c.segment ≡ encoding (kept c.canonicalize t))
 
--- It is read, and a copy in canonical form is all of the message, where that has one segment.
+-- It is read, and its copy is all of the message, where that has one segment.
 abbrev pub FillsMessage : Reading → Change → Type 0
 FillsMessage r c =
-    (t : Tree) × Reads (form_of c.canonicalize) r c.before c.after t × (c.canonicalize ≡ true → length c.new.words ≡ 1 → c.new.words ≡ encoding (trim t) ∷ [])
+    (t : Tree) × Reads (form_of c.canonicalize) r c.before c.after t × (length c.new.words ≡ 1 → c.new.words ≡ encoding (kept c.canonicalize t) ∷ [])
 
 module _ {A : Type 0} (g : Ghosts A) where
   -- What the pointers of a struct mean is read, and the struct is so kept.

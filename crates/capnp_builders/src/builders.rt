@@ -602,9 +602,10 @@ impl<'a, A: BuilderArena> PointerBuilder<'a, A> {
     /// form ("Canonicalization"). The source is charged as reading all of it costs.
     ///
     /// It is copied onto any pointer, over as many segments as it takes. What the pointer held before
-    /// becomes zero first, and its words stay allocated. In canonical form the words of the value stand
-    /// behind those of the pointer's segment, in the canonical order, wherever they fit there, or where the
-    /// message has but one segment afterwards.
+    /// becomes zero first, and its words stay allocated. The words of the value stand behind those of the
+    /// pointer's segment, in the canonical order of objects, wherever they fit there, or where the message
+    /// has but one segment afterwards: all words of the sections and elements of a copy as it stands, and
+    /// the trimmed ones in canonical form.
     ///
     /// A refusal is the first one of reading the source; `CannotCreateACanonicalMessageWithACapability` in
     /// canonical form; or, where an object finds no room, `AllocationFailed`, or `MessageTooLarge` of its
@@ -621,7 +622,7 @@ impl<'a, A: BuilderArena> PointerBuilder<'a, A> {
     ) -> Result<(), ErrorKind>
         requires place { IsThere (built A.view self.old) }
         ensures copied { IfOk result (λ _. PutsCopy (reading B.ReaderArena from.entry) (copying A.view canonicalize self.old self.new lim.old lim.new)) }
-        ensures canonical { IsNull (built A.view self.old) → OnOk result (StandsAsRead (reading B.ReaderArena from.entry) (copying A.view canonicalize self.old self.new lim.old lim.new)) }
+        ensures near { IsNull (built A.view self.old) → OnOk result (StandsAsRead (reading B.ReaderArena from.entry) (copying A.view canonicalize self.old self.new lim.old lim.new)) }
         ensures stands { OnOk result (StandsOnceCleared (reading B.ReaderArena from.entry) (copying A.view canonicalize self.old self.new lim.old lim.new)) }
         ensures fresh { HasOnlyNull (built A.view self.old) → IfOk result (λ _. FillsSegment (reading B.ReaderArena from.entry) (copying A.view canonicalize self.old self.new lim.old lim.new)) }
         ensures alone { IsFresh (built A.view self.old) → IfOk result (λ _. FillsMessage (reading B.ReaderArena from.entry) (copying A.view canonicalize self.old self.new lim.old lim.new)) }

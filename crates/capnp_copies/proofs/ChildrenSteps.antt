@@ -1,45 +1,46 @@
 -- Pointers one behind the other that are copied into their own segment: one child more.
-use Rattle.std.proofs.Common.{◌≡◌, ℕ, ◌+◌, ◌<◌, ◌≤◌, ◌^◌, List, length, sym, ap, ◌∙◌, arith}
+use Rattle.std.proofs.Common.{◌≡◌, Bool, ℕ, ◌+◌, ◌<◌, ◌≤◌, ◌^◌, List, length, sym, ap, ◌∙◌, arith}
 use Rattle.capnp_words.specs.Meter.{Meter}
 use Rattle.capnp_format.specs.Segments.{segment, IsPlace}
 use Rattle.capnp_format.specs.Tree.{Tree, Trees, count}
-use Rattle.capnp_format.specs.Canonical.{trim, trim_each, word_count_all}
+use Rattle.capnp_format.specs.Canonical.{word_count_all}
 use Rattle.capnp_format.proofs.Children.{with_last}
-use Rattle.capnp_format.proofs.Trimming.{trim_each-count}
 use Rattle.capnp_arena.specs.View.{View}
 use Rattle.capnp_arena.specs.Written.{with_segment}
 use Rattle.capnp_objects.specs.Reading.{Reading, behind}
 use Rattle.capnp_copies.specs.Copied.{copied, with_children}
 use Rattle.capnp_copies.specs.Copies.{AreCopied}
 use Rattle.capnp_copies.proofs.CopiesNear.{Call, call_of, CopiesValue, CopiesChildren}
-use Rattle.capnp_copies.proofs.ChildrenCopied.{trim_each-with_last, length_children, child_added}
+use Rattle.capnp_copies.specs.Changes.{kept, kept_each}
+use Rattle.capnp_copies.proofs.ChildrenCopied.{length_children, child_added}
+use Rattle.capnp_copies.proofs.KeptChildren.{kept_each-count, kept_each-with_last, kept_each-shaped}
 use Rattle.capnp_copies.proofs.Copying.{there}
 use Rattle.capnp_copies.proofs.SegmentsWritten.{then_written, words_written}
-use Rattle.capnp_copies.proofs.Shapes.{AreShaped, all_shaped, trim_each-shaped}
+use Rattle.capnp_copies.proofs.Shapes.{AreShaped, all_shaped}
 
-shaped : {r : Reading} {i at : ℕ} {c : Call} (first : CopiesChildren r i c at) → AreShaped (trim_each first.children)
-shaped {r} first = trim_each-shaped first.children (all_shaped r first.children first.are_read.cost first.are_read.means)
+shaped : {r : Reading} {i at : ℕ} {c : Call} (first : CopiesChildren r i c at) → AreShaped (kept_each c.canonicalize first.children)
+shaped {r} {c = c} first = kept_each-shaped c.canonicalize first.children (all_shaped r first.children first.are_read.cost first.are_read.means)
 
 -- the words of the segment, once the first children are copied
-pub now : {r : Reading} {old mid : View} {id i at : ℕ} {m m' : Meter} → IsPlace old.words id (at + i) → (first : CopiesChildren r i (call_of old mid id m m') at) → segment mid.words id ≡ with_children (segment old.words id) at (trim_each first.children)
-now {r} {old} {mid} {id} {i} {at} place first = words_written old.words mid.words id (with_children (segment old.words id) at (trim_each first.children)) (there old.words id (at + i) place) first.made
+pub now : {b : Bool} {r : Reading} {old mid : View} {id i at : ℕ} {m m' : Meter} → IsPlace old.words id (at + i) → (first : CopiesChildren r i (call_of b old mid id m m') at) → segment mid.words id ≡ with_children (segment old.words id) at (kept_each b first.children)
+now {b} {r} {old} {mid} {id} {i} {at} place first = words_written old.words mid.words id (with_children (segment old.words id) at (kept_each b first.children)) (there old.words id (at + i) place) first.made
 
-pub now_long : {r : Reading} {old mid : View} {id i at : ℕ} {m m' : Meter} → at + i ≤ length (segment old.words id) → (first : CopiesChildren r i (call_of old mid id m m') at) →
-    length (with_children (segment old.words id) at (trim_each first.children)) ≡ length (segment old.words id) + word_count_all (trim_each first.children)
-now_long {old = old} {id = id} {at = at} le first = length_children (segment old.words id) at (trim_each first.children) (shaped first) (omega (arith, first.counts, trim_each-count first.children))
+pub now_long : {b : Bool} {r : Reading} {old mid : View} {id i at : ℕ} {m m' : Meter} → at + i ≤ length (segment old.words id) → (first : CopiesChildren r i (call_of b old mid id m m') at) →
+    length (with_children (segment old.words id) at (kept_each b first.children)) ≡ length (segment old.words id) + word_count_all (kept_each b first.children)
+now_long {b = b} {old = old} {id = id} {at = at} le first = length_children (segment old.words id) at (kept_each b first.children) (shaped first) (omega (arith, first.counts, kept_each-count b first.children))
 
 -- the next child, once it is copied
-pub child_put : {r : Reading} {old mid new : View} {id i at : ℕ} {m m' m'' : Meter} → IsPlace old.words id (at + i) → length (segment mid.words id) < 2 ^ 29 → (first : CopiesChildren r i (call_of old mid id m m') at) → (next : CopiesValue (behind r i) (call_of mid new id m' m'') (at + i)) →
-    AreCopied old.words new.words id at (with_last first.children next.value)
-child_put {r} {old} {mid} {new} {id} {i} {at} {m} {m'} {m''} place few first next =
+pub child_put : {b : Bool} {r : Reading} {old mid new : View} {id i at : ℕ} {m m' m'' : Meter} → IsPlace old.words id (at + i) → length (segment mid.words id) < 2 ^ 29 → (first : CopiesChildren r i (call_of b old mid id m m') at) → (next : CopiesValue (behind r i) (call_of b mid new id m' m'') (at + i)) →
+    AreCopied old.words new.words id at (kept_each b (with_last first.children next.value))
+child_put {b} {r} {old} {mid} {new} {id} {i} {at} {m} {m'} {m''} place few first next =
     let W : List ℕ = segment old.words id in
     let ts : Trees = first.children in
     let u : Tree = next.value in
-    let X : List ℕ = with_children W at (trim_each ts) in
+    let X : List ℕ = with_children W at (kept_each b ts) in
     let long : count ts ≡ i = first.counts in
-    let put : new.words ≡ with_segment mid.words id (copied (segment mid.words id) (at + count ts) (trim u)) = rw long next.made in
-    let n : at + count (trim_each ts) ≡ at + count ts = ap (λ j. at + j) (trim_each-count ts) in
+    let put : new.words ≡ with_segment mid.words id (copied (segment mid.words id) (at + count ts) (kept b u)) = rw long next.made in
+    let n : at + count (kept_each b ts) ≡ at + count ts = ap (λ j. at + j) (kept_each-count b ts) in
     let fits : length X < 2 ^ 29 = omega (arith, ap length (now place first)) in
-    then_written old.words id X (λ xs. copied xs (at + count ts) (trim u)) (there old.words id (at + i) place, first.made) put
+    then_written old.words id X (λ xs. copied xs (at + count ts) (kept b u)) (there old.words id (at + i) place, first.made) put
     ∙ ap (with_segment old.words id)
-    (ap (λ j. copied X j (trim u)) (sym n) ∙ child_added W at (trim_each ts) (trim u) (shaped first) (omega arith, fits) ∙ ap (with_children W at) (sym (trim_each-with_last ts u)))
+    (ap (λ j. copied X j (kept b u)) (sym n) ∙ child_added W at (kept_each b ts) (kept b u) (shaped first) (omega arith, fits) ∙ ap (with_children W at) (sym (kept_each-with_last b ts u)))

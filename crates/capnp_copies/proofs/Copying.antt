@@ -3,7 +3,7 @@ use Rattle.std.proofs.Common.{◌≡◌, ℕ, zero, suc, ◌<◌, List, [], ◌�
 use Rattle.capnp_words.specs.declared.error.ErrorKind.{ErrorKind}
 use Rattle.capnp_format.specs.Segments.{Segments, segment, IsPlace}
 use Rattle.capnp_format.specs.Tree.{Tree}
-use Rattle.capnp_format.specs.Canonical.{trim, encoding}
+use Rattle.capnp_format.specs.Canonical.{encoding}
 use Rattle.capnp_words.specs.Meter.{Meter}
 use Rattle.capnp_arena.specs.Written.{with_segment}
 use Rattle.capnp_copies.specs.Copied.{copied}
@@ -35,8 +35,8 @@ not_too_large r m used room (t, c, means, free, covers, fits) large = let l = la
 pub not_refused : {r : Reading} {m m' : Meter} {k : ErrorKind} (used room : ℕ) → CanBeCopied r m used room → Refused canonical r m m' k → ⊥
 not_refused used room (t, c, means, free, covers, fits) refused = (unreadable refused).only t c means (λ e. free) covers
 
--- a copy into one fresh word is the canonical words
-pub fresh_made : {M' : Segments} (M : Segments) (id at : ℕ) (t : Tree) → IsPlace M id at × (segment M id ≡ 0 ∷ []) → IsCopied M M' id at t → segment M' id ≡ encoding (trim t)
+-- a copy into one fresh word is the words of its value
+pub fresh_made : {M' : Segments} (M : Segments) (id at : ℕ) (t : Tree) → IsPlace M id at × (segment M id ≡ 0 ∷ []) → IsCopied M M' id at t → segment M' id ≡ encoding t
 fresh_made M id at t (l, one) e =
     let first : at ≡ 0 = omega (arith, ap length one) in
-    ap (λ S. segment S id) e ∙ segment_written M id (copied (segment M id) at (trim t)) (there M id at l) ∙ ap₂ (λ ws p. copied ws p (trim t)) one first
+    ap (λ S. segment S id) e ∙ segment_written M id (copied (segment M id) at t) (there M id at l) ∙ ap₂ (λ ws p. copied ws p t) one first

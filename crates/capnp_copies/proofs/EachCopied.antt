@@ -1,6 +1,5 @@
 -- The copy of pointers one behind the other, each of which is copied or stays null: one more, and where one is refused.
 use Rattle.std.proofs.Common.{◌⊎◌, inl, inr, ℕ, ◌+◌, ◌^◌, ◌<◌, false, length, sym, subst, arith}
-use Rattle.std.proofs.lemmas.Bool.{false≢true}
 use Rattle.capnp_words.specs.declared.error.ErrorKind.{ErrorKind}
 use Rattle.capnp_words.specs.Meter.{Meter}
 use Rattle.capnp_format.specs.Segments.{segment, IsPlace}
@@ -13,14 +12,14 @@ use Rattle.capnp_objects.specs.Outcomes.{Reads}
 use Rattle.capnp_objects.specs.Refusals.{Refused, StopsWithin, BreaksOff}
 use Rattle.capnp_objects.specs.Reading.{Reading, behind}
 use Rattle.capnp_objects.specs.Wanted.{plain}
-use Rattle.capnp_copies.specs.Changes.{change, LacksRoom, WantsWords, WantedAt, CopiesChildren}
+use Rattle.capnp_copies.specs.Changes.{change, LacksRoom, WantsWords, WantedAt, StandsAsRead, CopiesChildren}
 use Rattle.capnp_copies.specs.Rooms.{IsTooLarge}
 use Rattle.capnp_copies.specs.StructValues.{CopiesFirst}
 use Rattle.capnp_copies.proofs.FilledChildren.{children_grow, child_copied}
 
-pub each_copied : {r : Reading} {s p i : ℕ} {old mid new : View} {m m' m'' : Meter} → IsPlace old.words s (p + i) → length (segment mid.words s) < 2 ^ 29 → CopiesChildren r i (change false s p old mid m m') → ((t : Tree) × Reads plain (behind r i) m' m'' t × IsReplaced mid.words new.words s (p + i) Null t) → KeepsMemory mid new →
+pub each_copied : {r : Reading} {s p i : ℕ} {old mid new : View} {m m' m'' : Meter} → IsPlace old.words s (p + i) → length (segment mid.words s) < 2 ^ 29 → CopiesChildren r i (change false s p old mid m m') → ((t : Tree) × Reads plain (behind r i) m' m'' t × IsReplaced mid.words new.words s (p + i) Null t) → KeepsMemory mid new → StandsAsRead (behind r i) (change false s (p + i) mid new m' m'') →
     CopiesChildren r (i + 1) (change false s p old new m m'')
-each_copied place few first (t, read, made) memory = child_copied place few first (record { value = t; is_read = read; made = (made, memory); stands = λ fits. absurd (false≢true fits.0) })
+each_copied place few first (t, read, made) memory stands = child_copied place few first (record { value = t; is_read = read; made = (made, memory); stands = stands t read })
 
 pub each_stops : {r : Reading} {s p i n : ℕ} {old mid new : View} {m m' m'' : Meter} {k : ErrorKind} → i < n → CopiesChildren r i (change false s p old mid m m') → LacksRoom (change false s (p + i) mid new m' m'') k (WantedAt (behind r i) (change false s (p + i) mid new m' m'')) (IsTooLarge (behind r i)) ⊎ Refused plain (behind r i) m' m'' k → BreaksOff plain (behind r i) m' m'' →
     IsReplaced mid.words new.words s (p + i) Null Null → SpendsMemory mid new → CopiesFirst r n (change false s p old new m m'') k

@@ -1,26 +1,25 @@
 -- The elements of a list of structs that are copied into its segment: one element, and the next row.
-use Rattle.std.proofs.Common.{◌≡◌, ℕ, suc, ◌+◌, ◌-◌, ◌*◌, ◌<◌, ◌≤◌, List, get_or, length, take, refl, sym, ap, ◌∙◌, arith, length-take}
+use Rattle.std.proofs.Common.{◌≡◌, Bool, ℕ, suc, ◌+◌, ◌-◌, ◌*◌, ◌<◌, ◌≤◌, List, get_or, length, take, refl, sym, ap, ◌∙◌, arith, length-take}
 use Rattle.capnp_words.specs.Meter.{Meter}
 use Rattle.capnp_format.specs.Segments.{Segments, segment, word_at, words_at, IsPlace}
 use Rattle.capnp_format.specs.Tree.{Trees, Elements, element_count}
-use Rattle.capnp_format.specs.Canonical.{trim_each, trim_elements, cut_to, word_count_elements}
+use Rattle.capnp_format.specs.Canonical.{cut_to, word_count_elements}
 use Rattle.capnp_format.proofs.Slices.{length_words}
-use Rattle.capnp_format.proofs.Trimming.{trim_each-count}
 use Rattle.capnp_arena.specs.View.{View}
 use Rattle.capnp_arena.specs.Written.{with_segment, with_words, overwritten}
 use Rattle.capnp_objects.specs.Outcomes.{ReadsElements}
 use Rattle.capnp_objects.specs.Reading.{Reading, behind, row, words_from}
-use Rattle.capnp_objects.specs.Wanted.{canonical}
 use Rattle.capnp_objects.proofs.Copies.{with_last_element}
+use Rattle.capnp_copies.specs.Changes.{form_of, kept_each, kept_elements}
 use Rattle.capnp_copies.specs.Copied.{with_children, rows_laid}
 use Rattle.capnp_copies.proofs.CopiesNear.{Call, call_of, CopiesChildren, CopiesElement}
-use Rattle.capnp_copies.specs.Widths.{pointers_used}
 use Rattle.capnp_copies.specs.declared.widths.ElementSizes.{ElementSizes}
 use Rattle.capnp_copies.proofs.Copying.{there}
 use Rattle.capnp_copies.proofs.ElementsCopied.{element_put}
-use Rattle.capnp_copies.proofs.ElementsLaid.{Laid, cut, cut_count, length_laid, row_null}
+use Rattle.capnp_copies.proofs.ElementsLaid.{Laid, length_laid, row_null}
+use Rattle.capnp_copies.proofs.KeptChildren.{kept_each-count, cut_kept, cut_kept-count, kept_elements-shaped}
 use Rattle.capnp_copies.proofs.SegmentsWritten.{then_written, words_written}
-use Rattle.capnp_copies.proofs.Shapes.{AreShapedElements, elements_shaped, trim_elements-shaped, cut_to-shaped}
+use Rattle.capnp_copies.proofs.Shapes.{AreShapedElements, elements_shaped, cut_to-shaped}
 
 -- one element
 
@@ -32,34 +31,33 @@ pub record DataPut (r : Reading) (sizes : ElementSizes) (old mid : View) (id at 
   pub writes : mid ≡ record old { words = with_words old.words id at us }
 
 -- the children of an element, once its words are put
-pub children_put : {r : Reading} {sizes : ElementSizes} {old mid new : View} {id at : ℕ} {us : List ℕ} {m m' : Meter} → DataPut r sizes old mid id at us →
-    (children : CopiesChildren (behind r sizes.source.data_words) sizes.kept.pointers (call_of mid new id m m') (at + sizes.kept.data_words)) →
-    new.words ≡ with_segment old.words id (with_children (overwritten (segment old.words id) at (words_from r sizes.kept.data_words)) (at + sizes.kept.data_words) (trim_each children.children))
-children_put {r} {sizes} {old} {mid} {new} {id} {at} {us} put children =
+pub children_put : {b : Bool} {r : Reading} {sizes : ElementSizes} {old mid new : View} {id at : ℕ} {us : List ℕ} {m m' : Meter} → DataPut r sizes old mid id at us →
+    (children : CopiesChildren (behind r sizes.source.data_words) sizes.kept.pointers (call_of b mid new id m m') (at + sizes.kept.data_words)) →
+    new.words ≡ with_segment old.words id (with_children (overwritten (segment old.words id) at (words_from r sizes.kept.data_words)) (at + sizes.kept.data_words) (kept_each b children.children))
+children_put {b} {r} {sizes} {old} {mid} {new} {id} {at} {us} put children =
     let e : ℕ = sizes.kept.data_words in
     let W : List ℕ = segment old.words id in
     let ts : Trees = children.children in
-    then_written old.words id (overwritten W at us) (λ xs. with_children xs (at + e) (trim_each ts)) (there old.words id at put.place, ap (λ (v : View). v.words) put.writes) children.made
-    ∙ ap (λ xs. with_segment old.words id (with_children (overwritten W at xs) (at + e) (trim_each ts))) put.are_words
+    then_written old.words id (overwritten W at us) (λ xs. with_children xs (at + e) (kept_each b ts)) (there old.words id at put.place, ap (λ (v : View). v.words) put.writes) children.made
+    ∙ ap (λ xs. with_segment old.words id (with_children (overwritten W at xs) (at + e) (kept_each b ts))) put.are_words
 
 -- The elements lie in the source, and their rows, with the sections of the copy, are the last words W of a segment from
--- position at on; no pointer that is used is cut.
+-- position at on.
 pub record ElementsFit (r : Reading) (sizes : ElementSizes) (n : ℕ) (W : List ℕ) (at : ℕ) : Type 0 where
   pub room : at + n * (sizes.kept.data_words + sizes.kept.pointers) ≡ length W
   pub inside : r.at + n * (sizes.source.data_words + sizes.source.pointers) ≤ length (row r)
   pub less_data : sizes.kept.data_words ≤ sizes.source.data_words
   pub less_pointers : sizes.kept.pointers ≤ sizes.source.pointers
-  pub used : pointers_used (row r) r.at sizes.source.data_words sizes.source.pointers n ≤ sizes.kept.pointers
 
 -- The first i elements are copied, and the rows of so many others are still zero.
 pub record RowsCopied (r : Reading) (sizes : ElementSizes) (i left : ℕ) (c : Call) (at : ℕ) : Type 0 where
   pub elements : Elements
   pub counts : element_count elements ≡ i
-  pub are_read : ReadsElements canonical r sizes.source c.before c.after elements
+  pub are_read : ReadsElements (form_of c.canonicalize) r sizes.source c.before c.after elements
   pub made :
       c.new.words
       ≡ with_segment c.old.words c.id
-      (rows_laid (take at (segment c.old.words c.id)) sizes.kept.data_words sizes.kept.pointers (cut_to sizes.kept.data_words sizes.kept.pointers (trim_elements elements)) left)
+      (rows_laid (take at (segment c.old.words c.id)) sizes.kept.data_words sizes.kept.pointers (cut_to sizes.kept.data_words sizes.kept.pointers (kept_elements c.canonicalize elements)) left)
 
 -- elements of no width
 
@@ -82,24 +80,24 @@ pub record NextRow (old mid : View) (sizes : ElementSizes) (id at i w : ℕ) (es
   pub room : at + i * w + (sizes.kept.data_words + sizes.kept.pointers) ≤ length (segment mid.words id)
   pub null : (j : ℕ) → j < sizes.kept.pointers → word_at mid.words id (at + i * w + sizes.kept.data_words + j) ≡ 0
 
-pub next_row : {r : Reading} {sizes : ElementSizes} {n i w id at : ℕ} {old mid : View} {m m' : Meter} (here : AtRow r sizes n i w (call_of old mid id m m') at) → NextRow old mid sizes id at i w (cut sizes here.rows.elements)
-next_row {r} {sizes} {n} {i} {w} {id} {at} {old} {mid} here =
+pub next_row : {b : Bool} {r : Reading} {sizes : ElementSizes} {n i w id at : ℕ} {old mid : View} {m m' : Meter} (here : AtRow r sizes n i w (call_of b old mid id m m') at) → NextRow old mid sizes id at i w (cut_kept b sizes here.rows.elements)
+next_row {b} {r} {sizes} {n} {i} {w} {id} {at} {old} {mid} here =
     let M : Segments = old.words in
     let e : ℕ = sizes.kept.data_words in
     let q : ℕ = sizes.kept.pointers in
     let d : ℕ = sizes.source.data_words in
     let v : ℕ = sizes.source.pointers in
     let es : Elements = here.rows.elements in
-    let fs : Elements = cut_to e q (trim_elements es) in
+    let fs : Elements = cut_to e q (kept_elements b es) in
     let k : ℕ = n - i in
     let F : List ℕ = take at (segment M id) in
     let X : List ℕ = rows_laid F e q fs k in
     let before : suc i * (e + q) ≤ n * (e + q) = (let less : suc i ≤ n = here.more in grind arith) in
     let id_there : id < length M = there M id at (omega (arith, here.width, here.wide, here.fits.room)) in
     let are_shaped : AreShapedElements e q fs =
-    cut_to-shaped sizes.source sizes.kept (trim_elements es) here.fits.less_data here.fits.less_pointers
-    (trim_elements-shaped d v es (elements_shaped r sizes.source es here.rows.are_read.cost here.rows.are_read.means)) in
-    let count_fs : element_count fs ≡ i = cut_count e q es ∙ here.rows.counts in
+    cut_to-shaped sizes.source sizes.kept (kept_elements b es) here.fits.less_data here.fits.less_pointers
+    (kept_elements-shaped b d v es (elements_shaped r sizes.source es here.rows.are_read.cost here.rows.are_read.means)) in
+    let count_fs : element_count fs ≡ i = cut_kept-count b e q es ∙ here.rows.counts in
     let parts : n * (e + q) ≡ i * (e + q) + k * (e + q) = ap (λ j. j * (e + q)) (let f : n ≡ i + k = omega (arith, here.more) in f) ∙ (let f : (i + k) * (e + q) ≡ i * (e + q) + k * (e + q) = grind arith in f) in
     let fits : at + n * (e + q) ≡ length (segment M id) = here.fits.room in
     let lf : length F ≡ at = omega (arith, length-take at (segment M id)) in
@@ -127,19 +125,19 @@ next_inside {r} {sizes} {n} {i} width here is =
     rw is (let f : suc i * a ≤ n * a = grind arith in omega (arith, f, here.fits.inside))
 
 -- the words of the next element, and of its children, once they are put
-pub row_put : {r : Reading} {sizes : ElementSizes} {n i w id at : ℕ} {old mid new : View} {m m' m'' : Meter} (here : AtRow r sizes n i w (call_of old mid id m m') at) →
-    (next : CopiesElement (behind r (i * (sizes.source.data_words + sizes.source.pointers))) sizes (call_of mid new id m' m'') (at + i * w)) →
+pub row_put : {b : Bool} {r : Reading} {sizes : ElementSizes} {n i w id at : ℕ} {old mid new : View} {m m' m'' : Meter} (here : AtRow r sizes n i w (call_of b old mid id m m') at) →
+    (next : CopiesElement (behind r (i * (sizes.source.data_words + sizes.source.pointers))) sizes (call_of b mid new id m' m'') (at + i * w)) →
     new.words
     ≡ with_segment old.words id
     (rows_laid (take at (segment old.words id)) sizes.kept.data_words sizes.kept.pointers
-    (with_last_element (cut sizes here.rows.elements) (words_at r.segments r.segment (r.at + i * (sizes.source.data_words + sizes.source.pointers)) sizes.kept.data_words) (trim_each next.children)) (n - (i + 1)))
-row_put {r} {sizes} {n} {i} {w} {id} {at} {old} {mid} {new} {m} {m'} {m''} here next =
+    (with_last_element (cut_kept b sizes here.rows.elements) (words_at r.segments r.segment (r.at + i * (sizes.source.data_words + sizes.source.pointers)) sizes.kept.data_words) (kept_each b next.children)) (n - (i + 1)))
+row_put {b} {r} {sizes} {n} {i} {w} {id} {at} {old} {mid} {new} {m} {m'} {m''} here next =
     let M : Segments = old.words in
     let d : ℕ = sizes.source.data_words in
     let v : ℕ = sizes.source.pointers in
     let e : ℕ = sizes.kept.data_words in
     let q : ℕ = sizes.kept.pointers in
-    let fs : Elements = cut_to e q (trim_elements here.rows.elements) in
+    let fs : Elements = cut_to e q (kept_elements b here.rows.elements) in
     let ts : Trees = next.children in
     let x = next_row here in
     let left : ℕ = n - (i + 1) in
@@ -150,5 +148,5 @@ row_put {r} {sizes} {n} {i} {w} {id} {at} {old} {mid} {new} {m} {m'} {m''} here 
     let F : List ℕ = take at (segment M id) in
     let laid : Laid = record { front = F; size = sizes.kept; elements = fs; shaped = x.shaped } in
     let before : mid.words ≡ with_segment M id (rows_laid F e q fs (suc left)) = rw (sym more) here.rows.made in
-    then_written M id (rows_laid F e q fs (suc left)) (λ xs. with_children (overwritten xs (at + i * w) us) (at + i * w + e) (trim_each ts)) (x.there, before) next.made
-    ∙ ap (with_segment M id) (element_put laid left us (trim_each ts) (count_us, trim_each-count ts ∙ next.counts) x.starts)
+    then_written M id (rows_laid F e q fs (suc left)) (λ xs. with_children (overwritten xs (at + i * w) us) (at + i * w + e) (kept_each b ts)) (x.there, before) next.made
+    ∙ ap (with_segment M id) (element_put laid left us (kept_each b ts) (count_us, kept_each-count b ts ∙ next.counts) x.starts)

@@ -122,11 +122,11 @@ no_rows : (k : ℕ) (es : Elements) → (rows 0 0 k (cut_to 0 0 es) ≡ []) × (
 no_rows k no_elements = (refl, refl)
 no_rows k (element ws ts es) = ((no_rows (k + 0) es).0, (no_rows k es).1)
 
-pub blank_rows : (e q : ℕ) (front : List ℕ) (es : Elements) → e + q ≡ 0 → rows_laid front e q (cut_to e q (trim_elements es)) 0 ≡ front
+pub blank_rows : (e q : ℕ) (front : List ℕ) (es : Elements) → e + q ≡ 0 → rows_laid front e q (cut_to e q es) 0 ≡ front
 blank_rows e q front es sum =
     let no_data : e ≡ 0 = omega arith in
     let no_pointers : q ≡ 0 = omega arith in
-    let none = no_rows 0 (trim_elements es) in
+    let none = no_rows 0 es in
     rw (no_data, no_pointers) (ap₂ (λ xs ys. front ++ xs ++ [] ++ ys) none.0 none.1 ∙ append-nil (front ++ [] ++ []) ∙ append-nil (front ++ []) ∙ append-nil front)
 
 pub words_taken : (S : Segments) (s p e d : ℕ) → e ≤ d → take e (words_at S s p d) ≡ words_at S s p e

@@ -15,12 +15,13 @@ use Rattle.capnp_objects.specs.Outcomes.{Reads}
 use Rattle.capnp_objects.specs.Refusals.{Refused, StopsWithin, BreaksOff}
 use Rattle.capnp_objects.specs.Reading.{Reading, behind}
 use Rattle.capnp_objects.proofs.Copies.{read_none, read_more}
+use Rattle.capnp_copies.specs.Copied.{with_children}
 use Rattle.capnp_copies.specs.Changes.{WantsWords, form_of, kept, kept_each, change, CopiesValue, StopsAtValue, CopiesChildren, StopsAtChildren}
 use Rattle.capnp_copies.proofs.ChildrenCopied.{no_children}
 use Rattle.capnp_copies.proofs.SegmentsWritten.{not_written}
 use Rattle.capnp_copies.proofs.TightChildren.{child_tight}
 use Rattle.capnp_copies.proofs.TooLarge.{child_too_large}
-use Rattle.capnp_copies.proofs.KeptForms.{kept_none, kept_each-count, kept_each-with_last}
+use Rattle.capnp_copies.proofs.KeptChildren.{kept_none, kept_each-count, kept_each-with_last}
 
 pub no_child : (r : Reading) (b : Bool) (s p : ℕ) (v : View) (m : Meter) → CopiesChildren r 0 (change b s p v v m m)
 no_child r b s p v m = record {
@@ -29,7 +30,7 @@ no_child r b s p v m = record {
   are_read = read_none (form_of b) r m;
   made = subst (AreFilled v.words v.words s p) (sym (kept_none b)) refl;
   memory = keeps_itself v;
-  stands = λ fits. not_written v.words s ∙ ap (with_segment v.words s) (sym (no_children (segment v.words s) p));
+  stands = λ fits. not_written v.words s ∙ ap (with_segment v.words s) (sym (ap (with_children (segment v.words s) p) (kept_none b) ∙ no_children (segment v.words s) p));
 }
 
 -- the segments, once the first children are copied

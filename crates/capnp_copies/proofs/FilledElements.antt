@@ -1,5 +1,5 @@
 -- The copy of the elements of a list of structs, to a message of any number of segments: none yet, one element more, and where an element stops it.
-use Rattle.std.proofs.Common.{◌≡◌, inl, inr, ℕ, suc, ◌+◌, ◌-◌, ◌*◌, ◌<◌, ◌≤◌, Bool, true, false, List, length, refl, sym, ap, ◌∙◌, subst, arith}
+use Rattle.std.proofs.Common.{◌≡◌, inl, inr, ℕ, suc, ◌+◌, ◌-◌, ◌*◌, ◌<◌, ◌≤◌, Bool, true, false, List, length, take, refl, sym, ap, ◌∙◌, subst, arith}
 use Rattle.capnp_words.specs.declared.error.ErrorKind.{ErrorKind}
 use Rattle.capnp_words.specs.Meter.{Meter}
 use Rattle.capnp_format.specs.Segments.{Segments, Grows, segment, word_at, IsPlace}
@@ -7,7 +7,7 @@ use Rattle.capnp_format.specs.Tree.{Trees, Elements, no_elements, element, count
 use Rattle.capnp_format.specs.Canonical.{cut_to}
 use Rattle.capnp_format.proofs.Slices.{length_words}
 use Rattle.capnp_arena.specs.View.{View}
-use Rattle.capnp_arena.specs.Written.{with_words}
+use Rattle.capnp_arena.specs.Written.{with_segment, with_words}
 use Rattle.capnp_making.specs.Filled.{AreFilled, IsElementFilled, AreElementsFilled}
 use Rattle.capnp_making.proofs.FillingChains.{element_grows, elements_grow, elements_ahead}
 use Rattle.capnp_making.proofs.Memory.{keeps_itself, keeps_both, keeps_written, keeps_then_spends, words_refused_after}
@@ -19,11 +19,12 @@ use Rattle.capnp_objects.proofs.Copies.{read_no_element, with_last_element}
 use Rattle.capnp_copies.specs.Changes.{WantsWords, form_of, kept_each, kept_elements, change, CopiesChildren, StopsAtChildren, CopiesElement, StopsAtElement, CopiesRows, CopiesElements, StopsAtElements}
 use Rattle.capnp_copies.specs.Rooms.{AreTooLarge}
 use Rattle.capnp_copies.specs.declared.widths.ElementSizes.{ElementSizes}
-use Rattle.capnp_copies.proofs.ElementsLaid.{cut_count}
 use Rattle.capnp_copies.proofs.TightElements.{element_tight, no_row_tight, no_width_tight, row_tight}
 use Rattle.capnp_copies.proofs.SegmentsWritten.{length-with_words}
 use Rattle.capnp_copies.proofs.TooLarge.{row_too_large}
-use Rattle.capnp_copies.proofs.KeptForms.{SourceKept, one_more, kept_each-count, stops_sooner, blank_elements, nothing_filled}
+use Rattle.capnp_copies.specs.Copied.{rows_laid}
+use Rattle.capnp_copies.proofs.KeptChildren.{kept_each-count, kept_no_elements, cut_kept-count}
+use Rattle.capnp_copies.proofs.KeptForms.{SourceKept, one_more, stops_sooner, blank_elements, nothing_filled}
 
 -- one element
 
@@ -85,14 +86,6 @@ elements_more S R Q s p d q no_elements ws ts e long len one =
 elements_more S R Q s p d q (element vs us es) ws ts (M, a, b, first, rest) long len one =
     (M, a, b, first, elements_more M R Q s (p + d + q) d q es ws ts rest long len (subst (λ i. IsElementFilled R Q s i ws ts) (let f : p + suc (element_count es) * (d + q) ≡ p + d + q + element_count es * (d + q) = grind arith in f) one))
 
-pub cut_to-count : (d q : ℕ) (b : Bool) (es : Elements) → element_count (cut_to d q (kept_elements b es)) ≡ element_count es
-cut_to-count d q true es = cut_count d q es
-cut_to-count d q false es = go es
-  where
-    go : (es : Elements) → element_count (cut_to d q es) ≡ element_count es
-    go no_elements = refl
-    go (element ws ts es) = ap suc (go es)
-
 pub no_row : (r : Reading) (sizes : ElementSizes) (n : ℕ) (b : Bool) (s p : ℕ) (v : View) (m : Meter) → CopiesRows r sizes 0 n (change b s p v v m m)
 no_row r sizes n b s p v m = record {
   elements = no_elements;
@@ -100,7 +93,9 @@ no_row r sizes n b s p v m = record {
   are_read = read_no_element (form_of b) r sizes.source m;
   made = none b;
   memory = keeps_itself v;
-  stands = λ last fits. no_row_tight b sizes s p n v m last;
+  stands = λ last fits.
+      no_row_tight b sizes s p n v m last
+      ∙ ap (λ es. with_segment v.words s (rows_laid (take p (segment v.words s)) sizes.kept.data_words sizes.kept.pointers (cut_to sizes.kept.data_words sizes.kept.pointers es) n)) (sym (kept_no_elements b));
 }
   where
     none : (b : Bool) → AreElementsFilled v.words v.words s p sizes.kept.data_words sizes.kept.pointers (cut_to sizes.kept.data_words sizes.kept.pointers (kept_elements b no_elements))
@@ -146,7 +141,7 @@ module _ {r : Reading} {sizes : ElementSizes} {n i : ℕ} {b : Bool} {s p : ℕ}
   laid = cut_to d q (kept_elements b here.rows.elements)
 
   counted : element_count laid ≡ i
-  counted = cut_to-count d q b here.rows.elements ∙ here.rows.counts
+  counted = cut_kept-count b d q here.rows.elements ∙ here.rows.counts
 
   rows_before : element_count laid * (d + q) ≡ i * (d + q)
   rows_before = ap (λ j. j * (d + q)) counted

@@ -24,11 +24,12 @@ use Rattle.capnp_objects.specs.Reading.{Reading, behind, row, words_from}
 use Rattle.capnp_copies.specs.Changes.{kept, kept_each, kept_elements, KeepsSections, KeepsWidths, KeepsPointers, change, Leaves, CopiesChildren, StopsAtChildren, CopiesPointers, StopsAtPointers, CopiesStruct, StopsAtStruct, CopiesElements, StopsAtElements, CopiesStructs, StopsAtStructs}
 use Rattle.capnp_copies.specs.declared.widths.ElementSizes.{ElementSizes}
 use Rattle.capnp_copies.proofs.FilledChildren.{children_grow}
-use Rattle.capnp_copies.proofs.FilledElements.{cut_to-count}
+use Rattle.capnp_copies.proofs.FilledElements.{}
 use Rattle.capnp_copies.proofs.SegmentsWritten.{length-with_words}
 use Rattle.capnp_copies.proofs.TooLarge.{ObjectMade, struct_too_large, pointers_too_large, structs_too_large}
 use Rattle.capnp_copies.proofs.TightObjects.{StructMade, struct_tight, PointersMade, pointers_tight, StructsMade, ends_in_zeros, structs_tight}
-use Rattle.capnp_copies.proofs.KeptForms.{kept_each-count, stops_sooner, struct_kept, list_kept}
+use Rattle.capnp_copies.proofs.KeptChildren.{kept_each-count, cut_kept-count}
+use Rattle.capnp_copies.proofs.KeptForms.{stops_sooner, struct_kept, list_kept}
 
 -- an object that the arena refuses leaves the pointer null
 
@@ -116,7 +117,7 @@ module _ {b : Bool} {r : Reading} {size least : StructSize} {s p : ℕ} {old mad
         counts = f.counts;
         are_read = f.are_read;
         made = (subst (IsReplaced old.words new.words s p Null) (sym f.form) whole, keeps_both old mid new segments keeps children.memory);
-        stands = struct_tight is_made b (le_trans longer (children_grow children).segments) o.sections children (Struct (words_from r size.data_words) f.all) f.form;
+        stands = struct_tight is_made b (le_trans longer (children_grow children).segments) children (Struct (words_from r size.data_words) f.all) f.form;
       }
 
   pub struct_stops : {new : View} {m m' : Meter} {k : ErrorKind} → StopsAtChildren (behind r size.data_words) least.pointers (change b h.segment (h.at + least.data_words) mid new m m') k → StopsAtStruct r size (change b s p old new m m') k
@@ -176,14 +177,14 @@ structs_copied {b} {r} {sizes} {i} {s} {p} {old} {mid} {new} {h} inside widths o
     let d : ℕ = sizes.kept.data_words in
     let q : ℕ = sizes.kept.pointers in
     let es = elements.elements in
-    let whole = structs_whole old.words mid.words new.words s p d q i h (cut_to d q (kept_elements b es)) o.begun elements.made (cut_to-count d q b es ∙ elements.counts) in
+    let whole = structs_whole old.words mid.words new.words s p d q i h (cut_to d q (kept_elements b es)) o.begun elements.made (cut_kept-count b d q es ∙ elements.counts) in
     let form = list_kept b r sizes.source sizes.kept es elements.are_read.cost (rw elements.counts inside) (rw elements.counts widths) elements.are_read.means in
     record {
       elements = es;
       counts = elements.counts;
       are_read = elements.are_read;
       made = (subst (IsReplaced old.words new.words s p Null) (sym form) whole, keeps_both old mid new o.begun.made.segments o.memory elements.memory);
-      stands = structs_tight {r = r} {sizes = sizes} b (elements_grow mid.words new.words h.segment (h.at + 1) d q (cut_to d q (kept_elements b es)) elements.made (omega (arith, cut_to-count d q b es, elements.counts, ap (λ j. j * (d + q)) (cut_to-count d q b es ∙ elements.counts), o.begun.inside.1))).segments inside widths near elements;
+      stands = structs_tight {r = r} {sizes = sizes} b (elements_grow mid.words new.words h.segment (h.at + 1) d q (cut_to d q (kept_elements b es)) elements.made (omega (arith, cut_kept-count b d q es, elements.counts, ap (λ j. j * (d + q)) (cut_kept-count b d q es ∙ elements.counts), o.begun.inside.1))).segments inside widths near elements;
     }
 
 pub structs_stop : {b : Bool} {r : Reading} {sizes : ElementSizes} {i s p : ℕ} {old mid new : View} {h : Start} {m m' : Meter} {k : ErrorKind} → r.at + i * (sizes.source.data_words + sizes.source.pointers) ≤ length (row r) → KeepsWidths b r sizes.source i sizes.kept →

@@ -21,7 +21,8 @@ use Rattle.capnp_objects.specs.Reading.{Reading, row, words_from}
 use Rattle.capnp_copies.specs.Changes.{form_of, kept, kept_each, change, CopiesChildren, StopsAtChildren}
 use Rattle.capnp_copies.specs.StructValues.{kept_count, CopiesSections, StopsAtSections}
 use Rattle.capnp_copies.proofs.DataSections.{kept_count-le}
-use Rattle.capnp_copies.proofs.KeptForms.{kept_each-count, stops_sooner}
+use Rattle.capnp_copies.proofs.KeptChildren.{kept_each-count}
+use Rattle.capnp_copies.proofs.KeptForms.{stops_sooner}
 use Rattle.capnp_copies.proofs.UsedChildren.{used_children, trim-struct, fill_nulls, null_behind}
 
 -- The kept children of a struct were read, and so were all of them; and a struct of them is kept so.

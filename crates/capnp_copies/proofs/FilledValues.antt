@@ -1,6 +1,5 @@
 -- The copy of what a pointer means, to a message of any number of segments, once its object was read.
-use Rattle.std.proofs.Common.{◌≡◌, inl, inr, ℕ, pred, ◌+◌, ◌<◌, Bool, true, false, List, length, take, drop, refl, sym, ap, ap₂, ◌∙◌, subst, arith, Result, Ok, Err, IsOk, OnOk, OnErr, IfOk, IfErr}
-use Rattle.std.proofs.lemmas.Bool.{false≢true}
+use Rattle.std.proofs.Common.{◌≡◌, inl, inr, ℕ, pred, ◌+◌, ◌<◌, Bool, true, false, List, length, take, drop, refl, append-nil, set, sym, ap, ap₂, ◌∙◌, subst, arith, Result, Ok, Err, IsOk, OnOk, OnErr, IfOk, IfErr}
 use Rattle.capnp_words.specs.declared.error.ErrorKind.{ErrorKind}
 use Rattle.capnp_words.specs.declared.error.ErrorKind.TheVariants.{CannotCreateACanonicalMessageWithACapability}
 use Rattle.capnp_words.specs.Meter.{Meter}
@@ -15,7 +14,7 @@ use Rattle.capnp_format.specs.Word.{capability_word}
 use Rattle.capnp_format.specs.Canonical.{trim, word_count}
 use Rattle.capnp_format.proofs.Levels.{one_value}
 use Rattle.capnp_arena.specs.View.{View}
-use Rattle.capnp_arena.specs.Written.{with_word}
+use Rattle.capnp_arena.specs.Written.{with_word, with_segment}
 use Rattle.capnp_making.specs.Memory.{KeepsMemory, SpendsMemory, RefusesWords}
 use Rattle.capnp_making.specs.Near.{HasOwnRoom}
 use Rattle.capnp_making.specs.Stored.{IsReplaced}
@@ -30,8 +29,8 @@ use Rattle.capnp_objects.specs.declared.object.Place.{Place}
 use Rattle.capnp_objects.specs.declared.object.Object.TheVariants.{Null as ObjectNull, Capability as ObjectCapability, Struct as ObjectStruct, Flat as ObjectFlat, Pointers as ObjectPointers, Structs as ObjectStructs}
 use Rattle.capnp_objects.proofs.Objects.{read_null, read_flat, read_struct, read_pointers, read_structs}
 use Rattle.capnp_objects.proofs.Refusals.{stops_struct, stops_pointers, stops_structs}
-use Rattle.capnp_copies.specs.Changes.{WantsWords, as_struct, as_numbers, as_pointers, as_structs, form_of, kept, Change, change, IsCopiedInRoom, StandsWhereItFits, StandsAsRead, CopiesValue, StopsAtValue, CopiesStruct, StopsAtStruct, CopiesPointers, StopsAtPointers, CopiesStructs, StopsAtStructs}
-use Rattle.capnp_copies.specs.Copies.{CanBeCopied}
+use Rattle.capnp_copies.specs.Changes.{WantsWords, as_struct, as_numbers, as_pointers, as_structs, form_of, kept, Change, change, IsCopiedInRoom, Fits, StandsWhereItFits, StandsAsRead, CopiesValue, StopsAtValue, CopiesStruct, StopsAtStruct, CopiesPointers, StopsAtPointers, CopiesStructs, StopsAtStructs}
+use Rattle.capnp_copies.specs.Copies.{IsCopied, CanBeCopied}
 use Rattle.capnp_copies.proofs.Copying.{not_too_large, not_refused}
 use Rattle.capnp_copies.proofs.FilledObjects.{nothing_left}
 use Rattle.capnp_copies.proofs.TooLarge.{struct_value_too_large, pointers_value_too_large, structs_value_too_large, flat_too_large}
@@ -61,7 +60,7 @@ null_copied {r} {b} {s} {p} {v} {m} {m'} object place null = record {
   value = Null;
   is_read = subst (λ x. Reads (form_of b) r m x Null) (sym object.1) (read_null m object.0);
   made = (subst (IsReplaced v.words v.words s p Null) (sym (kept_null b)) (nothing_left v.words v.words s p place null refl), keeps_itself v);
-  stands = λ fits. null_written v.words s p null;
+  stands = subst (λ t. Fits (change b s p v v m m') (word_count t) → IsCopied v.words v.words s p t) (sym (kept_null b)) (λ fits. null_written v.words s p null);
 }
 
 capability_read : {r : Reading} (m m' : Meter) (i : ℕ) → IsObject r m m' (ObjectCapability i) → Reads plain r m m' (Capability i)
@@ -73,7 +72,7 @@ capability_copied {r} {s} {p} {i} {old} {new} {m} {m'} object place writes = rec
   value = Capability i;
   is_read = capability_read m m' i object;
   made = (capability_made old.words new.words s p i place (ap (λ (v : View). v.words) writes), keeps_written old new _ writes);
-  stands = λ fits. absurd (false≢true fits.0);
+  stands = λ fits. ap (λ (v : View). v.words) writes ∙ ap (λ ws. with_segment old.words s (set ws p (capability_word i))) (sym (append-nil (segment old.words s)));
 }
 
 pub capability_stops : {r : Reading} {s p i : ℕ} {v : View} {m m' : Meter} → IsObject r m m' (ObjectCapability i) → IsPlace v.words s p → word_at v.words s p ≡ 0 → StopsAtValue r (change true s p v v m m') CannotCreateACanonicalMessageWithACapability
@@ -211,11 +210,11 @@ pub record FlatOutcome (result : Result (Unit {0}) ErrorKind) (s p n : ℕ) (old
 
 pub flat_value : {r : Reading} {s p i n : ℕ} {old new : View} {m m' : Meter} {ws : List ℕ} (b : Bool) (result : Result (Unit {0}) ErrorKind) (start : Place) (size : ElementSize) → IsObject r m m' (ObjectFlat start size i) → n ≡ words_for (size_number size) i →
     ws ≡ take n (drop start.at (words_of start.bytes.now)) → FlatOutcome result s p (words_for (size_number size) i) old new (Flat (size_number size) (unpacked (size_number size) i ws)) → IfOk result (λ _. CopiesValue r (change b s p old new m m'))
-flat_value {s = s} {p = p} {i = i} {old = old} {new = new} {ws = ws} b (Ok x) start size object words part f = record {
+flat_value {s = s} {p = p} {i = i} {old = old} {new = new} {m = m} {m' = m'} {ws = ws} b (Ok x) start size object words part f = record {
   value = Flat (size_number size) (unpacked (size_number size) i ws);
   is_read = flat_read_in b start size object words part;
   made = (subst (IsReplaced old.words new.words s p Null) (sym (kept_flat b (size_number size) (unpacked (size_number size) i ws))) f.copied, f.granted);
-  stands = λ fits. f.stands fits.1;
+  stands = subst (λ t. Fits (change b s p old new m m') (word_count t) → IsCopied old.words new.words s p t) (sym (kept_flat b (size_number size) (unpacked (size_number size) i ws))) f.stands;
 }
 flat_value b (Err k) start size object words part f = tt
 

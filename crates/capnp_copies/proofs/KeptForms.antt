@@ -4,11 +4,9 @@ use Rattle.std.proofs.lemmas.List.{take_all}
 use Rattle.capnp_pointers.specs.declared.wire_pointer.StructSize.{StructSize}
 use Rattle.capnp_words.specs.Meter.{Meter}
 use Rattle.capnp_format.specs.Segments.{Segments, words_at}
-use Rattle.capnp_format.specs.Tree.{Tree, Struct, Structs, Trees, no_trees, tree, Elements, no_elements, element, count, element_count}
+use Rattle.capnp_format.specs.Tree.{Struct, Structs, Trees, no_trees, tree, Elements, no_elements, element, count, element_count}
 use Rattle.capnp_format.specs.Canonical.{used_words, take_trees, cut_to, trim_each, trim_elements}
 use Rattle.capnp_format.specs.Means.{MeansElements}
-use Rattle.capnp_format.proofs.Children.{with_last}
-use Rattle.capnp_format.proofs.Trimming.{trim_each-count}
 use Rattle.capnp_making.specs.Filled.{AreElementsFilled}
 use Rattle.capnp_making.proofs.WordsPut.{none_over}
 use Rattle.capnp_objects.specs.Outcomes.{ReadsAll, ReadsElements, ElementsMean}
@@ -18,25 +16,12 @@ use Rattle.capnp_objects.specs.Wanted.{Form}
 use Rattle.capnp_objects.proofs.Copies.{with_last_element, count-with_last_element, read_element, read_none, read_no_element}
 use Rattle.capnp_copies.specs.Changes.{form_of, kept, kept_each, kept_elements, KeepsSections, KeepsWidths, KeepsPointers}
 use Rattle.capnp_copies.specs.declared.widths.ElementSizes.{ElementSizes}
-use Rattle.capnp_copies.proofs.ChildrenCopied.{trim_each-with_last}
 use Rattle.capnp_copies.proofs.ElementsCopied.{SourceFits, another}
 use Rattle.capnp_copies.proofs.ElementsLaid.{words_taken}
 use Rattle.capnp_copies.proofs.ListSteps.{AreLeast, trimmed_list}
 use Rattle.capnp_copies.proofs.StructSteps.{struct_filled}
 
 -- children
-
-pub kept_none : (b : Bool) → kept_each b no_trees ≡ no_trees
-kept_none true = refl
-kept_none false = refl
-
-pub kept_each-count : (b : Bool) (ts : Trees) → count (kept_each b ts) ≡ count ts
-kept_each-count true ts = trim_each-count ts
-kept_each-count false ts = refl
-
-pub kept_each-with_last : (b : Bool) (ts : Trees) (u : Tree) → kept_each b (with_last ts u) ≡ with_last (kept_each b ts) (kept b u)
-kept_each-with_last true ts u = trim_each-with_last ts u
-kept_each-with_last false ts u = refl
 
 -- what stops among the first pointers stops among them all
 pub stops_sooner : {form : Form} {P : Reading → Meter → Meter → Type 0} {r : Reading} {m m' : Meter} {q used : ℕ} → used ≤ q → StopsAmong form P r used m m' → StopsAmong form P r q m m'

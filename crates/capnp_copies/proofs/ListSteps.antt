@@ -1,5 +1,5 @@
 -- A list of structs that is copied into the segment of its pointer, from where its words are taken: its elements.
-use Rattle.std.proofs.Common.{◌≡◌, ℕ, ◌+◌, ◌*◌, ◌<◌, ◌≤◌, ◌∷◌, ◌++◌, List, [], length, set, take, replicate, sym, ap, ap₂, ◌∙◌, arith, append_assoc, append-nil}
+use Rattle.std.proofs.Common.{◌≡◌, Bool, ℕ, ◌+◌, ◌*◌, ◌<◌, ◌≤◌, ◌∷◌, ◌++◌, List, [], length, set, take, replicate, sym, ap, ap₂, ◌∙◌, arith, append_assoc, append-nil}
 use Rattle.std.proofs.Math.Seq.{take-append-add}
 use Rattle.capnp_pointers.specs.declared.wire_pointer.StructSize.{StructSize}
 use Rattle.capnp_words.specs.Meter.{Meter}
@@ -11,13 +11,15 @@ use Rattle.capnp_arena.specs.View.{View}
 use Rattle.capnp_arena.specs.Written.{with_segment, with_word}
 use Rattle.capnp_objects.specs.Outcomes.{ElementsMean}
 use Rattle.capnp_objects.specs.Reading.{Reading, row}
-use Rattle.capnp_copies.specs.Copied.{copied, rows_laid}
+use Rattle.capnp_copies.specs.Changes.{kept_elements}
+use Rattle.capnp_copies.specs.Copied.{rows_laid}
 use Rattle.capnp_copies.specs.Copies.{IsCopied}
 use Rattle.capnp_copies.proofs.CopiesNear.{TakesWords}
 use Rattle.capnp_copies.proofs.CopiesNear.{call_of, CopiesElements}
 use Rattle.capnp_copies.specs.Widths.{data_used, pointers_used}
 use Rattle.capnp_copies.proofs.Copying.{there}
 use Rattle.capnp_copies.proofs.ElementsLaid.{cut_count}
+use Rattle.capnp_copies.proofs.KeptChildren.{cut_kept-count}
 use Rattle.capnp_copies.proofs.LeastWidths.{data_where_meant, pointers_where_meant}
 use Rattle.capnp_copies.proofs.SegmentsWritten.{then_written}
 use Rattle.capnp_copies.proofs.UsedChildren.{trim-structs}
@@ -47,25 +49,22 @@ words_of_list {r} {size} {least} {i} es c inside is_least len all =
     let q : ℕ = least.pointers in
     ap word_count (trimmed_list es c inside is_least len all) ∙ ap (λ j. 1 + j * (e + q) + word_count_elements (cut_to e q (trim_elements es))) (cut_count e q es ∙ len)
 
--- The words of a list are taken: its tag, of the least sections that lose nothing, and words of zero for its elements.
-pub record ListBegun (r : Reading) (size least : StructSize) (i : ℕ) (old mid : View) (id at head : ℕ) : Type 0 where
-  pub inside : r.at + i * (size.data_words + size.pointers) ≤ length (row r)
-  pub is_least : AreLeast r size least i
+-- The words of a list are taken: its tag, of the sections that are kept, and words of zero for its elements.
+pub record ListBegun (least : StructSize) (i : ℕ) (old mid : View) (id at head : ℕ) : Type 0 where
   pub place : IsPlace old.words id at
   pub taken : TakesWords old mid id head (struct_word i least.data_words least.pointers ∷ replicate (i * (least.data_words + least.pointers)) 0)
 
 -- the tag of a list of structs, and its elements, once they are put, and the list's pointer
-pub list_put : {r : Reading} {size least : StructSize} {i : ℕ} {old mid last new : View} {id at head x : ℕ} {m m' : Meter} → ListBegun r size least i old mid id at head → (elements : CopiesElements r (record { source = size; kept = least }) i (call_of mid last id m m') (head + 1)) →
-    x ≡ list_word (offset_to at (length (segment old.words id))) 7 (i * (least.data_words + least.pointers)) → new ≡ record last { words = with_word last.words id at x } → IsCopied old.words new.words id at (Structs size.data_words size.pointers elements.elements)
-list_put {r} {size} {least} {i} {old} {mid} {last} {new} {id} {at} {head} {x} begun elements word writes =
+pub list_put : {b : Bool} {r : Reading} {size least : StructSize} {i : ℕ} {old mid last new : View} {id at head x : ℕ} {m m' : Meter} → ListBegun least i old mid id at head → (elements : CopiesElements r (record { source = size; kept = least }) i (call_of b mid last id m m') (head + 1)) →
+    x ≡ list_word (offset_to at (length (segment old.words id))) 7 (i * (least.data_words + least.pointers)) → new ≡ record last { words = with_word last.words id at x } → IsCopied old.words new.words id at (Structs least.data_words least.pointers (cut_to least.data_words least.pointers (kept_elements b elements.elements)))
+list_put {b} {r} {size} {least} {i} {old} {mid} {last} {new} {id} {at} {head} {x} begun elements word writes =
     let M : Segments = old.words in
     let W : List ℕ = segment M id in
     let id_there : id < length M = there M id at begun.place in
     let e : ℕ = least.data_words in
     let q : ℕ = least.pointers in
-    let es : Elements = cut_to e q (trim_elements elements.elements) in
-    let len : element_count es ≡ i = cut_count e q elements.elements ∙ elements.counts in
-    let form : trim (Structs size.data_words size.pointers elements.elements) ≡ Structs e q es = trimmed_list elements.elements elements.are_read.cost begun.inside begun.is_least elements.counts elements.are_read.means in
+    let es : Elements = cut_to e q (kept_elements b elements.elements) in
+    let len : element_count es ≡ i = cut_kept-count b e q elements.elements ∙ elements.counts in
     let put : last.words ≡ with_segment mid.words id (rows_laid (take (length W + 1) (segment mid.words id)) e q es 0) = rw (sym begun.taken.starts) elements.made in
     let tag : ℕ = struct_word i e q in
     let Z : List ℕ = replicate (i * (e + q)) 0 in
@@ -76,4 +75,3 @@ list_put {r} {size} {least} {i} {old} {mid} {last} {new} {id} {at} {head} {x} be
     let second = then_written M id (W ++ (tag ∷ Z)) (λ xs. rows_laid (take (length W + 1) xs) e q es 0) (id_there, ap (λ (v : View). v.words) begun.taken.extends) put in
     then_written M id (rows_laid (take (length W + 1) (W ++ (tag ∷ Z))) e q es 0) (λ xs. set xs at x) (id_there, second) (ap (λ (v : View). v.words) writes)
     ∙ ap (with_segment M id) (ap₂ (λ xs y. set xs at y) (ap (λ xs. rows_laid xs e q es 0) front ∙ laid ∙ ap (λ j. W ++ ((struct_word j e q ∷ rows e q 0 es) ++ element_bodies es)) (sym len)) same)
-    ∙ ap (λ t. with_segment M id (copied W at t)) (sym form)

@@ -1,5 +1,5 @@
 -- A struct and a list of pointers that are copied into the segment of their pointer, from where their words are taken: their children.
-use Rattle.std.proofs.Common.{◌≡◌, ℕ, ◌+◌, ◌<◌, ◌≤◌, ◌++◌, List, length, set, take, replicate, sym, ap, ap₂, ◌∙◌, arith, append_assoc, length-append, length-take}
+use Rattle.std.proofs.Common.{◌≡◌, Bool, ℕ, ◌+◌, ◌<◌, ◌≤◌, ◌++◌, List, length, set, take, replicate, sym, ap, ap₂, ◌∙◌, arith, append_assoc, length-append, length-take}
 use Rattle.capnp_pointers.specs.declared.wire_pointer.StructSize.{StructSize}
 use Rattle.capnp_words.specs.Meter.{Meter}
 use Rattle.capnp_format.specs.Word.{struct_word, list_word}
@@ -13,12 +13,14 @@ use Rattle.capnp_arena.specs.Written.{with_segment, with_word}
 use Rattle.capnp_objects.specs.Outcomes.{ReadsAll, MeanThere}
 use Rattle.capnp_objects.specs.Reading.{Reading, behind, row, words_from}
 use Rattle.capnp_objects.specs.Wanted.{canonical}
+use Rattle.capnp_copies.specs.Changes.{kept_each}
 use Rattle.capnp_copies.specs.Copied.{copied, with_children}
 use Rattle.capnp_copies.specs.Copies.{IsCopied}
 use Rattle.capnp_copies.proofs.CopiesNear.{TakesWords}
 use Rattle.capnp_copies.specs.Widths.{Uses}
 use Rattle.capnp_copies.proofs.CopiesNear.{call_of, CopiesChildren}
 use Rattle.capnp_copies.proofs.Copying.{there}
+use Rattle.capnp_copies.proofs.KeptChildren.{kept_each-count}
 use Rattle.capnp_copies.proofs.SegmentsWritten.{then_written}
 use Rattle.capnp_copies.proofs.StructsCopied.{object_children, struct_pointer}
 use Rattle.capnp_copies.proofs.UsedChildren.{used_children, trim-struct, fill_nulls, null_behind}
@@ -26,14 +28,14 @@ use Rattle.capnp_copies.proofs.UsedChildren.{used_children, trim-struct, fill_nu
 -- a list of pointers
 
 -- the pointers of a list and what they lead to, once they are put, and the list's pointer
-pub pointers_put : {r : Reading} {old mid last new : View} {id at head q x : ℕ} {m m' : Meter} → IsPlace old.words id at → TakesWords old mid id head (replicate q 0) → (children : CopiesChildren r q (call_of mid last id m m') head) → x ≡ list_word (offset_to at (length (segment old.words id))) 6 q →
-    new ≡ record last { words = with_word last.words id at x } → IsCopied old.words new.words id at (Pointers children.children)
-pointers_put {r} {old} {mid} {last} {new} {id} {at} {head} {q} {x} place taken children word writes =
+pub pointers_put : {b : Bool} {r : Reading} {old mid last new : View} {id at head q x : ℕ} {m m' : Meter} → IsPlace old.words id at → TakesWords old mid id head (replicate q 0) → (children : CopiesChildren r q (call_of b mid last id m m') head) → x ≡ list_word (offset_to at (length (segment old.words id))) 6 q →
+    new ≡ record last { words = with_word last.words id at x } → IsCopied old.words new.words id at (Pointers (kept_each b children.children))
+pointers_put {b} {r} {old} {mid} {last} {new} {id} {at} {head} {q} {x} place taken children word writes =
     let M : Segments = old.words in
     let W : List ℕ = segment M id in
-    let ts : Trees = trim_each children.children in
+    let ts : Trees = kept_each b children.children in
     let id_there : id < length M = there M id at place in
-    let len : count ts ≡ q = trim_each-count children.children ∙ children.counts in
+    let len : count ts ≡ q = kept_each-count b children.children ∙ children.counts in
     let put : last.words ≡ with_segment mid.words id (with_children (segment mid.words id) (length W) ts) = rw (sym taken.starts) children.made in
     let is : x ≡ pointer (Pointers ts) (offset_to at (length W)) = word ∙ ap (list_word (offset_to at (length W)) 6) (sym len) in
     let second = then_written M id (W ++ replicate q 0) (λ xs. with_children xs (length W) ts) (id_there, ap (λ (v : View). v.words) taken.extends) put in
@@ -79,28 +81,28 @@ struct_filled {r} {size} {used} {m} {m'} {ts} inside uses len all =
 -- The words of a struct are taken: its data words, as they are read, and pointers, which are null.
 pub record StructBegun (r : Reading) (size used : StructSize) (old mid : View) (id at head : ℕ) : Type 0 where
   pub inside : r.at + (size.data_words + size.pointers) ≤ length (row r)
-  pub uses : Uses r size used
+  pub less_data : used.data_words ≤ size.data_words
   pub place : IsPlace old.words id at
   pub taken : TakesWords old mid id head (words_from r used.data_words ++ replicate used.pointers 0)
 
 data_long : {r : Reading} {size used : StructSize} {old mid : View} {id at head : ℕ} → StructBegun r size used old mid id at head → length (words_from r used.data_words) ≡ used.data_words
-data_long {r} {size} {used} begun = length_words r.segments r.segment r.at used.data_words (omega (arith, begun.inside, begun.uses.less_data))
+data_long {r} {size} {used} begun = length_words r.segments r.segment r.at used.data_words (omega (arith, begun.inside, begun.less_data))
 
 -- the words of a struct and of its children, once they are put, and its pointer
-pub struct_put : {r : Reading} {size used : StructSize} {old mid last new : View} {id at head x : ℕ} {m m' : Meter} → StructBegun r size used old mid id at head → 0 < used.data_words + used.pointers →
-    (children : CopiesChildren (behind r size.data_words) used.pointers (call_of mid last id m m') (head + used.data_words)) → x ≡ struct_word (offset_to at (length (segment old.words id))) used.data_words used.pointers →
-    new ≡ record last { words = with_word last.words id at x } → new.words ≡ with_segment old.words id (copied (segment old.words id) at (Struct (words_from r used.data_words) (trim_each children.children)))
-struct_put {r} {size} {used} {old} {mid} {last} {new} {id} {at} {head} {x} begun some children word writes =
+pub struct_put : {b : Bool} {r : Reading} {size used : StructSize} {old mid last new : View} {id at head x : ℕ} {m m' : Meter} → StructBegun r size used old mid id at head → 0 < used.data_words + used.pointers →
+    (children : CopiesChildren (behind r size.data_words) used.pointers (call_of b mid last id m m') (head + used.data_words)) → x ≡ struct_word (offset_to at (length (segment old.words id))) used.data_words used.pointers →
+    new ≡ record last { words = with_word last.words id at x } → new.words ≡ with_segment old.words id (copied (segment old.words id) at (Struct (words_from r used.data_words) (kept_each b children.children)))
+struct_put {b} {r} {size} {used} {old} {mid} {last} {new} {id} {at} {head} {x} begun some children word writes =
     let M : Segments = old.words in
     let W : List ℕ = segment M id in
     let q : ℕ = used.pointers in
     let us : List ℕ = words_from r used.data_words in
     let zeros : List ℕ = replicate q 0 in
-    let ts : Trees = trim_each children.children in
+    let ts : Trees = kept_each b children.children in
     let front : List ℕ = W ++ us in
     let id_there : id < length M = there M id at begun.place in
     let long : length us ≡ used.data_words = data_long begun in
-    let len : count ts ≡ q = trim_each-count children.children ∙ children.counts in
+    let len : count ts ≡ q = kept_each-count b children.children ∙ children.counts in
     let put : last.words ≡ with_segment mid.words id (with_children (segment mid.words id) (length W + length us) ts) = rw (long, sym begun.taken.starts) children.made in
     let shape : W ++ (us ++ zeros) ≡ front ++ zeros = simp append_assoc in
     let filled : with_children (W ++ (us ++ zeros)) (length W + length us) ts ≡ front ++ (pointers 0 ts ++ bodies ts) =

@@ -1,24 +1,20 @@
--- Children in canonical form, in place behind the words of their pointers' segment: one child more.
-use Rattle.std.proofs.Common.{◌≡◌, ℕ, ◌+◌, ◌<◌, ◌≤◌, ◌^◌, Bool, true, false, length, refl, ap, ◌∙◌, arith}
-use Rattle.std.proofs.lemmas.Bool.{false≢true}
+-- Children in place behind the words of their pointers' segment: one child more.
+use Rattle.std.proofs.Common.{◌≡◌, ℕ, ◌+◌, ◌<◌, ◌≤◌, ◌^◌, Bool, length, ap, ◌∙◌, arith}
 use Rattle.capnp_words.specs.Meter.{Meter}
 use Rattle.capnp_format.specs.Segments.{segment, IsPlace}
-use Rattle.capnp_format.specs.Tree.{Tree, Trees, no_trees, tree}
-use Rattle.capnp_format.specs.Canonical.{trim, trim_each, word_count, word_count_all}
+use Rattle.capnp_format.specs.Tree.{Tree, Trees}
+use Rattle.capnp_format.specs.Canonical.{word_count, word_count_all}
 use Rattle.capnp_format.proofs.Children.{with_last}
 use Rattle.capnp_arena.specs.View.{View}
 use Rattle.capnp_making.specs.Memory.{KeepsMemory}
 use Rattle.capnp_objects.specs.Reading.{Reading, behind}
-use Rattle.capnp_copies.specs.Changes.{change, StandWhereTheyFit, CopiesValue, CopiesChildren}
+use Rattle.capnp_copies.specs.Changes.{kept, kept_each, change, StandWhereTheyFit, CopiesValue, CopiesChildren}
 use Rattle.capnp_copies.specs.Copies.{IsCopied, AreCopied}
 use Rattle.capnp_copies.proofs.CopiesNear.{call_of, CopiesValue as ValueCopied, CopiesChildren as ChildrenCopied}
 use Rattle.capnp_copies.proofs.ChildrenSteps.{child_put, now, now_long}
 use Rattle.capnp_copies.proofs.Copying.{there}
+use Rattle.capnp_copies.proofs.KeptChildren.{words-with_last}
 use Rattle.capnp_copies.proofs.StayingNear.{stay_first, stay_later}
-
-pub words-with_last : (ts : Trees) (u : Tree) → word_count_all (trim_each (with_last ts u)) ≡ word_count_all (trim_each ts) + word_count (trim u)
-words-with_last no_trees u = omega arith
-words-with_last (tree t ts) u = omega (arith, words-with_last ts u)
 
 -- the room of a segment that was there
 pub room_kept : (old new : View) (s p : ℕ) → IsPlace old.words s p → KeepsMemory old new → new.room s ≡ old.room s
@@ -26,15 +22,14 @@ room_kept old new s p place memory = memory.1 s (there old.words s p place)
 
 pub child_tight : {r : Reading} {s p i : ℕ} {old mid new : View} {m m' m'' : Meter} (b : Bool) → IsPlace old.words s (p + i) → length (segment mid.words s) < 2 ^ 29 → length old.words ≤ length mid.words → length mid.words ≤ length new.words → (first : CopiesChildren r i (change b s p old mid m m')) →
     (next : CopiesValue (behind r i) (change b s (p + i) mid new m' m'')) → StandWhereTheyFit (change b s p old new m m'') (with_last first.children next.value)
-child_tight {r} {s} {p} {i} {old} {mid} {new} {m} {m'} {m''} true place few grows more first next (e, fits) =
+child_tight {r} {s} {p} {i} {old} {mid} {new} {m} {m'} {m''} b place few grows more first next fits =
     let ts : Trees = first.children in
     let u : Tree = next.value in
-    let words = words-with_last ts u in
-    let stand : AreCopied old.words mid.words s p ts = first.stands (refl, stay_first old mid new s (p + i) (word_count_all (trim_each (with_last ts u))) (word_count_all (trim_each ts)) (omega (arith, words)) place grows more fits) in
-    let one : ChildrenCopied r i (call_of old mid s m m') p = record { children = ts; counts = first.counts; are_read = first.are_read; made = stand } in
-    let long : length (segment mid.words s) ≡ length (segment old.words s) + word_count_all (trim_each ts) = ap length (now place one) ∙ now_long (omega (arith, place)) one in
+    let words = words-with_last b ts u in
+    let stand : AreCopied old.words mid.words s p (kept_each b ts) = first.stands (stay_first old mid new s (p + i) (word_count_all (kept_each b (with_last ts u))) (word_count_all (kept_each b ts)) (omega (arith, words)) place grows more fits) in
+    let one : ChildrenCopied r i (call_of b old mid s m m') p = record { children = ts; counts = first.counts; are_read = first.are_read; made = stand } in
+    let long : length (segment mid.words s) ≡ length (segment old.words s) + word_count_all (kept_each b ts) = ap length (now place one) ∙ now_long (omega (arith, place)) one in
     let room : mid.room s ≡ old.room s = room_kept old mid s (p + i) place first.memory in
-    let stands : IsCopied mid.words new.words s (p + i) u = next.stands (refl, stay_later old mid new s s (word_count_all (trim_each (with_last ts u))) (word_count (trim u)) (λ f. omega (arith, f, words, long, room)) fits) in
-    let two : ValueCopied (behind r i) (call_of mid new s m' m'') (p + i) = record { value = u; is_read = next.is_read; made = stands } in
+    let stands : IsCopied mid.words new.words s (p + i) (kept b u) = next.stands (stay_later old mid new s s (word_count_all (kept_each b (with_last ts u))) (word_count (kept b u)) (λ f. omega (arith, f, words, long, room)) fits) in
+    let two : ValueCopied (behind r i) (call_of b mid new s m' m'') (p + i) = record { value = u; is_read = next.is_read; made = stands } in
     child_put place few one two
-child_tight false place few grows more first next (e, fits) = absurd (false≢true e)

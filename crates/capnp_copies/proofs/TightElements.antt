@@ -1,11 +1,10 @@
--- Elements in canonical form, in place over the last words of a segment: none yet, one element more, and elements of no width.
-use Rattle.std.proofs.Common.{◌≡◌, ℕ, ◌+◌, ◌-◌, ◌*◌, ◌<◌, ◌≤◌, Bool, true, false, List, length, take, refl, sym, ap, ◌∙◌, subst, arith}
-use Rattle.std.proofs.lemmas.Bool.{false≢true}
+-- Elements in place over the last words of a segment: none yet, one element more, and elements of no width.
+use Rattle.std.proofs.Common.{◌≡◌, ℕ, ◌+◌, ◌-◌, ◌*◌, ◌<◌, ◌≤◌, Bool, List, length, take, refl, sym, ap, ◌∙◌, subst, arith}
 use Rattle.std.proofs.lemmas.List.{take_all}
 use Rattle.capnp_words.specs.Meter.{Meter}
 use Rattle.capnp_format.specs.Segments.{segment, IsPlace}
 use Rattle.capnp_format.specs.Tree.{Trees, Elements, no_elements}
-use Rattle.capnp_format.specs.Canonical.{trim_each, cut_to, word_count_all, word_count_elements}
+use Rattle.capnp_format.specs.Canonical.{cut_to, word_count_all, word_count_elements}
 use Rattle.capnp_arena.specs.View.{View}
 use Rattle.capnp_arena.specs.Written.{with_segment, with_words, overwritten}
 use Rattle.capnp_objects.specs.Reading.{Reading, behind, words_from}
@@ -15,8 +14,9 @@ use Rattle.capnp_copies.specs.Copied.{with_children, rows_laid}
 use Rattle.capnp_copies.proofs.CopiesNear.{call_of, CopiesChildren as ChildrenCopied, CopiesElement as ElementCopied}
 use Rattle.capnp_copies.specs.declared.widths.ElementSizes.{ElementSizes}
 use Rattle.capnp_copies.proofs.ElementsCopied.{words-with_last}
-use Rattle.capnp_copies.proofs.ElementsLaid.{cut, blank_rows, rows_begun}
+use Rattle.capnp_copies.proofs.ElementsLaid.{blank_rows, rows_begun}
 use Rattle.capnp_copies.proofs.ElementSteps.{DataPut, children_put, ElementsFit, RowsCopied, AtRow, next_row, row_put}
+use Rattle.capnp_copies.proofs.KeptChildren.{cut_kept}
 use Rattle.capnp_copies.proofs.KeptForms.{SourceKept}
 use Rattle.capnp_copies.proofs.SegmentsWritten.{not_written, length-with_words}
 use Rattle.capnp_copies.proofs.StayingNear.{stay_first, stay_later}
@@ -30,17 +30,16 @@ pub record IsPut (r : Reading) (sizes : ElementSizes) (old mid : View) (s p : �
   pub writes : mid ≡ record old { words = with_words old.words s p (words_from r sizes.kept.data_words) }
 
 pub element_tight : {r : Reading} {sizes : ElementSizes} {s p : ℕ} {old mid new : View} {m m' : Meter} (b : Bool) → IsPut r sizes old mid s p → (children : CopiesChildren (behind r sizes.source.data_words) sizes.kept.pointers (change b s (p + sizes.kept.data_words) mid new m m')) →
-    IsPlace old.words s p → Fits (change b s p old new m m') (word_count_all (trim_each children.children)) →
-    new.words ≡ with_segment old.words s (with_children (overwritten (segment old.words s) p (words_from r sizes.kept.data_words)) (p + sizes.kept.data_words) (trim_each children.children))
-element_tight {r} {sizes} {s} {p} {old} {mid} {new} {m} {m'} true put children place (e, fits) =
+    IsPlace old.words s p → Fits (change b s p old new m m') (word_count_all (kept_each b children.children)) →
+    new.words ≡ with_segment old.words s (with_children (overwritten (segment old.words s) p (words_from r sizes.kept.data_words)) (p + sizes.kept.data_words) (kept_each b children.children))
+element_tight {r} {sizes} {s} {p} {old} {mid} {new} {m} {m'} b put children place fits =
     let us : List ℕ = words_from r sizes.kept.data_words in
     let long : length (segment mid.words s) ≡ length (segment old.words s) = ap (λ (v : View). length (segment v.words s)) put.writes ∙ length-with_words old.words s p us (omega (arith, put.long, put.room)) in
     let room : mid.room s ≡ old.room s = ap (λ (v : View). v.room s) put.writes in
-    let one : ChildrenCopied (behind r sizes.source.data_words) sizes.kept.pointers (call_of mid new s m m') (p + sizes.kept.data_words) =
-    record { children = children.children; counts = children.counts; are_read = children.are_read; made = children.stands (refl, stay_later old mid new s s (word_count_all (trim_each children.children)) (word_count_all (trim_each children.children)) (λ f. omega (arith, f, long, room)) fits) } in
+    let one : ChildrenCopied (behind r sizes.source.data_words) sizes.kept.pointers (call_of b mid new s m m') (p + sizes.kept.data_words) =
+    record { children = children.children; counts = children.counts; are_read = children.are_read; made = children.stands (stay_later old mid new s s (word_count_all (kept_each b children.children)) (word_count_all (kept_each b children.children)) (λ f. omega (arith, f, long, room)) fits) } in
     let written : DataPut r sizes old mid s p us = record { place = place; are_words = refl; counts = put.long; writes = put.writes } in
     children_put written one
-element_tight false put children place (e, fits) = absurd (false≢true e)
 
 -- elements, one after the other
 
@@ -52,39 +51,38 @@ no_row_tight b sizes s p n v m last =
     ∙ ap (with_segment v.words s) (rows_begun (segment v.words s) p n sizes.kept (subst (λ k. p + k * (sizes.kept.data_words + sizes.kept.pointers) ≡ length (segment v.words s)) none last.ends) last.zero)
 
 pub no_width_tight : (b : Bool) (sizes : ElementSizes) (s p n : ℕ) (v : View) (m : Meter) (es : Elements) → sizes.kept.data_words + sizes.kept.pointers ≡ 0 → EndsInZeros (change b s p v v m m) ((n + 0) * (sizes.kept.data_words + sizes.kept.pointers)) →
-    v.words ≡ with_segment v.words s (rows_laid (take p (segment v.words s)) sizes.kept.data_words sizes.kept.pointers (cut sizes es) 0)
+    v.words ≡ with_segment v.words s (rows_laid (take p (segment v.words s)) sizes.kept.data_words sizes.kept.pointers (cut_kept b sizes es) 0)
 no_width_tight b sizes s p n v m es none last =
     let W : List ℕ = segment v.words s in
     let nothing : (n + 0) * (sizes.kept.data_words + sizes.kept.pointers) ≡ (n + 0) * 0 = ap (λ i. (n + 0) * i) none in
     let end : length W ≤ p = omega (arith, last.ends, nothing) in
-    not_written v.words s ∙ ap (with_segment v.words s) (sym (blank_rows sizes.kept.data_words sizes.kept.pointers (take p W) es none ∙ take_all p W end))
+    not_written v.words s ∙ ap (with_segment v.words s) (sym (blank_rows sizes.kept.data_words sizes.kept.pointers (take p W) (kept_elements b es) none ∙ take_all p W end))
 
 pub row_tight : {r : Reading} {sizes : ElementSizes} {n i s p : ℕ} {old mid new : View} {m m' m'' : Meter} (b : Bool) → IsPlace old.words s p → length old.words ≤ length mid.words → length mid.words ≤ length new.words → SourceKept b r sizes n → 0 < sizes.kept.data_words + sizes.kept.pointers → i < n → (first : CopiesRows r sizes i (n - i) (change b s p old mid m m')) →
     (next : CopiesElement (behind r (i * (sizes.source.data_words + sizes.source.pointers))) sizes (change b s (p + i * (sizes.kept.data_words + sizes.kept.pointers)) mid new m' m'')) → (all : Elements) →
     cut_to sizes.kept.data_words sizes.kept.pointers (kept_elements b all)
     ≡ with_last_element (cut_to sizes.kept.data_words sizes.kept.pointers (kept_elements b first.elements)) (words_from (behind r (i * (sizes.source.data_words + sizes.source.pointers))) sizes.kept.data_words) (kept_each b next.children) →
-    EndsInZeros (change b s p old new m m'') ((i + 1 + (n - (i + 1))) * (sizes.kept.data_words + sizes.kept.pointers)) → Fits (change b s p old new m m'') (word_count_elements (cut sizes all)) →
-    new.words ≡ with_segment old.words s (rows_laid (take p (segment old.words s)) sizes.kept.data_words sizes.kept.pointers (cut sizes all) (n - (i + 1)))
-row_tight {r} {sizes} {n} {i} {s} {p} {old} {mid} {new} {m} {m'} {m''} true place grows longer fit wide more first next all shape last (e, fits) =
+    EndsInZeros (change b s p old new m m'') ((i + 1 + (n - (i + 1))) * (sizes.kept.data_words + sizes.kept.pointers)) → Fits (change b s p old new m m'') (word_count_elements (cut_kept b sizes all)) →
+    new.words ≡ with_segment old.words s (rows_laid (take p (segment old.words s)) sizes.kept.data_words sizes.kept.pointers (cut_kept b sizes all) (n - (i + 1)))
+row_tight {r} {sizes} {n} {i} {s} {p} {old} {mid} {new} {m} {m'} {m''} b place grows longer fit wide more first next all shape last fits =
     let w : ℕ = sizes.kept.data_words + sizes.kept.pointers in
     let us : List ℕ = words_from (behind r (i * (sizes.source.data_words + sizes.source.pointers))) sizes.kept.data_words in
-    let fs : Elements = cut sizes first.elements in
-    let ts : Trees = trim_each next.children in
-    let words : word_count_elements (cut sizes all) ≡ word_count_elements fs + word_count_all ts = ap word_count_elements shape ∙ words-with_last fs us ts in
+    let fs : Elements = cut_kept b sizes first.elements in
+    let ts : Trees = kept_each b next.children in
+    let words : word_count_elements (cut_kept b sizes all) ≡ word_count_elements fs + word_count_all ts = ap word_count_elements shape ∙ words-with_last fs us ts in
     let to_n : i + 1 + (n - (i + 1)) ≡ n = omega (arith, more) in
     let to_i : n ≡ i + (n - i) = omega (arith, more) in
     let ends : p + n * w ≡ length (segment old.words s) = subst (λ k. p + k * w ≡ length (segment old.words s)) to_n last.ends in
-    let before : EndsInZeros (change true s p old mid m m') ((i + (n - i)) * w) = record { ends = subst (λ k. p + k * w ≡ length (segment old.words s)) to_i ends; zero = last.zero } in
-    let rows : RowsCopied r sizes i (n - i) (call_of old mid s m m') p =
-    record { elements = first.elements; counts = first.counts; are_read = first.are_read; made = first.stands before (refl, stay_first old mid new s p (word_count_elements (cut sizes all)) (word_count_elements fs) (omega (arith, words)) place grows longer fits) } in
-    let fitting : ElementsFit r sizes n (segment old.words s) p = record { room = ends; inside = fit.inside; less_data = fit.less_data; less_pointers = fit.less_pointers; used = fit.used } in
-    let here : AtRow r sizes n i w (call_of old mid s m m') p = record { fits = fitting; width = refl; wide = wide; more = more; rows = rows } in
+    let before : EndsInZeros (change b s p old mid m m') ((i + (n - i)) * w) = record { ends = subst (λ k. p + k * w ≡ length (segment old.words s)) to_i ends; zero = last.zero } in
+    let rows : RowsCopied r sizes i (n - i) (call_of b old mid s m m') p =
+    record { elements = first.elements; counts = first.counts; are_read = first.are_read; made = first.stands before (stay_first old mid new s p (word_count_elements (cut_kept b sizes all)) (word_count_elements fs) (omega (arith, words)) place grows longer fits) } in
+    let fitting : ElementsFit r sizes n (segment old.words s) p = record { room = ends; inside = fit.inside; less_data = fit.less_data; less_pointers = fit.less_pointers } in
+    let here : AtRow r sizes n i w (call_of b old mid s m m') p = record { fits = fitting; width = refl; wide = wide; more = more; rows = rows } in
     let x = next_row here in
     let room : mid.room s ≡ old.room s = first.memory.1 s x.there in
-    let one : ElementCopied (behind r (i * (sizes.source.data_words + sizes.source.pointers))) sizes (call_of mid new s m' m'') (p + i * w) =
-    record { children = next.children; counts = next.counts; are_read = next.are_read; made = next.stands (omega (arith, x.room, wide)) (refl, stay_later old mid new s s (word_count_elements (cut sizes all)) (word_count_all ts) (λ f. omega (arith, f, words, x.long, room)) fits) } in
+    let one : ElementCopied (behind r (i * (sizes.source.data_words + sizes.source.pointers))) sizes (call_of b mid new s m' m'') (p + i * w) =
+    record { children = next.children; counts = next.counts; are_read = next.are_read; made = next.stands (omega (arith, x.room, wide)) (stay_later old mid new s s (word_count_elements (cut_kept b sizes all)) (word_count_all ts) (λ f. omega (arith, f, words, x.long, room)) fits) } in
     row_put here one ∙ ap (λ y. with_segment old.words s (rows_laid (take p (segment old.words s)) sizes.kept.data_words sizes.kept.pointers y (n - (i + 1)))) (sym shape)
-row_tight false place grows longer fit wide more first next all shape last (e, fits) = absurd (false≢true e)
 
 pub all_rows : {r : Reading} {sizes : ElementSizes} {i n s p : ℕ} {b : Bool} {old new : View} {m m' : Meter} → n ≤ i → i ≤ n → CopiesRows r sizes i (n - i) (change b s p old new m m') → CopiesRows r sizes n 0 (change b s p old new m m')
 all_rows {r} {sizes} {i} {n} {s} {p} {b} {old} {new} {m} {m'} le ge rows =

@@ -47,8 +47,8 @@ child_too_large {r} {s} {p} {i} {n} {old} {mid} {m} {m'} true place less first e
     (let ts : Trees = first.children in
     let x = next_words r ts us (first.are_read.cost, first.are_read.means) (c, all) (omega (arith, first.counts, len, less)) in
     let no : (length (segment old.words s) + word_count_all (trim_each us) ≤ old.room s) → ⊥ = λ fits.
-    (let stand : AreCopied old.words mid.words s p ts = first.stands (e, inl (omega (arith, fits, x.3))) in
-    let one : ChildrenCopied r i (call_of old mid s m m') p = record { children = ts; counts = first.counts; are_read = first.are_read; made = stand } in
+    (let stand : AreCopied old.words mid.words s p (trim_each ts) = first.stands (inl (omega (arith, fits, x.3))) in
+    let one : ChildrenCopied r i (call_of true old mid s m m') p = record { children = ts; counts = first.counts; are_read = first.are_read; made = stand } in
     let long : length (segment mid.words s) ≡ length (segment old.words s) + word_count_all (trim_each ts) = ap length (now place one) ∙ now_long (omega (arith, place)) one in
     let room : mid.room s ≡ old.room s = room_kept old mid s (p + i) place first.memory in
     let beyond = large x.0 x.1 (subst (λ j. MeansThere (behind r j) x.0 x.1) first.counts x.2) in
@@ -70,10 +70,10 @@ row_too_large {r} {sizes} {i} {n} {s} {p} {old} {mid} {new} {m} {m'} {m''} true 
     let no : (length (segment old.words s) + word_count_elements (cut sizes us) ≤ old.room s) → ⊥ = λ fits.
     (let to_i : n ≡ i + (n - i) = omega (arith, more) in
     let before : EndsInZeros (change true s p old mid m m') ((i + (n - i)) * w) = record { ends = subst (λ k. p + k * w ≡ length (segment old.words s)) to_i last.ends; zero = last.zero } in
-    let rows : RowsCopied r sizes i (n - i) (call_of old mid s m m') p =
-    record { elements = es; counts = first.counts; are_read = first.are_read; made = first.stands before (e, inl (omega (arith, fits, z.4))) } in
-    let fitting : ElementsFit r sizes n (segment old.words s) p = record { room = last.ends; inside = fit.inside; less_data = fit.less_data; less_pointers = fit.less_pointers; used = fit.used } in
-    let here : AtRow r sizes n i w (call_of old mid s m m') p = record { fits = fitting; width = refl; wide = wide; more = more; rows = rows } in
+    let rows : RowsCopied r sizes i (n - i) (call_of true old mid s m m') p =
+    record { elements = es; counts = first.counts; are_read = first.are_read; made = first.stands before (inl (omega (arith, fits, z.4))) } in
+    let fitting : ElementsFit r sizes n (segment old.words s) p = record { room = last.ends; inside = fit.inside; less_data = fit.less_data; less_pointers = fit.less_pointers } in
+    let here : AtRow r sizes n i w (call_of true old mid s m m') p = record { fits = fitting; width = refl; wide = wide; more = more; rows = rows } in
     let x = next_row here in
     let room : mid.room s ≡ old.room s = first.memory.1 s x.there in
     let at : AreTooLarge (pointers_of r sizes.source (element_count es)) q (length (segment mid.words s)) (mid.room s) = subst (λ j. AreTooLarge (pointers_of r sizes.source j) q (length (segment mid.words s)) (mid.room s)) (sym first.counts) large in

@@ -80,13 +80,13 @@ change canonicalize s p old new before after = record { canonicalize = canonical
 abbrev pub StayInSegment : View → View → ℕ → ℕ → Type 0
 StayInSegment old new id n = HasOwnRoom old id n ⊎ (length new.words ≡ 1)
 
--- A copy in canonical form, whose n words stay in the segment.
+-- The n words of a copy stay in its segment.
 abbrev pub Fits : Change → ℕ → Type 0
-Fits c n = (c.canonicalize ≡ true) × StayInSegment c.old c.new c.segment n
+Fits c n = StayInSegment c.old c.new c.segment n
 
--- The canonical words of t, where they stay in segment id, stand behind those that were there, and their pointer at position at of it.
+-- The words of t, where they stay in segment id, stand behind those that were there, and their pointer at position at of it.
 abbrev pub IsCopiedInRoom : View → View → ℕ → ℕ → Tree → Type 0
-IsCopiedInRoom old new id at t = StayInSegment old new id (word_count (trim t)) → IsCopied old.words new.words id at t
+IsCopiedInRoom old new id at t = StayInSegment old new id (word_count t) → IsCopied old.words new.words id at t
 
 -- So many words are made of the object a, to which the pointer at a place leads: of a struct its sections that are kept, of a
 -- list its elements, and of a list of structs its tag and theirs, cut to the sections that are kept.
@@ -125,12 +125,12 @@ WantedAmong r i c n = StopsAmong (form_of c.canonicalize) (WantsWords c.canonica
 abbrev pub WantedAmongElements : Reading → StructSize → ℕ → Change → ℕ → Type 0
 WantedAmongElements r size i c n = StopsAmongElements (form_of c.canonicalize) (WantsWords c.canonicalize n) r size i c.before c.after
 
--- The canonical words of t stand in place behind those of the segment, where they fit there; so do those of children.
+-- The words of what is kept of t stand in place behind those of the segment, where they fit there; so do those of children.
 abbrev pub StandsWhereItFits : Change → Tree → Type 0
-StandsWhereItFits c t = Fits c (word_count (trim t)) → IsCopied c.old.words c.new.words c.segment c.at t
+StandsWhereItFits c t = Fits c (word_count (kept c.canonicalize t)) → IsCopied c.old.words c.new.words c.segment c.at (kept c.canonicalize t)
 
 abbrev pub StandWhereTheyFit : Change → Trees → Type 0
-StandWhereTheyFit c ts = Fits c (word_count_all (trim_each ts)) → AreCopied c.old.words c.new.words c.segment c.at ts
+StandWhereTheyFit c ts = Fits c (word_count_all (kept_each c.canonicalize ts)) → AreCopied c.old.words c.new.words c.segment c.at (kept_each c.canonicalize ts)
 
 -- Whatever value was read stands so.
 abbrev pub StandsAsRead : Reading → Change → Type 0
@@ -251,10 +251,10 @@ pub record CopiesRows (r : Reading) (sizes : ElementSizes) (i left : ℕ) (c : C
   pub memory : KeepsMemory c.old c.new
   pub stands :
       EndsInZeros c ((i + left) * (sizes.kept.data_words + sizes.kept.pointers))
-      → Fits c (word_count_elements (cut_to sizes.kept.data_words sizes.kept.pointers (trim_elements elements)))
+      → Fits c (word_count_elements (cut_to sizes.kept.data_words sizes.kept.pointers (kept_elements c.canonicalize elements)))
       → c.new.words
       ≡ with_segment c.old.words c.segment
-      (rows_laid (take c.at (segment c.old.words c.segment)) sizes.kept.data_words sizes.kept.pointers (cut_to sizes.kept.data_words sizes.kept.pointers (trim_elements elements)) left)
+      (rows_laid (take c.at (segment c.old.words c.segment)) sizes.kept.data_words sizes.kept.pointers (cut_to sizes.kept.data_words sizes.kept.pointers (kept_elements c.canonicalize elements)) left)
 
 abbrev pub CopiesElements : Reading → ElementSizes → ℕ → Change → Type 0
 CopiesElements r sizes i c = CopiesRows r sizes i 0 c
@@ -273,10 +273,10 @@ pub record CopiesElement (r : Reading) (sizes : ElementSizes) (c : Change) : Typ
   pub made : IsElementFilled c.old.words c.new.words c.segment c.at (words_from r sizes.kept.data_words) (kept_each c.canonicalize children)
   pub memory : KeepsMemory c.old c.new
   pub stands :
-      IsPlace c.old.words c.segment c.at → Fits c (word_count_all (trim_each children))
+      IsPlace c.old.words c.segment c.at → Fits c (word_count_all (kept_each c.canonicalize children))
       → c.new.words
       ≡ with_segment c.old.words c.segment
-      (with_children (overwritten (segment c.old.words c.segment) c.at (words_from r sizes.kept.data_words)) (c.at + sizes.kept.data_words) (trim_each children))
+      (with_children (overwritten (segment c.old.words c.segment) c.at (words_from r sizes.kept.data_words)) (c.at + sizes.kept.data_words) (kept_each c.canonicalize children))
 
 pub record StopsAtElement (r : Reading) (sizes : ElementSizes) (c : Change) (k : ErrorKind) : Type 0 where
   pub why : LacksRoom c k (WantedAmong (behind r sizes.source.data_words) sizes.kept.pointers c) (AreTooLarge (behind r sizes.source.data_words) sizes.kept.pointers) ⊎ RefusedAll (form_of c.canonicalize) (behind r sizes.source.data_words) sizes.kept.pointers c.before c.after k

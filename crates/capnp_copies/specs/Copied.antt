@@ -1,9 +1,8 @@
 -- The words of a segment while a value is copied behind them.
 use Rattle.std.specs.Prelude.{ℕ, ◌+◌, ◌-◌, ◌*◌, ◌%◌, ◌^◌, List, ◌++◌, length, take, drop, set, replicate}
-use Rattle.capnp_pointers.specs.declared.wire_pointer.StructSize.{StructSize}
 use Rattle.capnp_format.specs.Numbers.{from_digits, digits}
 use Rattle.capnp_format.specs.Tree.{Tree, Trees, count, Elements}
-use Rattle.capnp_format.specs.Canonical.{pointer, pointers, rows, body, bodies, element_bodies, offset_to, trim_elements, cut_to}
+use Rattle.capnp_format.specs.Canonical.{pointer, pointers, rows, body, bodies, element_bodies, offset_to}
 
 -- once a value is copied: its body behind the words, and its pointer at position p of them
 abbrev pub copied : List ℕ → ℕ → Tree → List ℕ
@@ -16,10 +15,6 @@ with_children ws p ts = take p ws ++ pointers (length ws - (p + count ts)) ts ++
 -- while elements are copied, some of them being there and n still to come
 abbrev pub rows_laid : List ℕ → ℕ → ℕ → Elements → ℕ → List ℕ
 rows_laid front d q es n = front ++ rows d q (n * (d + q)) es ++ replicate (n * (d + q)) 0 ++ element_bodies es
-
--- once elements are copied over the last words, from position p of them on, each cut to these sections
-abbrev pub with_elements : List ℕ → ℕ → StructSize → Elements → List ℕ
-with_elements ws p size es = rows_laid (take p ws) size.data_words size.pointers (cut_to size.data_words size.pointers (trim_elements es)) 0
 
 -- the words, with zeros behind so many bits
 abbrev pub low_bits : List ℕ → ℕ → List ℕ

@@ -1,21 +1,21 @@
--- What a canonical copy leaves of the message that it writes, and when there can be one ("Canonicalization").
+-- What a copy leaves of the message that it writes, and when there can be one in canonical form ("Canonicalization").
 use Rattle.std.specs.Prelude.{◌≡◌, ℕ, ◌+◌, ◌≤◌}
 use Rattle.capnp_words.specs.Meter.{Meter, Affords}
 use Rattle.capnp_format.specs.Segments.{Segments, segment}
 use Rattle.capnp_format.specs.Tree.{Tree, Trees, capabilities}
-use Rattle.capnp_format.specs.Canonical.{trim, trim_each, word_count}
+use Rattle.capnp_format.specs.Canonical.{trim, word_count}
 use Rattle.capnp_arena.specs.Written.{with_segment}
 use Rattle.capnp_objects.specs.Outcomes.{MeansThere}
 use Rattle.capnp_objects.specs.Reading.{Reading}
 use Rattle.capnp_copies.specs.Copied.{copied, with_children}
 
--- The canonical words of t stand behind the words of segment id, and their pointer at position at of it.
+-- The words of t stand behind the words of segment id, and their pointer at position at of it.
 abbrev pub IsCopied : Segments → Segments → ℕ → ℕ → Tree → Type 0
-IsCopied M M' id at t = M' ≡ with_segment M id (copied (segment M id) at (trim t))
+IsCopied M M' id at t = M' ≡ with_segment M id (copied (segment M id) at t)
 
 -- So do those of children, and their pointers from position at on.
 abbrev pub AreCopied : Segments → Segments → ℕ → ℕ → Trees → Type 0
-AreCopied M M' id at ts = M' ≡ with_segment M id (with_children (segment M id) at (trim_each ts))
+AreCopied M M' id at ts = M' ≡ with_segment M id (with_children (segment M id) at ts)
 
 -- A place means a value without capabilities within its levels, at a cost that the limiter covers, whose canonical words
 -- fit behind so many words of a segment with this room.

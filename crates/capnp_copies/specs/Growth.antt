@@ -3,8 +3,8 @@ use Rattle.std.specs.Prelude.{◌≡◌, ℕ, ◌+◌, ◌*◌, ◌≤◌, Bool,
 use Rattle.capnp_pointers.specs.Sizes.{size_number}
 use Rattle.capnp_pointers.specs.declared.wire_pointer.ElementSize.{ElementSize}
 use Rattle.capnp_pointers.specs.declared.wire_pointer.ElementSize.TheVariants.{Pointer, InlineComposite}
-use Rattle.capnp_format.specs.Numbers.{words_for}
 use Rattle.capnp_format.specs.Segments.{Segments}
+use Rattle.capnp_making.specs.Made.{list_words}
 use Rattle.capnp_objects.specs.Reading.{Reading}
 use Rattle.capnp_objects.specs.Spending.{Paid}
 use Rattle.capnp_pointers.specs.declared.wire_pointer.StructSize.{StructSize}
@@ -19,8 +19,9 @@ use Rattle.capnp_copies.specs.ListValues.{elements_read}
 abbrev pub message_words : Segments → ℕ
 message_words S = sum_by length S
 
--- A call takes at most n words, those besides that it is granted to read, and a landing pad for each pointer that it follows. It
--- follows at most i pointers more than it is granted words.
+-- A call takes at most n words and as many as it is granted to read, and a landing pad for each pointer that it follows. It
+-- follows at most i pointers more than it is granted words. Where nothing is charged, or there is no limit, what is granted can be
+-- any number.
 pub record TakesAtMost (charging : Bool) (n i : ℕ) (c : Change) : Type 0 where
   pub granted : ℕ
   pub followed : ℕ
@@ -31,8 +32,7 @@ pub record TakesAtMost (charging : Bool) (n i : ℕ) (c : Change) : Type 0 where
 -- The words of so many elements, a tag of structs with them, and their pointers.
 abbrev pub element_words : ElementSize → StructSize → ℕ → ℕ
 element_words InlineComposite sections n = 1 + n * (sections.data_words + sections.pointers)
-element_words Pointer sections n = n
-element_words size sections n = words_for (size_number size) n
+element_words size sections n = list_words (size_number size) n
 
 abbrev pub element_pointers : ElementSize → StructSize → ℕ → ℕ
 element_pointers InlineComposite sections n = n * sections.pointers

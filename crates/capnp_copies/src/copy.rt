@@ -37,9 +37,10 @@ pub use struct_value::copy_struct_value;
 
 /// Copies what a pointer means to the null pointer at a place, as it stands or in canonical form.
 ///
-/// In canonical form its words stand behind those of the pointer's segment, in the canonical order,
-/// where they all fit its room, or where the message has but one segment afterwards; then no other word
-/// changes but the pointer.
+/// Its words stand behind those of the pointer's segment, in the canonical order of objects, where they
+/// all fit its room, or where the message has but one segment afterwards; then no other word changes but
+/// the pointer. As it stands, these are all words of the sections and elements; in canonical form, the
+/// trimmed ones.
 ///
 /// A copy, refused or not, takes at most as many words as it is granted to read, and a landing pad for
 /// each pointer that it follows.
@@ -60,7 +61,7 @@ pub fn copy_value<A: BuilderArena, B: ReaderArena>(
     requires place { IsPlace (A.view arena.old).words id at }
     requires null { word_at (A.view arena.old).words id at ≡ 0 }
     ensures copied { IfOk result (λ _. IsCopyOf (reading B.ReaderArena from.entry) (change canonicalize id at (A.view arena.old) (A.view arena.new) lim.old lim.new)) }
-    ensures canonical { OnOk result (StandsAsRead (reading B.ReaderArena from.entry) (change canonicalize id at (A.view arena.old) (A.view arena.new) lim.old lim.new)) }
+    ensures stands { OnOk result (StandsAsRead (reading B.ReaderArena from.entry) (change canonicalize id at (A.view arena.old) (A.view arena.new) lim.old lim.new)) }
     ensures fits { canonicalize ≡ true → CanBeCopied (reading B.ReaderArena from.entry) lim.old (length (segment (A.view arena.old).words id)) ((A.view arena.old).room id) → IsOk result }
     ensures refused { IfErr result (RefusesValue (reading B.ReaderArena from.entry) (change canonicalize id at (A.view arena.old) (A.view arena.new) lim.old lim.new)) }
     ensures cleared { OnErr result (IsReplaced (A.view arena.old).words (A.view arena.new).words id at Null Null) }

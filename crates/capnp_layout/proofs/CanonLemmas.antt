@@ -52,7 +52,7 @@ null_root {B} fresh start = ap (λ (ws : List ℕ). get_or ws B.at 0) (only_null
 pub made_copy : {X : Type 0} (r : Reading) (left : Option ℕ) (s p : ℕ) (old made : View) (l m : Meter) (o : Result X ErrorKind) → l ≡ unused left → IfOk o (λ _. FillsMessage r (change true s p old made l m)) →
     IfOk o (λ _. (t : Tree) × IsWithin r left t × IsMadeWhereAlone made t)
 made_copy r left s p old made l m (Ok x) begun (t, reads, copy) =
-    (t, (reads.cost, reads.means, reads.takes tt, subst (λ (x : Meter). Affords r.charging x reads.cost) begun reads.covers), copy refl)
+    (t, (reads.cost, reads.means, reads.takes tt, subst (λ (x : Meter). Affords r.charging x reads.cost) begun reads.covers), copy)
 made_copy r left s p old made l m (Err k) begun copied = tt
 
 -- where it has more, not all words fit in the first
@@ -62,7 +62,7 @@ spread {r} {room} {t = t} old new s p fresh reads copy = elim (cases_lt room (1 
   | inl beyond ↦ inr (λ u c means. (let same = ap (λ v. word_count (trim v)) (one_value r.segments r.levels r.levels r.segment r.at t u reads.cost c reads.means means).0 in omega (arith, same, beyond)))
   | inr fits ↦
       let used : length (segment old.words s) ≡ 1 = ap length (only_null fresh) in
-      let same = copy (refl, inl (omega (arith, fits, used, fresh.holds))) in
+      let same = copy (inl (omega (arith, fits, used, fresh.holds))) in
       inl (ap length same ∙ length-set old.words s _ ∙ ap length fresh.null)
 ]
 

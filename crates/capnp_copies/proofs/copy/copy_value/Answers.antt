@@ -18,5 +18,5 @@ pub returns-in-Err-clause-fits : goal.returns-in-Err-clause-fits
 returns-in-Err-clause-fits g c = λ canonicalize can. absurd (stops_rightly c.in-Err.ensures.refused canonicalize can)
 
 -- A reading gives one value.
-pub returns-in-Ok-clause-canonical : goal.returns-in-Ok-clause-canonical
-returns-in-Ok-clause-canonical g c = λ t is_read. stands_as_read c.in-Ok.ensures.copied t is_read
+pub returns-in-Ok-clause-stands : goal.returns-in-Ok-clause-stands
+returns-in-Ok-clause-stands g c = λ t is_read. stands_as_read c.in-Ok.ensures.copied t is_read

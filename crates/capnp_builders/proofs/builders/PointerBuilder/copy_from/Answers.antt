@@ -27,7 +27,7 @@ returns-then-is_null-clause-stands g c =
     let p = c.args.self.now.at in
     let null : word_at old.words s p ≡ 0 = c.is_null.ensures.0 (search rules) in
     stands_once c.copy_value.result (reading g.B.ReaderArena c.args.from) (change c.args.canonicalize s p old (g.A.BuilderArena.view c.copy_value.new.arena) c.args.lim.now c.copy_value.new.lim) old
-    (nothing_zeroed old.words) refl (null_replaced old.words old.words s p Null c.requires.place null (unchanged old.words s p Null (null_stored old.words s p c.requires.place null))) c.copy_value.ensures.canonical
+    (nothing_zeroed old.words) refl (null_replaced old.words old.words s p Null c.requires.place null (unchanged old.words s p Null (null_stored old.words s p c.requires.place null))) c.copy_value.ensures.stands
 
 pub returns-then-is_null-clause-fresh : goal.returns-then-is_null-clause-fresh
 returns-then-is_null-clause-fresh g c = λ only.
@@ -36,7 +36,7 @@ returns-then-is_null-clause-fresh g c = λ only.
     let s = c.args.self.now.segment in
     let p = c.args.self.now.at in
     fresh_copied c.copy_value.result (reading g.B.ReaderArena c.args.from) (change c.args.canonicalize s p old new c.args.lim.now c.copy_value.new.lim)
-    (λ (t : Tree). IsReplaced old.words new.words s p Null (kept c.args.canonicalize t)) c.requires.place only c.copy_value.ensures.copied c.copy_value.ensures.canonical)
+    (λ (t : Tree). IsReplaced old.words new.words s p Null (kept c.args.canonicalize t)) c.requires.place only c.copy_value.ensures.copied c.copy_value.ensures.stands)
 
 pub returns-then-is_null-clause-alone : goal.returns-then-is_null-clause-alone
 returns-then-is_null-clause-alone g c = λ fresh.
@@ -45,7 +45,7 @@ returns-then-is_null-clause-alone g c = λ fresh.
     let s = c.args.self.now.segment in
     let p = c.args.self.now.at in
     alone_copied c.copy_value.result (reading g.B.ReaderArena c.args.from) (change c.args.canonicalize s p old new c.args.lim.now c.copy_value.new.lim)
-    (λ (t : Tree). IsReplaced old.words new.words s p Null (kept c.args.canonicalize t)) c.requires.place fresh c.copy_value.ensures.copied c.copy_value.ensures.canonical)
+    (λ (t : Tree). IsReplaced old.words new.words s p Null (kept c.args.canonicalize t)) c.requires.place fresh c.copy_value.ensures.copied c.copy_value.ensures.stands)
 
 pub returns-then-is_null-clause-cleared : goal.returns-then-is_null-clause-cleared
 returns-then-is_null-clause-cleared g c =
@@ -67,7 +67,7 @@ pub returns-clause-stands : goal.returns-clause-stands
 returns-clause-stands g c =
     stands_once c.copy_value-2.result (reading g.B.ReaderArena c.args.from)
     (change c.args.canonicalize c.args.self.now.segment c.args.self.now.at (g.A.BuilderArena.view c.args.self.now.arena.now) (g.A.BuilderArena.view c.copy_value-2.new.arena) c.args.lim.now c.copy_value-2.new.lim)
-    (g.A.BuilderArena.view c.clear.new.arena) c.clear.ensures.only c.clear.ensures.limits c.clear.ensures.cleared c.copy_value-2.ensures.canonical
+    (g.A.BuilderArena.view c.clear.new.arena) c.clear.ensures.only c.clear.ensures.limits c.clear.ensures.cleared c.copy_value-2.ensures.stands
 
 pub returns-clause-refused : goal.returns-clause-refused
 returns-clause-refused g c =

@@ -28,7 +28,7 @@ loop-i-preserved g c =
     let nl = to_z-of_z w32 c.args.from.nesting_limit (search rules) in
     let few : length (segment (g.A.BuilderArena.view c.loop-i.arena).words c.args.id) < 2 ^ 29 =
     omega (arith, g.met.A.BuilderArena.within c.loop-i.arena c.args.id, g.met.A.BuilderArena.small c.loop-i.arena c.args.id) in (
-      each_copied (omega (arith, c.requires.room, c.loop-i-test.true)) few c.loop-i.invariant.0 (rw nl at c.in-Ok.ensures.copied) c.in-Ok.ensures.granted,
+      each_copied (omega (arith, c.requires.room, c.loop-i-test.true)) few c.loop-i.invariant.0 (rw nl at c.in-Ok.ensures.copied) c.in-Ok.ensures.granted (rw nl at c.in-Ok.ensures.stands),
       takes_less (omega arith) (omega arith) (takes_both c.loop-i.invariant.1 c.in-Ok.ensures.taken),
     )
 

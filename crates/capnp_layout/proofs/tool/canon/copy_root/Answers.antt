@@ -22,5 +22,5 @@ returns-clause-alone g c =
     let fresh = fresh_root view c.get_root-root.result c.args.arena.now c.get_root-root.ensures.now c.get_root-root.ensures.place.0 c.requires.root in
     let root = c.get_root-root.result in
     let spread =
-    spread_copy r root.segment root.at (view root.arena.now) (view c.copy_from.new.self.arena.now) _ _ _ c.copy_from.result fresh (c.copy_from.ensures.fresh (only_null fresh)) (c.copy_from.ensures.canonical (null_root fresh c.get_root-root.ensures.place.1)) in
+    spread_copy r root.segment root.at (view root.arena.now) (view c.copy_from.new.self.arena.now) _ _ _ c.copy_from.result fresh (c.copy_from.ensures.fresh (only_null fresh)) (c.copy_from.ensures.near (null_root fresh c.get_root-root.ensures.place.1)) in
     subst (λ (a : g.row.A.Denot). OnOk c.copy_from.result ((length (view a).words ≡ 1) ⊎ IsTooLarge r 1 ((view c.args.arena.now).room 0))) (search rules) spread
