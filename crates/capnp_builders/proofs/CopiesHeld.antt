@@ -1,5 +1,5 @@
 -- What a place holds once a value was copied to it: one that was null, or was cleared first.
-use Rattle.std.proofs.Common.{◌≡◌, inl, inr, ℕ, zero, suc, List, length, refl, ◌∙◌, Result, Ok, Err, IfOk, OnOk, OnErr, [], ◌∷◌, ap, sym, subst, arith}
+use Rattle.std.proofs.Common.{◌≡◌, inl, inr, ℕ, ◌+◌, ◌<◌, Bool, zero, suc, List, length, refl, ◌∙◌, Result, Ok, Err, IfOk, OnOk, OnErr, [], ◌∷◌, ap, sym, subst, arith}
 use Rattle.capnp_words.specs.declared.error.ErrorKind.{ErrorKind}
 use Rattle.capnp_format.specs.Canonical.{encoding}
 use Rattle.capnp_format.specs.Segments.{Segments, segment, word_at, IsPlace}
@@ -7,14 +7,16 @@ use Rattle.capnp_format.specs.Tree.{Tree, Null}
 use Rattle.capnp_format.proofs.Levels.{one_value}
 use Rattle.capnp_arena.specs.View.{View, KeepsLimits}
 use Rattle.capnp_making.specs.Memory.{RefusesWords}
+use Rattle.capnp_making.specs.Near.{HasOwnRoom}
 use Rattle.capnp_making.specs.Stored.{IsReplaced, Puts}
 use Rattle.capnp_making.specs.Zeroed.{IsPruned}
 use Rattle.capnp_making.proofs.FillingMade.{null_stored}
 use Rattle.capnp_objects.specs.Outcomes.{Reads}
 use Rattle.capnp_objects.specs.Reading.{Reading}
-use Rattle.capnp_copies.specs.Changes.{Change, StandsAsRead, form_of, kept}
+use Rattle.capnp_copies.specs.Changes.{Change, StandsAsRead}
+use Rattle.capnp_copies.specs.Forms.{form_of, kept}
 use Rattle.capnp_copies.specs.Rooms.{IsTooLarge}
-use Rattle.capnp_builders.specs.Kept.{StandsOnceCleared, FillsSegment, FillsMessage}
+use Rattle.capnp_builders.specs.Kept.{OnceCleared, FillsSegment, FillsMessage}
 use Rattle.capnp_copies.proofs.Copying.{fresh_made}
 
 -- a null pointer stores nothing else
@@ -55,9 +57,9 @@ alone_copied (Ok x) r c Q place fresh copied stands =
 alone_copied (Err k) r c Q place fresh copied stands = tt
 
 -- the words of the copy stand behind what was cleared, or was null
-pub stands_once : {X E : Type 0} (o : Result X E) (r : Reading) (c : Change) (mid : View) → IsPruned c.old.words mid.words → KeepsLimits c.old mid → Puts c.old.words mid.words c.segment c.at Null → OnOk o (StandsAsRead r (record c { old = mid })) → OnOk o (StandsOnceCleared r c)
-stands_once (Ok x) r c mid zeroed limits null stands = record { cleared = mid; zeroed = zeroed; limits = limits; null = null; stands = stands }
-stands_once (Err k) r c mid zeroed limits null stands = tt
+pub stands_once : {X E : Type 0} (o : Result X E) (P : Change → Type 0) (c : Change) (mid : View) → IsPruned c.old.words mid.words → KeepsLimits c.old mid → Puts c.old.words mid.words c.segment c.at Null → OnOk o (P (record c { old = mid })) → OnOk o (OnceCleared P c)
+stands_once (Ok x) P c mid zeroed limits null stands = record { cleared = mid; zeroed = zeroed; limits = limits; null = null; stands = stands }
+stands_once (Err k) P c mid zeroed limits null stands = tt
 
 pub nothing_zeroed : (S : Segments) → IsPruned S S
 nothing_zeroed S = record { segments = refl; words = λ v. refl; only = λ v r. inl refl; fewer = omega arith }
@@ -72,6 +74,12 @@ either_way (Err k) P Q G copied cleared f h = h cleared
 pub words_refused_later : (a b c : View) (n : ℕ) (k : ErrorKind) → KeepsLimits a b → RefusesWords b c n k → RefusesWords a c n k
 words_refused_later a b c n k limits x = subst (λ (v : View). RefusesWords v c n k) limits x
 
-pub beyond_before : (r : Reading) (a b : View) (s : ℕ) → KeepsLimits a b → IsPruned a.words b.words → IsTooLarge r (length (segment b.words s)) (b.room s) → IsTooLarge r (length (segment a.words s)) (a.room s)
-beyond_before r a b s limits pruned large =
-    subst (IsTooLarge r (length (segment a.words s))) (ap (λ (v : View). v.room s) limits) (subst (λ n. IsTooLarge r n (b.room s)) (pruned.words s) large)
+pub exceeds_before : (n : ℕ) (a b : View) (s : ℕ) → KeepsLimits a b → IsPruned a.words b.words → b.room s < length (segment b.words s) + n → a.room s < length (segment a.words s) + n
+exceeds_before n a b s limits pruned beyond = omega (arith, beyond, ap (λ (v : View). v.room s) limits, pruned.words s)
+
+pub room_later : (n : ℕ) (a b : View) (s : ℕ) → KeepsLimits a b → IsPruned a.words b.words → HasOwnRoom a s n → HasOwnRoom b s n
+room_later n a b s limits pruned room = omega (arith, room, ap (λ (v : View). v.room s) limits, pruned.words s)
+
+pub beyond_before : (canonicalize : Bool) (r : Reading) (a b : View) (s : ℕ) → KeepsLimits a b → IsPruned a.words b.words → IsTooLarge canonicalize r (length (segment b.words s)) (b.room s) → IsTooLarge canonicalize r (length (segment a.words s)) (a.room s)
+beyond_before canonicalize r a b s limits pruned large =
+    λ t c means. exceeds_before _ a b s limits pruned (large t c means)

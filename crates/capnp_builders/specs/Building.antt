@@ -1,5 +1,5 @@
 -- A pointer of a message that is built.
-use Rattle.std.specs.Prelude.{◌≡◌, ℕ, Option, Result, Some, Ok, [], ◌∷◌, length}
+use Rattle.std.specs.Prelude.{◌≡◌, ℕ, Bool, Option, Result, Some, Ok, [], ◌∷◌, length}
 use Rattle.capnp_words.specs.Meter.{Meter}
 use Rattle.capnp_words.specs.declared.error.ErrorKind.{ErrorKind}
 use Rattle.capnp_format.specs.Segments.{Segments, segment, word_at, IsPlace}
@@ -72,6 +72,7 @@ HasOnlyNull b = segment b.segments b.segment ≡ 0 ∷ []
 abbrev pub IsFresh : Building → Type 0
 IsFresh b = b.segments ≡ (0 ∷ []) ∷ []
 
--- What is read has a value without capabilities, at a cost that m covers, whose canonical words fit.
-abbrev pub CanonicalFits : Reading → Meter → Building → Type 0
-CanonicalFits r m b = CanBeCopied r m (length (segment b.segments b.segment)) b.room
+-- What is read has a value, in canonical form one without capabilities, at a cost that m covers, and the words to be kept of it
+-- fit.
+abbrev pub CopyFits : Bool → Reading → Meter → Building → Type 0
+CopyFits canonicalize r m b = CanBeCopied canonicalize r m (length (segment b.segments b.segment)) b.room

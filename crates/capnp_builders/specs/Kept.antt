@@ -13,7 +13,8 @@ use Rattle.capnp_objects.specs.Reading.{Reading}
 use Rattle.capnp_readers.specs.Sizes.{pointers_read}
 use Rattle.capnp_readers.specs.declared.readers.list_reader.ListReader.{ListReader}
 use Rattle.capnp_readers.specs.declared.readers.struct_reader.StructReader.{StructReader}
-use Rattle.capnp_copies.specs.Changes.{Change, Fits, StandsAsRead, change, form_of, kept}
+use Rattle.capnp_copies.specs.Changes.{Change, Fits, change}
+use Rattle.capnp_copies.specs.Forms.{form_of, kept}
 use Rattle.capnp_copies.specs.ListValues.{ReadsList, elements_read}
 use Rattle.capnp_copies.specs.StructValues.{data_of}
 use Rattle.capnp_builders.specs.declared.builders.PointerBuilder.{PointerBuilder}
@@ -30,14 +31,13 @@ IsKept c t = Puts c.old.words c.new.words c.segment c.at (kept c.canonicalize t)
 abbrev pub PutsCopy : Reading → Change → Type 0
 PutsCopy r c = (t : Tree) × Reads (form_of c.canonicalize) r c.before c.after t × IsKept c t
 
--- What the place held becomes zero first, and its words stay allocated. Then the words of what is kept stand behind those of the
--- segment, where they stay in it.
-pub record StandsOnceCleared (r : Reading) (c : Change) : Type 0 where
+-- What the place held becomes zero first, and its words stay allocated. Then P says where the words of what is kept stand.
+pub record OnceCleared (P : Change → Type 0) (c : Change) : Type 0 where
   pub cleared : View
   pub zeroed : IsPruned c.old.words cleared.words
   pub limits : KeepsLimits c.old cleared
   pub null : Puts c.old.words cleared.words c.segment c.at Null
-  pub stands : StandsAsRead r (record c { old = cleared })
+  pub stands : P (record c { old = cleared })
 
 -- It is read, and a copy that stays in the segment is all of the segment.
 abbrev pub FillsSegment : Reading → Change → Type 0

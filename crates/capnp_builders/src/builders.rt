@@ -21,10 +21,11 @@ ghost use Rattle.capnp_builders.specs.Reads.{IsArenaOf};
 ghost use Rattle.capnp_objects.specs.Outcomes.{Reads};
 ghost use Rattle.capnp_objects.specs.Refusals.{BreaksOff, BreaksOffAmong, Refused};
 ghost use Rattle.capnp_objects.specs.Wanted.{canonical, plain};
-ghost use Rattle.capnp_copies.specs.Changes.{form_of, RefusesValue, StandsAsRead};
+ghost use Rattle.capnp_copies.specs.Changes.{RefusesValue, StandsAsRead};
+ghost use Rattle.capnp_copies.specs.Forms.{form_of};
 ghost use Rattle.capnp_copies.specs.Growth.{TakesAtMost, TakesForStruct, TakesForList};
-ghost use Rattle.capnp_copies.specs.ListValues.{RefusesList, BreaksOffList, IsTooLong, elements_read};
-ghost use Rattle.capnp_copies.specs.StructValues.{RefusesStruct};
+ghost use Rattle.capnp_copies.specs.ListValues.{ListStands, ListFits, RefusesList, BreaksOffList, IsTooLong, elements_read};
+ghost use Rattle.capnp_copies.specs.StructValues.{StructStands, StructFits, RefusesStruct};
 ghost use Rattle.capnp_readers.specs.Sizes.{pointers_read};
 ghost use Rattle.capnp_readers.specs.Readers.{reading};
 
@@ -70,8 +71,8 @@ pub struct PointerBuilder<'a, A> {
 impl<'a, A: BuilderArena> PointerBuilder<'a, A> {
     ghost use Rattle.std.specs.Borrow.{sem, follows, Array, u8 as byte};
     ghost use Rattle.capnp_arena.specs.View.{KeepsLimits};
-    ghost use Rattle.capnp_builders.specs.Building.{Becomes, IsFresh, Stores, WhereData, WhereText, listed_in, data_at, text_at, CanonicalFits, HasOnlyNull, IsNull, IsThere, built, built_at};
-    ghost use Rattle.capnp_builders.specs.Kept.{PutsCopy, PutsStruct, PutsList, StandsOnceCleared, FillsSegment, FillsMessage, copying};
+    ghost use Rattle.capnp_builders.specs.Building.{Becomes, IsFresh, Stores, WhereData, WhereText, listed_in, data_at, text_at, CopyFits, HasOnlyNull, IsNull, IsThere, built, built_at};
+    ghost use Rattle.capnp_builders.specs.Kept.{PutsCopy, PutsStruct, PutsList, OnceCleared, FillsSegment, FillsMessage, copying};
     ghost use Rattle.capnp_builders.specs.Lent.{with_arena};
     ghost use Rattle.capnp_builders.specs.contracts.builders.PointerBuilder.{the_row};
     ghost use mir.Syntax.{named};
@@ -609,7 +610,7 @@ impl<'a, A: BuilderArena> PointerBuilder<'a, A> {
     ///
     /// A refusal is the first one of reading the source; `CannotCreateACanonicalMessageWithACapability` in
     /// canonical form; or, where an object finds no room, `AllocationFailed`, or `MessageTooLarge` of its
-    /// words and one more. In canonical form that comes only where the words don't fit the segment.
+    /// words and one more. That comes only where the words don't fit the segment.
     ///
     /// After a refusal the pointer is null, the words that were taken are zero and stay allocated, and
     /// what was charged stays charged. Refused or not, at most as many words are taken as were charged,
@@ -623,10 +624,10 @@ impl<'a, A: BuilderArena> PointerBuilder<'a, A> {
         requires place { IsThere (built A.view self.old) }
         ensures copied { IfOk result (λ _. PutsCopy (reading B.ReaderArena from.entry) (copying A.view canonicalize self.old self.new lim.old lim.new)) }
         ensures near { IsNull (built A.view self.old) → OnOk result (StandsAsRead (reading B.ReaderArena from.entry) (copying A.view canonicalize self.old self.new lim.old lim.new)) }
-        ensures stands { OnOk result (StandsOnceCleared (reading B.ReaderArena from.entry) (copying A.view canonicalize self.old self.new lim.old lim.new)) }
+        ensures stands { OnOk result (OnceCleared (StandsAsRead (reading B.ReaderArena from.entry)) (copying A.view canonicalize self.old self.new lim.old lim.new)) }
         ensures fresh { HasOnlyNull (built A.view self.old) → IfOk result (λ _. FillsSegment (reading B.ReaderArena from.entry) (copying A.view canonicalize self.old self.new lim.old lim.new)) }
         ensures alone { IsFresh (built A.view self.old) → IfOk result (λ _. FillsMessage (reading B.ReaderArena from.entry) (copying A.view canonicalize self.old self.new lim.old lim.new)) }
-        ensures fits { IsTrue canonicalize → CanonicalFits (reading B.ReaderArena from.entry) lim.old (built A.view self.old) → IsOk result }
+        ensures fits { CopyFits canonicalize (reading B.ReaderArena from.entry) lim.old (built A.view self.old) → IsOk result }
         ensures refused { IfErr result (RefusesValue (reading B.ReaderArena from.entry) (copying A.view canonicalize self.old self.new lim.old lim.new)) }
         ensures taken { TakesAtMost (reading B.ReaderArena from.entry).charging 0 1 (copying A.view canonicalize self.old self.new lim.old lim.new) }
         ensures spent { OnErr result (BreaksOff (form_of canonicalize) (reading B.ReaderArena from.entry) lim.old lim.new) }
@@ -649,9 +650,13 @@ impl<'a, A: BuilderArena> PointerBuilder<'a, A> {
     /// to whole words, or in canonical form ("Structs", "Canonicalization"). The struct's own words cost
     /// nothing; what its pointers mean is charged as reading it costs, within the reader's nesting limit.
     ///
-    /// What the pointer held before becomes zero first. A refusal is the first one of reading what the
-    /// pointers mean, `AllocationFailed` or `MessageTooLarge` of an object's words and one more,
-    /// `CannotCreateACanonicalMessageWithACapability` in canonical form, or `MessageTooLarge` with the
+    /// What the pointer held before becomes zero first. The words of the struct stand behind those of the
+    /// pointer's segment, in the canonical order of objects, wherever they fit there, or where the message
+    /// has but one segment afterwards.
+    ///
+    /// A refusal is the first one of reading what the pointers mean; where the words don't fit there,
+    /// `AllocationFailed`, or `MessageTooLarge` of an object's words and one more;
+    /// `CannotCreateACanonicalMessageWithACapability` in canonical form; or `MessageTooLarge` with the
     /// number of the data words to be kept where it is above 65535.
     ///
     /// After a refusal the pointer is null, the words that were taken are zero and stay allocated, and
@@ -664,6 +669,8 @@ impl<'a, A: BuilderArena> PointerBuilder<'a, A> {
     ) -> Result<(), ErrorKind>
         requires place { IsThere (built A.view self.old) }
         ensures copied { IfOk result (λ _. PutsStruct B.ReaderArena value.now (copying A.view canonicalize self.old self.new lim.old lim.new)) }
+        ensures stands { OnOk result (OnceCleared (StructStands B.ReaderArena value.now) (copying A.view canonicalize self.old self.new lim.old lim.new)) }
+        ensures fits { StructFits B.ReaderArena value.now (copying A.view canonicalize self.old self.new lim.old lim.new) → IsOk result }
         ensures refused { IfErr result (RefusesStruct B.ReaderArena value.now (copying A.view canonicalize self.old self.new lim.old lim.new)) }
         ensures taken { TakesForStruct B.ReaderArena value.now (copying A.view canonicalize self.old self.new lim.old lim.new) }
         ensures spent { OnErr result ((lim.new ≡ lim.old) ⊎ BreaksOffAmong (form_of canonicalize) (pointers_read B.ReaderArena value.now) value.now.pointer_count lim.old lim.new) }
@@ -691,9 +698,13 @@ impl<'a, A: BuilderArena> PointerBuilder<'a, A> {
     /// words, with padding of zero. The list's own words and its count cost nothing; what its elements
     /// lead to is charged as reading it costs, within the reader's nesting limit.
     ///
-    /// What the pointer held before becomes zero first. A refusal is the first one of reading what the
-    /// elements lead to, `AllocationFailed` or `MessageTooLarge` of an object's words and one more,
-    /// `CannotCreateACanonicalMessageWithACapability` in canonical form, or `MessageTooLarge(usize::MAX)`
+    /// What the pointer held before becomes zero first. The words of the list stand behind those of the
+    /// pointer's segment, in the canonical order of objects, wherever they fit there, or where the message
+    /// has but one segment afterwards.
+    ///
+    /// A refusal is the first one of reading what the elements lead to; where the words don't fit there,
+    /// `AllocationFailed`, or `MessageTooLarge` of an object's words and one more;
+    /// `CannotCreateACanonicalMessageWithACapability` in canonical form; or `MessageTooLarge(usize::MAX)`
     /// for a list of more elements or words than a list pointer can say, which no message holds.
     ///
     /// After a refusal the pointer is null, the words that were taken are zero and stay allocated, and
@@ -706,6 +717,8 @@ impl<'a, A: BuilderArena> PointerBuilder<'a, A> {
     ) -> Result<(), ErrorKind>
         requires place { IsThere (built A.view self.old) }
         ensures copied { IfOk result (λ _. PutsList B.ReaderArena value.now (copying A.view canonicalize self.old self.new lim.old lim.new)) }
+        ensures stands { OnOk result (OnceCleared (ListStands (elements_read B.ReaderArena value.now)) (copying A.view canonicalize self.old self.new lim.old lim.new)) }
+        ensures fits { ListFits (elements_read B.ReaderArena value.now) (copying A.view canonicalize self.old self.new lim.old lim.new) → IsOk result }
         ensures refused { IfErr result (RefusesList B.ReaderArena value.now (copying A.view canonicalize self.old self.new lim.old lim.new)) }
         ensures taken { TakesForList B.ReaderArena value.now (copying A.view canonicalize self.old self.new lim.old lim.new) }
         ensures spent { OnErr result ((lim.new ≡ lim.old) ⊎ BreaksOffList (form_of canonicalize) (elements_read B.ReaderArena value.now) lim.old lim.new) }

@@ -11,7 +11,7 @@ use Rattle.capnp_objects.specs.Reading.{Reading, behind}
 use Rattle.capnp_copies.specs.Copied.{copied, with_children}
 use Rattle.capnp_copies.specs.Copies.{AreCopied}
 use Rattle.capnp_copies.proofs.CopiesNear.{Call, call_of, CopiesValue, CopiesChildren}
-use Rattle.capnp_copies.specs.Changes.{kept, kept_each}
+use Rattle.capnp_copies.specs.Forms.{kept, kept_each}
 use Rattle.capnp_copies.proofs.ChildrenCopied.{length_children, child_added}
 use Rattle.capnp_copies.proofs.KeptChildren.{kept_each-count, kept_each-with_last, kept_each-shaped}
 use Rattle.capnp_copies.proofs.Copying.{there}

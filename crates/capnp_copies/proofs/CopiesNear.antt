@@ -8,7 +8,7 @@ use Rattle.capnp_arena.specs.Written.{with_segment, overwritten, extended}
 use Rattle.capnp_objects.specs.Outcomes.{Reads, ReadsAll, ReadsElements}
 use Rattle.capnp_objects.specs.Reading.{Reading, behind, words_from}
 use Rattle.capnp_format.specs.Canonical.{cut_to}
-use Rattle.capnp_copies.specs.Changes.{form_of, kept, kept_each, kept_elements}
+use Rattle.capnp_copies.specs.Forms.{form_of, kept, kept_each, kept_elements}
 use Rattle.capnp_copies.specs.Copied.{with_children, rows_laid}
 use Rattle.capnp_copies.specs.Copies.{IsCopied, AreCopied}
 use Rattle.capnp_copies.specs.declared.widths.ElementSizes.{ElementSizes}

@@ -10,7 +10,7 @@ use Rattle.capnp_arena.specs.Written.{with_segment, with_words, overwritten}
 use Rattle.capnp_objects.specs.Outcomes.{ReadsElements}
 use Rattle.capnp_objects.specs.Reading.{Reading, behind, row, words_from}
 use Rattle.capnp_objects.proofs.Copies.{with_last_element}
-use Rattle.capnp_copies.specs.Changes.{form_of, kept_each, kept_elements}
+use Rattle.capnp_copies.specs.Forms.{form_of, kept_each, kept_elements}
 use Rattle.capnp_copies.specs.Copied.{with_children, rows_laid}
 use Rattle.capnp_copies.proofs.CopiesNear.{Call, call_of, CopiesChildren, CopiesElement}
 use Rattle.capnp_copies.specs.declared.widths.ElementSizes.{ElementSizes}

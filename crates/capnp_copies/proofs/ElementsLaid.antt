@@ -1,5 +1,5 @@
 -- Rows of elements in a segment, and the next element of a list that is meant.
-use Rattle.std.proofs.Common.{◌≡◌, ℕ, zero, suc, ◌+◌, ◌-◌, ◌*◌, ◌<◌, ◌≤◌, List, [], ◌∷◌, ◌++◌, length, get_or, take, drop, replicate, refl, sym, ap, ap₂, ◌∙◌, subst, arith, append-nil, length-append, length-drop, get_or-drop}
+use Rattle.std.proofs.Common.{◌≡◌, Bool, ℕ, zero, suc, ◌+◌, ◌-◌, ◌*◌, ◌<◌, ◌≤◌, List, [], ◌∷◌, ◌++◌, length, get_or, take, drop, replicate, refl, sym, ap, ap₂, ◌∙◌, subst, arith, append-nil, length-append, length-drop, get_or-drop}
 use Rattle.std.proofs.lemmas.List.{length-replicate, take-append-drop, get_or_append_left, get_or-append_right}
 use Rattle.std.proofs.lemmas.List.{take-take}
 use Rattle.capnp_format.specs.Segments.{Segments, segment, words_at}
@@ -8,15 +8,13 @@ use Rattle.capnp_pointers.specs.declared.wire_pointer.StructSize.{StructSize}
 use Rattle.capnp_objects.specs.Outcomes.{MeanThere, ElementsMean}
 use Rattle.capnp_objects.specs.Reading.{Reading, behind, pointers_of}
 use Rattle.capnp_copies.specs.declared.widths.ElementSizes.{ElementSizes}
-use Rattle.capnp_format.specs.Canonical.{take_trees, cut_to, trim_each, trim_elements, word_count_all, word_count_elements, rows, element_bodies}
+use Rattle.capnp_format.specs.Canonical.{take_trees, cut_to, trim_elements, word_count_all, word_count_elements, rows, element_bodies}
 use Rattle.capnp_format.proofs.Levels.{one_value}
 use Rattle.capnp_format.proofs.Trimming.{cut_to-count, trim_elements-count}
 use Rattle.capnp_copies.specs.Copied.{rows_laid}
+use Rattle.capnp_copies.specs.Forms.{kept_each}
+use Rattle.capnp_copies.proofs.KeptChildren.{cut_kept, kept_no_elements, words_of_first}
 use Rattle.capnp_copies.proofs.Shapes.{AreShapedElements, length-rows, length-element_bodies}
-
--- the elements of a list in the sections of its copy
-abbrev pub cut : ElementSizes → Elements → Elements
-cut sizes es = cut_to sizes.kept.data_words sizes.kept.pointers (trim_elements es)
 
 pub cut_count : (e r : ℕ) (es : Elements) → element_count (cut_to e r (trim_elements es)) ≡ element_count es
 cut_count e r es = cut_to-count e r (trim_elements es) ∙ trim_elements-count es
@@ -84,7 +82,7 @@ row_null x n i l m =
 
 -- refusals
 
-one_row : (r : Reading) (ts us : Trees) → (k : ℕ) × MeanThere r ts k → (c : ℕ) × MeanThere r us c → count ts ≡ count us → ts ≡ us
+pub one_row : (r : Reading) (ts us : Trees) → (k : ℕ) × MeanThere r ts k → (c : ℕ) × MeanThere r us c → count ts ≡ count us → ts ≡ us
 one_row r no_trees no_trees h g len = refl
 one_row r no_trees (tree u us) h g len = absurd (omega arith)
 one_row r (tree t ts) no_trees h g len = absurd (omega arith)
@@ -96,24 +94,24 @@ abbrev pub BothMeant : Reading → StructSize → Elements → Elements → Type
 BothMeant r size es us = ((k : ℕ) × ElementsMean r size es k) × ((c : ℕ) × ElementsMean r size us c)
 
 -- the element behind the first ones, in any longer meaning of the same place
-pub next_element_words : (r : Reading) (sizes : ElementSizes) (es us : Elements) → BothMeant r sizes.source es us → element_count es < element_count us →
+pub next_element_words : (b : Bool) (r : Reading) (sizes : ElementSizes) (es us : Elements) → BothMeant r sizes.source es us → element_count es < element_count us →
     (ts : Trees) × (x : ℕ) × (count ts ≡ sizes.source.pointers) × MeanThere (pointers_of r sizes.source (element_count es)) ts x
-    × (word_count_elements (cut sizes es) + word_count_all (take_trees sizes.kept.pointers (trim_each ts)) ≤ word_count_elements (cut sizes us))
-next_element_words r sizes es no_elements h lt = absurd (omega arith)
-next_element_words r sizes no_elements (element ws ts us) (h, (c, (a, b, long, len, has, one, rest, g))) lt =
+    × (word_count_elements (cut_kept b sizes es) + word_count_all (take_trees sizes.kept.pointers (kept_each b ts)) ≤ word_count_elements (cut_kept b sizes us))
+next_element_words b r sizes es no_elements h lt = absurd (omega arith)
+next_element_words b r sizes no_elements (element ws ts us) (h, (c, (a, e, long, len, has, one, rest, g))) lt =
     let d : ℕ = sizes.source.data_words in
     let q : ℕ = sizes.source.pointers in
-    (ts, a, len, subst (λ i. MeanThere (record r { at = i }) ts a) (let f : r.at + d ≡ r.at + 0 * (d + q) + d = omega arith in f) one, omega arith)
-next_element_words r sizes (element vs ts es) (element ws us os) ((k, (x, y, long', len', has', first, others, f)), (c, (a, b, long, len, has, one, rest, g))) lt =
+    (ts, a, len, subst (λ i. MeanThere (record r { at = i }) ts a) (let f : r.at + d ≡ r.at + 0 * (d + q) + d = omega arith in f) one, omega (arith, ap (λ xs. word_count_elements (cut_to sizes.kept.data_words sizes.kept.pointers xs)) (kept_no_elements b), words_of_first b sizes ws ts us))
+next_element_words b r sizes (element vs ts es) (element ws us os) ((k, (x, y, long', len', has', first, others, f)), (c, (a, e, long, len, has, one, rest, g))) lt =
     let d : ℕ = sizes.source.data_words in
     let q : ℕ = sizes.source.pointers in
-    let same = ap (λ v. word_count_all (take_trees sizes.kept.pointers (trim_each v))) (one_row (behind r d) ts us (x, first) (a, one) (len' ∙ sym len)) in
-    let z = next_element_words (record r { at = r.at + d + q }) sizes es os ((y, others), (b, rest)) (omega arith) in (
+    let same = ap (λ v. word_count_all (take_trees sizes.kept.pointers (kept_each b v))) (one_row (behind r d) ts us (x, first) (a, one) (len' ∙ sym len)) in
+    let z = next_element_words b (record r { at = r.at + d + q }) sizes es os ((y, others), (e, rest)) (omega arith) in (
       z.0,
       z.1,
       z.2,
       subst (λ i. MeanThere (record r { at = i + d }) z.0 z.1) (let h : r.at + d + q + element_count es * (d + q) ≡ r.at + suc (element_count es) * (d + q) = omega arith in h) z.3,
-      omega (arith, same, z.4),
+      omega (arith, same, z.4, words_of_first b sizes vs ts es, words_of_first b sizes ws us os),
     )
 
 -- elements of no width

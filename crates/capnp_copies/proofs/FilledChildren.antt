@@ -16,7 +16,8 @@ use Rattle.capnp_objects.specs.Refusals.{Refused, StopsWithin, BreaksOff}
 use Rattle.capnp_objects.specs.Reading.{Reading, behind}
 use Rattle.capnp_objects.proofs.Copies.{read_none, read_more}
 use Rattle.capnp_copies.specs.Copied.{with_children}
-use Rattle.capnp_copies.specs.Changes.{WantsWords, form_of, kept, kept_each, change, CopiesValue, StopsAtValue, CopiesChildren, StopsAtChildren}
+use Rattle.capnp_copies.specs.Changes.{WantsWords, change, CopiesValue, StopsAtValue, CopiesChildren, StopsAtChildren}
+use Rattle.capnp_copies.specs.Forms.{form_of, kept, kept_each}
 use Rattle.capnp_copies.proofs.ChildrenCopied.{no_children}
 use Rattle.capnp_copies.proofs.SegmentsWritten.{not_written}
 use Rattle.capnp_copies.proofs.TightChildren.{child_tight}
@@ -74,7 +75,7 @@ child_stops {r} {b} {s} {p} {i} {n} {old} {mid} {new} {m} {m'} {m''} {k} place l
           x.0,
           words_refused_after old mid new x.0 k first.memory x.1,
           record { first = ts; fewer = fewer; mid = m'; are_read = first.are_read; stops = (let h : StopsWithin (form_of b) (WantsWords b x.0) (behind r (count ts)) m' m'' = rw first.counts x.2 in h) },
-          λ e. child_too_large b place less first e (x.3 e),
+          child_too_large b place less first x.3,
         )
         | inr x ↦ inr (record { first = ts; fewer = fewer; mid = m'; are_read = first.are_read; stops = (let h : Refused (form_of b) (behind r (count ts)) m' m'' k = rw first.counts x in h) })
       ];

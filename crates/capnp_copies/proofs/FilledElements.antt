@@ -16,7 +16,8 @@ use Rattle.capnp_objects.specs.Outcomes.{ReadsAll}
 use Rattle.capnp_objects.specs.Refusals.{RefusedAll, StopsAmong, BreaksOffAmong}
 use Rattle.capnp_objects.specs.Reading.{Reading, behind, row, words_from, pointers_of}
 use Rattle.capnp_objects.proofs.Copies.{read_no_element, with_last_element}
-use Rattle.capnp_copies.specs.Changes.{WantsWords, form_of, kept_each, kept_elements, change, CopiesChildren, StopsAtChildren, CopiesElement, StopsAtElement, CopiesRows, CopiesElements, StopsAtElements}
+use Rattle.capnp_copies.specs.Changes.{WantsWords, change, CopiesChildren, StopsAtChildren, CopiesElement, StopsAtElement, CopiesRows, CopiesElements, StopsAtElements}
+use Rattle.capnp_copies.specs.Forms.{form_of, kept_each, kept_elements}
 use Rattle.capnp_copies.specs.Rooms.{AreTooLarge}
 use Rattle.capnp_copies.specs.declared.widths.ElementSizes.{ElementSizes}
 use Rattle.capnp_copies.proofs.TightElements.{element_tight, no_row_tight, no_width_tight, row_tight}
@@ -57,18 +58,18 @@ element_copied {r} {sizes} {b} {s} {p} {old} {mid} {new} put children = record {
   stands = element_tight {r = r} {sizes = sizes} b (record { long = data_long put; room = put.room; writes = put.writes }) children;
 }
 
-element_too_large : (from : Reading) (n : ℕ) {r : Reading} {sizes : ElementSizes} {s p : ℕ} {old mid : View} → DataWritten r sizes old mid s p → AreTooLarge from n (length (segment mid.words s)) (mid.room s) → AreTooLarge from n (length (segment old.words s)) (old.room s)
-element_too_large from n {r} {sizes} {s} {p} {old} {mid} put large =
+element_too_large : (b : Bool) (from : Reading) (n : ℕ) {r : Reading} {sizes : ElementSizes} {s p : ℕ} {old mid : View} → DataWritten r sizes old mid s p → AreTooLarge b from n (length (segment mid.words s)) (mid.room s) → AreTooLarge b from n (length (segment old.words s)) (old.room s)
+element_too_large b from n {r} {sizes} {s} {p} {old} {mid} put large =
     let long : length (segment mid.words s) ≡ length (segment old.words s) =
     ap (λ (v : View). length (segment v.words s)) put.writes ∙ length-with_words old.words s p (words_from r sizes.kept.data_words) (omega (arith, data_long put, put.room)) in
     let room : mid.room s ≡ old.room s = ap (λ (v : View). v.room s) put.writes in
-    subst (AreTooLarge from n (length (segment old.words s))) room (subst (λ k. AreTooLarge from n k (mid.room s)) long large)
+    subst (AreTooLarge b from n (length (segment old.words s))) room (subst (λ k. AreTooLarge b from n k (mid.room s)) long large)
 
 pub element_stops : {r : Reading} {sizes : ElementSizes} {b : Bool} {s p : ℕ} {old mid new : View} {m m' : Meter} {k : ErrorKind} → DataWritten r sizes old mid s p →
     StopsAtChildren (behind r sizes.source.data_words) sizes.kept.pointers (change b s (p + sizes.kept.data_words) mid new m m') k → StopsAtElement r sizes (change b s p old new m m') k
 element_stops {r} {sizes} {b} {s} {p} {old} {mid} {new} {k = k} put stop = record {
   why = elim stop.why [
-    | inl x ↦ inl (x.0, words_refused_after old mid new x.0 k (keeps_written old mid _ put.writes) x.1, x.2, λ e. element_too_large (behind r sizes.source.data_words) sizes.kept.pointers put (x.3 e))
+    | inl x ↦ inl (x.0, words_refused_after old mid new x.0 k (keeps_written old mid _ put.writes) x.1, x.2, element_too_large b (behind r sizes.source.data_words) sizes.kept.pointers put x.3)
     | inr x ↦ inr x
   ];
   off = stop.off;
@@ -209,7 +210,7 @@ module _ {r : Reading} {sizes : ElementSizes} {n i : ℕ} {b : Bool} {s p : ℕ}
               are_read = here.rows.are_read;
               stops = stops_sooner here.fits.less_pointers (let h : StopsAmong (form_of b) (WantsWords b x.0) (pointers_of r sizes.source (element_count es)) q m' m'' = rw here.rows.counts x.2 in h);
             },
-            λ e last. row_too_large {new = new} {m'' = m''} b here.fits here.wide here.more here.rows e (x.3 e) last,
+            λ last. row_too_large {new = new} {m'' = m''} b here.fits here.wide here.more here.rows x.3 last,
           )
           | inr x ↦ inr (record {
             first = es;

@@ -21,7 +21,8 @@ use Rattle.capnp_making.proofs.FillingMade.{IsBegun, null_stored, struct_ready, 
 use Rattle.capnp_making.proofs.Memory.{keeps_both, keeps_written, keeps_then_spends, words_refused_after, made_refused}
 use Rattle.capnp_making.proofs.WordsPut.{words_put}
 use Rattle.capnp_objects.specs.Reading.{Reading, behind, row, words_from}
-use Rattle.capnp_copies.specs.Changes.{kept, kept_each, kept_elements, KeepsSections, KeepsWidths, KeepsPointers, change, Leaves, CopiesChildren, StopsAtChildren, CopiesPointers, StopsAtPointers, CopiesStruct, StopsAtStruct, CopiesElements, StopsAtElements, CopiesStructs, StopsAtStructs}
+use Rattle.capnp_copies.specs.Changes.{KeepsSections, KeepsWidths, KeepsPointers, change, Leaves, CopiesChildren, StopsAtChildren, CopiesPointers, StopsAtPointers, CopiesStruct, StopsAtStruct, CopiesElements, StopsAtElements, CopiesStructs, StopsAtStructs}
+use Rattle.capnp_copies.specs.Forms.{kept, kept_each, kept_elements}
 use Rattle.capnp_copies.specs.declared.widths.ElementSizes.{ElementSizes}
 use Rattle.capnp_copies.proofs.FilledChildren.{children_grow}
 use Rattle.capnp_copies.proofs.FilledElements.{}
@@ -88,10 +89,9 @@ module _ {b : Bool} {r : Reading} {size least : StructSize} {s p : ℕ} {old mad
   segments : length old.words ≤ length mid.words
   segments = le_trans o.begun.made.segments longer
 
-  is_made : StructMade r size least s p old made mid h
+  is_made : StructMade ws least s p old made mid h
   is_made = record {
-    inside = o.inside;
-    less_data = o.less_data;
+    long = long;
     place = o.place;
     memory = o.memory;
     writes = o.writes;
@@ -124,7 +124,7 @@ module _ {b : Bool} {r : Reading} {size least : StructSize} {s p : ℕ} {old mad
   struct_stops {new} {m} {m'} {k} stop =
       record {
         why = elim stop.why [
-          | inl x ↦ inl (x.0, words_refused_after old mid new x.0 k keeps x.1, inr (stops_sooner o.less_pointers x.2), λ e. struct_too_large r size least b (record { place = o.place; memory = o.memory; taken = o.taken; behind = o.behind }) o.inside o.sections e same_long same_room o.within (x.3 e))
+          | inl x ↦ inl (x.0, words_refused_after old mid new x.0 k keeps x.1, inr (stops_sooner o.less_pointers x.2), struct_too_large r size least b (record { place = o.place; memory = o.memory; taken = o.taken; behind = o.behind }) o.inside o.sections same_long same_room o.within x.3)
           | inr x ↦ inr (stops_sooner o.less_pointers x)
         ];
         off = inr (stops_sooner o.less_pointers stop.off);
@@ -158,7 +158,7 @@ pub pointers_stop : {b : Bool} {r : Reading} {i s p : ℕ} {old mid new : View} 
     StopsAtPointers r i (change b s p old new m m') k
 pointers_stop {b} {r} {i} {s} {p} {old} {mid} {new} {h} {k = k} o made at_end stop = record {
   why = elim stop.why [
-    | inl x ↦ inl (x.0, words_refused_after old mid new x.0 k o.memory x.1, inr x.2, λ e. pointers_too_large r made at_end (x.3 e))
+    | inl x ↦ inl (x.0, words_refused_after old mid new x.0 k o.memory x.1, inr x.2, pointers_too_large b r made at_end x.3)
     | inr x ↦ inr x
   ];
   off = inr stop.off;
@@ -192,7 +192,7 @@ pub structs_stop : {b : Bool} {r : Reading} {sizes : ElementSizes} {i s p : ℕ}
     StopsAtElements r sizes i (change b h.segment (h.at + 1) mid new m m') k → StopsAtStructs r sizes.source i (change b s p old new m m') k
 structs_stop {b} {r} {sizes} {i} {s} {p} {old} {mid} {new} {h} {m} {m'} {k} inside widths o near stop = record {
   why = elim stop.why [
-    | inl x ↦ inl (x.0, words_refused_after old mid new x.0 k o.memory x.1, inr x.2, λ e. structs_too_large r sizes (record { place = near.place; memory = near.memory; taken = near.taken; behind = near.behind }) inside b widths e (λ room. x.3 e (ends_in_zeros {new = new} {m = m} {m' = m'} b near room)))
+    | inl x ↦ inl (x.0, words_refused_after old mid new x.0 k o.memory x.1, inr x.2, structs_too_large r sizes (record { place = near.place; memory = near.memory; taken = near.taken; behind = near.behind }) inside b widths (λ room. x.3 (ends_in_zeros {new = new} {m = m} {m' = m'} b near room)))
     | inr x ↦ inr x
   ];
   off = inr stop.off;

@@ -1,16 +1,18 @@
 -- The copy of a struct that is read, from where it is made: its words, its children, and where it stops.
-use Rattle.std.proofs.Common.{◌≡◌, inl, inr, ℕ, ◌+◌, ◌<◌, ◌≤◌, Bool, true, false, List, length, take, sym, ap, ◌∙◌, subst, le_trans, arith, length-take, take_all}
+use Rattle.std.proofs.Common.{◌≡◌, inl, inr, ℕ, ◌+◌, ◌-◌, ◌<◌, ◌≤◌, ◌^◌, Bool, true, false, List, length, take, sym, ap, ◌∙◌, subst, le_trans, arith, length-take, take_all}
 use Rattle.capnp_words.specs.declared.error.ErrorKind.{ErrorKind}
 use Rattle.capnp_words.specs.Meter.{Meter}
 use Rattle.capnp_pointers.specs.declared.wire_pointer.StructSize.{StructSize}
-use Rattle.capnp_format.specs.Segments.{segment, word_at}
+use Rattle.capnp_format.specs.Segments.{segment, word_at, IsPlace}
 use Rattle.capnp_format.specs.Tree.{Null, Struct, Trees, count}
 use Rattle.capnp_format.specs.Canonical.{used_words, take_trees, trim_each}
+use Rattle.capnp_format.specs.Word.{struct_word}
 use Rattle.capnp_format.proofs.Slices.{length_words}
 use Rattle.capnp_arena.specs.View.{View}
-use Rattle.capnp_arena.specs.Written.{with_words}
+use Rattle.capnp_arena.specs.Written.{with_word, with_words}
 use Rattle.capnp_making.specs.Made.{zero_struct, zeros, nulls}
-use Rattle.capnp_making.specs.Memory.{KeepsMemory}
+use Rattle.capnp_making.specs.Memory.{KeepsMemory, StandsBehind, TakesWords}
+use Rattle.capnp_making.specs.Near.{HasStructRoom, with_struct}
 use Rattle.capnp_making.specs.Stored.{IsReplaced}
 use Rattle.capnp_making.specs.declared.making.Start.{Start}
 use Rattle.capnp_making.proofs.FillingMade.{IsBegun, struct_ready, struct_done, struct_whole}
@@ -18,11 +20,17 @@ use Rattle.capnp_making.proofs.Memory.{keeps_both, keeps_written, keeps_then_spe
 use Rattle.capnp_making.proofs.WordsPut.{words_put}
 use Rattle.capnp_objects.specs.Outcomes.{ReadsAll}
 use Rattle.capnp_objects.specs.Reading.{Reading, row, words_from}
-use Rattle.capnp_copies.specs.Changes.{form_of, kept, kept_each, change, CopiesChildren, StopsAtChildren}
-use Rattle.capnp_copies.specs.StructValues.{kept_count, CopiesSections, StopsAtSections}
+use Rattle.capnp_copies.specs.Changes.{change, CopiesChildren, StopsAtChildren}
+use Rattle.capnp_copies.specs.Forms.{form_of, kept, kept_each}
+use Rattle.capnp_copies.specs.StructValues.{kept_count, CopiesSections, StopsAtSections, SectionsExceed}
+use Rattle.capnp_copies.specs.Rooms.{AreTooLarge}
 use Rattle.capnp_copies.proofs.DataSections.{kept_count-le}
+use Rattle.capnp_copies.proofs.FilledChildren.{children_grow}
 use Rattle.capnp_copies.proofs.KeptChildren.{kept_each-count}
-use Rattle.capnp_copies.proofs.KeptForms.{stops_sooner}
+use Rattle.capnp_copies.proofs.KeptForms.{stops_sooner, SectionsCut, sections_meant}
+use Rattle.capnp_copies.proofs.SegmentsWritten.{length-with_words}
+use Rattle.capnp_copies.proofs.TooLarge.{ObjectMade, sections_too_large}
+use Rattle.capnp_copies.proofs.TightObjects.{StructMade, struct_tight}
 use Rattle.capnp_copies.proofs.UsedChildren.{used_children, trim-struct, fill_nulls, null_behind}
 
 -- The kept children of a struct were read, and so were all of them; and a struct of them is kept so.
@@ -49,22 +57,26 @@ sections_kept false ws r q m m' ts inside len all =
 
 -- A struct is made and starts at h, and the data words that are kept are written.
 pub record SectionsBegun (b : Bool) (ws : List ℕ) (r : Reading) (q : ℕ) (least : StructSize) (s p : ℕ) (old made mid : View) (h : Start) : Type 0 where
-  pub inside : r.at + q ≤ length (row r)
-  pub of_data : least.data_words ≡ kept_count b ws
-  pub of_pointers : least.pointers ≡ kept_count b (words_from r q)
+  pub cut : SectionsCut b ws r q least
   pub begun : IsBegun old.words made.words s p (least.data_words + least.pointers) h (zero_struct least)
   pub memory : KeepsMemory old made
   pub writes : mid ≡ record made { words = with_words made.words h.segment h.at (take least.data_words ws) }
+  pub place : IsPlace old.words s p
+  pub within : length (segment mid.words h.segment) ≤ mid.room h.segment
+  pub taken : TakesWords old made s (least.data_words + least.pointers)
+  pub behind : StandsBehind old s (least.data_words + least.pointers) h
+  pub near : HasStructRoom old s least → made.words ≡ with_struct old.words s p least
+  pub empty : least.data_words + least.pointers ≡ 0 → made.words ≡ with_word old.words s p (struct_word (2 ^ 30 - 1) 0 0)
 
 module _ {b : Bool} {ws : List ℕ} {r : Reading} {q : ℕ} {least : StructSize} {s p : ℕ} {old made mid : View} {h : Start} (o : SectionsBegun b ws r q least s p old made mid h) where
   abbrev section : List ℕ
   section = take least.data_words ws
 
   long : length section ≡ least.data_words
-  long = omega (arith, length-take least.data_words ws, o.of_data, kept_count-le b ws)
+  long = omega (arith, length-take least.data_words ws, o.cut.of_data, kept_count-le b ws)
 
   fewer : least.pointers ≤ q
-  fewer = omega (arith, o.of_pointers, kept_count-le b (words_from r q), length_words r.segments r.segment r.at q o.inside)
+  fewer = omega (arith, o.cut.of_pointers, kept_count-le b (words_from r q), length_words r.segments r.segment r.at q o.cut.inside)
 
   is_begun : IsBegun old.words made.words s p (length section + least.pointers) h (Struct (zeros (length section)) (nulls least.pointers))
   is_begun = subst (λ d. IsBegun old.words made.words s p (d + least.pointers) h (Struct (zeros d) (nulls least.pointers))) (sym long) o.begun
@@ -75,11 +87,30 @@ module _ {b : Bool} {ws : List ℕ} {r : Reading} {q : ℕ} {least : StructSize}
   longer : length made.words ≤ length mid.words
   longer = omega (arith, (words_put made.words mid.words h.segment h.at section (omega (arith, o.begun.inside.1, long)) writes).long.segments)
 
+  same_long : length (segment mid.words h.segment) ≡ length (segment made.words h.segment)
+  same_long = ap (λ T. length (segment T h.segment)) writes ∙ length-with_words made.words h.segment h.at section (omega (arith, o.begun.inside.1, long))
+
+  same_room : mid.room h.segment ≡ made.room h.segment
+  same_room = ap (λ (v : View). v.room h.segment) o.writes
+
   keeps : KeepsMemory old mid
   keeps = keeps_both old made mid o.begun.made.segments o.memory (keeps_written made mid _ o.writes)
 
   segments : length old.words ≤ length mid.words
   segments = le_trans o.begun.made.segments longer
+
+  is_made : StructMade section least s p old made mid h
+  is_made = record {
+    long = long;
+    place = o.place;
+    memory = o.memory;
+    writes = o.writes;
+    within = o.within;
+    taken = o.taken;
+    behind = o.behind;
+    near = o.near;
+    empty = o.empty;
+  }
 
   pub sections_fit : h.at + least.data_words + least.pointers ≤ length (segment mid.words h.segment)
   sections_fit = omega (arith, (struct_ready old.words made.words mid.words s p least.pointers h section is_begun writes).0, long)
@@ -88,25 +119,33 @@ module _ {b : Bool} {ws : List ℕ} {r : Reading} {q : ℕ} {least : StructSize}
   sections_null i l = subst (λ d. word_at mid.words h.segment (h.at + d + i) ≡ 0) long ((struct_ready old.words made.words mid.words s p least.pointers h section is_begun writes).1 i l)
 
   pub sections_inside : r.at + least.pointers ≤ length (row r)
-  sections_inside = omega (arith, fewer, o.inside)
+  sections_inside = omega (arith, fewer, o.cut.inside)
 
   pub sections_copied : {new : View} {m m' : Meter} → CopiesChildren r least.pointers (change b h.segment (h.at + least.data_words) mid new m m') → CopiesSections ws r q (change b s p old new m m')
   sections_copied {new} {m} {m'} children =
-      let f = sections_kept b ws r q m m' children.children o.inside (children.counts ∙ o.of_pointers) children.are_read in
+      let f = sections_kept b ws r q m m' children.children o.cut.inside (children.counts ∙ o.cut.of_pointers) children.are_read in
       let whole = struct_whole old.words made.words mid.words new.words s p least.pointers h section (kept_each b children.children) is_begun writes (rw (sym long) at children.made) (kept_each-count b children.children ∙ children.counts) in
-      let form : kept b (Struct ws f.all) ≡ Struct section (kept_each b children.children) = f.form ∙ ap (λ n. Struct (take n ws) (kept_each b children.children)) (sym o.of_data) in
+      let form : kept b (Struct ws f.all) ≡ Struct section (kept_each b children.children) = f.form ∙ ap (λ n. Struct (take n ws) (kept_each b children.children)) (sym o.cut.of_data) in
       record {
         children = f.all;
         counts = f.counts;
         are_read = f.are_read;
         made = (subst (IsReplaced old.words new.words s p Null) (sym form) whole, keeps_both old mid new segments keeps children.memory);
+        stands = struct_tight is_made b (le_trans longer (children_grow children).segments) children (Struct ws f.all) form;
       }
+
+  -- if its children are too large for the segment where it stands, it is for that of its pointer
+  exceeds : (new : View) (m m' : Meter) → AreTooLarge b r least.pointers (length (segment mid.words h.segment)) (mid.room h.segment) → SectionsExceed ws r q (change b s p old new m m')
+  exceeds new m m' large = λ ts n counts are_read.
+      (let k = sections_meant b ts are_read.cost o.cut counts are_read.means in
+      let object : ObjectMade s p (least.data_words + least.pointers) old made h = record { place = o.place; memory = o.memory; taken = o.taken; behind = o.behind } in
+      sections_too_large b least (take_trees least.pointers ts) object same_long same_room o.within k.counts (large (take_trees least.pointers ts) are_read.cost k.counts k.means) k.words)
 
   pub sections_stop : {new : View} {m m' : Meter} {k : ErrorKind} → StopsAtChildren r least.pointers (change b h.segment (h.at + least.data_words) mid new m m') k → StopsAtSections ws r q (change b s p old new m m') k
   sections_stop {new} {m} {m'} {k} stop =
       record {
         why = elim stop.why [
-          | inl x ↦ inl (x.0, words_refused_after old mid new x.0 k keeps x.1, inr (stops_sooner fewer x.2))
+          | inl x ↦ inl (x.0, words_refused_after old mid new x.0 k keeps x.1, inr (stops_sooner fewer x.2), exceeds new m m' x.3)
           | inr x ↦ inr (inl (stops_sooner fewer x))
         ];
         off = inr (stops_sooner fewer stop.off);

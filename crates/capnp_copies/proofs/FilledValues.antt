@@ -11,7 +11,7 @@ use Rattle.capnp_format.specs.Numbers.{words_for, unpacked}
 use Rattle.capnp_format.specs.Segments.{segment, word_at, words_at, IsPlace}
 use Rattle.capnp_format.specs.Tree.{Tree, Null, Capability, Struct, Flat, Pointers, Structs}
 use Rattle.capnp_format.specs.Word.{capability_word}
-use Rattle.capnp_format.specs.Canonical.{trim, word_count}
+use Rattle.capnp_format.specs.Canonical.{word_count}
 use Rattle.capnp_format.proofs.Levels.{one_value}
 use Rattle.capnp_arena.specs.View.{View}
 use Rattle.capnp_arena.specs.Written.{with_word, with_segment}
@@ -22,14 +22,15 @@ use Rattle.capnp_making.proofs.Memory.{keeps_itself, keeps_written, spends_nothi
 use Rattle.capnp_making.proofs.PlacedStructs.{capability_made}
 use Rattle.capnp_objects.specs.Objects.{IsObject}
 use Rattle.capnp_objects.specs.Outcomes.{Reads}
-use Rattle.capnp_objects.specs.Refusals.{Stopped, StopsWithin, Refused, BreaksOff, here}
+use Rattle.capnp_objects.specs.Refusals.{Stopped, StopsWithin, BreaksOff, here}
 use Rattle.capnp_objects.specs.Reading.{Reading}
 use Rattle.capnp_objects.specs.Wanted.{plain}
 use Rattle.capnp_objects.specs.declared.object.Place.{Place}
 use Rattle.capnp_objects.specs.declared.object.Object.TheVariants.{Null as ObjectNull, Capability as ObjectCapability, Struct as ObjectStruct, Flat as ObjectFlat, Pointers as ObjectPointers, Structs as ObjectStructs}
 use Rattle.capnp_objects.proofs.Objects.{read_null, read_flat, read_struct, read_pointers, read_structs}
 use Rattle.capnp_objects.proofs.Refusals.{stops_struct, stops_pointers, stops_structs}
-use Rattle.capnp_copies.specs.Changes.{WantsWords, as_struct, as_numbers, as_pointers, as_structs, form_of, kept, Change, change, IsCopiedInRoom, Fits, StandsWhereItFits, StandsAsRead, CopiesValue, StopsAtValue, CopiesStruct, StopsAtStruct, CopiesPointers, StopsAtPointers, CopiesStructs, StopsAtStructs}
+use Rattle.capnp_copies.specs.Changes.{WantsWords, as_struct, as_numbers, as_pointers, as_structs, Change, change, IsCopiedInRoom, Fits, StandsWhereItFits, StandsAsRead, CopiesValue, StopsAtValue, CopiesStruct, StopsAtStruct, CopiesPointers, StopsAtPointers, CopiesStructs, StopsAtStructs}
+use Rattle.capnp_copies.specs.Forms.{form_of, kept}
 use Rattle.capnp_copies.specs.Copies.{IsCopied, CanBeCopied}
 use Rattle.capnp_copies.proofs.Copying.{not_too_large, not_refused}
 use Rattle.capnp_copies.proofs.FilledObjects.{nothing_left}
@@ -110,7 +111,7 @@ struct_value_stops {r} {b} {s} {old = old} {m = m} {m'' = m''} {k = k} start les
             | inl y ↦ subst (StopsWithin (form_of b) (WantsWords b x.0) r m) (sym y.0) (here (a, o, as_struct z y.1 (rw (en, es, e, ed, eq) at y.2) y.3))
             | inr y ↦ stops_struct o z (rw (en, es, e, ed, eq) at y)
           ],
-          λ f. struct_value_too_large (length (segment old.words s)) (old.room s) start less (a, o, z, (held, es, eb), ed, eq) (x.3 f),
+          struct_value_too_large b (length (segment old.words s)) (old.room s) start less (a, o, z, (held, es, eb), ed, eq) x.3,
         )
         | inr x ↦ inr (stops_struct o z (rw (en, es, e, ed, eq) at x))
       ];
@@ -141,7 +142,7 @@ pointers_value_stops {r} {b} {s} {old = old} {m = m} start less (a, o, z, six, (
             | inl y ↦ subst (StopsWithin (form_of b) (WantsWords b x.0) r m) (sym y.0) (here (a, o, as_pointers z six (y.1 ∙ ei)))
             | inr y ↦ stops_pointers o z six (rw (en, es, e, ei) at y)
           ],
-          λ f. pointers_value_too_large (length (segment old.words s)) (old.room s) start less (a, o, z, six, (held, es, eb), ei) (x.3 f),
+          pointers_value_too_large b (length (segment old.words s)) (old.room s) start less (a, o, z, six, (held, es, eb), ei) x.3,
         )
         | inr x ↦ inr (stops_pointers o z six (rw (en, es, e, ei) at x))
       ];
@@ -177,7 +178,7 @@ structs_value_stops {r} {b} {s} {old = old} {m = m} start less (a, o, z, seven, 
             | inl y ↦ subst (StopsWithin (form_of b) (WantsWords b x.0) r m) (sym y.0) (here (a, o, as_structs (z, seven) y.1 (rw (en, eu, e, ed, eq, ei) at y.2) (rw ei at y.3)))
             | inr y ↦ stops_structs o z seven (rw (en, eu, e, ed, eq, ei) at y)
           ],
-          λ f. structs_value_too_large (length (segment old.words s)) (old.room s) start less (a, o, z, seven, (held, eu, eb), ei, ed, eq) (x.3 f),
+          structs_value_too_large b (length (segment old.words s)) (old.room s) start less (a, o, z, seven, (held, eu, eb), ei, ed, eq) x.3,
         )
         | inr x ↦ inr (stops_structs o z seven (rw (en, eu, e, ed, eq, ei) at x))
       ];
@@ -206,7 +207,7 @@ pub record FlatOutcome (result : Result (Unit {0}) ErrorKind) (s p n : ℕ) (old
   pub kept : OnErr result (new.words ≡ old.words)
   pub memory : OnErr result (SpendsMemory old new)
   pub stands : OnOk result (IsCopiedInRoom old new s p t)
-  pub fits : HasOwnRoom old s (word_count (trim t)) → IsOk result
+  pub fits : HasOwnRoom old s (word_count t) → IsOk result
 
 pub flat_value : {r : Reading} {s p i n : ℕ} {old new : View} {m m' : Meter} {ws : List ℕ} (b : Bool) (result : Result (Unit {0}) ErrorKind) (start : Place) (size : ElementSize) → IsObject r m m' (ObjectFlat start size i) → n ≡ words_for (size_number size) i →
     ws ≡ take n (drop start.at (words_of start.bytes.now)) → FlatOutcome result s p (words_for (size_number size) i) old new (Flat (size_number size) (unpacked (size_number size) i ws)) → IfOk result (λ _. CopiesValue r (change b s p old new m m'))
@@ -221,8 +222,14 @@ flat_value b (Err k) start size object words part f = tt
 pub flat_stops : {r : Reading} {s p i n : ℕ} {old new : View} {m m' : Meter} {ws : List ℕ} (b : Bool) (result : Result (Unit {0}) ErrorKind) (start : Place) (size : ElementSize) → IsObject r m m' (ObjectFlat start size i) → n ≡ words_for (size_number size) i →
     ws ≡ take n (drop start.at (words_of start.bytes.now)) → IsPlace old.words s p × (word_at old.words s p ≡ 0) → FlatOutcome result s p (words_for (size_number size) i) old new (Flat (size_number size) (unpacked (size_number size) i ws)) → IfErr result (StopsAtValue r (change b s p old new m m'))
 flat_stops b (Ok x) start size object words part (place, null) f = tt
-flat_stops {s = s} {p = p} {i = i} {old = old} {new = new} b (Err k) start size (a, o, z, small, held, ez, ei) words part (place, null) f = record {
-  why = inl (words_for (size_number size) i, f.refused, here (a, o, as_numbers z small (ap₂ words_for ez ei)), λ e. flat_too_large (length (segment old.words s)) (old.room s) (flat_read_in b start size (a, o, z, small, held, ez, ei) words part) (λ room. (let is = f.fits room in cc is)));
+flat_stops {s = s} {p = p} {i = i} {old = old} {new = new} {ws = ws} b (Err k) start size (a, o, z, small, held, ez, ei) words part (place, null) f = record {
+  why = inl (
+    words_for (size_number size) i,
+    f.refused,
+    here (a, o, as_numbers z small (ap₂ words_for ez ei)),
+    flat_too_large b (length (segment old.words s)) (old.room s) (flat_read_in b start size (a, o, z, small, held, ez, ei) words part)
+        (λ room. (let is = f.fits (omega (arith, room, ap word_count (kept_flat b (size_number size) (unpacked (size_number size) i ws)))) in cc is)),
+  );
   off = here (inr (a, o));
   left = ((Null, nothing_left old.words new.words s p place null f.kept), f.memory);
 }
@@ -234,8 +241,8 @@ stands_as_read {r} {c} copies t is_read =
     subst (StandsWhereItFits c) (one_value r.segments r.levels r.levels r.segment r.at copies.value t x.cost is_read.cost x.means is_read.means).0 copies.stands
 
 -- one that can be copied behind the words of its segment does not stop
-pub stops_rightly : {r : Reading} {c : Change} {k : ErrorKind} → StopsAtValue r c k → c.canonicalize ≡ true → CanBeCopied r c.before (length (segment c.old.words c.segment)) (c.old.room c.segment) → ⊥
-stops_rightly {r} {c} {k} stop canonicalize can = elim stop.why [
-  | inl x ↦ not_too_large r c.before (length (segment c.old.words c.segment)) (c.old.room c.segment) can (x.3 canonicalize)
-  | inr x ↦ not_refused (length (segment c.old.words c.segment)) (c.old.room c.segment) can (subst (λ b. Refused (form_of b) r c.before c.after k) canonicalize x)
+pub stops_rightly : {r : Reading} {c : Change} {k : ErrorKind} → StopsAtValue r c k → CanBeCopied c.canonicalize r c.before (length (segment c.old.words c.segment)) (c.old.room c.segment) → ⊥
+stops_rightly {r} {c} {k} stop can = elim stop.why [
+  | inl x ↦ not_too_large c.canonicalize r c.before (length (segment c.old.words c.segment)) (c.old.room c.segment) can x.3
+  | inr x ↦ not_refused c.canonicalize (length (segment c.old.words c.segment)) (c.old.room c.segment) can x
 ]

@@ -1,12 +1,13 @@
 -- What a copy keeps of children, and of elements: as many as there were, and of the same sizes.
-use Rattle.std.proofs.Common.{◌≡◌, ℕ, ◌+◌, Bool, true, false, refl, ap, ◌∙◌, arith}
-use Rattle.capnp_format.specs.Tree.{Tree, Pointers, Trees, no_trees, tree, Elements, no_elements, count, element_count}
-use Rattle.capnp_format.specs.Canonical.{cut_to, word_count, word_count_all}
+use Rattle.std.proofs.Common.{◌≡◌, ℕ, ◌+◌, Bool, true, false, List, refl, ap, ◌∙◌, arith}
+use Rattle.capnp_format.specs.Tree.{Tree, Pointers, Trees, no_trees, tree, Elements, no_elements, element, count, element_count}
+use Rattle.capnp_format.specs.Canonical.{take_trees, cut_to, word_count, word_count_all, word_count_elements}
 use Rattle.capnp_format.proofs.Children.{with_last}
 use Rattle.capnp_format.proofs.Trimming.{trim_each-count, trim_elements-count, cut_to-count}
-use Rattle.capnp_copies.specs.Changes.{kept, kept_each, kept_elements}
+use Rattle.capnp_copies.specs.Forms.{kept, kept_each, kept_elements}
 use Rattle.capnp_copies.specs.declared.widths.ElementSizes.{ElementSizes}
 use Rattle.capnp_copies.proofs.ChildrenCopied.{trim_each-with_last}
+use Rattle.capnp_copies.proofs.UsedChildren.{take_trees-trim}
 use Rattle.capnp_copies.proofs.Shapes.{AreShaped, AreShapedElements, trim_each-shaped, trim_elements-shaped}
 
 -- children
@@ -14,6 +15,10 @@ use Rattle.capnp_copies.proofs.Shapes.{AreShaped, AreShapedElements, trim_each-s
 pub kept_none : (b : Bool) → kept_each b no_trees ≡ no_trees
 kept_none true = refl
 kept_none false = refl
+
+pub kept_first : (b : Bool) (t : Tree) (ts : Trees) → kept_each b (tree t ts) ≡ tree (kept b t) (kept_each b ts)
+kept_first true t ts = refl
+kept_first false t ts = refl
 
 pub kept_pointers : (b : Bool) (ts : Trees) → kept b (Pointers ts) ≡ Pointers (kept_each b ts)
 kept_pointers true ts = refl
@@ -38,6 +43,10 @@ words_last (tree t ts) u = omega (arith, words_last ts u)
 pub words-with_last : (b : Bool) (ts : Trees) (u : Tree) → word_count_all (kept_each b (with_last ts u)) ≡ word_count_all (kept_each b ts) + word_count (kept b u)
 words-with_last b ts u = ap word_count_all (kept_each-with_last b ts u) ∙ words_last (kept_each b ts) (kept b u)
 
+pub take_trees-kept : (b : Bool) (n : ℕ) (ts : Trees) → take_trees n (kept_each b ts) ≡ kept_each b (take_trees n ts)
+take_trees-kept true n ts = take_trees-trim n ts
+take_trees-kept false n ts = refl
+
 -- elements
 
 -- the elements of a list in the sections of its copy
@@ -54,6 +63,12 @@ kept_elements-count false es = refl
 
 pub cut_kept-count : (b : Bool) (e q : ℕ) (es : Elements) → element_count (cut_to e q (kept_elements b es)) ≡ element_count es
 cut_kept-count b e q es = cut_to-count e q (kept_elements b es) ∙ kept_elements-count b es
+
+-- the words of the first element, and of those behind it
+pub words_of_first : (b : Bool) (sizes : ElementSizes) (ws : List ℕ) (ts : Trees) (es : Elements) →
+    word_count_elements (cut_kept b sizes (element ws ts es)) ≡ word_count_all (take_trees sizes.kept.pointers (kept_each b ts)) + word_count_elements (cut_kept b sizes es)
+words_of_first true sizes ws ts es = refl
+words_of_first false sizes ws ts es = refl
 
 pub kept_elements-shaped : (b : Bool) (d q : ℕ) (es : Elements) → AreShapedElements d q es → AreShapedElements d q (kept_elements b es)
 kept_elements-shaped true d q es v = trim_elements-shaped d q es v

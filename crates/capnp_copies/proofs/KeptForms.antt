@@ -1,25 +1,31 @@
 -- What a copy keeps of structs and of elements, in canonical form and as they stand.
-use Rattle.std.proofs.Common.{◌≡◌, ℕ, zero, suc, ◌+◌, ◌*◌, ◌<◌, ◌≤◌, Bool, true, false, List, length, take, refl, sym, ap, ap₂, ◌∙◌, arith}
+use Rattle.std.proofs.Common.{◌≡◌, ℕ, zero, suc, ◌+◌, ◌*◌, ◌<◌, ◌≤◌, Bool, true, false, List, length, take, refl, sym, ap, ap₂, ◌∙◌, subst, arith, length-take}
 use Rattle.std.proofs.lemmas.List.{take_all}
 use Rattle.capnp_pointers.specs.declared.wire_pointer.StructSize.{StructSize}
 use Rattle.capnp_words.specs.Meter.{Meter}
 use Rattle.capnp_format.specs.Segments.{Segments, words_at}
 use Rattle.capnp_format.specs.Tree.{Struct, Structs, Trees, no_trees, tree, Elements, no_elements, element, count, element_count}
-use Rattle.capnp_format.specs.Canonical.{used_words, take_trees, cut_to, trim_each, trim_elements}
+use Rattle.capnp_format.specs.Canonical.{used_words, used_trees, take_trees, cut_to, trim_each, trim_elements, word_count, word_count_all, word_count_elements}
+use Rattle.capnp_format.proofs.Slices.{length_words}
+use Rattle.capnp_format.proofs.Trimming.{trim_each-count, used_words-le, take_trees-count}
 use Rattle.capnp_format.specs.Means.{MeansElements}
 use Rattle.capnp_making.specs.Filled.{AreElementsFilled}
 use Rattle.capnp_making.proofs.WordsPut.{none_over}
-use Rattle.capnp_objects.specs.Outcomes.{ReadsAll, ReadsElements, ElementsMean}
+use Rattle.capnp_objects.specs.Outcomes.{ReadsAll, ReadsElements, MeanThere, ElementsMean}
 use Rattle.capnp_objects.specs.Refusals.{StopsAmong}
 use Rattle.capnp_objects.specs.Reading.{Reading, behind, row, words_from, pointers_of}
 use Rattle.capnp_objects.specs.Wanted.{Form}
 use Rattle.capnp_objects.proofs.Copies.{with_last_element, count-with_last_element, read_element, read_none, read_no_element}
-use Rattle.capnp_copies.specs.Changes.{form_of, kept, kept_each, kept_elements, KeepsSections, KeepsWidths, KeepsPointers}
+use Rattle.capnp_copies.specs.Changes.{KeepsSections, KeepsWidths, KeepsPointers}
+use Rattle.capnp_copies.specs.Forms.{form_of, kept, kept_each, kept_elements}
+use Rattle.capnp_copies.specs.StructValues.{kept_count}
 use Rattle.capnp_copies.specs.declared.widths.ElementSizes.{ElementSizes}
-use Rattle.capnp_copies.proofs.ElementsCopied.{SourceFits, another}
+use Rattle.capnp_copies.proofs.ElementsCopied.{SourceFits, another, pointers_within}
 use Rattle.capnp_copies.proofs.ElementsLaid.{words_taken}
+use Rattle.capnp_copies.proofs.KeptChildren.{cut_kept-count}
 use Rattle.capnp_copies.proofs.ListSteps.{AreLeast, trimmed_list}
 use Rattle.capnp_copies.proofs.StructSteps.{struct_filled}
+use Rattle.capnp_copies.proofs.UsedChildren.{used_children, means_taken, trim-struct}
 
 -- children
 
@@ -45,11 +51,47 @@ struct_kept true r size least m m' ts inside uses len all =
 struct_kept false r size least m m' ts inside same len all =
     record { all = ts; counts = len ∙ ap (λ s. s.pointers) same; are_read = all; form = ap (λ s. Struct (words_from r s.data_words) ts) (sym same) }
 
--- elements
-
 take_count : (ts : Trees) → take_trees (count ts) ts ≡ ts
 take_count no_trees = refl
 take_count (tree t ts) = ap (tree t) (take_count ts)
+
+-- The kept pointers of a struct of these data words are meant, and it takes so many words.
+pub record SectionsMeant (b : Bool) (ws : List ℕ) (r : Reading) (least : StructSize) (us : Trees) (c : ℕ) : Type 0 where
+  pub counts : count (take_trees least.pointers us) ≡ least.pointers
+  pub means : MeanThere r (take_trees least.pointers us) c
+  pub words : word_count (kept b (Struct ws us)) ≡ least.data_words + least.pointers + word_count_all (kept_each b (take_trees least.pointers us))
+
+-- The sections that are kept of a struct of these data words, of whose pointers r is the first of q.
+pub record SectionsCut (b : Bool) (ws : List ℕ) (r : Reading) (q : ℕ) (least : StructSize) : Type 0 where
+  pub inside : r.at + q ≤ length (row r)
+  pub of_data : least.data_words ≡ kept_count b ws
+  pub of_pointers : least.pointers ≡ kept_count b (words_from r q)
+
+pub sections_meant : (b : Bool) {ws : List ℕ} {r : Reading} {q : ℕ} {least : StructSize} (us : Trees) (c : ℕ) → SectionsCut b ws r q least → count us ≡ q → MeanThere r us c → SectionsMeant b ws r least us c
+sections_meant true {ws} {r} {q} {least} us c cut len all =
+    let u : used_trees us ≡ least.pointers = used_children r us c cut.inside len all ∙ sym cut.of_pointers in
+    let fewer : least.pointers ≤ q = omega (arith, cut.of_pointers, used_words-le (words_from r q), length_words r.segments r.segment r.at q cut.inside) in
+    let counts : count (take_trees least.pointers us) ≡ least.pointers = take_trees-count least.pointers us (omega (arith, len, fewer)) in
+    record {
+      counts = counts;
+      means = means_taken r us c least.pointers (omega (arith, u)) all;
+      words = ap word_count (trim-struct ws us ∙ ap (λ i. Struct (take (used_words ws) ws) (trim_each (take_trees i us))) u)
+          ∙ omega (arith, cut.of_data, length-take (used_words ws) ws, used_words-le ws, trim_each-count (take_trees least.pointers us), counts);
+    }
+sections_meant false {ws} {r} {q} {least} us c cut len all =
+    let counts : count us ≡ least.pointers = len ∙ sym (cut.of_pointers ∙ length_words r.segments r.segment r.at q cut.inside) in
+    let whole : take_trees least.pointers us ≡ us = ap (λ i. take_trees i us) (sym counts) ∙ take_count us in
+    record { counts = ap count whole ∙ counts; means = subst (λ ts. MeanThere r ts c) (sym whole) all; words = omega (arith, cut.of_data, counts, ap word_count_all whole) }
+
+pub sections_cut : (b : Bool) (r : Reading) (size least : StructSize) → r.at + (size.data_words + size.pointers) ≤ length (row r) → KeepsSections b r size least → SectionsCut b (words_from r size.data_words) (behind r size.data_words) size.pointers least
+sections_cut true r size least inside uses = record { inside = omega (arith, inside); of_data = uses.of_data; of_pointers = uses.of_pointers }
+sections_cut false r size least inside same = record {
+  inside = omega (arith, inside);
+  of_data = ap (λ s. s.data_words) same ∙ sym (length_words r.segments r.segment r.at size.data_words (omega (arith, inside)));
+  of_pointers = ap (λ s. s.pointers) same ∙ sym (length_words r.segments r.segment (r.at + size.data_words) size.pointers (omega (arith, inside)));
+}
+
+-- elements
 
 cut_same : (S : Segments) (n s p d q : ℕ) (es : Elements) (c : ℕ) → MeansElements S n s p d q es c → cut_to d q es ≡ es
 cut_same S n s p d q no_elements c h = refl
@@ -64,12 +106,34 @@ list_kept true r size least es c inside widths all =
 list_kept false r size least es c inside same all =
     ap (Structs size.data_words size.pointers) (sym (cut_same r.segments r.levels r.segment r.at size.data_words size.pointers es c all)) ∙ ap (λ s. Structs s.data_words s.pointers (cut_to s.data_words s.pointers es)) (sym same)
 
+-- it takes so many words
+pub words_of_kept_list : (b : Bool) (r : Reading) (size least : StructSize) (i : ℕ) (es : Elements) (c : ℕ) → r.at + i * (size.data_words + size.pointers) ≤ length (row r) → KeepsWidths b r size i least → element_count es ≡ i → ElementsMean r size es c →
+    word_count (kept b (Structs size.data_words size.pointers es)) ≡ 1 + i * (least.data_words + least.pointers) + word_count_elements (cut_to least.data_words least.pointers (kept_elements b es))
+words_of_kept_list b r size least i es c inside widths len all =
+    ap word_count (list_kept b r size least es c (subst (λ k. r.at + k * (size.data_words + size.pointers) ≤ length (row r)) (sym len) inside) (subst (λ k. KeepsWidths b r size k least) (sym len) widths) all)
+    ∙ ap (λ j. 1 + j * (least.data_words + least.pointers) + word_count_elements (cut_to least.data_words least.pointers (kept_elements b es))) (cut_kept-count b least.data_words least.pointers es ∙ len)
+
+row_end : (j n w : ℕ) → j < n → j * w + w ≤ n * w
+row_end j n w less = let f : suc j * w ≤ n * w = grind arith in omega (arith, f)
+
 -- The n elements lie in the source, and no section that is used is cut.
 pub record SourceKept (b : Bool) (r : Reading) (sizes : ElementSizes) (n : ℕ) : Type 0 where
   pub inside : r.at + n * (sizes.source.data_words + sizes.source.pointers) ≤ length (row r)
   pub less_data : sizes.kept.data_words ≤ sizes.source.data_words
   pub less_pointers : sizes.kept.pointers ≤ sizes.source.pointers
   pub used : KeepsPointers b r sizes n
+
+-- the kept pointers of an element are meant
+pub row_kept : (b : Bool) (r : Reading) (sizes : ElementSizes) (n j : ℕ) (us : Trees) (c : ℕ) → SourceKept b r sizes n → j < n → count us ≡ sizes.source.pointers → MeanThere (pointers_of r sizes.source j) us c →
+    MeanThere (pointers_of r sizes.source j) (take_trees sizes.kept.pointers us) c
+row_kept true r sizes n j us c fits less len all =
+    let d : ℕ = sizes.source.data_words in
+    let q : ℕ = sizes.source.pointers in
+    let end = row_end j n (d + q) less in
+    let u = used_children (pointers_of r sizes.source j) us c (omega (arith, end, fits.inside)) len all in
+    means_taken (pointers_of r sizes.source j) us c sizes.kept.pointers (omega (arith, u, pointers_within (row r) r.at sizes.source n j less, fits.used)) all
+row_kept false r sizes n j us c fits less len all =
+    subst (λ ts. MeanThere (pointers_of r sizes.source j) ts c) (sym (ap (λ i. take_trees i us) (ap (λ s. s.pointers) fits.used ∙ sym len) ∙ take_count us)) all
 
 -- the row of words of an element
 abbrev pub element_words : Reading → ElementSizes → ℕ → List ℕ
@@ -83,9 +147,6 @@ pub record OneMore (b : Bool) (r : Reading) (sizes : ElementSizes) (m m' : Meter
   pub shape :
       cut_to sizes.kept.data_words sizes.kept.pointers (kept_elements b all)
       ≡ with_last_element (cut_to sizes.kept.data_words sizes.kept.pointers (kept_elements b es)) (element_words r sizes (element_count es)) (kept_each b ts)
-
-row_end : (j n w : ℕ) → j < n → j * w + w ≤ n * w
-row_end j n w less = let f : suc j * w ≤ n * w = grind arith in omega (arith, f)
 
 cut-last : (e q : ℕ) (es : Elements) (ws : List ℕ) (us : Trees) → cut_to e q (with_last_element es ws us) ≡ with_last_element (cut_to e q es) (take e ws) (take_trees q us)
 cut-last e q no_elements ws us = refl

@@ -18,6 +18,7 @@ pub mod Shapes
 pub mod StructSteps
 pub mod StructsCopied
 pub mod UsedChildren
+pub mod OneReading
 pub mod KeptChildren
 pub mod KeptForms
 pub mod StayingNear

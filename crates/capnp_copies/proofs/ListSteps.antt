@@ -6,19 +6,18 @@ use Rattle.capnp_words.specs.Meter.{Meter}
 use Rattle.capnp_format.specs.Word.{struct_word, list_word}
 use Rattle.capnp_format.specs.Segments.{Segments, segment, IsPlace}
 use Rattle.capnp_format.specs.Tree.{Structs, Elements, element_count}
-use Rattle.capnp_format.specs.Canonical.{trim, trim_elements, cut_to, word_count, word_count_elements, pointer, rows, element_bodies, offset_to}
+use Rattle.capnp_format.specs.Canonical.{trim, trim_elements, cut_to, pointer, rows, element_bodies, offset_to}
 use Rattle.capnp_arena.specs.View.{View}
 use Rattle.capnp_arena.specs.Written.{with_segment, with_word}
 use Rattle.capnp_objects.specs.Outcomes.{ElementsMean}
 use Rattle.capnp_objects.specs.Reading.{Reading, row}
-use Rattle.capnp_copies.specs.Changes.{kept_elements}
+use Rattle.capnp_copies.specs.Forms.{kept_elements}
 use Rattle.capnp_copies.specs.Copied.{rows_laid}
 use Rattle.capnp_copies.specs.Copies.{IsCopied}
 use Rattle.capnp_copies.proofs.CopiesNear.{TakesWords}
 use Rattle.capnp_copies.proofs.CopiesNear.{call_of, CopiesElements}
 use Rattle.capnp_copies.specs.Widths.{data_used, pointers_used}
 use Rattle.capnp_copies.proofs.Copying.{there}
-use Rattle.capnp_copies.proofs.ElementsLaid.{cut_count}
 use Rattle.capnp_copies.proofs.KeptChildren.{cut_kept-count}
 use Rattle.capnp_copies.proofs.LeastWidths.{data_where_meant, pointers_where_meant}
 use Rattle.capnp_copies.proofs.SegmentsWritten.{then_written}
@@ -29,7 +28,7 @@ pub record AreLeast (r : Reading) (size least : StructSize) (i : ℕ) : Type 0 w
   pub of_data : least.data_words ≡ data_used (row r) r.at size.data_words size.pointers i
   pub of_pointers : least.pointers ≡ pointers_used (row r) r.at size.data_words size.pointers i
 
--- the canonical form of a list of structs, its elements being meant, and how many words it takes
+-- the canonical form of a list of structs, its elements being meant
 
 pub trimmed_list : {r : Reading} {size least : StructSize} {i : ℕ} (es : Elements) (c : ℕ) → r.at + i * (size.data_words + size.pointers) ≤ length (row r) → AreLeast r size least i → element_count es ≡ i → ElementsMean r size es c →
     trim (Structs size.data_words size.pointers es) ≡ Structs least.data_words least.pointers (cut_to least.data_words least.pointers (trim_elements es))
@@ -41,13 +40,6 @@ trimmed_list {r} {size} {least} {i} es c inside is_least len all =
     trim-structs d q es
     ∙ ap₂ (λ j k. Structs j k (cut_to j k (trim_elements es))) (data_where_meant r size es c all ∙ of_data)
     (pointers_where_meant r size es c (rw len inside) all ∙ of_pointers)
-
-pub words_of_list : {r : Reading} {size least : StructSize} {i : ℕ} (es : Elements) (c : ℕ) → r.at + i * (size.data_words + size.pointers) ≤ length (row r) → AreLeast r size least i → element_count es ≡ i → ElementsMean r size es c →
-    word_count (trim (Structs size.data_words size.pointers es)) ≡ 1 + i * (least.data_words + least.pointers) + word_count_elements (cut_to least.data_words least.pointers (trim_elements es))
-words_of_list {r} {size} {least} {i} es c inside is_least len all =
-    let e : ℕ = least.data_words in
-    let q : ℕ = least.pointers in
-    ap word_count (trimmed_list es c inside is_least len all) ∙ ap (λ j. 1 + j * (e + q) + word_count_elements (cut_to e q (trim_elements es))) (cut_count e q es ∙ len)
 
 -- The words of a list are taken: its tag, of the sections that are kept, and words of zero for its elements.
 pub record ListBegun (least : StructSize) (i : ℕ) (old mid : View) (id at head : ℕ) : Type 0 where

@@ -1,19 +1,17 @@
 -- A struct and a list of pointers that are copied into the segment of their pointer, from where their words are taken: their children.
-use Rattle.std.proofs.Common.{◌≡◌, Bool, ℕ, ◌+◌, ◌<◌, ◌≤◌, ◌++◌, List, length, set, take, replicate, sym, ap, ap₂, ◌∙◌, arith, append_assoc, length-append, length-take}
+use Rattle.std.proofs.Common.{◌≡◌, Bool, ℕ, ◌+◌, ◌<◌, ◌≤◌, ◌++◌, List, length, set, take, replicate, sym, ap, ap₂, ◌∙◌, arith, append_assoc, length-append}
 use Rattle.capnp_pointers.specs.declared.wire_pointer.StructSize.{StructSize}
 use Rattle.capnp_words.specs.Meter.{Meter}
 use Rattle.capnp_format.specs.Word.{struct_word, list_word}
 use Rattle.capnp_format.specs.Segments.{Segments, segment, IsPlace}
 use Rattle.capnp_format.specs.Tree.{Struct, Pointers, Trees, count}
-use Rattle.capnp_format.specs.Canonical.{used_words, take_trees, trim, trim_each, word_count, word_count_all, pointer, pointers, bodies, offset_to}
-use Rattle.capnp_format.proofs.Slices.{length_words}
-use Rattle.capnp_format.proofs.Trimming.{trim_each-count, used_words-le, take_trees-count}
+use Rattle.capnp_format.specs.Canonical.{used_words, take_trees, trim, trim_each, pointer, pointers, bodies, offset_to}
 use Rattle.capnp_arena.specs.View.{View}
 use Rattle.capnp_arena.specs.Written.{with_segment, with_word}
 use Rattle.capnp_objects.specs.Outcomes.{ReadsAll, MeanThere}
 use Rattle.capnp_objects.specs.Reading.{Reading, behind, row, words_from}
 use Rattle.capnp_objects.specs.Wanted.{canonical}
-use Rattle.capnp_copies.specs.Changes.{kept_each}
+use Rattle.capnp_copies.specs.Forms.{kept_each}
 use Rattle.capnp_copies.specs.Copied.{copied, with_children}
 use Rattle.capnp_copies.specs.Copies.{IsCopied}
 use Rattle.capnp_copies.proofs.CopiesNear.{TakesWords}
@@ -42,21 +40,14 @@ pointers_put {b} {r} {old} {mid} {last} {new} {id} {at} {head} {q} {x} place tak
     then_written M id (with_children (W ++ replicate q 0) (length W) ts) (λ xs. set xs at x) (id_there, second) (ap (λ (v : View). v.words) writes)
     ∙ ap (with_segment M id) (ap₂ (λ xs y. set xs at y) (object_children W q ts len) is)
 
--- what of a struct is used, its children being meant: its canonical form, and how many words that takes
+-- what of a struct is used, its children being meant: its canonical form
 
-pub trimmed_struct : {r : Reading} {size used : StructSize} (us : Trees) (c : ℕ) → r.at + (size.data_words + size.pointers) ≤ length (row r) → Uses r size used → count us ≡ size.pointers → MeanThere (behind r size.data_words) us c →
+trimmed_struct : {r : Reading} {size used : StructSize} (us : Trees) (c : ℕ) → r.at + (size.data_words + size.pointers) ≤ length (row r) → Uses r size used → count us ≡ size.pointers → MeanThere (behind r size.data_words) us c →
     trim (Struct (words_from r size.data_words) us) ≡ Struct (take (used_words (words_from r size.data_words)) (words_from r size.data_words)) (trim_each (take_trees used.pointers us))
 trimmed_struct {r} {size} {used} us c inside uses len all =
     let ws : List ℕ = words_from r size.data_words in
     trim-struct ws us
     ∙ ap (λ i. Struct (take (used_words ws) ws) (trim_each (take_trees i us))) (used_children (behind r size.data_words) us c (omega arith) len all ∙ sym uses.of_pointers)
-
-pub words_of_struct : {r : Reading} {size used : StructSize} (us : Trees) (c : ℕ) → r.at + (size.data_words + size.pointers) ≤ length (row r) → Uses r size used → count us ≡ size.pointers → MeanThere (behind r size.data_words) us c →
-    word_count (trim (Struct (words_from r size.data_words) us)) ≡ used.data_words + used.pointers + word_count_all (trim_each (take_trees used.pointers us))
-words_of_struct {r} {size} {used} us c inside uses len all =
-    let ws : List ℕ = words_from r size.data_words in
-    ap word_count (trimmed_struct us c inside uses len all)
-    ∙ omega (arith, uses.of_data, length-take (used_words ws) ws, used_words-le ws, trim_each-count (take_trees used.pointers us), take_trees-count used.pointers us (omega (arith, len, uses.less_pointers)))
 
 -- the children that were read, and Nulls behind them
 pub record FilledStruct (r : Reading) (size : StructSize) (m m' : Meter) (ts : Trees) : Type 0 where
@@ -78,30 +69,25 @@ struct_filled {r} {size} {used} {m} {m'} {ts} inside uses len all =
           ∙ ap (λ vs. Struct (take (used_words ws) ws) (trim_each vs)) (ap (λ i. take_trees i f.all) (sym len) ∙ f.first);
     }
 
--- The words of a struct are taken: its data words, as they are read, and pointers, which are null.
-pub record StructBegun (r : Reading) (size used : StructSize) (old mid : View) (id at head : ℕ) : Type 0 where
-  pub inside : r.at + (size.data_words + size.pointers) ≤ length (row r)
-  pub less_data : used.data_words ≤ size.data_words
+-- The words of a struct are taken: these data words, and pointers, which are null.
+pub record StructBegun (us : List ℕ) (used : StructSize) (old mid : View) (id at head : ℕ) : Type 0 where
+  pub long : length us ≡ used.data_words
   pub place : IsPlace old.words id at
-  pub taken : TakesWords old mid id head (words_from r used.data_words ++ replicate used.pointers 0)
-
-data_long : {r : Reading} {size used : StructSize} {old mid : View} {id at head : ℕ} → StructBegun r size used old mid id at head → length (words_from r used.data_words) ≡ used.data_words
-data_long {r} {size} {used} begun = length_words r.segments r.segment r.at used.data_words (omega (arith, begun.inside, begun.less_data))
+  pub taken : TakesWords old mid id head (us ++ replicate used.pointers 0)
 
 -- the words of a struct and of its children, once they are put, and its pointer
-pub struct_put : {b : Bool} {r : Reading} {size used : StructSize} {old mid last new : View} {id at head x : ℕ} {m m' : Meter} → StructBegun r size used old mid id at head → 0 < used.data_words + used.pointers →
-    (children : CopiesChildren (behind r size.data_words) used.pointers (call_of b mid last id m m') (head + used.data_words)) → x ≡ struct_word (offset_to at (length (segment old.words id))) used.data_words used.pointers →
-    new ≡ record last { words = with_word last.words id at x } → new.words ≡ with_segment old.words id (copied (segment old.words id) at (Struct (words_from r used.data_words) (kept_each b children.children)))
-struct_put {b} {r} {size} {used} {old} {mid} {last} {new} {id} {at} {head} {x} begun some children word writes =
+pub struct_put : {b : Bool} {us : List ℕ} {r : Reading} {used : StructSize} {old mid last new : View} {id at head x : ℕ} {m m' : Meter} → StructBegun us used old mid id at head → 0 < used.data_words + used.pointers →
+    (children : CopiesChildren r used.pointers (call_of b mid last id m m') (head + used.data_words)) → x ≡ struct_word (offset_to at (length (segment old.words id))) used.data_words used.pointers →
+    new ≡ record last { words = with_word last.words id at x } → new.words ≡ with_segment old.words id (copied (segment old.words id) at (Struct us (kept_each b children.children)))
+struct_put {b} {us} {r} {used} {old} {mid} {last} {new} {id} {at} {head} {x} begun some children word writes =
     let M : Segments = old.words in
     let W : List ℕ = segment M id in
     let q : ℕ = used.pointers in
-    let us : List ℕ = words_from r used.data_words in
     let zeros : List ℕ = replicate q 0 in
     let ts : Trees = kept_each b children.children in
     let front : List ℕ = W ++ us in
     let id_there : id < length M = there M id at begun.place in
-    let long : length us ≡ used.data_words = data_long begun in
+    let long : length us ≡ used.data_words = begun.long in
     let len : count ts ≡ q = kept_each-count b children.children ∙ children.counts in
     let put : last.words ≡ with_segment mid.words id (with_children (segment mid.words id) (length W + length us) ts) = rw (long, sym begun.taken.starts) children.made in
     let shape : W ++ (us ++ zeros) ≡ front ++ zeros = simp append_assoc in

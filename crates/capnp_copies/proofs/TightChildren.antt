@@ -8,7 +8,8 @@ use Rattle.capnp_format.proofs.Children.{with_last}
 use Rattle.capnp_arena.specs.View.{View}
 use Rattle.capnp_making.specs.Memory.{KeepsMemory}
 use Rattle.capnp_objects.specs.Reading.{Reading, behind}
-use Rattle.capnp_copies.specs.Changes.{kept, kept_each, change, StandWhereTheyFit, CopiesValue, CopiesChildren}
+use Rattle.capnp_copies.specs.Changes.{change, StandWhereTheyFit, CopiesValue, CopiesChildren}
+use Rattle.capnp_copies.specs.Forms.{kept, kept_each}
 use Rattle.capnp_copies.specs.Copies.{IsCopied, AreCopied}
 use Rattle.capnp_copies.proofs.CopiesNear.{call_of, CopiesValue as ValueCopied, CopiesChildren as ChildrenCopied}
 use Rattle.capnp_copies.proofs.ChildrenSteps.{child_put, now, now_long}

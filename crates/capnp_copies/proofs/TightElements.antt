@@ -9,7 +9,8 @@ use Rattle.capnp_arena.specs.View.{View}
 use Rattle.capnp_arena.specs.Written.{with_segment, with_words, overwritten}
 use Rattle.capnp_objects.specs.Reading.{Reading, behind, words_from}
 use Rattle.capnp_objects.proofs.Copies.{with_last_element}
-use Rattle.capnp_copies.specs.Changes.{kept_each, kept_elements, change, Fits, EndsInZeros, CopiesChildren, CopiesElement, CopiesRows}
+use Rattle.capnp_copies.specs.Changes.{change, Fits, EndsInZeros, CopiesChildren, CopiesElement, CopiesRows}
+use Rattle.capnp_copies.specs.Forms.{kept_each, kept_elements}
 use Rattle.capnp_copies.specs.Copied.{with_children, rows_laid}
 use Rattle.capnp_copies.proofs.CopiesNear.{call_of, CopiesChildren as ChildrenCopied, CopiesElement as ElementCopied}
 use Rattle.capnp_copies.specs.declared.widths.ElementSizes.{ElementSizes}

@@ -1,20 +1,20 @@
 -- Objects in place behind the words of their pointers' segment: structs, lists of pointers and of structs.
 use Rattle.std.proofs.Common.{◌≡◌, inl, ℕ, zero, suc, ◌+◌, ◌*◌, ◌<◌, ◌≤◌, ◌-◌, ◌^◌, Bool, List, [], ◌∷◌, ◌++◌, length, get_or, set, take, drop, replicate, refl, sym, ap, ap₂, ◌∙◌, subst, arith, append-nil, length-append, length-take}
-use Rattle.std.proofs.lemmas.List.{length-replicate, get_or-append_right}
+use Rattle.std.proofs.lemmas.List.{length-replicate, get_or-append_right, nil_from_length}
 use Rattle.capnp_words.specs.Meter.{Meter}
 use Rattle.capnp_pointers.specs.declared.wire_pointer.StructSize.{StructSize}
 use Rattle.capnp_format.specs.Word.{struct_word, list_word}
 use Rattle.capnp_format.specs.Segments.{Segments, segment, word_at, IsPlace}
 use Rattle.capnp_format.specs.Tree.{Tree, Struct, Pointers, Structs, Trees, no_trees, tree, Elements, count}
 use Rattle.capnp_format.specs.Canonical.{word_count, word_count_all, word_count_elements, pointers, bodies, rows, element_bodies, offset_to}
-use Rattle.capnp_format.proofs.Slices.{length_words}
 use Rattle.capnp_arena.specs.View.{View}
 use Rattle.capnp_arena.specs.Written.{with_segment, with_word, with_words, extended}
 use Rattle.capnp_making.specs.Memory.{KeepsMemory, StandsBehind, TakesWords as TakesRoom}
 use Rattle.capnp_making.specs.Near.{HasOwnRoom, HasStructRoom, HasStructsRoom, StartsBehind, offset_behind, with_struct, with_list, with_struct_list}
 use Rattle.capnp_making.specs.declared.making.Start.{Start}
-use Rattle.capnp_objects.specs.Reading.{Reading, behind, row, words_from}
-use Rattle.capnp_copies.specs.Changes.{kept, kept_each, KeepsWidths, change, StayInSegment, StandsWhereItFits, EndsInZeros, CopiesChildren, CopiesElements}
+use Rattle.capnp_objects.specs.Reading.{Reading, row}
+use Rattle.capnp_copies.specs.Changes.{KeepsWidths, change, StayInSegment, StandsWhereItFits, EndsInZeros, CopiesChildren, CopiesElements}
+use Rattle.capnp_copies.specs.Forms.{kept, kept_each}
 use Rattle.capnp_copies.specs.Copied.{copied, with_children, rows_laid}
 use Rattle.capnp_copies.specs.Copies.{AreCopied}
 use Rattle.capnp_copies.proofs.CopiesNear.{TakesWords}
@@ -52,31 +52,24 @@ moved mid new n f {s} {u} {h} {a} ts es eh =
     subst (λ i. (StayInSegment mid new u n → AreCopied mid.words new.words u (f a) ts) → StayInSegment mid new i n → AreCopied mid.words new.words i (f h) ts) es
     (subst (λ i. (StayInSegment mid new u n → AreCopied mid.words new.words u (f a) ts) → StayInSegment mid new u n → AreCopied mid.words new.words u (f i) ts) eh (λ g. g))
 
--- A struct is made near its pointer, or without words, and its data words are written.
-pub record StructMade (r : Reading) (size least : StructSize) (s p : ℕ) (old made mid : View) (h : Start) : Type 0 where
-  pub inside : r.at + (size.data_words + size.pointers) ≤ length (row r)
-  pub less_data : least.data_words ≤ size.data_words
+-- A struct is made near its pointer, or without words, and these data words of it are written.
+pub record StructMade (us : List ℕ) (least : StructSize) (s p : ℕ) (old made mid : View) (h : Start) : Type 0 where
+  pub long : length us ≡ least.data_words
   pub place : IsPlace old.words s p
   pub memory : KeepsMemory old made
-  pub writes : mid ≡ record made { words = with_words made.words h.segment h.at (words_from r least.data_words) }
+  pub writes : mid ≡ record made { words = with_words made.words h.segment h.at us }
   pub within : length (segment mid.words h.segment) ≤ mid.room h.segment
   pub taken : TakesRoom old made s (least.data_words + least.pointers)
   pub behind : StandsBehind old s (least.data_words + least.pointers) h
   pub near : HasStructRoom old s least → made.words ≡ with_struct old.words s p least
   pub empty : least.data_words + least.pointers ≡ 0 → made.words ≡ with_word old.words s p (struct_word (2 ^ 30 - 1) 0 0)
 
-module _ {r : Reading} {size least : StructSize} {s p : ℕ} {old made mid : View} {h : Start} (o : StructMade r size least s p old made mid h) where
+module _ {us : List ℕ} {least : StructSize} {s p : ℕ} {old made mid : View} {h : Start} (o : StructMade us least s p old made mid h) where
   abbrev S : Segments
   S = old.words
 
   abbrev W : List ℕ
   W = segment old.words s
-
-  abbrev us : List ℕ
-  us = words_from r least.data_words
-
-  long : length us ≡ least.data_words
-  long = length_words r.segments r.segment r.at least.data_words (omega (arith, o.inside, o.less_data))
 
   abbrev x : ℕ
   x = struct_word (offset_behind S s p) least.data_words least.pointers
@@ -94,14 +87,14 @@ module _ {r : Reading} {size least : StructSize} {s p : ℕ} {old made mid : Vie
   mid_near : HasStructRoom old s least → mid.words ≡ extended P s (us ++ replicate least.pointers 0)
   mid_near fits =
       let at_end : StartsBehind S s h = o.behind.near fits.0 fits.1 in
-      let taken : made.words ≡ with_segment P s (segment P s ++ replicate (length us + least.pointers) 0) = rw long (o.near fits) in
+      let taken : made.words ≡ with_segment P s (segment P s ++ replicate (length us + least.pointers) 0) = rw o.long (o.near fits) in
       let start : h.at ≡ length (segment P s) = at_end.1 ∙ sym same_long in
       let put : mid.words ≡ with_words made.words s (length (segment P s)) us = ap (λ (v : View). v.words) o.writes ∙ ap₂ (λ i j. with_words made.words i j us) at_end.0 start in
       begun P s least.pointers us (there P s p place, taken) put
 
-  near_stands : {new : View} {m m' : Meter} (b : Bool) → HasStructRoom old s least → (children : ChildrenCopied (behind r size.data_words) least.pointers (call_of b mid new s m m') (length (segment P s) + least.data_words)) →
+  near_stands : {r : Reading} {new : View} {m m' : Meter} (b : Bool) → HasStructRoom old s least → (children : ChildrenCopied r least.pointers (call_of b mid new s m m') (length (segment P s) + least.data_words)) →
       new.words ≡ with_segment S s (copied W p (Struct us (kept_each b children.children)))
-  near_stands {new} {m} {m'} b fits children =
+  near_stands {r} {new} {m} {m'} b fits children =
       let H : ℕ = length (segment P s) in
       let q : ℕ = least.pointers in
       let ws : List ℕ = us ++ replicate q 0 in
@@ -113,25 +106,23 @@ module _ {r : Reading} {size least : StructSize} {s p : ℕ} {old made mid : Vie
       let v1 : View = record old { words = mid.words } in
       let v2 : View = record old { words = new.words } in
       let v3 : View = record old { words = with_word new.words s p x } in
-      let kids : ChildrenCopied (behind r size.data_words) q (call_of b v1 v2 s m m') (H + least.data_words) =
+      let kids : ChildrenCopied r q (call_of b v1 v2 s m m') (H + least.data_words) =
       record { children = children.children; counts = children.counts; are_read = children.are_read; made = children.made } in
-      let begins : StructBegun r size least v0 v1 s p H =
-      record { inside = o.inside; less_data = o.less_data; place = place; taken = record { starts = refl; extends = ap (λ T. record old { words = T }) mids } } in
+      let begins : StructBegun us least v0 v1 s p H = record { long = o.long; place = place; taken = record { starts = refl; extends = ap (λ T. record old { words = T }) mids } } in
       let all : v3.words ≡ with_segment P s (copied (segment P s) p (Struct us ts)) = struct_put {new = v3} begins fits.0 kids (ap (λ k. struct_word (offset_to p k) least.data_words q) (sym same_long)) refl in
       let children_there : new.words ≡ with_segment K s (with_children V (H + least.data_words) ts) = subst (λ T. new.words ≡ with_segment T s (with_children (segment T s) (H + least.data_words) ts)) mids children.made in
       let k : ℕ = length V - (H + least.data_words + count ts) in
       let width : length V ≡ H + (length us + q) = length-extended P s ws (there P s p place) ∙ ap (λ i. H + i) (length-append us (replicate q 0) ∙ ap (λ i. length us + i) (length-replicate q 0)) in
       let is : word_at new.words s p ≡ x =
-      stays S s p x (H + least.data_words) ws (pointers k ts) (drop (H + least.data_words + count ts) V) (bodies ts) o.place (omega (arith, same_long, o.place)) (omega (arith, width, long)) children_there in
+      stays S s p x (H + least.data_words) ws (pointers k ts) (drop (H + least.data_words + count ts) V) (bodies ts) o.place (omega (arith, same_long, o.place)) (omega (arith, width, o.long)) children_there in
       pointer_first S s p (Struct us ts) o.place is all
 
-  empty_stands : {new : View} {m m' : Meter} (b : Bool) → least.data_words + least.pointers ≡ 0 → (children : CopiesChildren (behind r size.data_words) least.pointers (change b h.segment (h.at + least.data_words) mid new m m')) →
+  empty_stands : {r : Reading} {new : View} {m m' : Meter} (b : Bool) → least.data_words + least.pointers ≡ 0 → (children : CopiesChildren r least.pointers (change b h.segment (h.at + least.data_words) mid new m m')) →
       new.words ≡ with_segment S s (copied W p (Struct us (kept_each b children.children)))
-  empty_stands {new} b none children =
+  empty_stands {r} {new} b none children =
       let ts : Trees = children.children in
       let e : ℕ = struct_word (2 ^ 30 - 1) 0 0 in
-      let no_data : least.data_words ≡ 0 = omega (arith, none) in
-      let no_words : us ≡ [] = ap (words_from r) no_data in
+      let no_words : us ≡ [] = nil_from_length us (omega (arith, none, o.long)) in
       let no_kids : ts ≡ no_trees = no_trees_left ts (omega (arith, children.counts, none)) in
       let words : word_count_all (kept_each b ts) ≡ 0 = ap (λ t. word_count_all (kept_each b t)) no_kids ∙ ap word_count_all (kept_none b) in
       let stand : AreCopied mid.words new.words h.segment (h.at + least.data_words) (kept_each b ts) = children.stands (inl (omega (arith, o.within, words))) in
@@ -143,9 +134,9 @@ module _ {r : Reading} {size least : StructSize} {s p : ℕ} {old made mid : Vie
       kept_mid ∙ kept_made ∙ o.empty none ∙ ap (λ ws. with_segment S s (set ws p e)) (sym (append-nil W))
       ∙ ap₂ (λ (xs : List ℕ) t. with_segment S s (copied W p (Struct xs t))) (sym no_words) (sym (ap (kept_each b) no_kids ∙ kept_none b))
 
-  pub struct_tight : {new : View} {m m' : Meter} (b : Bool) → length made.words ≤ length new.words → (children : CopiesChildren (behind r size.data_words) least.pointers (change b h.segment (h.at + least.data_words) mid new m m')) → (t : Tree) →
+  pub struct_tight : {r : Reading} {new : View} {m m' : Meter} (b : Bool) → length made.words ≤ length new.words → (children : CopiesChildren r least.pointers (change b h.segment (h.at + least.data_words) mid new m m')) → (t : Tree) →
       kept b t ≡ Struct us (kept_each b children.children) → StandsWhereItFits (change b s p old new m m') t
-  struct_tight {new} {m} {m'} b longer children t form fits =
+  struct_tight {r} {new} {m} {m'} b longer children t form fits =
       cases_of (least.data_words + least.pointers) refl ∙ ap (λ y. with_segment S s (copied W p y)) (sym form)
     where
       cases_of : (n : ℕ) → n ≡ least.data_words + least.pointers → new.words ≡ with_segment S s (copied W p (Struct us (kept_each b children.children)))
@@ -154,16 +145,16 @@ module _ {r : Reading} {size least : StructSize} {s p : ℕ} {old made mid : Vie
           let ts : Trees = kept_each b children.children in
           let d : ℕ = least.data_words in
           let q : ℕ = least.pointers in
-          let words : word_count (kept b t) ≡ d + q + word_count_all ts = ap word_count form ∙ omega (arith, long, kept_each-count b children.children, children.counts) in
+          let words : word_count (kept b t) ≡ d + q + word_count_all ts = ap word_count form ∙ omega (arith, o.long, kept_each-count b children.children, children.counts) in
           let near : HasStructRoom old s least = (omega (arith, same), own_room old made new s p (d + q) o.place o.taken longer (stay_fewer old new s (word_count (kept b t)) (d + q) (omega (arith, words)) fits)) in
           let at_end : StartsBehind S s h = o.behind.near near.0 near.1 in
           let ws : List ℕ = us ++ replicate q 0 in
           let width : length (segment mid.words s) ≡ length W + (d + q) =
-          ap (λ T. length (segment T s)) (mid_near near) ∙ length-extended P s ws (there P s p place) ∙ omega (arith, same_long, long, length-append us (replicate q 0), length-replicate {A = ℕ} q 0) in
+          ap (λ T. length (segment T s)) (mid_near near) ∙ length-extended P s ws (there P s p place) ∙ omega (arith, same_long, o.long, length-append us (replicate q 0), length-replicate {A = ℕ} q 0) in
           let room : mid.room s ≡ old.room s = ap (λ (v : View). v.room s) o.writes ∙ room_kept old made s p o.place o.memory in
           let stand : AreCopied mid.words new.words s (length (segment P s) + d) ts =
           moved mid new (word_count_all ts) (λ i. i + d) ts at_end.0 (at_end.1 ∙ sym same_long) children.stands (stay_later old mid new s s (word_count (kept b t)) (word_count_all ts) (λ f. omega (arith, width, room, f, words)) fits) in
-          near_stands {new = new} {m = m} {m' = m'} b near (record { children = children.children; counts = children.counts; are_read = children.are_read; made = stand })
+          near_stands {r = r} {new = new} {m = m} {m' = m'} b near (record { children = children.children; counts = children.counts; are_read = children.are_read; made = stand })
 
 -- A list of i pointers is made near its pointer.
 pub record PointersMade (i s p : ℕ) (old mid : View) (h : Start) : Type 0 where

@@ -1,5 +1,5 @@
 -- What a copy into a message of any number of segments leaves, and why it stops.
-use Rattle.std.specs.Prelude.{◌≡◌, ◌⊎◌, ℕ, pred, ◌+◌, ◌*◌, ◌≤◌, Bool, true, false, take, length}
+use Rattle.std.specs.Prelude.{◌≡◌, ◌⊎◌, ℕ, pred, ◌+◌, ◌*◌, ◌<◌, ◌≤◌, Bool, true, false, take, length}
 use Rattle.capnp_words.specs.declared.error.ErrorKind.{ErrorKind}
 use Rattle.capnp_pointers.specs.declared.wire_pointer.StructSize.{StructSize}
 use Rattle.capnp_words.specs.Meter.{Meter}
@@ -7,7 +7,7 @@ use Rattle.capnp_format.specs.Numbers.{words_for}
 use Rattle.capnp_format.specs.Segments.{Target, segment, word_at, IsPlace}
 use Rattle.capnp_format.specs.Word.{kind, offset_bits, data_words, pointer_count, element_size, list_count}
 use Rattle.capnp_format.specs.Tree.{Tree, Null, Struct, Pointers, Structs, Trees, Elements, count, element_count}
-use Rattle.capnp_format.specs.Canonical.{trim, trim_each, trim_elements, cut_to, word_count, word_count_all, word_count_elements}
+use Rattle.capnp_format.specs.Canonical.{cut_to, word_count, word_count_all, word_count_elements}
 use Rattle.capnp_arena.specs.View.{View}
 use Rattle.capnp_arena.specs.Written.{with_segment, overwritten}
 use Rattle.capnp_making.specs.Filled.{AreFilled, IsElementFilled, AreElementsFilled, ArePartlyFilled}
@@ -19,31 +19,13 @@ use Rattle.capnp_objects.specs.Faults.{child_at}
 use Rattle.capnp_objects.specs.Outcomes.{Entered, Reads, ReadsAll, ReadsElements}
 use Rattle.capnp_objects.specs.Refusals.{Refused, RefusedAll, RefusedElements, StopsWithin, StopsAmong, StopsAmongElements, BreaksOff, BreaksOffAmong, BreaksOffAmongElements}
 use Rattle.capnp_objects.specs.Reading.{Reading, behind, row, sized, tag_size, words_from}
-use Rattle.capnp_objects.specs.Wanted.{Form, plain, canonical}
+use Rattle.capnp_copies.specs.Forms.{form_of, kept, kept_each, kept_elements}
 use Rattle.capnp_copies.specs.Copied.{with_children, rows_laid}
 use Rattle.capnp_copies.specs.Copies.{IsCopied, AreCopied}
 use Rattle.capnp_copies.specs.Widths.{Uses}
 use Rattle.capnp_copies.specs.Rooms.{IsTooLarge, AreTooLarge, IsTooLargePointers, IsTooLargeStruct, AreTooLargeElements, IsTooLargeList}
 use Rattle.capnp_copies.specs.Widths.{data_used, pointers_used}
 use Rattle.capnp_copies.specs.declared.widths.ElementSizes.{ElementSizes}
-
--- A copy in canonical form, or of a value as it stands.
-abbrev pub form_of : Bool → Form
-form_of true = canonical
-form_of false = plain
-
--- What of a value such a copy keeps; of children, and of elements.
-abbrev pub kept : Bool → Tree → Tree
-kept true t = trim t
-kept false t = t
-
-abbrev pub kept_each : Bool → Trees → Trees
-kept_each true ts = trim_each ts
-kept_each false ts = ts
-
-abbrev pub kept_elements : Bool → Elements → Elements
-kept_elements true es = trim_elements es
-kept_elements false es = es
 
 -- The sections of a struct that are kept, and those of i elements of a list.
 abbrev pub KeepsSections : Bool → Reading → StructSize → StructSize → Type 0
@@ -110,10 +92,14 @@ pub data IsMadeOf (canonicalize : Bool) (r : Reading) (a : Target) (n : ℕ) : T
 abbrev pub WantsWords : Bool → ℕ → Reading → Meter → Meter → Type 0
 WantsWords canonicalize n r m m' = (a : Target) × Entered r m m' a × IsMadeOf canonicalize r a n
 
--- The arena has no room, by the name k, for words of which Q says where they are wanted. What is copied in canonical form is then
--- too large for its segment, as P says of the words in use and the room.
+-- The arena has no room, by the name k, for words of which Q says where they are wanted. What is copied is then too large for its
+-- segment, as P says of the words in use and the room.
 abbrev pub LacksRoom : Change → ErrorKind → (ℕ → Type 0) → (ℕ → ℕ → Type 0) → Type 0
-LacksRoom c k Q P = (n : ℕ) × RefusesWords c.old c.new n k × Q n × (c.canonicalize ≡ true → P (length (segment c.old.words c.segment)) (c.old.room c.segment))
+LacksRoom c k Q P = (n : ℕ) × RefusesWords c.old c.new n k × Q n × P (length (segment c.old.words c.segment)) (c.old.room c.segment)
+
+-- n words more than its segment has are more than it has room for.
+abbrev pub Exceeds : Change → ℕ → Type 0
+Exceeds c n = c.old.room c.segment < length (segment c.old.words c.segment) + n
 
 -- n words are wanted for an object of what a place means; of i pointers from a place on; of i elements.
 abbrev pub WantedAt : Reading → Change → ℕ → Type 0
@@ -151,7 +137,7 @@ Leaves c = ((t : Tree) × IsReplaced c.old.words c.new.words c.segment c.at Null
 
 -- The arena has no room for an object of what a place means, by the name k.
 abbrev pub FindsNoRoom : Reading → Change → ErrorKind → Type 0
-FindsNoRoom r c k = LacksRoom c k (WantedAt r c) (IsTooLarge r)
+FindsNoRoom r c k = LacksRoom c k (WantedAt r c) (IsTooLarge c.canonicalize r)
 
 -- What a place means is read, and what of it is kept stands at the place that was null.
 abbrev pub IsCopyOf : Reading → Change → Type 0
@@ -183,7 +169,7 @@ pub record CopiesChildren (r : Reading) (i : ℕ) (c : Change) : Type 0 where
   pub stands : StandWhereTheyFit c children
 
 pub record StopsAtChildren (r : Reading) (i : ℕ) (c : Change) (k : ErrorKind) : Type 0 where
-  pub why : LacksRoom c k (WantedAmong r i c) (AreTooLarge r i) ⊎ RefusedAll (form_of c.canonicalize) r i c.before c.after k
+  pub why : LacksRoom c k (WantedAmong r i c) (AreTooLarge c.canonicalize r i) ⊎ RefusedAll (form_of c.canonicalize) r i c.before c.after k
   pub off : BreaksOffAmong (form_of c.canonicalize) r i c.before c.after
   pub left : Trees
   pub few : count left ≤ i
@@ -199,7 +185,7 @@ pub record CopiesPointers (r : Reading) (i : ℕ) (c : Change) : Type 0 where
   pub stands : StandsWhereItFits c (Pointers children)
 
 pub record StopsAtPointers (r : Reading) (i : ℕ) (c : Change) (k : ErrorKind) : Type 0 where
-  pub why : LacksRoom c k (λ n. ((c.after ≡ c.before) × (n ≡ i)) ⊎ WantedAmong r i c n) (IsTooLargePointers r i) ⊎ RefusedAll (form_of c.canonicalize) r i c.before c.after k
+  pub why : LacksRoom c k (λ n. ((c.after ≡ c.before) × (n ≡ i)) ⊎ WantedAmong r i c n) (IsTooLargePointers c.canonicalize r i) ⊎ RefusedAll (form_of c.canonicalize) r i c.before c.after k
   pub off : (c.after ≡ c.before) ⊎ BreaksOffAmong (form_of c.canonicalize) r i c.before c.after
   pub left : Leaves c
 
@@ -223,7 +209,7 @@ WantedForStructs r size i c n =
     ⊎ WantedAmongElements r size i c n
 
 pub record StopsAtStruct (r : Reading) (size : StructSize) (c : Change) (k : ErrorKind) : Type 0 where
-  pub why : LacksRoom c k (WantedForStruct r size c) (IsTooLargeStruct r size) ⊎ RefusedAll (form_of c.canonicalize) (behind r size.data_words) size.pointers c.before c.after k
+  pub why : LacksRoom c k (WantedForStruct r size c) (IsTooLargeStruct c.canonicalize r size) ⊎ RefusedAll (form_of c.canonicalize) (behind r size.data_words) size.pointers c.before c.after k
   pub off : (c.after ≡ c.before) ⊎ BreaksOffAmong (form_of c.canonicalize) (behind r size.data_words) size.pointers c.before c.after
   pub left : Leaves c
 
@@ -236,7 +222,7 @@ pub record CopiesStructs (r : Reading) (size : StructSize) (i : ℕ) (c : Change
   pub stands : StandsWhereItFits c (Structs size.data_words size.pointers elements)
 
 pub record StopsAtStructs (r : Reading) (size : StructSize) (i : ℕ) (c : Change) (k : ErrorKind) : Type 0 where
-  pub why : LacksRoom c k (WantedForStructs r size i c) (IsTooLargeList r size i) ⊎ RefusedElements (form_of c.canonicalize) r size i c.before c.after k
+  pub why : LacksRoom c k (WantedForStructs r size i c) (IsTooLargeList c.canonicalize r size i) ⊎ RefusedElements (form_of c.canonicalize) r size i c.before c.after k
   pub off : (c.after ≡ c.before) ⊎ BreaksOffAmongElements (form_of c.canonicalize) r size i c.before c.after
   pub left : Leaves c
 
@@ -260,7 +246,10 @@ abbrev pub CopiesElements : Reading → ElementSizes → ℕ → Change → Type
 CopiesElements r sizes i c = CopiesRows r sizes i 0 c
 
 pub record StopsAtElements (r : Reading) (sizes : ElementSizes) (i : ℕ) (c : Change) (k : ErrorKind) : Type 0 where
-  pub why : LacksRoom c k (WantedAmongElements r sizes.source i c) (λ used room. EndsInZeros c (i * (sizes.kept.data_words + sizes.kept.pointers)) → AreTooLargeElements r sizes i used room) ⊎ RefusedElements (form_of c.canonicalize) r sizes.source i c.before c.after k
+  pub why :
+      LacksRoom c k (WantedAmongElements r sizes.source i c)
+      (λ used room. EndsInZeros c (i * (sizes.kept.data_words + sizes.kept.pointers)) → AreTooLargeElements c.canonicalize r sizes i used room)
+      ⊎ RefusedElements (form_of c.canonicalize) r sizes.source i c.before c.after k
   pub off : BreaksOffAmongElements (form_of c.canonicalize) r sizes.source i c.before c.after
   pub left : ArePartlyFilled c.old.words c.new.words c.segment c.at sizes.kept.data_words sizes.kept.pointers i
   pub memory : SpendsMemory c.old c.new
@@ -279,7 +268,9 @@ pub record CopiesElement (r : Reading) (sizes : ElementSizes) (c : Change) : Typ
       (with_children (overwritten (segment c.old.words c.segment) c.at (words_from r sizes.kept.data_words)) (c.at + sizes.kept.data_words) (kept_each c.canonicalize children))
 
 pub record StopsAtElement (r : Reading) (sizes : ElementSizes) (c : Change) (k : ErrorKind) : Type 0 where
-  pub why : LacksRoom c k (WantedAmong (behind r sizes.source.data_words) sizes.kept.pointers c) (AreTooLarge (behind r sizes.source.data_words) sizes.kept.pointers) ⊎ RefusedAll (form_of c.canonicalize) (behind r sizes.source.data_words) sizes.kept.pointers c.before c.after k
+  pub why :
+      LacksRoom c k (WantedAmong (behind r sizes.source.data_words) sizes.kept.pointers c) (AreTooLarge c.canonicalize (behind r sizes.source.data_words) sizes.kept.pointers)
+      ⊎ RefusedAll (form_of c.canonicalize) (behind r sizes.source.data_words) sizes.kept.pointers c.before c.after k
   pub off : BreaksOffAmong (form_of c.canonicalize) (behind r sizes.source.data_words) sizes.kept.pointers c.before c.after
   pub left : Trees
   pub few : count left ≤ sizes.kept.pointers

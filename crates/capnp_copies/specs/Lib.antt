@@ -1,4 +1,5 @@
 pub mod Copied
+pub mod Forms
 pub mod Copies
 pub mod Rooms
 pub mod Widths

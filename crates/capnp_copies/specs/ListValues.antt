@@ -8,16 +8,19 @@ use Rattle.capnp_pointers.specs.declared.wire_pointer.ElementSize.TheVariants.{P
 use Rattle.capnp_pointers.specs.declared.wire_pointer.StructSize.{StructSize}
 use Rattle.capnp_pointers.specs.Sizes.{size_number}
 use Rattle.capnp_format.specs.Numbers.{words_for, unpacked}
+use Rattle.capnp_format.specs.Canonical.{word_count}
 use Rattle.capnp_format.specs.Tree.{Tree, Null, Flat, Pointers, Structs, count, element_count}
 use Rattle.capnp_arena.specs.declared.arena.reader_arena.ReaderArena.{Ghosts}
 use Rattle.capnp_making.specs.Memory.{RefusesWords}
+use Rattle.capnp_making.specs.Near.{HasOwnRoom}
 use Rattle.capnp_making.specs.Stored.{IsReplaced}
 use Rattle.capnp_objects.specs.Outcomes.{ReadsAll, ReadsElements}
 use Rattle.capnp_objects.specs.Refusals.{RefusedAll, RefusedElements, BreaksOffAmong, BreaksOffAmongElements}
 use Rattle.capnp_objects.specs.Reading.{Reading, reading_at, words_from}
 use Rattle.capnp_objects.specs.Wanted.{Form}
 use Rattle.capnp_readers.specs.declared.readers.list_reader.ListReader.{ListReader}
-use Rattle.capnp_copies.specs.Changes.{Change, KeepsWidths, WantedAmong, WantedAmongElements, PutsAtNull, Leaves, form_of, kept}
+use Rattle.capnp_copies.specs.Changes.{Change, KeepsWidths, WantedAmong, WantedAmongElements, PutsAtNull, Leaves, StandsWhereItFits, Exceeds}
+use Rattle.capnp_copies.specs.Forms.{form_of, kept}
 
 -- So many elements of a size, with these sections where they are structs, of which the first is read at a place.
 pub record ListElements : Type 0 where
@@ -71,9 +74,20 @@ WantedInList list c n =
     ((c.after ≡ c.before) × IsMadeOfList c.canonicalize list n) ⊎ ((list.size ≡ Pointer) × WantedAmong list.first list.count c n)
     ⊎ ((list.size ≡ InlineComposite) × WantedAmongElements list.first list.sections list.count c n)
 
--- The arena has no room for them, by the name k.
+-- Whatever is read of it, what is kept of that is too large for its segment.
+abbrev pub ListExceeds : ListElements → Change → Type 0
+ListExceeds list c = (t : Tree) (m : Meter) → ReadsList (form_of c.canonicalize) list c.before m t → Exceeds c (word_count (kept c.canonicalize t))
+
+-- It can be read, has no more elements than a pointer can say, and what is kept of it fits behind the words of its pointer's
+-- segment.
+abbrev pub ListFits : ListElements → Change → Type 0
+ListFits list c =
+    FitsListPointer list.size list.count (list.sections.data_words + list.sections.pointers) × (t : Tree) × (m : Meter) × ReadsList (form_of c.canonicalize) list c.before m t
+    × HasOwnRoom c.old c.segment (word_count (kept c.canonicalize t))
+
+-- The arena has no room for them, by the name k; then all of it is too large for its segment.
 abbrev pub LacksListRoom : ListElements → Change → ErrorKind → Type 0
-LacksListRoom list c k = (n : ℕ) × RefusesWords c.old c.new n k × WantedInList list c n
+LacksListRoom list c k = (n : ℕ) × RefusesWords c.old c.new n k × WantedInList list c n × ListExceeds list c
 
 -- Why its copy is refused by the name k.
 abbrev pub RefusesElements : ListElements → Change → ErrorKind → Type 0
@@ -84,6 +98,11 @@ pub record CopiesList (list : ListElements) (c : Change) : Type 0 where
   pub value : Tree
   pub is_read : ReadsList (form_of c.canonicalize) list c.before c.after value
   pub made : PutsAtNull c (kept c.canonicalize value)
+  pub stands : StandsWhereItFits c value
+
+-- Whatever its value is, the words of what is kept of it stand behind those of its pointer's segment, in place, where they fit there.
+abbrev pub ListStands : ListElements → Change → Type 0
+ListStands list c = (t : Tree) → ReadsList (form_of c.canonicalize) list c.before c.after t → StandsWhereItFits c t
 
 pub record StopsAtList (list : ListElements) (c : Change) (k : ErrorKind) : Type 0 where
   pub why : RefusesElements list c k

@@ -3,13 +3,14 @@ use Rattle.std.specs.Prelude.{◌≡◌, ◌⊎◌, ℕ, zero, suc, ◌+◌, ◌
 use Rattle.capnp_words.specs.declared.error.ErrorKind.{ErrorKind}
 use Rattle.capnp_words.specs.declared.error.ErrorKind.TheVariants.{MessageTooLarge}
 use Rattle.capnp_format.specs.Bytes.{words_of}
-use Rattle.capnp_format.specs.Canonical.{used_words}
+use Rattle.capnp_format.specs.Canonical.{used_words, word_count}
 use Rattle.capnp_format.specs.Numbers.{from_digits}
 use Rattle.capnp_format.specs.Segments.{Segments}
 use Rattle.capnp_format.specs.Tree.{Null, Struct, Trees, count}
 use Rattle.capnp_arena.specs.declared.arena.reader_arena.ReaderArena.{Ghosts}
 use Rattle.capnp_making.specs.Memory.{RefusesWords, SpendsMemory}
 use Rattle.capnp_making.specs.Filled.{AreFilled}
+use Rattle.capnp_making.specs.Near.{HasOwnRoom}
 use Rattle.capnp_making.specs.Stored.{IsReplaced}
 use Rattle.capnp_words.specs.Meter.{Meter}
 use Rattle.capnp_objects.specs.Wanted.{plain}
@@ -18,7 +19,8 @@ use Rattle.capnp_objects.specs.Refusals.{Refused, RefusedAll, StopsWithin, Break
 use Rattle.capnp_objects.specs.Reading.{Reading, behind, words_from}
 use Rattle.capnp_readers.specs.Sizes.{pointers_read}
 use Rattle.capnp_readers.specs.declared.readers.struct_reader.StructReader.{StructReader}
-use Rattle.capnp_copies.specs.Changes.{Change, WantsWords, WantedAmong, PutsAtNull, Leaves, form_of, kept}
+use Rattle.capnp_copies.specs.Changes.{Change, WantsWords, WantedAmong, PutsAtNull, Leaves, StandsWhereItFits, Exceeds}
+use Rattle.capnp_copies.specs.Forms.{form_of, kept}
 
 -- The word of the first n bits of bytes, the lowest first, with zeros behind them; none where n is 0.
 abbrev pub bits_left : ℕ → List ℕ → List ℕ
@@ -48,15 +50,30 @@ pub record CopiesSections (ws : List ℕ) (r : Reading) (q : ℕ) (c : Change) :
   pub counts : count children ≡ q
   pub are_read : ReadsAll (form_of c.canonicalize) r c.before c.after children
   pub made : PutsAtNull c (kept c.canonicalize (Struct ws children))
+  pub stands : StandsWhereItFits c (Struct ws children)
+
+-- Whatever its pointers mean, the words of what is kept of it stand so.
+abbrev pub SectionsStand : List ℕ → Reading → ℕ → Change → Type 0
+SectionsStand ws r q c = (ts : Trees) → count ts ≡ q → ReadsAll (form_of c.canonicalize) r c.before c.after ts → StandsWhereItFits c (Struct ws ts)
 
 -- n words are wanted for the struct itself, of which both sections are cut, or for an object that one of its pointers leads to.
 abbrev pub WantedInSections : List ℕ → Reading → ℕ → Change → ℕ → Type 0
 WantedInSections ws r q c n =
     ((c.after ≡ c.before) × (n ≡ kept_count c.canonicalize ws + kept_count c.canonicalize (words_from r q))) ⊎ WantedAmong r q c n
 
--- The arena has no room for them, by the name k.
+-- Whatever is read of its pointers, what is kept of it is too large for its segment.
+abbrev pub SectionsExceed : List ℕ → Reading → ℕ → Change → Type 0
+SectionsExceed ws r q c = (ts : Trees) (m : Meter) → count ts ≡ q → ReadsAll (form_of c.canonicalize) r c.before m ts → Exceeds c (word_count (kept c.canonicalize (Struct ws ts)))
+
+-- What its pointers mean can be read, its data section is no wider than one can be, and what is kept of it fits its segment.
+abbrev pub SectionsFit : List ℕ → Reading → ℕ → Change → Type 0
+SectionsFit ws r q c =
+    (kept_count c.canonicalize ws < 2 ^ 16) × (ts : Trees) × (m : Meter) × (count ts ≡ q) × ReadsAll (form_of c.canonicalize) r c.before m ts
+    × HasOwnRoom c.old c.segment (word_count (kept c.canonicalize (Struct ws ts)))
+
+-- The arena has no room for them, by the name k; then all of it is too large for its segment.
 abbrev pub LacksSections : List ℕ → Reading → ℕ → Change → ErrorKind → Type 0
-LacksSections ws r q c k = (n : ℕ) × RefusesWords c.old c.new n k × WantedInSections ws r q c n
+LacksSections ws r q c k = (n : ℕ) × RefusesWords c.old c.new n k × WantedInSections ws r q c n × SectionsExceed ws r q c
 
 -- Why its copy is refused by the name k.
 abbrev pub RefusesSections : List ℕ → Reading → ℕ → Change → ErrorKind → Type 0
@@ -95,6 +112,14 @@ module _ {A : Type 0} (g : Ghosts A) where
   IsStructCopy value c =
       (ts : Trees) × (count ts ≡ value.pointer_count) × ReadsAll (form_of c.canonicalize) (pointers_read g value) c.before c.after ts
       × IsReplaced c.old.words c.new.words c.segment c.at Null (kept c.canonicalize (Struct (data_of value) ts))
+
+  -- The words of what is kept stand behind those of its pointer's segment, in place, where they fit there.
+  abbrev pub StructStands : StructReader A g → Change → Type 0
+  StructStands value c = SectionsStand (data_of value) (pointers_read g value) value.pointer_count c
+
+  -- It can be read, and what is kept of it fits behind the words of its pointer's segment.
+  abbrev pub StructFits : StructReader A g → Change → Type 0
+  StructFits value c = SectionsFit (data_of value) (pointers_read g value) value.pointer_count c
 
   -- Why its copy is refused by the name k.
   abbrev pub RefusesStruct : StructReader A g → Change → ErrorKind → Type 0

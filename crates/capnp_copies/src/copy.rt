@@ -3,7 +3,7 @@
 //!
 //! Each object is made before its children: in the segment of its pointer where it fits, else behind
 //! a landing pad. So the place holds a value at each moment.
-ghost use Rattle.std.specs.Prelude.{◌≡◌, ◌⊎◌, true, length, IsOk, IfOk, IfErr, OnOk, OnErr};
+ghost use Rattle.std.specs.Prelude.{◌≡◌, length, IsOk, IfOk, IfErr, OnOk, OnErr};
 ghost use Rattle.capnp_format.specs.Segments.{segment, word_at, IsPlace};
 ghost use Rattle.capnp_format.specs.Tree.{Null};
 ghost use Rattle.capnp_making.specs.Memory.{KeepsMemory, SpendsMemory};
@@ -11,7 +11,8 @@ ghost use Rattle.capnp_making.specs.Stored.{IsReplaced};
 ghost use Rattle.capnp_objects.specs.Refusals.{BreaksOff};
 ghost use Rattle.capnp_readers.specs.Readers.{reading};
 ghost use Rattle.capnp_copies.specs.Growth.{TakesAtMost};
-ghost use Rattle.capnp_copies.specs.Changes.{IsCopyOf, RefusesValue, form_of, change, StandsAsRead, CopiesValue, StopsAtValue};
+ghost use Rattle.capnp_copies.specs.Changes.{IsCopyOf, RefusesValue, change, StandsAsRead, CopiesValue, StopsAtValue};
+ghost use Rattle.capnp_copies.specs.Forms.{form_of};
 ghost use Rattle.capnp_copies.specs.Copies.{CanBeCopied};
 
 mod children;
@@ -45,8 +46,8 @@ pub use struct_value::copy_struct_value;
 /// A copy, refused or not, takes at most as many words as it is granted to read, and a landing pad for
 /// each pointer that it follows.
 ///
-/// A refusal of the arena is `AllocationFailed` or `MessageTooLarge`, and comes in canonical form only
-/// where the words don't fit behind those of the pointer's segment; a capability is
+/// A refusal of the arena is `AllocationFailed` or `MessageTooLarge`, and comes only where the words
+/// don't fit behind those of the pointer's segment; a capability is
 /// `CannotCreateACanonicalMessageWithACapability` in canonical form; a refusal to read keeps its name.
 /// Then the pointer is null and the words that were allocated are zero; the limiter keeps what was
 /// charged.
@@ -62,7 +63,7 @@ pub fn copy_value<A: BuilderArena, B: ReaderArena>(
     requires null { word_at (A.view arena.old).words id at ≡ 0 }
     ensures copied { IfOk result (λ _. IsCopyOf (reading B.ReaderArena from.entry) (change canonicalize id at (A.view arena.old) (A.view arena.new) lim.old lim.new)) }
     ensures stands { OnOk result (StandsAsRead (reading B.ReaderArena from.entry) (change canonicalize id at (A.view arena.old) (A.view arena.new) lim.old lim.new)) }
-    ensures fits { canonicalize ≡ true → CanBeCopied (reading B.ReaderArena from.entry) lim.old (length (segment (A.view arena.old).words id)) ((A.view arena.old).room id) → IsOk result }
+    ensures fits { CanBeCopied canonicalize (reading B.ReaderArena from.entry) lim.old (length (segment (A.view arena.old).words id)) ((A.view arena.old).room id) → IsOk result }
     ensures refused { IfErr result (RefusesValue (reading B.ReaderArena from.entry) (change canonicalize id at (A.view arena.old) (A.view arena.new) lim.old lim.new)) }
     ensures cleared { OnErr result (IsReplaced (A.view arena.old).words (A.view arena.new).words id at Null Null) }
     ensures spent { OnErr result (BreaksOff (form_of canonicalize) (reading B.ReaderArena from.entry) lim.old lim.new) }

@@ -9,7 +9,7 @@ use Rattle.capnp_objects.specs.Reading.{Reading}
 use Rattle.capnp_objects.specs.Wanted.{canonical}
 use Rattle.capnp_objects.proofs.Limits.{not_for_memory, not_for_size}
 use Rattle.capnp_copies.specs.Rooms.{IsTooLarge}
-use Rattle.capnp_format.specs.Canonical.{encoding, trim, word_count}
+use Rattle.capnp_format.specs.Canonical.{trim, word_count}
 use Rattle.capnp_format.specs.Tree.{Tree}
 use Rattle.capnp_format.proofs.Levels.{one_value}
 use Rattle.capnp_objects.specs.Outcomes.{Reads}
@@ -57,7 +57,7 @@ made_copy r left s p old made l m (Err k) begun copied = tt
 
 -- where it has more, not all words fit in the first
 spread : {r : Reading} {room : ℕ} {l m : Meter} {t : Tree} (old new : View) (s p : ℕ) → IsFreshPlace (record { segments = old.words; segment = s; at = p; room = old.room s }) room → Reads canonical r l m t → StandsWhereItFits (change true s p old new l m) t →
-    (length new.words ≡ 1) ⊎ IsTooLarge r 1 room
+    (length new.words ≡ 1) ⊎ IsTooLarge true r 1 room
 spread {r} {room} {t = t} old new s p fresh reads copy = elim (cases_lt room (1 + word_count (trim t))) [
   | inl beyond ↦ inr (λ u c means. (let same = ap (λ v. word_count (trim v)) (one_value r.segments r.levels r.levels r.segment r.at t u reads.cost c reads.means means).0 in omega (arith, same, beyond)))
   | inr fits ↦
@@ -67,7 +67,7 @@ spread {r} {room} {t = t} old new s p fresh reads copy = elim (cases_lt room (1 
 ]
 
 pub spread_copy : {X : Type 0} {room : ℕ} (r : Reading) (s p : ℕ) (old new : View) (l m : Meter) (P : Tree → Type 0) (o : Result X ErrorKind) → IsFreshPlace (record { segments = old.words; segment = s; at = p; room = old.room s }) room →
-    IfOk o (λ _. (t : Tree) × Reads canonical r l m t × P t) → OnOk o (StandsAsRead r (change true s p old new l m)) → OnOk o ((length new.words ≡ 1) ⊎ IsTooLarge r 1 room)
+    IfOk o (λ _. (t : Tree) × Reads canonical r l m t × P t) → OnOk o (StandsAsRead r (change true s p old new l m)) → OnOk o ((length new.words ≡ 1) ⊎ IsTooLarge true r 1 room)
 spread_copy r s p old new l m P (Ok x) fresh (t, reads, _) stands = spread old new s p fresh reads (stands t reads)
 spread_copy r s p old new l m P (Err k) fresh read stands = tt
 
@@ -90,7 +90,7 @@ refused_try more room w least want (inr (m, refused)) = absurd (never_read want 
 pub last_try : {r : Reading} {left : Option ℕ} {room old new : ℕ} {k : ErrorKind} → (room ≡ max_segment_words) ⊎ (is_message_too_large k ≡ false) → LacksMemoryOr old new k (RefusesCopy r left room k) → LacksMemoryOr old new k (RefusesCopy r left max_segment_words k)
 last_try last (inl memory) = inl memory
 last_try last (inr (inr refused, same)) = inr (inr refused, same)
-last_try {r = r} (inl most) (inr (inl (w, named, large), same)) = inr (inl (w, named, subst (IsTooLarge r 1) most large), same)
+last_try {r = r} (inl most) (inr (inl (w, named, large), same)) = inr (inl (w, named, subst (IsTooLarge true r 1) most large), same)
 last_try (inr other) (inr (inl (w, named, large), same)) = absurd (let wrong : true ≡ false = sym (ap is_message_too_large named) ∙ other in cc)
 
 pub moved_try : {old new old' new' : ℕ} {k : ErrorKind} {P : Type 0} → old ≡ old' → new' ≡ new → LacksMemoryOr old new k P → LacksMemoryOr old' new' k P

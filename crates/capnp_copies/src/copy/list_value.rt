@@ -1,13 +1,14 @@
 //! The copy of a list that is read, whose words are at hand ("Lists", "Canonicalization").
-ghost use Rattle.std.specs.Prelude.{◌≡◌, ◌⊎◌, ◌+◌, ◌-◌, ◌^◌, ◌↔◌, IsTrue, Err, IfOk, IfErr, OnOk, OnErr};
+ghost use Rattle.std.specs.Prelude.{◌≡◌, ◌⊎◌, ◌+◌, ◌-◌, ◌^◌, ◌↔◌, IsTrue, Err, IsOk, IfOk, IfErr, OnOk, OnErr};
 ghost use Rattle.capnp_format.specs.Segments.{word_at, IsPlace};
 ghost use Rattle.capnp_format.specs.Tree.{Null};
 ghost use Rattle.capnp_making.specs.Memory.{KeepsMemory, SpendsMemory};
 ghost use Rattle.capnp_making.specs.Stored.{IsReplaced};
 ghost use Rattle.capnp_words.specs.declared.error.ErrorKind.TheVariants.{MessageTooLarge};
-ghost use Rattle.capnp_copies.specs.Changes.{change, form_of};
+ghost use Rattle.capnp_copies.specs.Changes.{change};
+ghost use Rattle.capnp_copies.specs.Forms.{form_of};
 ghost use Rattle.capnp_copies.specs.Growth.{TakesForList};
-ghost use Rattle.capnp_copies.specs.ListValues.{IsListCopy, RefusesList, CopiesList, StopsAtList, BreaksOffList, IsTooLong, FitsListPointer, elements_read};
+ghost use Rattle.capnp_copies.specs.ListValues.{IsListCopy, ListStands, ListFits, RefusesList, CopiesList, StopsAtList, BreaksOffList, IsTooLong, FitsListPointer, elements_read};
 
 use super::flat::copy_flat;
 use super::lists::{copy_pointers, copy_structs};
@@ -22,7 +23,12 @@ use capnp_words::wire_pointer::{ElementSize, StructSize};
 /// pointers where they are its elements, as structs, or as numbers with padding of zero. Its own words
 /// and its count cost nothing, and what its elements lead to costs what reading it does.
 ///
-/// A refusal of the arena is `AllocationFailed` or `MessageTooLarge`; a capability is
+/// Its words stand behind those of the pointer's segment, in the canonical order of objects, where they
+/// all fit its room, or where the message has but one segment afterwards; then no other word changes but
+/// the pointer.
+///
+/// A refusal of the arena is `AllocationFailed` or `MessageTooLarge`, and comes only where the words
+/// don't fit behind those of the pointer's segment; a capability is
 /// `CannotCreateACanonicalMessageWithACapability` in canonical form; a refusal to read keeps its name;
 /// a list of more elements or words than a list pointer can say, which no message holds, is
 /// `MessageTooLarge(usize::MAX)`. Then the pointer is null and the words that were allocated are zero;
@@ -38,6 +44,8 @@ pub fn copy_list<A: BuilderArena, B: ReaderArena>(
     requires place { IsPlace (A.view arena.old).words id at }
     requires null { word_at (A.view arena.old).words id at ≡ 0 }
     ensures copied { IfOk result (λ _. IsListCopy B.ReaderArena value.entry (change canonicalize id at (A.view arena.old) (A.view arena.new) lim.old lim.new)) }
+    ensures stands { OnOk result (ListStands (elements_read B.ReaderArena value.entry) (change canonicalize id at (A.view arena.old) (A.view arena.new) lim.old lim.new)) }
+    ensures fits { ListFits (elements_read B.ReaderArena value.entry) (change canonicalize id at (A.view arena.old) (A.view arena.new) lim.old lim.new) → IsOk result }
     ensures refused { IfErr result (RefusesList B.ReaderArena value.entry (change canonicalize id at (A.view arena.old) (A.view arena.new) lim.old lim.new)) }
     ensures cleared { OnErr result (IsReplaced (A.view arena.old).words (A.view arena.new).words id at Null Null) }
     ensures spent { OnErr result ((lim.new ≡ lim.old) ⊎ BreaksOffList (form_of canonicalize) (elements_read B.ReaderArena value.entry) lim.old lim.new) }

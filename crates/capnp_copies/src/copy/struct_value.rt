@@ -1,15 +1,16 @@
 //! The copy of a struct that is read, whose sections may stand apart ("Structs",
 //! "Canonicalization").
-ghost use Rattle.std.specs.Prelude.{◌≡◌, ◌⊎◌, ◌≤◌, length, IfOk, IfErr, OnOk, OnErr};
+ghost use Rattle.std.specs.Prelude.{◌≡◌, ◌⊎◌, IsOk, IfOk, IfErr, OnOk, OnErr};
 ghost use Rattle.capnp_format.specs.Segments.{word_at, IsPlace};
 ghost use Rattle.capnp_format.specs.Tree.{Null};
 ghost use Rattle.capnp_making.specs.Memory.{KeepsMemory, SpendsMemory};
 ghost use Rattle.capnp_making.specs.Stored.{IsReplaced};
 ghost use Rattle.capnp_objects.specs.Refusals.{BreaksOffAmong};
 ghost use Rattle.capnp_readers.specs.Sizes.{pointers_read};
-ghost use Rattle.capnp_copies.specs.Changes.{change, form_of, kept};
+ghost use Rattle.capnp_copies.specs.Changes.{change};
+ghost use Rattle.capnp_copies.specs.Forms.{form_of, kept};
 ghost use Rattle.capnp_copies.specs.Growth.{TakesForStruct};
-ghost use Rattle.capnp_copies.specs.StructValues.{IsStructCopy, RefusesStruct, CopiesStructRead, StopsAtStructRead, IsTooWide, kept_count, data_of, pointer_words};
+ghost use Rattle.capnp_copies.specs.StructValues.{IsStructCopy, StructStands, StructFits, RefusesStruct, CopiesStructRead, StopsAtStructRead, IsTooWide, kept_count, data_of, pointer_words};
 
 use super::children::copy_children;
 use crate::section::{kept_words, put_section};
@@ -25,7 +26,12 @@ use capnp_words::words::used_part;
 /// data section is padded with zeros to whole words. Its own words cost nothing, and what its pointers
 /// mean costs what reading it does.
 ///
-/// A refusal of the arena is `AllocationFailed` or `MessageTooLarge`; a capability is
+/// Its words stand behind those of the pointer's segment, in the canonical order of objects, where they
+/// all fit its room, or where the message has but one segment afterwards; then no other word changes but
+/// the pointer.
+///
+/// A refusal of the arena is `AllocationFailed` or `MessageTooLarge`, and comes only where the words
+/// don't fit behind those of the pointer's segment; a capability is
 /// `CannotCreateACanonicalMessageWithACapability` in canonical form; a refusal to read keeps its name;
 /// more than 65535 data words are `MessageTooLarge` with their number. Then the pointer is null and the
 /// words that were allocated are zero; the limiter keeps what was charged.
@@ -40,6 +46,8 @@ pub fn copy_struct_value<A: BuilderArena, B: ReaderArena>(
     requires place { IsPlace (A.view arena.old).words id at }
     requires null { word_at (A.view arena.old).words id at ≡ 0 }
     ensures copied { IfOk result (λ _. IsStructCopy B.ReaderArena value.entry (change canonicalize id at (A.view arena.old) (A.view arena.new) lim.old lim.new)) }
+    ensures stands { OnOk result (StructStands B.ReaderArena value.entry (change canonicalize id at (A.view arena.old) (A.view arena.new) lim.old lim.new)) }
+    ensures fits { StructFits B.ReaderArena value.entry (change canonicalize id at (A.view arena.old) (A.view arena.new) lim.old lim.new) → IsOk result }
     ensures refused { IfErr result (RefusesStruct B.ReaderArena value.entry (change canonicalize id at (A.view arena.old) (A.view arena.new) lim.old lim.new)) }
     ensures cleared { OnErr result (IsReplaced (A.view arena.old).words (A.view arena.new).words id at Null Null) }
     ensures spent { OnErr result ((lim.new ≡ lim.old) ⊎ BreaksOffAmong (form_of canonicalize) (pointers_read B.ReaderArena value.entry) value.entry.pointer_count lim.old lim.new) }

@@ -45,7 +45,7 @@ fn copy_root<A: BuilderArena, B: ReaderArena>(
 ) -> Result<(), ErrorKind>
     requires root { (A.view arena.old).words ≡ (0 ∷ []) ∷ [] }
     ensures copied { IfOk result (λ _. (t : Tree) × IsWithin (reading B.ReaderArena from.entry) left t × IsMadeWhereAlone (A.view arena.new) t) }
-    ensures alone { OnOk result (IsAloneOr (A.view arena.new) (IsTooLarge (reading B.ReaderArena from.entry) 1 ((A.view arena.old).room 0))) }
+    ensures alone { OnOk result (IsAloneOr (A.view arena.new) (IsTooLarge true (reading B.ReaderArena from.entry) 1 ((A.view arena.old).room 0))) }
     ensures refused { IfErr result (RefusesCopyAnywhere (reading B.ReaderArena from.entry) left ((A.view arena.old).room 0)) }
 {
     let mut lim = ReadLimiter::new(left);

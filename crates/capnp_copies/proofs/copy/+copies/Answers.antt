@@ -324,7 +324,7 @@ lists::copy_pointers-returns-in-Err-clause-refused g t c =
     let full : HasRoom (g.A.BuilderArena.view c.args.arena.now) c.args.id c.args.count → ⊥ = λ room. absurd (false≢true (c.in-Err.ensures.fits room)) in
     let none = nothing_made c.args.canonicalize c.args.id c.args.at c.args.count (g.A.BuilderArena.view c.args.arena.now) (g.A.BuilderArena.view c.make_list.new.arena) c.args.lim.now c.args.lim.now c.in-Err.k c.requires.place c.requires.null
     c.in-Err.ensures.named c.in-Err.ensures.refused full in
-    record { why = inl (c.args.count, none.0, inl (refl, refl), λ e. no_pointers_room (reading g.B.ReaderArena c.args.from) c.args.count c.args.id (g.A.BuilderArena.view c.args.arena.now) full); off = inl refl; left = none.1 }
+    record { why = inl (c.args.count, none.0, inl (refl, refl), no_pointers_room c.args.canonicalize (reading g.B.ReaderArena c.args.from) c.args.count c.args.id (g.A.BuilderArena.view c.args.arena.now) full); off = inl refl; left = none.1 }
 
 -- Lists of structs.
 

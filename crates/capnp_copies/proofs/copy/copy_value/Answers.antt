@@ -15,7 +15,7 @@ returns-in-Err-clause-taken g c =
     takes_last c.in-Err.ensures.taken (words_pruned (g.A.BuilderArena.view c.copy_object.new.arena) (g.A.BuilderArena.view c.clear.new.arena) c.clear.ensures.only)
 
 pub returns-in-Err-clause-fits : goal.returns-in-Err-clause-fits
-returns-in-Err-clause-fits g c = λ canonicalize can. absurd (stops_rightly c.in-Err.ensures.refused canonicalize can)
+returns-in-Err-clause-fits g c = λ can. absurd (stops_rightly c.in-Err.ensures.refused can)
 
 -- A reading gives one value.
 pub returns-in-Ok-clause-stands : goal.returns-in-Ok-clause-stands

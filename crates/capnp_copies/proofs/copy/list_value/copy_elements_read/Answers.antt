@@ -9,9 +9,9 @@ use Rattle.capnp_pointers.specs.Sizes.{size_number}
 use Rattle.capnp_copies.specs.Changes.{Change, change}
 use Rattle.capnp_copies.specs.ListValues.{ListElements, FitsListPointer, elements_read}
 use Rattle.capnp_copies.proofs.FilledValues.{FlatOutcome}
-use Rattle.capnp_copies.proofs.FlatRead.{err_so, flat_words}
+use Rattle.capnp_copies.proofs.FlatRead.{ok_so, err_so, flat_words}
 use Rattle.capnp_copies.proofs.Growth.{nothing_read, numbers_take}
-use Rattle.capnp_copies.proofs.ListValues.{too_long, number_size, few_numbers, numbers_held, numbers_copied, numbers_stop, pointers_list_stops, structs_list_stops}
+use Rattle.capnp_copies.proofs.ListValues.{too_long, number_size, few_numbers, numbers_held, numbers_copied, numbers_stop, pointers_list_copied, structs_list_copied, pointers_list_stops, structs_list_stops}
 use Rattle.capnp_copies.proofs.copy.list_value.copy_elements_read.Goals as goal
 
 -- A list that is too long.
@@ -44,10 +44,20 @@ returns-in_default g c =
       long = λ long. absurd (long (c.fits_list_pointer.ensures.0 (search rules)));
       taken = numbers_take list call c.in_default.not-Pointer c.in_default.not-InlineComposite refl c.copy_flat.ensures.taken;
       copied = numbers_copied list call value.content.now c.copy_flat.result flat held.stand refl outcome;
-      refused = numbers_stop list call (words_for size value.count) (Flat size (unpacked size value.count (words_of value.content.now))) c.copy_flat.result flat refl c.requires.place c.requires.null refl outcome;
+      refused = numbers_stop list call value.content.now c.copy_flat.result flat held.stand (c.requires.place, c.requires.null) refl outcome;
     }
 
 -- Pointers, and structs.
+
+pub returns-in-Pointer-clause-copied : goal.returns-in-Pointer-clause-copied
+returns-in-Pointer-clause-copied g c =
+    let nl = to_z-of_z w32 c.args.value.nesting_limit (search rules) in
+    ok_so c.copy_pointers.result _ _ c.copy_pointers.ensures.copied (λ x copies. pointers_list_copied c.in-Pointer.is (rw nl at copies))
+
+pub returns-in-InlineComposite-clause-copied : goal.returns-in-InlineComposite-clause-copied
+returns-in-InlineComposite-clause-copied g c =
+    let nl = to_z-of_z w32 c.args.value.nesting_limit (search rules) in
+    ok_so c.copy_structs.result _ _ c.copy_structs.ensures.copied (λ x copies. structs_list_copied c.in-InlineComposite.is (rw nl at copies))
 
 pub returns-in-Pointer-clause-refused : goal.returns-in-Pointer-clause-refused
 returns-in-Pointer-clause-refused g c =

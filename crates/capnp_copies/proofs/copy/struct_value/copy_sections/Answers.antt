@@ -10,6 +10,9 @@ use Rattle.capnp_copies.specs.StructValues.{data_of}
 use Rattle.capnp_copies.proofs.DataSections.{kept_count-le, section_long}
 use Rattle.capnp_copies.proofs.FilledObjects.{nothing_made, nothing_left}
 use Rattle.capnp_copies.proofs.FilledSections.{SectionsBegun, sections_null, sections_inside, sections_copied, sections_stop}
+use Rattle.capnp_copies.proofs.KeptForms.{SectionsCut}
+use Rattle.capnp_copies.proofs.TooLarge.{no_sections_room}
+use Rattle.capnp_making.specs.Memory.{HasRoom}
 use Rattle.capnp_copies.proofs.FlatRead.{ok_so, err_so}
 use Rattle.capnp_making.proofs.Memory.{keeps_itself, spends_nothing}
 use Rattle.capnp_format.specs.Tree.{Null}
@@ -30,9 +33,20 @@ returns-in-Err-clause-refused g c =
 pub returns-in-Err-make_struct-clause-refused : goal.returns-in-Err-make_struct-clause-refused
 returns-in-Err-make_struct-clause-refused g c =
     let least = c.in-Ok.kept in
+    let full : HasRoom (g.A.BuilderArena.view c.args.arena.now) c.args.id (least.data_words + least.pointers) → ⊥ = λ room. absurd (false≢true (c.in-Err-make_struct.ensures.fits room)) in
     let none = nothing_made c.args.canonicalize c.args.id c.args.at (least.data_words + least.pointers) (g.A.BuilderArena.view c.args.arena.now) (g.A.BuilderArena.view c.make_struct.new.arena) c.args.lim.now c.args.lim.now c.in-Err-make_struct.k c.requires.place c.requires.null
-    c.in-Err-make_struct.ensures.named c.in-Err-make_struct.ensures.refused (λ room. absurd (false≢true (c.in-Err-make_struct.ensures.fits room))) in
-    record { why = inl (least.data_words + least.pointers, none.0, inl (refl, ap₂ (λ i j. i + j) c.in-Ok.ensures.data c.in-Ok.ensures.pointers)); off = inl refl; left = none.1 }
+    c.in-Err-make_struct.ensures.named c.in-Err-make_struct.ensures.refused full in
+    let cut : SectionsCut c.args.canonicalize (data_of g.B.ReaderArena c.args.value) (pointers_read g.B.ReaderArena c.args.value) c.args.value.pointer_count least = record { inside = c.args.value.inside; of_data = c.in-Ok.ensures.data; of_pointers = c.in-Ok.ensures.pointers } in
+    record {
+      why = inl (
+        least.data_words + least.pointers,
+        none.0,
+        inl (refl, ap₂ (λ i j. i + j) c.in-Ok.ensures.data c.in-Ok.ensures.pointers),
+        λ ts m counts are_read. no_sections_room c.args.id (g.A.BuilderArena.view c.args.arena.now) c.args.canonicalize cut full ts are_read.cost counts are_read.means,
+      );
+      off = inl refl;
+      left = none.1;
+    }
 
 -- The struct is made, and its data words are written.
 
@@ -47,12 +61,16 @@ pub copy_children-requires-clause-null : goal.copy_children-requires-clause-null
 copy_children-requires-clause-null g c =
     let begun : SectionsBegun c.args.canonicalize (data_of g.B.ReaderArena c.args.value) (pointers_read g.B.ReaderArena c.args.value) c.args.value.pointer_count c.in-Ok.kept c.args.id c.args.at (g.A.BuilderArena.view c.args.arena.now) (g.A.BuilderArena.view c.make_struct.new.arena)
     (g.A.BuilderArena.view c.put_section.new.arena) c.in-Ok-make_struct.start = record {
-      inside = c.args.value.inside;
-      of_data = c.in-Ok.ensures.data;
-      of_pointers = c.in-Ok.ensures.pointers;
+      cut = record { inside = c.args.value.inside; of_data = c.in-Ok.ensures.data; of_pointers = c.in-Ok.ensures.pointers };
       begun = record { made = c.in-Ok-make_struct.ensures.made; start = c.in-Ok-make_struct.ensures.start; inside = c.in-Ok-make_struct.ensures.inside };
       memory = c.in-Ok-make_struct.ensures.granted;
       writes = c.put_section.ensures;
+      place = c.requires.place;
+      within = g.met.A.BuilderArena.within c.put_section.new.arena c.in-Ok-make_struct.start.segment;
+      taken = c.in-Ok-make_struct.ensures.taken;
+      behind = c.in-Ok-make_struct.ensures.behind;
+      near = c.in-Ok-make_struct.ensures.near;
+      empty = c.in-Ok-make_struct.ensures.empty;
     } in
     rw (c.from.ensures, c.from-pointers.ensures) (sections_null begun)
 
@@ -60,12 +78,16 @@ pub copy_children-requires-clause-inside : goal.copy_children-requires-clause-in
 copy_children-requires-clause-inside g c =
     let begun : SectionsBegun c.args.canonicalize (data_of g.B.ReaderArena c.args.value) (pointers_read g.B.ReaderArena c.args.value) c.args.value.pointer_count c.in-Ok.kept c.args.id c.args.at (g.A.BuilderArena.view c.args.arena.now) (g.A.BuilderArena.view c.make_struct.new.arena)
     (g.A.BuilderArena.view c.put_section.new.arena) c.in-Ok-make_struct.start = record {
-      inside = c.args.value.inside;
-      of_data = c.in-Ok.ensures.data;
-      of_pointers = c.in-Ok.ensures.pointers;
+      cut = record { inside = c.args.value.inside; of_data = c.in-Ok.ensures.data; of_pointers = c.in-Ok.ensures.pointers };
       begun = record { made = c.in-Ok-make_struct.ensures.made; start = c.in-Ok-make_struct.ensures.start; inside = c.in-Ok-make_struct.ensures.inside };
       memory = c.in-Ok-make_struct.ensures.granted;
       writes = c.put_section.ensures;
+      place = c.requires.place;
+      within = g.met.A.BuilderArena.within c.put_section.new.arena c.in-Ok-make_struct.start.segment;
+      taken = c.in-Ok-make_struct.ensures.taken;
+      behind = c.in-Ok-make_struct.ensures.behind;
+      near = c.in-Ok-make_struct.ensures.near;
+      empty = c.in-Ok-make_struct.ensures.empty;
     } in
     rw c.from-pointers.ensures (sections_inside begun)
 
@@ -74,12 +96,16 @@ returns-clause-copied g c =
     let nl = to_z-of_z w32 c.args.value.nesting_limit (search rules) in
     let begun : SectionsBegun c.args.canonicalize (data_of g.B.ReaderArena c.args.value) (pointers_read g.B.ReaderArena c.args.value) c.args.value.pointer_count c.in-Ok.kept c.args.id c.args.at (g.A.BuilderArena.view c.args.arena.now) (g.A.BuilderArena.view c.make_struct.new.arena)
     (g.A.BuilderArena.view c.put_section.new.arena) c.in-Ok-make_struct.start = record {
-      inside = c.args.value.inside;
-      of_data = c.in-Ok.ensures.data;
-      of_pointers = c.in-Ok.ensures.pointers;
+      cut = record { inside = c.args.value.inside; of_data = c.in-Ok.ensures.data; of_pointers = c.in-Ok.ensures.pointers };
       begun = record { made = c.in-Ok-make_struct.ensures.made; start = c.in-Ok-make_struct.ensures.start; inside = c.in-Ok-make_struct.ensures.inside };
       memory = c.in-Ok-make_struct.ensures.granted;
       writes = c.put_section.ensures;
+      place = c.requires.place;
+      within = g.met.A.BuilderArena.within c.put_section.new.arena c.in-Ok-make_struct.start.segment;
+      taken = c.in-Ok-make_struct.ensures.taken;
+      behind = c.in-Ok-make_struct.ensures.behind;
+      near = c.in-Ok-make_struct.ensures.near;
+      empty = c.in-Ok-make_struct.ensures.empty;
     } in
     ok_so c.copy_children.result _ _ c.copy_children.ensures.copied (λ x made. sections_copied begun (rw (c.from.ensures, c.from-pointers.ensures, nl) at made))
 
@@ -88,12 +114,16 @@ returns-clause-refused g c =
     let nl = to_z-of_z w32 c.args.value.nesting_limit (search rules) in
     let begun : SectionsBegun c.args.canonicalize (data_of g.B.ReaderArena c.args.value) (pointers_read g.B.ReaderArena c.args.value) c.args.value.pointer_count c.in-Ok.kept c.args.id c.args.at (g.A.BuilderArena.view c.args.arena.now) (g.A.BuilderArena.view c.make_struct.new.arena)
     (g.A.BuilderArena.view c.put_section.new.arena) c.in-Ok-make_struct.start = record {
-      inside = c.args.value.inside;
-      of_data = c.in-Ok.ensures.data;
-      of_pointers = c.in-Ok.ensures.pointers;
+      cut = record { inside = c.args.value.inside; of_data = c.in-Ok.ensures.data; of_pointers = c.in-Ok.ensures.pointers };
       begun = record { made = c.in-Ok-make_struct.ensures.made; start = c.in-Ok-make_struct.ensures.start; inside = c.in-Ok-make_struct.ensures.inside };
       memory = c.in-Ok-make_struct.ensures.granted;
       writes = c.put_section.ensures;
+      place = c.requires.place;
+      within = g.met.A.BuilderArena.within c.put_section.new.arena c.in-Ok-make_struct.start.segment;
+      taken = c.in-Ok-make_struct.ensures.taken;
+      behind = c.in-Ok-make_struct.ensures.behind;
+      near = c.in-Ok-make_struct.ensures.near;
+      empty = c.in-Ok-make_struct.ensures.empty;
     } in
     err_so c.copy_children.result _ _ c.copy_children.ensures.refused (λ k stop. sections_stop begun (rw (c.from.ensures, c.from-pointers.ensures, nl) at stop))
 

@@ -1,14 +1,22 @@
 use Rattle.std.proofs.Common.{inl, inr}
 use Rattle.capnp_making.proofs.Memory.{words_refused_before}
 use Rattle.capnp_copies.proofs.Growth.{takes_last, words_pruned}
+use Rattle.capnp_copies.proofs.OneReading.{sections_refused_rightly, sections_stand}
 use Rattle.capnp_copies.proofs.copy.struct_value.copy_struct_value.Goals as goal
 
 pub returns-in-Err-clause-refused : goal.returns-in-Err-clause-refused
 returns-in-Err-clause-refused g c = elim c.in-Err.ensures.refused.why [
-  | inl x ↦ inl (x.0, words_refused_before (g.A.BuilderArena.view c.args.arena.now) (g.A.BuilderArena.view c.copy_sections.new.arena) (g.A.BuilderArena.view c.clear.new.arena) x.0 c.in-Err.k x.1 c.clear.ensures.limits c.clear.ensures.only, x.2)
+  | inl x ↦ inl (x.0, words_refused_before (g.A.BuilderArena.view c.args.arena.now) (g.A.BuilderArena.view c.copy_sections.new.arena) (g.A.BuilderArena.view c.clear.new.arena) x.0 c.in-Err.k x.1 c.clear.ensures.limits c.clear.ensures.only, x.2, x.3)
   | inr x ↦ inr x
 ]
 
 pub returns-in-Err-clause-taken : goal.returns-in-Err-clause-taken
 returns-in-Err-clause-taken g c =
     takes_last c.in-Err.ensures.taken (words_pruned (g.A.BuilderArena.view c.copy_sections.new.arena) (g.A.BuilderArena.view c.clear.new.arena) c.clear.ensures.only)
+
+-- A reading gives one value.
+pub returns-in-Ok-clause-stands : goal.returns-in-Ok-clause-stands
+returns-in-Ok-clause-stands g c = λ ts counts are_read. sections_stand c.in-Ok.ensures.copied ts counts are_read
+
+pub returns-in-Err-clause-fits : goal.returns-in-Err-clause-fits
+returns-in-Err-clause-fits g c = λ fits. absurd (sections_refused_rightly c.in-Err.ensures.refused fits)
