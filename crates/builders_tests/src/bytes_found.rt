@@ -19,11 +19,12 @@ enum Kind {
 fn found(
     rt: &impl Abort,
     alloc: Global,
+    room: u16,
     object: Object,
     kind: Kind,
     default: Option<&[u8]>,
 ) -> Result<usize, ErrorKind> {
-    let mut arena = made(rt, alloc, 8, &[(0, 0, object)]);
+    let mut arena = made(rt, alloc, room, &[(0, 0, object)]);
     let root = pointer(rt, &mut arena, 0, 0);
     let (sought, result) = match kind {
         Kind::Data => (root.find_data(default), root.get_data(default)),
@@ -64,9 +65,14 @@ fn kinds(rt: HostRuntime) {
         (Object::Struct(ONE_EACH), Err(no_list), Err(no_list)),
         (Object::Capability(5), Err(no_list), Err(no_list)),
     ] {
-        for (kind, want) in [(Kind::Data, data), (Kind::Text, text)] {
-            let got = found(&rt, rt.alloc(), object, kind, None);
-            assert!(rt; got == want, "{object:?} as {kind:?}");
+        for (room, kind, want) in [
+            (1, Kind::Data, data),
+            (8, Kind::Data, data),
+            (1, Kind::Text, text),
+            (8, Kind::Text, text),
+        ] {
+            let got = found(&rt, rt.alloc(), room, object, kind, None);
+            assert!(rt; got == want, "{object:?} as {kind:?}, {room}");
         }
     }
 }
@@ -94,17 +100,21 @@ fn defaults(rt: HostRuntime) {
         (text, "00000000000000", Ok(1)),
     ] {
         let bytes = bytes_of(rt.alloc(), default).expect(&rt, "words");
-        let got = found(&rt, rt.alloc(), object, Kind::Text, Some(bytes.as_slice()));
-        assert!(rt; got == want, "{object:?} and {default}");
+        for room in [1, 8] {
+            let default = Some(bytes.as_slice());
+            let got = found(&rt, rt.alloc(), room, object, Kind::Text, default);
+            assert!(rt; got == want, "{object:?}, {room}");
+        }
     }
 }
 
-/// Bytes written in place, behind a near pointer and behind a far one.
+/// Bytes written in place, behind a near pointer and behind a far one, by the call that finds and lends
+/// them and then by the two that do each.
 #[test]
 fn written(rt: HostRuntime) {
     for (room, want) in [
-        (8, "010000002a000000 617a630078000000"),
-        (1, "0200000001000000, 010000002a000000 617a630078000000"),
+        (8, "010000002a000000 797a630078000000"),
+        (1, "0200000001000000, 010000002a000000 797a630078000000"),
     ] {
         let data = Object::Data(b"abc\0x");
         let mut arena = made(&rt, rt.alloc(), room, &[(0, 0, data)]);
@@ -113,6 +123,11 @@ fn written(rt: HostRuntime) {
             .expect(&rt, "data");
         assert!(rt; bytes.len() == 5);
         bytes[1] = b'z';
+        let mut root = pointer(&rt, &mut arena, 0, 0);
+        let place = root.find_data(None).expect(&rt, "data");
+        let bytes = root.bytes_mut(place);
+        assert!(rt; bytes.len() == 5 && &*bytes == b"azc\0x".as_slice());
+        bytes[0] = b'y';
         assert!(rt; has_words(&rt, rt.alloc(), &arena, want), "{want}");
     }
 }

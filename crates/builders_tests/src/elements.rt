@@ -1,7 +1,14 @@
 //! Elements of lists of a message that is built.
+ghost use Rattle.std.specs.Prelude.{◌≡◌};
+ghost use Rattle.capnp_readers.specs.Sections.{data_bits};
+
+use crate::objects::{arena_of_root, check_list, has_words, pointer};
 use capnp_arena::arena::{BuilderArena, BuilderArenaImpl, HeapAllocator, ReaderArena};
-use capnp_builders::builders::{PointerBuilder, PrimitiveElement};
-use capnp_words::wire_pointer::{ElementSize, StructSize};
+use capnp_builders::builders::{ListBuilder, PointerBuilder, PrimitiveElement};
+use capnp_readers::readers::ListPlace;
+use capnp_words::wire_pointer::{ElementSize, StructSize, data_bits_per_element};
+use std::alloc::Global;
+use std::process::Abort;
 use std::test::Fail;
 
 /// Numbers of two bytes.
@@ -86,5 +93,91 @@ fn structs(rt: HostRuntime) -> Result<(), Fail> {
                 ][..]
             )
     );
+    Ok(())
+}
+
+/// How many bits of data an element of a list has.
+fn data_bits_of(place: ListPlace) -> u32
+    ensures { result ≡ data_bits place.size place.struct_size }
+{
+    match place.size {
+        ElementSize::InlineComposite => 64 * u32::from(place.struct_size.data_words),
+        size => data_bits_per_element(size),
+    }
+}
+
+/// Writes the second element of a list through a list that is borrowed, and reads it through the
+/// builder and then through a reader.
+fn set_second<T: PrimitiveElement, A: BuilderArena>(
+    rt: &impl Abort,
+    mut list: ListBuilder<'_, A>,
+    value: T,
+) -> (T, T) {
+    let needed = data_bits_per_element(T::element_size());
+    let mut borrowed = list.reborrow();
+    check_list(rt, &borrowed);
+    if borrowed.len() < 2 || data_bits_of(borrowed.place) < needed {
+        panic!(rt; "wider elements were expected");
+    }
+    T::set(&mut borrowed, 1, value);
+    check_list(rt, &list);
+    if list.len() < 2 || data_bits_of(list.place) < needed {
+        panic!(rt; "wider elements were expected");
+    }
+    let built = T::get_from_builder(&list, 1);
+    let reader = list.into_reader();
+    if reader.len() < 2 || reader.element_data_bits() < needed {
+        panic!(rt; "wider elements were expected");
+    }
+    (built, T::get(&reader, 1))
+}
+
+/// Writes the second of two elements of a type's own size, behind a landing pad, and reads it twice.
+fn written<T: PrimitiveElement>(rt: &impl Abort, alloc: Global, value: T, want: &str) -> (T, T) {
+    let mut arena = arena_of_root(rt, alloc, HeapAllocator::new(alloc, 1));
+    let size = T::element_size();
+    assert!(rt; size != ElementSize::InlineComposite);
+    let list = pointer(rt, &mut arena, 0, 0)
+        .init_list(size, 2)
+        .expect(rt, "memory");
+    let read = set_second(rt, list, value);
+    assert!(rt; has_words(rt, alloc, &arena, want), "{want}");
+    read
+}
+
+/// Each type of element, in a second segment.
+#[test]
+fn each_type(rt: HostRuntime) {
+    let alloc = rt.alloc();
+    let want = "0200000001000000, 0100000011000000 0200000000000000";
+    assert!(rt; written(&rt, alloc, true, want) == (true, true));
+    let want = "0200000001000000, 0100000012000000 0012000000000000";
+    assert!(rt; written(&rt, alloc, 0x12u8, want) == (0x12, 0x12));
+    let want = "0200000001000000, 0100000012000000 00fe000000000000";
+    assert!(rt; written(&rt, alloc, -2i8, want) == (-2, -2));
+    let want = "0200000001000000, 0100000013000000 0000341200000000";
+    assert!(rt; written(&rt, alloc, 0x1234u16, want) == (0x1234, 0x1234));
+    let want = "0200000001000000, 0100000013000000 0000feff00000000";
+    assert!(rt; written(&rt, alloc, -2i16, want) == (-2, -2));
+    let want = "0200000001000000, 0100000014000000 0000000078563412";
+    assert!(rt; written(&rt, alloc, 0x1234_5678u32, want) == (0x1234_5678, 0x1234_5678));
+    let want = "0200000001000000, 0100000014000000 00000000feffffff";
+    assert!(rt; written(&rt, alloc, -2i32, want) == (-2, -2));
+    let want = "0200000001000000, 0100000015000000 0000000000000000 f0debc9a78563412";
+    let number = 0x1234_5678_9abc_def0u64;
+    assert!(rt; written(&rt, alloc, number, want) == (number, number));
+    let want = "0200000001000000, 0100000015000000 0000000000000000 feffffffffffffff";
+    assert!(rt; written(&rt, alloc, -2i64, want) == (-2, -2));
+}
+
+/// Nothing, of a list of nothing, which takes no words, and of a list of bytes in a second segment.
+#[test]
+fn nothing(rt: HostRuntime) -> Result<(), Fail> {
+    let ((), ()) = written(&rt, rt.alloc(), (), "0100000010000000");
+    let mut arena = arena_of_root(&rt, rt.alloc(), HeapAllocator::new(rt.alloc(), 1));
+    let list = pointer(&rt, &mut arena, 0, 0).init_list(ElementSize::Byte, 2)?;
+    let ((), ()) = set_second(&rt, list, ());
+    let want = "0200000001000000, 0100000012000000 0000000000000000";
+    assert!(rt; has_words(&rt, rt.alloc(), &arena, want));
     Ok(())
 }

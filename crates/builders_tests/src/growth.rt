@@ -25,13 +25,12 @@ const LIST: &str =
 const LIST_APART: &str =
     "0200000001000000, 0100000017000000 0800000000000100 0200000002000000 0000000000000000, 0100000012000000 6100000000000000";
 
-/// A call that copies what the root of a message means.
+/// A call that copies what the root of a message means, in canonical form where it says so.
 #[derive(Clone, Copy, Debug)]
 enum Call {
-    Plain,
-    Canonical,
-    Struct,
-    List,
+    Value(bool),
+    Struct(bool),
+    List(bool),
     Content,
 }
 
@@ -48,16 +47,15 @@ fn copied<A: BuilderArena>(
     let from = PointerReader::get_root_from_arena(&source, &mut lim).expect(rt, "a root");
     let mut root = pointer(rt, arena, 0, 0);
     match call {
-        Call::Plain => root.copy_from(from, &mut lim, false),
-        Call::Canonical => root.copy_from(from, &mut lim, true),
-        Call::Struct => {
+        Call::Value(canonicalize) => root.copy_from(from, &mut lim, canonicalize),
+        Call::Struct(canonicalize) => {
             let value = from.get_struct(&mut lim, None).expect(rt, "a struct");
-            root.set_struct(&value, &mut lim, false)
+            root.set_struct(&value, &mut lim, canonicalize)
         }
-        Call::List => {
+        Call::List(canonicalize) => {
             let size = ElementSize::InlineComposite;
             let list = from.get_list(&mut lim, size, None).expect(rt, "a list");
-            root.set_list(&list, &mut lim, false)
+            root.set_list(&list, &mut lim, canonicalize)
         }
         Call::Content => {
             let value = from.get_struct(&mut lim, None).expect(rt, "a struct");
@@ -81,28 +79,59 @@ fn one_word<'a>(
     arena_of_root(rt, alloc, allocator)
 }
 
+/// A copy with so many requests granted: what it gives, the words that are there then, and the words of
+/// each segment as they come back.
+fn check(
+    rt: &impl Abort,
+    alloc: Global,
+    (call, message): (Call, &str),
+    requests: u64,
+    (want, words, segments): (Result<(), ErrorKind>, &str, u64),
+) {
+    let returned = Cell::new(0);
+    let mut arena = one_word(rt, alloc, requests, &returned);
+    let result = copied(rt, alloc, &mut arena, call, message);
+    assert!(rt; result == want, "{call:?}, {requests}");
+    assert!(rt;
+        arena.refused() == u64::from(want.is_err()),
+        "{call:?}, {requests}"
+    );
+    assert!(rt; has_words(rt, alloc, &arena, words), "{call:?}, {requests}");
+    drop(arena);
+    assert!(rt; returned.get() == segments, "{call:?}, {requests}");
+}
+
+/// The memory for the first object, for its row, for the text and for its row is refused in turn. Then
+/// the root is null and the words that were taken are zero; but a struct whose content is copied stays,
+/// with a null pointer. Each segment comes back once.
 #[test]
 fn each_request_in_turn(rt: HostRuntime) {
-    let returned = Cell::new(0);
-    for (call, message, want) in [
-        (Call::Plain, STRUCT, STRUCT_APART),
-        (Call::Canonical, STRUCT, STRUCT_APART),
-        (Call::Struct, STRUCT, STRUCT_APART),
-        (Call::List, LIST, LIST_APART),
-        (Call::Content, STRUCT, STRUCT_APART),
+    let failed = Err(ErrorKind::AllocationFailed);
+    let null = "0000000000000000";
+    let three = "0000000000000000, 0000000000000000 0000000000000000 0000000000000000";
+    let four =
+        "0000000000000000, 0000000000000000 0000000000000000 0000000000000000 0000000000000000";
+    let kept = "0200000001000000, 0000000001000100 0700000000000000 0000000000000000";
+    let of_struct = [1, 301, 103, 20_103, 10_302];
+    let of_list = [1, 401, 104, 20_104, 10_402];
+    for (call, message, left, want, segments) in [
+        (Call::Value(false), STRUCT, three, STRUCT_APART, of_struct),
+        (Call::Value(true), STRUCT, three, STRUCT_APART, of_struct),
+        (Call::Struct(false), STRUCT, three, STRUCT_APART, of_struct),
+        (Call::Struct(true), STRUCT, three, STRUCT_APART, of_struct),
+        (Call::List(false), LIST, four, LIST_APART, of_list),
+        (Call::List(true), LIST, four, LIST_APART, of_list),
+        (Call::Content, STRUCT, kept, STRUCT_APART, of_struct),
     ] {
-        for requests in 2..6 {
-            let mut arena = one_word(&rt, rt.alloc(), requests, &returned);
-            let result = copied(&rt, rt.alloc(), &mut arena, call, message);
-            assert!(rt;
-                result == Err(ErrorKind::AllocationFailed),
-                "{call:?}, {requests}"
-            );
-            assert!(rt; arena.refused() == 1, "{call:?}, {requests}");
+        let [second, second_row, third, third_row, all] = segments;
+        for (requests, row) in [
+            (2, (failed, null, second)),
+            (3, (failed, null, second_row)),
+            (4, (failed, left, third)),
+            (5, (failed, left, third_row)),
+            (6, (Ok(()), want, all)),
+        ] {
+            check(&rt, rt.alloc(), (call, message), requests, row);
         }
-        let mut arena = one_word(&rt, rt.alloc(), 6, &returned);
-        let result = copied(&rt, rt.alloc(), &mut arena, call, message);
-        assert!(rt; result == Ok(()), "{call:?}");
-        assert!(rt; has_words(&rt, rt.alloc(), &arena, want), "{call:?}");
     }
 }

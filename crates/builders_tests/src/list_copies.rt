@@ -166,21 +166,20 @@ fn over_segments(rt: HostRuntime) {
 }
 
 /// Memory that is refused, for the list and then for what its first pointer leads to: the words that
-/// were taken are zero, and what was read is paid.
+/// were taken are zero, what was read is paid, and each segment comes back once.
 #[test]
 fn refused_growth(rt: HostRuntime) {
     let source = message(&rt, rt.alloc(), POINTERS, 64);
     let list = list_of(&rt, &source, ElementSize::Pointer);
-    let returned = Cell::new(0);
-    for (requests, left, want) in [
-        (2, 5, "0000000000000000"),
-        (3, 5, "0000000000000000"),
-        (
-            4,
-            4,
-            "0000000000000000, 0000000000000000 0000000000000000 0000000000000000",
-        ),
+    let null = "0000000000000000";
+    let zeros = "0000000000000000, 0000000000000000 0000000000000000 0000000000000000";
+    for (requests, left, want, segments) in [
+        (2, 5, null, 2),
+        (3, 5, null, 302),
+        (4, 4, zeros, 203),
+        (5, 4, zeros, 20_203),
     ] {
+        let returned = Cell::new(0);
         let heap = HeapAllocator::new(rt.alloc(), 2);
         let allocator = TestAllocator::new(heap, Granted::Requests(requests), &returned);
         let mut arena = arena_of_root(&rt, rt.alloc(), allocator);
@@ -189,6 +188,8 @@ fn refused_growth(rt: HostRuntime) {
         assert!(rt; result == Err(ErrorKind::AllocationFailed), "{requests}");
         assert!(rt; has_words(&rt, rt.alloc(), &arena, want), "{requests}");
         assert!(rt; lim.left() == Some(left), "{requests}");
+        drop(arena);
+        assert!(rt; returned.get() == segments, "{requests}");
     }
 }
 

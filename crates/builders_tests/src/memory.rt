@@ -23,36 +23,77 @@ fn two_words<'a>(
     arena_of_root(rt, alloc, allocator)
 }
 
+/// A call that makes something of the root.
+#[derive(Clone, Copy, Debug)]
+enum Call {
+    Make(Object),
+    InitText,
+    InitData,
+    PutStruct,
+    PutList,
+    PutStructs,
+}
+
+/// Three words of data.
+const THREE: StructSize = StructSize {
+    data_words: 3,
+    pointers: 0,
+};
+
+/// Makes something of the root that takes two words or three.
+fn run<A: BuilderArena>(rt: &impl Abort, arena: &mut A, call: Call) -> Result<(), ErrorKind> {
+    match call {
+        Call::Make(object) => make(rt, arena, 0, 0, object)?,
+        Call::InitText => {
+            let _text = pointer(rt, arena, 0, 0).init_text(8)?;
+        }
+        Call::InitData => {
+            let _data = pointer(rt, arena, 0, 0).init_data(9)?;
+        }
+        Call::PutStruct => {
+            let _place = pointer(rt, arena, 0, 0).put_struct(THREE)?;
+        }
+        Call::PutList => {
+            let _place = pointer(rt, arena, 0, 0).put_list(ElementSize::EightBytes, 2)?;
+        }
+        Call::PutStructs => {
+            let _place = pointer(rt, arena, 0, 0).put_struct_list(1, ONE_EACH)?;
+        }
+    }
+    Ok(())
+}
+
 /// What finds no memory leaves the root null, whatever it was, and what fits can be made there then.
 #[test]
 fn refused_growth(rt: HostRuntime) {
-    let three = StructSize {
-        data_words: 3,
-        pointers: 0,
-    };
     let one = StructSize {
         data_words: 1,
         pointers: 0,
     };
     let returned = Cell::new(0);
-    for object in [
-        Object::Struct(three),
-        Object::List(ElementSize::EightBytes, 2),
-        Object::Structs(1, ONE_EACH),
-        Object::Text(b"12345678"),
-        Object::Data(b"123456789"),
+    for call in [
+        Call::Make(Object::Struct(THREE)),
+        Call::Make(Object::List(ElementSize::EightBytes, 2)),
+        Call::Make(Object::Structs(1, ONE_EACH)),
+        Call::Make(Object::Text(b"12345678")),
+        Call::Make(Object::Data(b"123456789")),
+        Call::InitText,
+        Call::InitData,
+        Call::PutStruct,
+        Call::PutList,
+        Call::PutStructs,
     ] {
         let mut arena = two_words(&rt, rt.alloc(), 2, &returned);
-        let refused = make(&rt, &mut arena, 0, 0, object);
-        assert!(rt; refused == Err(ErrorKind::AllocationFailed), "{object:?}");
-        assert!(rt; pointer(&rt, &mut arena, 0, 0).is_null(), "{object:?}");
-        assert!(rt; arena.refused() == 1, "{object:?}");
+        let refused = run(&rt, &mut arena, call);
+        assert!(rt; refused == Err(ErrorKind::AllocationFailed), "{call:?}");
+        assert!(rt; pointer(&rt, &mut arena, 0, 0).is_null(), "{call:?}");
+        assert!(rt; arena.refused() == 1, "{call:?}");
         assert!(rt; make(&rt, &mut arena, 0, 0, Object::Struct(one)) == Ok(()));
         let want = "0000000001000000 0000000000000000";
-        assert!(rt; has_words(&rt, rt.alloc(), &arena, want), "{object:?}");
-        assert!(rt; make(&rt, &mut arena, 0, 0, object) == Err(ErrorKind::AllocationFailed));
+        assert!(rt; has_words(&rt, rt.alloc(), &arena, want), "{call:?}");
+        assert!(rt; run(&rt, &mut arena, call) == Err(ErrorKind::AllocationFailed));
         let zeros = "0000000000000000 0000000000000000";
-        assert!(rt; has_words(&rt, rt.alloc(), &arena, zeros), "{object:?}");
+        assert!(rt; has_words(&rt, rt.alloc(), &arena, zeros), "{call:?}");
     }
 }
 
@@ -104,7 +145,7 @@ fn each_allocation_in_turn(rt: HostRuntime) {
     ] {
         let returned = Cell::new(0);
         let mut arena = two_words(&rt, rt.alloc(), requests, &returned);
-        let result = make_text_in_struct(&rt, &mut arena);
+        let result = make_text_in_struct(&rt, &mut arena, 0);
         if made {
             assert!(rt; result == Ok(()) && arena.refused() == 0);
         } else {
@@ -121,7 +162,7 @@ fn each_allocation_in_turn(rt: HostRuntime) {
 fn cleared_segments_stay(rt: HostRuntime) {
     let returned = Cell::new(0);
     let mut arena = two_words(&rt, rt.alloc(), 6, &returned);
-    assert!(rt; make_text_in_struct(&rt, &mut arena) == Ok(()));
+    assert!(rt; make_text_in_struct(&rt, &mut arena, 0) == Ok(()));
     assert!(rt; make(&rt, &mut arena, 0, 0, Object::Null) == Ok(()));
     assert!(rt; arena.len() == 3 && arena.size_in_words() == 6 && returned.get() == 0);
     let allocator = arena.into_allocator();

@@ -55,18 +55,29 @@ fn each_type(rt: HostRuntime) -> Result<(), Fail> {
 /// Under a mask the zero field is the default, and what is written is what is read.
 #[test]
 fn masks(rt: HostRuntime) -> Result<(), Fail> {
-    let mut arena = arena_of_root(&rt, rt.alloc(), HeapAllocator::new(rt.alloc(), 1024));
-    let mut builder = pointer(&rt, &mut arena, 0, 0).init_struct(TWO_WORDS)?;
-    assert!(rt; builder.get_data_field_mask::<u16>(0, 5) == 5);
-    assert!(rt; builder.get_bool_field_mask(64, true));
-    builder.set_data_field_mask(0, 5u16, 5);
-    builder.set_data_field_mask(1, 6u16, 5);
-    builder.set_bool_field_mask(64, true, true);
-    builder.set_bool_field_mask(65, false, true);
-    assert!(rt; builder.get_data_field_mask::<u16>(1, 5) == 6);
-    assert!(rt; builder.get_bool_field_mask(64, true) && !builder.get_bool_field_mask(65, true));
-    let want = "0000000002000000 0000030000000000 0200000000000000";
-    assert!(rt; has_words(&rt, rt.alloc(), &arena, want));
+    for (room, want) in [
+        (1024, "0000000002000000 0000030000000000 0200000000000000"),
+        (
+            2,
+            "0200000001000000, 0000000002000000 0000030000000000 0200000000000000",
+        ),
+    ] {
+        let mut arena = arena_of_root(&rt, rt.alloc(), HeapAllocator::new(rt.alloc(), room));
+        let mut builder = pointer(&rt, &mut arena, 0, 0).init_struct(TWO_WORDS)?;
+        assert!(rt; builder.get_data_field_mask::<u16>(0, 5) == 5);
+        assert!(rt; builder.get_bool_field_mask(64, true));
+        builder.set_data_field_mask(0, 5u16, 5);
+        builder.set_data_field_mask(1, 6u16, 5);
+        builder.set_bool_field_mask(64, true, true);
+        builder.set_bool_field_mask(65, false, true);
+        assert!(rt; builder.get_data_field_mask::<u16>(1, 5) == 6);
+        assert!(rt; builder.get_bool_field_mask(64, true));
+        assert!(rt; !builder.get_bool_field_mask(65, true));
+        let reader = builder.into_reader();
+        assert!(rt; reader.get_data_field::<u32>(0) == 0x0003_0000, "{room}");
+        assert!(rt; reader.get_data_field::<u64>(1) == 2, "{room}");
+        assert!(rt; has_words(&rt, rt.alloc(), &arena, want), "{room}");
+    }
     Ok(())
 }
 
@@ -82,15 +93,26 @@ fn write_bytes<A: BuilderArena>(rt: &impl Abort, arena: &mut A) -> Result<(), Fa
 /// Bytes are lent as they are made, all zero; the zero byte behind a text isn't lent.
 #[test]
 fn bytes(rt: HostRuntime) -> Result<(), Fail> {
-    let mut arena = arena_of_root(&rt, rt.alloc(), HeapAllocator::new(rt.alloc(), 1024));
-    write_bytes(&rt, &mut arena)?;
-    let want = "0100000022000000 6100630000000000";
-    assert!(rt; has_words(&rt, rt.alloc(), &arena, want));
-    let data = pointer(&rt, &mut arena, 0, 0).init_data(9)?;
-    assert!(rt; &*data == [0; 9].as_slice());
-    data[8] = 7;
-    let want = "050000004a000000 0000000000000000 0000000000000000 0700000000000000";
-    assert!(rt; has_words(&rt, rt.alloc(), &arena, want));
+    for (room, text, both) in [
+        (
+            1024,
+            "0100000022000000 6100630000000000",
+            "050000004a000000 0000000000000000 0000000000000000 0700000000000000",
+        ),
+        (
+            1,
+            "0200000001000000, 0100000022000000 6100630000000000",
+            "0200000002000000, 0000000000000000 0000000000000000, 010000004a000000 0000000000000000 0700000000000000",
+        ),
+    ] {
+        let mut arena = arena_of_root(&rt, rt.alloc(), HeapAllocator::new(rt.alloc(), room));
+        write_bytes(&rt, &mut arena)?;
+        assert!(rt; has_words(&rt, rt.alloc(), &arena, text), "{room}");
+        let data = pointer(&rt, &mut arena, 0, 0).init_data(9)?;
+        assert!(rt; &*data == [0; 9].as_slice());
+        data[8] = 7;
+        assert!(rt; has_words(&rt, rt.alloc(), &arena, both), "{room}");
+    }
     Ok(())
 }
 

@@ -152,25 +152,14 @@ pub fn has_words(rt: &impl Abort, alloc: Global, arena: &impl ReaderArena, want:
     arena.get_segment(id).is_err()
 }
 
-/// Writes a word at a place, which has to be there.
-pub fn write_word<A: BuilderArena>(
-    rt: &impl Abort,
-    arena: &mut A,
-    segment: u32,
-    at: u32,
-    word: u64,
-) {
-    let words = arena.get_segment(segment).expect(rt, "a segment").len() / 8;
-    assert!(rt; (at as usize) < words);
-    arena.set_word(segment, at, word);
-}
-
-/// Makes the root a struct of one data word, and its one pointer the text `a`.
+/// Makes the root a struct of one data word, a number, and its one pointer the text `a`.
 pub fn make_text_in_struct<A: BuilderArena>(
     rt: &impl Abort,
     arena: &mut A,
+    number: u64,
 ) -> Result<(), ErrorKind> {
-    let builder = pointer(rt, arena, 0, 0).init_struct(ONE_EACH)?;
+    let mut builder = pointer(rt, arena, 0, 0).init_struct(ONE_EACH)?;
+    builder.set_data_field(0, number);
     assert!(rt; builder.is_pointer_field_null(0));
     builder.get_pointer_field(0).set_text(b"a")
 }

@@ -1,7 +1,5 @@
 //! Objects cleared and overwritten, with near pointers and with far ones.
-use crate::objects::{
-    ONE_EACH, Object, arena_of_root, has_words, made, make, make_text_in_struct, write_word,
-};
+use crate::objects::{ONE_EACH, Object, arena_of_root, has_words, made, make, make_text_in_struct};
 use capnp_arena::arena::HeapAllocator;
 use capnp_words::wire_pointer::ElementSize;
 
@@ -10,35 +8,35 @@ use capnp_words::wire_pointer::ElementSize;
 #[test]
 fn the_root(rt: HostRuntime) {
     let data = Object::Data(&[1, 2, 3]);
-    for (room, segment, object, want) in [
+    for (room, object, want) in [
         (
             1024,
-            0,
             Object::Null,
             "0000000000000000 0000000000000000 0000000000000000 0000000000000000",
         ),
         (
             2,
-            1,
             Object::Null,
             "0000000000000000, 0000000000000000 0000000000000000 0000000000000000, 0000000000000000 0000000000000000",
         ),
         (
+            2,
+            Object::Capability(5),
+            "0300000005000000, 0000000000000000 0000000000000000 0000000000000000, 0000000000000000 0000000000000000",
+        ),
+        (
             1024,
-            0,
             data,
             "0d0000001a000000 0000000000000000 0000000000000000 0000000000000000 0102030000000000",
         ),
         (
             2,
-            1,
             data,
             "010000001a000000 0102030000000000, 0000000000000000 0000000000000000 0000000000000000, 0000000000000000 0000000000000000",
         ),
     ] {
         let mut arena = arena_of_root(&rt, rt.alloc(), HeapAllocator::new(rt.alloc(), room));
-        assert!(rt; make_text_in_struct(&rt, &mut arena) == Ok(()));
-        write_word(&rt, &mut arena, segment, 1, 7);
+        assert!(rt; make_text_in_struct(&rt, &mut arena, 7) == Ok(()));
         assert!(rt; make(&rt, &mut arena, 0, 0, object) == Ok(()));
         assert!(rt; has_words(&rt, rt.alloc(), &arena, want), "{want}");
     }
@@ -48,8 +46,7 @@ fn the_root(rt: HostRuntime) {
 #[test]
 fn cleared_and_made_again(rt: HostRuntime) {
     let mut arena = arena_of_root(&rt, rt.alloc(), HeapAllocator::new(rt.alloc(), 1024));
-    assert!(rt; make_text_in_struct(&rt, &mut arena) == Ok(()));
-    write_word(&rt, &mut arena, 0, 1, 7);
+    assert!(rt; make_text_in_struct(&rt, &mut arena, 7) == Ok(()));
     for (object, want) in [
         (
             Object::Null,

@@ -1,6 +1,6 @@
-//! Copies of values onto pointers that lead somewhere already.
+//! Copies of values onto pointers that lead somewhere already, and into fresh arenas.
 use crate::objects::{ONE_EACH, Object, has_words, made, pointer};
-use capnp_arena::arena::{ReaderArena, ReaderOptions};
+use capnp_arena::arena::{BuilderArenaImpl, HeapAllocator, ReaderArena, ReaderOptions};
 use capnp_readers::readers::PointerReader;
 use capnp_words::error::ErrorKind;
 use capnp_words::read_limiter::ReadLimiter;
@@ -21,9 +21,21 @@ fn copied(
     message: &str,
     want: Result<&str, ErrorKind>,
 ) {
+    let arena = made(rt, alloc, room, &[(0, 0, Object::Struct(ONE_EACH))]);
+    copied_to(rt, alloc, arena, canonicalize, message, want);
+}
+
+/// The same, to the root of an arena.
+fn copied_to(
+    rt: &impl Abort,
+    alloc: Global,
+    mut arena: BuilderArenaImpl<HeapAllocator>,
+    canonicalize: bool,
+    message: &str,
+    want: Result<&str, ErrorKind>,
+) {
     let options = ReaderOptions::default();
     let source = arena_of(alloc, message, options).expect(rt, "a message");
-    let mut arena = made(rt, alloc, room, &[(0, 0, Object::Struct(ONE_EACH))]);
     let words = arena.size_in_words();
     let mut lim = ReadLimiter::new(options.traversal_limit_in_words);
     let root = PointerReader::get_root_from_arena(&source, &mut lim).expect(rt, "a root");
@@ -38,6 +50,19 @@ fn copied(
             assert!(rt; pointer(rt, &mut arena, 0, 0).is_null(), "{message}");
             assert!(rt; arena.size_in_words() >= words, "{message}");
         }
+    }
+}
+
+/// Capabilities, alone and below others, where nothing was made before: the message's own words.
+#[test]
+fn into_a_fresh_arena(rt: HostRuntime) {
+    for message in [
+        "0300000005000000",
+        "0000000000000200 0500000012000000 0300000005000000 6100000000000000",
+        "010000000e000000 0300000005000000",
+    ] {
+        let arena = made(&rt, rt.alloc(), 1024, &[]);
+        copied_to(&rt, rt.alloc(), arena, false, message, Ok(message));
     }
 }
 

@@ -1,9 +1,10 @@
 //! Pointers of a message that is built.
-use crate::objects::pointer;
+use crate::objects::{arena_of_root, has_words, pointer};
 use capnp_arena::arena::{BuilderArena, BuilderArenaImpl, HeapAllocator, NullArena, ReaderArena};
 use capnp_builders::builders::PointerBuilder;
 use capnp_readers::readers::PointerReader;
 use capnp_words::read_limiter::ReadLimiter;
+use std::process::Abort;
 use std::test::Fail;
 
 /// A null pointer is copied as null, in canonical form and as it stands.
@@ -43,4 +44,31 @@ fn onto_a_capability(rt: HostRuntime) -> Result<(), Fail> {
         assert!(rt; arena.get_segment(0) == Ok(&[0; 16][..]));
     }
     Ok(())
+}
+
+/// Makes the root a text through a pointer that is borrowed.
+fn make_text<A: BuilderArena>(rt: &impl Abort, arena: &mut A) {
+    let mut root = pointer(rt, arena, 0, 0);
+    let made = root.reborrow().set_text(b"a");
+    assert!(rt; made == Ok(()) && !root.as_reader().is_null());
+}
+
+/// Checks that the root is a text, and makes it null again.
+fn check_and_clear<A: BuilderArena>(rt: &impl Abort, arena: &mut A) {
+    let mut root = pointer(rt, arena, 0, 0);
+    assert!(rt; !root.is_null());
+    let mut lim = ReadLimiter::new(Some(0));
+    assert!(rt; root.as_reader().get_text(&mut lim, None) == Ok(&b"a"[..]));
+    root.clear();
+    assert!(rt; root.is_null());
+}
+
+/// A text in a second segment, whose words stay where it is cleared.
+#[test]
+fn text_and_null(rt: HostRuntime) {
+    let mut arena = arena_of_root(&rt, rt.alloc(), HeapAllocator::new(rt.alloc(), 1));
+    make_text(&rt, &mut arena);
+    check_and_clear(&rt, &mut arena);
+    let want = "0000000000000000, 0000000000000000 0000000000000000";
+    assert!(rt; has_words(&rt, rt.alloc(), &arena, want));
 }
