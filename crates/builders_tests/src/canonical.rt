@@ -41,7 +41,7 @@ fn structs(rt: HostRuntime) {
 }
 
 #[test]
-fn lists(rt: HostRuntime) {
+fn lists_of_structs_and_pointers(rt: HostRuntime) {
     for (message, want) in [
         // The widths of elements of structs are the greatest that one of them needs.
         (
@@ -57,6 +57,19 @@ fn lists(rt: HostRuntime) {
             "0100000017000000 0400000001000000 0900000000000000 0700000000000000",
             "010000000f000000 0400000001000000 0900000000000000",
         ),
+        // A list of pointers keeps its nulls.
+        (
+            "010000001e000000 0000000000000000 0400000002000000 0000000000000000 0900000000000000 0000000000000000",
+            "010000001e000000 0000000000000000 0400000001000000 0000000000000000 0900000000000000",
+        ),
+    ] {
+        let _words = copied(&rt, rt.alloc(), BY_DEFAULT, message, Ok(want));
+    }
+}
+
+#[test]
+fn padding(rt: HostRuntime) {
+    for (message, want) in [
         // Padding becomes zero: of bits, of bytes, of numbers of two and of four bytes.
         (
             "0100000059000000 ee0f000000000000",
@@ -83,17 +96,20 @@ fn lists(rt: HostRuntime) {
             "0100000015000000 ffffffffffffffff 8888888888888888",
             "0100000015000000 ffffffffffffffff 8888888888888888",
         ),
+    ] {
+        let _words = copied(&rt, rt.alloc(), BY_DEFAULT, message, Ok(want));
+    }
+}
+
+#[test]
+fn lists_of_no_words(rt: HostRuntime) {
+    for (message, want) in [
         // A list of no words leads to the word behind the last one.
         (
             "0000000000000100 f9ffffff0f000000",
             "0000000000000100 0100000007000000 0000000000000000",
         ),
         ("fdffffff28000000", "0100000028000000"),
-        // A list of pointers keeps its nulls.
-        (
-            "010000001e000000 0000000000000000 0400000002000000 0000000000000000 0900000000000000 0000000000000000",
-            "010000001e000000 0000000000000000 0400000001000000 0000000000000000 0900000000000000",
-        ),
     ] {
         let _words = copied(&rt, rt.alloc(), BY_DEFAULT, message, Ok(want));
     }
