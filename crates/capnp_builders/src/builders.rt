@@ -161,6 +161,7 @@ impl<'a, A: BuilderArena> PointerBuilder<'a, A> {
     ///
     /// A refusal is `AllocationFailed` or `MessageTooLarge`, of the struct's words and one more; the
     /// pointer is null then.
+    #[inline(always)]
     pub fn put_struct(&mut self, size: StructSize) -> Result<StructPlace, ErrorKind>
         requires { IsThere (built A.view self.old) }
         ensures made { OnOk result (Becomes (built A.view self.old) (built A.view self.new) (zero_struct size)) }
@@ -205,6 +206,7 @@ impl<'a, A: BuilderArena> PointerBuilder<'a, A> {
     ///
     /// A refusal is `AllocationFailed` or `MessageTooLarge`, of the struct's words and one more; the
     /// pointer is null then (`put_struct` says what else is so).
+    #[inline(always)]
     pub fn init_struct(mut self, size: StructSize) -> Result<StructBuilder<'a, A>, ErrorKind>
         requires { IsThere (built A.view self) }
         ensures same { IfOk result (λ b. b.arena.ghost_name ≡ self.entry.arena.ghost_name) }
@@ -227,6 +229,7 @@ impl<'a, A: BuilderArena> PointerBuilder<'a, A> {
     ///
     /// A refusal is `AllocationFailed` or `MessageTooLarge`, of the list's words and one more; the
     /// pointer is null then.
+    #[inline(always)]
     pub fn put_list(&mut self, size: ElementSize, count: u32) -> Result<ListPlace, ErrorKind>
         requires there { IsThere (built A.view self.old) }
         requires few { count < 2 ^ 29 }
@@ -272,6 +275,7 @@ impl<'a, A: BuilderArena> PointerBuilder<'a, A> {
     ///
     /// A refusal is `AllocationFailed` or `MessageTooLarge`, of the list's words and one more; the
     /// pointer is null then (`put_list` says what else is so).
+    #[inline(always)]
     pub fn init_list(
         mut self,
         size: ElementSize,
@@ -407,6 +411,7 @@ impl<'a, A: BuilderArena> PointerBuilder<'a, A> {
     ///
     /// A refusal is `AllocationFailed` or `MessageTooLarge`, of the words of the bytes and one more; the
     /// pointer is null then.
+    #[inline(always)]
     pub fn set_data(&mut self, bytes: &[u8]) -> Result<(), ErrorKind>
         requires there { IsThere (built A.view self.old) }
         requires few { length bytes.now < 2 ^ 29 }
@@ -428,6 +433,7 @@ impl<'a, A: BuilderArena> PointerBuilder<'a, A> {
     ///
     /// A refusal is `AllocationFailed` or `MessageTooLarge`, of the words of the bytes and one more; the
     /// pointer is null then.
+    #[inline(always)]
     pub fn set_text(&mut self, bytes: &[u8]) -> Result<(), ErrorKind>
         requires there { IsThere (built A.view self.old) }
         requires few { length bytes.now + 1 < 2 ^ 29 }

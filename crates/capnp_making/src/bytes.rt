@@ -21,6 +21,7 @@ use capnp_words::wire_pointer::ElementSize;
 ///
 /// What the pointer held before becomes zero first. A refusal is that of memory, or
 /// `MessageTooLarge`; the pointer is null then.
+#[inline(always)]
 pub fn set_data<A: BuilderArena>(
     arena: &mut A,
     id: u32,
@@ -45,6 +46,7 @@ pub fn set_data<A: BuilderArena>(
 ///
 /// What the pointer held before becomes zero first. A refusal is that of memory, or
 /// `MessageTooLarge`; the pointer is null then.
+#[inline(always)]
 pub fn set_text<A: BuilderArena>(
     arena: &mut A,
     id: u32,

@@ -167,6 +167,7 @@ pub fn make_struct<A: BuilderArena>(
 /// Makes a struct, all zero, where the pointer at a place leads. One without sections takes no words.
 ///
 /// A refusal is that of memory, or `MessageTooLarge`; the pointer is null then.
+#[inline(always)]
 pub fn init_struct<A: BuilderArena>(
     arena: &mut A,
     id: u32,
