@@ -16,7 +16,7 @@ use std::test::Fail;
 fn check_root(rt: &impl Abort, alloc: Global, object: Object, near: &str, far: &str) {
     for (room, want) in [(1024, near), (1, far)] {
         let mut arena = made(rt, alloc, room, &[(0, 0, object)]);
-        assert!(rt; has_words(rt, alloc, &arena, want), "{want}");
+        assert!(rt; has_words(alloc, &arena, want), "{want}");
         assert!(rt; arena.size_in_words() == want.split(' ').count(), "{want}");
         let root = pointer(rt, &mut arena, 0, 0);
         assert!(rt; root.is_null() == matches!(object, Object::Null), "{want}");
@@ -97,7 +97,7 @@ fn text_in_a_struct(rt: HostRuntime) {
     for (room, want) in [(1024, near), (2, far)] {
         let mut arena = arena_of_root(&rt, rt.alloc(), HeapAllocator::new(rt.alloc(), room));
         assert!(rt; make_text_in_struct(&rt, &mut arena, 7) == Ok(()), "{room}");
-        assert!(rt; has_words(&rt, rt.alloc(), &arena, want), "{room}");
+        assert!(rt; has_words(rt.alloc(), &arena, want), "{room}");
         let mut lim = ReadLimiter::new(Some(0));
         let root = pointer(&rt, &mut arena, 0, 0).into_reader();
         let reader = root.get_struct(&mut lim, None).expect(&rt, "a struct");
@@ -107,7 +107,7 @@ fn text_in_a_struct(rt: HostRuntime) {
         let mut copy = made(&rt, rt.alloc(), 1024, &[]);
         let result = pointer(&rt, &mut copy, 0, 0).copy_from(root, &mut lim, true);
         assert!(rt; result == Ok(()), "{room}");
-        assert!(rt; has_words(&rt, rt.alloc(), &copy, near), "{room}");
+        assert!(rt; has_words(rt.alloc(), &copy, near), "{room}");
     }
 }
 
@@ -147,7 +147,7 @@ fn fields(rt: HostRuntime) {
     ] {
         let mut arena = arena_of_root(&rt, rt.alloc(), HeapAllocator::new(rt.alloc(), room));
         assert!(rt; make_fields(&rt, &mut arena) == Ok(()), "{room}");
-        assert!(rt; has_words(&rt, rt.alloc(), &arena, want), "{room}");
+        assert!(rt; has_words(rt.alloc(), &arena, want), "{room}");
     }
 }
 
@@ -203,7 +203,7 @@ fn elements(rt: HostRuntime) {
     ] {
         let mut arena = made(&rt, rt.alloc(), room, &[(0, 0, object)]);
         assert!(rt; make_elements(&rt, &mut arena) == Ok(()), "{want}");
-        assert!(rt; has_words(&rt, rt.alloc(), &arena, want), "{want}");
+        assert!(rt; has_words(rt.alloc(), &arena, want), "{want}");
     }
 }
 
@@ -273,7 +273,7 @@ fn places_of_lists(rt: HostRuntime) -> Result<(), Fail> {
         let list = root.into_list(place);
         assert!(rt; list.len() == 1 && !list.is_empty());
         assert!(rt; list.into_reader().struct_size().pointers == 1);
-        assert!(rt; has_words(&rt, rt.alloc(), &arena, want), "{room}");
+        assert!(rt; has_words(rt.alloc(), &arena, want), "{room}");
     }
     Ok(())
 }
@@ -297,7 +297,7 @@ fn places_of_structs(rt: HostRuntime) -> Result<(), Fail> {
         let place = pointer(&rt, &mut arena, 0, 0).put_struct(ONE_EACH)?;
         assert!(rt; (place.segment, place.byte) == want);
         assert!(rt; (place.bits, place.pointers_at, place.pointers) == (64, 2, 1));
-        assert!(rt; has_words(&rt, rt.alloc(), &arena, words), "{room}");
+        assert!(rt; has_words(rt.alloc(), &arena, words), "{room}");
     }
     Ok(())
 }

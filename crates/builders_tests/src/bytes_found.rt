@@ -128,6 +128,6 @@ fn written(rt: HostRuntime) {
         let bytes = root.bytes_mut(place);
         assert!(rt; bytes.len() == 5 && &*bytes == b"azc\0x".as_slice());
         bytes[0] = b'y';
-        assert!(rt; has_words(&rt, rt.alloc(), &arena, want), "{want}");
+        assert!(rt; has_words(rt.alloc(), &arena, want), "{want}");
     }
 }

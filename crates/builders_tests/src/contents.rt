@@ -65,7 +65,7 @@ fn over_other_content(rt: HostRuntime) -> Result<(), Fail> {
         builder.reborrow().get_pointer_field(1).set_capability(9);
         let result = take(&rt, rt.alloc(), &mut builder, message, budget);
         assert!(rt; result == Ok(()), "{message}");
-        assert!(rt; has_words(&rt, rt.alloc(), &arena, want), "{message}");
+        assert!(rt; has_words(rt.alloc(), &arena, want), "{message}");
     }
     Ok(())
 }
@@ -81,7 +81,7 @@ fn refused(rt: HostRuntime) -> Result<(), Fail> {
     assert!(rt; result == Err(ErrorKind::ReadLimitExceeded));
     let want =
         "0000000002000200 0700000000000000 0000000000000000 0500000012000000 0000000000000000 6100000000000000";
-    assert!(rt; has_words(&rt, rt.alloc(), &arena, want));
+    assert!(rt; has_words(rt.alloc(), &arena, want));
     Ok(())
 }
 
@@ -97,7 +97,7 @@ fn numbers(rt: HostRuntime) -> Result<(), Fail> {
         let mut number = list.get_struct_element(1);
         let result = take(&rt, rt.alloc(), &mut number, NUMBER, 2);
         assert!(rt; result == Ok(()), "{size:?}");
-        assert!(rt; has_words(&rt, rt.alloc(), &arena, want), "{size:?}");
+        assert!(rt; has_words(rt.alloc(), &arena, want), "{size:?}");
     }
     Ok(())
 }

@@ -70,7 +70,7 @@ pub fn copied(
     match want {
         Ok(want) => {
             assert!(rt; result == Ok(()), "{message}");
-            assert!(rt; has_words(rt, alloc, &arena, want), "{message}");
+            assert!(rt; has_words(alloc, &arena, want), "{message}");
         }
         Err(kind) => {
             assert!(rt; result == Err(kind), "{message}");

@@ -141,7 +141,7 @@ fn written<T: PrimitiveElement>(rt: &impl Abort, alloc: Global, value: T, want: 
         .init_list(size, 2)
         .expect(rt, "memory");
     let read = set_second(rt, list, value);
-    assert!(rt; has_words(rt, alloc, &arena, want), "{want}");
+    assert!(rt; has_words(alloc, &arena, want), "{want}");
     read
 }
 
@@ -178,6 +178,6 @@ fn nothing(rt: HostRuntime) -> Result<(), Fail> {
     let list = pointer(&rt, &mut arena, 0, 0).init_list(ElementSize::Byte, 2)?;
     let ((), ()) = set_second(&rt, list, ());
     let want = "0200000001000000, 0100000012000000 0000000000000000";
-    assert!(rt; has_words(&rt, rt.alloc(), &arena, want));
+    assert!(rt; has_words(rt.alloc(), &arena, want));
     Ok(())
 }

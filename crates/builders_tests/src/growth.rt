@@ -96,7 +96,7 @@ fn check(
         arena.refused() == u64::from(want.is_err()),
         "{call:?}, {requests}"
     );
-    assert!(rt; has_words(rt, alloc, &arena, words), "{call:?}, {requests}");
+    assert!(rt; has_words(alloc, &arena, words), "{call:?}, {requests}");
     drop(arena);
     assert!(rt; returned.get() == segments, "{call:?}, {requests}");
 }

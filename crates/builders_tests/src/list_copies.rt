@@ -64,7 +64,7 @@ fn check<A: ReaderArena>(
     match want {
         Ok(want) => {
             assert!(rt; result == Ok(()), "{want}");
-            assert!(rt; has_words(rt, alloc, &arena, want), "{want}");
+            assert!(rt; has_words(alloc, &arena, want), "{want}");
             assert!(rt; lim.left() == Some(0), "{want}");
         }
         Err(kind) => {
@@ -161,7 +161,7 @@ fn over_segments(rt: HostRuntime) {
         let mut both = String::new(rt.alloc());
         assert!(rt; both.push_str(want).is_ok() && both.push_str(", ").is_ok());
         assert!(rt; both.push_str(text).is_ok());
-        assert!(rt; has_words(&rt, rt.alloc(), &arena, both.as_str()));
+        assert!(rt; has_words(rt.alloc(), &arena, both.as_str()));
     }
 }
 
@@ -186,7 +186,7 @@ fn refused_growth(rt: HostRuntime) {
         let mut lim = ReadLimiter::new(Some(5));
         let result = pointer(&rt, &mut arena, 0, 0).set_list(&list, &mut lim, false);
         assert!(rt; result == Err(ErrorKind::AllocationFailed), "{requests}");
-        assert!(rt; has_words(&rt, rt.alloc(), &arena, want), "{requests}");
+        assert!(rt; has_words(rt.alloc(), &arena, want), "{requests}");
         assert!(rt; lim.left() == Some(left), "{requests}");
         drop(arena);
         assert!(rt; returned.get() == segments, "{requests}");
@@ -204,7 +204,7 @@ fn over_another(rt: HostRuntime) {
     let result = pointer(&rt, &mut arena, 0, 0).set_list(&list, &mut lim, false);
     assert!(rt; result == Ok(()));
     let want = "090000001b000000 0000000000000000 0000000000000000 0100020003000000";
-    assert!(rt; has_words(&rt, rt.alloc(), &arena, want));
+    assert!(rt; has_words(rt.alloc(), &arena, want));
 }
 
 /// So many elements without words, in a message.

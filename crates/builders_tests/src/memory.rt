@@ -90,10 +90,10 @@ fn refused_growth(rt: HostRuntime) {
         assert!(rt; arena.refused() == 1, "{call:?}");
         assert!(rt; make(&rt, &mut arena, 0, 0, Object::Struct(one)) == Ok(()));
         let want = "0000000001000000 0000000000000000";
-        assert!(rt; has_words(&rt, rt.alloc(), &arena, want), "{call:?}");
+        assert!(rt; has_words(rt.alloc(), &arena, want), "{call:?}");
         assert!(rt; run(&rt, &mut arena, call) == Err(ErrorKind::AllocationFailed));
         let zeros = "0000000000000000 0000000000000000";
-        assert!(rt; has_words(&rt, rt.alloc(), &arena, zeros), "{call:?}");
+        assert!(rt; has_words(rt.alloc(), &arena, zeros), "{call:?}");
     }
 }
 
@@ -120,7 +120,7 @@ fn too_large(rt: HostRuntime) {
             "{words}"
         );
         assert!(rt;
-            has_words(&rt, rt.alloc(), &arena, "0000000000000000"),
+            has_words(rt.alloc(), &arena, "0000000000000000"),
             "{words}"
         );
         assert!(rt; arena.refused() == 0, "{words}");
@@ -151,7 +151,7 @@ fn each_allocation_in_turn(rt: HostRuntime) {
         } else {
             assert!(rt; result == Err(ErrorKind::AllocationFailed) && arena.refused() == 1);
         }
-        assert!(rt; has_words(&rt, rt.alloc(), &arena, words), "{requests}");
+        assert!(rt; has_words(rt.alloc(), &arena, words), "{requests}");
         drop(arena);
         assert!(rt; returned.get() == want, "{requests}");
     }

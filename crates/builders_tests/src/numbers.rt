@@ -29,7 +29,7 @@ fn fields(rt: HostRuntime) -> Result<(), Fail> {
         assert!(rt; builder.get_data_field::<i64>(1) == -9_223_372_036_854_775_808);
         assert!(rt; builder.get_bool_field(127) && !builder.get_bool_field(126));
         assert!(rt; builder.get_data_field_mask::<u32>(0, 1) == 286_331_152);
-        assert!(rt; has_words(&rt, rt.alloc(), &arena, want), "{room}");
+        assert!(rt; has_words(rt.alloc(), &arena, want), "{room}");
     }
     Ok(())
 }
@@ -48,7 +48,7 @@ fn each_type(rt: HostRuntime) -> Result<(), Fail> {
     builder.set_data_field(2, 0x0405_0607u32);
     builder.set_data_field(3, -3i32);
     let want = "0000000002000000 01ff0302feff0180 07060504fdffffff";
-    assert!(rt; has_words(&rt, rt.alloc(), &arena, want));
+    assert!(rt; has_words(rt.alloc(), &arena, want));
     Ok(())
 }
 
@@ -76,7 +76,7 @@ fn masks(rt: HostRuntime) -> Result<(), Fail> {
         let reader = builder.into_reader();
         assert!(rt; reader.get_data_field::<u32>(0) == 0x0003_0000, "{room}");
         assert!(rt; reader.get_data_field::<u64>(1) == 2, "{room}");
-        assert!(rt; has_words(&rt, rt.alloc(), &arena, want), "{room}");
+        assert!(rt; has_words(rt.alloc(), &arena, want), "{room}");
     }
     Ok(())
 }
@@ -107,11 +107,11 @@ fn bytes(rt: HostRuntime) -> Result<(), Fail> {
     ] {
         let mut arena = arena_of_root(&rt, rt.alloc(), HeapAllocator::new(rt.alloc(), room));
         write_bytes(&rt, &mut arena)?;
-        assert!(rt; has_words(&rt, rt.alloc(), &arena, text), "{room}");
+        assert!(rt; has_words(rt.alloc(), &arena, text), "{room}");
         let data = pointer(&rt, &mut arena, 0, 0).init_data(9)?;
         assert!(rt; &*data == [0; 9].as_slice());
         data[8] = 7;
-        assert!(rt; has_words(&rt, rt.alloc(), &arena, both), "{room}");
+        assert!(rt; has_words(rt.alloc(), &arena, both), "{room}");
     }
     Ok(())
 }
@@ -125,6 +125,6 @@ fn fields_of_numbers(rt: HostRuntime) -> Result<(), Fail> {
     element.set_data_field(1, 0x0102u16);
     element.set_data_field(0, 3u8);
     let want = "010000001c000000 0000000000000000 0300020100000000";
-    assert!(rt; has_words(&rt, rt.alloc(), &arena, want));
+    assert!(rt; has_words(rt.alloc(), &arena, want));
     Ok(())
 }

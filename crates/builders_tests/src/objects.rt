@@ -11,7 +11,7 @@ use capnp_words::read_limiter::ReadLimiter;
 use capnp_words::wire_pointer::{ElementSize, StructSize, data_bits_per_element};
 use std::alloc::Global;
 use std::process::Abort;
-use test_support::bytes_of;
+pub use test_support::has_words;
 
 /// One data word and one pointer.
 pub const ONE_EACH: StructSize = StructSize {
@@ -44,10 +44,7 @@ pub fn arena_of_root<A: Allocator>(
     alloc: Global,
     allocator: A,
 ) -> BuilderArenaImpl<A> {
-    let mut arena = BuilderArenaImpl::new(alloc, allocator);
-    arena.allocate_segment(1).expect(rt, "memory");
-    assert!(rt; arena.allocate(0, 1) == Some(0));
-    arena
+    test_support::arena_of_root(alloc, allocator).expect(rt, "memory")
 }
 
 /// Checks that the word of a pointer is there.
@@ -137,19 +134,6 @@ pub fn check_read<A: ReaderArena>(rt: &impl Abort, root: PointerReader<'_, A>, o
         Object::Text(bytes) => assert!(rt; root.get_text(&mut lim, None) == Ok(bytes)),
         Object::Data(bytes) => assert!(rt; root.get_data(&mut lim, None) == Ok(bytes)),
     }
-}
-
-/// Whether the segments are those of hex digits, with commas between them.
-pub fn has_words(rt: &impl Abort, alloc: Global, arena: &impl ReaderArena, want: &str) -> bool {
-    let mut id: u32 = 0;
-    for text in want.split(", ") {
-        let words = bytes_of(alloc, text).expect(rt, "words");
-        if arena.get_segment(id) != Ok(words.as_slice()) {
-            return false;
-        }
-        id = id.saturating_add(1);
-    }
-    arena.get_segment(id).is_err()
 }
 
 /// Makes the root a struct of one data word, a number, and its one pointer the text `a`.

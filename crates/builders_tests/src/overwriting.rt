@@ -38,7 +38,7 @@ fn the_root(rt: HostRuntime) {
         let mut arena = arena_of_root(&rt, rt.alloc(), HeapAllocator::new(rt.alloc(), room));
         assert!(rt; make_text_in_struct(&rt, &mut arena, 7) == Ok(()));
         assert!(rt; make(&rt, &mut arena, 0, 0, object) == Ok(()));
-        assert!(rt; has_words(&rt, rt.alloc(), &arena, want), "{want}");
+        assert!(rt; has_words(rt.alloc(), &arena, want), "{want}");
     }
 }
 
@@ -58,7 +58,7 @@ fn cleared_and_made_again(rt: HostRuntime) {
         ),
     ] {
         assert!(rt; make(&rt, &mut arena, 0, 0, object) == Ok(()));
-        assert!(rt; has_words(&rt, rt.alloc(), &arena, want), "{want}");
+        assert!(rt; has_words(rt.alloc(), &arena, want), "{want}");
     }
 }
 
@@ -95,6 +95,6 @@ fn below_the_root(rt: HostRuntime) {
         ),
     ] {
         let arena = made(&rt, rt.alloc(), 1024, &[first, second, third]);
-        assert!(rt; has_words(&rt, rt.alloc(), &arena, want), "{want}");
+        assert!(rt; has_words(rt.alloc(), &arena, want), "{want}");
     }
 }

@@ -70,5 +70,5 @@ fn text_and_null(rt: HostRuntime) {
     make_text(&rt, &mut arena);
     check_and_clear(&rt, &mut arena);
     let want = "0000000000000000, 0000000000000000 0000000000000000";
-    assert!(rt; has_words(&rt, rt.alloc(), &arena, want));
+    assert!(rt; has_words(rt.alloc(), &arena, want));
 }

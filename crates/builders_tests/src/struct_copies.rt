@@ -72,7 +72,7 @@ fn check<A: ReaderArena>(
     match want {
         Ok(want) => {
             assert!(rt; result == Ok(()), "{want}");
-            assert!(rt; has_words(rt, alloc, &arena, want), "{want}");
+            assert!(rt; has_words(alloc, &arena, want), "{want}");
         }
         Err(kind) => {
             assert!(rt; result == Err(kind), "{kind:?}");
@@ -178,5 +178,5 @@ fn over_another(rt: HostRuntime) {
     assert!(rt; result == Ok(()));
     let want =
         "0800000001000100 0000000000000000 0000000000000000 0700000000000000 0100000012000000 6100000000000000";
-    assert!(rt; has_words(&rt, rt.alloc(), &arena, want));
+    assert!(rt; has_words(rt.alloc(), &arena, want));
 }

@@ -6,6 +6,7 @@ pub mod tool;
 
 pub use capnp_arena::arena;
 pub use capnp_builders::builders;
+pub use capnp_edits::edit;
 pub use capnp_readers::{object, readers, source};
 pub use capnp_words::{
     error, laws, mask, primitive, read_limiter, units, wire_pointer, words, zero,

@@ -81,7 +81,7 @@ data_field_written S R s p ws ts b w v a l e =
     words_there n c (b, k, some, o, claim, words, all, g) = subst (λ (t : Target). HasWords S t.segment t.start ws) (sym (ap target_in o.leads_to.1)) words
 
 -- the data words of an element
-element_has_words : (S : Segments) (n s p d q : ℕ) (es : Elements) (c i : ℕ) (ws : List ℕ) (ts : Trees) → MeansElements S n s p d q es c → i < element_count es → struct_at es i ≡ Struct ws ts → (length ws ≡ d) × HasWords S s (p + i * (d + q)) ws
+pub element_has_words : (S : Segments) (n s p d q : ℕ) (es : Elements) (c i : ℕ) (ws : List ℕ) (ts : Trees) → MeansElements S n s p d q es c → i < element_count es → struct_at es i ≡ Struct ws ts → (length ws ≡ d) × HasWords S s (p + i * (d + q)) ws
 element_has_words S n s p d q no_elements c i ws ts m l e = absurd (omega arith)
 element_has_words S n s p d q (element vs us es) c zero ws ts (a, b, long, number, words, all, rest, g) l e =
     let same : vs ≡ ws = cc in (ap length (sym same) ∙ long, subst (λ z. HasWords S s z ws) (let f : p ≡ p + 0 * (d + q) = omega arith in f) (subst (HasWords S s p) same words))

@@ -21,6 +21,7 @@ use Rattle.capnp_making.specs.Landings.{target_of}
 use Rattle.capnp_making.specs.declared.landing.Landing.{Landing}
 use Rattle.capnp_making.specs.declared.existing.ExistingList.{ExistingList}
 use Rattle.capnp_making.specs.declared.existing.ExistingBytes.{ExistingBytes}
+use Rattle.capnp_making.specs.declared.existing.ExistingStruct.{ExistingStruct}
 
 -- The index of the capability that a pointer word is.
 abbrev pub capability_of : ℕ → Result ℕ ErrorKind
@@ -96,6 +97,15 @@ list_in a expected (Struct ws ts) = Err ExistingPointerIsNotAList
 list_in a expected (Flat size ns) = unless (plain_misfit expected (size_of size)) (plain_list a (size_of size) (length ns))
 list_in a expected (Pointers ts) = unless (plain_misfit expected Pointer) (plain_list a Pointer (count ts))
 list_in a expected (Structs d q es) = unless (structs_misfit expected d q) (struct_list a d q (element_count es))
+
+-- The struct that a value is which the pointer leads to at a.
+abbrev pub struct_in : Target → Tree → Option ExistingStruct
+struct_in a (Struct ws ts) = Some (record { segment = a.segment; start = a.start; size = record { data_words = length ws; pointers = count ts } })
+struct_in a t = None
+
+-- The sections of a struct lie in their segment.
+abbrev pub LiesIn : Segments → ExistingStruct → Type 0
+LiesIn S e = e.start + e.size.data_words + e.size.pointers ≤ length (segment S e.segment)
 
 -- So many bytes from where a pointer leads.
 abbrev pub bytes_at : Target → ℕ → ExistingBytes

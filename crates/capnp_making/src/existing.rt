@@ -10,9 +10,9 @@ ghost use Rattle.capnp_format.specs.Word.{list_count};
 ghost use Rattle.capnp_pointers.specs.Sizes.{size_number};
 ghost use Rattle.capnp_making.specs.Landings.{target_of};
 ghost use Rattle.capnp_making.specs.Stored.{IsStored};
-ghost use Rattle.capnp_making.specs.Existing.{LieIn, capability_of, capability_in, listed, landing_in, plain_misfit, structs_misfit, unless, plain_list, tagged_list, list_in, data_in, text_in, AreInside, bytes_in, ends_in_zero};
+ghost use Rattle.capnp_making.specs.Existing.{LieIn, capability_of, capability_in, listed, landing_in, plain_misfit, structs_misfit, unless, plain_list, tagged_list, list_in, data_in, text_in, struct_in, AreInside, LiesIn, bytes_in, ends_in_zero};
 
-use crate::landing::{Landing, follow, word_of};
+use crate::landing::{Landing, follow, length_of, word_of};
 use capnp_arena::arena::BuilderArena;
 use capnp_words::error::ErrorKind;
 use capnp_words::wire_pointer::{
@@ -48,6 +48,17 @@ pub struct ExistingBytes {
     pub length: u32,
 }
 
+/// A struct that a pointer leads to.
+#[derive(Clone, Copy, Debug)]
+pub struct ExistingStruct {
+    /// The segment of its sections.
+    pub segment: u32,
+    /// The word where its data section starts. Its pointers stand behind its data words.
+    pub start: u32,
+    /// How many data words and pointers it has.
+    pub size: StructSize,
+}
+
 /// The capability that the pointer at a place is, by its index ("Capabilities (Interfaces)"). The
 /// pointer is not followed.
 ///
@@ -66,6 +77,35 @@ pub fn get_capability<A: BuilderArena>(arena: &A, id: u32, at: u32) -> Result<u3
         return Err(ErrorKind::MessageContainsNonCapabilityPointerWhereCapabilityPointerWasExpected);
     }
     Ok(word.cap_index())
+}
+
+/// The struct that the pointer at a place leads to, as wide as it is ("Structs"). `None` where the
+/// pointer is null, or leads to anything else.
+pub fn get_struct<A: BuilderArena>(arena: &A, id: u32, at: u32) -> Option<ExistingStruct>
+    ensures found { (t : Tree) → IsStored (A.view arena.now).words id at t → result ≡ struct_in (target (A.view arena.now).words id at) t }
+    ensures inside { IfSome result (LiesIn (A.view arena.now).words) }
+{
+    if word_of(arena, id, at).is_null() {
+        return None;
+    }
+    match follow(arena, id, at) {
+        Some(landing) => {
+            let size = landing.word.struct_size();
+            let end = u64::from(landing.start) + u64::from(size.total());
+            if landing.word.kind() == WirePointerKind::Struct
+                && end <= u64::from(length_of(arena, landing.segment))
+            {
+                Some(ExistingStruct {
+                    segment: landing.segment,
+                    start: landing.start,
+                    size,
+                })
+            } else {
+                None
+            }
+        }
+        None => None,
+    }
 }
 
 /// The list that the pointer at a place leads to, of elements as wide as the expected ones, which are

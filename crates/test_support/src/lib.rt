@@ -6,4 +6,4 @@ mod allocator;
 mod message;
 
 pub use allocator::{Granted, TestAllocator};
-pub use message::{Message, arena_of, bytes_of};
+pub use message::{Message, arena_of, arena_of_root, bytes_of, has_words};

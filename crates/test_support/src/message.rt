@@ -3,7 +3,10 @@ ghost use Rattle.std.specs.Prelude.{◌≡◌, ◌<◌, ◌/◌, ◌^◌, ℕ, L
 ghost use Rattle.std.specs.List.{All};
 ghost use Rattle.capnp_arena.specs.Limits.{IsSmall};
 
-use capnp_arena::arena::{ReaderArenaImpl, ReaderOptions, ReaderSegments};
+use capnp_arena::arena::{
+    Allocator, BuilderArena, BuilderArenaImpl, ReaderArena, ReaderArenaImpl, ReaderOptions,
+    ReaderSegments,
+};
 use std::alloc::Global;
 
 /// The segments of a message.
@@ -77,4 +80,28 @@ pub fn arena_of(
     } else {
         None
     }
+}
+
+/// An arena with one segment, and in it a word for the root. `None` where memory fails.
+pub fn arena_of_root<A: Allocator>(alloc: Global, allocator: A) -> Option<BuilderArenaImpl<A>> {
+    let mut arena = BuilderArenaImpl::new(alloc, allocator);
+    arena.allocate_segment(1).ok()?;
+    let _root = arena.allocate(0, 1)?;
+    Some(arena)
+}
+
+/// Whether the segments are those of hex digits, with commas between them. A text that holds anything
+/// else is that of none.
+pub fn has_words(alloc: Global, arena: &impl ReaderArena, want: &str) -> bool {
+    let mut id: u32 = 0;
+    for text in want.split(", ") {
+        let Some(words) = bytes_of(alloc, text) else {
+            return false;
+        };
+        if arena.get_segment(id) != Ok(words.as_slice()) {
+            return false;
+        }
+        id = id.saturating_add(1);
+    }
+    arena.get_segment(id).is_err()
 }

@@ -1,0 +1,5 @@
+pub mod Walks
+pub mod Steps
+pub mod Applied
+pub mod Fields
+pub mod Folded

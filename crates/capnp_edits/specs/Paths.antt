@@ -1,0 +1,95 @@
+-- Where the paths of edits lead, in a value and in a message that holds it.
+use Rattle.std.specs.Prelude.{◌≡◌, ⊤, ℕ, ◌+◌, ◌*◌, ◌<◌, cond, nat_eq, nat_lt, ◌&&◌, List, [], ◌∷◌, ◌++◌, Option, Some, None}
+use Rattle.capnp_format.specs.Segments.{Segments, IsPlace}
+use Rattle.capnp_pointers.specs.Sizes.{size_number}
+use Rattle.capnp_format.specs.Tree.{Tree, Struct, Pointers, Structs, Elements, count, element_count}
+use Rattle.capnp_format.specs.Forest.{target}
+use Rattle.capnp_making.specs.Existing.{LiesIn}
+use Rattle.capnp_making.specs.Stored.{IsStored}
+use Rattle.capnp_making.specs.Path.{Step, Child, Element, tree_at, struct_at, next, PathLeads}
+use Rattle.capnp_making.specs.declared.existing.ExistingList.{ExistingList}
+use Rattle.capnp_making.specs.declared.existing.ExistingStruct.{ExistingStruct}
+use Rattle.capnp_edits.specs.declared.edit.Step.{Step as EditStep}
+use Rattle.capnp_edits.specs.declared.edit.Step.TheVariants.{Child as ToChild, Element as ToElement}
+use Rattle.capnp_edits.specs.declared.edit.path.Place.{Place}
+use Rattle.capnp_edits.specs.declared.edit.path.Place.TheVariants.{Pointer as AtPointer, Element as AtElement}
+
+-- The steps of an edit's path.
+abbrev pub step_of : EditStep → Step
+step_of (ToChild i) = Child i
+step_of (ToElement i) = Element i
+
+abbrev pub path_of : List EditStep → List Step
+path_of [] = []
+path_of (step ∷ path) = step_of step ∷ path_of path
+
+-- What a path leads to: a pointer that means a value, or an element of a list of structs, which is a struct.
+pub data Spot : Type 0 where
+  PointerTo : Tree → Spot
+  ElementOf : Tree → Spot
+
+-- What a path leads to from a pointer that means t, if anything.
+abbrev pub found : Tree → List Step → Option Spot
+found t [] = Some (PointerTo t)
+found (Struct ws ts) (Child i ∷ path) = cond (nat_lt i (count ts)) (found (tree_at ts i) path) None
+found (Pointers ts) (Element i ∷ path) = cond (nat_lt i (count ts)) (found (tree_at ts i) path) None
+found (Structs d q es) (Element i ∷ []) = cond (nat_lt i (element_count es)) (Some (ElementOf (struct_at es i))) None
+found (Structs d q es) (Element i ∷ Child j ∷ path) =
+    cond (nat_lt i (element_count es) && nat_lt j q) (found (next (struct_at es i) (Child j)) path) None
+found t path = None
+
+-- From a place that means t a path leads to the pointer at (u, q).
+pub record IsPointerFound (S : Segments) (s p : ℕ) (t : Tree) (path : List Step) (u q : ℕ) : Type 0 where
+  pub value : Tree
+  pub leads : PathLeads S s p t path u q value
+  pub spot : found t path ≡ Some (PointerTo value)
+
+-- It leads to an element e of the list of structs that the pointer at the end of a path one step shorter means.
+pub record IsElementFound (S : Segments) (s p : ℕ) (t : Tree) (path : List Step) (e : ExistingStruct) : Type 0 where
+  pub front : List Step
+  pub index : ℕ
+  pub path_is : path ≡ front ++ Element index ∷ []
+  pub list_segment : ℕ
+  pub list_at : ℕ
+  pub elements : Elements
+  pub leads : PathLeads S s p t front list_segment list_at (Structs e.size.data_words e.size.pointers elements)
+  pub spot : found t front ≡ Some (PointerTo (Structs e.size.data_words e.size.pointers elements))
+  pub counts : index < element_count elements
+  pub segment_is : e.segment ≡ (target S list_segment list_at).segment
+  pub start_is : e.start ≡ (target S list_segment list_at).start + 1 + index * (e.size.data_words + e.size.pointers)
+
+-- Where a path leads; if nowhere, then no longer path leads anywhere.
+abbrev pub IsFound : Segments → ℕ → ℕ → Tree → List Step → Option Place → Type 0
+IsFound S s p t path (Some (AtPointer place)) = IsPointerFound S s p t path place.segment place.word
+IsFound S s p t path (Some (AtElement e)) = IsElementFound S s p t path e
+IsFound S s p t path None = (more : List Step) → found t (path ++ more) ≡ None
+
+-- A place lies in the message.
+abbrev pub LieThere : Segments → Place → Type 0
+LieThere S (AtPointer place) = IsPlace S place.segment place.word
+LieThere S (AtElement e) = LiesIn S e
+
+-- The pointer of a struct by its index, if there is one.
+abbrev pub child_in : ExistingStruct → ℕ → Option Place
+child_in e i = cond (nat_lt i e.size.pointers) (Some (AtPointer (record { segment = e.segment; word = e.start + e.size.data_words + i }))) None
+
+-- The element of a list by its index, if it is a pointer or a struct.
+abbrev pub pointer_element : ExistingList → ℕ → Place
+pointer_element l i = AtPointer (record { segment = l.segment; word = l.start + i })
+
+abbrev pub struct_element : ExistingList → ℕ → Place
+struct_element l i = AtElement (record { segment = l.segment; start = l.start + i * (l.struct_size.data_words + l.struct_size.pointers); size = l.struct_size })
+
+abbrev pub element_in : ExistingList → ℕ → Option Place
+element_in l i = cond (nat_eq (size_number l.size) 6) (Some (pointer_element l i)) (cond (nat_eq (size_number l.size) 7) (Some (struct_element l i)) None)
+
+-- A place lies in the message, if it is one.
+abbrev pub LieThereIf : Segments → Option Place → Type 0
+LieThereIf S (Some place) = LieThere S place
+LieThereIf S None = ⊤
+
+-- What a step from a place gives: r.
+abbrev pub Steps : Segments → Place → Step → Option Place → Type 0
+Steps S (AtPointer place) step r = (t : Tree) → IsStored S place.segment place.word t → IsFound S place.segment place.word t (step ∷ []) r
+Steps S (AtElement e) (Child i) r = LieThereIf S (child_in e i) → r ≡ child_in e i
+Steps S (AtElement e) (Element i) r = r ≡ None

@@ -1,0 +1,104 @@
+//! Edits: changes of a message that is built, as data. Each has a path from the root pointer, and an
+//! operation that is done where the path leads.
+ghost use Rattle.std.specs.Prelude.{◌≡◌, ℕ, length, IfErr, Some};
+ghost use Rattle.capnp_making.specs.Memory.{HasRoom};
+ghost use Rattle.capnp_words.specs.declared.error.ErrorKind.TheVariants.{NoSuchPlace};
+ghost use Rattle.capnp_edits.specs.Edits.{refusal_of, words_taken, IsRefusedAs, IsApplied, AreApplied, refusals_after, refusals_after_all};
+
+mod fields;
+mod path;
+mod pointer;
+
+use self::fields::edit_struct;
+use self::path::{Place, find, has_words};
+use self::pointer::edit_pointer;
+use capnp_arena::arena::BuilderArena;
+use capnp_words::error::ErrorKind;
+use capnp_words::wire_pointer::{ElementSize, StructSize};
+
+/// A step of a path.
+#[derive(Clone, Copy, Debug, PartialEq, Eq)]
+pub enum Step {
+    /// From a struct to one of its pointers, by its index.
+    Child(u16),
+    /// From a list to one of its elements, by its index: a pointer, or a struct.
+    Element(u32),
+}
+
+/// What is done at the end of a path.
+#[derive(Clone, Copy)]
+pub enum Op<'a> {
+    /// A struct is made, all zero.
+    InitStruct(StructSize),
+    /// A list of so many elements is made that are no structs, all zero or null. There are fewer than 2^29.
+    InitList(ElementSize, u32),
+    /// A list of so many structs is made, all zero. There are fewer than 2^30, of fewer than 2^29 words.
+    InitStructList(u32, StructSize),
+    /// A text of so many bytes is made, all zero, fewer than 2^29 with the zero byte behind them.
+    InitText(u32),
+    /// Data of so many bytes is made, all zero, fewer than 2^29.
+    InitData(u32),
+    /// A text of these bytes is made, fewer than 2^29 with the zero byte behind them.
+    SetText(&'a [u8]),
+    /// Data of these bytes is made, fewer than 2^29.
+    SetData(&'a [u8]),
+    /// The pointer becomes a capability, by its index.
+    SetCapability(u32),
+    /// The pointer becomes null.
+    Clear,
+    /// A number of the data section of a struct is written: of 1, 2, 4 or 8 bytes, by its index among
+    /// numbers as wide.
+    SetField(ElementSize, u32, u64),
+    /// A bit of the data section of a struct is written, by its index.
+    SetBool(u32, bool),
+}
+
+/// A change of a message: what is done, and where.
+#[derive(Clone, Copy)]
+pub struct Edit<'a> {
+    /// The steps from the root pointer on.
+    pub path: &'a [Step],
+    /// What is done at their end.
+    pub op: Op<'a>,
+}
+
+/// Does what an edit says.
+///
+/// `NoSuchPlace` is said of a path that leads nowhere, of an operation for a place of another kind and of
+/// numbers that are out of range, and nothing is changed then. `AllocationFailed` and `MessageTooLarge`
+/// are those of the arena, and the pointer is null then.
+pub fn apply<A: BuilderArena>(arena: &mut A, edit: &Edit<'_>) -> Result<(), ErrorKind>
+    ensures applied { IsApplied (A.view arena.old).words (A.view arena.new).words edit.now (refusal_of result) }
+    ensures counted { (A.view arena.new).refusals ≡ refusals_after (refusal_of result) (A.view arena.old).refusals }
+    ensures named { IfErr result (IsRefusedAs (A.view arena.old) (A.view arena.new) edit.now.op) }
+    ensures fits { ((id : ℕ) → HasRoom (A.view arena.old) id (words_taken edit.now.op)) → IfErr result (λ k. k ≡ NoSuchPlace) }
+    ensures nowhere { refusal_of result ≡ Some NoSuchPlace → A.view arena.new ≡ A.view arena.old }
+{
+    if !has_words(&*arena, 0, 1) {
+        return Err(ErrorKind::NoSuchPlace);
+    }
+    match find(&*arena, edit.path) {
+        Some(Place::Pointer(place)) => edit_pointer(arena, place, edit.op),
+        Some(Place::Element(parent)) => edit_struct(arena, parent, edit.op),
+        None => Err(ErrorKind::NoSuchPlace),
+    }
+}
+
+/// Does what edits say, in order, and goes on after a refusal. `outcomes` gets what became of each: `None`
+/// where it is done, and else the name of its refusal, as `apply` has it.
+pub fn apply_all<A: BuilderArena>(
+    arena: &mut A,
+    edits: &[Edit<'_>],
+    outcomes: &mut [Option<ErrorKind>],
+)
+    requires { length outcomes.old ≡ length edits.now }
+    ensures applied { AreApplied (A.view arena.old).words (A.view arena.new).words edits.now outcomes.new }
+    ensures counted { (A.view arena.new).refusals ≡ refusals_after_all outcomes.new (A.view arena.old).refusals }
+{
+    for (i, edit) in edits.iter().enumerate() {
+        outcomes[i] = match apply(arena, edit) {
+            Ok(()) => None,
+            Err(k) => Some(k),
+        };
+    }
+}

@@ -1,0 +1,125 @@
+//! Where the paths of edits lead in a message.
+ghost use Rattle.std.specs.Prelude.{◌≡◌, ◌↔◌, ◌≤◌, ◌<◌, ◌^◌, IsTrue, IfSome, length};
+ghost use Rattle.capnp_format.specs.Segments.{segment, IsPlace};
+ghost use Rattle.capnp_format.specs.Tree.{Tree};
+ghost use Rattle.capnp_making.specs.Stored.{IsStored};
+ghost use Rattle.capnp_edits.specs.Paths.{step_of, path_of, IsFound, LieThere, LieThereIf, Steps, child_in, element_in};
+
+use crate::edit::Step;
+use capnp_arena::arena::BuilderArena;
+use capnp_making::existing;
+use capnp_making::existing::{ExistingList, ExistingStruct};
+use capnp_readers::readers::PointerPlace;
+use capnp_words::wire_pointer::ElementSize;
+
+/// Where a path leads.
+#[derive(Clone, Copy)]
+pub(crate) enum Place {
+    /// To a pointer.
+    Pointer(PointerPlace),
+    /// To an element of a list of structs.
+    Element(ExistingStruct),
+}
+
+/// Whether a segment has at least so many words.
+pub(crate) fn has_words<A: BuilderArena>(arena: &A, id: u32, words: u64) -> bool
+    ensures enough { IsTrue result ↔ (words ≤ length (segment (A.view arena.now).words id)) }
+    ensures small { IsTrue result → words < 2 ^ 32 }
+{
+    match arena.get_segment(id) {
+        Ok(bytes) => words <= (bytes.len() / 8) as u64,
+        Err(_) => words == 0,
+    }
+}
+
+/// Where a pointer of a struct is, by its index.
+fn child_of<A: BuilderArena>(arena: &A, parent: ExistingStruct, i: u16) -> Option<Place>
+    ensures exactly { LieThereIf (A.view arena.now).words (child_in parent i) → result ≡ child_in parent i }
+    ensures inside { IfSome result (LieThere (A.view arena.now).words) }
+{
+    let at = u64::from(parent.start) + u64::from(parent.size.data_words) + u64::from(i);
+    if i < parent.size.pointers && has_words(arena, parent.segment, at + 1) {
+        Some(Place::Pointer(PointerPlace {
+            segment: parent.segment,
+            word: at as u32,
+        }))
+    } else {
+        None
+    }
+}
+
+/// Where an element of a list is, by its index, if it is a pointer or a struct.
+fn element_of<A: BuilderArena>(arena: &A, list: ExistingList, i: u32) -> Option<Place>
+    ensures exactly { LieThereIf (A.view arena.now).words (element_in list i) → result ≡ element_in list i }
+    ensures inside { IfSome result (LieThere (A.view arena.now).words) }
+{
+    match list.size {
+        ElementSize::Pointer => {
+            let at = u64::from(list.start) + u64::from(i);
+            if has_words(arena, list.segment, at + 1) {
+                Some(Place::Pointer(PointerPlace {
+                    segment: list.segment,
+                    word: at as u32,
+                }))
+            } else {
+                None
+            }
+        }
+        ElementSize::InlineComposite => {
+            let words = u64::from(list.struct_size.total());
+            let start = u64::from(list.start) + u64::from(i) * words;
+            if has_words(arena, list.segment, start + words) {
+                Some(Place::Element(ExistingStruct {
+                    segment: list.segment,
+                    start: start as u32,
+                    size: list.struct_size,
+                }))
+            } else {
+                None
+            }
+        }
+        _ => None,
+    }
+}
+
+/// Where a step leads from a place, if anywhere.
+fn step_from<A: BuilderArena>(arena: &A, here: Place, step: Step) -> Option<Place>
+    ensures steps { Steps (A.view arena.now).words here (step_of step) result }
+    ensures inside { IfSome result (LieThere (A.view arena.now).words) }
+{
+    match (here, step) {
+        (Place::Pointer(place), Step::Child(i)) => {
+            match existing::get_struct(arena, place.segment, place.word) {
+                Some(parent) => child_of(arena, parent, i),
+                None => None,
+            }
+        }
+        (Place::Pointer(place), Step::Element(i)) => {
+            match existing::get_list(arena, place.segment, place.word, ElementSize::Void) {
+                Ok(Some(list)) if i < list.count => element_of(arena, list, i),
+                _ => None,
+            }
+        }
+        (Place::Element(parent), Step::Child(i)) => child_of(arena, parent, i),
+        (Place::Element(_), Step::Element(_)) => None,
+    }
+}
+
+/// Where a path leads from the root, if anywhere.
+pub(crate) fn find<A: BuilderArena>(arena: &A, path: &[Step]) -> Option<Place>
+    requires { IsPlace (A.view arena.now).words 0 0 }
+    ensures found { (t : Tree) → IsStored (A.view arena.now).words 0 0 t → IsFound (A.view arena.now).words 0 0 t (path_of path.now) result }
+    ensures inside { IfSome result (LieThere (A.view arena.now).words) }
+{
+    let mut here = Place::Pointer(PointerPlace {
+        segment: 0,
+        word: 0,
+    });
+    for step in path {
+        match step_from(arena, here, *step) {
+            Some(next) => here = next,
+            None => return None,
+        }
+    }
+    Some(here)
+}

@@ -1,0 +1,135 @@
+//! Edits of a pointer.
+ghost use Rattle.std.specs.Prelude.{◌≡◌, true, false, IsOk, IfErr, Some};
+ghost use Rattle.capnp_format.specs.Segments.{IsPlace};
+ghost use Rattle.capnp_making.specs.Memory.{HasRoom, IsRefusedFor};
+ghost use Rattle.capnp_words.specs.declared.error.ErrorKind.TheVariants.{NoSuchPlace};
+ghost use Rattle.capnp_builders.specs.Building.{built, IsThere};
+ghost use Rattle.capnp_edits.specs.Edits.{refusal_of, field_of, is_field, is_in_range, place_of, words_taken, IsRefusedAs, GivesAt, Does, refusals_after};
+
+use crate::edit::Op;
+use crate::edit::fields::{edit_struct, is_number_of};
+use capnp_arena::arena::BuilderArena;
+use capnp_builders::builders::PointerBuilder;
+use capnp_making::existing;
+use capnp_readers::readers::PointerPlace;
+use capnp_words::error::ErrorKind;
+use capnp_words::wire_pointer::ElementSize;
+
+// Lists have fewer elements than this, and lists of structs fewer words.
+const LIST_LIMIT: u32 = 0x2000_0000;
+
+/// Whether the numbers of an operation are those of something that a pointer can lead to.
+pub(crate) fn is_in_range(op: Op<'_>) -> bool
+    ensures { result ≡ is_in_range op.entry }
+{
+    match op {
+        Op::InitList(size, count) => size != ElementSize::InlineComposite && count < LIST_LIMIT,
+        Op::InitStructList(count, size) => {
+            count < 2 * LIST_LIMIT
+                && u64::from(count) * u64::from(size.total()) < u64::from(LIST_LIMIT)
+        }
+        Op::InitText(size) => size < LIST_LIMIT - 1,
+        Op::InitData(size) => size < LIST_LIMIT,
+        Op::SetText(bytes) => bytes.len() < LIST_LIMIT as usize - 1,
+        Op::SetData(bytes) => bytes.len() < LIST_LIMIT as usize,
+        Op::SetField(size, _, value) => is_number_of(size, value),
+        Op::InitStruct(_) | Op::SetCapability(_) | Op::Clear | Op::SetBool(_, _) => true,
+    }
+}
+
+/// Whether an operation writes a field of a struct.
+fn is_on_field(op: Op<'_>) -> bool
+    ensures { result ≡ is_field (field_of op.entry) }
+{
+    matches!(op, Op::SetField(_, _, _) | Op::SetBool(_, _))
+}
+
+/// Makes of a pointer what an operation says that writes no field.
+fn put<A: BuilderArena>(pointer: &mut PointerBuilder<'_, A>, op: Op<'_>) -> Result<(), ErrorKind>
+    requires there { IsThere (built A.view pointer.old) }
+    requires range { is_in_range op ≡ true }
+    requires whole { is_field (field_of op) ≡ false }
+    ensures done { GivesAt (A.view pointer.old.arena.now).words (A.view pointer.new.arena.now).words (place_of pointer.old) op.entry (refusal_of result) }
+    ensures counted { (A.view pointer.new.arena.now).refusals ≡ refusals_after (refusal_of result) (A.view pointer.old.arena.now).refusals }
+    ensures named { IfErr result (IsRefusedFor (A.view pointer.old.arena.now) (A.view pointer.new.arena.now) (words_taken op.entry)) }
+    ensures fits { HasRoom (A.view pointer.old.arena.now) pointer.old.segment (words_taken op.entry) → IsOk result }
+    ensures same { pointer.new.arena.ghost_name ≡ pointer.old.arena.ghost_name }
+{
+    match op {
+        Op::InitStruct(size) => match pointer.put_struct(size) {
+            Ok(_) => Ok(()),
+            Err(k) => Err(k),
+        },
+        Op::InitList(size, count) => match pointer.put_list(size, count) {
+            Ok(_) => Ok(()),
+            Err(k) => Err(k),
+        },
+        Op::InitStructList(count, size) => match pointer.put_struct_list(count, size) {
+            Ok(_) => Ok(()),
+            Err(k) => Err(k),
+        },
+        Op::InitText(size) => match pointer.put_list(ElementSize::Byte, size + 1) {
+            Ok(_) => Ok(()),
+            Err(k) => Err(k),
+        },
+        Op::InitData(size) => match pointer.put_list(ElementSize::Byte, size) {
+            Ok(_) => Ok(()),
+            Err(k) => Err(k),
+        },
+        Op::SetText(bytes) => pointer.set_text(bytes),
+        Op::SetData(bytes) => pointer.set_data(bytes),
+        Op::SetCapability(index) => {
+            pointer.set_capability(index);
+            Ok(())
+        }
+        Op::Clear => {
+            pointer.clear();
+            Ok(())
+        }
+        Op::SetField(_, _, _) | Op::SetBool(_, _) => Err(ErrorKind::NoSuchPlace),
+    }
+}
+
+/// Does such an operation at a place of a message.
+fn put_at<A: BuilderArena>(arena: &mut A, place: PointerPlace, op: Op<'_>) -> Result<(), ErrorKind>
+    requires there { IsPlace (A.view arena.old).words place.segment place.word }
+    requires range { is_in_range op ≡ true }
+    requires whole { is_field (field_of op) ≡ false }
+    ensures done { GivesAt (A.view arena.old).words (A.view arena.new).words place op.entry (refusal_of result) }
+    ensures counted { (A.view arena.new).refusals ≡ refusals_after (refusal_of result) (A.view arena.old).refusals }
+    ensures named { IfErr result (IsRefusedFor (A.view arena.old) (A.view arena.new) (words_taken op.entry)) }
+    ensures fits { HasRoom (A.view arena.old) place.segment (words_taken op.entry) → IsOk result }
+{
+    let mut pointer = PointerBuilder {
+        arena,
+        segment: place.segment,
+        at: place.word,
+    };
+    put(&mut pointer, op)
+}
+
+#[tactic(auto, using(crate::proofs::Applied::given_at, crate::proofs::Applied::out_of_range, crate::proofs::Applied::written_at, crate::proofs::Applied::no_struct_at))]
+/// Does an operation at a pointer of a message.
+pub(crate) fn edit_pointer<A: BuilderArena>(
+    arena: &mut A,
+    place: PointerPlace,
+    op: Op<'_>,
+) -> Result<(), ErrorKind>
+    requires { IsPlace (A.view arena.old).words place.segment place.word }
+    ensures done { Does (A.view arena.old).words (A.view arena.new).words place op.entry (refusal_of result) }
+    ensures counted { (A.view arena.new).refusals ≡ refusals_after (refusal_of result) (A.view arena.old).refusals }
+    ensures named { IfErr result (IsRefusedAs (A.view arena.old) (A.view arena.new) op.entry) }
+    ensures fits { HasRoom (A.view arena.old) place.segment (words_taken op.entry) → IfErr result (λ k. k ≡ NoSuchPlace) }
+    ensures nowhere { refusal_of result ≡ Some NoSuchPlace → A.view arena.new ≡ A.view arena.old }
+{
+    if is_on_field(op) {
+        return match existing::get_struct(&*arena, place.segment, place.word) {
+            Some(parent) => edit_struct(arena, parent, op),
+            None => Err(ErrorKind::NoSuchPlace),
+        };
+    }
+    if !is_in_range(op) {
+        return Err(ErrorKind::NoSuchPlace);
+    }
+    put_at(arena, place, op)
+}

@@ -1,0 +1,4 @@
+//! Lists of changes of a message that is built, each at a path from the root.
+#![tactic(auto)]
+
+pub mod edit;

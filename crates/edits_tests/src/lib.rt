@@ -1,0 +1,10 @@
+//! Tests of capnp_edits by its public calls: each operation wherever a path leads, with the words that
+//! are then there, and its refusals.
+#![tactic(auto)]
+
+#[cfg(test)]
+mod done;
+#[cfg(test)]
+mod messages;
+#[cfg(test)]
+mod refused;
