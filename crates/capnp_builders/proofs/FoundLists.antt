@@ -1,6 +1,7 @@
 -- Lists that are found in a message lie in it.
-use Rattle.std.proofs.Common.{◌≡◌, ℕ, zero, suc, ◌+◌, ◌<◌, ◌≤◌, length, Option, Some, None, Result, Ok, Err, IfOk, refl, sym, ap, subst, arith}
+use Rattle.std.proofs.Common.{◌≡◌, ℕ, true, zero, suc, ◌+◌, ◌<◌, ◌≤◌, length, Option, Some, None, Result, Ok, Err, IfOk, refl, sym, ap, subst, arith}
 use Rattle.capnp_words.specs.declared.error.ErrorKind.{ErrorKind}
+use Rattle.capnp_words.specs.declared.error.ErrorKind.TheVariants.{UnknownPointerType}
 use Rattle.capnp_format.specs.Numbers.{words_for}
 use Rattle.capnp_format.specs.Segments.{Segments, segment, Target}
 use Rattle.capnp_format.specs.Tree.{Tree, Null, Capability, Struct, Flat, Pointers, Structs, count, element_count}
@@ -9,14 +10,14 @@ use Rattle.capnp_format.specs.Forest.{target, target_in}
 use Rattle.capnp_pointers.specs.declared.wire_pointer.ElementSize.{ElementSize}
 use Rattle.capnp_pointers.specs.declared.wire_pointer.ElementSize.TheVariants.{Pointer}
 use Rattle.capnp_making.specs.declared.existing.ExistingList.{ExistingList}
-use Rattle.capnp_making.specs.Existing.{size_of, plain_misfit, structs_misfit, plain_list, struct_list, unless, list_in}
+use Rattle.capnp_making.specs.Existing.{is_unfound, size_of, plain_misfit, structs_misfit, plain_list, struct_list, unless, list_in}
 use Rattle.capnp_making.specs.Stored.{IsStored}
 use Rattle.capnp_making.proofs.Leading.{leads_segment}
 use Rattle.capnp_making.proofs.Zeros.{there}
 use Rattle.capnp_readers.specs.Readers.{IsListPlace}
 use Rattle.capnp_readers.specs.Sections.{list_words}
 use Rattle.capnp_readers.specs.declared.readers.list_reader.ListPlace.{ListPlace}
-use Rattle.capnp_builders.specs.Found.{place_of, void_list}
+use Rattle.capnp_builders.specs.Found.{place_of, void_list, is_missed}
 
 -- n words from where a pointer leads are there, at the list l
 record IsAt (S : Segments) (a : Target) (n : ℕ) (l : ExistingList) : Type 0 where
@@ -75,6 +76,11 @@ some_or_none l e = cc
 
 pub ok_or_err : (k : ErrorKind) → ◌≡◌ {A = Result (Option ExistingList) ErrorKind} (Err k) (Ok None) → ⊥
 ok_or_err k e = cc
+
+-- what isn't found is missed
+pub missed : (k : ErrorKind) → is_unfound k ≡ true → is_missed k ≡ true
+missed UnknownPointerType e = refl
+missed k e = e
 
 pub same_error : (k l : ErrorKind) → ◌≡◌ {A = Result ListPlace ErrorKind} (Err k) (Err l) → k ≡ l
 same_error k l e = cc

@@ -1,8 +1,9 @@
 -- What a builder call gives that looks for a list, a text or data ("Lists").
-use Rattle.std.specs.Prelude.{◌≡◌, ℕ, ◌*◌, List, [], ◌∷◌, cond, nat_eq, Result, Ok, Err, IsOkAnd}
+use Rattle.std.specs.Prelude.{◌≡◌, ℕ, ◌*◌, Bool, true, List, [], ◌∷◌, cond, nat_eq, Result, Ok, Err, IsOkAnd}
 use Rattle.capnp_pointers.specs.declared.wire_pointer.ElementSize.TheVariants.{Void}
 use Rattle.capnp_words.specs.declared.error.ErrorKind.{ErrorKind}
 use Rattle.capnp_words.specs.declared.error.ErrorKind.TheVariants.{ExistingPointerIsNotAList, MessageContainsOutOfBoundsPointer, UnknownPointerType}
+use Rattle.capnp_making.specs.Existing.{is_unfound}
 use Rattle.capnp_making.specs.declared.existing.ExistingBytes.{ExistingBytes}
 use Rattle.capnp_making.specs.declared.existing.ExistingList.{ExistingList}
 use Rattle.capnp_readers.specs.declared.readers.list_reader.ListPlace.{ListPlace}
@@ -34,3 +35,8 @@ no_bytes id = record { segment = id; start = 0; length = 0 }
 abbrev pub refusal_of_default : List ℕ → ErrorKind
 refusal_of_default [] = MessageContainsOutOfBoundsPointer
 refusal_of_default (x ∷ xs) = cond (nat_eq x 0) ExistingPointerIsNotAList UnknownPointerType
+
+-- The names by which a call is refused that looks for a list, data or a text: it isn't found, or a default isn't copied yet.
+abbrev pub is_missed : ErrorKind → Bool
+is_missed UnknownPointerType = true
+is_missed k = is_unfound k

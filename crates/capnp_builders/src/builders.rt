@@ -9,7 +9,7 @@ ghost use Rattle.capnp_making.specs.declared.existing.ExistingList.{ExistingList
 ghost use Rattle.capnp_making.specs.Existing.{AreInside, LieIn, capability_of};
 ghost use Rattle.capnp_making.specs.InPlace.{bytes_of, rewritten, AreBytes, AreZeroOnce, Overwrites};
 ghost use Rattle.capnp_readers.specs.Readers.{IsListPlace};
-ghost use Rattle.capnp_builders.specs.Found.{place_of, void_list, in_place_of_null, GivesInstead, no_bytes, refusal_of_default};
+ghost use Rattle.capnp_builders.specs.Found.{place_of, void_list, in_place_of_null, GivesInstead, no_bytes, refusal_of_default, is_missed};
 ghost use Rattle.capnp_words.specs.declared.error.ErrorKind.{ErrorKind};
 ghost use Rattle.capnp_pointers.specs.Sizes.{size_number};
 ghost use Rattle.capnp_making.specs.Made.{zero_struct, zero_structs, zero_list, list_words};
@@ -476,6 +476,7 @@ impl<'a, A: BuilderArena> PointerBuilder<'a, A> {
         ensures null { Stores (built A.view self.now) Null → IsNone default.entry → result ≡ Ok (void_list self.now.segment) }
         ensures of_default { Stores (built A.view self.now) Null → IfSome default.entry (λ d. result ≡ in_place_of_null self.now.segment (words_of d.now)) }
         ensures inside { (t : Tree) → Stores (built A.view self.now) t → IfOk result (IsListPlace (A.view self.now.arena.now).words) }
+        ensures named { IfErr result (λ k. is_missed k ≡ true) }
     {
         match existing::get_list(&*self.arena, self.segment, self.at, size) {
             Ok(Some(list)) => Ok(ListPlace {
@@ -529,6 +530,7 @@ impl<'a, A: BuilderArena> PointerBuilder<'a, A> {
         ensures null { Stores (built A.view self.now) Null → IsNone default.entry → result ≡ Ok (no_bytes self.now.segment) }
         ensures of_default { Stores (built A.view self.now) Null → IfSome default.entry (λ d. result ≡ Err (refusal_of_default (words_of d.now))) }
         ensures inside { IfOk result (LieIn (A.view self.now.arena.now).words) }
+        ensures named { IfErr result (λ k. is_missed k ≡ true) }
     {
         match existing::get_data(&*self.arena, self.segment, self.at) {
             Ok(found) => found_bytes(&*self.arena, self.segment, found, default),
@@ -572,6 +574,7 @@ impl<'a, A: BuilderArena> PointerBuilder<'a, A> {
         ensures null { Stores (built A.view self.now) Null → IsNone default.entry → result ≡ Ok (no_bytes self.now.segment) }
         ensures of_default { Stores (built A.view self.now) Null → IfSome default.entry (λ d. result ≡ Err (refusal_of_default (words_of d.now))) }
         ensures inside { IfOk result (LieIn (A.view self.now.arena.now).words) }
+        ensures named { IfErr result (λ k. is_missed k ≡ true) }
     {
         match existing::get_text(&*self.arena, self.segment, self.at) {
             Ok(found) => found_bytes(&*self.arena, self.segment, found, default),

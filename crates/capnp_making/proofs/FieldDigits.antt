@@ -1,6 +1,7 @@
 -- A digit replaced: in a number, and in the words that hold it.
 use Rattle.std.proofs.Common.{◌≡◌, inl, inr, ℕ, zero, suc, ◌+◌, ◌-◌, ◌*◌, ◌/◌, ◌%◌, ◌^◌, ◌<◌, ◌≤◌, List, [], ◌∷◌, get_or, set, length, sym, ap, ap₂, ◌∙◌, arith}
 use Rattle.std.proofs.lemmas.Bool.{cases_lt}
+use Rattle.std.proofs.Math.Nat.{pow-zero}
 use Rattle.std.proofs.lemmas.Nat.{shr_split}
 use Rattle.std.proofs.lemmas.Nat.Bits.{same_from_bits}
 use Rattle.std.specs.Int.{bit_at}
@@ -8,7 +9,7 @@ use Rattle.capnp_format.specs.Numbers.{from_digits, digits}
 use Rattle.capnp_format.specs.Value.{AreBelow}
 use Rattle.capnp_making.specs.Fields.{with_bits, put_field}
 use Rattle.capnp_making.proofs.FieldBytes.{low, high}
-use Rattle.capnp_making.proofs.WithBits.{has_bits, is_with_bits, bit_at-mod, bit_at-mod_past, bit_at-div, cat_low, cat_high}
+use Rattle.capnp_making.proofs.WithBits.{has_bits, is_with_bits, with_bits-below, within_part, bit_at-mod, bit_at-mod_past, bit_at-div, cat_low, cat_high}
 
 pub mod_same : (y x k : ℕ) → ((i : ℕ) → i < k → bit_at y i ≡ bit_at x i) → y % 2 ^ k ≡ x % 2 ^ k
 mod_same y x k h = same_from_bits (y % 2 ^ k) (x % 2 ^ k) (λ i. elim (cases_lt i k) [
@@ -75,12 +76,12 @@ first_digit_set w n f v s t = is_with_bits (n + 2 ^ w * f) (v + 2 ^ w * f) 0 w v
   behind = λ i. (let e : 0 + w + i ≡ w + i = omega arith in ap (bit_at (v + 2 ^ w * f)) e ∙ cat_high f w v i t ∙ sym (cat_high f w n i s) ∙ ap (bit_at (n + 2 ^ w * f)) (sym e));
 })
 
-later_digit_set : (w n f o v : ℕ) → n < 2 ^ w → v < 2 ^ w → n + 2 ^ w * with_bits f o w v ≡ with_bits (n + 2 ^ w * f) (w + o) w v
-later_digit_set w n f o v s t =
+later_digit_set : (w n f o u v : ℕ) → n < 2 ^ w → v < 2 ^ u → n + 2 ^ w * with_bits f o u v ≡ with_bits (n + 2 ^ w * f) (w + o) u v
+later_digit_set w n f o u v s t =
     let x : ℕ = n + 2 ^ w * f in
-    let y : ℕ = with_bits x (w + o) w v in
-    let lowest : y % 2 ^ w ≡ n = replaced_above x (w + o) w v w t (omega arith) ∙ low (2 ^ w) n f s in
-    let others : y / 2 ^ w ≡ with_bits f o w v = in_others x w o w v t ∙ ap (λ z. with_bits z o w v) (high (2 ^ w) n f s) in
+    let y : ℕ = with_bits x (w + o) u v in
+    let lowest : y % 2 ^ w ≡ n = replaced_above x (w + o) u v w t (omega arith) ∙ low (2 ^ w) n f s in
+    let others : y / 2 ^ w ≡ with_bits f o u v = in_others x w o u v t ∙ ap (λ z. with_bits z o u v) (high (2 ^ w) n f s) in
     ap₂ (λ a b. a + 2 ^ w * b) (sym lowest) (sym others) ∙ joined (y % 2 ^ w) (2 ^ w) (y / 2 ^ w) ∙ shr_split y w
   where
     joined : (a p b : ℕ) → a + p * b ≡ b * p + a
@@ -91,5 +92,21 @@ from_digits-set w i v [] h l s = absurd (omega arith)
 from_digits-set w zero v (n ∷ ns) h l s = first_digit_set w n (from_digits (2 ^ w) ns) v h.0 s ∙ ap (λ b. with_bits (from_digits (2 ^ w) (n ∷ ns)) b w v) (let e : 0 ≡ 0 * w = omega arith in e)
 from_digits-set w (suc i) v (n ∷ ns) h l s =
     ap (λ x. n + 2 ^ w * x) (from_digits-set w i v ns h.1 (omega arith) s)
-    ∙ later_digit_set w n (from_digits (2 ^ w) ns) (i * w) v h.0 s
+    ∙ later_digit_set w n (from_digits (2 ^ w) ns) (i * w) w v h.0 s
     ∙ ap (λ b. with_bits (from_digits (2 ^ w) (n ∷ ns)) b w v) (let e : w + i * w ≡ suc i * w = omega arith in e)
+
+-- some lowest bits of a digit
+first_digit_part : (w n f u v : ℕ) → n < 2 ^ w → v < 2 ^ u → u ≤ w → with_bits n 0 u v + 2 ^ w * f ≡ with_bits (n + 2 ^ w * f) 0 u v
+first_digit_part w n f u v s t l =
+    let x : ℕ = n + 2 ^ w * f in
+    let here : n ≡ x / 2 ^ 0 % 2 ^ w = sym (low (2 ^ w) n f s) ∙ ap (λ y. y % 2 ^ w) (let e : x ≡ x / 2 ^ 0 = rw pow-zero (omega arith) in e) in
+    first_digit_set w n f (with_bits n 0 u v) s (with_bits-below n 0 u v w t (omega arith) s) ∙ ap (λ e. with_bits x 0 w (with_bits e 0 u v)) here ∙ within_part x 0 w 0 u v t (omega arith)
+
+pub from_digits-part : (w i u v : ℕ) (ns : List ℕ) → AreBelow (2 ^ w) ns → i < length ns → u ≤ w → v < 2 ^ u → from_digits (2 ^ w) (set ns i (with_bits (get_or ns i 0) 0 u v)) ≡ with_bits (from_digits (2 ^ w) ns) (i * w) u v
+from_digits-part w i u v [] h l m s = absurd (omega arith)
+from_digits-part w zero u v (n ∷ ns) h l m s =
+    first_digit_part w n (from_digits (2 ^ w) ns) u v h.0 s m ∙ ap (λ b. with_bits (from_digits (2 ^ w) (n ∷ ns)) b u v) (let e : 0 ≡ 0 * w = omega arith in e)
+from_digits-part w (suc i) u v (n ∷ ns) h l m s =
+    ap (λ x. n + 2 ^ w * x) (from_digits-part w i u v ns h.1 (omega arith) m s)
+    ∙ later_digit_set w n (from_digits (2 ^ w) ns) (i * w) u v h.0 s
+    ∙ ap (λ b. with_bits (from_digits (2 ^ w) (n ∷ ns)) b u v) (let e : w + i * w ≡ suc i * w = omega arith in e)

@@ -15,7 +15,8 @@ use Rattle.capnp_arena.specs.Written.{with_word}
 use Rattle.capnp_making.specs.Fields.{with_bits, put_field, with_field}
 use Rattle.capnp_making.specs.Path.{struct_at, put_struct, with_words, one_word}
 use Rattle.capnp_making.specs.Stored.{IsStored, IsReplaced}
-use Rattle.capnp_making.proofs.FieldDigits.{field_in_words, from_digits-set}
+use Rattle.capnp_making.proofs.FieldDigits.{field_in_words, from_digits-set, from_digits-part}
+use Rattle.capnp_making.proofs.WithBits.{with_bits-below}
 use Rattle.capnp_making.proofs.MadeWords.{IsPut, word_put}
 use Rattle.capnp_making.proofs.Written.{SameLengths, SameBut, data_written, flat_written, element_words, element_data_written}
 use Rattle.capnp_making.proofs.Zeros.{there, segment_here}
@@ -149,30 +150,68 @@ packed-set size ns i v h l small at =
     ap₂ (λ n x. digits (2 ^ 64) (words_for size n) x) (length-set ns i v) (from_digits-set w i v ns h l small)
     ∙ field_in_words (words_for size (length ns)) (from_digits (2 ^ w) ns) (i * w) w v (omega (arith, at.inside)) at.alone small
 
+packed-part : (size : ℕ) (ns : List ℕ) (i u v : ℕ) → AreBelow (2 ^ element_bits size) ns → i < length ns → u ≤ element_bits size → v < 2 ^ u → StandsInWord size i (length ns) →
+    packed size (set ns i (with_bits (get_or ns i 0) 0 u v)) ≡ put_field (packed size ns) (i * element_bits size) u v
+packed-part size ns i u v h l m small at =
+    let w : ℕ = element_bits size in
+    ap₂ (λ n x. digits (2 ^ 64) (words_for size n) x) (length-set ns i (with_bits (get_or ns i 0) 0 u v)) (from_digits-part w i u v ns h l m small)
+    ∙ field_in_words (words_for size (length ns)) (from_digits (2 ^ w) ns) (i * w) u v (omega (arith, at.inside)) (omega (arith, at.alone)) small
+
+-- the elements of a list that is stored have no more bits than they are wide
+flat_below : (S : Segments) (s p size : ℕ) (ns : List ℕ) → IsStored S s p (Flat size ns) → (size ≤ 5) × AreBelow (2 ^ element_bits size) ns
+flat_below S s p size ns x =
+    let m = x.means in
+    below m.0 m.1 m.2
+  where
+    below : (n c : ℕ) → Means S n s p (Flat size ns) c → (size ≤ 5) × AreBelow (2 ^ element_bits size) ns
+    below n c (a, some, few, o, claim, is, g) =
+        let w : ℕ = element_bits size in
+        (few, subst (AreBelow (2 ^ w)) (sym is) (digits_below (2 ^ w) (length ns) (from_digits (2 ^ 64) (words_at S a.segment a.start (words_for size (length ns)))) (pow_pos w)))
+
+-- bits of the words of a list of numbers or bits, which has other elements then
+flat_bits_written : (S R : Segments) (s p size : ℕ) (ns ms : List ℕ) (b u v : ℕ) → IsStored S s p (Flat size ns) → b < 64 * words_for size (length ns) → length ms ≡ length ns → AreBelow (2 ^ element_bits size) ms →
+    packed size ms ≡ put_field (packed size ns) b u v → R ≡ with_field S (target S s p).segment (64 * (target S s p).start + b) u v → IsReplaced S R s p (Flat size ns) (Flat size ms)
+flat_bits_written S R s p size ns ms b u v x inside long below same e =
+    let m = x.means in
+    flat_bits_written_at m.0 m.1 m.2
+  where
+    flat_bits_written_at : (n c : ℕ) → Means S n s p (Flat size ns) c → IsReplaced S R s p (Flat size ns) (Flat size ms)
+    flat_bits_written_at n c (a, some, few, o, claim, is, g) =
+        let k : ℕ = words_for size (length ns) in
+        let j : ℕ = b / 64 in
+        let to_a = ap target_in o.leads_to.1 in
+        let here : words_at S a.segment a.start k ≡ packed size ns = subst (λ (t : Target). words_at S t.segment t.start k ≡ packed size ns) to_a x.tidy in
+        let y : ℕ = with_bits (get_or (packed size ns) j 0) (b % 64) u v in
+        let made : R ≡ with_word S a.segment (a.start + j) y =
+        e ∙ ap (λ (t : Target). with_field S t.segment (64 * t.start + b) u v) to_a ∙ field_as_word S a.segment a.start k b u v (packed size ns) here inside in
+        let within : j < k = omega (arith, inside) in
+        let place : a.start + j < length (segment S a.segment) = omega (arith, claim, within) in
+        let put = word_put S R a.segment (a.start + j) y place made in
+        let there_now : words_at R a.segment a.start k ≡ packed size ms =
+        put_words S R a.segment a.start j k y made (there S a.segment (a.start + j) place) within ∙ ap (λ xs. set xs j y) here ∙ sym same in
+        flat_written S R s p size ns ms (put_lengths put) x long below
+        (subst (λ (t : Target). SameBut S R (object_of t k)) (sym to_a) (put_same_but S R (object_of a k) (a.start + j) y (omega arith) (omega (arith, within)) put))
+        (subst (λ (t : Target). words_at R t.segment t.start k ≡ packed size ms) (sym to_a) there_now)
+
 -- an element of a list of numbers or bits
 pub flat_element_written : (S R : Segments) (s p size : ℕ) (ns : List ℕ) (i v : ℕ) → IsStored S s p (Flat size ns) → 0 < size → i < length ns → v < 2 ^ element_bits size →
     R ≡ with_field S (target S s p).segment (64 * (target S s p).start + i * element_bits size) (element_bits size) v → IsReplaced S R s p (Flat size ns) (Flat size (set ns i v))
 flat_element_written S R s p size ns i v x wide l small e =
-    let m = x.means in
-    flat_element_written_at m.0 m.1 m.2
+    let (few, below) = flat_below S s p size ns x in
+    let at = stands_in_word size i (length ns) wide few l in
+    flat_bits_written S R s p size ns (set ns i v) (i * element_bits size) (element_bits size) v x at.inside (length-set ns i v) (below_set (2 ^ element_bits size) ns i v below small) (packed-set size ns i v below l small at) e
+
+-- the lowest bits of an element of a list of numbers or bits
+pub flat_part_written : (S R : Segments) (s p size : ℕ) (ns : List ℕ) (i u v : ℕ) → IsStored S s p (Flat size ns) → 0 < size → i < length ns → u ≤ element_bits size → v < 2 ^ u →
+    R ≡ with_field S (target S s p).segment (64 * (target S s p).start + i * element_bits size) u v → IsReplaced S R s p (Flat size ns) (Flat size (set ns i (with_bits (get_or ns i 0) 0 u v)))
+flat_part_written S R s p size ns i u v x wide l part small e =
+    let (few, below) = flat_below S s p size ns x in
+    let at = stands_in_word size i (length ns) wide few l in
+    let y : ℕ = with_bits (get_or ns i 0) 0 u v in
+    let fits : y < 2 ^ element_bits size = with_bits-below (get_or ns i 0) 0 u v (element_bits size) small (omega (arith, part)) (each_below (2 ^ element_bits size) ns i below l) in
+    flat_bits_written S R s p size ns (set ns i y) (i * element_bits size) u v x at.inside (length-set ns i y) (below_set (2 ^ element_bits size) ns i y below fits) (packed-part size ns i u v below l part small at) e
   where
-    flat_element_written_at : (n c : ℕ) → Means S n s p (Flat size ns) c → IsReplaced S R s p (Flat size ns) (Flat size (set ns i v))
-    flat_element_written_at n c (a, some, few, o, claim, is, g) =
-        let w : ℕ = element_bits size in
-        let k : ℕ = words_for size (length ns) in
-        let j : ℕ = i * w / 64 in
-        let to_a = ap target_in o.leads_to.1 in
-        let at = stands_in_word size i (length ns) wide few l in
-        let below : AreBelow (2 ^ w) ns = subst (AreBelow (2 ^ w)) (sym is) (digits_below (2 ^ w) (length ns) (from_digits (2 ^ 64) (words_at S a.segment a.start k)) (pow_pos w)) in
-        let here : words_at S a.segment a.start k ≡ packed size ns = subst (λ (t : Target). words_at S t.segment t.start k ≡ packed size ns) to_a x.tidy in
-        let y : ℕ = with_bits (get_or (packed size ns) j 0) (i * w % 64) w v in
-        let made : R ≡ with_word S a.segment (a.start + j) y =
-        e ∙ ap (λ (t : Target). with_field S t.segment (64 * t.start + i * w) w v) to_a ∙ field_as_word S a.segment a.start k (i * w) w v (packed size ns) here at.inside in
-        let within : j < k = omega (arith, at.inside) in
-        let place : a.start + j < length (segment S a.segment) = omega (arith, claim, within) in
-        let put = word_put S R a.segment (a.start + j) y place made in
-        let there_now : words_at R a.segment a.start k ≡ packed size (set ns i v) =
-        put_words S R a.segment a.start j k y made (there S a.segment (a.start + j) place) within ∙ ap (λ xs. set xs j y) here ∙ sym (packed-set size ns i v below l small at) in
-        flat_written S R s p size ns (set ns i v) (put_lengths put) x (length-set ns i v) (below_set (2 ^ w) ns i v below small)
-        (subst (λ (t : Target). SameBut S R (object_of t k)) (sym to_a) (put_same_but S R (object_of a k) (a.start + j) y (omega arith) (omega (arith, within)) put))
-        (subst (λ (t : Target). words_at R t.segment t.start k ≡ packed size (set ns i v)) (sym to_a) there_now)
+    each_below : (limit : ℕ) (ns : List ℕ) (i : ℕ) → AreBelow limit ns → i < length ns → get_or ns i 0 < limit
+    each_below limit [] i h l = absurd (omega arith)
+    each_below limit (n ∷ ns) zero h l = h.0
+    each_below limit (n ∷ ns) (suc i) h l = each_below limit ns i h.1 (omega arith)

@@ -1,5 +1,5 @@
 -- What a pointer that means a value gives to a call that looks for a list, data, a text or a capability ("Lists", "Capabilities (Interfaces)").
-use Rattle.std.specs.Prelude.{ℕ, ◌+◌, ◌-◌, ◌<◌, ◌≤◌, Bool, false, cond, ◌&&◌, nat_eq, nat_le, List, [], ◌∷◌, length, get_or, take, drop, Option, Some, None, Result, Ok, Err}
+use Rattle.std.specs.Prelude.{ℕ, ◌+◌, ◌-◌, ◌<◌, ◌≤◌, Bool, true, false, cond, ◌&&◌, nat_eq, nat_le, List, [], ◌∷◌, length, get_or, take, drop, Option, Some, None, Result, Ok, Err}
 use Rattle.capnp_format.specs.Numbers.{element_bits, words_for, unpacked}
 use Rattle.capnp_format.specs.Segments.{Segments, segment, word_at, Target}
 use Rattle.capnp_format.specs.Tree.{Tree, Null, Capability, Struct, Flat, Pointers, Structs, count, element_count}
@@ -15,6 +15,7 @@ use Rattle.capnp_words.specs.declared.error.ErrorKind.TheVariants.{
   FoundStructListWhereBitListWasExpected,
   MessageContainsNonCapabilityPointerWhereCapabilityPointerWasExpected,
   MessageContainsNullCapabilityPointer,
+  MessageContainsOutOfBoundsPointer,
   TextBlobMissingNULTerminator,
 }
 use Rattle.capnp_making.specs.Landings.{target_of}
@@ -34,6 +35,16 @@ abbrev pub capability_in : Target → Tree → Result ℕ ErrorKind
 capability_in a Null = Err MessageContainsNullCapabilityPointer
 capability_in a (Capability i) = cond (nat_eq a.pads 0) (Ok i) (Err MessageContainsNonCapabilityPointerWhereCapabilityPointerWasExpected)
 capability_in a t = Err MessageContainsNonCapabilityPointerWhereCapabilityPointerWasExpected
+
+-- The names by which a list, data or a text isn't found.
+abbrev pub is_unfound : ErrorKind → Bool
+is_unfound ExistingListPointerIsNotByteSized = true
+is_unfound ExistingListValueIsIncompatibleWithExpectedType = true
+is_unfound ExistingPointerIsNotAList = true
+is_unfound FoundStructListWhereBitListWasExpected = true
+is_unfound MessageContainsOutOfBoundsPointer = true
+is_unfound TextBlobMissingNULTerminator = true
+is_unfound k = false
 
 -- Where a landing is, if a call comes that far.
 abbrev pub listed : Result (Option Landing) ErrorKind → Result (Option Target) ErrorKind

@@ -1,6 +1,6 @@
 //! What a pointer leads to already ("Lists", "Capabilities (Interfaces)"): nothing is written, and
 //! nothing made.
-ghost use Rattle.std.specs.Prelude.{◌≡◌, ◌↔◌, ◌<◌, ◌≤◌, ◌+◌, ◌^◌, IsTrue, IsSome, IfSome, length};
+ghost use Rattle.std.specs.Prelude.{◌≡◌, ◌↔◌, ◌<◌, ◌≤◌, ◌+◌, ◌^◌, IsTrue, IsSome, IfSome, IfErr, true, length};
 ghost use Rattle.capnp_format.specs.Bytes.{words_of};
 ghost use Rattle.capnp_format.specs.Forest.{target};
 ghost use Rattle.capnp_format.specs.Numbers.{words_for};
@@ -10,7 +10,7 @@ ghost use Rattle.capnp_format.specs.Word.{list_count};
 ghost use Rattle.capnp_pointers.specs.Sizes.{size_number};
 ghost use Rattle.capnp_making.specs.Landings.{target_of};
 ghost use Rattle.capnp_making.specs.Stored.{IsStored};
-ghost use Rattle.capnp_making.specs.Existing.{LieIn, capability_of, capability_in, listed, landing_in, plain_misfit, structs_misfit, unless, plain_list, tagged_list, list_in, data_in, text_in, struct_in, AreInside, LiesIn, bytes_in, ends_in_zero};
+ghost use Rattle.capnp_making.specs.Existing.{LieIn, capability_of, capability_in, listed, landing_in, is_unfound, plain_misfit, structs_misfit, unless, plain_list, tagged_list, list_in, data_in, text_in, struct_in, AreInside, LiesIn, bytes_in, ends_in_zero};
 
 use crate::landing::{Landing, follow, length_of, word_of};
 use capnp_arena::arena::BuilderArena;
@@ -123,6 +123,7 @@ pub fn get_list<A: BuilderArena>(
 ) -> Result<Option<ExistingList>, ErrorKind>
     requires plain { size_number expected ≤ 6 }
     ensures found { (t : Tree) → IsStored (A.view arena.now).words id at t → result ≡ list_in (target (A.view arena.now).words id at) expected t }
+    ensures named { IfErr result (λ k. is_unfound k ≡ true) }
 {
     match follow_list(arena, id, at) {
         Ok(Some(landing)) => {
@@ -143,7 +144,8 @@ pub fn get_list<A: BuilderArena>(
 /// Anything else is `ExistingPointerIsNotAList`, and a pointer that leads out of the message, which no
 /// stored value has, `MessageContainsOutOfBoundsPointer`.
 fn follow_list<A: BuilderArena>(arena: &A, id: u32, at: u32) -> Result<Option<Landing>, ErrorKind>
-    ensures { (t : Tree) → IsStored (A.view arena.now).words id at t → listed result ≡ landing_in (target (A.view arena.now).words id at) t }
+    ensures found { (t : Tree) → IsStored (A.view arena.now).words id at t → listed result ≡ landing_in (target (A.view arena.now).words id at) t }
+    ensures named { IfErr result (λ k. is_unfound k ≡ true) }
 {
     if word_of(arena, id, at).is_null() {
         return Ok(None);
@@ -166,7 +168,8 @@ fn plain_list_at(
     size: ElementSize,
     expected: ElementSize,
 ) -> Result<Option<ExistingList>, ErrorKind>
-    ensures { result ≡ unless (plain_misfit expected size) (plain_list (target_of landing) size (list_count landing.word.0)) }
+    ensures found { result ≡ unless (plain_misfit expected size) (plain_list (target_of landing) size (list_count landing.word.0)) }
+    ensures named { IfErr result (λ k. is_unfound k ≡ true) }
 {
     if data_bits_per_element(size) < data_bits_per_element(expected)
         || pointers_per_element(size) < pointers_per_element(expected)
@@ -191,7 +194,8 @@ fn struct_list_at<A: BuilderArena>(
     landing: Landing,
     expected: ElementSize,
 ) -> Result<Option<ExistingList>, ErrorKind>
-    ensures { landing.start < length (segment (A.view arena.now).words landing.segment) → result ≡ tagged_list (A.view arena.now).words (target_of landing) expected }
+    ensures found { landing.start < length (segment (A.view arena.now).words landing.segment) → result ≡ tagged_list (A.view arena.now).words (target_of landing) expected }
+    ensures named { IfErr result (λ k. is_unfound k ≡ true) }
 {
     match tag_at(arena, landing) {
         Some(tag) => {
@@ -232,7 +236,8 @@ fn tag_at<A: BuilderArena>(arena: &A, landing: Landing) -> Option<WirePointer>
 
 /// Why structs of a size don't serve as elements of an expected size, if they don't.
 fn misfit_of_structs(expected: ElementSize, size: StructSize) -> Option<ErrorKind>
-    ensures { result ≡ structs_misfit expected size.data_words size.pointers }
+    ensures found { result ≡ structs_misfit expected size.data_words size.pointers }
+    ensures named { IfSome result (λ k. is_unfound k ≡ true) }
 {
     match expected {
         ElementSize::Bit => Some(ErrorKind::FoundStructListWhereBitListWasExpected),
@@ -257,6 +262,7 @@ pub fn get_data<A: BuilderArena>(
     at: u32,
 ) -> Result<Option<ExistingBytes>, ErrorKind>
     ensures found { (t : Tree) → IsStored (A.view arena.now).words id at t → result ≡ data_in (target (A.view arena.now).words id at) t }
+    ensures named { IfErr result (λ k. is_unfound k ≡ true) }
 {
     match follow_list(arena, id, at) {
         Ok(Some(landing)) => {
@@ -285,6 +291,7 @@ pub fn get_text<A: BuilderArena>(
     at: u32,
 ) -> Result<Option<ExistingBytes>, ErrorKind>
     ensures found { (t : Tree) → IsStored (A.view arena.now).words id at t → result ≡ text_in (target (A.view arena.now).words id at) t }
+    ensures named { IfErr result (λ k. is_unfound k ≡ true) }
 {
     match get_data(arena, id, at) {
         Ok(Some(bytes)) => {

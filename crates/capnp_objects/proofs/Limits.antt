@@ -1,7 +1,7 @@
 -- By what names a reading is refused: following names a place that is not there, so the read limit is a charge's name alone, and want of room is no name of a reading.
 use Rattle.std.proofs.Common.{◌≡◌, ◌⊎◌, inl, inr, ℕ, zero, suc, Bool, true, false, ◌&&◌, cond, nat_eq, nat_lt, Option, Some, None, Result, Ok, Err, IfErr, length, refl, subst}
 use Rattle.capnp_words.specs.declared.error.ErrorKind.{ErrorKind}
-use Rattle.capnp_words.specs.declared.error.ErrorKind.TheVariants.{AllocationFailed, InvalidSegmentId, MessageContainsOutOfBoundsPointer, MessageTooLarge, ReadLimitExceeded, TriedToReadFromNullArena}
+use Rattle.capnp_words.specs.declared.error.ErrorKind.TheVariants.{AllocationFailed, InvalidSegmentId, MessageContainsOutOfBoundsPointer, MessageTooLarge, NoSuchPlace, ReadLimitExceeded, TriedToReadFromNullArena}
 use Rattle.capnp_format.specs.Word.{kind, upper_half, far_position, is_double}
 use Rattle.capnp_format.specs.Segments.{Segments, word_at, Target, near, pad}
 use Rattle.capnp_objects.specs.Follow.{◌>=>◌, or_named, existing, follow_far, follow}
@@ -74,5 +74,12 @@ not_for_memory {form} refused = elim (named_truly (unreadable refused)) [
 pub not_for_size : {form : Form} {r : Reading} {m m' : Meter} (w : ℕ) → Refused form r m m' (MessageTooLarge w) → ⊥
 not_for_size {form} w refused = elim (named_truly (unreadable refused)) [
   | inl f ↦ no_fault form (MessageTooLarge w) (λ n. elim n [ inl e ↦ cc | inr (inl e) ↦ cc | inr (inr (u, e)) ↦ cc ]) (λ S n a h. h) f
+  | inr f ↦ let e = f.0 in cc
+]
+
+-- nor by that of a place that an edit doesn't find
+pub not_for_place : {form : Form} {r : Reading} {m m' : Meter} → Refused form r m m' NoSuchPlace → ⊥
+not_for_place {form} refused = elim (named_truly (unreadable refused)) [
+  | inl f ↦ no_fault form NoSuchPlace (λ n. elim n [ inl e ↦ cc | inr (inl e) ↦ cc | inr (inr (u, e)) ↦ cc ]) (λ S n a h. h) f
   | inr f ↦ let e = f.0 in cc
 ]

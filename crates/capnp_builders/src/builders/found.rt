@@ -1,9 +1,9 @@
 //! What is found where a list, a text or data is looked for, and what stands for a null pointer
 //! ("Lists").
-ghost use Rattle.std.specs.Prelude.{◌≡◌, ◌<◌, length, IsNone, IfSome, Ok, Err, IfOk};
+ghost use Rattle.std.specs.Prelude.{◌≡◌, ◌<◌, true, length, IsNone, IfSome, Ok, Err, IfOk, IfErr};
 ghost use Rattle.capnp_format.specs.Bytes.{words_of};
 ghost use Rattle.capnp_making.specs.Existing.{LieIn};
-ghost use Rattle.capnp_builders.specs.Found.{void_list, in_place_of_null, no_bytes, refusal_of_default};
+ghost use Rattle.capnp_builders.specs.Found.{void_list, in_place_of_null, no_bytes, refusal_of_default, is_missed};
 
 use super::NO_SECTIONS;
 use capnp_arena::arena::BuilderArena;
@@ -18,6 +18,7 @@ pub(crate) fn list_of_null(segment: u32, default: Option<&[u8]>) -> Result<ListP
     ensures none { IsNone default.entry → result ≡ Ok (void_list segment) }
     ensures some { IfSome default.entry (λ d. result ≡ in_place_of_null segment (words_of d.now)) }
     ensures void { IfOk result (λ l. l ≡ void_list segment) }
+    ensures named { IfErr result (λ k. is_missed k ≡ true) }
 {
     if let Some(bytes) = default {
         if bytes.len() < 8 {
@@ -51,6 +52,7 @@ pub(crate) fn found_bytes<A: BuilderArena>(
     ensures none { IsNone found → IsNone default.entry → result ≡ Ok (no_bytes segment) }
     ensures of_default { IsNone found → IfSome default.entry (λ d. result ≡ Err (refusal_of_default (words_of d.now))) }
     ensures inside { IfOk result (LieIn (A.view arena.now).words) }
+    ensures named { IfErr result (λ k. is_missed k ≡ true) }
 {
     match (found, default) {
         (Some(bytes), _) => {
@@ -71,7 +73,8 @@ pub(crate) fn found_bytes<A: BuilderArena>(
 
 /// Why a default gives no bytes: it has no whole word, its first word is null, or it isn't copied yet.
 fn refusal_of_default(default: &[u8]) -> ErrorKind
-    ensures { result ≡ refusal_of_default (words_of default.now) }
+    ensures found { result ≡ refusal_of_default (words_of default.now) }
+    ensures named { is_missed result ≡ true }
 {
     if default.len() < 8 {
         return ErrorKind::MessageContainsOutOfBoundsPointer;

@@ -4,6 +4,7 @@ use Rattle.capnp_format.specs.Tree.{Null}
 use Rattle.capnp_making.specs.Existing.{LieIn}
 use Rattle.capnp_making.proofs.Zeros.{there}
 use Rattle.capnp_builders.proofs.FoundBytes.{data_inside, found_then, none_found, refused_or_none}
+use Rattle.capnp_builders.proofs.FoundLists.{missed}
 use Rattle.capnp_builders.proofs.builders.PointerBuilder.find_data.Goals as goal
 
 -- What a stored value is lies in the message.
@@ -25,3 +26,6 @@ returns-in-Err-clause-null g c = λ stored none. absurd (refused_or_none c.in-Er
 
 pub returns-in-Err-clause-of_default : goal.returns-in-Err-clause-of_default
 returns-in-Err-clause-of_default g c = λ stored. absurd (refused_or_none c.in-Err.k (c.in-Err.ensures.found Null stored))
+
+pub returns-in-Err-clause-named : goal.returns-in-Err-clause-named
+returns-in-Err-clause-named g c = missed c.in-Err.k c.in-Err.ensures.named

@@ -2,7 +2,7 @@ use Rattle.std.proofs.Common.{Ok, sym, ap, ◌∙◌}
 use Rattle.capnp_format.specs.Segments.{Segments}
 use Rattle.capnp_format.specs.Tree.{Null}
 use Rattle.capnp_making.proofs.Zeros.{there}
-use Rattle.capnp_builders.proofs.FoundLists.{found_inside, void_inside, some_or_none, ok_or_err}
+use Rattle.capnp_builders.proofs.FoundLists.{found_inside, void_inside, some_or_none, ok_or_err, missed}
 use Rattle.capnp_builders.proofs.builders.PointerBuilder.find_list.Goals as goal
 
 -- A null pointer has no list.
@@ -25,3 +25,6 @@ returns-in-Ok-Some-clause-inside g c =
 
 pub returns-in-Ok-None-clause-inside : goal.returns-in-Ok-None-clause-inside
 returns-in-Ok-None-clause-inside g c = λ t stored. void_inside (g.A.BuilderArena.view c.args.self.now.arena.now).words c.args.self.now.segment c.args.self.now.at c.list_of_null.result c.requires.there c.list_of_null.ensures.void
+
+pub returns-in-Err-clause-named : goal.returns-in-Err-clause-named
+returns-in-Err-clause-named g c = missed c.in-Err.k c.in-Err.ensures.named
