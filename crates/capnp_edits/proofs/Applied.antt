@@ -1,9 +1,9 @@
 -- What an edit leaves of a forest.
-use Rattle.std.proofs.Common.{◌≡◌, inl, inr, ℕ, zero, suc, pred, ◌+◌, ◌*◌, ◌<◌, ◌≤◌, Bool, true, false, ◌&&◌, List, [], ◌∷◌, length, Option, Some, None, Result, Ok, Err, IsOk, IfErr, OnOk, OnErr, refl, sym, ap, ap₂, ◌∙◌, subst, arith}
+use Rattle.std.proofs.Common.{◌≡◌, inl, inr, ℕ, zero, suc, pred, ◌+◌, ◌*◌, ◌<◌, ◌≤◌, Bool, true, false, cond, nat_le, List, [], ◌∷◌, length, Option, Some, None, Result, Ok, Err, IsOk, IfErr, OnOk, OnErr, refl, sym, ap, ◌∙◌, subst, arith}
 use Rattle.std.proofs.lemmas.Bool.Decides.{nat_tests}
 use Rattle.std.proofs.lemmas.List.{append-nil}
 use Rattle.capnp_words.specs.declared.error.ErrorKind.{ErrorKind}
-use Rattle.capnp_words.specs.declared.error.ErrorKind.TheVariants.{NoSuchPlace}
+use Rattle.capnp_words.specs.declared.error.ErrorKind.TheVariants.{AllocationFailed, NoSuchPlace}
 use Rattle.capnp_arena.specs.View.{View}
 use Rattle.capnp_format.specs.Segments.{Segments, segment}
 use Rattle.capnp_format.specs.Tree.{Tree, Null, Capability, Struct, Flat, Pointers, Structs, Trees, Elements, no_elements, element, count, element_count}
@@ -14,17 +14,18 @@ use Rattle.capnp_making.specs.Existing.{struct_in}
 use Rattle.capnp_making.specs.Fields.{put_field}
 use Rattle.capnp_making.specs.Memory.{IsRefusedFor, KeepsMemory}
 use Rattle.capnp_making.specs.Path.{Element, struct_at, put_struct, update, PathLeads, one_word}
-use Rattle.capnp_making.specs.Stored.{IsStored, Puts}
+use Rattle.capnp_making.specs.Stored.{IsStored, IsReplaced, Puts}
 use Rattle.capnp_making.proofs.Extents.{once_held, times-first}
 use Rattle.capnp_making.proofs.FieldsWritten.{data_field_written, element_has_words, element_field_written}
 use Rattle.capnp_making.proofs.Replaced.{forest_stored, forest_updated, stored_within}
 use Rattle.capnp_readers.specs.declared.readers.PointerPlace.{PointerPlace}
+use Rattle.capnp_builders.specs.Found.{is_missed}
 use Rattle.capnp_builders.specs.Places.{Field}
 use Rattle.capnp_edits.specs.declared.edit.Edit.{Edit}
 use Rattle.capnp_edits.specs.Paths.{Spot, PointerTo, ElementOf, path_of, found, IsPointerFound, IsElementFound, IsFound}
 use Rattle.capnp_edits.specs.declared.edit.Op.{Op}
-use Rattle.capnp_edits.specs.declared.edit.Op.TheVariants.{InitStruct, InitList, InitStructList, InitText, InitData, SetText, SetData, SetCapability, Clear, SetField, SetBool}
-use Rattle.capnp_edits.specs.Edits.{refusal_of, field_of, is_field, is_in_range, has_field, with_written, made, IsOfMemory, Gives, is_for, fits, GivesAt, Does, DoesAt, is_done, does_not_fit, takes_memory, words_taken, IsRefusedAs, are_written, are_outside, WritesAt, is_put, is_out_of_range, has_none, Takes, takes_effect, fits_not, leads_nowhere, IsApplied, refusals_after}
+use Rattle.capnp_edits.specs.declared.edit.Op.TheVariants.{InitStruct, InitList, InitStructList, InitText, InitData, SetText, SetData, SetCapability, Clear, SetField, SetBool, SetElement, WriteText, WriteData, GetStruct, GetList, GetStructList, GetText, GetData, CopyFrom}
+use Rattle.capnp_edits.specs.Edits.{refusal_of, field_of, is_field, is_in_range, Making, becomes, denied, with_written, made_at, made, IsOfMemory, takes_memory, words_taken, is_of_place, IsRefusedAs, GivesAt, Does, DoesAt, Yields, is_done, lacks_memory, is_denied, IsReplacedIf, leads_to, are_written, are_outside, WritesAt, is_put, is_out_of_range, has_none, Takes, leads_nowhere, IsApplied, refusals_after}
 use Rattle.capnp_edits.proofs.Steps.{first, same_some, struct_of}
 use Rattle.capnp_edits.proofs.Walks.{found-append, update-append}
 
@@ -48,13 +49,30 @@ never_nowhere (Err k) old new n why e = absurd (of_no_place k (of_memory old new
 -- an operation is refused as one of its calls is
 pub refused_as : {A : Type 0} (result : Result A ErrorKind) (old new : View) (op : Op) → IfErr result (IsRefusedFor old new (words_taken op)) → IfErr result (IsRefusedAs old new op)
 refused_as (Ok x) old new op why = tt
-refused_as (Err k) old new op why = inr why
+refused_as (Err k) old new op why = inr (inl why)
 
-pub refused_nowhere : {A : Type 0} (result : Result A ErrorKind) (old new : View) (op : Op) → IfErr result (λ k. k ≡ NoSuchPlace) → IfErr result (IsRefusedAs old new op)
-refused_nowhere (Ok x) old new op why = tt
-refused_nowhere (Err k) old new op why = inl why
+pub refused_there : {A : Type 0} (result : Result A ErrorKind) (old new : View) (op : Op) → IfErr result (λ k. is_of_place k ≡ true) → OnErr result (new ≡ old) → IfErr result (IsRefusedAs old new op)
+refused_there (Ok x) old new op named kept = tt
+refused_there (Err k) old new op named kept = inl (named, kept)
 
-pub never_refused : {A : Type 0} (result : Result A ErrorKind) → IsOk result → IfErr result (λ k. k ≡ NoSuchPlace)
+-- by a name of what a path leads to
+pub of_place : {A : Type 0} (result : Result A ErrorKind) → IfErr result (λ k. k ≡ NoSuchPlace) → IfErr result (λ k. is_of_place k ≡ true)
+of_place (Ok x) named = tt
+of_place (Err k) named = ap is_of_place named
+
+pub missed_place : (k : ErrorKind) → is_missed k ≡ true → is_of_place k ≡ true
+missed_place NoSuchPlace e = refl
+missed_place k e = e
+
+not_counted : (k : ErrorKind) (n : ℕ) → is_of_place k ≡ true → refusals_after (Some k) n ≡ n
+not_counted AllocationFailed n e = absurd (cc)
+not_counted k n e = refl
+
+pub none_counted : {A : Type 0} (result : Result A ErrorKind) (n m : ℕ) → m ≡ n → IfErr result (λ k. is_of_place k ≡ true) → m ≡ refusals_after (refusal_of result) n
+none_counted (Ok x) n m same named = same
+none_counted (Err k) n m same named = same ∙ sym (not_counted k n named)
+
+pub never_refused : {A : Type 0} (result : Result A ErrorKind) → IsOk result → IfErr result (λ k. is_of_place k ≡ true)
 never_refused (Ok x) done = tt
 never_refused (Err k) done = absurd (cc)
 
@@ -72,35 +90,57 @@ counted old new n k (why, same) = elim why [
 ]
 
 -- so an operation is refused that takes memory
-pub refused_at : (old new : View) (place : PointerPlace) (op : Op) (n : ℕ) (k : ErrorKind) → takes_memory op ≡ true → IsRefusedFor old new n k → Puts old.words new.words place.segment place.word Null →
-    GivesAt old.words new.words place op (Some k)
-refused_at old new place op n k takes why puts t stored = (Null, (takes, of_memory old new n k why, refl), puts t stored)
+pub refused_at : (old new : View) (place : PointerPlace) (op : Op) (n : ℕ) (k : ErrorKind) (y : Tree) → takes_memory op ≡ true → ((t : Tree) → made_at op (PointerTo t) ≡ becomes y) → IsRefusedFor old new n k →
+    Puts old.words new.words place.segment place.word Null → GivesAt old.words new.words place op (Some k)
+refused_at old new place op n k y takes makes why puts t stored = (Null, (y, makes t, takes, of_memory old new n k why, refl), puts t stored)
 
-pub bytes_refused : {A : Type 0} (result : Result A ErrorKind) (old new : View) (place : PointerPlace) (op : Op) (n : ℕ) (u : Tree) → takes_memory op ≡ true → ((t : Tree) → made op t ≡ Some u) →
+pub bytes_refused : {A : Type 0} (result : Result A ErrorKind) (old new : View) (place : PointerPlace) (op : Op) (n : ℕ) (u : Tree) → takes_memory op ≡ true → ((t : Tree) → made_at op (PointerTo t) ≡ becomes u) →
     OnOk result (Puts old.words new.words place.segment place.word u) → IfErr result (IsRefusedFor old new n) → OnErr result (Puts old.words new.words place.segment place.word Null) → GivesAt old.words new.words place op (refusal_of result)
 bytes_refused (Ok x) old new place op n u takes makes puts why cleared t stored = (u, makes t, puts t stored)
-bytes_refused (Err k) old new place op n u takes makes puts why cleared t stored = refused_at old new place op n k takes why cleared t stored
+bytes_refused (Err k) old new place op n u takes makes puts why cleared t stored = refused_at old new place op n k u takes makes why cleared t stored
 
 pub bytes_counted : {A : Type 0} (result : Result A ErrorKind) (old new : View) (n : ℕ) → OnOk result (KeepsMemory old new) → IfErr result (IsRefusedFor old new n) → new.refusals ≡ refusals_after (refusal_of result) old.refusals
 bytes_counted (Ok x) old new n keeps why = ap (λ (v : View). v.refusals) keeps.0
 bytes_counted (Err k) old new n keeps why = counted old new n k why
 
--- what an operation gives whose numbers are in range, and which writes no field
-for_pointer : (f : Option Field) (t : Tree) → is_field f ≡ false → is_for f (PointerTo t) ≡ true
-for_pointer (Some f) t e = absurd (cc)
-for_pointer None t e = refl
+-- what an operation makes whose numbers are in range, and one whose are not
+pub in_range_makes : (op : Op) (spot : Spot) → is_in_range op ≡ true → made op spot ≡ made_at op spot
+in_range_makes op spot range = ap (λ b. cond b (made_at op spot) (denied NoSuchPlace)) range
 
-pub given_at : (S R : Segments) (place : PointerPlace) (op : Op) (r : Option ErrorKind) → is_in_range op ≡ true → is_field (field_of op) ≡ false → GivesAt S R place op r → Does S R place op r
-given_at S R place op r range none gives t stored =
-    let (u, given, replaced) = gives t stored in is_done u (ap₂ (λ a b. a && b) range (for_pointer (field_of op) t none)) given replaced
+out_makes : (op : Op) (spot : Spot) → is_in_range op ≡ false → made op spot ≡ denied NoSuchPlace
+out_makes op spot out = ap (λ b. cond b (made_at op spot) (denied NoSuchPlace)) out
+
+never_makes : (op : Op) (spot : Spot) → made_at op spot ≡ denied NoSuchPlace → made op spot ≡ denied NoSuchPlace
+never_makes op spot none = either (is_in_range op) (made_at op spot) none
+  where
+    either : (b : Bool) (r : Making) → r ≡ denied NoSuchPlace → cond b r (denied NoSuchPlace) ≡ denied NoSuchPlace
+    either true r e = e
+    either false r e = refl
+
+-- what an operation yields stands at its place
+pub done_at : {S R : Segments} {place : PointerPlace} {op : Op} {t : Tree} {r : Option ErrorKind} (u : Tree) → made op (PointerTo t) ≡ becomes u → r ≡ None → IsReplaced S R place.segment place.word t u → DoesAt S R place op t r
+done_at u makes done stands = record { left = Some u; yields = is_done u makes done refl; stands = stands }
+
+lacking_at : {S R : Segments} {place : PointerPlace} {op : Op} {t : Tree} {r : Option ErrorKind} (u : Tree) (k : ErrorKind) → made op (PointerTo t) ≡ becomes u → takes_memory op ≡ true → IsOfMemory k → r ≡ Some k →
+    IsReplaced S R place.segment place.word t Null → DoesAt S R place op t r
+lacking_at u k makes takes names named stands = record { left = Some Null; yields = lacks_memory u k makes takes names named refl; stands = stands }
+
+pub denied_at : {S R : Segments} {place : PointerPlace} {op : Op} {t : Tree} {r : Option ErrorKind} (k : ErrorKind) → made op (PointerTo t) ≡ denied k → r ≡ Some k → R ≡ S → DoesAt S R place op t r
+denied_at k denies named same = record { left = None; yields = is_denied k denies named refl; stands = same }
+
+pub given_at : (S R : Segments) (place : PointerPlace) (op : Op) (r : Option ErrorKind) → is_in_range op ≡ true → GivesAt S R place op r → Does S R place op r
+given_at S R place op None range gives t stored = let (u, makes, replaced) = gives t stored in done_at u (in_range_makes op (PointerTo t) range ∙ makes) refl replaced
+given_at S R place op (Some k) range gives t stored =
+    let (u, (y, makes, takes, names, null), replaced) = gives t stored in
+    lacking_at y k (in_range_makes op (PointerTo t) range ∙ makes) takes names refl (subst (IsReplaced S R place.segment place.word t) null replaced)
 
 pub out_of_range : (S : Segments) (place : PointerPlace) (op : Op) → is_in_range op ≡ false → Does S S place op (Some NoSuchPlace)
-out_of_range S place op out t stored = does_not_fit (ap (λ b. b && is_for (field_of op) (PointerTo t)) out) refl refl
+out_of_range S place op out t stored = denied_at NoSuchPlace (out_makes op (PointerTo t) out) refl refl
 
 -- what an operation makes that writes a field
-made_written : (op : Op) (f : Field) (t : Tree) → field_of op ≡ Some f → made op t ≡ with_written f t
-made_written (SetField size i v) f t e = ap (λ g. with_written g t) (same_some _ f e)
-made_written (SetBool i b) f t e = ap (λ g. with_written g t) (same_some _ f e)
+made_written : (op : Op) (f : Field) (t : Tree) → field_of op ≡ Some f → (made_at op (PointerTo t) ≡ with_written f t) × (made_at op (ElementOf t) ≡ with_written f t)
+made_written (SetField size i v) f t e = (ap (λ g. with_written g t) (same_some _ f e), ap (λ g. with_written g t) (same_some _ f e))
+made_written (SetBool i b) f t e = (ap (λ g. with_written g t) (same_some _ f e), ap (λ g. with_written g t) (same_some _ f e))
 made_written (InitStruct size) f t e = absurd (cc)
 made_written (InitList size n) f t e = absurd (cc)
 made_written (InitStructList n size) f t e = absurd (cc)
@@ -110,41 +150,61 @@ made_written (SetText bytes) f t e = absurd (cc)
 made_written (SetData bytes) f t e = absurd (cc)
 made_written (SetCapability i) f t e = absurd (cc)
 made_written Clear f t e = absurd (cc)
+made_written (SetElement size i v) f t e = absurd (cc)
+made_written (WriteText i b) f t e = absurd (cc)
+made_written (WriteData i b) f t e = absurd (cc)
+made_written (GetStruct size default) f t e = absurd (cc)
+made_written (GetList size default) f t e = absurd (cc)
+made_written (GetStructList size default) f t e = absurd (cc)
+made_written (GetText default) f t e = absurd (cc)
+made_written (GetData default) f t e = absurd (cc)
+made_written (CopyFrom source canonicalize) f t e = absurd (cc)
 
-gives_written : (op : Op) (f : Field) (ws : List ℕ) (ts : Trees) (r : Option ErrorKind) → field_of op ≡ Some f → r ≡ None → Gives op (Struct ws ts) r (Struct (put_field ws f.start f.bits f.value) ts)
-gives_written op f ws ts r is_f done = subst (λ x. Gives op (Struct ws ts) x (Struct (put_field ws f.start f.bits f.value) ts)) (sym done) (made_written op f (Struct ws ts) is_f)
+-- any other one is for no element
+none_made : (op : Op) (t : Tree) → field_of op ≡ None → made_at op (ElementOf t) ≡ denied NoSuchPlace
+none_made (SetField size i v) t e = absurd (cc)
+none_made (SetBool i b) t e = absurd (cc)
+none_made (InitStruct size) t e = refl
+none_made (InitList size n) t e = refl
+none_made (InitStructList n size) t e = refl
+none_made (InitText n) t e = refl
+none_made (InitData n) t e = refl
+none_made (SetText bytes) t e = refl
+none_made (SetData bytes) t e = refl
+none_made (SetCapability i) t e = refl
+none_made Clear t e = refl
+none_made (SetElement size i v) t e = refl
+none_made (WriteText i b) t e = refl
+none_made (WriteData i b) t e = refl
+none_made (GetStruct size default) t e = refl
+none_made (GetList size default) t e = refl
+none_made (GetStructList size default) t e = refl
+none_made (GetText default) t e = refl
+none_made (GetData default) t e = refl
+none_made (CopyFrom source canonicalize) t e = refl
 
--- whether it fits
-false_and : (b : Bool) → (b && false) ≡ false
-false_and true = refl
-false_and false = refl
+-- a field that is there, or not
+field_there : (f : Field) (ws : List ℕ) (ts : Trees) → f.start + f.bits ≤ 64 * length ws → with_written f (Struct ws ts) ≡ becomes (Struct (put_field ws f.start f.bits f.value) ts)
+field_there f ws ts l = ap (λ b. cond b (becomes (Struct (put_field ws f.start f.bits f.value) ts)) (denied NoSuchPlace)) (within (f.start + f.bits) (64 * length ws) l)
+  where
+    within : (a b : ℕ) → a ≤ b → nat_le a b ≡ true
+    within a b l = grind (arith, nat_tests)
 
-field_there : (f : Field) (ws : List ℕ) (ts : Trees) → f.start + f.bits ≤ 64 * length ws → has_field f (Struct ws ts) ≡ true
-field_there f ws ts l = grind (arith, nat_tests)
-
-field_past : (f : Field) (ws : List ℕ) (ts : Trees) → 64 * length ws < f.start + f.bits → has_field f (Struct ws ts) ≡ false
-field_past f ws ts l = grind (arith, nat_tests)
-
-struct_fits : (op : Op) (f : Field) (spot : Spot) → is_in_range op ≡ true → field_of op ≡ Some f → is_for (Some f) spot ≡ true → fits op spot ≡ true
-struct_fits op f spot range is_f there = ap₂ (λ a b. a && b) range (ap (λ o. is_for o spot) is_f ∙ there)
-
-past_fits : (op : Op) (f : Field) (spot : Spot) → field_of op ≡ Some f → is_for (Some f) spot ≡ false → fits op spot ≡ false
-past_fits op f spot is_f past = ap (λ b. is_in_range op && b) (ap (λ o. is_for o spot) is_f ∙ past) ∙ false_and (is_in_range op)
-
-range_fits : (op : Op) (spot : Spot) → is_in_range op ≡ false → fits op spot ≡ false
-range_fits op spot out = ap (λ b. b && is_for (field_of op) spot) out
-
-none_fits : (op : Op) (spot : Spot) → is_for (field_of op) spot ≡ false → fits op spot ≡ false
-none_fits op spot none = ap (λ b. is_in_range op && b) none ∙ false_and (is_in_range op)
+field_past : (f : Field) (ws : List ℕ) (ts : Trees) → 64 * length ws < f.start + f.bits → with_written f (Struct ws ts) ≡ denied NoSuchPlace
+field_past f ws ts l = ap (λ b. cond b (becomes (Struct (put_field ws f.start f.bits f.value) ts)) (denied NoSuchPlace)) (past (f.start + f.bits) (64 * length ws) l)
+  where
+    past : (a b : ℕ) → b < a → nat_le a b ≡ false
+    past a b l = grind (arith, nat_tests)
 
 -- a field of a struct that a pointer leads to
 written_there : (S R : Segments) (place : PointerPlace) (op : Op) (r : Option ErrorKind) (ws : List ℕ) (ts : Trees) → IsStored S place.segment place.word (Struct ws ts) → is_field (field_of op) ≡ true →
     WritesAt S R (struct_of (target S place.segment place.word).segment (target S place.segment place.word).start (length ws) (count ts)) op r → DoesAt S R place op (Struct ws ts) r
 written_there S R place op r ws ts stored some (is_put f is_f range (are_written starts ends done written)) =
-    is_done (Struct (put_field ws f.start f.bits f.value) ts) (struct_fits op f (PointerTo (Struct ws ts)) range is_f (field_there f ws ts ends)) (gives_written op f ws ts r is_f done)
+    done_at (Struct (put_field ws f.start f.bits f.value) ts) (in_range_makes op (PointerTo (Struct ws ts)) range ∙ (made_written op f (Struct ws ts) is_f).0 ∙ field_there f ws ts ends) done
     (data_field_written S R place.segment place.word ws ts f.start f.bits f.value stored starts written)
-written_there S R place op r ws ts stored some (is_put f is_f range (are_outside past named same)) = does_not_fit (past_fits op f (PointerTo (Struct ws ts)) is_f (field_past f ws ts past)) named same
-written_there S R place op r ws ts stored some (is_out_of_range out named same) = does_not_fit (range_fits op (PointerTo (Struct ws ts)) out) named same
+written_there S R place op r ws ts stored some (is_put f is_f range (are_outside past named same)) =
+    denied_at NoSuchPlace (in_range_makes op (PointerTo (Struct ws ts)) range ∙ (made_written op f (Struct ws ts) is_f).0 ∙ field_past f ws ts past) named same
+written_there S R place op r ws ts stored some (is_out_of_range out named same) = denied_at NoSuchPlace (out_makes op (PointerTo (Struct ws ts)) out) named same
 written_there S R place op r ws ts stored some (has_none none named same) = absurd (let e : is_field None ≡ true = subst (λ o. is_field o ≡ true) none some in cc)
 
 struct_written : (S R : Segments) (place : PointerPlace) (op : Op) (r : Option ErrorKind) (e : ExistingStruct) (t : Tree) → Some e ≡ struct_in (target S place.segment place.word) t → is_field (field_of op) ≡ true → WritesAt S R e op r →
@@ -163,17 +223,22 @@ pub written_at : (S R : Segments) (place : PointerPlace) (op : Op) (r : Option E
 written_at S R place op r e some is_e w t stored = struct_written S R place op r e t (is_e t stored) some w stored
 
 -- and of what is no struct
-field_nowhere : (o : Option Field) (t : Tree) → is_field o ≡ true → ((f : Field) → has_field f t ≡ false) → is_for o (PointerTo t) ≡ false
-field_nowhere (Some f) t e none = none f
-field_nowhere None t e none = absurd (cc)
+some_field : (o : Option Field) → is_field o ≡ true → (f : Field) × (o ≡ Some f)
+some_field (Some f) e = (f, refl)
+some_field None e = absurd (cc)
+
+no_struct : (S : Segments) (place : PointerPlace) (op : Op) (t : Tree) → is_field (field_of op) ≡ true → ((f : Field) → with_written f t ≡ denied NoSuchPlace) → DoesAt S S place op t (Some NoSuchPlace)
+no_struct S place op t some none =
+    let (f, is_f) = some_field (field_of op) some in
+    denied_at NoSuchPlace (never_makes op (PointerTo t) ((made_written op f t is_f).0 ∙ none f)) refl refl
 
 no_struct_fits : (S : Segments) (place : PointerPlace) (op : Op) (t : Tree) → None ≡ struct_in (target S place.segment place.word) t → is_field (field_of op) ≡ true → DoesAt S S place op t (Some NoSuchPlace)
 no_struct_fits S place op (Struct ws ts) is_none some = absurd (cc)
-no_struct_fits S place op Null is_none some = does_not_fit (none_fits op (PointerTo Null) (field_nowhere (field_of op) Null some (λ f. refl))) refl refl
-no_struct_fits S place op (Capability j) is_none some = does_not_fit (none_fits op (PointerTo (Capability j)) (field_nowhere (field_of op) (Capability j) some (λ f. refl))) refl refl
-no_struct_fits S place op (Flat size ns) is_none some = does_not_fit (none_fits op (PointerTo (Flat size ns)) (field_nowhere (field_of op) (Flat size ns) some (λ f. refl))) refl refl
-no_struct_fits S place op (Pointers ts) is_none some = does_not_fit (none_fits op (PointerTo (Pointers ts)) (field_nowhere (field_of op) (Pointers ts) some (λ f. refl))) refl refl
-no_struct_fits S place op (Structs d q es) is_none some = does_not_fit (none_fits op (PointerTo (Structs d q es)) (field_nowhere (field_of op) (Structs d q es) some (λ f. refl))) refl refl
+no_struct_fits S place op Null is_none some = no_struct S place op Null some (λ f. refl)
+no_struct_fits S place op (Capability j) is_none some = no_struct S place op (Capability j) some (λ f. refl)
+no_struct_fits S place op (Flat size ns) is_none some = no_struct S place op (Flat size ns) some (λ f. refl)
+no_struct_fits S place op (Pointers ts) is_none some = no_struct S place op (Pointers ts) some (λ f. refl)
+no_struct_fits S place op (Structs d q es) is_none some = no_struct S place op (Structs d q es) some (λ f. refl)
 
 pub no_struct_at : (S : Segments) (place : PointerPlace) (op : Op) → is_field (field_of op) ≡ true → ((t : Tree) → IsStored S place.segment place.word t → None ≡ struct_in (target S place.segment place.word) t) →
     Does S S place op (Some NoSuchPlace)
@@ -181,9 +246,11 @@ no_struct_at S place op some is_none t stored = no_struct_fits S place op t (is_
 
 at_pointer : (S R : Segments) (e : Edit) (place : PointerPlace) (r : Option ErrorKind) (t x : Tree) → PathLeads S 0 0 t (path_of e.path.now) place.segment place.word x → found t (path_of e.path.now) ≡ Some (PointerTo x) → IsForest S t →
     DoesAt S R place e.op x r → (u : Tree) × IsForest R u × Takes e t r u
-at_pointer S R e place r t x leads spot forest (is_done y fit gives replaced) =
-    (update t (path_of e.path.now) y, forest_updated S R t (path_of e.path.now) place.segment place.word x y forest leads replaced, takes_effect (PointerTo x) y spot fit gives refl)
-at_pointer S R e place r t x leads spot forest (does_not_fit unfit named same) = (t, subst (λ Q. IsForest Q t) (sym same) forest, fits_not (PointerTo x) spot unfit named refl)
+at_pointer S R e place r t x leads spot forest does = stands does.left does.yields does.stands
+  where
+    stands : (o : Option Tree) → Yields e.op (made e.op (PointerTo x)) r o → IsReplacedIf S R place x o → (u : Tree) × IsForest R u × Takes e t r u
+    stands (Some y) yields replaced = (update t (path_of e.path.now) y, forest_updated S R t (path_of e.path.now) place.segment place.word x y forest leads replaced, leads_to (PointerTo x) (Some y) spot yields refl)
+    stands None yields same = (t, subst (λ Q. IsForest Q t) (sym same) forest, leads_to (PointerTo x) None spot yields refl)
 
 -- at a pointer
 pub applied_pointer : (S R : Segments) (e : Edit) (place : PointerPlace) (r : Option ErrorKind) → ((t : Tree) → IsStored S 0 0 t → IsPointerFound S 0 0 t (path_of e.path.now) place.segment place.word) → Does S R place e.op r → IsApplied S R e r
@@ -193,7 +260,7 @@ applied_pointer S R e place r leads does t forest =
     at_pointer S R e place r t f.value f.leads f.spot forest (does f.value (stored_within S 0 0 t (path_of e.path.now) place.segment place.word f.value f.leads stored))
 
 -- an element of a list of structs is a struct
-element_struct : (es : Elements) (i : ℕ) → i < element_count es → (ws : List ℕ) × (ts : Trees) × (struct_at es i ≡ Struct ws ts)
+pub element_struct : (es : Elements) (i : ℕ) → i < element_count es → (ws : List ℕ) × (ts : Trees) × (struct_at es i ≡ Struct ws ts)
 element_struct no_elements i l = absurd (omega arith)
 element_struct (element ws ts es) zero l = (ws, ts, refl)
 element_struct (element ws ts es) (suc i) l = element_struct es i (omega arith)
@@ -201,6 +268,9 @@ element_struct (element ws ts es) (suc i) l = element_struct es i (omega arith)
 -- with as many data words as the list says
 element_width : (S : Segments) (n s p d q : ℕ) (es : Elements) (c i : ℕ) (ws : List ℕ) (ts : Trees) → Means S n s p (Structs d q es) c → i < element_count es → struct_at es i ≡ Struct ws ts → length ws ≡ d
 element_width S n s p d q es c i ws ts (b, m, k, some, o, claim, tag, fits, all, g) l is = (element_has_words S (pred n) b.segment (b.start + 1) d q es k i ws ts all l is).0
+
+pub element_width_stored : (S : Segments) (s p d q : ℕ) (es : Elements) (i : ℕ) (ws : List ℕ) (ts : Trees) → IsStored S s p (Structs d q es) → i < element_count es → struct_at es i ≡ Struct ws ts → length ws ≡ d
+element_width_stored S s p d q es i ws ts stored l is = let m = stored.means in element_width S m.0 s p d q es m.1 i ws ts m.2 l is
 
 at_element : (S R : Segments) (e : Edit) (s : ExistingStruct) (r : Option ErrorKind) (t : Tree) (f : IsElementFound S 0 0 t (path_of e.path.now) s) (ws : List ℕ) (ts : Trees) → struct_at f.elements f.index ≡ Struct ws ts → length ws ≡ s.size.data_words →
     IsStored S f.list_segment f.list_at (Structs s.size.data_words s.size.pointers f.elements) → found t (path_of e.path.now) ≡ Some (ElementOf (Struct ws ts)) → IsForest S t → WritesAt S R s e.op r → (u : Tree) × IsForest R u × Takes e t r u
@@ -217,15 +287,15 @@ at_element S R e s r t f ws ts is wide stored spot forest (is_put g is_g range (
     ap (λ p. update t p y) f.path_is ∙ update-append t f.front (Element f.index ∷ []) list y f.spot in (
       update t f.front (Structs d q (put_struct f.elements f.index y)),
       forest_updated S R t f.front f.list_segment f.list_at list (Structs d q (put_struct f.elements f.index y)) forest f.leads replaced,
-      takes_effect (ElementOf (Struct ws ts)) y spot (struct_fits e.op g (ElementOf (Struct ws ts)) range is_g (field_there g ws ts within)) (gives_written e.op g ws ts r is_g done) (sym same),
+      leads_to (ElementOf (Struct ws ts)) (Some y) spot (is_done y (in_range_makes e.op (ElementOf (Struct ws ts)) range ∙ (made_written e.op g (Struct ws ts) is_g).1 ∙ field_there g ws ts within) done refl) (sym same),
     )
 at_element S R e s r t f ws ts is wide stored spot forest (is_put g is_g range (are_outside far named same)) =
     let past : 64 * length ws < g.start + g.bits = rw wide far in
-    (t, subst (λ Q. IsForest Q t) (sym same) forest, fits_not (ElementOf (Struct ws ts)) spot (past_fits e.op g (ElementOf (Struct ws ts)) is_g (field_past g ws ts past)) named refl)
+    (t, subst (λ Q. IsForest Q t) (sym same) forest, leads_to (ElementOf (Struct ws ts)) None spot (is_denied NoSuchPlace (in_range_makes e.op (ElementOf (Struct ws ts)) range ∙ (made_written e.op g (Struct ws ts) is_g).1 ∙ field_past g ws ts past) named refl) refl)
 at_element S R e s r t f ws ts is wide stored spot forest (is_out_of_range out named same) =
-    (t, subst (λ Q. IsForest Q t) (sym same) forest, fits_not (ElementOf (Struct ws ts)) spot (range_fits e.op (ElementOf (Struct ws ts)) out) named refl)
+    (t, subst (λ Q. IsForest Q t) (sym same) forest, leads_to (ElementOf (Struct ws ts)) None spot (is_denied NoSuchPlace (out_makes e.op (ElementOf (Struct ws ts)) out) named refl) refl)
 at_element S R e s r t f ws ts is wide stored spot forest (has_none none named same) =
-    (t, subst (λ Q. IsForest Q t) (sym same) forest, fits_not (ElementOf (Struct ws ts)) spot (none_fits e.op (ElementOf (Struct ws ts)) (ap (λ o. is_for o (ElementOf (Struct ws ts))) none)) named refl)
+    (t, subst (λ Q. IsForest Q t) (sym same) forest, leads_to (ElementOf (Struct ws ts)) None spot (is_denied NoSuchPlace (never_makes e.op (ElementOf (Struct ws ts)) (none_made e.op (Struct ws ts) none)) named refl) refl)
 
 -- at an element
 pub applied_element : (S R : Segments) (e : Edit) (s : ExistingStruct) (r : Option ErrorKind) → ((t : Tree) → IsStored S 0 0 t → IsElementFound S 0 0 t (path_of e.path.now) s) → WritesAt S R s e.op r → IsApplied S R e r

@@ -13,7 +13,7 @@ use Rattle.capnp_making.specs.Fields.{with_field}
 use Rattle.capnp_builders.specs.Places.{field, number_field}
 use Rattle.capnp_builders.proofs.FieldPlaces.{widths}
 use Rattle.capnp_edits.specs.declared.edit.Op.TheVariants.{SetField}
-use Rattle.capnp_edits.specs.Edits.{number_at, bit_at, is_number_of, PutsBits, are_written, are_outside, WritesAt, is_put}
+use Rattle.capnp_edits.specs.Edits.{number_at, bit_at, is_number_from, PutsBits, are_written, are_outside, WritesAt, is_put}
 
 -- a number that starts behind whole words is aligned
 pub number_aligned : (p i n : ℕ) → 0 < n → n ≤ 8 → 8 % n ≡ 0 → (8 * p + i * n) % n ≡ 0
@@ -42,29 +42,36 @@ pub bit_outside : (S : Segments) (e : ExistingStruct) (i : ℕ) (b : Bool) → 6
 bit_outside S e i b l = are_outside (omega arith) refl refl
 
 -- a number of so many bits
-pub number_put : (S R : Segments) (e : ExistingStruct) (size : ElementSize) (i v n x : ℕ) (r : Option ErrorKind) → element_bits (size_number size) ≡ 8 * n → is_number_of size v ≡ true → x ≡ v → PutsBits S R e (number_field n i x) r →
+pub number_put : (S R : Segments) (e : ExistingStruct) (size : ElementSize) (i v n x : ℕ) (r : Option ErrorKind) → element_bits (size_number size) ≡ 8 * n → is_number_from 2 size v ≡ true → x ≡ v → PutsBits S R e (number_field n i x) r →
     WritesAt S R e (SetField size i v) r
 number_put S R e size i v n x r wide fits same put =
     let is : number_field n i x ≡ number_at size i v =
     ap (λ y. number_field n i y) same ∙ ap (λ b. field b (8 * n) v) (let h : 8 * (i * n) ≡ i * (8 * n) = grind arith in h) ∙ ap (λ b. field (i * b) b v) (sym wide) in
     is_put (number_at size i v) refl fits (subst (λ f. PutsBits S R e f r) is put)
 
--- which is below 2 to their number
-third : (a b c : Bool) → (a && b && c) ≡ true → c ≡ true
-third true true c h = h
-third true false c h = absurd (cc)
-third false true c h = absurd (cc)
-third false false c h = absurd (cc)
+-- what a number is
+all : (a b c : Bool) → (a && b && c) ≡ true → (a ≡ true) × (b ≡ true) × (c ≡ true)
+all true true true h = (refl, refl, refl)
+all true true false h = absurd (cc)
+all true false c h = absurd (cc)
+all false b c h = absurd (cc)
+
+within : (a b : ℕ) → nat_le a b ≡ true → a ≤ b
+within a b h = grind (arith, nat_tests, h)
 
 below : (v m : ℕ) → nat_lt v m ≡ true → v < m
 below v m h = grind (arith, nat_tests, h)
 
-pub number_small : (size : ElementSize) (v n : ℕ) → element_bits (size_number size) ≡ n → is_number_of size v ≡ true → v < 2 ^ n
-number_small size v n wide fits =
-    subst (λ b. v < 2 ^ b) wide (below v (2 ^ element_bits (size_number size)) (third (nat_le 2 (size_number size)) (nat_le (size_number size) 5) (nat_lt v (2 ^ element_bits (size_number size))) fits))
+pub number_parts : (least : ℕ) (size : ElementSize) (v : ℕ) → is_number_from least size v ≡ true → (least ≤ size_number size) × (size_number size ≤ 5) × (v < 2 ^ element_bits (size_number size))
+number_parts least size v h =
+    let parts = all (nat_le least (size_number size)) (nat_le (size_number size) 5) (nat_lt v (2 ^ element_bits (size_number size))) h in
+    (within least (size_number size) parts.0, within (size_number size) 5 parts.1, below v (2 ^ element_bits (size_number size)) parts.2)
+
+pub number_small : (least : ℕ) (size : ElementSize) (v n : ℕ) → element_bits (size_number size) ≡ n → is_number_from least size v ≡ true → v < 2 ^ n
+number_small least size v n wide fits = subst (λ b. v < 2 ^ b) wide (number_parts least size v fits).2
 
 -- the other size of a number
-pub eight_bytes : (size : ElementSize) (v : ℕ) → is_number_of size v ≡ true → (size ≡ Byte → ⊥) → (size ≡ TwoBytes → ⊥) → (size ≡ FourBytes → ⊥) → element_bits (size_number size) ≡ 64
+pub eight_bytes : (size : ElementSize) (v : ℕ) → is_number_from 2 size v ≡ true → (size ≡ Byte → ⊥) → (size ≡ TwoBytes → ⊥) → (size ≡ FourBytes → ⊥) → element_bits (size_number size) ≡ 64
 eight_bytes Void v fits a b c = absurd (cc)
 eight_bytes Bit v fits a b c = absurd (cc)
 eight_bytes Byte v fits a b c = absurd (a refl)

@@ -3,3 +3,6 @@ pub mod Steps
 pub mod Applied
 pub mod Fields
 pub mod Folded
+pub mod Contents
+pub mod Searches
+pub mod Copied

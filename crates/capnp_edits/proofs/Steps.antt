@@ -77,9 +77,10 @@ no_struct S s p i (Flat size ns) e = λ more. refl
 no_struct S s p i (Pointers ts) e = λ more. refl
 no_struct S s p i (Structs d q es) e = λ more. refl
 
-chosen : (m : Option ErrorKind) (l k : ExistingList) → Ok (Some k) ≡ unless m l → k ≡ l
-chosen None l k e = cc
-chosen (Some x) l k e = cc
+-- what was found, with nothing wrong
+pub chosen : (m : Option ErrorKind) (l k : ExistingList) → Ok (Some k) ≡ unless m l → (m ≡ None) × (k ≡ l)
+chosen None l k e = (refl, cc)
+chosen (Some x) l k e = absurd (cc)
 
 -- the elements of a list of numbers are no places
 flat_element : (u b size n i : ℕ) → size ≤ 5 → element_in (record { segment = u; start = b; size = size_of size; struct_size = record { data_words = 0; pointers = 0 }; count = n }) i ≡ None
@@ -108,7 +109,7 @@ list_element S s p i (Flat size ns) l r is_l stored few exactly =
     let a = target S s p in
     let m = stored.means in
     let (b, some, small, o, claim, given, costs) = m.2 in
-    let same = chosen (plain_misfit Void (size_of size)) (plain_list a (size_of size) (length ns)) l is_l in
+    let same = (chosen (plain_misfit Void (size_of size)) (plain_list a (size_of size) (length ns)) l is_l).1 in
     let none : element_in l i ≡ None = ap (λ k. element_in k i) same ∙ flat_element a.segment a.start size (length ns) i small in
     subst (IsFound S s p (Flat size ns) (Element i ∷ [])) (sym (exactly (subst (LieThereIf S) (sym none) tt) ∙ none)) (λ more. refl)
 list_element S s p i (Pointers ts) l r is_l stored few exactly =

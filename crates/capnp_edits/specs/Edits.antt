@@ -1,27 +1,37 @@
 -- What edits make of the value of a message.
-use Rattle.std.specs.Prelude.{◌≡◌, ◌⊎◌, ℕ, ◌+◌, ◌*◌, ◌^◌, ◌<◌, ◌≤◌, Bool, true, false, cond, ◌&&◌, nat_le, nat_lt, List, ◌++◌, [], ◌∷◌, length, Option, Some, None, Result, Ok, Err}
+use Rattle.std.specs.Prelude.{◌≡◌, ◌⊎◌, ℕ, ◌+◌, ◌*◌, ◌^◌, ◌<◌, ◌≤◌, Bool, true, false, cond, ◌&&◌, nat_le, nat_lt, List, ◌++◌, [], ◌∷◌, length, get_or, slice_set, Option, Some, None, Result, Ok, Err, ⊤}
+use Rattle.std.specs.Borrow.{Bor}
 use Rattle.capnp_words.specs.declared.error.ErrorKind.{ErrorKind}
 use Rattle.capnp_words.specs.declared.error.ErrorKind.TheVariants.{AllocationFailed, MessageTooLarge, NoSuchPlace}
 use Rattle.capnp_pointers.specs.declared.wire_pointer.ElementSize.{ElementSize}
 use Rattle.capnp_pointers.specs.Sizes.{size_number}
+use Rattle.capnp_format.specs.Bytes.{words_of}
 use Rattle.capnp_format.specs.Numbers.{element_bits, words_for}
-use Rattle.capnp_format.specs.Segments.{Segments}
-use Rattle.capnp_format.specs.Tree.{Tree, Null, Capability, Struct, Flat}
+use Rattle.capnp_format.specs.Segments.{Segments, Target}
+use Rattle.capnp_format.specs.Tree.{Tree, Null, Capability, Struct, Flat, Structs}
 use Rattle.capnp_format.specs.Forest.{IsForest}
 use Rattle.capnp_arena.specs.Allocations.{one_more}
 use Rattle.capnp_arena.specs.View.{View}
-use Rattle.capnp_making.specs.Fields.{put_field, with_field}
+use Rattle.capnp_making.specs.Existing.{list_in, data_in, text_in, LieIn}
+use Rattle.capnp_making.specs.Fields.{with_bits, put_field, with_field}
 use Rattle.capnp_making.specs.Memory.{IsRefusedFor}
 use Rattle.capnp_making.specs.Made.{list_words, zero_struct, zero_structs, zero_list}
-use Rattle.capnp_making.specs.Path.{update}
-use Rattle.capnp_making.specs.Stored.{IsStored, IsReplaced}
+use Rattle.capnp_making.specs.Path.{Step, struct_at, put_struct, update}
+use Rattle.capnp_making.specs.Stored.{IsStored, IsReplaced, Puts}
+use Rattle.capnp_making.specs.declared.existing.ExistingBytes.{ExistingBytes}
+use Rattle.capnp_making.specs.declared.existing.ExistingList.{ExistingList}
 use Rattle.capnp_making.specs.declared.existing.ExistingStruct.{ExistingStruct}
+use Rattle.capnp_readers.specs.Readers.{IsListPlace}
+use Rattle.capnp_readers.specs.Sections.{step_bits, data_bits}
 use Rattle.capnp_readers.specs.declared.readers.PointerPlace.{PointerPlace}
 use Rattle.capnp_builders.specs.declared.builders.PointerBuilder.{PointerBuilder}
+use Rattle.capnp_builders.specs.Found.{place_of as list_place, in_place_of_null, refusal_of_default, is_missed}
 use Rattle.capnp_builders.specs.Places.{Field, field}
 use Rattle.capnp_edits.specs.declared.edit.Edit.{Edit}
 use Rattle.capnp_edits.specs.declared.edit.Op.{Op}
-use Rattle.capnp_edits.specs.declared.edit.Op.TheVariants.{InitStruct, InitList, InitStructList, InitText, InitData, SetText, SetData, SetCapability, Clear, SetField, SetBool}
+use Rattle.capnp_edits.specs.declared.edit.Source.{Source}
+use Rattle.capnp_edits.specs.declared.edit.Op.TheVariants.{InitStruct, InitList, InitStructList, InitText, InitData, SetText, SetData, SetCapability, Clear, SetField, SetBool, SetElement, WriteText, WriteData, GetStruct, GetList, GetStructList, GetText, GetData, CopyFrom}
+use Rattle.capnp_edits.specs.Sources.{Copies, IsUnread, IsUnreadable, IsCopyRefused}
 use Rattle.capnp_edits.specs.Paths.{Spot, PointerTo, ElementOf, path_of, found}
 
 -- The name by which a call is refused, if it is.
@@ -36,7 +46,7 @@ number_at size i v = field (i * element_bits (size_number size)) (element_bits (
 abbrev pub bit_at : ℕ → Bool → Field
 bit_at i b = field i 1 (cond b 1 0)
 
--- The bits that an operation writes in a data section, if it does.
+-- The bits of a data section that an operation writes, if it does.
 abbrev pub field_of : Op → Option Field
 field_of (SetField size i v) = Some (number_at size i v)
 field_of (SetBool i b) = Some (bit_at i b)
@@ -46,11 +56,25 @@ abbrev pub is_field : Option Field → Bool
 is_field (Some f) = true
 is_field None = false
 
--- A number has no more bits than its element size, which is one of 1, 2, 4 or 8 bytes.
-abbrev pub is_number_of : ElementSize → ℕ → Bool
-is_number_of size v = nat_le 2 (size_number size) && nat_le (size_number size) 5 && nat_lt v (2 ^ element_bits (size_number size))
+-- An operation writes in a list, a text or data that is there.
+abbrev pub is_content : Op → Bool
+is_content (SetElement size i v) = true
+is_content (WriteText i b) = true
+is_content (WriteData i b) = true
+is_content op = false
 
--- The numbers of an operation are those of something that a pointer can lead to, or a field hold.
+-- An operation looks for a list, a text or data.
+abbrev pub is_search : Op → Bool
+is_search (GetList size default) = true
+is_search (GetText default) = true
+is_search (GetData default) = true
+is_search op = false
+
+-- A number has no more bits than its element size, which is one from the least number of a size on, up to 8 bytes.
+abbrev pub is_number_from : ℕ → ElementSize → ℕ → Bool
+is_number_from least size v = nat_le least (size_number size) && nat_le (size_number size) 5 && nat_lt v (2 ^ element_bits (size_number size))
+
+-- The numbers of an operation are those of something that a pointer can lead to, or a field or an element hold. No structs are looked for yet.
 abbrev pub is_in_range : Op → Bool
 is_in_range (InitList size n) = nat_le (size_number size) 6 && nat_lt n (2 ^ 29)
 is_in_range (InitStructList n size) = nat_lt n (2 ^ 30) && nat_lt (n * (size.data_words + size.pointers)) (2 ^ 29)
@@ -58,31 +82,106 @@ is_in_range (InitText n) = nat_lt (n + 1) (2 ^ 29)
 is_in_range (InitData n) = nat_lt n (2 ^ 29)
 is_in_range (SetText bytes) = nat_lt (length bytes.now + 1) (2 ^ 29)
 is_in_range (SetData bytes) = nat_lt (length bytes.now) (2 ^ 29)
-is_in_range (SetField size i v) = is_number_of size v
+is_in_range (SetField size i v) = is_number_from 2 size v
+is_in_range (SetElement size i v) = is_number_from 1 size v
+is_in_range (GetStruct size default) = false
+is_in_range (GetList size default) = nat_le (size_number size) 6
+is_in_range (GetStructList size default) = false
 is_in_range op = true
 
--- The bits lie in the data section of a struct, and the struct with them written.
-abbrev pub has_field : Field → Tree → Bool
-has_field f (Struct ws ts) = nat_le (f.start + f.bits) (64 * length ws)
-has_field f t = false
+-- What an operation makes where a path leads: a value; or it is refused by a name, and nothing is changed; or what the root of another message means, in
+-- canonical form where that is asked for.
+pub data Making : Type 0 where
+  becomes : Tree → Making
+  denied : ErrorKind → Making
+  copies : Source → Bool → Making
 
-abbrev pub with_written : Field → Tree → Option Tree
-with_written f (Struct ws ts) = Some (Struct (put_field ws f.start f.bits f.value) ts)
-with_written f t = None
+-- A struct with bits of its data section written.
+abbrev pub struct_with : Field → Tree → Tree
+struct_with f (Struct ws ts) = Struct (put_field ws f.start f.bits f.value) ts
+struct_with f t = t
 
--- What an operation makes of a value, at a pointer that means it, or of a struct which is an element.
-abbrev pub made : Op → Tree → Option Tree
-made (InitStruct size) t = Some (zero_struct size)
-made (InitList size n) t = Some (zero_list (size_number size) n)
-made (InitStructList n size) t = Some (zero_structs n size)
-made (InitText n) t = Some (zero_list 2 (n + 1))
-made (InitData n) t = Some (zero_list 2 n)
-made (SetText bytes) t = Some (Flat 2 (bytes.now ++ 0 ∷ []))
-made (SetData bytes) t = Some (Flat 2 bytes.now)
-made (SetCapability i) t = Some (Capability i)
-made Clear t = Some Null
-made (SetField size i v) t = with_written (number_at size i v) t
-made (SetBool i b) t = with_written (bit_at i b) t
+-- The same, where the struct has them.
+abbrev pub with_written : Field → Tree → Making
+with_written f (Struct ws ts) = cond (nat_le (f.start + f.bits) (64 * length ws)) (becomes (struct_with f (Struct ws ts))) (denied NoSuchPlace)
+with_written f t = denied NoSuchPlace
+
+-- A list with the lowest w bits of an element written.
+abbrev pub with_lowest : ℕ → ℕ → ℕ → Tree → Tree
+with_lowest i w v (Flat size ns) = Flat size (slice_set ns i (with_bits (get_or ns i 0) 0 w v))
+with_lowest i w v (Structs d q es) = Structs d q (put_struct es i (struct_with (field 0 w v) (struct_at es i)))
+with_lowest i w v t = t
+
+-- Where the list of a value is doesn't count here.
+abbrev pub nowhere : Target
+nowhere = record { word = 0; segment = 0; start = 0; pads = 0 }
+
+-- How many elements, or bytes, are found: none in a null pointer.
+abbrev pub count_of : Result (Option ExistingList) ErrorKind → Result ℕ ErrorKind
+count_of (Ok (Some l)) = Ok l.count
+count_of (Ok None) = Ok 0
+count_of (Err k) = Err k
+
+abbrev pub length_of : Result (Option ExistingBytes) ErrorKind → Result ℕ ErrorKind
+length_of (Ok (Some b)) = Ok b.length
+length_of (Ok None) = Ok 0
+length_of (Err k) = Err k
+
+-- What is made where element number i is written and n are found: u.
+abbrev pub if_reached : ℕ → Result ℕ ErrorKind → Tree → Making
+if_reached i (Ok n) u = cond (nat_lt i n) (becomes u) (denied NoSuchPlace)
+if_reached i (Err k) u = denied k
+
+-- A search leaves t, if it isn't refused.
+abbrev pub unchanged : {A : Type 0} → Tree → Result A ErrorKind → Making
+unchanged t (Ok x) = becomes t
+unchanged t (Err k) = denied k
+
+-- What a search gives in place of null, with a default by its bytes.
+abbrev pub in_place_of : (List ℕ → Making) → Option (Bor (List ℕ)) → Making
+in_place_of by_words (Some default) = by_words (words_of default.now)
+in_place_of by_words None = becomes Null
+
+abbrev pub list_of_default : List ℕ → Making
+list_of_default ws = unchanged Null (in_place_of_null 0 ws)
+
+abbrev pub bytes_of_default : List ℕ → Making
+bytes_of_default ws = denied (refusal_of_default ws)
+
+-- What a search makes of t: t, where something is found; what stands in place of null; or its refusal.
+abbrev pub as_found : {A : Type 0} → Tree → Making → Result (Option A) ErrorKind → Making
+as_found t instead (Ok (Some x)) = becomes t
+as_found t instead (Ok None) = instead
+as_found t instead (Err k) = denied k
+
+-- What an operation whose numbers are in range makes where a path leads, memory aside; or by what name it is refused, and nothing is changed.
+abbrev pub made_at : Op → Spot → Making
+made_at (SetField size i v) (PointerTo t) = with_written (number_at size i v) t
+made_at (SetField size i v) (ElementOf t) = with_written (number_at size i v) t
+made_at (SetBool i b) (PointerTo t) = with_written (bit_at i b) t
+made_at (SetBool i b) (ElementOf t) = with_written (bit_at i b) t
+made_at op (ElementOf t) = denied NoSuchPlace
+made_at (InitStruct size) (PointerTo t) = becomes (zero_struct size)
+made_at (InitList size n) (PointerTo t) = becomes (zero_list (size_number size) n)
+made_at (InitStructList n size) (PointerTo t) = becomes (zero_structs n size)
+made_at (InitText n) (PointerTo t) = becomes (zero_list 2 (n + 1))
+made_at (InitData n) (PointerTo t) = becomes (zero_list 2 n)
+made_at (SetText bytes) (PointerTo t) = becomes (Flat 2 (bytes.now ++ 0 ∷ []))
+made_at (SetData bytes) (PointerTo t) = becomes (Flat 2 bytes.now)
+made_at (SetCapability i) (PointerTo t) = becomes (Capability i)
+made_at Clear (PointerTo t) = becomes Null
+made_at (CopyFrom source canonicalize) (PointerTo t) = copies source canonicalize
+made_at (SetElement size i v) (PointerTo t) = if_reached i (count_of (list_in nowhere size t)) (with_lowest i (element_bits (size_number size)) v t)
+made_at (WriteText i b) (PointerTo t) = if_reached i (length_of (text_in nowhere t)) (with_lowest i 8 b t)
+made_at (WriteData i b) (PointerTo t) = if_reached i (length_of (data_in nowhere t)) (with_lowest i 8 b t)
+made_at (GetStruct size default) (PointerTo t) = denied NoSuchPlace
+made_at (GetList size default) (PointerTo t) = as_found t (in_place_of list_of_default default) (list_in nowhere size t)
+made_at (GetStructList size default) (PointerTo t) = denied NoSuchPlace
+made_at (GetText default) (PointerTo t) = as_found t (in_place_of bytes_of_default default) (text_in nowhere t)
+made_at (GetData default) (PointerTo t) = as_found t (in_place_of bytes_of_default default) (data_in nowhere t)
+
+abbrev pub made : Op → Spot → Making
+made op spot = cond (is_in_range op) (made_at op spot) (denied NoSuchPlace)
 
 -- The names of a refusal for want of memory, or of room.
 abbrev pub IsOfMemory : ErrorKind → Type 0
@@ -94,6 +193,15 @@ takes_memory (SetCapability i) = false
 takes_memory Clear = false
 takes_memory (SetField size i v) = false
 takes_memory (SetBool i b) = false
+takes_memory (SetElement size i v) = false
+takes_memory (WriteText i b) = false
+takes_memory (WriteData i b) = false
+takes_memory (GetStruct size default) = false
+takes_memory (GetList size default) = false
+takes_memory (GetStructList size default) = false
+takes_memory (GetText default) = false
+takes_memory (GetData default) = false
+takes_memory (CopyFrom source canonicalize) = false
 takes_memory op = true
 
 -- How many words the object takes that an operation makes, its landing pad aside.
@@ -107,33 +215,33 @@ words_taken (SetText bytes) = words_for 2 (length bytes.now + 1)
 words_taken (SetData bytes) = words_for 2 (length bytes.now)
 words_taken op = 0
 
--- An operation is refused since there is no such place, or by a name that is true of its words.
+-- The names by which an operation is refused for what a path leads to, or doesn't.
+abbrev pub is_of_place : ErrorKind → Bool
+is_of_place NoSuchPlace = true
+is_of_place k = is_missed k
+
+-- What an operation copies.
+abbrev pub copied_by : Op → Option (Source × Bool)
+copied_by (CopyFrom source canonicalize) = Some (source, canonicalize)
+copied_by op = None
+
+-- A copy is refused by a name: its source has no root, and all is as it was; or as the copy of its root is.
+abbrev pub IsSourceRefused : View → View → Source → Bool → ErrorKind → Type 0
+IsSourceRefused old new source b k = (IsUnread source k × (new ≡ old)) ⊎ IsCopyRefused old new source b k
+
+abbrev pub IsCopyRefusedAs : View → View → Option (Source × Bool) → ErrorKind → Type 0
+IsCopyRefusedAs old new (Some copying) k = IsSourceRefused old new copying.0 copying.1 k
+IsCopyRefusedAs old new None k = ⊥
+
+-- A refusal by a name is for what a path leads to, and all is as it was; or it is one for want of memory or room, true of the words of the operation; or one
+-- of a copy.
 abbrev pub IsRefusedAs : View → View → Op → ErrorKind → Type 0
-IsRefusedAs old new op k = (k ≡ NoSuchPlace) ⊎ IsRefusedFor old new (words_taken op) k
+IsRefusedAs old new op k = ((is_of_place k ≡ true) × (new ≡ old)) ⊎ IsRefusedFor old new (words_taken op) k ⊎ IsCopyRefusedAs old new (copied_by op) k
 
--- An operation that takes memory can be refused for want of it, and leaves a null pointer then.
-abbrev pub Refuses : Op → ErrorKind → Tree → Type 0
-Refuses op k u = (takes_memory op ≡ true) × IsOfMemory k × (u ≡ Null)
-
--- What stands after an operation where t was: it is done, or refused by a name.
+-- What stands after a whole operation in range where a pointer meant t: what it makes; or null, for want of memory.
 abbrev pub Gives : Op → Tree → Option ErrorKind → Tree → Type 0
-Gives op t None u = made op t ≡ Some u
-Gives op t (Some k) u = Refuses op k u
-
--- The value that a path leads to.
-abbrev pub value_at : Spot → Tree
-value_at (PointerTo t) = t
-value_at (ElementOf t) = t
-
--- An operation on a field is for a struct that has it, and any other one for a pointer.
-abbrev pub is_for : Option Field → Spot → Bool
-is_for (Some f) spot = has_field f (value_at spot)
-is_for None (PointerTo t) = true
-is_for None (ElementOf t) = false
-
--- The operation is for what a path leads to, and its numbers are in range.
-abbrev pub fits : Op → Spot → Bool
-fits op spot = is_in_range op && is_for (field_of op) spot
+Gives op t None u = made_at op (PointerTo t) ≡ becomes u
+Gives op t (Some k) u = (y : Tree) × (made_at op (PointerTo t) ≡ becomes y) × (takes_memory op ≡ true) × IsOfMemory k × (u ≡ Null)
 
 -- Where the pointer of a builder is.
 abbrev pub place_of : {A : Type 0} → PointerBuilder A → PointerPlace
@@ -143,10 +251,26 @@ place_of b = record { segment = b.segment; word = b.at }
 abbrev pub GivesAt : Segments → Segments → PointerPlace → Op → Option ErrorKind → Type 0
 GivesAt S R place op r = (t : Tree) → IsStored S place.segment place.word t → (u : Tree) × Gives op t r u × IsReplaced S R place.segment place.word t u
 
--- What an operation leaves at a pointer that means a value, with its outcome.
-pub data DoesAt (S R : Segments) (place : PointerPlace) (op : Op) (t : Tree) (r : Option ErrorKind) : Type 0 where
-  is_done : (u : Tree) → fits op (PointerTo t) ≡ true → Gives op t r u → IsReplaced S R place.segment place.word t u → DoesAt S R place op t r
-  does_not_fit : fits op (PointerTo t) ≡ false → r ≡ Some NoSuchPlace → R ≡ S → DoesAt S R place op t r
+-- What an operation leaves where it makes this, with its outcome: o in the value's stead, if anything is changed. It is what is made; or null, for want
+-- of memory; or all as it was; or it is what is copied; or null, where that is refused; or all as it was, where there is no root to be read.
+pub data Yields (op : Op) (making : Making) (r : Option ErrorKind) (o : Option Tree) : Type 0 where
+  is_done : (u : Tree) → making ≡ becomes u → r ≡ None → o ≡ Some u → Yields op making r o
+  lacks_memory : (u : Tree) (k : ErrorKind) → making ≡ becomes u → takes_memory op ≡ true → IsOfMemory k → r ≡ Some k → o ≡ Some Null → Yields op making r o
+  is_denied : (k : ErrorKind) → making ≡ denied k → r ≡ Some k → o ≡ None → Yields op making r o
+  is_copied : (source : Source) (b : Bool) (u : Tree) → making ≡ copies source b → Copies source b u → r ≡ None → o ≡ Some u → Yields op making r o
+  is_not_copied : (source : Source) (b : Bool) (k : ErrorKind) → making ≡ copies source b → IsOfMemory k ⊎ IsUnreadable source b k → r ≡ Some k → o ≡ Some Null → Yields op making r o
+  is_unread : (source : Source) (b : Bool) (k : ErrorKind) → making ≡ copies source b → IsUnread source k → r ≡ Some k → o ≡ None → Yields op making r o
+
+-- The pointer at a place means o in t's stead, if anything is changed.
+abbrev pub IsReplacedIf : Segments → Segments → PointerPlace → Tree → Option Tree → Type 0
+IsReplacedIf S R place t (Some u) = IsReplaced S R place.segment place.word t u
+IsReplacedIf S R place t None = R ≡ S
+
+-- So an operation does at a pointer that means t.
+pub record DoesAt (S R : Segments) (place : PointerPlace) (op : Op) (t : Tree) (r : Option ErrorKind) : Type 0 where
+  pub left : Option Tree
+  pub yields : Yields op (made op (PointerTo t)) r left
+  pub stands : IsReplacedIf S R place t left
 
 abbrev pub Does : Segments → Segments → PointerPlace → Op → Option ErrorKind → Type 0
 Does S R place op r = (t : Tree) → IsStored S place.segment place.word t → DoesAt S R place op t r
@@ -162,10 +286,42 @@ pub data WritesAt (S R : Segments) (e : ExistingStruct) (op : Op) (r : Option Er
   is_out_of_range : is_in_range op ≡ false → r ≡ Some NoSuchPlace → R ≡ S → WritesAt S R e op r
   has_none : field_of op ≡ None → r ≡ Some NoSuchPlace → R ≡ S → WritesAt S R e op r
 
+-- An outcome of a search that makes this of t: what it makes is t, or the refusal.
+abbrev pub IsOutcome : Making → Tree → Option ErrorKind → Type 0
+IsOutcome made t None = made ≡ becomes t
+IsOutcome made t (Some k) = made ≡ denied k
+
+-- What a copy of a source's root leaves at a place, with its outcome: it is there; or null, the copy being refused; or there is no root.
+pub data CopiesRoot (S R : Segments) (place : PointerPlace) (copying : Source × Bool) (r : Option ErrorKind) : Type 0 where
+  root_copied : (u : Tree) → Copies copying.0 copying.1 u → r ≡ None → Puts S R place.segment place.word u → CopiesRoot S R place copying r
+  root_not_copied : (k : ErrorKind) → IsOfMemory k ⊎ IsUnreadable copying.0 copying.1 k → r ≡ Some k → Puts S R place.segment place.word Null → CopiesRoot S R place copying r
+  root_unread : (k : ErrorKind) → IsUnread copying.0 k → r ≡ Some k → R ≡ S → CopiesRoot S R place copying r
+
+-- What writing an element leaves, with its outcome, where a list was looked for: its lowest bits are written; or it isn't there, in no list that lies in
+-- the message and is as wide; or there is no list, or the search was refused.
+pub data PutsElement (S R : Segments) (looked : Result (Option ExistingList) ErrorKind) (size : ElementSize) (i v : ℕ) (r : Option ErrorKind) : Type 0 where
+  element_put : (l : ExistingList) → looked ≡ Ok (Some l) → i < l.count → r ≡ None →
+      R ≡ with_field S l.segment (8 * (8 * l.start) + i * step_bits l.size l.struct_size) (element_bits (size_number size)) v → PutsElement S R looked size i v r
+  element_past : (l : ExistingList) → looked ≡ Ok (Some l) → (IsListPlace S (list_place l) → element_bits (size_number size) ≤ data_bits l.size l.struct_size → l.count ≤ i) → r ≡ Some NoSuchPlace → R ≡ S →
+      PutsElement S R looked size i v r
+  no_list : looked ≡ Ok None → r ≡ Some NoSuchPlace → R ≡ S → PutsElement S R looked size i v r
+  list_denied : (k : ErrorKind) → looked ≡ Err k → r ≡ Some k → R ≡ S → PutsElement S R looked size i v r
+
+-- The same of a byte of a text or data.
+pub data PutsByte (S R : Segments) (looked : Result (Option ExistingBytes) ErrorKind) (i v : ℕ) (r : Option ErrorKind) : Type 0 where
+  byte_put : (b : ExistingBytes) → looked ≡ Ok (Some b) → i < b.length → r ≡ None → R ≡ with_field S b.segment (8 * (8 * b.start + i)) 8 v → PutsByte S R looked i v r
+  byte_past : (b : ExistingBytes) → looked ≡ Ok (Some b) → (LieIn S b → b.length ≤ i) → r ≡ Some NoSuchPlace → R ≡ S → PutsByte S R looked i v r
+  no_bytes_there : looked ≡ Ok None → r ≡ Some NoSuchPlace → R ≡ S → PutsByte S R looked i v r
+  bytes_denied : (k : ErrorKind) → looked ≡ Err k → r ≡ Some k → R ≡ S → PutsByte S R looked i v r
+
+-- The value t with o where a path leads, if anything is changed.
+abbrev pub put_if : Tree → List Step → Option Tree → Tree
+put_if t path (Some y) = update t path y
+put_if t path None = t
+
 -- An edit with its outcome takes the value t of a message to u.
 pub data Takes (e : Edit) (t : Tree) (r : Option ErrorKind) (u : Tree) : Type 0 where
-  takes_effect : (spot : Spot) (y : Tree) → found t (path_of e.path.now) ≡ Some spot → fits e.op spot ≡ true → Gives e.op (value_at spot) r y → u ≡ update t (path_of e.path.now) y → Takes e t r u
-  fits_not : (spot : Spot) → found t (path_of e.path.now) ≡ Some spot → fits e.op spot ≡ false → r ≡ Some NoSuchPlace → u ≡ t → Takes e t r u
+  leads_to : (spot : Spot) (o : Option Tree) → found t (path_of e.path.now) ≡ Some spot → Yields e.op (made e.op spot) r o → u ≡ put_if t (path_of e.path.now) o → Takes e t r u
   leads_nowhere : found t (path_of e.path.now) ≡ None → r ≡ Some NoSuchPlace → u ≡ t → Takes e t r u
 
 -- From S to R an edit takes a forest to a forest, with its outcome.
@@ -190,3 +346,21 @@ refusals_after r n = n
 abbrev pub refusals_after_all : List (Option ErrorKind) → ℕ → ℕ
 refusals_after_all [] n = n
 refusals_after_all (r ∷ rs) n = refusals_after_all rs (refusals_after r n)
+
+-- So a copy is counted, which may have been refused memory, too, where it is refused for what it reads; and any operation.
+abbrev pub IsCopyCounted : Option ErrorKind → ℕ → ℕ → Type 0
+IsCopyCounted r old new = (r ≡ Some AllocationFailed → new ≡ one_more old) × ((new ≡ old) ⊎ (new ≡ one_more old))
+
+abbrev pub IsCounted : Op → Option ErrorKind → ℕ → ℕ → Type 0
+IsCounted op r old new = (copied_by op ≡ None → new ≡ refusals_after r old) × IsCopyCounted r old new
+
+-- So are edits in order.
+abbrev pub AreCounted : List Edit → List (Option ErrorKind) → ℕ → ℕ → Type 0
+AreCounted [] [] old new = new ≡ old
+AreCounted (e ∷ es) (r ∷ rs) old new = (n : ℕ) × IsCounted e.op r old n × AreCounted es rs n new
+AreCounted es rs old new = ⊥
+
+-- None of them copies from another message.
+abbrev pub copy_none : List Edit → Type 0
+copy_none [] = ⊤
+copy_none (e ∷ es) = (copied_by e.op ≡ None) × copy_none es

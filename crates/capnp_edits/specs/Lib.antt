@@ -1,2 +1,3 @@
 pub mod Paths
 pub mod Edits
+pub mod Sources

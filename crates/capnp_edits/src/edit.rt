@@ -1,18 +1,21 @@
 //! Edits: changes of a message that is built, as data. Each has a path from the root pointer, and an
 //! operation that is done where the path leads.
-ghost use Rattle.std.specs.Prelude.{◌≡◌, ℕ, length, IfErr, Some};
+ghost use Rattle.std.specs.Prelude.{◌≡◌, ℕ, true, length, IfErr, Some, None};
 ghost use Rattle.capnp_making.specs.Memory.{HasRoom};
 ghost use Rattle.capnp_words.specs.declared.error.ErrorKind.TheVariants.{NoSuchPlace};
-ghost use Rattle.capnp_edits.specs.Edits.{refusal_of, words_taken, IsRefusedAs, IsApplied, AreApplied, refusals_after, refusals_after_all};
+ghost use Rattle.capnp_edits.specs.Edits.{refusal_of, words_taken, is_of_place, IsRefusedAs, IsApplied, AreApplied, copied_by, copy_none, IsCounted, AreCounted, refusals_after_all};
 
+mod copying;
+mod elements;
 mod fields;
+mod found;
 mod path;
 mod pointer;
 
 use self::fields::edit_struct;
 use self::path::{Place, find, has_words};
 use self::pointer::edit_pointer;
-use capnp_arena::arena::BuilderArena;
+use capnp_arena::arena::{BuilderArena, ReaderArenaImpl, SegmentArray};
 use capnp_words::error::ErrorKind;
 use capnp_words::wire_pointer::{ElementSize, StructSize};
 
@@ -23,6 +26,15 @@ pub enum Step {
     Child(u16),
     /// From a list to one of its elements, by its index: a pointer, or a struct.
     Element(u32),
+}
+
+/// Another message, which is read with a limiter of its own.
+#[derive(Clone, Copy)]
+pub struct Source<'a> {
+    /// The message.
+    pub arena: &'a ReaderArenaImpl<SegmentArray<'a>>,
+    /// How many words may be read of it, `None` for no limit.
+    pub budget: Option<usize>,
 }
 
 /// What is done at the end of a path.
@@ -51,6 +63,26 @@ pub enum Op<'a> {
     SetField(ElementSize, u32, u64),
     /// A bit of the data section of a struct is written, by its index.
     SetBool(u32, bool),
+    /// The lowest bits of an element of a list are written, as many as the size has: a bit, or a number of 1,
+    /// 2, 4 or 8 bytes. The list is looked for as `PointerBuilder::get_list` does with that size.
+    SetElement(ElementSize, u32, u64),
+    /// A byte of a text is written, but for the zero behind it.
+    WriteText(u32, u8),
+    /// A byte of data is written.
+    WriteData(u32, u8),
+    /// A struct is looked for. For now this is `NoSuchPlace` wherever the path leads.
+    GetStruct(StructSize, Option<&'a [u8]>),
+    /// A list is looked for, as `PointerBuilder::get_list` does with this size and default.
+    GetList(ElementSize, Option<&'a [u8]>),
+    /// A list of structs is looked for. For now this is `NoSuchPlace` wherever the path leads.
+    GetStructList(StructSize, Option<&'a [u8]>),
+    /// A text is looked for, as `PointerBuilder::get_text` does with this default.
+    GetText(Option<&'a [u8]>),
+    /// Data is looked for, as `PointerBuilder::get_data` does with this default.
+    GetData(Option<&'a [u8]>),
+    /// The pointer becomes a copy of what the root of another message means, in canonical form where that
+    /// is asked for, as `PointerBuilder::copy_from` makes it.
+    CopyFrom(Source<'a>, bool),
 }
 
 /// A change of a message: what is done, and where.
@@ -65,13 +97,15 @@ pub struct Edit<'a> {
 /// Does what an edit says.
 ///
 /// `NoSuchPlace` is said of a path that leads nowhere, of an operation for a place of another kind and of
-/// numbers that are out of range, and nothing is changed then. `AllocationFailed` and `MessageTooLarge`
-/// are those of the arena, and the pointer is null then.
+/// numbers that are out of range. Where a list, a text or data is looked for, a refusal is that of
+/// `get_list`, `get_text` or `get_data` of a `PointerBuilder`, and where there is no root to be copied, that of
+/// `PointerReader::get_root_from_arena`. Nothing is changed then. `AllocationFailed` and `MessageTooLarge` are
+/// those of the arena, and the pointer is null then, as it is where the copy is refused for what it reads.
 pub fn apply<A: BuilderArena>(arena: &mut A, edit: &Edit<'_>) -> Result<(), ErrorKind>
     ensures applied { IsApplied (A.view arena.old).words (A.view arena.new).words edit.now (refusal_of result) }
-    ensures counted { (A.view arena.new).refusals ≡ refusals_after (refusal_of result) (A.view arena.old).refusals }
+    ensures counted { IsCounted edit.now.op (refusal_of result) (A.view arena.old).refusals (A.view arena.new).refusals }
     ensures named { IfErr result (IsRefusedAs (A.view arena.old) (A.view arena.new) edit.now.op) }
-    ensures fits { ((id : ℕ) → HasRoom (A.view arena.old) id (words_taken edit.now.op)) → IfErr result (λ k. k ≡ NoSuchPlace) }
+    ensures fits { copied_by edit.now.op ≡ None → ((id : ℕ) → HasRoom (A.view arena.old) id (words_taken edit.now.op)) → IfErr result (λ k. is_of_place k ≡ true) }
     ensures nowhere { refusal_of result ≡ Some NoSuchPlace → A.view arena.new ≡ A.view arena.old }
 {
     if !has_words(&*arena, 0, 1) {
@@ -93,7 +127,8 @@ pub fn apply_all<A: BuilderArena>(
 )
     requires { length outcomes.old ≡ length edits.now }
     ensures applied { AreApplied (A.view arena.old).words (A.view arena.new).words edits.now outcomes.new }
-    ensures counted { (A.view arena.new).refusals ≡ refusals_after_all outcomes.new (A.view arena.old).refusals }
+    ensures counted { AreCounted edits.now outcomes.new (A.view arena.old).refusals (A.view arena.new).refusals }
+    ensures exactly { copy_none edits.now → (A.view arena.new).refusals ≡ refusals_after_all outcomes.new (A.view arena.old).refusals }
 {
     for (i, edit) in edits.iter().enumerate() {
         outcomes[i] = match apply(arena, edit) {

@@ -1,13 +1,16 @@
 //! Edits that are done: at the root, below a struct, in lists of structs and of pointers, and over
 //! segments.
-use crate::messages::{check, edit, size};
+use crate::messages::{check, edit, made, size};
 use capnp_edits::edit::Op::{
     Clear, InitData, InitList, InitStruct, InitStructList, InitText, SetBool, SetCapability,
-    SetData, SetField, SetText,
+    SetData, SetElement, SetField, SetText,
 };
 use capnp_edits::edit::Step::{Child, Element};
+use capnp_readers::readers::{MessageSize, PointerReader};
 use capnp_words::error::ErrorKind::NoSuchPlace;
+use capnp_words::read_limiter::ReadLimiter;
 use capnp_words::wire_pointer::ElementSize::{Bit, Byte, EightBytes, FourBytes, Pointer, TwoBytes};
+use test_support::has_words;
 
 /// A struct of a number and a text, in one segment and in a segment for each object.
 #[test]
@@ -33,7 +36,7 @@ fn struct_of_number_and_text(rt: HostRuntime) {
 }
 
 /// A list of two structs: a number in each, a struct without words below the first and a text below the
-/// second. What isn't there is refused, and the edits behind it are done.
+/// second. What isn't there is refused, and the edits behind it are done. The message is canonical.
 #[test]
 fn list_of_structs(rt: HostRuntime) {
     let edits = &[
@@ -42,14 +45,24 @@ fn list_of_structs(rt: HostRuntime) {
         edit(&[Element(1), Child(0)], SetText(b"a")),
         edit(&[Element(0)], SetField(Byte, 8, 1)),
         edit(&[Element(2), Child(0)], SetText(b"b")),
-        edit(&[Element(1)], SetField(EightBytes, 0, 9)),
+        edit(&[], SetElement(EightBytes, 1, 9)),
         edit(&[Element(0), Child(0)], InitStruct(size(0, 0))),
     ];
     let nowhere = Some(NoSuchPlace);
     let want = &[None, None, None, nowhere, nowhere, None, None];
     let segments =
         "0100000027000000 0800000001000100 0700000000000000 fcffffff00000000 0900000000000000 0100000012000000 6100000000000000";
-    check(&rt, rt.alloc(), 1024, edits, (want, segments));
+    let arena = made(&rt, rt.alloc(), 1024, edits, want);
+    assert!(rt; has_words(rt.alloc(), &arena, segments));
+    let mut lim = ReadLimiter::new(None);
+    let root = PointerReader::get_root_from_arena(&arena, &mut lim).expect(&rt, "a root");
+    let mut head = 1;
+    assert!(rt; root.is_canonical(&mut lim, &mut head) == Ok(true) && head == 7);
+    let size = MessageSize {
+        word_count: 6,
+        cap_count: 0,
+    };
+    assert!(rt; root.total_size(&mut lim) == Ok(size));
 }
 
 /// A list of pointers, with a capability and with data that is cleared again.

@@ -3,8 +3,14 @@
 #![tactic(auto)]
 
 #[cfg(test)]
+mod contents;
+#[cfg(test)]
+mod copies;
+#[cfg(test)]
 mod done;
 #[cfg(test)]
 mod messages;
 #[cfg(test)]
 mod refused;
+#[cfg(test)]
+mod unfound;

@@ -34,6 +34,22 @@ pub fn check_outcomes<A: Allocator>(
     assert!(rt; *outcomes == *want);
 }
 
+/// The message that edits make, whose segments have so many words, of which the first is the root. What
+/// becomes of each edit is checked.
+pub fn made(
+    rt: &impl Abort,
+    alloc: Global,
+    words: u16,
+    edits: &[Edit<'_>],
+    want: &[Option<ErrorKind>],
+) -> BuilderArenaImpl<HeapAllocator> {
+    let mut arena = arena_of_root(alloc, HeapAllocator::new(alloc, u32::from(words))).expect(
+        rt, "memory",
+    );
+    check_outcomes(rt, &mut arena, edits, want);
+    arena
+}
+
 /// Does edits in a message whose segments have so many words, of which the first is the root, and checks
 /// what becomes of each and the words that are then there.
 pub fn check(
@@ -43,9 +59,6 @@ pub fn check(
     edits: &[Edit<'_>],
     (want, segments): (&[Option<ErrorKind>], &str),
 ) {
-    let mut arena = arena_of_root(alloc, HeapAllocator::new(alloc, u32::from(words))).expect(
-        rt, "memory",
-    );
-    check_outcomes(rt, &mut arena, edits, want);
+    let arena = made(rt, alloc, words, edits, want);
     assert!(rt; has_words(alloc, &arena, segments), "{segments}");
 }

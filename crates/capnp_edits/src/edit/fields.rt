@@ -5,7 +5,7 @@ ghost use Rattle.capnp_arena.specs.View.{KeepsLimits};
 ghost use Rattle.capnp_making.specs.Existing.{LiesIn};
 ghost use Rattle.capnp_builders.specs.Places.{number_field};
 ghost use Rattle.capnp_edits.specs.declared.edit.Op.TheVariants.{SetField};
-ghost use Rattle.capnp_edits.specs.Edits.{refusal_of, is_number_of, bit_at, PutsBits, WritesAt};
+ghost use Rattle.capnp_edits.specs.Edits.{refusal_of, is_number_from, bit_at, PutsBits, WritesAt};
 
 use crate::edit::Op;
 use capnp_arena::arena::BuilderArena;
@@ -15,17 +15,25 @@ use capnp_words::error::ErrorKind;
 use capnp_words::primitive::Primitive;
 use capnp_words::wire_pointer::ElementSize;
 
-/// Whether a number has no more bits than its element size, which is one of 1, 2, 4 or 8 bytes.
-pub(crate) fn is_number_of(size: ElementSize, value: u64) -> bool
-    ensures { result ≡ is_number_of size value }
+/// Whether a number has no more bits than its element size, which is a bit or one of 1, 2, 4 or 8 bytes.
+pub(crate) fn is_element_of(size: ElementSize, value: u64) -> bool
+    ensures { result ≡ is_number_from 1 size value }
 {
     match size {
+        ElementSize::Bit => value <= 1,
         ElementSize::Byte => value <= u64::from(u8::MAX),
         ElementSize::TwoBytes => value <= u64::from(u16::MAX),
         ElementSize::FourBytes => value <= u64::from(u32::MAX),
         ElementSize::EightBytes => true,
         _ => false,
     }
+}
+
+/// The same of a number, which is no bit.
+pub(crate) fn is_number_of(size: ElementSize, value: u64) -> bool
+    ensures { result ≡ is_number_from 2 size value }
+{
+    size != ElementSize::Bit && is_element_of(size, value)
 }
 
 #[tactic(auto, using(crate::proofs::Fields::number_aligned, crate::proofs::Fields::number_written, crate::proofs::Fields::number_outside))]

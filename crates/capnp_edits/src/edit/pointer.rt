@@ -1,13 +1,16 @@
 //! Edits of a pointer.
-ghost use Rattle.std.specs.Prelude.{◌≡◌, true, false, IsOk, IfErr, Some};
+ghost use Rattle.std.specs.Prelude.{◌≡◌, true, false, IsOk, IfErr, Some, None};
 ghost use Rattle.capnp_format.specs.Segments.{IsPlace};
 ghost use Rattle.capnp_making.specs.Memory.{HasRoom, IsRefusedFor};
 ghost use Rattle.capnp_words.specs.declared.error.ErrorKind.TheVariants.{NoSuchPlace};
 ghost use Rattle.capnp_builders.specs.Building.{built, IsThere};
-ghost use Rattle.capnp_edits.specs.Edits.{refusal_of, field_of, is_field, is_in_range, place_of, words_taken, IsRefusedAs, GivesAt, Does, refusals_after};
+ghost use Rattle.capnp_edits.specs.Edits.{refusal_of, field_of, is_field, is_content, is_search, is_in_range, place_of, words_taken, is_of_place, copied_by, IsRefusedAs, IsCounted, GivesAt, Does, refusals_after};
 
 use crate::edit::Op;
-use crate::edit::fields::{edit_struct, is_number_of};
+use crate::edit::copying::edit_source;
+use crate::edit::elements::edit_content;
+use crate::edit::fields::{edit_struct, is_element_of, is_number_of};
+use crate::edit::found::edit_search;
 use capnp_arena::arena::BuilderArena;
 use capnp_builders::builders::PointerBuilder;
 use capnp_making::existing;
@@ -33,7 +36,12 @@ pub(crate) fn is_in_range(op: Op<'_>) -> bool
         Op::SetText(bytes) => bytes.len() < LIST_LIMIT as usize - 1,
         Op::SetData(bytes) => bytes.len() < LIST_LIMIT as usize,
         Op::SetField(size, _, value) => is_number_of(size, value),
+        Op::SetElement(size, _, value) => is_element_of(size, value),
+        Op::GetList(size, _) => size != ElementSize::InlineComposite,
+        Op::GetStruct(_, _) | Op::GetStructList(_, _) => false,
         Op::InitStruct(_) | Op::SetCapability(_) | Op::Clear | Op::SetBool(_, _) => true,
+        Op::WriteText(_, _) | Op::WriteData(_, _) | Op::GetText(_) | Op::GetData(_) => true,
+        Op::CopyFrom(_, _) => true,
     }
 }
 
@@ -44,11 +52,31 @@ fn is_on_field(op: Op<'_>) -> bool
     matches!(op, Op::SetField(_, _, _) | Op::SetBool(_, _))
 }
 
-/// Makes of a pointer what an operation says that writes no field.
+/// Whether an operation writes in a list, a text or data.
+fn is_on_content(op: Op<'_>) -> bool
+    ensures { result ≡ is_content op.entry }
+{
+    matches!(
+        op,
+        Op::SetElement(_, _, _) | Op::WriteText(_, _) | Op::WriteData(_, _)
+    )
+}
+
+/// Whether an operation looks for a list, a text or data.
+fn is_search(op: Op<'_>) -> bool
+    ensures { result ≡ is_search op.entry }
+{
+    matches!(op, Op::GetList(_, _) | Op::GetText(_) | Op::GetData(_))
+}
+
+/// Makes of a pointer what an operation says that makes a whole value.
 fn put<A: BuilderArena>(pointer: &mut PointerBuilder<'_, A>, op: Op<'_>) -> Result<(), ErrorKind>
     requires there { IsThere (built A.view pointer.old) }
     requires range { is_in_range op ≡ true }
     requires whole { is_field (field_of op) ≡ false }
+    requires new { is_content op ≡ false }
+    requires made { is_search op ≡ false }
+    requires uncopied { copied_by op ≡ None }
     ensures done { GivesAt (A.view pointer.old.arena.now).words (A.view pointer.new.arena.now).words (place_of pointer.old) op.entry (refusal_of result) }
     ensures counted { (A.view pointer.new.arena.now).refusals ≡ refusals_after (refusal_of result) (A.view pointer.old.arena.now).refusals }
     ensures named { IfErr result (IsRefusedFor (A.view pointer.old.arena.now) (A.view pointer.new.arena.now) (words_taken op.entry)) }
@@ -87,6 +115,12 @@ fn put<A: BuilderArena>(pointer: &mut PointerBuilder<'_, A>, op: Op<'_>) -> Resu
             Ok(())
         }
         Op::SetField(_, _, _) | Op::SetBool(_, _) => Err(ErrorKind::NoSuchPlace),
+        Op::SetElement(_, _, _) | Op::WriteText(_, _) | Op::WriteData(_, _) => {
+            Err(ErrorKind::NoSuchPlace)
+        }
+        Op::GetStruct(_, _) | Op::GetStructList(_, _) => Err(ErrorKind::NoSuchPlace),
+        Op::GetList(_, _) | Op::GetText(_) | Op::GetData(_) => Err(ErrorKind::NoSuchPlace),
+        Op::CopyFrom(_, _) => Err(ErrorKind::NoSuchPlace),
     }
 }
 
@@ -95,6 +129,9 @@ fn put_at<A: BuilderArena>(arena: &mut A, place: PointerPlace, op: Op<'_>) -> Re
     requires there { IsPlace (A.view arena.old).words place.segment place.word }
     requires range { is_in_range op ≡ true }
     requires whole { is_field (field_of op) ≡ false }
+    requires new { is_content op ≡ false }
+    requires made { is_search op ≡ false }
+    requires uncopied { copied_by op ≡ None }
     ensures done { GivesAt (A.view arena.old).words (A.view arena.new).words place op.entry (refusal_of result) }
     ensures counted { (A.view arena.new).refusals ≡ refusals_after (refusal_of result) (A.view arena.old).refusals }
     ensures named { IfErr result (IsRefusedFor (A.view arena.old) (A.view arena.new) (words_taken op.entry)) }
@@ -108,7 +145,6 @@ fn put_at<A: BuilderArena>(arena: &mut A, place: PointerPlace, op: Op<'_>) -> Re
     put(&mut pointer, op)
 }
 
-#[tactic(auto, using(crate::proofs::Applied::given_at, crate::proofs::Applied::out_of_range, crate::proofs::Applied::written_at, crate::proofs::Applied::no_struct_at))]
 /// Does an operation at a pointer of a message.
 pub(crate) fn edit_pointer<A: BuilderArena>(
     arena: &mut A,
@@ -117,9 +153,9 @@ pub(crate) fn edit_pointer<A: BuilderArena>(
 ) -> Result<(), ErrorKind>
     requires { IsPlace (A.view arena.old).words place.segment place.word }
     ensures done { Does (A.view arena.old).words (A.view arena.new).words place op.entry (refusal_of result) }
-    ensures counted { (A.view arena.new).refusals ≡ refusals_after (refusal_of result) (A.view arena.old).refusals }
+    ensures counted { IsCounted op.entry (refusal_of result) (A.view arena.old).refusals (A.view arena.new).refusals }
     ensures named { IfErr result (IsRefusedAs (A.view arena.old) (A.view arena.new) op.entry) }
-    ensures fits { HasRoom (A.view arena.old) place.segment (words_taken op.entry) → IfErr result (λ k. k ≡ NoSuchPlace) }
+    ensures fits { copied_by op.entry ≡ None → HasRoom (A.view arena.old) place.segment (words_taken op.entry) → IfErr result (λ k. is_of_place k ≡ true) }
     ensures nowhere { refusal_of result ≡ Some NoSuchPlace → A.view arena.new ≡ A.view arena.old }
 {
     if is_on_field(op) {
@@ -130,6 +166,15 @@ pub(crate) fn edit_pointer<A: BuilderArena>(
     }
     if !is_in_range(op) {
         return Err(ErrorKind::NoSuchPlace);
+    }
+    if let Op::CopyFrom(source, canonicalize) = op {
+        return edit_source(arena, place, source, canonicalize);
+    }
+    if is_search(op) {
+        return edit_search(arena, place, op);
+    }
+    if is_on_content(op) {
+        return edit_content(arena, place, op);
     }
     put_at(arena, place, op)
 }

@@ -1,6 +1,6 @@
 use Rattle.std.proofs.Common.{Some, ap, subst}
 use Rattle.capnp_edits.specs.Paths.{path_of, IsFound}
-use Rattle.capnp_edits.proofs.Applied.{applied_pointer, applied_element, applied_nowhere, kept_nowhere, refused_nowhere}
+use Rattle.capnp_edits.proofs.Applied.{applied_pointer, applied_element, applied_nowhere, kept_nowhere, refused_there, of_place}
 use Rattle.capnp_edits.proofs.edit.apply.Goals as goal
 
 pub returns-in-Some-Pointer-clause-applied : goal.returns-in-Some-Pointer-clause-applied
@@ -22,4 +22,4 @@ pub returns-in-Some-Element-clause-nowhere : goal.returns-in-Some-Element-clause
 returns-in-Some-Element-clause-nowhere g c = kept_nowhere c.edit_struct.result _ _ c.edit_struct.ensures.kept
 
 pub returns-in-Some-Element-clause-named : goal.returns-in-Some-Element-clause-named
-returns-in-Some-Element-clause-named g c = refused_nowhere c.edit_struct.result _ _ c.args.edit.now.op c.edit_struct.ensures.named
+returns-in-Some-Element-clause-named g c = refused_there c.edit_struct.result _ _ c.args.edit.now.op (of_place c.edit_struct.result c.edit_struct.ensures.named) c.edit_struct.ensures.kept

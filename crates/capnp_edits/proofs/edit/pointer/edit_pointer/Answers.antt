@@ -1,5 +1,7 @@
-use Rattle.std.proofs.Common.{sym, ◌∙◌}
-use Rattle.capnp_edits.proofs.Applied.{given_at, written_at, never_nowhere, kept_nowhere, refused_as, refused_nowhere, never_refused}
+use Rattle.std.proofs.Common.{sym, ◌∙◌, refl, ap}
+use Rattle.capnp_arena.specs.View.{View}
+use Rattle.capnp_edits.proofs.Applied.{none_counted, given_at, written_at, no_struct_at, out_of_range, never_nowhere, kept_nowhere, refused_as, refused_there, of_place, never_refused}
+use Rattle.capnp_edits.proofs.Copied.{copied_at, counted_as, copy_refused, copy_nowhere, never_none, exactly_counted}
 use Rattle.capnp_edits.proofs.edit.pointer.edit_pointer.Goals as goal
 
 pub returns-in-Some-clause-done : goal.returns-in-Some-clause-done
@@ -8,7 +10,7 @@ returns-in-Some-clause-done g c =
 
 pub returns-clause-done : goal.returns-clause-done
 returns-clause-done g c =
-    given_at _ _ c.args.place c.args.op _ (sym c.is_in_range.ensures ∙ c.if-not-is_in_range.false) (sym c.is_on_field.ensures ∙ c.if-is_on_field.false) c.put_at.ensures.done
+    given_at _ _ c.args.place c.args.op _ (sym c.is_in_range.ensures ∙ c.if-not-is_in_range.false) c.put_at.ensures.done
 
 pub returns-in-Some-clause-nowhere : goal.returns-in-Some-clause-nowhere
 returns-in-Some-clause-nowhere g c = kept_nowhere c.edit_struct.result _ _ c.edit_struct.ensures.kept
@@ -17,10 +19,43 @@ pub returns-clause-nowhere : goal.returns-clause-nowhere
 returns-clause-nowhere g c = never_nowhere c.put_at.result _ _ _ c.put_at.ensures.named
 
 pub returns-in-Some-clause-named : goal.returns-in-Some-clause-named
-returns-in-Some-clause-named g c = refused_nowhere c.edit_struct.result _ _ c.args.op c.edit_struct.ensures.named
+returns-in-Some-clause-named g c = refused_there c.edit_struct.result _ _ c.args.op (of_place c.edit_struct.result c.edit_struct.ensures.named) c.edit_struct.ensures.kept
 
 pub returns-clause-named : goal.returns-clause-named
 returns-clause-named g c = refused_as c.put_at.result _ _ c.args.op c.put_at.ensures.named
 
 pub returns-clause-fits : goal.returns-clause-fits
-returns-clause-fits g c = λ room. never_refused c.put_at.result (c.put_at.ensures.fits room)
+returns-clause-fits g c = λ none room. never_refused c.put_at.result (c.put_at.ensures.fits room)
+
+pub returns-in-None-clause-done : goal.returns-in-None-clause-done
+returns-in-None-clause-done g c = no_struct_at _ c.args.place c.args.op (sym c.is_on_field.ensures ∙ c.if-is_on_field.true) c.in-None.ensures.found
+
+pub returns-then-not-is_in_range-clause-done : goal.returns-then-not-is_in_range-clause-done
+returns-then-not-is_in_range-clause-done g c = out_of_range _ c.args.place c.args.op (sym c.is_in_range.ensures ∙ c.if-not-is_in_range.true)
+
+pub returns-in-CopyFrom-clause-done : goal.returns-in-CopyFrom-clause-done
+returns-in-CopyFrom-clause-done g c = copied_at _ _ c.args.place c.args.op c.in-CopyFrom.source c.in-CopyFrom.canonicalize _ c.in-CopyFrom.is c.edit_source.ensures.done
+
+pub returns-in-CopyFrom-clause-counted : goal.returns-in-CopyFrom-clause-counted
+returns-in-CopyFrom-clause-counted g c = counted_as c.args.op c.in-CopyFrom.source c.in-CopyFrom.canonicalize _ _ _ c.in-CopyFrom.is c.edit_source.ensures.counted
+
+pub returns-in-CopyFrom-clause-named : goal.returns-in-CopyFrom-clause-named
+returns-in-CopyFrom-clause-named g c = copy_refused c.edit_source.result _ _ c.args.op c.in-CopyFrom.source c.in-CopyFrom.canonicalize c.in-CopyFrom.is c.edit_source.ensures.named
+
+pub returns-in-CopyFrom-clause-fits : goal.returns-in-CopyFrom-clause-fits
+returns-in-CopyFrom-clause-fits g c = λ none. absurd (never_none c.args.op c.in-CopyFrom.source c.in-CopyFrom.canonicalize c.in-CopyFrom.is none)
+
+pub returns-in-CopyFrom-clause-nowhere : goal.returns-in-CopyFrom-clause-nowhere
+returns-in-CopyFrom-clause-nowhere g c = copy_nowhere c.edit_source.result _ _ c.in-CopyFrom.source c.in-CopyFrom.canonicalize c.edit_source.ensures.named
+
+pub returns-in-Some-clause-counted : goal.returns-in-Some-clause-counted
+returns-in-Some-clause-counted g c = exactly_counted c.args.op _ _ _ (none_counted c.edit_struct.result _ _ (ap (λ (v : View). v.refusals) c.edit_struct.ensures.limits) (of_place c.edit_struct.result c.edit_struct.ensures.named))
+
+pub returns-in-None-clause-counted : goal.returns-in-None-clause-counted
+returns-in-None-clause-counted g c = exactly_counted c.args.op _ _ _ refl
+
+pub returns-then-not-is_in_range-clause-counted : goal.returns-then-not-is_in_range-clause-counted
+returns-then-not-is_in_range-clause-counted g c = exactly_counted c.args.op _ _ _ refl
+
+pub returns-clause-counted : goal.returns-clause-counted
+returns-clause-counted g c = exactly_counted c.args.op _ _ _ c.put_at.ensures.counted

@@ -1,0 +1,298 @@
+-- What is written in lists, texts and data.
+use Rattle.std.proofs.Common.{◌≡◌, ℕ, zero, suc, ◌+◌, ◌-◌, ◌*◌, ◌^◌, ◌<◌, ◌≤◌, Bool, true, false, cond, ◌&&◌, nat_eq, nat_le, List, length, Option, Some, None, Result, Ok, Err, refl, sym, ap, ◌∙◌, subst, arith}
+use Rattle.std.proofs.lemmas.Bool.{eqb-true}
+use Rattle.std.proofs.lemmas.Bool.Decides.{nat_tests}
+use Rattle.capnp_words.specs.declared.error.ErrorKind.{ErrorKind}
+use Rattle.capnp_words.specs.declared.error.ErrorKind.TheVariants.{NoSuchPlace, ExistingListPointerIsNotByteSized, ExistingListValueIsIncompatibleWithExpectedType, TextBlobMissingNULTerminator}
+use Rattle.capnp_pointers.specs.declared.wire_pointer.ElementSize.{ElementSize}
+use Rattle.capnp_pointers.specs.declared.wire_pointer.ElementSize.TheVariants.{Void, Bit, Byte, TwoBytes, FourBytes, EightBytes, Pointer, InlineComposite}
+use Rattle.capnp_pointers.specs.Sizes.{size_number, pointers_per_element}
+use Rattle.capnp_format.specs.Numbers.{element_bits}
+use Rattle.capnp_format.specs.Segments.{Segments, IsPlace, Target}
+use Rattle.capnp_format.specs.Tree.{Tree, Null, Capability, Struct, Flat, Pointers, Structs, count, element_count}
+use Rattle.capnp_format.specs.Forest.{target}
+use Rattle.capnp_making.specs.declared.existing.ExistingBytes.{ExistingBytes}
+use Rattle.capnp_making.specs.declared.existing.ExistingList.{ExistingList}
+use Rattle.capnp_making.specs.Existing.{size_of, plain_misfit, structs_misfit, plain_list, struct_list, unless, list_in, bytes_at, ends_in_zero, text_of, text_in, data_in, LieIn}
+use Rattle.capnp_making.specs.Fields.{with_field}
+use Rattle.capnp_making.specs.Path.{put_struct}
+use Rattle.capnp_making.specs.Stored.{IsStored, IsReplaced}
+use Rattle.capnp_making.proofs.FieldsWritten.{flat_part_written, element_field_written}
+use Rattle.capnp_making.proofs.Zeros.{there}
+use Rattle.capnp_readers.specs.Sections.{step_bits, data_bits}
+use Rattle.capnp_readers.specs.declared.readers.PointerPlace.{PointerPlace}
+use Rattle.capnp_builders.specs.Places.{field}
+use Rattle.capnp_builders.proofs.FoundBytes.{data_inside, text_inside}
+use Rattle.capnp_builders.proofs.FoundLists.{found_inside}
+use Rattle.capnp_edits.specs.declared.edit.Op.{Op}
+use Rattle.capnp_edits.specs.declared.edit.Op.TheVariants.{SetElement, WriteText, WriteData}
+use Rattle.capnp_edits.specs.Paths.{PointerTo}
+use Rattle.capnp_edits.specs.Edits.{is_in_range, becomes, denied, struct_with, with_lowest, nowhere, count_of, length_of, if_reached, made_at, Does, DoesAt, is_number_from, PutsElement, element_put, element_past, no_list, list_denied, PutsByte, byte_put, byte_past, no_bytes_there, bytes_denied}
+use Rattle.capnp_edits.proofs.Steps.{first, second, chosen}
+use Rattle.capnp_edits.proofs.Applied.{done_at, denied_at, in_range_makes, element_struct, element_width_stored}
+use Rattle.capnp_edits.proofs.Fields.{number_parts}
+
+-- wherever a list, a text or data is, what counts its elements alone says the same of it
+list_fits : {B : Type 0} (f : Result (Option ExistingList) ErrorKind → B) → ((l k : ExistingList) → l.count ≡ k.count → f (Ok (Some l)) ≡ f (Ok (Some k))) → (m : Option ErrorKind) (l k : ExistingList) → l.count ≡ k.count → f (unless m l) ≡ f (unless m k)
+list_fits f alike None l k e = alike l k e
+list_fits f alike (Some x) l k e = refl
+
+pub list_anywhere : {B : Type 0} (f : Result (Option ExistingList) ErrorKind → B) → ((l k : ExistingList) → l.count ≡ k.count → f (Ok (Some l)) ≡ f (Ok (Some k))) → (a b : Target) (size : ElementSize) (t : Tree) → f (list_in a size t) ≡ f (list_in b size t)
+list_anywhere f alike a b size Null = refl
+list_anywhere f alike a b size (Capability i) = refl
+list_anywhere f alike a b size (Struct ws ts) = refl
+list_anywhere f alike a b size (Flat s ns) = list_fits f alike (plain_misfit size (size_of s)) (plain_list a (size_of s) (length ns)) (plain_list b (size_of s) (length ns)) refl
+list_anywhere f alike a b size (Pointers ts) = list_fits f alike (plain_misfit size Pointer) (plain_list a Pointer (count ts)) (plain_list b Pointer (count ts)) refl
+list_anywhere f alike a b size (Structs d q es) = list_fits f alike (structs_misfit size d q) (struct_list a d q (element_count es)) (struct_list b d q (element_count es)) refl
+
+bytes_fit : {B : Type 0} (f : Result (Option ExistingBytes) ErrorKind → B) → ((b c : ExistingBytes) → b.length ≡ c.length → f (Ok (Some b)) ≡ f (Ok (Some c))) → (x : Bool) (a b : Target) (n : ℕ) (k : ErrorKind) →
+    f (cond x (Ok (Some (bytes_at a n))) (Err k)) ≡ f (cond x (Ok (Some (bytes_at b n))) (Err k))
+bytes_fit f alike true a b n k = alike (bytes_at a n) (bytes_at b n) refl
+bytes_fit f alike false a b n k = refl
+
+either : {B : Type 0} (f : Result (Option ExistingBytes) ErrorKind → B) (x : Bool) (r q : Result (Option ExistingBytes) ErrorKind) (k : ErrorKind) → f r ≡ f q → f (cond x r (Err k)) ≡ f (cond x q (Err k))
+either f true r q k e = e
+either f false r q k e = refl
+
+pub data_anywhere : {B : Type 0} (f : Result (Option ExistingBytes) ErrorKind → B) → ((b c : ExistingBytes) → b.length ≡ c.length → f (Ok (Some b)) ≡ f (Ok (Some c))) → (a b : Target) (t : Tree) → f (data_in a t) ≡ f (data_in b t)
+data_anywhere f alike a b Null = refl
+data_anywhere f alike a b (Capability i) = refl
+data_anywhere f alike a b (Struct ws ts) = refl
+data_anywhere f alike a b (Flat s ns) = bytes_fit f alike (nat_eq s 2) a b (length ns) ExistingListPointerIsNotByteSized
+data_anywhere f alike a b (Pointers ts) = refl
+data_anywhere f alike a b (Structs d q es) = refl
+
+pub text_anywhere : {B : Type 0} (f : Result (Option ExistingBytes) ErrorKind → B) → ((b c : ExistingBytes) → b.length ≡ c.length → f (Ok (Some b)) ≡ f (Ok (Some c))) → (a b : Target) (t : Tree) → f (text_in a t) ≡ f (text_in b t)
+text_anywhere f alike a b Null = refl
+text_anywhere f alike a b (Capability i) = refl
+text_anywhere f alike a b (Struct ws ts) = refl
+text_anywhere f alike a b (Flat s ns) =
+    either f (nat_eq s 2) (text_of a ns) (text_of b ns) ExistingListPointerIsNotByteSized (bytes_fit f alike (ends_in_zero ns) a b (length ns - 1) TextBlobMissingNULTerminator)
+text_anywhere f alike a b (Pointers ts) = refl
+text_anywhere f alike a b (Structs d q es) = refl
+
+-- an element that is reached, or not
+pub reached_done : (S R : Segments) (place : PointerPlace) (op : Op) (t u : Tree) (i n : ℕ) (c : Result ℕ ErrorKind) → is_in_range op ≡ true → made_at op (PointerTo t) ≡ if_reached i c u → c ≡ Ok n → i < n →
+    IsReplaced S R place.segment place.word t u → DoesAt S R place op t None
+reached_done S R place op t u i n c range makes is_n l replaced =
+    done_at u (in_range_makes op (PointerTo t) range ∙ makes ∙ ap (λ x. if_reached i x u) is_n ∙ first i n (becomes u) (denied NoSuchPlace) l) refl replaced
+
+pub reached_past : (S : Segments) (place : PointerPlace) (op : Op) (t u : Tree) (i n : ℕ) (c : Result ℕ ErrorKind) → is_in_range op ≡ true → made_at op (PointerTo t) ≡ if_reached i c u → c ≡ Ok n → n ≤ i → DoesAt S S place op t (Some NoSuchPlace)
+reached_past S place op t u i n c range makes is_n l =
+    denied_at NoSuchPlace (in_range_makes op (PointerTo t) range ∙ makes ∙ ap (λ x. if_reached i x u) is_n ∙ second i n (becomes u) (denied NoSuchPlace) l) refl refl
+
+pub reached_denied : (S : Segments) (place : PointerPlace) (op : Op) (t u : Tree) (i : ℕ) (k : ErrorKind) (c : Result ℕ ErrorKind) → is_in_range op ≡ true → made_at op (PointerTo t) ≡ if_reached i c u → c ≡ Err k → DoesAt S S place op t (Some k)
+reached_denied S place op t u i k c range makes is_k = denied_at k (in_range_makes op (PointerTo t) range ∙ makes ∙ ap (λ x. if_reached i x u) is_k) refl refl
+
+-- elements that are no structs, where numbers or bits are expected: they are at least as wide
+plain_wide : (expected found : ElementSize) → plain_misfit expected found ≡ None → element_bits (size_number expected) ≤ element_bits (size_number found)
+plain_wide expected found e = wide (nat_le (element_bits (size_number expected)) (element_bits (size_number found))) (nat_le (pointers_per_element expected) (pointers_per_element found)) refl e
+  where
+    wide : (b c : Bool) → nat_le (element_bits (size_number expected)) (element_bits (size_number found)) ≡ b → cond (b && c) None (Some ExistingListValueIsIncompatibleWithExpectedType) ≡ None → element_bits (size_number expected) ≤ element_bits (size_number found)
+    wide true c is e = grind (arith, nat_tests, is)
+    wide false c is e = absurd (cc)
+
+some_bits : (size : ElementSize) → 1 ≤ size_number size → size_number size ≤ 5 → (0 < element_bits (size_number size)) × (element_bits (size_number size) ≤ 64)
+some_bits Void l m = absurd (omega arith)
+some_bits Bit l m = (omega arith, omega arith)
+some_bits Byte l m = (omega arith, omega arith)
+some_bits TwoBytes l m = (omega arith, omega arith)
+some_bits FourBytes l m = (omega arith, omega arith)
+some_bits EightBytes l m = (omega arith, omega arith)
+some_bits Pointer l m = absurd (omega arith)
+some_bits InlineComposite l m = absurd (omega arith)
+
+-- structs, where numbers are expected: they have data words
+struct_words : (size : ElementSize) (d q : ℕ) → 1 ≤ size_number size → size_number size ≤ 5 → structs_misfit size d q ≡ None → 0 < d
+struct_words Void d q l m e = absurd (omega arith)
+struct_words Bit d q l m e = absurd (cc)
+struct_words Byte zero q l m e = absurd (cc)
+struct_words TwoBytes zero q l m e = absurd (cc)
+struct_words FourBytes zero q l m e = absurd (cc)
+struct_words EightBytes zero q l m e = absurd (cc)
+struct_words Byte (suc d) q l m e = omega arith
+struct_words TwoBytes (suc d) q l m e = omega arith
+struct_words FourBytes (suc d) q l m e = omega arith
+struct_words EightBytes (suc d) q l m e = omega arith
+struct_words Pointer d q l m e = absurd (omega arith)
+struct_words InlineComposite d q l m e = absurd (omega arith)
+
+-- the sizes of lists of numbers
+record HasBits (size : ℕ) : Type 0 where
+  step : step_bits (size_of size) (record { data_words = 0; pointers = 0 }) ≡ element_bits size
+  number : element_bits (size_number (size_of size)) ≡ element_bits size
+  sized : data_bits (size_of size) (record { data_words = 0; pointers = 0 }) ≡ element_bits size
+
+flat_bits : (size : ℕ) → size ≤ 5 → HasBits size
+flat_bits zero l = record { step = refl; number = refl; sized = refl }
+flat_bits (suc zero) l = record { step = refl; number = refl; sized = refl }
+flat_bits (suc (suc zero)) l = record { step = refl; number = refl; sized = refl }
+flat_bits (suc (suc (suc zero))) l = record { step = refl; number = refl; sized = refl }
+flat_bits (suc (suc (suc (suc zero)))) l = record { step = refl; number = refl; sized = refl }
+flat_bits (suc (suc (suc (suc (suc zero))))) l = record { step = refl; number = refl; sized = refl }
+flat_bits (suc (suc (suc (suc (suc (suc k)))))) l = absurd (omega arith)
+
+-- a list that is found is as wide as the elements that are expected
+pub found_wide : (S : Segments) (s p : ℕ) (size : ElementSize) (t : Tree) (l : ExistingList) → 1 ≤ size_number size → size_number size ≤ 5 → Ok (Some l) ≡ list_in (target S s p) size t → IsStored S s p t →
+    element_bits (size_number size) ≤ data_bits l.size l.struct_size
+found_wide S s p size Null l least most is_l stored = absurd (cc)
+found_wide S s p size (Capability j) l least most is_l stored = absurd (cc)
+found_wide S s p size (Struct ws ts) l least most is_l stored = absurd (cc)
+found_wide S s p size (Flat z ns) l least most is_l stored =
+    let (fit, same) = chosen (plain_misfit size (size_of z)) (plain_list (target S s p) (size_of z) (length ns)) l is_l in
+    let m = stored.means in
+    let (b, some, few, o, claim, given, costs) = m.2 in
+    let bits = flat_bits z few in
+    subst (λ x. element_bits (size_number size) ≤ data_bits x.size x.struct_size) (sym same) (omega (arith, plain_wide size (size_of z) fit, bits.number, bits.sized))
+found_wide S s p size (Pointers ts) l least most is_l stored =
+    let (fit, same) = chosen (plain_misfit size Pointer) (plain_list (target S s p) Pointer (count ts)) l is_l in
+    absurd (omega (arith, plain_wide size Pointer fit, (some_bits size least most).0))
+found_wide S s p size (Structs d q es) l least most is_l stored =
+    let (fit, same) = chosen (structs_misfit size d q) (struct_list (target S s p) d q (element_count es)) l is_l in
+    subst (λ x. element_bits (size_number size) ≤ data_bits x.size x.struct_size) (sym same) (omega (arith, struct_words size d q least most fit, (some_bits size least most).1))
+
+-- the lowest bits of an element, whatever list a pointer leads to
+pub list_written : (S R : Segments) (s p : ℕ) (size : ElementSize) (t : Tree) (l : ExistingList) (i v : ℕ) → 1 ≤ size_number size → size_number size ≤ 5 → v < 2 ^ element_bits (size_number size) → Ok (Some l) ≡ list_in (target S s p) size t → IsStored S s p t →
+    i < l.count → R ≡ with_field S l.segment (8 * (8 * l.start) + i * step_bits l.size l.struct_size) (element_bits (size_number size)) v → IsReplaced S R s p t (with_lowest i (element_bits (size_number size)) v t)
+list_written S R s p size Null l i v least most small is_l stored less written = absurd (cc)
+list_written S R s p size (Capability j) l i v least most small is_l stored less written = absurd (cc)
+list_written S R s p size (Struct ws ts) l i v least most small is_l stored less written = absurd (cc)
+list_written S R s p size (Flat z ns) l i v least most small is_l stored less written =
+    let a = target S s p in
+    let (fit, same) = chosen (plain_misfit size (size_of z)) (plain_list a (size_of z) (length ns)) l is_l in
+    let m = stored.means in
+    let (b, some, few, o, claim, given, costs) = m.2 in
+    let bits = flat_bits z few in
+    let wide : element_bits (size_number size) ≤ element_bits z = omega (arith, plain_wide size (size_of z) fit, bits.number) in
+    let least_bits = (some_bits size least most).0 in
+    let sized : 0 < z = elim_size z least_bits wide in
+    flat_part_written S R s p z ns i (element_bits (size_number size)) v stored sized (subst (λ x. i < x.count) same less) wide small
+    (subst (λ x. R ≡ with_field S x.segment (8 * (8 * x.start) + i * step_bits x.size x.struct_size) (element_bits (size_number size)) v) same written
+    ∙ ap (λ y. with_field S a.segment y (element_bits (size_number size)) v) (let e : 8 * (8 * a.start) + i * step_bits (size_of z) (record { data_words = 0; pointers = 0 }) ≡ 64 * a.start + i * element_bits z = rw bits.step (omega arith) in e))
+  where
+    elim_size : (z : ℕ) → 0 < element_bits (size_number size) → element_bits (size_number size) ≤ element_bits z → 0 < z
+    elim_size zero l m = absurd (omega arith)
+    elim_size (suc z) l m = omega arith
+list_written S R s p size (Pointers ts) l i v least most small is_l stored less written =
+    let (fit, same) = chosen (plain_misfit size Pointer) (plain_list (target S s p) Pointer (count ts)) l is_l in
+    absurd (omega (arith, plain_wide size Pointer fit, (some_bits size least most).0))
+list_written S R s p size (Structs d q es) l i v least most small is_l stored less written =
+    let a = target S s p in
+    let (fit, same) = chosen (structs_misfit size d q) (struct_list a d q (element_count es)) l is_l in
+    let here : i < element_count es = subst (λ x. i < x.count) same less in
+    let (ws, ts, is) = element_struct es i here in
+    let long = element_width_stored S s p d q es i ws ts stored here is in
+    let some : 0 < 64 * length ws = omega (arith, long, struct_words size d q least most fit) in
+    subst (λ u. IsReplaced S R s p (Structs d q es) (Structs d q (put_struct es i u))) (sym (ap (struct_with (field 0 (element_bits (size_number size)) v)) is))
+    (element_field_written S R s p d q es i ws ts 0 (element_bits (size_number size)) v stored here is some
+    (subst (λ x. R ≡ with_field S x.segment (8 * (8 * x.start) + i * step_bits x.size x.struct_size) (element_bits (size_number size)) v) same written
+    ∙ ap (λ y. with_field S a.segment y (element_bits (size_number size)) v) (let e : 8 * (8 * (a.start + 1)) + i * (64 * (d + q)) ≡ 64 * (a.start + 1 + i * (d + q)) + 0 = grind arith in e)))
+
+-- a byte of a list of bytes, of which one is there
+byte_written : (S R : Segments) (s p : ℕ) (z : ℕ) (ns : List ℕ) (i v : ℕ) → z ≡ 2 → i < length ns → v < 256 → IsStored S s p (Flat z ns) → R ≡ with_field S (target S s p).segment (8 * (8 * (target S s p).start + i)) 8 v → IsReplaced S R s p (Flat z ns) (with_lowest i 8 v (Flat z ns))
+byte_written S R s p z ns i v two l small stored written =
+    let wide : element_bits z ≡ 8 = ap element_bits two in
+    flat_part_written S R s p z ns i 8 v stored (omega (arith, two)) l (omega (arith, wide)) small
+    (written ∙ ap (λ y. with_field S (target S s p).segment y 8 v) (let e : 8 * (8 * (target S s p).start + i) ≡ 64 * (target S s p).start + i * element_bits z = rw wide (omega arith) in e))
+
+picked : (x : Bool) (b found : ExistingBytes) (k : ErrorKind) → ◌≡◌ {A = Result (Option ExistingBytes) ErrorKind} (Ok (Some found)) (cond x (Ok (Some b)) (Err k)) → (x ≡ true) × (found ≡ b)
+picked true b found k e = (refl, cc)
+picked false b found k e = absurd (cc)
+
+picked_first : (x : Bool) (r : Result (Option ExistingBytes) ErrorKind) (found : ExistingBytes) (k : ErrorKind) → Ok (Some found) ≡ cond x r (Err k) → (x ≡ true) × (Ok (Some found) ≡ r)
+picked_first true r found k e = (refl, e)
+picked_first false r found k e = absurd (cc)
+
+pub data_written_at : (S R : Segments) (s p : ℕ) (t : Tree) (b : ExistingBytes) (i v : ℕ) → Ok (Some b) ≡ data_in (target S s p) t → IsStored S s p t → i < b.length → v < 256 → R ≡ with_field S b.segment (8 * (8 * b.start + i)) 8 v → IsReplaced S R s p t (with_lowest i 8 v t)
+data_written_at S R s p (Flat z ns) b i v is_b stored less small written =
+    let (x, same) = picked (nat_eq z 2) (bytes_at (target S s p) (length ns)) b ExistingListPointerIsNotByteSized is_b in
+    byte_written S R s p z ns i v (eqb-true z 2 x) (subst (λ y. i < y.length) same less) small stored (subst (λ y. R ≡ with_field S y.segment (8 * (8 * y.start + i)) 8 v) same written)
+data_written_at S R s p Null b i v is_b stored less small written = absurd (cc)
+data_written_at S R s p (Capability j) b i v is_b stored less small written = absurd (cc)
+data_written_at S R s p (Struct ws ts) b i v is_b stored less small written = absurd (cc)
+data_written_at S R s p (Pointers ts) b i v is_b stored less small written = absurd (cc)
+data_written_at S R s p (Structs d q es) b i v is_b stored less small written = absurd (cc)
+
+pub text_written_at : (S R : Segments) (s p : ℕ) (t : Tree) (b : ExistingBytes) (i v : ℕ) → Ok (Some b) ≡ text_in (target S s p) t → IsStored S s p t → i < b.length → v < 256 → R ≡ with_field S b.segment (8 * (8 * b.start + i)) 8 v → IsReplaced S R s p t (with_lowest i 8 v t)
+text_written_at S R s p (Flat z ns) b i v is_b stored less small written =
+    let (x, text) = picked_first (nat_eq z 2) (text_of (target S s p) ns) b ExistingListPointerIsNotByteSized is_b in
+    let (y, same) = picked (ends_in_zero ns) (bytes_at (target S s p) (length ns - 1)) b TextBlobMissingNULTerminator text in
+    let l : i < length ns - 1 = subst (λ z. i < z.length) same less in
+    byte_written S R s p z ns i v (eqb-true z 2 x) (omega (arith, l)) small stored (subst (λ z. R ≡ with_field S z.segment (8 * (8 * z.start + i)) 8 v) same written)
+text_written_at S R s p Null b i v is_b stored less small written = absurd (cc)
+text_written_at S R s p (Capability j) b i v is_b stored less small written = absurd (cc)
+text_written_at S R s p (Struct ws ts) b i v is_b stored less small written = absurd (cc)
+text_written_at S R s p (Pointers ts) b i v is_b stored less small written = absurd (cc)
+text_written_at S R s p (Structs d q es) b i v is_b stored less small written = absurd (cc)
+
+-- what the operations leave
+pub element_does : (S R : Segments) (place : PointerPlace) (size : ElementSize) (i v : ℕ) (r : Option ErrorKind) (looked : Result (Option ExistingList) ErrorKind) → IsPlace S place.segment place.word → is_number_from 1 size v ≡ true →
+    ((t : Tree) → IsStored S place.segment place.word t → looked ≡ list_in (target S place.segment place.word) size t) → PutsElement S R looked size i v r → Does S R place (SetElement size i v) r
+element_does S R place size i v r looked inside range is_found puts t stored = does (is_found t stored) puts
+  where
+    op : Op
+    op = SetElement size i v
+
+    w : ℕ
+    w = element_bits (size_number size)
+
+    number : (1 ≤ size_number size) × (size_number size ≤ 5) × (v < 2 ^ element_bits (size_number size))
+    number = number_parts 1 size v range
+
+    counted : looked ≡ list_in (target S place.segment place.word) size t → count_of (list_in nowhere size t) ≡ count_of looked
+    counted found = list_anywhere count_of (λ l k e. ap Ok e) nowhere (target S place.segment place.word) size t ∙ ap count_of (sym found)
+
+    does : looked ≡ list_in (target S place.segment place.word) size t → PutsElement S R looked size i v r → DoesAt S R place (SetElement size i v) t r
+    does found (element_put l is_l less done written) = rw done (
+        reached_done S R place op t (with_lowest i w v t) i l.count (count_of (list_in nowhere size t)) range refl (counted found ∙ ap count_of is_l) less
+        (list_written S R place.segment place.word size t l i v number.0 number.1 number.2 (sym is_l ∙ found) stored less written))
+    does found (element_past l is_l past named kept) = rw (named, kept) (
+        reached_past S place op t (with_lowest i w v t) i l.count (count_of (list_in nowhere size t)) range refl (counted found ∙ ap count_of is_l)
+        (past (found_inside S place.segment place.word size t l (there S place.segment place.word inside) stored (sym found ∙ is_l)) (found_wide S place.segment place.word size t l number.0 number.1 (sym is_l ∙ found) stored)))
+    does found (no_list is_none named kept) = rw (named, kept) (
+        reached_past S place op t (with_lowest i w v t) i 0 (count_of (list_in nowhere size t)) range refl (counted found ∙ ap count_of is_none) (omega arith))
+    does found (list_denied k is_k named kept) = rw (named, kept) (
+        reached_denied S place op t (with_lowest i w v t) i k (count_of (list_in nowhere size t)) range refl (counted found ∙ ap count_of is_k))
+
+-- where bytes are looked for, and how a byte of them is written
+record Looks (look : Target → Tree → Result (Option ExistingBytes) ErrorKind) (op : Op) (i v : ℕ) : Type 1 where
+  range : is_in_range op ≡ true
+  makes : (t : Tree) → made_at op (PointerTo t) ≡ if_reached i (length_of (look nowhere t)) (with_lowest i 8 v t)
+  long : (a b : Target) (t : Tree) → length_of (look a t) ≡ length_of (look b t)
+  inside : (S : Segments) (s p : ℕ) (t : Tree) (b : ExistingBytes) → s < length S → IsStored S s p t → look (target S s p) t ≡ Ok (Some b) → LieIn S b
+  written : (S R : Segments) (s p : ℕ) (t : Tree) (b : ExistingBytes) → Ok (Some b) ≡ look (target S s p) t → IsStored S s p t → i < b.length → R ≡ with_field S b.segment (8 * (8 * b.start + i)) 8 v → IsReplaced S R s p t (with_lowest i 8 v t)
+
+byte_does : (S R : Segments) (place : PointerPlace) (op : Op) (i v : ℕ) (look : Target → Tree → Result (Option ExistingBytes) ErrorKind) (r : Option ErrorKind) (looked : Result (Option ExistingBytes) ErrorKind) →
+    IsPlace S place.segment place.word → Looks look op i v → ((t : Tree) → IsStored S place.segment place.word t → looked ≡ look (target S place.segment place.word) t) → PutsByte S R looked i v r → Does S R place op r
+byte_does S R place op i v look r looked inside looks is_found puts t stored = does (is_found t stored) puts
+  where
+    counted : looked ≡ look (target S place.segment place.word) t → length_of (look nowhere t) ≡ length_of looked
+    counted found = looks.long nowhere (target S place.segment place.word) t ∙ ap length_of (sym found)
+
+    does : looked ≡ look (target S place.segment place.word) t → PutsByte S R looked i v r → DoesAt S R place op t r
+    does found (byte_put b is_b less done written) = rw done (
+        reached_done S R place op t (with_lowest i 8 v t) i b.length (length_of (look nowhere t)) looks.range (looks.makes t) (counted found ∙ ap length_of is_b) less
+        (looks.written S R place.segment place.word t b (sym is_b ∙ found) stored less written))
+    does found (byte_past b is_b past named kept) = rw (named, kept) (
+        reached_past S place op t (with_lowest i 8 v t) i b.length (length_of (look nowhere t)) looks.range (looks.makes t) (counted found ∙ ap length_of is_b)
+        (past (looks.inside S place.segment place.word t b (there S place.segment place.word inside) stored (sym found ∙ is_b))))
+    does found (no_bytes_there is_none named kept) = rw (named, kept) (
+        reached_past S place op t (with_lowest i 8 v t) i 0 (length_of (look nowhere t)) looks.range (looks.makes t) (counted found ∙ ap length_of is_none) (omega arith))
+    does found (bytes_denied k is_k named kept) = rw (named, kept) (
+        reached_denied S place op t (with_lowest i 8 v t) i k (length_of (look nowhere t)) looks.range (looks.makes t) (counted found ∙ ap length_of is_k))
+
+pub text_does : (S R : Segments) (place : PointerPlace) (i v : ℕ) (r : Option ErrorKind) (looked : Result (Option ExistingBytes) ErrorKind) → IsPlace S place.segment place.word → v < 256 →
+    ((t : Tree) → IsStored S place.segment place.word t → looked ≡ text_in (target S place.segment place.word) t) → PutsByte S R looked i v r → Does S R place (WriteText i v) r
+text_does S R place i v r looked inside small is_found puts =
+    byte_does S R place (WriteText i v) i v text_in r looked inside
+    (record { range = refl; makes = λ t. refl; long = text_anywhere length_of (λ b c e. ap Ok e); inside = text_inside; written = λ S R s p t b is_b stored less written. text_written_at S R s p t b i v is_b stored less small written }) is_found puts
+
+pub data_does : (S R : Segments) (place : PointerPlace) (i v : ℕ) (r : Option ErrorKind) (looked : Result (Option ExistingBytes) ErrorKind) → IsPlace S place.segment place.word → v < 256 →
+    ((t : Tree) → IsStored S place.segment place.word t → looked ≡ data_in (target S place.segment place.word) t) → PutsByte S R looked i v r → Does S R place (WriteData i v) r
+data_does S R place i v r looked inside small is_found puts =
+    byte_does S R place (WriteData i v) i v data_in r looked inside
+    (record { range = refl; makes = λ t. refl; long = data_anywhere length_of (λ b c e. ap Ok e); inside = data_inside; written = λ S R s p t b is_b stored less written. data_written_at S R s p t b i v is_b stored less small written }) is_found puts
+
+-- what was looked for, and is there
+pub is_found : {A : Type 0} (r : Result (Option A) ErrorKind) (o : Option A) (x : A) → r ≡ Ok o → o ≡ Some x → r ≡ Ok (Some x)
+is_found r o x e f = e ∙ ap Ok f

@@ -1,0 +1,197 @@
+//! Edits of elements of lists, and of bytes of texts and data.
+ghost use Rattle.std.specs.Prelude.{◌≡◌, ◌+◌, ◌<◌, ◌≤◌, IsTrue, IfErr, OnErr, true};
+ghost use Rattle.capnp_arena.specs.View.{KeepsLimits};
+ghost use Rattle.capnp_format.specs.Numbers.{element_bits};
+ghost use Rattle.capnp_format.specs.Segments.{IsPlace};
+ghost use Rattle.capnp_making.specs.Existing.{is_unfound};
+ghost use Rattle.capnp_pointers.specs.Sizes.{size_number};
+ghost use Rattle.capnp_readers.specs.Readers.{IsListPlace};
+ghost use Rattle.capnp_readers.specs.Sections.{data_bits, list_words};
+ghost use Rattle.capnp_builders.specs.Elements.{value_bits, WritesElement};
+ghost use Rattle.capnp_builders.specs.Found.{place_of as list_place};
+ghost use Rattle.capnp_edits.specs.Edits.{refusal_of, is_content, is_in_range, is_number_from, is_of_place, PutsElement, PutsByte, Does};
+
+use crate::edit::Op;
+use crate::edit::path::has_words;
+use capnp_arena::arena::BuilderArena;
+use capnp_builders::builders::{ListBuilder, PrimitiveElement};
+use capnp_making::existing;
+use capnp_making::existing::{ExistingBytes, ExistingList};
+use capnp_making::numbers::set_number;
+use capnp_readers::readers::{ListPlace, PointerPlace};
+use capnp_words::error::ErrorKind;
+use capnp_words::wire_pointer::{ElementSize, data_bits_per_element};
+
+/// Where a list is, for its builder.
+fn place_of(list: ExistingList) -> ListPlace
+    ensures { result ≡ list_place list }
+{
+    ListPlace {
+        segment: list.segment,
+        byte: 8 * u64::from(list.start),
+        size: list.size,
+        struct_size: list.struct_size,
+        count: list.count,
+    }
+}
+
+/// How many words the elements of a list take, its tag aside.
+fn words_of(list: ExistingList) -> u64
+    ensures { result ≡ list_words list.size list.count (list.struct_size.data_words + list.struct_size.pointers) }
+{
+    let count = u64::from(list.count);
+    match list.size {
+        ElementSize::InlineComposite => count * u64::from(list.struct_size.total()),
+        ElementSize::Pointer => count,
+        size => (count * u64::from(data_bits_per_element(size))).div_ceil(64),
+    }
+}
+
+/// How many bits of data an element of a list has.
+fn bits_of(list: ExistingList) -> u32
+    ensures { result ≡ data_bits list.size list.struct_size }
+{
+    match list.size {
+        ElementSize::InlineComposite => 64 * u32::from(list.struct_size.data_words),
+        size => data_bits_per_element(size),
+    }
+}
+
+/// Whether an element of a list is there, which lies in the message, and is as wide as a size, or wider.
+fn has_element<A: BuilderArena>(
+    arena: &A,
+    list: ExistingList,
+    size: ElementSize,
+    index: u32,
+) -> bool
+    ensures inside { IsTrue result → IsListPlace (A.view arena.now).words (list_place list) }
+    ensures there { IsTrue result → index < list.count }
+    ensures wide { IsTrue result → element_bits (size_number size) ≤ data_bits list.size list.struct_size }
+    ensures past { IsListPlace (A.view arena.now).words (list_place list) → element_bits (size_number size) ≤ data_bits list.size list.struct_size → index < list.count → IsTrue result }
+{
+    index < list.count
+        && data_bits_per_element(size) <= bits_of(list)
+        && arena.get_segment(list.segment).is_ok()
+        && has_words(arena, list.segment, u64::from(list.start) + words_of(list))
+}
+
+/// Writes the lowest bits of an element of a list, as many as the size has.
+fn put_element<A: BuilderArena>(
+    list: &mut ListBuilder<'_, A>,
+    size: ElementSize,
+    index: u32,
+    value: u64,
+)
+    requires inside { IsListPlace (A.view list.old.arena.now).words list.old.place }
+    requires there { index < list.old.place.count }
+    requires wide { element_bits (size_number size) ≤ data_bits list.old.place.size list.old.place.struct_size }
+    requires number { is_number_from 1 size value ≡ true }
+    ensures written { WritesElement (A.view list.old.arena.now) (A.view list.new.arena.now) list.old.place (value_bits list.old.place index size value) }
+    ensures same { list.new.arena.ghost_name ≡ list.old.arena.ghost_name }
+{
+    match size {
+        ElementSize::Bit => <bool as PrimitiveElement>::set(list, index, value != 0),
+        ElementSize::Byte => <u8 as PrimitiveElement>::set(list, index, value as u8),
+        ElementSize::TwoBytes => <u16 as PrimitiveElement>::set(list, index, value as u16),
+        ElementSize::FourBytes => <u32 as PrimitiveElement>::set(list, index, value as u32),
+        _ => <u64 as PrimitiveElement>::set(list, index, value),
+    }
+}
+
+/// Does so in the list at a place.
+fn put_element_at<A: BuilderArena>(
+    arena: &mut A,
+    place: ListPlace,
+    size: ElementSize,
+    index: u32,
+    value: u64,
+)
+    requires inside { IsListPlace (A.view arena.old).words place }
+    requires there { index < place.count }
+    requires wide { element_bits (size_number size) ≤ data_bits place.size place.struct_size }
+    requires number { is_number_from 1 size value ≡ true }
+    ensures { WritesElement (A.view arena.old) (A.view arena.new) place (value_bits place index size value) }
+{
+    put_element(&mut ListBuilder { arena, place }, size, index, value);
+}
+
+/// Writes the lowest bits of an element of a list that was looked for, if it is there.
+fn set_element<A: BuilderArena>(
+    arena: &mut A,
+    found: Result<Option<ExistingList>, ErrorKind>,
+    size: ElementSize,
+    index: u32,
+    value: u64,
+) -> Result<(), ErrorKind>
+    requires number { is_number_from 1 size value ≡ true }
+    requires looked { IfErr found (λ k. is_unfound k ≡ true) }
+    ensures put { PutsElement (A.view arena.old).words (A.view arena.new).words found size index value (refusal_of result) }
+    ensures limits { KeepsLimits (A.view arena.old) (A.view arena.new) }
+    ensures named { IfErr result (λ k. is_of_place k ≡ true) }
+    ensures kept { OnErr result (A.view arena.new ≡ A.view arena.old) }
+{
+    match found {
+        Ok(Some(list)) if has_element(&*arena, list, size, index) => {
+            put_element_at(arena, place_of(list), size, index, value);
+            Ok(())
+        }
+        Ok(_) => Err(ErrorKind::NoSuchPlace),
+        Err(k) => Err(k),
+    }
+}
+
+/// Writes a byte of a text or data that was looked for, if it is there.
+fn write_byte<A: BuilderArena>(
+    arena: &mut A,
+    found: Result<Option<ExistingBytes>, ErrorKind>,
+    index: u32,
+    value: u8,
+) -> Result<(), ErrorKind>
+    requires { IfErr found (λ k. is_unfound k ≡ true) }
+    ensures byte { value < 256 }
+    ensures put { PutsByte (A.view arena.old).words (A.view arena.new).words found index value (refusal_of result) }
+    ensures limits { KeepsLimits (A.view arena.old) (A.view arena.new) }
+    ensures named { IfErr result (λ k. is_of_place k ≡ true) }
+    ensures kept { OnErr result (A.view arena.new ≡ A.view arena.old) }
+{
+    match found {
+        Ok(Some(bytes)) if index < bytes.length && existing::are_inside(&*arena, bytes) => {
+            let byte = 8 * u64::from(bytes.start) + u64::from(index);
+            set_number(arena, bytes.segment, byte, value);
+            Ok(())
+        }
+        Ok(_) => Err(ErrorKind::NoSuchPlace),
+        Err(k) => Err(k),
+    }
+}
+
+/// Does an operation that writes in a list, a text or data, at a pointer of a message.
+pub(crate) fn edit_content<A: BuilderArena>(
+    arena: &mut A,
+    place: PointerPlace,
+    op: Op<'_>,
+) -> Result<(), ErrorKind>
+    requires there { IsPlace (A.view arena.old).words place.segment place.word }
+    requires range { is_in_range op ≡ true }
+    requires content { is_content op ≡ true }
+    ensures done { Does (A.view arena.old).words (A.view arena.new).words place op.entry (refusal_of result) }
+    ensures limits { KeepsLimits (A.view arena.old) (A.view arena.new) }
+    ensures named { IfErr result (λ k. is_of_place k ≡ true) }
+    ensures kept { OnErr result (A.view arena.new ≡ A.view arena.old) }
+{
+    match op {
+        Op::SetElement(size, index, value) => {
+            let found = existing::get_list(&*arena, place.segment, place.word, size);
+            set_element(arena, found, size, index, value)
+        }
+        Op::WriteText(index, value) => {
+            let found = existing::get_text(&*arena, place.segment, place.word);
+            write_byte(arena, found, index, value)
+        }
+        Op::WriteData(index, value) => {
+            let found = existing::get_data(&*arena, place.segment, place.word);
+            write_byte(arena, found, index, value)
+        }
+        _ => Err(ErrorKind::NoSuchPlace),
+    }
+}
