@@ -4,6 +4,7 @@ use Rattle.std.proofs.lemmas.Bool.Decides.{nat_tests}
 use Rattle.std.proofs.lemmas.List.{append-nil}
 use Rattle.capnp_words.specs.declared.error.ErrorKind.{ErrorKind}
 use Rattle.capnp_words.specs.declared.error.ErrorKind.TheVariants.{AllocationFailed, NoSuchPlace}
+use Rattle.capnp_arena.specs.Taking.{IsAllocationRefusal}
 use Rattle.capnp_arena.specs.View.{View}
 use Rattle.capnp_format.specs.Segments.{Segments, segment}
 use Rattle.capnp_format.specs.Tree.{Tree, Null, Capability, Struct, Flat, Pointers, Structs, Trees, Elements, no_elements, element, count, element_count}
@@ -25,20 +26,23 @@ use Rattle.capnp_edits.specs.declared.edit.Edit.{Edit}
 use Rattle.capnp_edits.specs.Paths.{Spot, PointerTo, ElementOf, path_of, found, IsPointerFound, IsElementFound, IsFound}
 use Rattle.capnp_edits.specs.declared.edit.Op.{Op}
 use Rattle.capnp_edits.specs.declared.edit.Op.TheVariants.{InitStruct, InitList, InitStructList, InitText, InitData, SetText, SetData, SetCapability, Clear, SetField, SetBool, SetElement, WriteText, WriteData, GetStruct, GetList, GetStructList, GetText, GetData, CopyFrom}
-use Rattle.capnp_edits.specs.Edits.{refusal_of, field_of, is_field, is_in_range, Making, becomes, denied, with_written, made_at, made, IsOfMemory, takes_memory, words_taken, is_of_place, IsRefusedAs, GivesAt, Does, DoesAt, Yields, is_done, lacks_memory, is_denied, IsReplacedIf, leads_to, are_written, are_outside, WritesAt, is_put, is_out_of_range, has_none, Takes, leads_nowhere, IsApplied, refusals_after}
+use Rattle.capnp_edits.specs.Edits.{refusal_of, field_of, is_field, is_in_range, Making, becomes, denied, with_written, made_at, made, IsOfMemory, takes_memory, words_taken, is_of_place, copied_by, IsCallRefused, IsRefusedAs, GivesAt, Does, DoesAt, Yields, is_done, lacks_memory, is_denied, IsReplacedIf, leads_to, are_written, are_outside, WritesAt, is_put, is_out_of_range, has_none, Takes, leads_nowhere, IsApplied, refusals_after}
 use Rattle.capnp_edits.proofs.Steps.{first, same_some, struct_of}
 use Rattle.capnp_edits.proofs.Walks.{found-append, update-append}
 
 -- a refusal for words is one for want of memory, or of room
-pub of_memory : (old new : View) (n : ℕ) (k : ErrorKind) → IsRefusedFor old new n k → IsOfMemory k
-of_memory old new n k (why, same) = elim why [
+pub of_allocation : (old new : View) (segments amount : ℕ) (k : ErrorKind) → IsAllocationRefusal old new segments amount k → IsOfMemory k
+of_allocation old new segments amount k why = elim why [
   | inl h ↦ inl h.0
-  | inr (inl h) ↦ inr (n + 1, h.0)
+  | inr (inl h) ↦ inr (amount, h.0)
   | inr (inr h) ↦ inr (_, h.0)
 ]
 
+pub of_memory : (old new : View) (n : ℕ) (k : ErrorKind) → IsRefusedFor old new n k → IsOfMemory k
+of_memory old new n k (why, same) = of_allocation old new (length old.words) (n + 1) k why
+
 -- so it is no place that is missing
-of_no_place : (k : ErrorKind) → IsOfMemory k → k ≡ NoSuchPlace → ⊥
+pub of_no_place : (k : ErrorKind) → IsOfMemory k → k ≡ NoSuchPlace → ⊥
 of_no_place k (inl h) e = absurd (cc)
 of_no_place k (inr h) e = let same = h.1 in absurd (cc)
 
@@ -46,10 +50,10 @@ pub never_nowhere : {A : Type 0} (result : Result A ErrorKind) (old new : View) 
 never_nowhere (Ok x) old new n why e = absurd (cc)
 never_nowhere (Err k) old new n why e = absurd (of_no_place k (of_memory old new n k why) (same_some k NoSuchPlace e))
 
--- an operation is refused as one of its calls is
-pub refused_as : {A : Type 0} (result : Result A ErrorKind) (old new : View) (op : Op) → IfErr result (IsRefusedFor old new (words_taken op)) → IfErr result (IsRefusedAs old new op)
-refused_as (Ok x) old new op why = tt
-refused_as (Err k) old new op why = inr (inl why)
+-- an operation is refused as its call is, which copies nothing
+pub refused_as : {A : Type 0} (result : Result A ErrorKind) (old new : View) (op : Op) → copied_by op ≡ None → IfErr result (IsRefusedFor old new (words_taken op)) → IfErr result (IsRefusedAs old new op)
+refused_as (Ok x) old new op none why = tt
+refused_as (Err k) old new op none why = inr (subst (λ c. IsCallRefused old new (words_taken op) c k) (sym none) why)
 
 pub refused_there : {A : Type 0} (result : Result A ErrorKind) (old new : View) (op : Op) → IfErr result (λ k. is_of_place k ≡ true) → OnErr result (new ≡ old) → IfErr result (IsRefusedAs old new op)
 refused_there (Ok x) old new op named kept = tt

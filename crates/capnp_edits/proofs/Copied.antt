@@ -1,5 +1,5 @@
 -- What a copy from another message leaves, and what it is refused for.
-use Rattle.std.proofs.Common.{◌≡◌, inl, inr, ◌⊎◌, ℕ, ◌+◌, Bool, true, false, cond, nat_lt, length, Option, Some, None, Result, Ok, Err, IfOk, IfErr, OnOk, OnErr, refl, sym, ap, ◌∙◌, subst, arith}
+use Rattle.std.proofs.Common.{◌≡◌, inl, inr, ◌⊎◌, ℕ, ◌+◌, Bool, true, false, cond, nat_lt, length, Option, Some, None, Result, Ok, Err, IfOk, IfErr, OnOk, OnErr, refl, sym, ap, ◌∙◌, subst, arith, IsOk}
 use Rattle.std.proofs.lemmas.Bool.{cases_lt}
 use Rattle.capnp_words.specs.Meter.{Meter}
 use Rattle.capnp_words.specs.declared.error.ErrorKind.{ErrorKind}
@@ -9,7 +9,7 @@ use Rattle.capnp_arena.specs.View.{View}
 use Rattle.capnp_arena.specs.Checks.{misplaced}
 use Rattle.capnp_format.specs.Segments.{Segments, segment}
 use Rattle.capnp_format.specs.Tree.{Null}
-use Rattle.capnp_making.specs.Memory.{KeepsMemory, SpendsMemory, RefusesWords}
+use Rattle.capnp_making.specs.Memory.{HasRoom, KeepsMemory, SpendsMemory}
 use Rattle.capnp_making.specs.Stored.{Puts}
 use Rattle.capnp_objects.specs.Reading.{Reading}
 use Rattle.capnp_objects.specs.Outcomes.{Reads}
@@ -17,23 +17,17 @@ use Rattle.capnp_objects.specs.Refusals.{Refused}
 use Rattle.capnp_objects.proofs.Limits.{not_for_memory, not_for_place}
 use Rattle.capnp_readers.specs.declared.readers.PointerPlace.{PointerPlace}
 use Rattle.capnp_copies.specs.Changes.{RefusesValue, change}
+use Rattle.capnp_copies.specs.Copies.{CanBeCopied}
 use Rattle.capnp_copies.specs.Forms.{form_of, kept}
 use Rattle.capnp_builders.specs.Kept.{PutsCopy}
 use Rattle.capnp_edits.specs.declared.edit.Op.{Op}
 use Rattle.capnp_edits.specs.declared.edit.Op.TheVariants.{CopyFrom}
 use Rattle.capnp_edits.specs.declared.edit.Source.{Source}
 use Rattle.capnp_edits.specs.Paths.{PointerTo}
-use Rattle.capnp_edits.specs.Sources.{words_in, root_of, once_at_root, HasRoot, IsUnread}
-use Rattle.capnp_edits.specs.Edits.{refusal_of, made, IsOfMemory, copied_by, IsSourceRefused, IsCopyRefusedAs, IsRefusedAs, IsCopyCounted, IsCounted, refusals_after, CopiesRoot, root_copied, root_not_copied, root_unread, Does, is_copied, is_not_copied, is_unread}
+use Rattle.capnp_edits.specs.Sources.{words_in, root_of, once_at_root, HasRoot, IsUnread, FitsBehind}
+use Rattle.capnp_edits.specs.Edits.{refusal_of, made, copied_by, IsSourceRefused, IsCallRefused, CallFits, OpFits, words_taken, is_of_place, IsRefusedAs, IsCopyCounted, IsCounted, refusals_after, CopiesRoot, root_copied, root_not_copied, root_unread, Does, is_copied, is_not_copied, is_unread}
+use Rattle.capnp_edits.proofs.Applied.{of_allocation, of_no_place, never_refused}
 use Rattle.capnp_edits.proofs.Steps.{same_some}
-
--- no words are found for an object: for want of memory, or of room
-of_memory : (old new : View) (n : ℕ) (k : ErrorKind) → RefusesWords old new n k → IsOfMemory k
-of_memory old new n k (why, none) = elim why [
-  | inl h ↦ inl h.0
-  | inr (inl h) ↦ inr (n + 1, h.0)
-  | inr (inr h) ↦ inr (_, h.0)
-]
 
 -- the copy of a root that was reached
 pub copy_done : {A : Type 0} (result : Result A ErrorKind) (source : Source) (b : Bool) (r : Reading) (m m' : Meter) (old new : View) (place : PointerPlace) → r ≡ root_of source → m ≡ once_at_root source → HasRoot source →
@@ -42,7 +36,7 @@ pub copy_done : {A : Type 0} (result : Result A ErrorKind) (source : Source) (b 
 copy_done (Ok x) source b r m m' old new place is_r is_m has (t, reads, puts) why cleared =
     root_copied (kept b t) (has, (t, m', subst (λ y. Reads (form_of b) (root_of source) y m' t) is_m (subst (λ y. Reads (form_of b) y m m' t) is_r reads), refl)) refl puts
 copy_done (Err k) source b r m m' old new place is_r is_m has copied why cleared = elim why [
-  | inl room ↦ root_not_copied k (inl (of_memory old new room.0 k room.1)) refl cleared
+  | inl room ↦ root_not_copied k (inl (of_allocation old new (length new.words) (room.0 + 1) k room.1.0)) refl cleared
   | inr refused ↦ root_not_copied k (inr (has, (m', subst (λ y. Refused (form_of b) (root_of source) y m' k) is_m (subst (λ y. Refused (form_of b) y m m' k) is_r refused)))) refl cleared
 ]
 
@@ -54,8 +48,8 @@ copy_named (Err k) source b r m m' old new place is_r is_m why =
 
 pub copy_counted : {A : Type 0} (result : Result A ErrorKind) (b : Bool) (r : Reading) (m m' : Meter) (old new : View) (place : PointerPlace) → OnOk result (KeepsMemory old new) →
     IfErr result (RefusesValue r (change b place.segment place.word old new m m')) → OnErr result (SpendsMemory old new) → IsCopyCounted (refusal_of result) old.refusals new.refusals
-copy_counted (Ok x) b r m m' old new place keeps why spends = (λ e. absurd (cc), inl (ap (λ (v : View). v.refusals) keeps.0))
-copy_counted (Err k) b r m m' old new place keeps why spends = (λ e. failed (same_some k AllocationFailed e), spends.2)
+copy_counted (Ok x) b r m m' old new place keeps why spends = (λ e. ap (λ (v : View). v.refusals) keeps.0, λ e. absurd (cc), inl (ap (λ (v : View). v.refusals) keeps.0))
+copy_counted (Err k) b r m m' old new place keeps why spends = (λ e. absurd (cc), λ e. failed (same_some k AllocationFailed e), spends.2)
   where
     failed : k ≡ AllocationFailed → new.refusals ≡ one_more old.refusals
     failed e = elim why [
@@ -87,7 +81,7 @@ unread_named source k (none, outside, budget) =
     by_name e = elim (misplaced_named (nat_lt 0 (length (words_in source))) (InvalidSegmentId 0)) [ inl f ↦ inr (inl (e ∙ f)) | inr f ↦ inr (inr (e ∙ f)) ]
 
 pub unread_counted : (source : Source) (k : ErrorKind) (n : ℕ) → IsUnread source k → IsCopyCounted (Some k) n n
-unread_counted source k n unread = (λ e. absurd (never (same_some k AllocationFailed e)), inl refl)
+unread_counted source k n unread = (λ e. refl, λ e. absurd (never (same_some k AllocationFailed e)), inl refl)
   where
     never : k ≡ AllocationFailed → ⊥
     never e = elim (unread_named source k unread) [ inl f ↦ cc | inr (inl f) ↦ cc | inr (inr f) ↦ cc ]
@@ -101,11 +95,7 @@ copy_nowhere (Err k) old new source b why e = elim why [
 ]
   where
     never : (place : PointerPlace) (m : Meter) → RefusesValue (root_of source) (change b place.segment place.word old new (once_at_root source) m) k → k ≡ NoSuchPlace → ⊥
-    never place m (inl (n, (refuses, none), wanted, large)) e = elim refuses [
-      | inl h ↦ let f = h.0 in cc
-      | inr (inl h) ↦ let f = h.0 in cc
-      | inr (inr h) ↦ let f = h.0 in cc
-    ]
+    never place m (inl (n, (refuses, none), wanted, large)) e = of_no_place k (of_allocation old new (length new.words) (n + 1) k refuses) e
     never place m (inr refused) e = not_for_place (subst (λ y. Refused (form_of b) (root_of source) (once_at_root source) m y) e refused)
 
 -- at its place
@@ -119,17 +109,33 @@ copied_at S R place op source b r is (root_unread k why named same) t stored =
 
 pub copy_refused : {A : Type 0} (result : Result A ErrorKind) (old new : View) (op : Op) (source : Source) (b : Bool) → op ≡ CopyFrom source b → IfErr result (IsSourceRefused old new source b) → IfErr result (IsRefusedAs old new op)
 copy_refused (Ok x) old new op source b is why = tt
-copy_refused (Err k) old new op source b is why = inr (inr (subst (λ o. IsCopyRefusedAs old new (copied_by o) k) (sym is) why))
+copy_refused (Err k) old new op source b is why = inr (subst (λ o. IsCallRefused old new (words_taken op) (copied_by o) k) (sym is) why)
 
 pub never_none : (op : Op) (source : Source) (b : Bool) → op ≡ CopyFrom source b → copied_by op ≡ None → ⊥
 never_none op source b is none = let e : Some (source, b) ≡ None = sym (ap copied_by is) ∙ none in cc
+
+-- any other operation copies nothing
+pub uncopied : (op : Op) → ((source : Source) (b : Bool) → op ≡ CopyFrom source b → ⊥) → copied_by op ≡ None
+uncopied (CopyFrom source b) other = absurd (other source b refl)
+uncopied op other = refl
+
+-- a call that copies nothing fits where its words do
+pub words_fit : {A : Type 0} (result : Result A ErrorKind) (old : View) (id : ℕ) (op : Op) → copied_by op ≡ None → (HasRoom old id (words_taken op) → IsOk result) → OpFits old id op → IfErr result (λ k. is_of_place k ≡ true)
+words_fit result old id op none fits room = never_refused result (fits (subst (λ c. CallFits old id (words_taken op) c) none room))
+
+-- and a copy where what it keeps does
+pub can_be_copied : (source : Source) (b : Bool) (r : Reading) (m : Meter) (used room : ℕ) → r ≡ root_of source → m ≡ once_at_root source → CanBeCopied b (root_of source) (once_at_root source) used room → CanBeCopied b r m used room
+can_be_copied source b r m used room is_r is_m can = subst (λ x. CanBeCopied b x m used room) (sym is_r) (subst (λ y. CanBeCopied b (root_of source) y used room) (sym is_m) can)
+
+pub copy_fits : {A : Type 0} (result : Result A ErrorKind) (old : View) (id : ℕ) (op : Op) (source : Source) (b : Bool) → op ≡ CopyFrom source b → (FitsBehind old id source b → IsOk result) → OpFits old id op → IfErr result (λ k. is_of_place k ≡ true)
+copy_fits result old id op source b is fits room = never_refused result (fits (subst (λ o. CallFits old id (words_taken op) (copied_by o)) is room))
 
 -- how refusals are counted
 pub counted_as : (op : Op) (source : Source) (b : Bool) (r : Option ErrorKind) (old new : ℕ) → op ≡ CopyFrom source b → IsCopyCounted r old new → IsCounted op r old new
 counted_as op source b r old new is counts = (λ none. absurd (never_none op source b is none), counts)
 
 pub exactly_counted : (op : Op) (r : Option ErrorKind) (old new : ℕ) → new ≡ refusals_after r old → IsCounted op r old new
-exactly_counted op r old new e = (λ none. e, (λ f. e ∙ ap (λ x. refusals_after x old) f, subst (λ n. (n ≡ old) ⊎ (n ≡ one_more old)) (sym e) (either r)))
+exactly_counted op r old new e = (λ none. e, (λ f. e ∙ ap (λ x. refusals_after x old) f, λ f. e ∙ ap (λ x. refusals_after x old) f, subst (λ n. (n ≡ old) ⊎ (n ≡ one_more old)) (sym e) (either r)))
   where
     either : (q : Option ErrorKind) → (refusals_after q old ≡ old) ⊎ (refusals_after q old ≡ one_more old)
     either (Some AllocationFailed) = inr refl

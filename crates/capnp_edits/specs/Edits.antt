@@ -14,7 +14,7 @@ use Rattle.capnp_arena.specs.Allocations.{one_more}
 use Rattle.capnp_arena.specs.View.{View}
 use Rattle.capnp_making.specs.Existing.{list_in, data_in, text_in, LieIn}
 use Rattle.capnp_making.specs.Fields.{with_bits, put_field, with_field}
-use Rattle.capnp_making.specs.Memory.{IsRefusedFor}
+use Rattle.capnp_making.specs.Memory.{HasRoom, IsRefusedFor}
 use Rattle.capnp_making.specs.Made.{list_words, zero_struct, zero_structs, zero_list}
 use Rattle.capnp_making.specs.Path.{Step, struct_at, put_struct, update}
 use Rattle.capnp_making.specs.Stored.{IsStored, IsReplaced, Puts}
@@ -31,7 +31,7 @@ use Rattle.capnp_edits.specs.declared.edit.Edit.{Edit}
 use Rattle.capnp_edits.specs.declared.edit.Op.{Op}
 use Rattle.capnp_edits.specs.declared.edit.Source.{Source}
 use Rattle.capnp_edits.specs.declared.edit.Op.TheVariants.{InitStruct, InitList, InitStructList, InitText, InitData, SetText, SetData, SetCapability, Clear, SetField, SetBool, SetElement, WriteText, WriteData, GetStruct, GetList, GetStructList, GetText, GetData, CopyFrom}
-use Rattle.capnp_edits.specs.Sources.{Copies, IsUnread, IsUnreadable, IsCopyRefused}
+use Rattle.capnp_edits.specs.Sources.{Copies, IsUnread, IsUnreadable, IsCopyRefused, FitsBehind}
 use Rattle.capnp_edits.specs.Paths.{Spot, PointerTo, ElementOf, path_of, found}
 
 -- The name by which a call is refused, if it is.
@@ -229,14 +229,22 @@ copied_by op = None
 abbrev pub IsSourceRefused : View → View → Source → Bool → ErrorKind → Type 0
 IsSourceRefused old new source b k = (IsUnread source k × (new ≡ old)) ⊎ IsCopyRefused old new source b k
 
-abbrev pub IsCopyRefusedAs : View → View → Option (Source × Bool) → ErrorKind → Type 0
-IsCopyRefusedAs old new (Some copying) k = IsSourceRefused old new copying.0 copying.1 k
-IsCopyRefusedAs old new None k = ⊥
+-- So is a copy; any other call only for want of memory or room for its n words, and truly.
+abbrev pub IsCallRefused : View → View → ℕ → Option (Source × Bool) → ErrorKind → Type 0
+IsCallRefused old new n (Some copying) k = IsSourceRefused old new copying.0 copying.1 k
+IsCallRefused old new n None k = IsRefusedFor old new n k
 
--- A refusal by a name is for what a path leads to, and all is as it was; or it is one for want of memory or room, true of the words of the operation; or one
--- of a copy.
+-- A refusal by a name is for what a path leads to, and all is as it was; or it is that of the call.
 abbrev pub IsRefusedAs : View → View → Op → ErrorKind → Type 0
-IsRefusedAs old new op k = ((is_of_place k ≡ true) × (new ≡ old)) ⊎ IsRefusedFor old new (words_taken op) k ⊎ IsCopyRefusedAs old new (copied_by op) k
+IsRefusedAs old new op k = ((is_of_place k ≡ true) × (new ≡ old)) ⊎ IsCallRefused old new (words_taken op) (copied_by op) k
+
+-- What a call makes of n words, or copies, fits at a pointer of segment id.
+abbrev pub CallFits : View → ℕ → ℕ → Option (Source × Bool) → Type 0
+CallFits old id n (Some copying) = FitsBehind old id copying.0 copying.1
+CallFits old id n None = HasRoom old id n
+
+abbrev pub OpFits : View → ℕ → Op → Type 0
+OpFits old id op = CallFits old id (words_taken op) (copied_by op)
 
 -- What stands after a whole operation in range where a pointer meant t: what it makes; or null, for want of memory.
 abbrev pub Gives : Op → Tree → Option ErrorKind → Tree → Type 0
@@ -347,9 +355,9 @@ abbrev pub refusals_after_all : List (Option ErrorKind) → ℕ → ℕ
 refusals_after_all [] n = n
 refusals_after_all (r ∷ rs) n = refusals_after_all rs (refusals_after r n)
 
--- So a copy is counted, which may have been refused memory, too, where it is refused for what it reads; and any operation.
+-- So a copy is counted, which may have been refused memory, too, where it is refused by another name; and any operation.
 abbrev pub IsCopyCounted : Option ErrorKind → ℕ → ℕ → Type 0
-IsCopyCounted r old new = (r ≡ Some AllocationFailed → new ≡ one_more old) × ((new ≡ old) ⊎ (new ≡ one_more old))
+IsCopyCounted r old new = (r ≡ None → new ≡ old) × (r ≡ Some AllocationFailed → new ≡ one_more old) × ((new ≡ old) ⊎ (new ≡ one_more old))
 
 abbrev pub IsCounted : Op → Option ErrorKind → ℕ → ℕ → Type 0
 IsCounted op r old new = (copied_by op ≡ None → new ≡ refusals_after r old) × IsCopyCounted r old new

@@ -1,10 +1,10 @@
 -- What is copied from another message.
-use Rattle.std.specs.Prelude.{◌≡◌, Bool, true, false, map}
+use Rattle.std.specs.Prelude.{ℕ, ◌≡◌, Bool, true, false, map, length}
 use Rattle.capnp_words.specs.Meter.{Meter, Affords, charged, unused}
 use Rattle.capnp_words.specs.declared.error.ErrorKind.{ErrorKind}
 use Rattle.capnp_words.specs.declared.error.ErrorKind.TheVariants.{InvalidSegmentId, ReadLimitExceeded}
 use Rattle.capnp_format.specs.Bytes.{message}
-use Rattle.capnp_format.specs.Segments.{Segments}
+use Rattle.capnp_format.specs.Segments.{Segments, segment}
 use Rattle.capnp_format.specs.Tree.{Tree}
 use Rattle.capnp_arena.specs.Checks.{Holds, misplaced}
 use Rattle.capnp_arena.specs.Limits.{whole}
@@ -15,6 +15,7 @@ use Rattle.capnp_objects.specs.Refusals.{Refused}
 use Rattle.capnp_objects.specs.Source.{levels}
 use Rattle.capnp_readers.specs.declared.readers.PointerPlace.{PointerPlace}
 use Rattle.capnp_copies.specs.Changes.{RefusesValue, change}
+use Rattle.capnp_copies.specs.Copies.{CanBeCopied}
 use Rattle.capnp_copies.specs.Forms.{form_of, kept}
 use Rattle.capnp_edits.specs.declared.edit.Source.{Source}
 
@@ -43,6 +44,11 @@ IsUnread source k = (HasRoot source → ⊥) × ((Holds (words_in source) 0 0 1 
 -- The root means a value within the limits, and a copy keeps u of it.
 abbrev pub Copies : Source → Bool → Tree → Type 0
 Copies source canonicalize u = HasRoot source × ((t : Tree) × (m : Meter) × Reads (form_of canonicalize) (root_of source) (once_at_root source) m t × (u ≡ kept canonicalize t))
+
+-- The root means such a value, and the words that a copy keeps of it fit behind those of segment id.
+pub record FitsBehind (v : View) (id : ℕ) (source : Source) (canonicalize : Bool) : Type 0 where
+  pub root : HasRoot source
+  pub fits : CanBeCopied canonicalize (root_of source) (once_at_root source) (length (segment v.words id)) (v.room id)
 
 -- The root is reached, and reading what it means is refused by the name k.
 abbrev pub IsUnreadable : Source → Bool → ErrorKind → Type 0

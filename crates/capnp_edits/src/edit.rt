@@ -1,9 +1,8 @@
 //! Edits: changes of a message that is built, as data. Each has a path from the root pointer, and an
 //! operation that is done where the path leads.
-ghost use Rattle.std.specs.Prelude.{◌≡◌, ℕ, true, length, IfErr, Some, None};
-ghost use Rattle.capnp_making.specs.Memory.{HasRoom};
+ghost use Rattle.std.specs.Prelude.{◌≡◌, ℕ, true, length, IfErr, Some};
 ghost use Rattle.capnp_words.specs.declared.error.ErrorKind.TheVariants.{NoSuchPlace};
-ghost use Rattle.capnp_edits.specs.Edits.{refusal_of, words_taken, is_of_place, IsRefusedAs, IsApplied, AreApplied, copied_by, copy_none, IsCounted, AreCounted, refusals_after_all};
+ghost use Rattle.capnp_edits.specs.Edits.{refusal_of, is_of_place, OpFits, IsRefusedAs, IsApplied, AreApplied, copy_none, IsCounted, AreCounted, refusals_after_all};
 
 mod copying;
 mod elements;
@@ -105,7 +104,7 @@ pub fn apply<A: BuilderArena>(arena: &mut A, edit: &Edit<'_>) -> Result<(), Erro
     ensures applied { IsApplied (A.view arena.old).words (A.view arena.new).words edit.now (refusal_of result) }
     ensures counted { IsCounted edit.now.op (refusal_of result) (A.view arena.old).refusals (A.view arena.new).refusals }
     ensures named { IfErr result (IsRefusedAs (A.view arena.old) (A.view arena.new) edit.now.op) }
-    ensures fits { copied_by edit.now.op ≡ None → ((id : ℕ) → HasRoom (A.view arena.old) id (words_taken edit.now.op)) → IfErr result (λ k. is_of_place k ≡ true) }
+    ensures fits { ((id : ℕ) → OpFits (A.view arena.old) id edit.now.op) → IfErr result (λ k. is_of_place k ≡ true) }
     ensures nowhere { refusal_of result ≡ Some NoSuchPlace → A.view arena.new ≡ A.view arena.old }
 {
     if !has_words(&*arena, 0, 1) {

@@ -1,7 +1,8 @@
 //! Edits that copy from another message.
-ghost use Rattle.std.specs.Prelude.{◌≡◌, IfErr};
+ghost use Rattle.std.specs.Prelude.{◌≡◌, IsOk, IfErr};
 ghost use Rattle.capnp_format.specs.Segments.{IsPlace};
 ghost use Rattle.capnp_builders.specs.Building.{built, IsThere};
+ghost use Rattle.capnp_edits.specs.Sources.{FitsBehind};
 ghost use Rattle.capnp_edits.specs.Edits.{refusal_of, place_of, IsCopyCounted, CopiesRoot, IsSourceRefused};
 
 use crate::edit::Source;
@@ -21,6 +22,7 @@ fn copy_root<A: BuilderArena>(
     ensures done { CopiesRoot (A.view pointer.old.arena.now).words (A.view pointer.new.arena.now).words (place_of pointer.old) (source.entry, canonicalize) (refusal_of result) }
     ensures counted { IsCopyCounted (refusal_of result) (A.view pointer.old.arena.now).refusals (A.view pointer.new.arena.now).refusals }
     ensures named { IfErr result (IsSourceRefused (A.view pointer.old.arena.now) (A.view pointer.new.arena.now) source.entry canonicalize) }
+    ensures fits { FitsBehind (A.view pointer.old.arena.now) pointer.old.segment source.entry canonicalize → IsOk result }
     ensures same { pointer.new.arena.ghost_name ≡ pointer.old.arena.ghost_name }
 {
     let mut lim = ReadLimiter::new(source.budget);
@@ -41,6 +43,7 @@ pub(crate) fn edit_source<A: BuilderArena>(
     ensures done { CopiesRoot (A.view arena.old).words (A.view arena.new).words place (source.entry, canonicalize) (refusal_of result) }
     ensures counted { IsCopyCounted (refusal_of result) (A.view arena.old).refusals (A.view arena.new).refusals }
     ensures named { IfErr result (IsSourceRefused (A.view arena.old) (A.view arena.new) source.entry canonicalize) }
+    ensures fits { FitsBehind (A.view arena.old) place.segment source.entry canonicalize → IsOk result }
 {
     let mut pointer = PointerBuilder {
         arena,

@@ -23,3 +23,6 @@ returns-in-Some-Element-clause-nowhere g c = kept_nowhere c.edit_struct.result _
 
 pub returns-in-Some-Element-clause-named : goal.returns-in-Some-Element-clause-named
 returns-in-Some-Element-clause-named g c = refused_there c.edit_struct.result _ _ c.args.edit.now.op (of_place c.edit_struct.result c.edit_struct.ensures.named) c.edit_struct.ensures.kept
+
+pub returns-in-Some-Pointer-clause-fits : goal.returns-in-Some-Pointer-clause-fits
+returns-in-Some-Pointer-clause-fits g c = λ room. c.edit_pointer.ensures.fits (room c.in-Some-Pointer.place.segment)

@@ -1,7 +1,9 @@
-use Rattle.std.proofs.Common.{inl, true, refl, sym, ap, ◌∙◌, subst}
+use Rattle.std.proofs.Common.{◌≡◌, inl, true, refl, sym, ap, ◌∙◌, subst}
 use Rattle.capnp_words.specs.Meter.{Affords, charged}
+use Rattle.capnp_readers.specs.Readers.{reading}
+use Rattle.capnp_edits.specs.Sources.{root_of}
 use Rattle.capnp_edits.specs.Edits.{place_of, root_unread}
-use Rattle.capnp_edits.proofs.Copied.{copy_done, copy_named, copy_counted, unread_counted}
+use Rattle.capnp_edits.proofs.Copied.{copy_done, copy_named, copy_counted, unread_counted, can_be_copied}
 use Rattle.capnp_edits.proofs.edit.copying.copy_root.Goals as goal
 
 pub returns-in-Ok-clause-done : goal.returns-in-Ok-clause-done
@@ -40,3 +42,11 @@ returns-in-Err-clause-counted g c =
 pub returns-in-Err-clause-named : goal.returns-in-Err-clause-named
 returns-in-Err-clause-named g c =
     inl ((λ has. absurd (let e = c.in-Err.ensures.exactly.1 (has.0, subst (λ m. Affords true m 1) (sym c.new-lim.ensures) has.1) in cc), c.in-Err.ensures.outside, c.in-Err.ensures.budget), refl)
+
+pub returns-in-Ok-clause-fits : goal.returns-in-Ok-clause-fits
+returns-in-Ok-clause-fits g c = λ h.
+    (let is_root : reading _ c.in-Ok.root ≡ root_of c.args.source = rw (c.in-Ok.ensures.source, c.in-Ok.ensures.place.0, c.in-Ok.ensures.place.1, c.in-Ok.ensures.nesting) refl in
+    c.copy_from.ensures.fits (can_be_copied c.args.source c.args.canonicalize _ _ _ _ is_root (c.in-Ok.ensures.granted ∙ ap (λ m. charged true m 1) c.new-lim.ensures) h.fits))
+
+pub returns-in-Err-clause-fits : goal.returns-in-Err-clause-fits
+returns-in-Err-clause-fits g c = λ h. absurd (let e = c.in-Err.ensures.exactly.1 (h.root.0, subst (λ m. Affords true m 1) (sym c.new-lim.ensures) h.root.1) in cc)

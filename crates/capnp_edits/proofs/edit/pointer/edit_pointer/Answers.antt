@@ -1,7 +1,7 @@
 use Rattle.std.proofs.Common.{sym, ◌∙◌, refl, ap}
 use Rattle.capnp_arena.specs.View.{View}
-use Rattle.capnp_edits.proofs.Applied.{none_counted, given_at, written_at, no_struct_at, out_of_range, never_nowhere, kept_nowhere, refused_as, refused_there, of_place, never_refused}
-use Rattle.capnp_edits.proofs.Copied.{copied_at, counted_as, copy_refused, copy_nowhere, never_none, exactly_counted}
+use Rattle.capnp_edits.proofs.Applied.{none_counted, refused_as, given_at, written_at, no_struct_at, out_of_range, never_nowhere, kept_nowhere, refused_there, of_place}
+use Rattle.capnp_edits.proofs.Copied.{copied_at, counted_as, copy_refused, copy_nowhere, copy_fits, words_fit, uncopied, exactly_counted}
 use Rattle.capnp_edits.proofs.edit.pointer.edit_pointer.Goals as goal
 
 pub returns-in-Some-clause-done : goal.returns-in-Some-clause-done
@@ -21,11 +21,11 @@ returns-clause-nowhere g c = never_nowhere c.put_at.result _ _ _ c.put_at.ensure
 pub returns-in-Some-clause-named : goal.returns-in-Some-clause-named
 returns-in-Some-clause-named g c = refused_there c.edit_struct.result _ _ c.args.op (of_place c.edit_struct.result c.edit_struct.ensures.named) c.edit_struct.ensures.kept
 
-pub returns-clause-named : goal.returns-clause-named
-returns-clause-named g c = refused_as c.put_at.result _ _ c.args.op c.put_at.ensures.named
-
 pub returns-clause-fits : goal.returns-clause-fits
-returns-clause-fits g c = λ none room. never_refused c.put_at.result (c.put_at.ensures.fits room)
+returns-clause-fits g c = words_fit c.put_at.result _ _ c.args.op (uncopied c.args.op c.in_default.not-CopyFrom) c.put_at.ensures.fits
+
+pub returns-clause-named : goal.returns-clause-named
+returns-clause-named g c = refused_as c.put_at.result _ _ c.args.op (uncopied c.args.op c.in_default.not-CopyFrom) c.put_at.ensures.named
 
 pub returns-in-None-clause-done : goal.returns-in-None-clause-done
 returns-in-None-clause-done g c = no_struct_at _ c.args.place c.args.op (sym c.is_on_field.ensures ∙ c.if-is_on_field.true) c.in-None.ensures.found
@@ -43,7 +43,7 @@ pub returns-in-CopyFrom-clause-named : goal.returns-in-CopyFrom-clause-named
 returns-in-CopyFrom-clause-named g c = copy_refused c.edit_source.result _ _ c.args.op c.in-CopyFrom.source c.in-CopyFrom.canonicalize c.in-CopyFrom.is c.edit_source.ensures.named
 
 pub returns-in-CopyFrom-clause-fits : goal.returns-in-CopyFrom-clause-fits
-returns-in-CopyFrom-clause-fits g c = λ none. absurd (never_none c.args.op c.in-CopyFrom.source c.in-CopyFrom.canonicalize c.in-CopyFrom.is none)
+returns-in-CopyFrom-clause-fits g c = copy_fits c.edit_source.result _ _ c.args.op c.in-CopyFrom.source c.in-CopyFrom.canonicalize c.in-CopyFrom.is c.edit_source.ensures.fits
 
 pub returns-in-CopyFrom-clause-nowhere : goal.returns-in-CopyFrom-clause-nowhere
 returns-in-CopyFrom-clause-nowhere g c = copy_nowhere c.edit_source.result _ _ c.in-CopyFrom.source c.in-CopyFrom.canonicalize c.edit_source.ensures.named
