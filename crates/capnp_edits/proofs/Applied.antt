@@ -25,7 +25,7 @@ use Rattle.capnp_builders.specs.Places.{Field}
 use Rattle.capnp_edits.specs.declared.edit.Edit.{Edit}
 use Rattle.capnp_edits.specs.Paths.{Spot, PointerTo, ElementOf, path_of, found, IsPointerFound, IsElementFound, IsFound}
 use Rattle.capnp_edits.specs.declared.edit.Op.{Op}
-use Rattle.capnp_edits.specs.declared.edit.Op.TheVariants.{InitStruct, InitList, InitStructList, InitText, InitData, SetText, SetData, SetCapability, Clear, SetField, SetBool, SetElement, WriteText, WriteData, GetStruct, GetList, GetStructList, GetText, GetData, CopyFrom}
+use Rattle.capnp_edits.specs.declared.edit.Op.TheVariants.{InitStruct, InitList, InitStructList, InitText, InitData, SetText, SetData, SetCapability, Clear, SetField, SetBool, SetElement, WriteText, WriteData, GetStruct, GetList, GetStructList, GetText, GetData, CopyFrom, SetStruct, SetList}
 use Rattle.capnp_edits.specs.Edits.{refusal_of, field_of, is_field, is_in_range, Making, becomes, denied, with_written, made_at, made, IsOfMemory, takes_memory, words_taken, is_of_place, copied_by, IsCallRefused, IsRefusedAs, GivesAt, Does, DoesAt, Yields, is_done, lacks_memory, is_denied, IsReplacedIf, leads_to, are_written, are_outside, WritesAt, is_put, is_out_of_range, has_none, Takes, leads_nowhere, IsApplied, refusals_after}
 use Rattle.capnp_edits.proofs.Steps.{first, same_some, struct_of}
 use Rattle.capnp_edits.proofs.Walks.{found-append, update-append}
@@ -163,6 +163,8 @@ made_written (GetStructList size default) f t e = absurd (cc)
 made_written (GetText default) f t e = absurd (cc)
 made_written (GetData default) f t e = absurd (cc)
 made_written (CopyFrom source canonicalize) f t e = absurd (cc)
+made_written (SetStruct source canonicalize) f t e = absurd (cc)
+made_written (SetList source canonicalize) f t e = absurd (cc)
 
 -- any other one is for no element
 none_made : (op : Op) (t : Tree) → field_of op ≡ None → made_at op (ElementOf t) ≡ denied NoSuchPlace
@@ -186,6 +188,8 @@ none_made (GetStructList size default) t e = refl
 none_made (GetText default) t e = refl
 none_made (GetData default) t e = refl
 none_made (CopyFrom source canonicalize) t e = refl
+none_made (SetStruct source canonicalize) t e = refl
+none_made (SetList source canonicalize) t e = refl
 
 -- a field that is there, or not
 field_there : (f : Field) (ws : List ℕ) (ts : Trees) → f.start + f.bits ≤ 64 * length ws → with_written f (Struct ws ts) ≡ becomes (Struct (put_field ws f.start f.bits f.value) ts)

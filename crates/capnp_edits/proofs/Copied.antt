@@ -1,73 +1,335 @@
 -- What a copy from another message leaves, and what it is refused for.
-use Rattle.std.proofs.Common.{◌≡◌, inl, inr, ◌⊎◌, ℕ, ◌+◌, Bool, true, false, cond, nat_lt, length, Option, Some, None, Result, Ok, Err, IfOk, IfErr, OnOk, OnErr, refl, sym, ap, ◌∙◌, subst, arith, IsOk}
-use Rattle.std.proofs.lemmas.Bool.{cases_lt}
+use Rattle.std.proofs.Common.{◌≡◌, inl, inr, ◌⊎◌, ℕ, zero, suc, ◌+◌, Bool, true, false, cond, not, ◌&&◌, ◌||◌, nat_eq, nat_lt, length, Option, Some, None, Result, Ok, Err, IfOk, IfErr, OnOk, OnErr, refl, sym, ap, ◌∙◌, subst, arith, IsOk}
+use Rattle.std.proofs.lemmas.Bool.{cases_lt, false≢true}
 use Rattle.capnp_words.specs.Meter.{Meter}
 use Rattle.capnp_words.specs.declared.error.ErrorKind.{ErrorKind}
-use Rattle.capnp_words.specs.declared.error.ErrorKind.TheVariants.{AllocationFailed, InvalidSegmentId, MessageContainsOutOfBoundsPointer, MessageTooLarge, NoSuchPlace, ReadLimitExceeded}
+use Rattle.capnp_words.specs.declared.error.ErrorKind.TheVariants.{AllocationFailed, FoundBitListWhereStructListWasExpected, InvalidSegmentId, MessageContainsListWithIncompatibleElementType, MessageContainsNonListPointerWhereListPointerWasExpected, MessageContainsNonStructPointerWhereStructPointerWasExpected, MessageContainsOutOfBoundsPointer, MessageTooLarge, NoSuchPlace, ReadLimitExceeded}
+use Rattle.capnp_pointers.specs.declared.wire_pointer.ElementSize.TheVariants.{Void}
 use Rattle.capnp_arena.specs.Allocations.{one_more}
 use Rattle.capnp_arena.specs.View.{View}
 use Rattle.capnp_arena.specs.Checks.{misplaced}
-use Rattle.capnp_format.specs.Segments.{Segments, segment}
-use Rattle.capnp_format.specs.Tree.{Null}
+use Rattle.capnp_arena.specs.declared.arena.reader_arena.ReaderArena.{Ghosts}
+use Rattle.capnp_format.specs.Canonical.{word_count}
+use Rattle.capnp_format.specs.Numbers.{element_bits}
+use Rattle.capnp_format.specs.Segments.{Segments, Target, segment, AreWords}
+use Rattle.capnp_format.specs.Word.{kind, element_size}
+use Rattle.capnp_format.specs.Tree.{Tree, Null, Struct, Trees, count}
 use Rattle.capnp_making.specs.Memory.{HasRoom, KeepsMemory, SpendsMemory}
 use Rattle.capnp_making.specs.Stored.{Puts}
+use Rattle.capnp_objects.specs.declared.object.Expected.{Expected}
+use Rattle.capnp_objects.specs.declared.object.Expected.TheVariants.{Struct as ExpectedStruct, List as ExpectedList}
+use Rattle.capnp_objects.specs.Expected.{CanBeGiven, too_deep, another_kind, misfit, narrow_elements, one_level, Withheld, no_level, unfollowed, of_another_kind, stopped, misfits}
+use Rattle.capnp_objects.specs.Outcomes.{Reads, ReadsAll}
 use Rattle.capnp_objects.specs.Reading.{Reading}
-use Rattle.capnp_objects.specs.Outcomes.{Reads}
-use Rattle.capnp_objects.specs.Refusals.{Refused}
+use Rattle.capnp_objects.specs.Refusals.{Refused, here as stops_here, Unfollowed, exceeding, leading_nowhere, pads_exceed, nowhere}
+use Rattle.capnp_objects.specs.Wanted.{plain}
+use Rattle.capnp_objects.proofs.Expecting.{not_withheld}
 use Rattle.capnp_objects.proofs.Limits.{not_for_memory, not_for_place}
+use Rattle.capnp_objects.proofs.Refusals.{unreadable}
+use Rattle.capnp_readers.specs.Calls.{IsRead, without_default, WhereRead, IsAnswered, IsRefused, IsStructRead, IsListRead, GivesList, call}
+use Rattle.capnp_readers.specs.Readers.{reading}
+use Rattle.capnp_readers.specs.Sections.{bytes_for}
+use Rattle.capnp_readers.specs.Sizes.{pointers_read}
+use Rattle.capnp_readers.specs.declared.readers.PointerReader.{PointerReader}
+use Rattle.capnp_readers.specs.declared.readers.struct_reader.StructReader.{StructReader}
+use Rattle.capnp_readers.specs.declared.readers.list_reader.ListReader.{ListReader}
 use Rattle.capnp_readers.specs.declared.readers.PointerPlace.{PointerPlace}
-use Rattle.capnp_copies.specs.Changes.{RefusesValue, change}
-use Rattle.capnp_copies.specs.Copies.{CanBeCopied}
+use Rattle.capnp_copies.specs.Changes.{Change, RefusesValue, change}
 use Rattle.capnp_copies.specs.Forms.{form_of, kept}
-use Rattle.capnp_builders.specs.Kept.{PutsCopy}
+use Rattle.capnp_copies.specs.ListValues.{ListElements, ReadsList, RefusesElements, RefusesList, elements_read}
+use Rattle.capnp_copies.specs.StructValues.{RefusesSections, RefusesStruct, data_of}
+use Rattle.capnp_builders.specs.Kept.{PutsCopy, PutsStruct, PutsList, IsKept}
 use Rattle.capnp_edits.specs.declared.edit.Op.{Op}
-use Rattle.capnp_edits.specs.declared.edit.Op.TheVariants.{CopyFrom}
+use Rattle.capnp_edits.specs.declared.edit.Op.TheVariants.{CopyFrom, SetStruct, SetList}
 use Rattle.capnp_edits.specs.declared.edit.Source.{Source}
+use Rattle.capnp_edits.specs.declared.edit.copying.Copying.{Copying}
+use Rattle.capnp_edits.specs.declared.edit.copying.Wanted.{Wanted}
+use Rattle.capnp_edits.specs.declared.edit.copying.Wanted.TheVariants.{Value, Struct as AStruct, List as AList}
 use Rattle.capnp_edits.specs.Paths.{PointerTo}
-use Rattle.capnp_edits.specs.Sources.{words_in, root_of, once_at_root, HasRoot, IsUnread, FitsBehind}
-use Rattle.capnp_edits.specs.Edits.{refusal_of, made, copied_by, IsSourceRefused, IsCallRefused, CallFits, OpFits, words_taken, is_of_place, IsRefusedAs, IsCopyCounted, IsCounted, refusals_after, CopiesRoot, root_copied, root_not_copied, root_unread, Does, is_copied, is_not_copied, is_unread}
+use Rattle.capnp_edits.specs.Sources.{words_in, root_of, once_at_root, as_wanted, HasRoot, CanBeCopiedAs, IsRootless, IsWithheld, IsUnread, FitsBehind, Sections, LeadsToStruct, LeadsToList, RefusesAs, CopiedOrRefused}
+use Rattle.capnp_edits.specs.Edits.{refusal_of, made, copies, copied_by, IsOfMemory, IsSourceRefused, IsCallRefused, CallFits, OpFits, words_taken, is_of_place, IsRefusedAs, IsCopyCounted, IsCounted, refusals_after, CopiesRoot, root_copied, root_not_copied, root_unread, Does, is_copied, is_not_copied, is_unread}
 use Rattle.capnp_edits.proofs.Applied.{of_allocation, of_no_place, never_refused}
+use Rattle.capnp_edits.proofs.CopiedStruct.{struct_at, struct_reads, struct_refused, struct_counted, struct_given, struct_fits}
+use Rattle.capnp_edits.proofs.CopiedList.{list_at, list_reads, list_refused, list_counted, list_given, list_small, list_fits}
 use Rattle.capnp_edits.proofs.Steps.{same_some}
 
--- the copy of a root that was reached
-pub copy_done : {A : Type 0} (result : Result A ErrorKind) (source : Source) (b : Bool) (r : Reading) (m m' : Meter) (old new : View) (place : PointerPlace) → r ≡ root_of source → m ≡ once_at_root source → HasRoot source →
-    IfOk result (λ x. PutsCopy r (change b place.segment place.word old new m m')) → IfErr result (RefusesValue r (change b place.segment place.word old new m m')) → OnErr result (Puts old.words new.words place.segment place.word Null) →
-    CopiesRoot old.words new.words place (source, b) (refusal_of result)
-copy_done (Ok x) source b r m m' old new place is_r is_m has (t, reads, puts) why cleared =
-    root_copied (kept b t) (has, (t, m', subst (λ y. Reads (form_of b) (root_of source) y m' t) is_m (subst (λ y. Reads (form_of b) y m m' t) is_r reads), refl)) refl puts
-copy_done (Err k) source b r m m' old new place is_r is_m has copied why cleared = elim why [
-  | inl room ↦ root_not_copied k (inl (of_allocation old new (length new.words) (room.0 + 1) k room.1.0)) refl cleared
-  | inr refused ↦ root_not_copied k (inr (has, (m', subst (λ y. Refused (form_of b) (root_of source) y m' k) is_m (subst (λ y. Refused (form_of b) y m m' k) is_r refused)))) refl cleared
+-- What a copy leaves that is done.
+abbrev IsDone : Copying → Meter → Segments → Segments → PointerPlace → Type 0
+IsDone c after S R place =
+    (t : Tree) × (w : Tree) × Reads (form_of c.canonicalize) (root_of c.source) (once_at_root c.source) after t × (as_wanted c.wanted t ≡ Some w)
+    × Puts S R place.segment place.word (kept c.canonicalize w)
+
+abbrev KeepsSections : Sections → Change → Type 0
+KeepsSections s c = (ts : Trees) × (count ts ≡ s.pointers) × ReadsAll (form_of c.canonicalize) s.first c.before c.after ts × IsKept c (Struct s.words ts)
+
+abbrev KeepsList : ListElements → Change → Type 0
+KeepsList l c = (t : Tree) × ReadsList (form_of c.canonicalize) l c.before c.after t × IsKept c t
+
+-- A copy is refused for want of memory, or its value can't be read; it is counted where it is the allocator's; and never for a place.
+
+value_refused : (b : Bool) (id at : ℕ) (old new : View) (r : Reading) (m m' : Meter) (k : ErrorKind) → RefusesValue r (change b id at old new m m') k → IsOfMemory k ⊎ Refused (form_of b) r m m' k
+value_refused b id at old new r m m' k (inl (n, (refuses, none), wanted, large)) = inl (of_allocation old new (length new.words) (n + 1) k refuses)
+value_refused b id at old new r m m' k (inr refused) = inr refused
+
+value_counted : (b : Bool) (id at : ℕ) (old new : View) (r : Reading) (m m' : Meter) (k : ErrorKind) → RefusesValue r (change b id at old new m m') k → k ≡ AllocationFailed → new.refusals ≡ one_more old.refusals
+value_counted b id at old new r m m' k (inl (n, (refuses, none), wanted, large)) e = elim refuses [
+  | inl h ↦ h.3
+  | inr (inl h) ↦ absurd (let f : AllocationFailed ≡ MessageTooLarge (n + 1) = sym e ∙ h.0 in cc)
+  | inr (inr h) ↦ absurd (let f : AllocationFailed ≡ MessageTooLarge _ = sym e ∙ h.0 in cc)
+]
+value_counted b id at old new r m m' k (inr refused) e = absurd (not_for_memory (subst (λ y. Refused (form_of b) r m m' y) e refused))
+
+copy_refused_as : (w : Wanted) (b : Bool) (id at : ℕ) (old new : View) (r : Reading) (m m' : Meter) (k : ErrorKind) → RefusesAs w r (change b id at old new m m') k → IsOfMemory k ⊎ Refused (form_of b) r m m' k
+copy_refused_as Value b id at old new r m m' k refuses = value_refused b id at old new r m m' k refuses
+copy_refused_as AStruct b id at old new r m m' k (s, leads, refuses) = struct_refused b id at old new r m m' s k leads refuses
+copy_refused_as AList b id at old new r m m' k (l, n, leads, refuses) = list_refused b id at old new r m n m' l k leads refuses
+
+copy_counted_as : (w : Wanted) (b : Bool) (id at : ℕ) (old new : View) (r : Reading) (m m' : Meter) (k : ErrorKind) → RefusesAs w r (change b id at old new m m') k → k ≡ AllocationFailed → new.refusals ≡ one_more old.refusals
+copy_counted_as Value b id at old new r m m' k refuses = value_counted b id at old new r m m' k refuses
+copy_counted_as AStruct b id at old new r m m' k (s, leads, refuses) = struct_counted b id at old new s.limiter m' s k refuses
+copy_counted_as AList b id at old new r m m' k (l, n, leads, refuses) = list_counted b id at old new n m' l k refuses
+
+copy_nowhere_as : (w : Wanted) (b : Bool) (id at : ℕ) (old new : View) (r : Reading) (m m' : Meter) (k : ErrorKind) → RefusesAs w r (change b id at old new m m') k → k ≡ NoSuchPlace → ⊥
+copy_nowhere_as w b id at old new r m m' k refuses e = elim (copy_refused_as w b id at old new r m m' k refuses) [
+  | inl memory ↦ of_no_place k memory e
+  | inr refused ↦ not_for_place (subst (λ y. Refused (form_of b) r m m' y) e refused)
 ]
 
-pub copy_named : {A : Type 0} (result : Result A ErrorKind) (source : Source) (b : Bool) (r : Reading) (m m' : Meter) (old new : View) (place : PointerPlace) → r ≡ root_of source → m ≡ once_at_root source →
-    IfErr result (RefusesValue r (change b place.segment place.word old new m m')) → IfErr result (IsSourceRefused old new source b)
-copy_named (Ok x) source b r m m' old new place is_r is_m why = tt
-copy_named (Err k) source b r m m' old new place is_r is_m why =
-    inr (place, m', subst (λ y. RefusesValue (root_of source) (change b place.segment place.word old new y m') k) is_m (subst (λ y. RefusesValue y (change b place.segment place.word old new m m') k) is_r why))
+copy_fits_as : (w : Wanted) (c : Copying) (id at : ℕ) (old new : View) (r : Reading) (m m' : Meter) (k : ErrorKind) → c.wanted ≡ w → (c.wanted ≡ AList → AreWords r.segments) →
+    CanBeCopiedAs c r m (length (segment old.words id)) (old.room id) → RefusesAs w r (change c.canonicalize id at old new m m') k → ⊥
+copy_fits_as Value c id at old new r m m' k is small can (inl (n, why, wanted, large)) =
+    let same : can.value ≡ can.copied = same_some can.value can.copied (subst (λ w. as_wanted w can.value ≡ Some can.copied) is can.is_wanted) in
+    omega (arith, can.fits, large can.value can.cost can.means, ap (λ t. word_count (kept c.canonicalize t)) same)
+copy_fits_as Value c id at old new r m m' k is small can (inr refused) = (unreadable refused).only can.value can.cost can.means can.takes can.covers
+copy_fits_as AStruct c id at old new r m m' k is small can (s, leads, refuses) = struct_fits c r m m' s id at old new k is leads can refuses
+copy_fits_as AList c id at old new r m m' k is small can (l, n, leads, refuses) = list_fits c r m n m' l id at old new k is leads (list_small r m n l (small is) leads) can refuses
 
-pub copy_counted : {A : Type 0} (result : Result A ErrorKind) (b : Bool) (r : Reading) (m m' : Meter) (old new : View) (place : PointerPlace) → OnOk result (KeepsMemory old new) →
-    IfErr result (RefusesValue r (change b place.segment place.word old new m m')) → OnErr result (SpendsMemory old new) → IsCopyCounted (refusal_of result) old.refusals new.refusals
-copy_counted (Ok x) b r m m' old new place keeps why spends = (λ e. ap (λ (v : View). v.refusals) keeps.0, λ e. absurd (cc), inl (ap (λ (v : View). v.refusals) keeps.0))
-copy_counted (Err k) b r m m' old new place keeps why spends = (λ e. absurd (cc), λ e. failed (same_some k AllocationFailed e), spends.2)
+-- A copy that was tried: what it leaves where result is Ok, and why it is refused where it isn't.
+pub record Tried {A : Type 0} (result : Result A ErrorKind) (c : Copying) (old new : View) (place : PointerPlace) : Type 0 where
+  pub root : HasRoot c.source
+  pub after : Meter
+  pub done : IfOk result (λ x. IsDone c after old.words new.words place)
+  pub refused : IfErr result (RefusesAs c.wanted (root_of c.source) (change c.canonicalize place.segment place.word old new (once_at_root c.source) after))
+
+pub tried_done : {A : Type 0} (result : Result A ErrorKind) (c : Copying) (old new : View) (place : PointerPlace) → Tried result c old new place → OnErr result (Puts old.words new.words place.segment place.word Null) →
+    CopiesRoot old.words new.words place c (refusal_of result)
+tried_done (Ok x) c old new place tried cleared =
+    let (t, w, reads, is, puts) = tried.done in
+    root_copied (kept c.canonicalize w) (record { root = tried.root; value = t; after = tried.after; is_read = reads; copied = w; is_wanted = is; is_kept = refl }) refl puts
+tried_done (Err k) c old new place tried cleared =
+    root_not_copied k (elim (copy_refused_as c.wanted c.canonicalize place.segment place.word old new (root_of c.source) (once_at_root c.source) tried.after k tried.refused) [
+      | inl memory ↦ inl memory
+      | inr refused ↦ inr (tried.root, (tried.after, refused))
+    ]) refl cleared
+
+pub tried_counted : {A : Type 0} (result : Result A ErrorKind) (c : Copying) (old new : View) (place : PointerPlace) → Tried result c old new place → OnOk result (KeepsMemory old new) → OnErr result (SpendsMemory old new) →
+    IsCopyCounted (refusal_of result) old.refusals new.refusals
+tried_counted (Ok x) c old new place tried keeps spends = (λ e. ap (λ (v : View). v.refusals) keeps.0, λ e. absurd (cc), inl (ap (λ (v : View). v.refusals) keeps.0))
+tried_counted (Err k) c old new place tried keeps spends =
+    (λ e. absurd (cc), λ e. copy_counted_as c.wanted c.canonicalize place.segment place.word old new (root_of c.source) (once_at_root c.source) tried.after k tried.refused (same_some k AllocationFailed e), spends.2)
+
+pub tried_named : {A : Type 0} (result : Result A ErrorKind) (c : Copying) (old new : View) (place : PointerPlace) → Tried result c old new place → IfErr result (IsSourceRefused old new c)
+tried_named (Ok x) c old new place tried = tt
+tried_named (Err k) c old new place tried = inr (place, tried.after, tried.refused)
+
+pub tried_fits : {A : Type 0} (result : Result A ErrorKind) (c : Copying) (old new : View) (place : PointerPlace) → Tried result c old new place → FitsBehind old place.segment c → IsOk result
+tried_fits (Ok x) c old new place tried fits = refl
+tried_fits (Err k) c old new place tried fits = absurd (copy_fits_as c.wanted c place.segment place.word old new (root_of c.source) (once_at_root c.source) tried.after k refl fits.words fits.fits tried.refused)
+
+-- of what the root means
+pub value_tried : {A : Type 0} (result : Result A ErrorKind) (c : Copying) (r : Reading) (m m' : Meter) (old new : View) (place : PointerPlace) → c.wanted ≡ Value → r ≡ root_of c.source → m ≡ once_at_root c.source → HasRoot c.source →
+    IfOk result (λ x. PutsCopy r (change c.canonicalize place.segment place.word old new m m')) → IfErr result (RefusesValue r (change c.canonicalize place.segment place.word old new m m')) → Tried result c old new place
+value_tried result c r m m' old new place is is_r is_m has done refused = record { root = has; after = m'; done = good result done; refused = bad result refused }
   where
-    failed : k ≡ AllocationFailed → new.refusals ≡ one_more old.refusals
-    failed e = elim why [
-      | inl (n, (refuses, none), wanted, large) ↦ elim refuses [
-        | inl h ↦ h.3
-        | inr (inl h) ↦ absurd (let f : AllocationFailed ≡ MessageTooLarge (n + 1) = sym e ∙ h.0 in cc)
-        | inr (inr h) ↦ absurd (let f : AllocationFailed ≡ MessageTooLarge _ = sym e ∙ h.0 in cc)
-      ]
-      | inr refused ↦ absurd (not_for_memory (subst (λ y. Refused (form_of b) r m m' y) e refused))
-    ]
+    good : {A : Type 0} (q : Result A ErrorKind) → IfOk q (λ x. PutsCopy r (change c.canonicalize place.segment place.word old new m m')) → IfOk q (λ x. IsDone c m' old.words new.words place)
+    good (Ok x) (t, reads, puts) =
+        (t, t, subst (λ y. Reads (form_of c.canonicalize) (root_of c.source) y m' t) is_m (subst (λ y. Reads (form_of c.canonicalize) y m m' t) is_r reads), ap (λ w. as_wanted w t) is, puts)
+    good (Err k) h = tt
 
--- the names by which a root isn't reached
+    bad : {A : Type 0} (q : Result A ErrorKind) → IfErr q (RefusesValue r (change c.canonicalize place.segment place.word old new m m')) →
+        IfErr q (RefusesAs c.wanted (root_of c.source) (change c.canonicalize place.segment place.word old new (once_at_root c.source) m'))
+    bad (Ok x) h = tt
+    bad (Err k) h =
+        subst (λ w. RefusesAs w (root_of c.source) (change c.canonicalize place.segment place.word old new (once_at_root c.source) m') k) (sym is)
+        (subst (λ y. RefusesValue (root_of c.source) (change c.canonicalize place.segment place.word old new y m') k) is_m (subst (λ y. RefusesValue y (change c.canonicalize place.segment place.word old new m m') k) is_r h))
+
+-- of the struct that it leads to
+struct_tried : {A : Type 0} (result : Result A ErrorKind) (c : Copying) (s : Sections) (m' : Meter) (old new : View) (place : PointerPlace) → c.wanted ≡ AStruct → HasRoot c.source → LeadsToStruct (root_of c.source) (once_at_root c.source) s →
+    IfOk result (λ x. KeepsSections s (change c.canonicalize place.segment place.word old new s.limiter m')) →
+    IfErr result (RefusesSections s.words s.first s.pointers (change c.canonicalize place.segment place.word old new s.limiter m')) → Tried result c old new place
+struct_tried result c s m' old new place is has leads done refused = record { root = has; after = m'; done = good result done; refused = bad result refused }
+  where
+    good : {A : Type 0} (q : Result A ErrorKind) → IfOk q (λ x. KeepsSections s (change c.canonicalize place.segment place.word old new s.limiter m')) → IfOk q (λ x. IsDone c m' old.words new.words place)
+    good (Ok x) (ts, counts, all, puts) =
+        let (t, reads, wanted) = struct_reads (form_of c.canonicalize) (root_of c.source) (once_at_root c.source) m' s ts leads counts all in
+        (t, Struct s.words ts, reads, ap (λ w. as_wanted w t) is ∙ wanted, puts)
+    good (Err k) h = tt
+
+    bad : {A : Type 0} (q : Result A ErrorKind) → IfErr q (RefusesSections s.words s.first s.pointers (change c.canonicalize place.segment place.word old new s.limiter m')) →
+        IfErr q (RefusesAs c.wanted (root_of c.source) (change c.canonicalize place.segment place.word old new (once_at_root c.source) m'))
+    bad (Ok x) h = tt
+    bad (Err k) h = subst (λ w. RefusesAs w (root_of c.source) (change c.canonicalize place.segment place.word old new (once_at_root c.source) m') k) (sym is) (s, leads, h)
+
+-- of the list
+list_tried : {A : Type 0} (result : Result A ErrorKind) (c : Copying) (l : ListElements) (m m' : Meter) (old new : View) (place : PointerPlace) → c.wanted ≡ AList → HasRoot c.source →
+    LeadsToList (root_of c.source) (once_at_root c.source) m l → IfOk result (λ x. KeepsList l (change c.canonicalize place.segment place.word old new m m')) →
+    IfErr result (RefusesElements l (change c.canonicalize place.segment place.word old new m m')) → Tried result c old new place
+list_tried result c l m m' old new place is has leads done refused = record { root = has; after = m'; done = good result done; refused = bad result refused }
+  where
+    good : {A : Type 0} (q : Result A ErrorKind) → IfOk q (λ x. KeepsList l (change c.canonicalize place.segment place.word old new m m')) → IfOk q (λ x. IsDone c m' old.words new.words place)
+    good (Ok x) (t, all, puts) =
+        let (u, reads, wanted) = list_reads (form_of c.canonicalize) (root_of c.source) (once_at_root c.source) m m' l t leads all in
+        (u, t, reads, ap (λ w. as_wanted w u) is ∙ wanted, puts)
+    good (Err k) h = tt
+
+    bad : {A : Type 0} (q : Result A ErrorKind) → IfErr q (RefusesElements l (change c.canonicalize place.segment place.word old new m m')) →
+        IfErr q (RefusesAs c.wanted (root_of c.source) (change c.canonicalize place.segment place.word old new (once_at_root c.source) m'))
+    bad (Ok x) h = tt
+    bad (Err k) h = subst (λ w. RefusesAs w (root_of c.source) (change c.canonicalize place.segment place.word old new (once_at_root c.source) m') k) (sym is) (l, m, leads, h)
+
+-- A call without a default reads the pointer itself.
+own_pointer : {A : Type 0} (g : Ghosts A) (expected : Expected) (from p : PointerReader A g) → IsRead g expected from p None → p ≡ from
+own_pointer g expected from p (without_default e) = e
+
+where_read : {A : Type 0} (g : Ghosts A) (expected : Expected) (from : PointerReader A g) (P : PointerReader A g → Type 0) → WhereRead g (call g from expected None) P → P from
+where_read g expected from P (p, is, h) = subst P (own_pointer g expected from p is) h
+
+answered : {A : Type 0} (g : Ghosts A) (expected : Expected) (from : PointerReader A g) (m : Meter) → CanBeGiven expected (reading g from) m → IsAnswered g (call g from expected None) m
+answered g expected from m given = (from, without_default refl, given)
+
+withheld_at : {A : Type 0} (g : Ghosts A) (expected : Expected) (from : PointerReader A g) (m m' : Meter) (k : ErrorKind) → IsRefused g (call g from expected None) m m' k → Withheld expected (reading g from) m m' k
+withheld_at g expected from m m' k (inl (unread, same)) = elim unread [ ]
+withheld_at g expected from m m' k (inr h) = where_read g expected from (λ p. Withheld expected (reading g p) m m' k) h
+
+-- The calls on a root's reader.
+pub record AtRoot {A : Type 0} (g : Ghosts A) (source : Source) (from : PointerReader A g) (m : Meter) : Type 0 where
+  pub root : HasRoot source
+  pub reads : reading g from ≡ root_of source
+  pub once : m ≡ once_at_root source
+
+pub struct_copied : {A B : Type 0} (result : Result B ErrorKind) (c : Copying) (g : Ghosts A) (from : PointerReader A g) (v : StructReader A g) (m n m' : Meter) (old new : View) (place : PointerPlace) → c.wanted ≡ AStruct → AtRoot g c.source from m →
+    length v.content.now ≡ bytes_for v.bits → WhereRead g (call g from ExpectedStruct None) (λ p. IsStructRead g p m n v) → IfOk result (λ x. PutsStruct g v (change c.canonicalize place.segment place.word old new n m')) →
+    IfErr result (RefusesStruct g v (change c.canonicalize place.segment place.word old new n m')) → Tried result c old new place
+struct_copied result c g from v m n m' old new place is here long read done refused =
+    let s : Sections = record { words = data_of g v; first = pointers_read g v; pointers = v.pointer_count; limiter = n } in
+    let leads : LeadsToStruct (reading g from) m s = struct_at g from m n v long (where_read g ExpectedStruct from (λ p. IsStructRead g p m n v) read) in
+    struct_tried result c s m' old new place is here.root (subst (λ y. LeadsToStruct (root_of c.source) y s) here.once (subst (λ r. LeadsToStruct r m s) here.reads leads)) done refused
+
+pub list_copied : {A B : Type 0} (result : Result B ErrorKind) (c : Copying) (g : Ghosts A) (from : PointerReader A g) (v : ListReader A g) (m n m' : Meter) (old new : View) (place : PointerPlace) → c.wanted ≡ AList → AtRoot g c.source from m →
+    GivesList g Void (call g from (ExpectedList Void) None) m n v → IfOk result (λ x. PutsList g v (change c.canonicalize place.segment place.word old new n m')) →
+    IfErr result (RefusesList g v (change c.canonicalize place.segment place.word old new n m')) → Tried result c old new place
+list_copied result c g from v m n m' old new place is here read done refused =
+    let l : ListElements = elements_read g v in
+    let leads : LeadsToList (reading g from) m n l = list_at g from m n v (where_read g (ExpectedList Void) from (λ p. IsListRead g Void p m n v) read) in
+    list_tried result c l n m' old new place is here.root (subst (λ y. LeadsToList (root_of c.source) y n l) here.once (subst (λ r. LeadsToList r m n l) here.reads leads)) done refused
+
+unread_as : {A : Type 0} (g : Ghosts A) (c : Copying) (expected : Expected) (from : PointerReader A g) (m m' : Meter) (k : ErrorKind) → ((r : Reading) (i j : Meter) → Withheld expected r i j k → IsWithheld c.wanted r i j k) → AtRoot g c.source from m →
+    IsRefused g (call g from expected None) m m' k → IsUnread c k
+unread_as g c expected from m m' k wanted here refused =
+    let h = wanted (reading g from) m m' (withheld_at g expected from m m' k refused) in
+    inr (here.root, (m', subst (λ y. IsWithheld c.wanted (root_of c.source) y m' k) here.once (subst (λ r. IsWithheld c.wanted r m m' k) here.reads h)))
+
+pub struct_unread : {A : Type 0} (g : Ghosts A) (c : Copying) (from : PointerReader A g) (m m' : Meter) (k : ErrorKind) → c.wanted ≡ AStruct → AtRoot g c.source from m → IsRefused g (call g from ExpectedStruct None) m m' k → IsUnread c k
+struct_unread g c from m m' k is here refused = unread_as g c ExpectedStruct from m m' k (λ r i j h. subst (λ w. IsWithheld w r i j k) (sym is) h) here refused
+
+pub list_unread : {A : Type 0} (g : Ghosts A) (c : Copying) (from : PointerReader A g) (m m' : Meter) (k : ErrorKind) → c.wanted ≡ AList → AtRoot g c.source from m → IsRefused g (call g from (ExpectedList Void) None) m m' k → IsUnread c k
+list_unread g c from m m' k is here refused = unread_as g c (ExpectedList Void) from m m' k (λ r i j h. subst (λ w. IsWithheld w r i j k) (sym is) h) here refused
+
+pub struct_found : {A : Type 0} (g : Ghosts A) (c : Copying) (from : PointerReader A g) (m : Meter) (v : View) (id : ℕ) → c.wanted ≡ AStruct → AtRoot g c.source from m → FitsBehind v id c → IsAnswered g (call g from ExpectedStruct None) m
+struct_found g c from m v id is here fits =
+    let given = struct_given c (root_of c.source) (once_at_root c.source) (length (segment v.words id)) (v.room id) is fits.fits in
+    answered g ExpectedStruct from m (subst (λ y. CanBeGiven ExpectedStruct (reading g from) y) (sym here.once) (subst (λ r. CanBeGiven ExpectedStruct r (once_at_root c.source)) (sym here.reads) given))
+
+pub list_found : {A : Type 0} (g : Ghosts A) (c : Copying) (from : PointerReader A g) (m : Meter) (v : View) (id : ℕ) → c.wanted ≡ AList → AtRoot g c.source from m → FitsBehind v id c → IsAnswered g (call g from (ExpectedList Void) None) m
+list_found g c from m v id is here fits =
+    let given = list_given c (root_of c.source) (once_at_root c.source) (length (segment v.words id)) (v.room id) is fits.fits in
+    answered g (ExpectedList Void) from m (subst (λ y. CanBeGiven (ExpectedList Void) (reading g from) y) (sym here.once) (subst (λ r. CanBeGiven (ExpectedList Void) r (once_at_root c.source)) (sym here.reads) given))
+
+-- The names by which a source isn't read: none of them is a call's own.
+abbrev is_of_call : ErrorKind → Bool
+is_of_call AllocationFailed = true
+is_of_call NoSuchPlace = true
+is_of_call k = false
+
+abbrev IsOther : Option ErrorKind → Type 0
+IsOther None = Unit {0}
+IsOther (Some k) = is_of_call k ≡ false
+
+other_of : (b : Bool) (x y : Option ErrorKind) → IsOther x → IsOther y → IsOther (cond b x y)
+other_of true x y h g = h
+other_of false x y h g = g
+
+other_name : (k : ErrorKind) → (k ≡ AllocationFailed → ⊥) → (k ≡ NoSuchPlace → ⊥) → is_of_call k ≡ false
+other_name AllocationFailed h g = absurd (h refl)
+other_name NoSuchPlace h g = absurd (g refl)
+other_name k h g = refl
+
+other_refused : (r : Reading) (m m' : Meter) (k : ErrorKind) → Refused plain r m m' k → is_of_call k ≡ false
+other_refused r m m' k refused = other_name k (λ e. not_for_memory (subst (λ y. Refused plain r m m' y) e refused)) (λ e. not_for_place (subst (λ y. Refused plain r m m' y) e refused))
+
+other_unfollowed : (r : Reading) (m m' : Meter) (k : ErrorKind) → Unfollowed r m m' k → is_of_call k ≡ false
+other_unfollowed r m m' k (exceeding some over paid named) = other_refused r m m' k (stops_here (pads_exceed some over paid named))
+other_unfollowed r m m' k (leading_nowhere some follows paid) = other_refused r m m' k (stops_here (nowhere some follows paid))
+
+other_deep : (expected : Expected) (n : ℕ) → IsOther (too_deep expected n)
+other_deep ExpectedStruct zero = refl
+other_deep ExpectedStruct (suc n) = tt
+other_deep (ExpectedList size) zero = refl
+other_deep (ExpectedList size) (suc n) = tt
+other_deep expected n = tt
+
+other_withheld : (expected : Expected) (r : Reading) (m m' : Meter) (k : ErrorKind) → ((w : ℕ) → IsOther (another_kind expected w)) → ((S : Segments) (a : Target) → IsOther (misfit expected S a)) → Withheld expected r m m' k → is_of_call k ≡ false
+other_withheld expected r m m' k kinds fits (no_level some deep same) = subst IsOther deep (other_deep expected r.levels)
+other_withheld expected r m m' k kinds fits (unfollowed level h) = other_unfollowed r m m' k h
+other_withheld expected r m m' k kinds fits (of_another_kind a level follows other paid) = subst IsOther other (kinds a.word)
+other_withheld expected r m m' k kinds fits (stopped level kind h) = other_refused (one_level r) m m' k (stops_here h)
+other_withheld expected r m m' k kinds fits (misfits a level kind o other) = subst IsOther other (fits r.segments a)
+
+other_kind : (w : ℕ) → IsOther (another_kind ExpectedStruct w)
+other_kind w = other_of (nat_eq (kind w) 0) None (Some MessageContainsNonStructPointerWhereStructPointerWasExpected) tt refl
+
+other_list : (w : ℕ) → IsOther (another_kind (ExpectedList Void) w)
+other_list w = other_of (nat_eq (kind w) 1) None (Some MessageContainsNonListPointerWhereListPointerWasExpected) tt refl
+
+other_narrow : (n : ℕ) → IsOther (narrow_elements Void n)
+other_narrow n =
+    other_of (nat_eq n 1 && true) (Some FoundBitListWhereStructListWasExpected) _ refl (other_of (nat_lt (element_bits n) 0 || false && not (nat_eq n 6)) (Some MessageContainsListWithIncompatibleElementType) None refl tt)
+
+other_unwanted : (w : Wanted) (r : Reading) (m m' : Meter) (k : ErrorKind) → IsWithheld w r m m' k → is_of_call k ≡ false
+other_unwanted Value r m m' k h = absurd h
+other_unwanted AStruct r m m' k h = other_withheld ExpectedStruct r m m' k other_kind (λ S a. tt) h
+other_unwanted AList r m m' k h =
+    other_withheld (ExpectedList Void) r m m' k other_list (λ S a. other_of (nat_eq (element_size a.word) 7) None (narrow_elements Void (element_size a.word)) tt (other_narrow (element_size a.word))) h
+
+-- what can be copied is neither unread nor unreadable
+wanted_there : (w : Wanted) (c : Copying) (r : Reading) (m m' : Meter) (used room : ℕ) (k : ErrorKind) → c.wanted ≡ w → CanBeCopiedAs c r m used room → IsWithheld w r m m' k → ⊥
+wanted_there Value c r m m' used room k is can h = h
+wanted_there AStruct c r m m' used room k is can h = not_withheld ExpectedStruct r m m' k (struct_given c r m used room is can) h
+wanted_there AList c r m m' used room k is can h = not_withheld (ExpectedList Void) r m m' k (list_given c r m used room is can) h
+
+pub copied_or_refused : CopiedOrRefused
+copied_or_refused c u k good (inl (inl rootless)) = rootless.0 good.root
+copied_or_refused c u k good (inl (inr (has, (m, withheld)))) =
+    let x = good.is_read in
+    let n : ℕ = word_count (kept c.canonicalize good.copied) in
+    let can : CanBeCopiedAs c (root_of c.source) (once_at_root c.source) 0 n = record {
+      value = good.value;
+      cost = x.cost;
+      means = x.means;
+      takes = x.takes;
+      covers = x.covers;
+      copied = good.copied;
+      is_wanted = good.is_wanted;
+      fits = omega arith;
+    } in wanted_there c.wanted c (root_of c.source) (once_at_root c.source) m 0 n k refl can withheld
+copied_or_refused c u k good (inr (has, (m, refused))) = let x = good.is_read in (unreadable refused).only good.value x.cost x.means x.takes x.covers
+
 misplaced_named : (x : Bool) (absent : ErrorKind) → (cond x MessageContainsOutOfBoundsPointer absent ≡ MessageContainsOutOfBoundsPointer) ⊎ (cond x MessageContainsOutOfBoundsPointer absent ≡ absent)
 misplaced_named true absent = inl refl
 misplaced_named false absent = inr refl
 
-unread_named : (source : Source) (k : ErrorKind) → IsUnread source k → (k ≡ ReadLimitExceeded) ⊎ (k ≡ MessageContainsOutOfBoundsPointer) ⊎ (k ≡ InvalidSegmentId 0)
-unread_named source k (none, outside, budget) =
+rootless_named : (source : Source) (k : ErrorKind) → IsRootless source k → (k ≡ ReadLimitExceeded) ⊎ (k ≡ MessageContainsOutOfBoundsPointer) ⊎ (k ≡ InvalidSegmentId 0)
+rootless_named source k (none, outside, budget) =
     let S : Segments = words_in source in
     elim (cases_lt 0 (length S)) [
       | inl l ↦ elim (cases_lt 0 (length (segment S 0))) [
@@ -80,59 +342,53 @@ unread_named source k (none, outside, budget) =
     by_name : k ≡ misplaced (words_in source) 0 (InvalidSegmentId 0) → (k ≡ ReadLimitExceeded) ⊎ (k ≡ MessageContainsOutOfBoundsPointer) ⊎ (k ≡ InvalidSegmentId 0)
     by_name e = elim (misplaced_named (nat_lt 0 (length (words_in source))) (InvalidSegmentId 0)) [ inl f ↦ inr (inl (e ∙ f)) | inr f ↦ inr (inr (e ∙ f)) ]
 
-pub unread_counted : (source : Source) (k : ErrorKind) (n : ℕ) → IsUnread source k → IsCopyCounted (Some k) n n
-unread_counted source k n unread = (λ e. refl, λ e. absurd (never (same_some k AllocationFailed e)), inl refl)
-  where
-    never : k ≡ AllocationFailed → ⊥
-    never e = elim (unread_named source k unread) [ inl f ↦ cc | inr (inl f) ↦ cc | inr (inr f) ↦ cc ]
+other_rootless : (k : ErrorKind) → (k ≡ ReadLimitExceeded) ⊎ (k ≡ MessageContainsOutOfBoundsPointer) ⊎ (k ≡ InvalidSegmentId 0) → is_of_call k ≡ false
+other_rootless k (inl e) = ap is_of_call e
+other_rootless k (inr (inl e)) = ap is_of_call e
+other_rootless k (inr (inr e)) = ap is_of_call e
+
+other_unread : (c : Copying) (k : ErrorKind) → IsUnread c k → is_of_call k ≡ false
+other_unread c k (inl rootless) = other_rootless k (rootless_named c.source k rootless)
+other_unread c k (inr (has, (m, withheld))) = other_unwanted c.wanted (root_of c.source) (once_at_root c.source) m k withheld
+
+pub unread_counted : (c : Copying) (k : ErrorKind) (n : ℕ) → IsUnread c k → IsCopyCounted (Some k) n n
+unread_counted c k n unread = (λ e. refl, λ e. absurd (false≢true (sym (other_unread c k unread) ∙ ap is_of_call (same_some k AllocationFailed e))), inl refl)
 
 -- a copy is never refused for a place
-pub copy_nowhere : {A : Type 0} (result : Result A ErrorKind) (old new : View) (source : Source) (b : Bool) → IfErr result (IsSourceRefused old new source b) → refusal_of result ≡ Some NoSuchPlace → new ≡ old
-copy_nowhere (Ok x) old new source b why e = absurd (cc)
-copy_nowhere (Err k) old new source b why e = elim why [
+pub copy_nowhere : {A : Type 0} (result : Result A ErrorKind) (old new : View) (c : Copying) → IfErr result (IsSourceRefused old new c) → refusal_of result ≡ Some NoSuchPlace → new ≡ old
+copy_nowhere (Ok x) old new c why e = absurd (cc)
+copy_nowhere (Err k) old new c why e = elim why [
   | inl h ↦ h.1
-  | inr (place, m, refuses) ↦ absurd (never place m refuses (same_some k NoSuchPlace e))
+  | inr (place, m, refuses) ↦ absurd (copy_nowhere_as c.wanted c.canonicalize place.segment place.word old new (root_of c.source) (once_at_root c.source) m k refuses (same_some k NoSuchPlace e))
 ]
-  where
-    never : (place : PointerPlace) (m : Meter) → RefusesValue (root_of source) (change b place.segment place.word old new (once_at_root source) m) k → k ≡ NoSuchPlace → ⊥
-    never place m (inl (n, (refuses, none), wanted, large)) e = of_no_place k (of_allocation old new (length new.words) (n + 1) k refuses) e
-    never place m (inr refused) e = not_for_place (subst (λ y. Refused (form_of b) (root_of source) (once_at_root source) m y) e refused)
 
 -- at its place
-pub copied_at : (S R : Segments) (place : PointerPlace) (op : Op) (source : Source) (b : Bool) (r : Option ErrorKind) → op ≡ CopyFrom source b → CopiesRoot S R place (source, b) r → Does S R place op r
-copied_at S R place op source b r is (root_copied u copied done puts) t stored =
-    record { left = Some u; yields = is_copied source b u (ap (λ o. made o (PointerTo t)) is) copied done refl; stands = puts t stored }
-copied_at S R place op source b r is (root_not_copied k why named puts) t stored =
-    record { left = Some Null; yields = is_not_copied source b k (ap (λ o. made o (PointerTo t)) is) why named refl; stands = puts t stored }
-copied_at S R place op source b r is (root_unread k why named same) t stored =
-    record { left = None; yields = is_unread source b k (ap (λ o. made o (PointerTo t)) is) why named refl; stands = same }
+pub made_copied : (op : Op) (c : Copying) (t : Tree) → copied_by op ≡ Some c → made op (PointerTo t) ≡ copies c
+made_copied (CopyFrom source b) c t e = ap copies (same_some _ c e)
+made_copied (SetStruct source b) c t e = ap copies (same_some _ c e)
+made_copied (SetList source b) c t e = ap copies (same_some _ c e)
+made_copied op c t e = absurd (cc)
 
-pub copy_refused : {A : Type 0} (result : Result A ErrorKind) (old new : View) (op : Op) (source : Source) (b : Bool) → op ≡ CopyFrom source b → IfErr result (IsSourceRefused old new source b) → IfErr result (IsRefusedAs old new op)
-copy_refused (Ok x) old new op source b is why = tt
-copy_refused (Err k) old new op source b is why = inr (subst (λ o. IsCallRefused old new (words_taken op) (copied_by o) k) (sym is) why)
+pub copied_at : (S R : Segments) (place : PointerPlace) (op : Op) (c : Copying) (r : Option ErrorKind) → copied_by op ≡ Some c → CopiesRoot S R place c r → Does S R place op r
+copied_at S R place op c r is (root_copied u copied done puts) t stored = record { left = Some u; yields = is_copied c u (made_copied op c t is) copied done refl; stands = puts t stored }
+copied_at S R place op c r is (root_not_copied k why named puts) t stored = record { left = Some Null; yields = is_not_copied c k (made_copied op c t is) why named refl; stands = puts t stored }
+copied_at S R place op c r is (root_unread k why named same) t stored = record { left = None; yields = is_unread c k (made_copied op c t is) why named refl; stands = same }
 
-pub never_none : (op : Op) (source : Source) (b : Bool) → op ≡ CopyFrom source b → copied_by op ≡ None → ⊥
-never_none op source b is none = let e : Some (source, b) ≡ None = sym (ap copied_by is) ∙ none in cc
-
--- any other operation copies nothing
-pub uncopied : (op : Op) → ((source : Source) (b : Bool) → op ≡ CopyFrom source b → ⊥) → copied_by op ≡ None
-uncopied (CopyFrom source b) other = absurd (other source b refl)
-uncopied op other = refl
+pub copy_refused : {A : Type 0} (result : Result A ErrorKind) (old new : View) (op : Op) (c : Copying) → copied_by op ≡ Some c → IfErr result (IsSourceRefused old new c) → IfErr result (IsRefusedAs old new op)
+copy_refused (Ok x) old new op c is why = tt
+copy_refused (Err k) old new op c is why = inr (subst (λ o. IsCallRefused old new (words_taken op) o k) (sym is) why)
 
 -- a call that copies nothing fits where its words do
 pub words_fit : {A : Type 0} (result : Result A ErrorKind) (old : View) (id : ℕ) (op : Op) → copied_by op ≡ None → (HasRoom old id (words_taken op) → IsOk result) → OpFits old id op → IfErr result (λ k. is_of_place k ≡ true)
 words_fit result old id op none fits room = never_refused result (fits (subst (λ c. CallFits old id (words_taken op) c) none room))
 
 -- and a copy where what it keeps does
-pub can_be_copied : (source : Source) (b : Bool) (r : Reading) (m : Meter) (used room : ℕ) → r ≡ root_of source → m ≡ once_at_root source → CanBeCopied b (root_of source) (once_at_root source) used room → CanBeCopied b r m used room
-can_be_copied source b r m used room is_r is_m can = subst (λ x. CanBeCopied b x m used room) (sym is_r) (subst (λ y. CanBeCopied b (root_of source) y used room) (sym is_m) can)
-
-pub copy_fits : {A : Type 0} (result : Result A ErrorKind) (old : View) (id : ℕ) (op : Op) (source : Source) (b : Bool) → op ≡ CopyFrom source b → (FitsBehind old id source b → IsOk result) → OpFits old id op → IfErr result (λ k. is_of_place k ≡ true)
-copy_fits result old id op source b is fits room = never_refused result (fits (subst (λ o. CallFits old id (words_taken op) (copied_by o)) is room))
+pub copy_fits : {A : Type 0} (result : Result A ErrorKind) (old : View) (id : ℕ) (op : Op) (c : Copying) → copied_by op ≡ Some c → (FitsBehind old id c → IsOk result) → OpFits old id op → IfErr result (λ k. is_of_place k ≡ true)
+copy_fits result old id op c is fits room = never_refused result (fits (subst (λ o. CallFits old id (words_taken op) o) is room))
 
 -- how refusals are counted
-pub counted_as : (op : Op) (source : Source) (b : Bool) (r : Option ErrorKind) (old new : ℕ) → op ≡ CopyFrom source b → IsCopyCounted r old new → IsCounted op r old new
-counted_as op source b r old new is counts = (λ none. absurd (never_none op source b is none), counts)
+pub counted_as : (op : Op) (c : Copying) (r : Option ErrorKind) (old new : ℕ) → copied_by op ≡ Some c → IsCopyCounted r old new → IsCounted op r old new
+counted_as op c r old new is counts = (λ none. absurd (let e : Some c ≡ None = sym is ∙ none in cc), counts)
 
 pub exactly_counted : (op : Op) (r : Option ErrorKind) (old new : ℕ) → new ≡ refusals_after r old → IsCounted op r old new
 exactly_counted op r old new e = (λ none. e, (λ f. e ∙ ap (λ x. refusals_after x old) f, λ f. e ∙ ap (λ x. refusals_after x old) f, subst (λ n. (n ≡ old) ⊎ (n ≡ one_more old)) (sym e) (either r)))
@@ -140,3 +396,11 @@ exactly_counted op r old new e = (λ none. e, (λ f. e ∙ ap (λ x. refusals_af
     either : (q : Option ErrorKind) → (refusals_after q old ≡ old) ⊎ (refusals_after q old ≡ one_more old)
     either (Some AllocationFailed) = inr refl
     either q = inl refl
+
+-- an operation that copies none
+pub none_copied : (op : Op) → ((c : Copying) → copied_by op ≡ Some c → ⊥) → copied_by op ≡ None
+none_copied op none = go (copied_by op) none
+  where
+    go : (o : Option Copying) → ((c : Copying) → o ≡ Some c → ⊥) → o ≡ None
+    go (Some c) h = absurd (h c refl)
+    go None h = refl

@@ -5,4 +5,6 @@ pub mod Fields
 pub mod Folded
 pub mod Contents
 pub mod Searches
+pub mod CopiedStruct
+pub mod CopiedList
 pub mod Copied

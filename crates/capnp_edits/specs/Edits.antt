@@ -29,9 +29,10 @@ use Rattle.capnp_builders.specs.Found.{place_of as list_place, in_place_of_null,
 use Rattle.capnp_builders.specs.Places.{Field, field}
 use Rattle.capnp_edits.specs.declared.edit.Edit.{Edit}
 use Rattle.capnp_edits.specs.declared.edit.Op.{Op}
-use Rattle.capnp_edits.specs.declared.edit.Source.{Source}
-use Rattle.capnp_edits.specs.declared.edit.Op.TheVariants.{InitStruct, InitList, InitStructList, InitText, InitData, SetText, SetData, SetCapability, Clear, SetField, SetBool, SetElement, WriteText, WriteData, GetStruct, GetList, GetStructList, GetText, GetData, CopyFrom}
-use Rattle.capnp_edits.specs.Sources.{Copies, IsUnread, IsUnreadable, IsCopyRefused, FitsBehind}
+use Rattle.capnp_edits.specs.declared.edit.Op.TheVariants.{InitStruct, InitList, InitStructList, InitText, InitData, SetText, SetData, SetCapability, Clear, SetField, SetBool, SetElement, WriteText, WriteData, GetStruct, GetList, GetStructList, GetText, GetData, CopyFrom, SetStruct, SetList}
+use Rattle.capnp_edits.specs.declared.edit.copying.Copying.{Copying}
+use Rattle.capnp_edits.specs.declared.edit.copying.Wanted.TheVariants.{Value, Struct as AStruct, List as AList}
+use Rattle.capnp_edits.specs.Sources.{copying, Copies, IsUnread, IsUnreadable, IsCopyRefused, FitsBehind}
 use Rattle.capnp_edits.specs.Paths.{Spot, PointerTo, ElementOf, path_of, found}
 
 -- The name by which a call is refused, if it is.
@@ -55,6 +56,15 @@ field_of op = None
 abbrev pub is_field : Option Field → Bool
 is_field (Some f) = true
 is_field None = false
+
+-- An operation makes an object, all zero.
+abbrev pub is_init : Op → Bool
+is_init (InitStruct size) = true
+is_init (InitList size n) = true
+is_init (InitStructList n size) = true
+is_init (InitText n) = true
+is_init (InitData n) = true
+is_init op = false
 
 -- An operation writes in a list, a text or data that is there.
 abbrev pub is_content : Op → Bool
@@ -89,12 +99,11 @@ is_in_range (GetList size default) = nat_le (size_number size) 6
 is_in_range (GetStructList size default) = false
 is_in_range op = true
 
--- What an operation makes where a path leads: a value; or it is refused by a name, and nothing is changed; or what the root of another message means, in
--- canonical form where that is asked for.
+-- What an operation makes where a path leads: a value; or it is refused by a name, and nothing is changed; or what is copied from another message.
 pub data Making : Type 0 where
   becomes : Tree → Making
   denied : ErrorKind → Making
-  copies : Source → Bool → Making
+  copies : Copying → Making
 
 -- A struct with bits of its data section written.
 abbrev pub struct_with : Field → Tree → Tree
@@ -170,7 +179,9 @@ made_at (SetText bytes) (PointerTo t) = becomes (Flat 2 (bytes.now ++ 0 ∷ []))
 made_at (SetData bytes) (PointerTo t) = becomes (Flat 2 bytes.now)
 made_at (SetCapability i) (PointerTo t) = becomes (Capability i)
 made_at Clear (PointerTo t) = becomes Null
-made_at (CopyFrom source canonicalize) (PointerTo t) = copies source canonicalize
+made_at (CopyFrom source canonicalize) (PointerTo t) = copies (copying source Value canonicalize)
+made_at (SetStruct source canonicalize) (PointerTo t) = copies (copying source AStruct canonicalize)
+made_at (SetList source canonicalize) (PointerTo t) = copies (copying source AList canonicalize)
 made_at (SetElement size i v) (PointerTo t) = if_reached i (count_of (list_in nowhere size t)) (with_lowest i (element_bits (size_number size)) v t)
 made_at (WriteText i b) (PointerTo t) = if_reached i (length_of (text_in nowhere t)) (with_lowest i 8 b t)
 made_at (WriteData i b) (PointerTo t) = if_reached i (length_of (data_in nowhere t)) (with_lowest i 8 b t)
@@ -202,6 +213,8 @@ takes_memory (GetStructList size default) = false
 takes_memory (GetText default) = false
 takes_memory (GetData default) = false
 takes_memory (CopyFrom source canonicalize) = false
+takes_memory (SetStruct source canonicalize) = false
+takes_memory (SetList source canonicalize) = false
 takes_memory op = true
 
 -- How many words the object takes that an operation makes, its landing pad aside.
@@ -220,18 +233,20 @@ abbrev pub is_of_place : ErrorKind → Bool
 is_of_place NoSuchPlace = true
 is_of_place k = is_missed k
 
--- What an operation copies.
-abbrev pub copied_by : Op → Option (Source × Bool)
-copied_by (CopyFrom source canonicalize) = Some (source, canonicalize)
+-- What an operation copies from another message, if it does.
+abbrev pub copied_by : Op → Option Copying
+copied_by (CopyFrom source canonicalize) = Some (copying source Value canonicalize)
+copied_by (SetStruct source canonicalize) = Some (copying source AStruct canonicalize)
+copied_by (SetList source canonicalize) = Some (copying source AList canonicalize)
 copied_by op = None
 
--- A copy is refused by a name: its source has no root, and all is as it was; or as the copy of its root is.
-abbrev pub IsSourceRefused : View → View → Source → Bool → ErrorKind → Type 0
-IsSourceRefused old new source b k = (IsUnread source k × (new ≡ old)) ⊎ IsCopyRefused old new source b k
+-- A copy is refused by a name: its source isn't read, and all is as it was; or as the copy of what was read is.
+abbrev pub IsSourceRefused : View → View → Copying → ErrorKind → Type 0
+IsSourceRefused old new c k = (IsUnread c k × (new ≡ old)) ⊎ IsCopyRefused old new c k
 
 -- So is a copy; any other call only for want of memory or room for its n words, and truly.
-abbrev pub IsCallRefused : View → View → ℕ → Option (Source × Bool) → ErrorKind → Type 0
-IsCallRefused old new n (Some copying) k = IsSourceRefused old new copying.0 copying.1 k
+abbrev pub IsCallRefused : View → View → ℕ → Option Copying → ErrorKind → Type 0
+IsCallRefused old new n (Some c) k = IsSourceRefused old new c k
 IsCallRefused old new n None k = IsRefusedFor old new n k
 
 -- A refusal by a name is for what a path leads to, and all is as it was; or it is that of the call.
@@ -239,8 +254,8 @@ abbrev pub IsRefusedAs : View → View → Op → ErrorKind → Type 0
 IsRefusedAs old new op k = ((is_of_place k ≡ true) × (new ≡ old)) ⊎ IsCallRefused old new (words_taken op) (copied_by op) k
 
 -- What a call makes of n words, or copies, fits at a pointer of segment id.
-abbrev pub CallFits : View → ℕ → ℕ → Option (Source × Bool) → Type 0
-CallFits old id n (Some copying) = FitsBehind old id copying.0 copying.1
+abbrev pub CallFits : View → ℕ → ℕ → Option Copying → Type 0
+CallFits old id n (Some c) = FitsBehind old id c
 CallFits old id n None = HasRoom old id n
 
 abbrev pub OpFits : View → ℕ → Op → Type 0
@@ -260,14 +275,14 @@ abbrev pub GivesAt : Segments → Segments → PointerPlace → Op → Option Er
 GivesAt S R place op r = (t : Tree) → IsStored S place.segment place.word t → (u : Tree) × Gives op t r u × IsReplaced S R place.segment place.word t u
 
 -- What an operation leaves where it makes this, with its outcome: o in the value's stead, if anything is changed. It is what is made; or null, for want
--- of memory; or all as it was; or it is what is copied; or null, where that is refused; or all as it was, where there is no root to be read.
+-- of memory; or all as it was; or it is what is copied; or null, where that is refused; or all as it was, where there is nothing to be copied.
 pub data Yields (op : Op) (making : Making) (r : Option ErrorKind) (o : Option Tree) : Type 0 where
   is_done : (u : Tree) → making ≡ becomes u → r ≡ None → o ≡ Some u → Yields op making r o
   lacks_memory : (u : Tree) (k : ErrorKind) → making ≡ becomes u → takes_memory op ≡ true → IsOfMemory k → r ≡ Some k → o ≡ Some Null → Yields op making r o
   is_denied : (k : ErrorKind) → making ≡ denied k → r ≡ Some k → o ≡ None → Yields op making r o
-  is_copied : (source : Source) (b : Bool) (u : Tree) → making ≡ copies source b → Copies source b u → r ≡ None → o ≡ Some u → Yields op making r o
-  is_not_copied : (source : Source) (b : Bool) (k : ErrorKind) → making ≡ copies source b → IsOfMemory k ⊎ IsUnreadable source b k → r ≡ Some k → o ≡ Some Null → Yields op making r o
-  is_unread : (source : Source) (b : Bool) (k : ErrorKind) → making ≡ copies source b → IsUnread source k → r ≡ Some k → o ≡ None → Yields op making r o
+  is_copied : (c : Copying) (u : Tree) → making ≡ copies c → Copies c u → r ≡ None → o ≡ Some u → Yields op making r o
+  is_not_copied : (c : Copying) (k : ErrorKind) → making ≡ copies c → IsOfMemory k ⊎ IsUnreadable c k → r ≡ Some k → o ≡ Some Null → Yields op making r o
+  is_unread : (c : Copying) (k : ErrorKind) → making ≡ copies c → IsUnread c k → r ≡ Some k → o ≡ None → Yields op making r o
 
 -- The pointer at a place means o in t's stead, if anything is changed.
 abbrev pub IsReplacedIf : Segments → Segments → PointerPlace → Tree → Option Tree → Type 0
@@ -299,11 +314,11 @@ abbrev pub IsOutcome : Making → Tree → Option ErrorKind → Type 0
 IsOutcome made t None = made ≡ becomes t
 IsOutcome made t (Some k) = made ≡ denied k
 
--- What a copy of a source's root leaves at a place, with its outcome: it is there; or null, the copy being refused; or there is no root.
-pub data CopiesRoot (S R : Segments) (place : PointerPlace) (copying : Source × Bool) (r : Option ErrorKind) : Type 0 where
-  root_copied : (u : Tree) → Copies copying.0 copying.1 u → r ≡ None → Puts S R place.segment place.word u → CopiesRoot S R place copying r
-  root_not_copied : (k : ErrorKind) → IsOfMemory k ⊎ IsUnreadable copying.0 copying.1 k → r ≡ Some k → Puts S R place.segment place.word Null → CopiesRoot S R place copying r
-  root_unread : (k : ErrorKind) → IsUnread copying.0 k → r ≡ Some k → R ≡ S → CopiesRoot S R place copying r
+-- What a copy from another message leaves at a place, with its outcome: it is there; or null, the copy being refused; or there is nothing to be copied.
+pub data CopiesRoot (S R : Segments) (place : PointerPlace) (c : Copying) (r : Option ErrorKind) : Type 0 where
+  root_copied : (u : Tree) → Copies c u → r ≡ None → Puts S R place.segment place.word u → CopiesRoot S R place c r
+  root_not_copied : (k : ErrorKind) → IsOfMemory k ⊎ IsUnreadable c k → r ≡ Some k → Puts S R place.segment place.word Null → CopiesRoot S R place c r
+  root_unread : (k : ErrorKind) → IsUnread c k → r ≡ Some k → R ≡ S → CopiesRoot S R place c r
 
 -- What writing an element leaves, with its outcome, where a list was looked for: its lowest bits are written; or it isn't there, in no list that lies in
 -- the message and is as wide; or there is no list, or the search was refused.

@@ -1,23 +1,39 @@
 -- What is copied from another message.
-use Rattle.std.specs.Prelude.{ℕ, ◌≡◌, Bool, true, false, map, length}
+use Rattle.std.specs.Prelude.{ℕ, pred, ◌+◌, ◌≤◌, ◌≡◌, ◌⊎◌, Bool, true, false, cond, nat_eq, List, [], map, length, Option, Some, None}
 use Rattle.capnp_words.specs.Meter.{Meter, Affords, charged, unused}
 use Rattle.capnp_words.specs.declared.error.ErrorKind.{ErrorKind}
 use Rattle.capnp_words.specs.declared.error.ErrorKind.TheVariants.{InvalidSegmentId, ReadLimitExceeded}
+use Rattle.capnp_pointers.specs.declared.wire_pointer.ElementSize.TheVariants.{Void, InlineComposite}
+use Rattle.capnp_pointers.specs.Sizes.{size_number}
 use Rattle.capnp_format.specs.Bytes.{message}
-use Rattle.capnp_format.specs.Segments.{Segments, segment}
-use Rattle.capnp_format.specs.Tree.{Tree}
+use Rattle.capnp_format.specs.Canonical.{word_count}
+use Rattle.capnp_format.specs.Segments.{Segments, Target, segment, words_at, AreWords}
+use Rattle.capnp_format.specs.Tree.{Tree, Null, Struct, Flat, Pointers, Structs, no_trees, capabilities}
+use Rattle.capnp_format.specs.Word.{kind, offset_bits, data_words, pointer_count, element_size, list_count}
 use Rattle.capnp_arena.specs.Checks.{Holds, misplaced}
 use Rattle.capnp_arena.specs.Limits.{whole}
 use Rattle.capnp_arena.specs.View.{View}
-use Rattle.capnp_objects.specs.Outcomes.{Reads}
-use Rattle.capnp_objects.specs.Reading.{Reading}
+use Rattle.capnp_objects.specs.declared.object.Expected.TheVariants.{Struct as ExpectedStruct, List as ExpectedList}
+use Rattle.capnp_objects.specs.Demands.{IsStructList, tag}
+use Rattle.capnp_objects.specs.Expected.{Withheld}
+use Rattle.capnp_objects.specs.Faults.{child_at}
+use Rattle.capnp_objects.specs.Outcomes.{Reads, Entered, MeansThere}
+use Rattle.capnp_objects.specs.Reading.{Reading, word_of, tag_size}
 use Rattle.capnp_objects.specs.Refusals.{Refused}
 use Rattle.capnp_objects.specs.Source.{levels}
+use Rattle.capnp_objects.specs.Wanted.{Takes}
 use Rattle.capnp_readers.specs.declared.readers.PointerPlace.{PointerPlace}
-use Rattle.capnp_copies.specs.Changes.{RefusesValue, change}
-use Rattle.capnp_copies.specs.Copies.{CanBeCopied}
+use Rattle.capnp_copies.specs.Changes.{Change, RefusesValue, change}
 use Rattle.capnp_copies.specs.Forms.{form_of, kept}
+use Rattle.capnp_copies.specs.ListValues.{ListElements, RefusesElements}
+use Rattle.capnp_copies.specs.StructValues.{RefusesSections}
 use Rattle.capnp_edits.specs.declared.edit.Source.{Source}
+use Rattle.capnp_edits.specs.declared.edit.copying.Copying.{Copying}
+use Rattle.capnp_edits.specs.declared.edit.copying.Wanted.{Wanted}
+use Rattle.capnp_edits.specs.declared.edit.copying.Wanted.TheVariants.{Value, Struct as AStruct, List as AList}
+
+abbrev pub copying : Source → Wanted → Bool → Copying
+copying source wanted canonicalize = record { source = source; wanted = wanted; canonicalize = canonicalize }
 
 -- The segments of a source, and its root, read within the nesting limit.
 abbrev pub words_in : Source → Segments
@@ -37,24 +53,120 @@ once_at_root source = charged true (limiter_of source) 1
 abbrev pub HasRoot : Source → Type 0
 HasRoot source = Holds (words_in source) 0 0 1 × Affords true (limiter_of source) 1
 
+-- The value that is copied where a root means t: t itself; but where a struct or a list is wanted, of null one of nothing, and none where t is of another
+-- kind, or a list of bits.
+abbrev pub as_wanted : Wanted → Tree → Option Tree
+as_wanted Value t = Some t
+as_wanted AStruct Null = Some (Struct [] no_trees)
+as_wanted AStruct (Struct ws ts) = Some (Struct ws ts)
+as_wanted AList Null = Some (Flat 0 [])
+as_wanted AList (Flat size ns) = cond (nat_eq size 1) None (Some (Flat size ns))
+as_wanted AList (Pointers ts) = Some (Pointers ts)
+as_wanted AList (Structs d q es) = Some (Structs d q es)
+as_wanted wanted t = None
+
 -- The root isn't reached, by the name k.
-abbrev pub IsUnread : Source → ErrorKind → Type 0
-IsUnread source k = (HasRoot source → ⊥) × ((Holds (words_in source) 0 0 1 → ⊥) → k ≡ misplaced (words_in source) 0 (InvalidSegmentId 0)) × (Holds (words_in source) 0 0 1 → k ≡ ReadLimitExceeded)
+abbrev pub IsRootless : Source → ErrorKind → Type 0
+IsRootless source k =
+    (HasRoot source → ⊥) × ((Holds (words_in source) 0 0 1 → ⊥) → k ≡ misplaced (words_in source) 0 (InvalidSegmentId 0))
+    × (Holds (words_in source) 0 0 1 → k ≡ ReadLimitExceeded)
 
--- The root means a value within the limits, and a copy keeps u of it.
-abbrev pub Copies : Source → Bool → Tree → Type 0
-Copies source canonicalize u = HasRoot source × ((t : Tree) × (m : Meter) × Reads (form_of canonicalize) (root_of source) (once_at_root source) m t × (u ≡ kept canonicalize t))
+-- What is wanted isn't found at a place, by the name k, as get_struct, or get_list of Void, refuses it.
+abbrev pub IsWithheld : Wanted → Reading → Meter → Meter → ErrorKind → Type 0
+IsWithheld Value r m m' k = ⊥
+IsWithheld AStruct r m m' k = Withheld ExpectedStruct r m m' k
+IsWithheld AList r m m' k = Withheld (ExpectedList Void) r m m' k
 
--- The root means such a value, and the words that a copy keeps of it fit behind those of segment id.
-pub record FitsBehind (v : View) (id : ℕ) (source : Source) (canonicalize : Bool) : Type 0 where
-  pub root : HasRoot source
-  pub fits : CanBeCopied canonicalize (root_of source) (once_at_root source) (length (segment v.words id)) (v.room id)
+-- There is nothing to be copied, by the name k: the root isn't reached, or what is wanted isn't found there.
+abbrev pub IsUnread : Copying → ErrorKind → Type 0
+IsUnread c k = IsRootless c.source k ⊎ (HasRoot c.source × ((m : Meter) × IsWithheld c.wanted (root_of c.source) (once_at_root c.source) m k))
+
+-- The root means a value within the limits that is as wanted, and a copy keeps u of it.
+pub record Copies (c : Copying) (u : Tree) : Type 0 where
+  pub root : HasRoot c.source
+  pub value : Tree
+  pub after : Meter
+  pub is_read : Reads (form_of c.canonicalize) (root_of c.source) (once_at_root c.source) after value
+  pub copied : Tree
+  pub is_wanted : as_wanted c.wanted value ≡ Some copied
+  pub is_kept : u ≡ kept c.canonicalize copied
+
+-- A place means a value that is as wanted, in canonical form one without capabilities, at a cost that the limiter covers, and the words to be kept of it fit
+-- behind so many words of a segment with this room.
+pub record CanBeCopiedAs (c : Copying) (r : Reading) (m : Meter) (used room : ℕ) : Type 0 where
+  pub value : Tree
+  pub cost : ℕ
+  pub means : MeansThere r value cost
+  pub takes : Takes (form_of c.canonicalize) (capabilities value)
+  pub covers : Affords r.charging m cost
+  pub copied : Tree
+  pub is_wanted : as_wanted c.wanted value ≡ Some copied
+  pub fits : used + word_count (kept c.canonicalize copied) ≤ room
+
+-- The root means such a value, and the words that a copy keeps of it fit behind those of segment id. Of a list, the words of the source are below 2^64, as
+-- the words of bytes are.
+pub record FitsBehind (v : View) (id : ℕ) (c : Copying) : Type 0 where
+  pub root : HasRoot c.source
+  pub words : c.wanted ≡ AList → AreWords (words_in c.source)
+  pub fits : CanBeCopiedAs c (root_of c.source) (once_at_root c.source) (length (segment v.words id)) (v.room id)
 
 -- The root is reached, and reading what it means is refused by the name k.
-abbrev pub IsUnreadable : Source → Bool → ErrorKind → Type 0
-IsUnreadable source canonicalize k = HasRoot source × ((m : Meter) × Refused (form_of canonicalize) (root_of source) (once_at_root source) m k)
+abbrev pub IsUnreadable : Copying → ErrorKind → Type 0
+IsUnreadable c k = HasRoot c.source × ((m : Meter) × Refused (form_of c.canonicalize) (root_of c.source) (once_at_root c.source) m k)
+
+-- The struct that a place leads to: its data words, so many pointers from the first on, and the limiter once its own words are charged.
+pub record Sections : Type 0 where
+  pub words : List ℕ
+  pub first : Reading
+  pub pointers : ℕ
+  pub limiter : Meter
+
+pub data LeadsToStruct (r : Reading) (m : Meter) (s : Sections) : Type 0 where
+  no_struct : word_of r ≡ 0 → s.words ≡ [] → s.pointers ≡ 0 → s.limiter ≡ m → LeadsToStruct r m s
+  a_struct :
+      (a : Target) →
+      Entered r m s.limiter a →
+      kind a.word ≡ 0 →
+      s.words ≡ words_at r.segments a.segment a.start (data_words a.word) →
+      s.first ≡ child_at r a (pred r.levels) (a.start + data_words a.word) →
+      s.pointers ≡ pointer_count a.word →
+      LeadsToStruct r m s
+
+-- The list that a place leads to, its own words charged from m to m'.
+pub data LeadsToList (r : Reading) (m m' : Meter) (l : ListElements) : Type 0 where
+  no_list : word_of r ≡ 0 → l.size ≡ Void → l.count ≡ 0 → m' ≡ m → LeadsToList r m m' l
+  a_plain_list :
+      (a : Target) →
+      Entered r m m' a →
+      kind a.word ≡ 1 →
+      element_size a.word ≡ size_number l.size →
+      size_number l.size ≤ 6 →
+      nat_eq (size_number l.size) 1 ≡ false →
+      l.first ≡ child_at r a (pred r.levels) a.start →
+      l.count ≡ list_count a.word →
+      LeadsToList r m m' l
+  a_struct_list :
+      (a : Target) →
+      Entered r m m' a →
+      IsStructList a.word →
+      l.size ≡ InlineComposite →
+      l.sections ≡ tag_size r.segments a →
+      l.first ≡ child_at r a (pred r.levels) (a.start + 1) →
+      l.count ≡ offset_bits (tag r.segments a) →
+      LeadsToList r m m' l
+
+-- The copy of what is wanted at a place is refused by the name k.
+abbrev pub RefusesAs : Wanted → Reading → Change → ErrorKind → Type 0
+RefusesAs Value r c k = RefusesValue r c k
+RefusesAs AStruct r c k = (s : Sections) × LeadsToStruct r c.before s × RefusesSections s.words s.first s.pointers (record c { before = s.limiter }) k
+RefusesAs AList r c k = (l : ListElements) × (m : Meter) × LeadsToList r c.before m l × RefusesElements l (record c { before = m }) k
 
 -- From old to new the copy to a place is refused by the name k: an object finds no room, or reading is refused.
-abbrev pub IsCopyRefused : View → View → Source → Bool → ErrorKind → Type 0
-IsCopyRefused old new source canonicalize k =
-    (place : PointerPlace) × (m : Meter) × RefusesValue (root_of source) (change canonicalize place.segment place.word old new (once_at_root source) m) k
+abbrev pub IsCopyRefused : View → View → Copying → ErrorKind → Type 0
+IsCopyRefused old new c k =
+    (place : PointerPlace) × (m : Meter)
+    × RefusesAs c.wanted (root_of c.source) (change c.canonicalize place.segment place.word old new (once_at_root c.source) m) k
+
+-- Where there is a value to be copied, reading isn't refused.
+abbrev pub CopiedOrRefused : Type 0
+CopiedOrRefused = (c : Copying) (u : Tree) (k : ErrorKind) → Copies c u → IsUnread c k ⊎ IsUnreadable c k → ⊥

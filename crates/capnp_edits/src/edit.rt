@@ -82,6 +82,14 @@ pub enum Op<'a> {
     /// The pointer becomes a copy of what the root of another message means, in canonical form where that
     /// is asked for, as `PointerBuilder::copy_from` makes it.
     CopyFrom(Source<'a>, bool),
+    /// The pointer becomes a copy of the struct that the root of another message leads to, as
+    /// `PointerBuilder::set_struct` makes it; of a null root one of no words. The struct is looked for as
+    /// `PointerReader::get_struct` does.
+    SetStruct(Source<'a>, bool),
+    /// The pointer becomes a copy of the list that the root of another message leads to, as
+    /// `PointerBuilder::set_list` makes it; of a null root a list of no `Void`. The list is looked for as
+    /// `PointerReader::get_list` does with the size `Void`, so it is none of bits.
+    SetList(Source<'a>, bool),
 }
 
 /// A change of a message: what is done, and where.
@@ -97,9 +105,10 @@ pub struct Edit<'a> {
 ///
 /// `NoSuchPlace` is said of a path that leads nowhere, of an operation for a place of another kind and of
 /// numbers that are out of range. Where a list, a text or data is looked for, a refusal is that of
-/// `get_list`, `get_text` or `get_data` of a `PointerBuilder`, and where there is no root to be copied, that of
-/// `PointerReader::get_root_from_arena`. Nothing is changed then. `AllocationFailed` and `MessageTooLarge` are
-/// those of the arena, and the pointer is null then, as it is where the copy is refused for what it reads.
+/// `get_list`, `get_text` or `get_data` of a `PointerBuilder`; where there is nothing to be copied, it is that of
+/// `PointerReader::get_root_from_arena`, or of the root's `get_struct` or `get_list`. Nothing is changed then.
+/// `AllocationFailed` and `MessageTooLarge` are those of the arena, and the pointer is null then, as it is where
+/// the copy is refused for what it reads.
 pub fn apply<A: BuilderArena>(arena: &mut A, edit: &Edit<'_>) -> Result<(), ErrorKind>
     ensures applied { IsApplied (A.view arena.old).words (A.view arena.new).words edit.now (refusal_of result) }
     ensures counted { IsCounted edit.now.op (refusal_of result) (A.view arena.old).refusals (A.view arena.new).refusals }

@@ -2,3 +2,4 @@
 #![tactic(auto)]
 
 pub mod edit;
+pub mod laws;

@@ -5,12 +5,22 @@
 #[cfg(test)]
 mod contents;
 #[cfg(test)]
+mod copied_parts;
+#[cfg(test)]
 mod copies;
 #[cfg(test)]
+mod copies_without_memory;
+#[cfg(test)]
 mod done;
+#[cfg(test)]
+mod memory_among_refusals;
 #[cfg(test)]
 mod messages;
 #[cfg(test)]
 mod refused;
+#[cfg(test)]
+mod refused_parts;
+#[cfg(test)]
+mod sources;
 #[cfg(test)]
 mod unfound;

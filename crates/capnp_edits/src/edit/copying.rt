@@ -3,32 +3,82 @@ ghost use Rattle.std.specs.Prelude.{◌≡◌, IsOk, IfErr};
 ghost use Rattle.capnp_format.specs.Segments.{IsPlace};
 ghost use Rattle.capnp_builders.specs.Building.{built, IsThere};
 ghost use Rattle.capnp_edits.specs.Sources.{FitsBehind};
-ghost use Rattle.capnp_edits.specs.Edits.{refusal_of, place_of, IsCopyCounted, CopiesRoot, IsSourceRefused};
+ghost use Rattle.capnp_edits.specs.Edits.{refusal_of, copied_by, place_of, IsCopyCounted, CopiesRoot, IsSourceRefused};
 
-use crate::edit::Source;
+use crate::edit::{Op, Source};
 use capnp_arena::arena::BuilderArena;
 use capnp_builders::builders::PointerBuilder;
 use capnp_readers::readers::{PointerPlace, PointerReader};
 use capnp_words::error::ErrorKind;
 use capnp_words::read_limiter::ReadLimiter;
+use capnp_words::wire_pointer::ElementSize;
 
-/// Makes of a pointer a copy of what the root of another message means.
+/// What the root of a source is to lead to.
+#[derive(Clone, Copy)]
+pub(crate) enum Wanted {
+    /// Anything.
+    Value,
+    /// A struct.
+    Struct,
+    /// A list.
+    List,
+}
+
+/// A copy from another message.
+#[derive(Clone, Copy)]
+pub(crate) struct Copying<'a> {
+    /// The message.
+    pub(crate) source: Source<'a>,
+    /// What its root is to lead to.
+    pub(crate) wanted: Wanted,
+    /// Whether the copy is in canonical form.
+    pub(crate) canonicalize: bool,
+}
+
+/// What an operation copies from another message, if it does.
+pub(crate) fn copying_of(op: Op<'_>) -> Option<Copying<'_>>
+    ensures { result ≡ copied_by op.entry }
+{
+    let (source, wanted, canonicalize) = match op {
+        Op::CopyFrom(source, canonicalize) => (source, Wanted::Value, canonicalize),
+        Op::SetStruct(source, canonicalize) => (source, Wanted::Struct, canonicalize),
+        Op::SetList(source, canonicalize) => (source, Wanted::List, canonicalize),
+        _ => return None,
+    };
+    Some(Copying {
+        source,
+        wanted,
+        canonicalize,
+    })
+}
+
+/// Makes of a pointer a copy of what the root of another message leads to.
 fn copy_root<A: BuilderArena>(
     pointer: &mut PointerBuilder<'_, A>,
-    source: Source<'_>,
-    canonicalize: bool,
+    copying: Copying<'_>,
 ) -> Result<(), ErrorKind>
     requires { IsThere (built A.view pointer.old) }
-    ensures done { CopiesRoot (A.view pointer.old.arena.now).words (A.view pointer.new.arena.now).words (place_of pointer.old) (source.entry, canonicalize) (refusal_of result) }
+    ensures done { CopiesRoot (A.view pointer.old.arena.now).words (A.view pointer.new.arena.now).words (place_of pointer.old) copying.entry (refusal_of result) }
     ensures counted { IsCopyCounted (refusal_of result) (A.view pointer.old.arena.now).refusals (A.view pointer.new.arena.now).refusals }
-    ensures named { IfErr result (IsSourceRefused (A.view pointer.old.arena.now) (A.view pointer.new.arena.now) source.entry canonicalize) }
-    ensures fits { FitsBehind (A.view pointer.old.arena.now) pointer.old.segment source.entry canonicalize → IsOk result }
+    ensures named { IfErr result (IsSourceRefused (A.view pointer.old.arena.now) (A.view pointer.new.arena.now) copying.entry) }
+    ensures fits { FitsBehind (A.view pointer.old.arena.now) pointer.old.segment copying.entry → IsOk result }
     ensures same { pointer.new.arena.ghost_name ≡ pointer.old.arena.ghost_name }
 {
-    let mut lim = ReadLimiter::new(source.budget);
-    match PointerReader::get_root_from_arena(source.arena, &mut lim) {
-        Ok(root) => pointer.copy_from(root, &mut lim, canonicalize),
-        Err(k) => Err(k),
+    let mut lim = ReadLimiter::new(copying.source.budget);
+    let root = match PointerReader::get_root_from_arena(copying.source.arena, &mut lim) {
+        Ok(root) => root,
+        Err(k) => return Err(k),
+    };
+    match copying.wanted {
+        Wanted::Value => pointer.copy_from(root, &mut lim, copying.canonicalize),
+        Wanted::Struct => match root.get_struct(&mut lim, None) {
+            Ok(value) => pointer.set_struct(&value, &mut lim, copying.canonicalize),
+            Err(k) => Err(k),
+        },
+        Wanted::List => match root.get_list(&mut lim, ElementSize::Void, None) {
+            Ok(value) => pointer.set_list(&value, &mut lim, copying.canonicalize),
+            Err(k) => Err(k),
+        },
     }
 }
 
@@ -36,19 +86,18 @@ fn copy_root<A: BuilderArena>(
 pub(crate) fn edit_source<A: BuilderArena>(
     arena: &mut A,
     place: PointerPlace,
-    source: Source<'_>,
-    canonicalize: bool,
+    copying: Copying<'_>,
 ) -> Result<(), ErrorKind>
     requires { IsPlace (A.view arena.old).words place.segment place.word }
-    ensures done { CopiesRoot (A.view arena.old).words (A.view arena.new).words place (source.entry, canonicalize) (refusal_of result) }
+    ensures done { CopiesRoot (A.view arena.old).words (A.view arena.new).words place copying.entry (refusal_of result) }
     ensures counted { IsCopyCounted (refusal_of result) (A.view arena.old).refusals (A.view arena.new).refusals }
-    ensures named { IfErr result (IsSourceRefused (A.view arena.old) (A.view arena.new) source.entry canonicalize) }
-    ensures fits { FitsBehind (A.view arena.old) place.segment source.entry canonicalize → IsOk result }
+    ensures named { IfErr result (IsSourceRefused (A.view arena.old) (A.view arena.new) copying.entry) }
+    ensures fits { FitsBehind (A.view arena.old) place.segment copying.entry → IsOk result }
 {
     let mut pointer = PointerBuilder {
         arena,
         segment: place.segment,
         at: place.word,
     };
-    copy_root(&mut pointer, source, canonicalize)
+    copy_root(&mut pointer, copying)
 }

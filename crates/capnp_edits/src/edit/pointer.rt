@@ -4,10 +4,10 @@ ghost use Rattle.capnp_format.specs.Segments.{IsPlace};
 ghost use Rattle.capnp_making.specs.Memory.{HasRoom, IsRefusedFor};
 ghost use Rattle.capnp_words.specs.declared.error.ErrorKind.TheVariants.{NoSuchPlace};
 ghost use Rattle.capnp_builders.specs.Building.{built, IsThere};
-ghost use Rattle.capnp_edits.specs.Edits.{refusal_of, field_of, is_field, is_content, is_search, is_in_range, place_of, words_taken, is_of_place, copied_by, OpFits, IsRefusedAs, IsCounted, GivesAt, Does, refusals_after};
+ghost use Rattle.capnp_edits.specs.Edits.{refusal_of, field_of, is_field, is_content, is_search, is_init, is_in_range, place_of, words_taken, is_of_place, copied_by, OpFits, IsRefusedAs, IsCounted, GivesAt, Does, refusals_after};
 
 use crate::edit::Op;
-use crate::edit::copying::edit_source;
+use crate::edit::copying::{copying_of, edit_source};
 use crate::edit::elements::edit_content;
 use crate::edit::fields::{edit_struct, is_element_of, is_number_of};
 use crate::edit::found::edit_search;
@@ -41,7 +41,7 @@ pub(crate) fn is_in_range(op: Op<'_>) -> bool
         Op::GetStruct(_, _) | Op::GetStructList(_, _) => false,
         Op::InitStruct(_) | Op::SetCapability(_) | Op::Clear | Op::SetBool(_, _) => true,
         Op::WriteText(_, _) | Op::WriteData(_, _) | Op::GetText(_) | Op::GetData(_) => true,
-        Op::CopyFrom(_, _) => true,
+        Op::CopyFrom(_, _) | Op::SetStruct(_, _) | Op::SetList(_, _) => true,
     }
 }
 
@@ -67,6 +67,48 @@ fn is_search(op: Op<'_>) -> bool
     ensures { result ≡ is_search op.entry }
 {
     matches!(op, Op::GetList(_, _) | Op::GetText(_) | Op::GetData(_))
+}
+
+/// Makes of a pointer the bytes or the capability that an operation says, or null.
+fn set<A: BuilderArena>(pointer: &mut PointerBuilder<'_, A>, op: Op<'_>) -> Result<(), ErrorKind>
+    requires there { IsThere (built A.view pointer.old) }
+    requires range { is_in_range op ≡ true }
+    requires whole { is_field (field_of op) ≡ false }
+    requires new { is_content op ≡ false }
+    requires made { is_search op ≡ false }
+    requires uncopied { copied_by op ≡ None }
+    requires set { is_init op ≡ false }
+    ensures done { GivesAt (A.view pointer.old.arena.now).words (A.view pointer.new.arena.now).words (place_of pointer.old) op.entry (refusal_of result) }
+    ensures counted { (A.view pointer.new.arena.now).refusals ≡ refusals_after (refusal_of result) (A.view pointer.old.arena.now).refusals }
+    ensures named { IfErr result (IsRefusedFor (A.view pointer.old.arena.now) (A.view pointer.new.arena.now) (words_taken op.entry)) }
+    ensures fits { HasRoom (A.view pointer.old.arena.now) pointer.old.segment (words_taken op.entry) → IsOk result }
+    ensures same { pointer.new.arena.ghost_name ≡ pointer.old.arena.ghost_name }
+{
+    match op {
+        Op::SetText(bytes) => pointer.set_text(bytes),
+        Op::SetData(bytes) => pointer.set_data(bytes),
+        Op::SetCapability(index) => {
+            pointer.set_capability(index);
+            Ok(())
+        }
+        Op::Clear => {
+            pointer.clear();
+            Ok(())
+        }
+        Op::InitStruct(_) | Op::InitList(_, _) | Op::InitStructList(_, _) => {
+            Err(ErrorKind::NoSuchPlace)
+        }
+        Op::InitText(_) | Op::InitData(_) => Err(ErrorKind::NoSuchPlace),
+        Op::SetField(_, _, _) | Op::SetBool(_, _) => Err(ErrorKind::NoSuchPlace),
+        Op::SetElement(_, _, _) | Op::WriteText(_, _) | Op::WriteData(_, _) => {
+            Err(ErrorKind::NoSuchPlace)
+        }
+        Op::GetStruct(_, _) | Op::GetStructList(_, _) => Err(ErrorKind::NoSuchPlace),
+        Op::GetList(_, _) | Op::GetText(_) | Op::GetData(_) => Err(ErrorKind::NoSuchPlace),
+        Op::CopyFrom(_, _) | Op::SetStruct(_, _) | Op::SetList(_, _) => {
+            Err(ErrorKind::NoSuchPlace)
+        }
+    }
 }
 
 /// Makes of a pointer what an operation says that makes a whole value.
@@ -104,23 +146,7 @@ fn put<A: BuilderArena>(pointer: &mut PointerBuilder<'_, A>, op: Op<'_>) -> Resu
             Ok(_) => Ok(()),
             Err(k) => Err(k),
         },
-        Op::SetText(bytes) => pointer.set_text(bytes),
-        Op::SetData(bytes) => pointer.set_data(bytes),
-        Op::SetCapability(index) => {
-            pointer.set_capability(index);
-            Ok(())
-        }
-        Op::Clear => {
-            pointer.clear();
-            Ok(())
-        }
-        Op::SetField(_, _, _) | Op::SetBool(_, _) => Err(ErrorKind::NoSuchPlace),
-        Op::SetElement(_, _, _) | Op::WriteText(_, _) | Op::WriteData(_, _) => {
-            Err(ErrorKind::NoSuchPlace)
-        }
-        Op::GetStruct(_, _) | Op::GetStructList(_, _) => Err(ErrorKind::NoSuchPlace),
-        Op::GetList(_, _) | Op::GetText(_) | Op::GetData(_) => Err(ErrorKind::NoSuchPlace),
-        Op::CopyFrom(_, _) => Err(ErrorKind::NoSuchPlace),
+        _ => set(pointer, op),
     }
 }
 
@@ -167,8 +193,8 @@ pub(crate) fn edit_pointer<A: BuilderArena>(
     if !is_in_range(op) {
         return Err(ErrorKind::NoSuchPlace);
     }
-    if let Op::CopyFrom(source, canonicalize) = op {
-        return edit_source(arena, place, source, canonicalize);
+    if let Some(copying) = copying_of(op) {
+        return edit_source(arena, place, copying);
     }
     if is_search(op) {
         return edit_search(arena, place, op);

@@ -1,52 +1,140 @@
-use Rattle.std.proofs.Common.{◌≡◌, inl, true, refl, sym, ap, ◌∙◌, subst}
+use Rattle.std.proofs.Common.{inl, true, refl, sym, ap, ◌∙◌, subst}
 use Rattle.capnp_words.specs.Meter.{Affords, charged}
-use Rattle.capnp_readers.specs.Readers.{reading}
-use Rattle.capnp_edits.specs.Sources.{root_of}
+use Rattle.capnp_edits.specs.Sources.{IsUnread}
 use Rattle.capnp_edits.specs.Edits.{place_of, root_unread}
-use Rattle.capnp_edits.proofs.Copied.{copy_done, copy_named, copy_counted, unread_counted, can_be_copied}
+use Rattle.capnp_edits.proofs.Copied.{Tried, tried_done, tried_counted, tried_named, tried_fits, value_tried, struct_copied, list_copied, unread_counted, struct_unread, list_unread, struct_found, list_found}
 use Rattle.capnp_edits.proofs.edit.copying.copy_root.Goals as goal
 
-pub returns-in-Ok-clause-done : goal.returns-in-Ok-clause-done
-returns-in-Ok-clause-done g c =
-    let old = g.A.BuilderArena.view c.args.pointer.now.arena.now in
-    let new = g.A.BuilderArena.view c.copy_from.new.self.arena.now in
-    let held = c.in-Ok.ensures.exactly.0 refl in
-    copy_done c.copy_from.result c.args.source c.args.canonicalize _ _ _ old new (place_of c.args.pointer.now) (rw (c.in-Ok.ensures.source, c.in-Ok.ensures.place.0, c.in-Ok.ensures.place.1, c.in-Ok.ensures.nesting) refl)
-    (c.in-Ok.ensures.granted ∙ ap (λ m. charged true m 1) c.new-lim.ensures) (held.0, subst (λ m. Affords true m 1) c.new-lim.ensures held.1)
-    c.copy_from.ensures.copied c.copy_from.ensures.refused c.copy_from.ensures.cleared
-
-pub returns-in-Ok-clause-counted : goal.returns-in-Ok-clause-counted
-returns-in-Ok-clause-counted g c =
-    let old = g.A.BuilderArena.view c.args.pointer.now.arena.now in
-    let new = g.A.BuilderArena.view c.copy_from.new.self.arena.now in
-    copy_counted c.copy_from.result c.args.canonicalize _ _ _ old new (place_of c.args.pointer.now) c.copy_from.ensures.granted c.copy_from.ensures.refused c.copy_from.ensures.memory
-
-pub returns-in-Ok-clause-named : goal.returns-in-Ok-clause-named
-returns-in-Ok-clause-named g c =
-    let old = g.A.BuilderArena.view c.args.pointer.now.arena.now in
-    let new = g.A.BuilderArena.view c.copy_from.new.self.arena.now in
-    copy_named c.copy_from.result c.args.source c.args.canonicalize _ _ _ old new (place_of c.args.pointer.now) (rw (c.in-Ok.ensures.source, c.in-Ok.ensures.place.0, c.in-Ok.ensures.place.1, c.in-Ok.ensures.nesting) refl)
-    (c.in-Ok.ensures.granted ∙ ap (λ m. charged true m 1) c.new-lim.ensures) c.copy_from.ensures.refused
-
 -- There is no root where it is refused.
-pub returns-in-Err-clause-done : goal.returns-in-Err-clause-done
-returns-in-Err-clause-done g c =
-    root_unread c.in-Err.k
-    (λ has. absurd (let e = c.in-Err.ensures.exactly.1 (has.0, subst (λ m. Affords true m 1) (sym c.new-lim.ensures) has.1) in cc), c.in-Err.ensures.outside, c.in-Err.ensures.budget) refl refl
+rootless : (g : _) (c : goal.In-Err g) → IsUnread c.args.copying c.in-Err.k
+rootless g c =
+    inl (λ has. absurd (let e = c.in-Err.ensures.exactly.1 (has.0, subst (λ m. Affords true m 1) (sym c.new-lim.ensures) has.1) in cc), c.in-Err.ensures.outside, c.in-Err.ensures.budget)
 
-pub returns-in-Err-clause-counted : goal.returns-in-Err-clause-counted
-returns-in-Err-clause-counted g c =
-    unread_counted c.args.source c.in-Err.k _
-    (λ has. absurd (let e = c.in-Err.ensures.exactly.1 (has.0, subst (λ m. Affords true m 1) (sym c.new-lim.ensures) has.1) in cc), c.in-Err.ensures.outside, c.in-Err.ensures.budget)
+pub returns-in-Err-clause-done : goal.returns-in-Err-clause-done
+returns-in-Err-clause-done g c = root_unread c.in-Err.k (rootless g c) refl refl
 
 pub returns-in-Err-clause-named : goal.returns-in-Err-clause-named
-returns-in-Err-clause-named g c =
-    inl ((λ has. absurd (let e = c.in-Err.ensures.exactly.1 (has.0, subst (λ m. Affords true m 1) (sym c.new-lim.ensures) has.1) in cc), c.in-Err.ensures.outside, c.in-Err.ensures.budget), refl)
+returns-in-Err-clause-named g c = inl (rootless g c, refl)
 
-pub returns-in-Ok-clause-fits : goal.returns-in-Ok-clause-fits
-returns-in-Ok-clause-fits g c = λ h.
-    (let is_root : reading _ c.in-Ok.root ≡ root_of c.args.source = rw (c.in-Ok.ensures.source, c.in-Ok.ensures.place.0, c.in-Ok.ensures.place.1, c.in-Ok.ensures.nesting) refl in
-    c.copy_from.ensures.fits (can_be_copied c.args.source c.args.canonicalize _ _ _ _ is_root (c.in-Ok.ensures.granted ∙ ap (λ m. charged true m 1) c.new-lim.ensures) h.fits))
+-- The copy of what the root means.
+value_at : (g : _) (c : goal.After-copy_from g) → Tried c.copy_from.result c.args.copying (g.A.BuilderArena.view c.args.pointer.now.arena.now) (g.A.BuilderArena.view c.copy_from.new.self.arena.now) (place_of c.args.pointer.now)
+value_at g c =
+    let held = c.in-Ok.ensures.exactly.0 refl in
+    value_tried c.copy_from.result c.args.copying _ _ _ _ _ (place_of c.args.pointer.now) c.in-Value.is (rw (c.in-Ok.ensures.source, c.in-Ok.ensures.place.0, c.in-Ok.ensures.place.1, c.in-Ok.ensures.nesting) refl)
+    (c.in-Ok.ensures.granted ∙ ap (λ m. charged true m 1) c.new-lim.ensures) (held.0, subst (λ m. Affords true m 1) c.new-lim.ensures held.1) c.copy_from.ensures.copied c.copy_from.ensures.refused
 
-pub returns-in-Err-clause-fits : goal.returns-in-Err-clause-fits
-returns-in-Err-clause-fits g c = λ h. absurd (let e = c.in-Err.ensures.exactly.1 (h.root.0, subst (λ m. Affords true m 1) (sym c.new-lim.ensures) h.root.1) in cc)
+pub returns-in-Value-clause-done : goal.returns-in-Value-clause-done
+returns-in-Value-clause-done g c = tried_done c.copy_from.result c.args.copying _ _ _ (value_at g c) c.copy_from.ensures.cleared
+
+pub returns-in-Value-clause-counted : goal.returns-in-Value-clause-counted
+returns-in-Value-clause-counted g c = tried_counted c.copy_from.result c.args.copying _ _ _ (value_at g c) c.copy_from.ensures.granted c.copy_from.ensures.memory
+
+pub returns-in-Value-clause-named : goal.returns-in-Value-clause-named
+returns-in-Value-clause-named g c = tried_named c.copy_from.result c.args.copying _ _ _ (value_at g c)
+
+pub returns-in-Value-clause-fits : goal.returns-in-Value-clause-fits
+returns-in-Value-clause-fits g c = tried_fits c.copy_from.result c.args.copying _ _ _ (value_at g c)
+
+-- The copy of the struct that it leads to.
+struct_there : (g : _) (c : goal.After-set_struct g) → Tried c.set_struct.result c.args.copying (g.A.BuilderArena.view c.args.pointer.now.arena.now) (g.A.BuilderArena.view c.set_struct.new.self.arena.now) (place_of c.args.pointer.now)
+struct_there g c =
+    let held = c.in-Ok.ensures.exactly.0 refl in
+    struct_copied c.set_struct.result c.args.copying _ c.in-Ok.root c.in-Ok-get_struct.value _ _ _ _ _ (place_of c.args.pointer.now) c.in-Struct.is
+    (record {
+      root = (held.0, subst (λ m. Affords true m 1) c.new-lim.ensures held.1);
+      reads = rw (c.in-Ok.ensures.source, c.in-Ok.ensures.place.0, c.in-Ok.ensures.place.1, c.in-Ok.ensures.nesting) refl;
+      once = c.in-Ok.ensures.granted ∙ ap (λ m. charged true m 1) c.new-lim.ensures;
+    }) c.in-Ok-get_struct.value.content_is.1 c.in-Ok-get_struct.ensures.read c.set_struct.ensures.copied c.set_struct.ensures.refused
+
+pub returns-in-Ok-get_struct-clause-done : goal.returns-in-Ok-get_struct-clause-done
+returns-in-Ok-get_struct-clause-done g c = tried_done c.set_struct.result c.args.copying _ _ _ (struct_there g c) c.set_struct.ensures.cleared
+
+pub returns-in-Ok-get_struct-clause-counted : goal.returns-in-Ok-get_struct-clause-counted
+returns-in-Ok-get_struct-clause-counted g c = tried_counted c.set_struct.result c.args.copying _ _ _ (struct_there g c) c.set_struct.ensures.granted c.set_struct.ensures.memory
+
+pub returns-in-Ok-get_struct-clause-named : goal.returns-in-Ok-get_struct-clause-named
+returns-in-Ok-get_struct-clause-named g c = tried_named c.set_struct.result c.args.copying _ _ _ (struct_there g c)
+
+pub returns-in-Ok-get_struct-clause-fits : goal.returns-in-Ok-get_struct-clause-fits
+returns-in-Ok-get_struct-clause-fits g c = tried_fits c.set_struct.result c.args.copying _ _ _ (struct_there g c)
+
+-- There is none where it isn't found.
+struct_missing : (g : _) (c : goal.In-Err-get_struct g) → IsUnread c.args.copying c.in-Err-get_struct.k
+struct_missing g c =
+    let held = c.in-Ok.ensures.exactly.0 refl in
+    struct_unread _ c.args.copying c.in-Ok.root _ _ c.in-Err-get_struct.k c.in-Struct.is
+    (record {
+      root = (held.0, subst (λ m. Affords true m 1) c.new-lim.ensures held.1);
+      reads = rw (c.in-Ok.ensures.source, c.in-Ok.ensures.place.0, c.in-Ok.ensures.place.1, c.in-Ok.ensures.nesting) refl;
+      once = c.in-Ok.ensures.granted ∙ ap (λ m. charged true m 1) c.new-lim.ensures;
+    }) c.in-Err-get_struct.ensures.refused
+
+pub returns-in-Err-get_struct-clause-done : goal.returns-in-Err-get_struct-clause-done
+returns-in-Err-get_struct-clause-done g c = root_unread c.in-Err-get_struct.k (struct_missing g c) refl refl
+
+pub returns-in-Err-get_struct-clause-counted : goal.returns-in-Err-get_struct-clause-counted
+returns-in-Err-get_struct-clause-counted g c = unread_counted c.args.copying c.in-Err-get_struct.k _ (struct_missing g c)
+
+pub returns-in-Err-get_struct-clause-named : goal.returns-in-Err-get_struct-clause-named
+returns-in-Err-get_struct-clause-named g c = inl (struct_missing g c, refl)
+
+pub returns-in-Err-get_struct-clause-fits : goal.returns-in-Err-get_struct-clause-fits
+returns-in-Err-get_struct-clause-fits g c = λ fits.
+    (c.in-Err-get_struct.ensures.exactly.1 (struct_found _ c.args.copying c.in-Ok.root _ _ _ c.in-Struct.is
+    (record {
+      root = fits.root;
+      reads = rw (c.in-Ok.ensures.source, c.in-Ok.ensures.place.0, c.in-Ok.ensures.place.1, c.in-Ok.ensures.nesting) refl;
+      once = c.in-Ok.ensures.granted ∙ ap (λ m. charged true m 1) c.new-lim.ensures;
+    }) fits))
+
+-- The copy of the list that it leads to.
+list_there : (g : _) (c : goal.After-set_list g) → Tried c.set_list.result c.args.copying (g.A.BuilderArena.view c.args.pointer.now.arena.now) (g.A.BuilderArena.view c.set_list.new.self.arena.now) (place_of c.args.pointer.now)
+list_there g c =
+    let held = c.in-Ok.ensures.exactly.0 refl in
+    list_copied c.set_list.result c.args.copying _ c.in-Ok.root c.in-Ok-get_list.value _ _ _ _ _ (place_of c.args.pointer.now) c.in-List.is
+    (record {
+      root = (held.0, subst (λ m. Affords true m 1) c.new-lim.ensures held.1);
+      reads = rw (c.in-Ok.ensures.source, c.in-Ok.ensures.place.0, c.in-Ok.ensures.place.1, c.in-Ok.ensures.nesting) refl;
+      once = c.in-Ok.ensures.granted ∙ ap (λ m. charged true m 1) c.new-lim.ensures;
+    }) c.in-Ok-get_list.ensures.read c.set_list.ensures.copied c.set_list.ensures.refused
+
+pub returns-in-Ok-get_list-clause-done : goal.returns-in-Ok-get_list-clause-done
+returns-in-Ok-get_list-clause-done g c = tried_done c.set_list.result c.args.copying _ _ _ (list_there g c) c.set_list.ensures.cleared
+
+pub returns-in-Ok-get_list-clause-counted : goal.returns-in-Ok-get_list-clause-counted
+returns-in-Ok-get_list-clause-counted g c = tried_counted c.set_list.result c.args.copying _ _ _ (list_there g c) c.set_list.ensures.granted c.set_list.ensures.memory
+
+pub returns-in-Ok-get_list-clause-named : goal.returns-in-Ok-get_list-clause-named
+returns-in-Ok-get_list-clause-named g c = tried_named c.set_list.result c.args.copying _ _ _ (list_there g c)
+
+pub returns-in-Ok-get_list-clause-fits : goal.returns-in-Ok-get_list-clause-fits
+returns-in-Ok-get_list-clause-fits g c = tried_fits c.set_list.result c.args.copying _ _ _ (list_there g c)
+
+-- There is none where it isn't found.
+list_missing : (g : _) (c : goal.In-Err-get_list g) → IsUnread c.args.copying c.in-Err-get_list.k
+list_missing g c =
+    let held = c.in-Ok.ensures.exactly.0 refl in
+    list_unread _ c.args.copying c.in-Ok.root _ _ c.in-Err-get_list.k c.in-List.is
+    (record {
+      root = (held.0, subst (λ m. Affords true m 1) c.new-lim.ensures held.1);
+      reads = rw (c.in-Ok.ensures.source, c.in-Ok.ensures.place.0, c.in-Ok.ensures.place.1, c.in-Ok.ensures.nesting) refl;
+      once = c.in-Ok.ensures.granted ∙ ap (λ m. charged true m 1) c.new-lim.ensures;
+    }) c.in-Err-get_list.ensures.refused
+
+pub returns-in-Err-get_list-clause-done : goal.returns-in-Err-get_list-clause-done
+returns-in-Err-get_list-clause-done g c = root_unread c.in-Err-get_list.k (list_missing g c) refl refl
+
+pub returns-in-Err-get_list-clause-counted : goal.returns-in-Err-get_list-clause-counted
+returns-in-Err-get_list-clause-counted g c = unread_counted c.args.copying c.in-Err-get_list.k _ (list_missing g c)
+
+pub returns-in-Err-get_list-clause-named : goal.returns-in-Err-get_list-clause-named
+returns-in-Err-get_list-clause-named g c = inl (list_missing g c, refl)
+
+pub returns-in-Err-get_list-clause-fits : goal.returns-in-Err-get_list-clause-fits
+returns-in-Err-get_list-clause-fits g c = λ fits.
+    (c.in-Err-get_list.ensures.exactly.1 (list_found _ c.args.copying c.in-Ok.root _ _ _ c.in-List.is
+    (record {
+      root = fits.root;
+      reads = rw (c.in-Ok.ensures.source, c.in-Ok.ensures.place.0, c.in-Ok.ensures.place.1, c.in-Ok.ensures.nesting) refl;
+      once = c.in-Ok.ensures.granted ∙ ap (λ m. charged true m 1) c.new-lim.ensures;
+    }) fits))

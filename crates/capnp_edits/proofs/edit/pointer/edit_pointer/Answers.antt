@@ -1,7 +1,7 @@
 use Rattle.std.proofs.Common.{sym, ◌∙◌, refl, ap}
 use Rattle.capnp_arena.specs.View.{View}
 use Rattle.capnp_edits.proofs.Applied.{none_counted, refused_as, given_at, written_at, no_struct_at, out_of_range, never_nowhere, kept_nowhere, refused_there, of_place}
-use Rattle.capnp_edits.proofs.Copied.{copied_at, counted_as, copy_refused, copy_nowhere, copy_fits, words_fit, uncopied, exactly_counted}
+use Rattle.capnp_edits.proofs.Copied.{copied_at, counted_as, copy_refused, copy_nowhere, copy_fits, words_fit, none_copied, exactly_counted}
 use Rattle.capnp_edits.proofs.edit.pointer.edit_pointer.Goals as goal
 
 pub returns-in-Some-clause-done : goal.returns-in-Some-clause-done
@@ -22,10 +22,10 @@ pub returns-in-Some-clause-named : goal.returns-in-Some-clause-named
 returns-in-Some-clause-named g c = refused_there c.edit_struct.result _ _ c.args.op (of_place c.edit_struct.result c.edit_struct.ensures.named) c.edit_struct.ensures.kept
 
 pub returns-clause-fits : goal.returns-clause-fits
-returns-clause-fits g c = words_fit c.put_at.result _ _ c.args.op (uncopied c.args.op c.in_default.not-CopyFrom) c.put_at.ensures.fits
+returns-clause-fits g c = words_fit c.put_at.result _ _ c.args.op (none_copied c.args.op (λ copied e. c.in_default.not-Some copied (c.copying_of.ensures ∙ e))) c.put_at.ensures.fits
 
 pub returns-clause-named : goal.returns-clause-named
-returns-clause-named g c = refused_as c.put_at.result _ _ c.args.op (uncopied c.args.op c.in_default.not-CopyFrom) c.put_at.ensures.named
+returns-clause-named g c = refused_as c.put_at.result _ _ c.args.op (none_copied c.args.op (λ copied e. c.in_default.not-Some copied (c.copying_of.ensures ∙ e))) c.put_at.ensures.named
 
 pub returns-in-None-clause-done : goal.returns-in-None-clause-done
 returns-in-None-clause-done g c = no_struct_at _ c.args.place c.args.op (sym c.is_on_field.ensures ∙ c.if-is_on_field.true) c.in-None.ensures.found
@@ -33,20 +33,20 @@ returns-in-None-clause-done g c = no_struct_at _ c.args.place c.args.op (sym c.i
 pub returns-then-not-is_in_range-clause-done : goal.returns-then-not-is_in_range-clause-done
 returns-then-not-is_in_range-clause-done g c = out_of_range _ c.args.place c.args.op (sym c.is_in_range.ensures ∙ c.if-not-is_in_range.true)
 
-pub returns-in-CopyFrom-clause-done : goal.returns-in-CopyFrom-clause-done
-returns-in-CopyFrom-clause-done g c = copied_at _ _ c.args.place c.args.op c.in-CopyFrom.source c.in-CopyFrom.canonicalize _ c.in-CopyFrom.is c.edit_source.ensures.done
+pub returns-in-Some-copying_of-clause-done : goal.returns-in-Some-copying_of-clause-done
+returns-in-Some-copying_of-clause-done g c = copied_at _ _ c.args.place c.args.op c.in-Some-copying_of.copying _ (sym c.copying_of.ensures ∙ c.in-Some-copying_of.is) c.edit_source.ensures.done
 
-pub returns-in-CopyFrom-clause-counted : goal.returns-in-CopyFrom-clause-counted
-returns-in-CopyFrom-clause-counted g c = counted_as c.args.op c.in-CopyFrom.source c.in-CopyFrom.canonicalize _ _ _ c.in-CopyFrom.is c.edit_source.ensures.counted
+pub returns-in-Some-copying_of-clause-counted : goal.returns-in-Some-copying_of-clause-counted
+returns-in-Some-copying_of-clause-counted g c = counted_as c.args.op c.in-Some-copying_of.copying _ _ _ (sym c.copying_of.ensures ∙ c.in-Some-copying_of.is) c.edit_source.ensures.counted
 
-pub returns-in-CopyFrom-clause-named : goal.returns-in-CopyFrom-clause-named
-returns-in-CopyFrom-clause-named g c = copy_refused c.edit_source.result _ _ c.args.op c.in-CopyFrom.source c.in-CopyFrom.canonicalize c.in-CopyFrom.is c.edit_source.ensures.named
+pub returns-in-Some-copying_of-clause-named : goal.returns-in-Some-copying_of-clause-named
+returns-in-Some-copying_of-clause-named g c = copy_refused c.edit_source.result _ _ c.args.op c.in-Some-copying_of.copying (sym c.copying_of.ensures ∙ c.in-Some-copying_of.is) c.edit_source.ensures.named
 
-pub returns-in-CopyFrom-clause-fits : goal.returns-in-CopyFrom-clause-fits
-returns-in-CopyFrom-clause-fits g c = copy_fits c.edit_source.result _ _ c.args.op c.in-CopyFrom.source c.in-CopyFrom.canonicalize c.in-CopyFrom.is c.edit_source.ensures.fits
+pub returns-in-Some-copying_of-clause-fits : goal.returns-in-Some-copying_of-clause-fits
+returns-in-Some-copying_of-clause-fits g c = copy_fits c.edit_source.result _ _ c.args.op c.in-Some-copying_of.copying (sym c.copying_of.ensures ∙ c.in-Some-copying_of.is) c.edit_source.ensures.fits
 
-pub returns-in-CopyFrom-clause-nowhere : goal.returns-in-CopyFrom-clause-nowhere
-returns-in-CopyFrom-clause-nowhere g c = copy_nowhere c.edit_source.result _ _ c.in-CopyFrom.source c.in-CopyFrom.canonicalize c.edit_source.ensures.named
+pub returns-in-Some-copying_of-clause-nowhere : goal.returns-in-Some-copying_of-clause-nowhere
+returns-in-Some-copying_of-clause-nowhere g c = copy_nowhere c.edit_source.result _ _ c.in-Some-copying_of.copying c.edit_source.ensures.named
 
 pub returns-in-Some-clause-counted : goal.returns-in-Some-clause-counted
 returns-in-Some-clause-counted g c = exactly_counted c.args.op _ _ _ (none_counted c.edit_struct.result _ _ (ap (λ (v : View). v.refusals) c.edit_struct.ensures.limits) (of_place c.edit_struct.result c.edit_struct.ensures.named))

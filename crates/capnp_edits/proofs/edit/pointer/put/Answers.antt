@@ -1,9 +1,8 @@
-use Rattle.std.proofs.Common.{ap, subst, ◌++◌, ◌∷◌, []}
-use Rattle.capnp_format.specs.Tree.{Flat}
+use Rattle.std.proofs.Common.{ap, subst}
 use Rattle.capnp_edits.specs.Edits.{made_at, takes_memory, words_taken}
 use Rattle.capnp_edits.specs.Paths.{PointerTo}
 use Rattle.capnp_making.specs.Memory.{HasRoom}
-use Rattle.capnp_edits.proofs.Applied.{refused_at, bytes_refused}
+use Rattle.capnp_edits.proofs.Applied.{refused_at}
 use Rattle.capnp_edits.proofs.edit.pointer.put.Goals as goal
 
 pub returns-in-Err-clause-done : goal.returns-in-Err-clause-done
@@ -20,14 +19,6 @@ returns-in-Err-put_list-2-clause-done g c = refused_at (g.A.BuilderArena.view c.
 
 pub returns-in-Err-put_list-3-clause-done : goal.returns-in-Err-put_list-3-clause-done
 returns-in-Err-put_list-3-clause-done g c = refused_at (g.A.BuilderArena.view c.args.pointer.now.arena.now) _ _ c.args.op _ c.in-Err-put_list-3.k _ (ap takes_memory c.in-InitData.is) (λ t. ap (λ op. made_at op (PointerTo t)) c.in-InitData.is) c.in-Err-put_list-3.ensures.named c.in-Err-put_list-3.ensures.refused
-
-pub returns-in-SetText-clause-done : goal.returns-in-SetText-clause-done
-returns-in-SetText-clause-done g c =
-    bytes_refused c.set_text.result (g.A.BuilderArena.view c.args.pointer.now.arena.now) _ _ c.args.op _ (Flat 2 (c.in-SetText.bytes.now ++ 0 ∷ [])) (ap takes_memory c.in-SetText.is) (λ t. ap (λ op. made_at op (PointerTo t)) c.in-SetText.is) c.set_text.ensures.made c.set_text.ensures.named c.set_text.ensures.refused
-
-pub returns-in-SetData-clause-done : goal.returns-in-SetData-clause-done
-returns-in-SetData-clause-done g c =
-    bytes_refused c.set_data.result (g.A.BuilderArena.view c.args.pointer.now.arena.now) _ _ c.args.op _ (Flat 2 c.in-SetData.bytes.now) (ap takes_memory c.in-SetData.is) (λ t. ap (λ op. made_at op (PointerTo t)) c.in-SetData.is) c.set_data.ensures.made c.set_data.ensures.named c.set_data.ensures.refused
 
 pub returns-in-Err-put_struct_list-clause-fits : goal.returns-in-Err-put_struct_list-clause-fits
 returns-in-Err-put_struct_list-clause-fits g c =

@@ -1,0 +1,194 @@
+-- The copy of the struct that a root leads to.
+use Rattle.std.proofs.Common.{◌≡◌, inl, inr, ◌⊎◌, ℕ, zero, suc, pred, ◌+◌, ◌*◌, ◌^◌, ◌<◌, ◌≤◌, Bool, nat_eq, cond, List, [], length, Some, None, refl, sym, ap, ap₂, ◌∙◌, subst, arith}
+use lib.IntN.{ℤ, pos, negsuc, ◌-ℤ◌}
+use Rattle.std.proofs.lemmas.Int.{ints}
+use Rattle.capnp_words.specs.Meter.{Meter, Affords}
+use Rattle.capnp_words.specs.declared.error.ErrorKind.{ErrorKind}
+use Rattle.capnp_words.specs.declared.error.ErrorKind.TheVariants.{AllocationFailed, MessageContainsNonStructPointerWhereStructPointerWasExpected, MessageTooLarge}
+use Rattle.capnp_arena.specs.Allocations.{one_more}
+use Rattle.capnp_arena.specs.View.{View}
+use Rattle.capnp_arena.specs.declared.arena.reader_arena.ReaderArena.{Ghosts}
+use Rattle.capnp_format.specs.Canonical.{word_count}
+use Rattle.capnp_format.specs.Means.{Leads, Means, Claims}
+use Rattle.capnp_format.specs.Segments.{Segments, Target, segment, words_at}
+use Rattle.capnp_format.specs.Tree.{Tree, Null, Capability, Struct, Flat, Pointers, Structs, Trees, no_trees, tree, count, capabilities}
+use Rattle.capnp_format.specs.Word.{kind, data_words, pointer_count}
+use Rattle.capnp_objects.specs.declared.object.Expected.TheVariants.{Struct as ExpectedStruct}
+use Rattle.capnp_objects.specs.Demands.{claim, own}
+use Rattle.capnp_objects.specs.Expected.{CanBeGiven, too_deep}
+use Rattle.capnp_objects.specs.Faults.{child_at}
+use Rattle.capnp_objects.specs.Outcomes.{Reads, ReadsAll, MeansThere}
+use Rattle.capnp_objects.specs.Reading.{Reading, behind}
+use Rattle.capnp_objects.specs.Refusals.{Refused, RefusedAll}
+use Rattle.capnp_objects.specs.Source.{levels}
+use Rattle.capnp_objects.specs.Spending.{after, pointers_in_all}
+use Rattle.capnp_objects.specs.Wanted.{Form, Takes}
+use Rattle.capnp_objects.proofs.Budgets.{after_none, affords_none, affords_rest, paid_own}
+use Rattle.capnp_objects.proofs.Copies.{read_none}
+use Rattle.capnp_objects.proofs.Faultless.{same_target}
+use Rattle.capnp_objects.proofs.Limits.{not_for_memory}
+use Rattle.capnp_objects.proofs.Objects.{read_null, read_struct, own_struct}
+use Rattle.capnp_objects.proofs.Parts.{claim_struct}
+use Rattle.capnp_objects.proofs.Refusals.{stops_struct, unreadable}
+use Rattle.capnp_readers.specs.Calls.{IsStructRead}
+use Rattle.capnp_readers.specs.Readers.{reading}
+use Rattle.capnp_readers.specs.Sections.{bytes_for}
+use Rattle.capnp_readers.specs.Sizes.{pointers_read}
+use Rattle.capnp_readers.specs.declared.readers.PointerReader.{PointerReader}
+use Rattle.capnp_readers.specs.declared.readers.struct_reader.StructReader.{StructReader}
+use Rattle.capnp_copies.specs.Changes.{change}
+use Rattle.capnp_copies.specs.Forms.{form_of, kept}
+use Rattle.capnp_copies.specs.StructValues.{RefusesSections, data_of}
+use Rattle.capnp_copies.proofs.DataSections.{whole_section, kept_count-le}
+use Rattle.capnp_edits.specs.declared.edit.copying.Copying.{Copying}
+use Rattle.capnp_edits.specs.declared.edit.copying.Wanted.TheVariants.{Struct as AStruct}
+use Rattle.capnp_edits.specs.Edits.{IsOfMemory}
+use Rattle.capnp_edits.specs.Sources.{as_wanted, CanBeCopiedAs, Sections, LeadsToStruct, no_struct, a_struct}
+use Rattle.capnp_edits.proofs.Applied.{of_allocation}
+use Rattle.capnp_edits.proofs.Steps.{same_some}
+
+-- one level less, as a nesting limit says it
+pub level_less : (z : ℤ) → 0 < levels z → levels (z -ℤ pos 1) ≡ pred (levels z)
+level_less (pos zero) some = absurd (omega arith)
+level_less (pos (suc n)) some = let e : (pos (suc n) -ℤ pos 1) ≡ pos n = omega (arith, ints) in ap levels e
+level_less (negsuc n) some = absurd (omega arith)
+
+-- what a struct reader shows is the struct that the place leads to
+pub struct_at : {A : Type 0} (g : Ghosts A) (p : PointerReader A g) (m m' : Meter) (v : StructReader A g) → length v.content.now ≡ bytes_for v.bits → IsStructRead g p m m' v →
+    LeadsToStruct (reading g p) m (record { words = data_of g v; first = pointers_read g v; pointers = v.pointer_count; limiter = m' })
+struct_at g p m m' v long (inl ((null, same), (nothing, no_bits, none, nesting))) = no_struct null (rw no_bits refl) none same
+struct_at g p m m' v long (inr (a, o, z, shows, source, nesting)) =
+    let bits = shows.bits_are in
+    let whole : length v.content.now ≡ 8 * data_words a.word = omega (arith, long, bits) in
+    let level : levels v.nesting_limit ≡ pred (levels p.nesting_limit) = ap levels nesting ∙ level_less p.nesting_limit o.meets.levels in
+    a_struct a o z (rw bits (whole_section (data_words a.word) v.content.now whole ∙ shows.words_are)) (rw (source, shows.segment_is, shows.pointers_start, level) refl) shows.pointers_are
+
+-- reading it, and then its pointers, is reading the value
+no_children : (ts : Trees) → count ts ≡ 0 → ts ≡ no_trees
+no_children no_trees e = refl
+no_children (tree t ts) e = absurd (omega arith)
+
+none_read : (form : Form) (r : Reading) (m m' : Meter) (ts : Trees) → ReadsAll form r m m' ts → ts ≡ no_trees → m' ≡ m
+none_read form r m m' no_trees all e = all.spent ∙ ap (λ c. after r.charging m c 0) all.means ∙ after_none r.charging m
+none_read form r m m' (tree t ts) all e = absurd (cc)
+
+pub struct_reads : (form : Form) (r : Reading) (m m' : Meter) (s : Sections) (ts : Trees) → LeadsToStruct r m s → count ts ≡ s.pointers → ReadsAll form s.first s.limiter m' ts →
+    (t : Tree) × Reads form r m m' t × (as_wanted AStruct t ≡ Some (Struct s.words ts))
+struct_reads form r m m' s ts (no_struct null ws none same) counts all =
+    let empty : ts ≡ no_trees = no_children ts (counts ∙ none) in
+    let still : m ≡ m' = sym (none_read form s.first s.limiter m' ts all empty ∙ same) in
+    (Null, subst (λ y. Reads form r m y Null) still (read_null m null), ap₂ (λ w u. Some (Struct w u)) (sym ws) (sym empty))
+struct_reads form r m m' s ts (a_struct a o z ws first q) counts all =
+    (Struct (words_at r.segments a.segment a.start (data_words a.word)) ts, read_struct o z (counts ∙ q) (subst (λ x. ReadsAll form x s.limiter m' ts) first all), ap (λ w. Some (Struct w ts)) (sym ws))
+
+-- where that is refused, so is the value
+struct_stops : (form : Form) (r : Reading) (m m' : Meter) (s : Sections) (k : ErrorKind) → LeadsToStruct r m s → RefusedAll form s.first s.pointers s.limiter m' k → Refused form r m m' k
+struct_stops form r m m' s k (no_struct null ws none same) refused = absurd (omega (arith, refused.fewer, none))
+struct_stops form r m m' s k (a_struct a o z ws first q) refused =
+    stops_struct o z (subst (λ i. RefusedAll form (child_at r a (pred r.levels) (a.start + data_words a.word)) i s.limiter m' k) q (subst (λ x. RefusedAll form x s.pointers s.limiter m' k) first refused))
+
+-- or there is no room
+pub struct_refused : (b : Bool) (id at : ℕ) (old new : View) (r : Reading) (m m' : Meter) (s : Sections) (k : ErrorKind) → LeadsToStruct r m s → RefusesSections s.words s.first s.pointers (change b id at old new s.limiter m') k →
+    IsOfMemory k ⊎ Refused (form_of b) r m m' k
+struct_refused b id at old new r m m' s k leads (inl (n, (refuses, none), wanted, exceeds)) = inl (of_allocation old new (length new.words) (n + 1) k refuses)
+struct_refused b id at old new r m m' s k leads (inr (inl refused)) = inr (struct_stops (form_of b) r m m' s k leads refused)
+struct_refused b id at old new r m m' s k leads (inr (inr (wide, named))) = inl (inr (_, named))
+
+-- and the allocator is asked where it says so
+pub struct_counted : (b : Bool) (id at : ℕ) (old new : View) (m m' : Meter) (s : Sections) (k : ErrorKind) → RefusesSections s.words s.first s.pointers (change b id at old new m m') k → k ≡ AllocationFailed →
+    new.refusals ≡ one_more old.refusals
+struct_counted b id at old new m m' s k (inl (n, (refuses, none), wanted, exceeds)) e = elim refuses [
+  | inl h ↦ h.3
+  | inr (inl h) ↦ absurd (let f : AllocationFailed ≡ MessageTooLarge (n + 1) = sym e ∙ h.0 in cc)
+  | inr (inr h) ↦ absurd (let f : AllocationFailed ≡ MessageTooLarge _ = sym e ∙ h.0 in cc)
+]
+struct_counted b id at old new m m' s k (inr (inl refused)) e = absurd (not_for_memory (subst (λ y. Refused (form_of b) (behind s.first (count refused.first)) refused.mid m' y) e refused.stops))
+struct_counted b id at old new m m' s k (inr (inr (wide, named))) e = absurd (let f : AllocationFailed ≡ MessageTooLarge _ = sym e ∙ named in cc)
+
+-- a struct that can be copied is found
+struct_meets : (S : Segments) (n s p : ℕ) (ws : List ℕ) (ts : Trees) (c : ℕ) → Means S n s p (Struct ws ts) c → (a : Target) × Leads S s p a × (kind a.word ≡ 0) × (0 < n) × Claims S a (claim a.word) × (own S a ≤ c)
+struct_meets S n s p ws ts c (a, k, some, o, claims, words, all, g) =
+    (a, o.leads_to, o.is_struct, some, omega (arith, claims, claim_struct a.word o.is_struct, o.data_of, o.pointers), omega (arith, own_struct S a o.is_struct, o.data_of, o.pointers, g))
+
+level_there : (n : ℕ) → 0 < n → too_deep ExpectedStruct n ≡ None
+level_there zero l = absurd (omega arith)
+level_there (suc n) l = refl
+
+pub own_covered : (charging : Bool) (m : Meter) (n c : ℕ) → n ≤ c → Affords charging m c → Affords charging m n
+own_covered charging m n c le covers = affords_rest {r = 0} n c (record { covers = affords_none charging m; spent = sym (after_none charging m) }) (omega arith) covers
+
+struct_suited : (r : Reading) (m : Meter) (t : Tree) (c : ℕ) (copied : Tree) → MeansThere r t c → Affords r.charging m c → as_wanted AStruct t ≡ Some copied → CanBeGiven ExpectedStruct r m
+unfolding CanBeGiven
+struct_suited r m Null c copied means covers e = inl means.0
+struct_suited r m (Struct ws ts) c copied means covers e =
+    let (a, leads, z, some, claims, paid) = struct_meets r.segments r.levels r.segment r.at ws ts c means in
+    inr (
+      a,
+      record {
+        level = level_there r.levels some;
+        leads_to = leads;
+        of_kind = ap (λ i. cond (nat_eq i 0) None (Some MessageContainsNonStructPointerWhereStructPointerWasExpected)) z;
+        meets = record { levels = omega arith; is_object = omega (arith, z); claims = claims; tagged = λ tagged. absurd (omega (arith, z, tagged.0)) };
+        fits = refl;
+      },
+      own_covered r.charging m (own r.segments a) c paid covers,
+    )
+struct_suited r m (Capability i) c copied means covers e = absurd (cc)
+struct_suited r m (Flat size ns) c copied means covers e = absurd (cc)
+struct_suited r m (Pointers ts) c copied means covers e = absurd (cc)
+struct_suited r m (Structs d q es) c copied means covers e = absurd (cc)
+
+pub struct_given : (c : Copying) (r : Reading) (m : Meter) (used room : ℕ) → c.wanted ≡ AStruct → CanBeCopiedAs c r m used room → CanBeGiven ExpectedStruct r m
+struct_given c r m used room is can = struct_suited r m can.value can.cost can.copied can.means can.covers (subst (λ w. as_wanted w can.value ≡ Some can.copied) is can.is_wanted)
+
+-- and then its pointers can be read, too
+record SectionsMatch (form : Form) (s : Sections) (copied : Tree) : Type 0 where
+  children : Trees
+  counts : count children ≡ s.pointers
+  end : Meter
+  are_read : ReadsAll form s.first s.limiter end children
+  is_struct : copied ≡ Struct s.words children
+  narrow : length s.words < 2 ^ 16
+
+struct_matches : (form : Form) (r : Reading) (m : Meter) (s : Sections) (t : Tree) (c : ℕ) (copied : Tree) → LeadsToStruct r m s → MeansThere r t c → Takes form (capabilities t) → Affords r.charging m c → as_wanted AStruct t ≡ Some copied →
+    SectionsMatch form s copied
+struct_matches form r m s Null c copied (no_struct null ws none same) means takes covers e = record {
+  children = no_trees;
+  counts = sym none;
+  end = s.limiter;
+  are_read = read_none form s.first s.limiter;
+  is_struct = sym (same_some (Struct [] no_trees) copied e) ∙ ap (λ w. Struct w no_trees) (sym ws);
+  narrow = rw ws (omega arith);
+}
+struct_matches form r m s Null c copied (a_struct a o z ws first q) means takes covers e = absurd (o.leads_to.0 means.0)
+struct_matches form r m s (Struct vs ts) c copied (no_struct null ws none same) (a, k, some, o, claims, words, all, g) takes covers e = absurd (o.leads_to.0 null)
+struct_matches form r m s (Struct vs ts) c copied (a_struct b o z ws first q) (a, k, some, at, claims, words, all, g) takes covers e =
+    let S : Segments = r.segments in
+    let same : b ≡ a = same_target S r.segment r.at o.leads_to.1 at.leads_to.1 in
+    let long : data_words b.word ≡ length vs = ap (λ (x : Target). data_words x.word) same ∙ at.data_of in
+    let are : s.words ≡ vs = ws ∙ ap₂ (λ (x : Target) n. words_at S x.segment x.start n) same long ∙ words in
+    let place : s.first ≡ child_at r a (pred r.levels) (a.start + length vs) = first ∙ ap₂ (λ (x : Target) n. child_at r x (pred r.levels) (x.start + n)) same long in
+    let enters : own S b + k ≤ c = omega (arith, own_struct S b z, long, ap (λ (x : Target). pointer_count x.word) same, at.pointers, ap (λ (x : Target). x.pads) same, g) in
+    record {
+      children = ts;
+      counts = sym (q ∙ ap (λ (x : Target). pointer_count x.word) same ∙ at.pointers);
+      end = after r.charging s.limiter k (pointers_in_all ts);
+      are_read = subst (λ x. ReadsAll form x s.limiter (after r.charging s.limiter k (pointers_in_all ts)) ts) (sym place) (record { cost = k; means = all; takes = takes; covers = affords_rest k c (paid_own o) enters covers; spent = refl });
+      is_struct = sym (same_some (Struct vs ts) copied e) ∙ ap (λ w. Struct w ts) (sym are);
+      narrow = omega (arith, ap length are, long);
+    }
+struct_matches form r m s (Capability i) c copied leads means takes covers e = absurd (cc)
+struct_matches form r m s (Flat size ns) c copied leads means takes covers e = absurd (cc)
+struct_matches form r m s (Pointers ts) c copied leads means takes covers e = absurd (cc)
+struct_matches form r m s (Structs d q es) c copied leads means takes covers e = absurd (cc)
+
+-- so it isn't refused
+pub struct_fits : (c : Copying) (r : Reading) (m m' : Meter) (s : Sections) (id at : ℕ) (old new : View) (k : ErrorKind) → c.wanted ≡ AStruct → LeadsToStruct r m s → CanBeCopiedAs c r m (length (segment old.words id)) (old.room id) →
+    RefusesSections s.words s.first s.pointers (change c.canonicalize id at old new s.limiter m') k → ⊥
+struct_fits c r m m' s id at old new k is leads can refuses =
+    let x = struct_matches (form_of c.canonicalize) r m s can.value can.cost can.copied leads can.means can.takes can.covers (subst (λ w. as_wanted w can.value ≡ Some can.copied) is can.is_wanted) in
+    elim refuses [
+      | inl (n, why, wanted, exceeds) ↦ omega (arith, can.fits, exceeds x.children x.end x.counts x.are_read, ap (λ t. word_count (kept c.canonicalize t)) x.is_struct)
+      | inr (inl refused) ↦ (unreadable (struct_stops (form_of c.canonicalize) r m m' s k leads refused)).only can.value can.cost can.means can.takes can.covers
+      | inr (inr (wide, named)) ↦ omega (arith, wide, kept_count-le c.canonicalize s.words, x.narrow)
+    ]
