@@ -2,7 +2,7 @@
 //! message's value can be followed from call to call, whether a call is granted or refused.
 #![tactic(auto)]
 
-ghost use Rattle.std.specs.Prelude.{◌≡◌, ◌<◌, IfOk, OnOk, OnErr};
+ghost use Rattle.std.specs.Prelude.{◌≡◌, ◌<◌, length, IfOk, OnOk, OnErr};
 ghost use Rattle.capnp_builders.specs.Places.{IsStructOf};
 ghost use Rattle.capnp_making.specs.Stored.{Puts};
 ghost use Rattle.capnp_readers.specs.Readers.{IsStructPlace};
@@ -12,13 +12,14 @@ ghost use Rattle.capnp_format.specs.Segments.{IsPlace};
 ghost use Rattle.capnp_format.specs.Tree.{Tree, Null, Struct};
 ghost use Rattle.capnp_making.specs.Made.{zeros, nulls, zero_struct};
 ghost use Rattle.capnp_making.specs.Path.{put_tree};
-ghost use Rattle.builder_callers.specs.Meaning.{MeansTheSame};
+ghost use Rattle.builder_callers.specs.Meaning.{MeansTheSame, AreReadBack};
 
 use capnp_arena::arena::{
     Allocator, BuilderArena, BuilderArenaImpl, OutputSegments, ReaderArena, ReaderArenaImpl,
     ReaderOptions,
 };
 use capnp_builders::builders::PointerBuilder;
+use capnp_edits::edit::{Edit, apply_all};
 use capnp_readers::readers::StructPlace;
 use capnp_words::error::ErrorKind;
 use capnp_words::wire_pointer::StructSize;
@@ -94,4 +95,18 @@ pub fn read_back<'a, L: Allocator>(
         Ok(output) => Ok(ReaderArenaImpl::new(output, ReaderOptions::default())),
         Err(k) => Err(k),
     }
+}
+
+/// Does what edits say, and reads what the message then gives to be written out: its root means there
+/// the value to which the edits lead, with their outcomes.
+pub fn edited<'a, L: Allocator>(
+    built: &'a mut BuilderArenaImpl<L>,
+    edits: &[Edit<'_>],
+    outcomes: &mut [Option<ErrorKind>],
+) -> Result<ReaderArenaImpl<OutputSegments<'a>>, ErrorKind>
+    requires { length outcomes.old ≡ length edits.now }
+    ensures { IfOk result (λ r. AreReadBack (⟦<BuilderArenaImpl<L> as BuilderArena>⟧.view built.old).words (⟦<ReaderArenaImpl<OutputSegments<'a>> as ReaderArena>⟧.segments r) edits.now outcomes.new) }
+{
+    apply_all(&mut *built, edits, outcomes);
+    read_back(built)
 }
