@@ -7,3 +7,4 @@ pub mod FoundLists
 pub mod CopiesHeld
 pub mod ContentWritten
 pub mod ContentTaken
+pub mod ElementContent

@@ -2,10 +2,11 @@
 use Rattle.std.specs.Prelude.{◌≡◌, ℕ, pred, ◌+◌, ◌*◌, ◌<◌, ◌≤◌, List, length}
 use Rattle.capnp_format.specs.Forest.{target}
 use Rattle.capnp_format.specs.Segments.{Segments}
-use Rattle.capnp_format.specs.Tree.{Null, Struct, Trees, no_trees, tree, count}
+use Rattle.capnp_format.specs.Tree.{Null, Struct, Structs, Trees, no_trees, tree, count, Elements, element_count}
 use Rattle.capnp_making.specs.Fields.{field_in}
 use Rattle.capnp_making.specs.Filled.{AreFilled}
 use Rattle.capnp_making.specs.Made.{nulls}
+use Rattle.capnp_making.specs.Path.{struct_at, put_struct}
 use Rattle.capnp_making.specs.Stored.{IsStored, IsReplaced}
 use Rattle.capnp_readers.specs.declared.readers.struct_reader.StructPlace.{StructPlace}
 use Rattle.capnp_builders.specs.Content.{content_byte, with_content, AreCleared}
@@ -40,3 +41,18 @@ ContentStopped =
     → StartsAt place (target S s p).segment (target S s p).start (length ws) (count ts) → TakesBytes S M place bits bytes
     → AreFilled M F place.segment place.pointers_at us → count us < count ts → IsReplaced F R place.segment (place.pointers_at + count us) Null Null
     → (vs : List ℕ) × HoldContent vs (length ws) bits bytes × IsReplaced S R s p (Struct ws ts) (Struct vs (up_to (count ts) us)) × (target R s p ≡ target S s p)
+
+-- So for a struct that is an element of a list: the pointer to the list stores that with the element, which has the content.
+abbrev pub ElementContentTaken : Type 0
+ElementContentTaken =
+    (S M R : Segments) (s p d q : ℕ) (es : Elements) (i : ℕ) (ws : List ℕ) (ts us : Trees) (place : StructPlace) (bits : ℕ) (bytes : List ℕ) → IsStored S s p (Structs d q es)
+    → i < element_count es → struct_at es i ≡ Struct ws ts → StartsAt place (target S s p).segment ((target S s p).start + 1 + i * (d + q)) d q → TakesBytes S M place bits bytes
+    → AreFilled M R place.segment place.pointers_at us → count us ≤ q
+    → (vs : List ℕ) × HoldContent vs d bits bytes × IsReplaced S R s p (Structs d q es) (Structs d q (put_struct es i (Struct vs (up_to q us))))
+
+abbrev pub ElementContentStopped : Type 0
+ElementContentStopped =
+    (S M F R : Segments) (s p d q : ℕ) (es : Elements) (i : ℕ) (ws : List ℕ) (ts us : Trees) (place : StructPlace) (bits : ℕ) (bytes : List ℕ) → IsStored S s p (Structs d q es)
+    → i < element_count es → struct_at es i ≡ Struct ws ts → StartsAt place (target S s p).segment ((target S s p).start + 1 + i * (d + q)) d q → TakesBytes S M place bits bytes
+    → AreFilled M F place.segment place.pointers_at us → count us < q → IsReplaced F R place.segment (place.pointers_at + count us) Null Null
+    → (vs : List ℕ) × HoldContent vs d bits bytes × IsReplaced S R s p (Structs d q es) (Structs d q (put_struct es i (Struct vs (up_to q us))))

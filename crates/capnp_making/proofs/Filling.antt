@@ -12,8 +12,8 @@ use Rattle.capnp_making.specs.Path.{Step, Child, Element, tree_at, put_tree, upd
 use Rattle.capnp_making.specs.Stored.{IsStored, IsReplaced}
 use Rattle.capnp_making.proofs.Extents.{word_within, once_held, times-first, times-object}
 use Rattle.capnp_making.proofs.Placed.{count-nulls}
-use Rattle.capnp_making.proofs.Replace.{put_tree-count}
-use Rattle.capnp_making.proofs.Replaced.{replaced_within, replaced_again, grown}
+use Rattle.capnp_making.proofs.Replace.{put_tree-count, times-others}
+use Rattle.capnp_making.proofs.Replaced.{stored_within, replaced_within, replaced_again, grown}
 
 -- nothing done replaces a value by itself
 pub unchanged : (S : Segments) (s p : ℕ) (t : Tree) → IsStored S s p t → IsReplaced S S s p t t
@@ -28,6 +28,7 @@ pub record IsHolder (F : Trees → Tree) (path : ℕ → List Step) (s p q : ℕ
       count X ≡ q →
       Leads S s p a →
       (more : List Interval) × ((v r : ℕ) → times (cover S s p (F X)) v r ≡ times (pads_of (word_at S s p)) v r + times (object_of a n ∷ []) v r + times more v r)
+      × ((i : ℕ) → i < q → (v r : ℕ) → times (cover S a.segment (b + i) (tree_at X i)) v r ≤ times more v r)
   pub low : a.start ≤ b
   pub high : b + q ≤ a.start + n
 
@@ -72,6 +73,24 @@ pub record Holds (F : Trees → Tree) (S : Segments) (s p : ℕ) (a : Target) (X
   pub stored : IsStored S s p (F X)
   pub leads : Leads S s p a
 
+-- one pointer of an object gets another value
+pub holder_put : (F : Trees → Tree) (path : ℕ → List Step) (S R : Segments) (s p q : ℕ) (a : Target) (b n : ℕ) (X : Trees) (i : ℕ) (u : Tree) → IsHolder F path s p q a b n → Holds F S s p a X → count X ≡ q → i < q →
+    (IsStored S a.segment (b + i) (tree_at X i) → IsReplaced S R a.segment (b + i) (tree_at X i) u) → IsReplaced S R s p (F X) (F (put_tree X i u)) × Leads R s p a
+holder_put F path S R s p q a b n X i u h y len l puts =
+    let way = h.leads S X i y.leads len l in
+    let one = puts (stored_within S s p (F X) (path i) a.segment (b + i) (tree_at X i) way y.stored) in
+    let (more, parts, below) = h.covers S X len y.leads in
+    let whole = λ (v r : ℕ). times-first (one_word s p) (cover S s p (F X)) v r in
+    let child = λ (v r : ℕ). times-first (one_word a.segment (b + i)) (cover S a.segment (b + i) (tree_at X i)) v r in
+    let within = λ (v r : ℕ). word_within a n (b + i) v r (omega (arith, h.low)) (omega (arith, h.high, l)) in
+    let apart = y.stored.apart in
+    let here : word_at R s p ≡ word_at S s p =
+    one.kept s p (omega (arith, whole s p, parts s p, below i l s p, child s p, within s p, apart s p, once_held s p)) (y.stored.inside s p (omega (arith, whole s p, once_held s p))) in (
+      subst (IsReplaced S R s p (F X)) (h.puts X i u) (replaced_within S R s p (F X) (path i) a.segment (b + i) (tree_at X i) u way y.stored one),
+      leads_agree (record { grows = record { segments = one.segments; words = one.words }; same = here })
+          (λ v r m. one.kept v r (omega (arith, m, whole v r, parts v r, below i l v r, child v r, within v r, apart v r)) (y.stored.inside v r (omega (arith, m, whole v r, parts v r)))) y.leads,
+    )
+
 -- pointers of an object are filled, those before them being so already
 filled_from : (F : Trees → Tree) (path : ℕ → List Step) (S R : Segments) (s p q : ℕ) (a : Target) (b n : ℕ) (X ts : Trees) (i : ℕ) → IsHolder F path s p q a b n → Holds F S s p a X → count X ≡ q → i + count ts ≤ q →
     ((j : ℕ) → i ≤ j → tree_at X j ≡ Null) → AreFilled S R a.segment (b + i) ts → IsReplaced S R s p (F X) (F (put_from X i ts)) × Leads R s p a
@@ -80,7 +99,7 @@ filled_from F path S R s p q a b n X no_trees i h y len fits null same =
 filled_from F path S R s p q a b n X (tree u us) i h y len fits null (M, one, rest) =
     let at = subst (PathLeads S s p (F X) (path i) a.segment (b + i)) (null i (omega arith)) (h.leads S X i y.leads len (omega arith)) in
     let first : IsReplaced S M s p (F X) (F (put_tree X i u)) = subst (IsReplaced S M s p (F X)) (h.puts X i u) (replaced_within S M s p (F X) (path i) a.segment (b + i) Null u at y.stored one) in
-    let (more, parts) = h.covers S X len y.leads in
+    let (more, parts, below) = h.covers S X len y.leads in
     let lead = still_leads S M s p n a (F X) more y.leads y.stored parts (record { segments = one.segments; words = one.words }) (λ v r z l. one.kept v r (omega (arith, z, word_within a n (b + i) v r (omega (arith, h.low)) (omega (arith, h.high)))) l) in
     let others = filled_from F path M R s p q a b n (put_tree X i u) us (i + 1) h (record { stored = first.stored; leads = lead }) (put_tree-count X i u ∙ len) (omega arith)
     (λ j l. put_elsewhere X i j u (omega arith) ∙ null j (omega arith))
@@ -111,6 +130,7 @@ struct_holder s p q a ws = record {
   covers = λ S X len l. (
     cover_all S a.segment (a.start + length ws) X,
     λ v r. in_struct S s p a (length ws + count X) (λ b. cover_all S b.segment (b.start + length ws) X) v r l ∙ ap (λ k. times (pads_of (word_at S s p)) v r + times (object_of a (length ws + k) ∷ []) v r + times (cover_all S a.segment (a.start + length ws) X) v r) len,
+    λ i m v r. omega (arith, times-others S a.segment (a.start + length ws) X i v r (omega (arith, len, m))),
   );
   low = omega arith;
   high = omega arith;
@@ -123,6 +143,7 @@ pointers_holder s p q a = record {
   covers = λ S X len l. (
     cover_all S a.segment a.start X,
     λ v r. in_struct S s p a (count X) (λ b. cover_all S b.segment b.start X) v r l ∙ ap (λ k. times (pads_of (word_at S s p)) v r + times (object_of a k ∷ []) v r + times (cover_all S a.segment a.start X) v r) len,
+    λ i m v r. omega (arith, times-others S a.segment a.start X i v r (omega (arith, len, m))),
   );
   low = omega arith;
   high = omega arith;

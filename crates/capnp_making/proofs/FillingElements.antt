@@ -5,21 +5,23 @@ use Rattle.std.proofs.lemmas.List.{length-replicate}
 use Rattle.capnp_format.specs.Segments.{Segments, segment, word_at, HasWords, Target}
 use Rattle.capnp_format.specs.Tree.{Tree, Struct, Structs, Trees, Elements, no_elements, element, count, element_count}
 use Rattle.capnp_format.specs.Means.{Leads}
-use Rattle.capnp_format.specs.Forest.{times, pads_of, object_of, target, target_in, cover_all, cover_elements}
+use Rattle.capnp_format.specs.Forest.{times, pads_of, object_of, target, target_in, cover, cover_all, cover_elements}
+use Rattle.capnp_format.proofs.Frame.{times-append}
 use Rattle.capnp_making.specs.Filled.{AreFilled, IsElementFilled, AreElementsFilled, ArePartlyFilled}
 use Rattle.capnp_making.specs.Made.{zeros, nulls, zero_elements}
-use Rattle.capnp_making.specs.Path.{Child, Element, put, put_tree, struct_at, put_struct, with_words, next}
+use Rattle.capnp_making.specs.Path.{Child, Element, put, put_tree, struct_at, put_struct, with_words, next, tree_at}
 use Rattle.capnp_making.specs.Stored.{IsStored, IsReplaced}
 use Rattle.capnp_making.specs.Zeroed.{row}
 use Rattle.capnp_making.proofs.Filling.{IsHolder, Holds, in_struct, holder_filled, put_from, put_all, still_leads, unchanged}
 use Rattle.capnp_making.proofs.PlacedStructs.{count-zero_elements}
+use Rattle.capnp_making.proofs.Replace.{times-others}
 use Rattle.capnp_making.proofs.Replaced.{replaced_again}
 use Rattle.capnp_making.proofs.WordsPut.{ArePut, words_put}
 use Rattle.capnp_making.proofs.Written.{same_grows, element_data_written, data_written}
 
 -- structs
 
-part_of_object : (a : Target) (b n k v r : ℕ) → a.start ≤ b → b + n ≤ a.start + k → times (object_of a k ∷ []) v r ≡ 0 → times (row a.segment b n ∷ []) v r ≡ 0
+pub part_of_object : (a : Target) (b n k v r : ℕ) → a.start ≤ b → b + n ≤ a.start + k → times (object_of a k ∷ []) v r ≡ 0 → times (row a.segment b n ∷ []) v r ≡ 0
 part_of_object a b n k v r l m e = grind (arith, nat_tests)
 
 -- a struct of zeros and nulls gets its data words
@@ -39,12 +41,12 @@ struct_written S R s p q a ws y laid =
 
 -- one element
 
-put_struct-count : (X : Elements) (i : ℕ) (ws : List ℕ) (ts : Trees) → element_count (put_struct X i (Struct ws ts)) ≡ element_count X
+pub put_struct-count : (X : Elements) (i : ℕ) (ws : List ℕ) (ts : Trees) → element_count (put_struct X i (Struct ws ts)) ≡ element_count X
 put_struct-count no_elements i ws ts = refl
 put_struct-count (element xs us X) zero ws ts = refl
 put_struct-count (element xs us X) (suc i) ws ts = ap suc (put_struct-count X i ws ts)
 
-put_struct-here : (X : Elements) (i : ℕ) (ws : List ℕ) (ts : Trees) → i < element_count X → struct_at (put_struct X i (Struct ws ts)) i ≡ Struct ws ts
+pub put_struct-here : (X : Elements) (i : ℕ) (ws : List ℕ) (ts : Trees) → i < element_count X → struct_at (put_struct X i (Struct ws ts)) i ≡ Struct ws ts
 put_struct-here no_elements i ws ts l = absurd (omega arith)
 put_struct-here (element xs us X) zero ws ts l = refl
 put_struct-here (element xs us X) (suc i) ws ts l = put_struct-here X i ws ts (omega arith)
@@ -56,15 +58,41 @@ put_struct-elsewhere (element xs us X) zero (suc j) ws ts l = refl
 put_struct-elsewhere (element xs us X) (suc i) zero ws ts l = absurd (omega arith)
 put_struct-elsewhere (element xs us X) (suc i) (suc j) ws ts l = put_struct-elsewhere X i j ws ts (omega arith)
 
-put_struct-again : (X : Elements) (i : ℕ) (ws vs : List ℕ) (ts us : Trees) → put_struct (put_struct X i (Struct ws ts)) i (Struct vs us) ≡ put_struct X i (Struct vs us)
+pub put_struct-again : (X : Elements) (i : ℕ) (ws vs : List ℕ) (ts us : Trees) → put_struct (put_struct X i (Struct ws ts)) i (Struct vs us) ≡ put_struct X i (Struct vs us)
 put_struct-again no_elements i ws vs ts us = refl
 put_struct-again (element xs os X) zero ws vs ts us = refl
 put_struct-again (element xs os X) (suc i) ws vs ts us = ap (element xs os) (put_struct-again X i ws vs ts us)
 
-row_high : (i m d q : ℕ) → i < m → i * (d + q) + (d + q) ≤ m * (d + q)
+pub row_high : (i m d q : ℕ) → i < m → i * (d + q) + (d + q) ≤ m * (d + q)
 row_high i m d q l = grind arith
 
-element_holder : (s p d q : ℕ) (a : Target) (X : Elements) (i : ℕ) (ws : List ℕ) → i < element_count X →
+-- what a child of an element covers is part of what the elements cover
+struct_children : (xs ws : List ℕ) (us ts : Trees) → Struct xs us ≡ Struct ws ts → us ≡ ts
+struct_children xs ws us ts e = cc
+
+element_child_within : (S : Segments) (s p d q : ℕ) (E : Elements) (i j : ℕ) (ws : List ℕ) (ts : Trees) (v r : ℕ) → i < element_count E → struct_at E i ≡ Struct ws ts → j < count ts →
+    times (cover S s (p + i * (d + q) + d + j) (tree_at ts j)) v r ≤ times (cover_elements S s p d q E) v r
+element_child_within S s p d q no_elements i j ws ts v r l is m = absurd (omega arith)
+element_child_within S s p d q (element xs us E) zero j ws ts v r l is m =
+    let same : us ≡ ts = struct_children xs ws us ts is in
+    let at : p + 0 * (d + q) + d + j ≡ p + d + j = omega arith in
+    omega (
+      arith,
+      times-append (cover_all S s (p + d) us) (cover_elements S s (p + d + q) d q E) v r,
+      times-others S s (p + d) us j v r (omega (arith, ap count same, m)),
+      ap (λ x. times (cover S s (p + d + j) (tree_at x j)) v r) same,
+      ap (λ z. times (cover S s z (tree_at ts j)) v r) at,
+    )
+element_child_within S s p d q (element xs us E) (suc i) j ws ts v r l is m =
+    let at : p + suc i * (d + q) + d + j ≡ p + d + q + i * (d + q) + d + j = omega arith in
+    omega (
+      arith,
+      times-append (cover_all S s (p + d) us) (cover_elements S s (p + d + q) d q E) v r,
+      element_child_within S s (p + d + q) d q E i j ws ts v r (omega (arith, l)) is m,
+      ap (λ z. times (cover S s z (tree_at ts j)) v r) at,
+    )
+
+pub element_holder : (s p d q : ℕ) (a : Target) (X : Elements) (i : ℕ) (ws : List ℕ) → i < element_count X →
     IsHolder (λ ts. Structs d q (put_struct X i (Struct ws ts))) (λ j. Element i ∷ Child j ∷ []) s p q a (a.start + 1 + i * (d + q) + d) (1 + element_count X * (d + q))
 element_holder s p d q a X i ws m = record {
   leads = λ S ts j l len k. (
@@ -78,6 +106,7 @@ element_holder s p d q a X i ws m = record {
         cover_elements S a.segment (a.start + 1) d q E,
         λ v r. in_struct S s p a (1 + element_count E * (d + q)) (λ b. cover_elements S b.segment (b.start + 1) d q E) v r l
             ∙ ap (λ n. times (pads_of (word_at S s p)) v r + times (object_of a (1 + n * (d + q)) ∷ []) v r + times (cover_elements S a.segment (a.start + 1) d q E) v r) (put_struct-count X i ws ts),
+        λ j k v r. element_child_within S a.segment (a.start + 1) d q E i j ws ts v r (omega (arith, put_struct-count X i ws ts, m)) (put_struct-here X i ws ts m) (omega (arith, len, k)),
       ));
   low = omega arith;
   high = omega (arith, row_high i (element_count X) d q m);
@@ -86,7 +115,7 @@ element_holder s p d q a X i ws m = record {
     child_put : (ts : Trees) (j : ℕ) (u : Tree) → put (struct_at (put_struct X i (Struct ws ts)) i) (Child j) u ≡ Struct ws (put_tree ts j u)
     child_put ts j u = ap (λ t. put t (Child j) u) (put_struct-here X i ws ts m)
 
-structs_claim : (S : Segments) (s p d q : ℕ) (a : Target) (X : Elements) → IsStored S s p (Structs d q X) → Leads S s p a → a.start + 1 + element_count X * (d + q) ≤ length (segment S a.segment)
+pub structs_claim : (S : Segments) (s p d q : ℕ) (a : Target) (X : Elements) → IsStored S s p (Structs d q X) → Leads S s p a → a.start + 1 + element_count X * (d + q) ≤ length (segment S a.segment)
 structs_claim S s p d q a X y l = let (n, c, (b, m, k, some, o, claim, tag, fits, all, g)) = y.means in
     let same : b ≡ a = sym (ap target_in o.leads_to.1) ∙ ap target_in l.1 in
     subst (λ z. z.start + 1 + element_count X * (d + q) ≤ length (segment S z.segment)) same (omega arith)

@@ -1,0 +1,5 @@
+use Rattle.capnp_builders.proofs.ElementContent.{element_content_taken}
+use Rattle.capnp_builders.proofs.laws.element_content_taken.Goals as goal
+
+pub returns : goal.returns
+returns c = element_content_taken
