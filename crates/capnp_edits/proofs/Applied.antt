@@ -25,7 +25,8 @@ use Rattle.capnp_builders.specs.Places.{Field}
 use Rattle.capnp_edits.specs.declared.edit.Edit.{Edit}
 use Rattle.capnp_edits.specs.Paths.{Spot, PointerTo, ElementOf, path_of, found, IsPointerFound, IsElementFound, IsFound}
 use Rattle.capnp_edits.specs.declared.edit.Op.{Op}
-use Rattle.capnp_edits.specs.declared.edit.Op.TheVariants.{InitStruct, InitList, InitStructList, InitText, InitData, SetText, SetData, SetCapability, Clear, SetField, SetBool, SetElement, WriteText, WriteData, GetStruct, GetList, GetStructList, GetText, GetData, CopyFrom, SetStruct, SetList}
+use Rattle.capnp_edits.specs.declared.edit.Source.{Source}
+use Rattle.capnp_edits.specs.declared.edit.Op.TheVariants.{InitStruct, InitList, InitStructList, InitText, InitData, SetText, SetData, SetCapability, Clear, SetField, SetBool, SetElement, WriteText, WriteData, GetStruct, GetList, GetStructList, GetText, GetData, CopyFrom, SetStruct, SetList, CopyContent}
 use Rattle.capnp_edits.specs.Edits.{refusal_of, field_of, is_field, is_in_range, Making, becomes, denied, with_written, made_at, made, IsOfMemory, takes_memory, words_taken, is_of_place, copied_by, IsCallRefused, IsRefusedAs, GivesAt, Does, DoesAt, Yields, is_done, lacks_memory, is_denied, IsReplacedIf, leads_to, are_written, are_outside, WritesAt, is_put, is_out_of_range, has_none, Takes, leads_nowhere, IsApplied, refusals_after}
 use Rattle.capnp_edits.proofs.Steps.{first, same_some, struct_of}
 use Rattle.capnp_edits.proofs.Walks.{found-append, update-append}
@@ -165,31 +166,33 @@ made_written (GetData default) f t e = absurd (cc)
 made_written (CopyFrom source canonicalize) f t e = absurd (cc)
 made_written (SetStruct source canonicalize) f t e = absurd (cc)
 made_written (SetList source canonicalize) f t e = absurd (cc)
+made_written (CopyContent source) f t e = absurd (cc)
 
 -- any other one is for no element
-none_made : (op : Op) (t : Tree) → field_of op ≡ None → made_at op (ElementOf t) ≡ denied NoSuchPlace
-none_made (SetField size i v) t e = absurd (cc)
-none_made (SetBool i b) t e = absurd (cc)
-none_made (InitStruct size) t e = refl
-none_made (InitList size n) t e = refl
-none_made (InitStructList n size) t e = refl
-none_made (InitText n) t e = refl
-none_made (InitData n) t e = refl
-none_made (SetText bytes) t e = refl
-none_made (SetData bytes) t e = refl
-none_made (SetCapability i) t e = refl
-none_made Clear t e = refl
-none_made (SetElement size i v) t e = refl
-none_made (WriteText i b) t e = refl
-none_made (WriteData i b) t e = refl
-none_made (GetStruct size default) t e = refl
-none_made (GetList size default) t e = refl
-none_made (GetStructList size default) t e = refl
-none_made (GetText default) t e = refl
-none_made (GetData default) t e = refl
-none_made (CopyFrom source canonicalize) t e = refl
-none_made (SetStruct source canonicalize) t e = refl
-none_made (SetList source canonicalize) t e = refl
+none_made : (op : Op) (t : Tree) → field_of op ≡ None → ((source : Source) → op ≡ CopyContent source → ⊥) → made_at op (ElementOf t) ≡ denied NoSuchPlace
+none_made (SetField size i v) t e other = absurd (cc)
+none_made (SetBool i b) t e other = absurd (cc)
+none_made (InitStruct size) t e other = refl
+none_made (InitList size n) t e other = refl
+none_made (InitStructList n size) t e other = refl
+none_made (InitText n) t e other = refl
+none_made (InitData n) t e other = refl
+none_made (SetText bytes) t e other = refl
+none_made (SetData bytes) t e other = refl
+none_made (SetCapability i) t e other = refl
+none_made Clear t e other = refl
+none_made (SetElement size i v) t e other = refl
+none_made (WriteText i b) t e other = refl
+none_made (WriteData i b) t e other = refl
+none_made (GetStruct size default) t e other = refl
+none_made (GetList size default) t e other = refl
+none_made (GetStructList size default) t e other = refl
+none_made (GetText default) t e other = refl
+none_made (GetData default) t e other = refl
+none_made (CopyFrom source canonicalize) t e other = refl
+none_made (SetStruct source canonicalize) t e other = refl
+none_made (SetList source canonicalize) t e other = refl
+none_made (CopyContent source) t e other = absurd (other source refl)
 
 -- a field that is there, or not
 field_there : (f : Field) (ws : List ℕ) (ts : Trees) → f.start + f.bits ≤ 64 * length ws → with_written f (Struct ws ts) ≡ becomes (Struct (put_field ws f.start f.bits f.value) ts)
@@ -281,8 +284,9 @@ pub element_width_stored : (S : Segments) (s p d q : ℕ) (es : Elements) (i : �
 element_width_stored S s p d q es i ws ts stored l is = let m = stored.means in element_width S m.0 s p d q es m.1 i ws ts m.2 l is
 
 at_element : (S R : Segments) (e : Edit) (s : ExistingStruct) (r : Option ErrorKind) (t : Tree) (f : IsElementFound S 0 0 t (path_of e.path.now) s) (ws : List ℕ) (ts : Trees) → struct_at f.elements f.index ≡ Struct ws ts → length ws ≡ s.size.data_words →
-    IsStored S f.list_segment f.list_at (Structs s.size.data_words s.size.pointers f.elements) → found t (path_of e.path.now) ≡ Some (ElementOf (Struct ws ts)) → IsForest S t → WritesAt S R s e.op r → (u : Tree) × IsForest R u × Takes e t r u
-at_element S R e s r t f ws ts is wide stored spot forest (is_put g is_g range (are_written starts ends done written)) =
+    IsStored S f.list_segment f.list_at (Structs s.size.data_words s.size.pointers f.elements) → found t (path_of e.path.now) ≡ Some (ElementOf (Struct ws ts)) → IsForest S t → ((source : Source) → e.op ≡ CopyContent source → ⊥) → WritesAt S R s e.op r →
+    (u : Tree) × IsForest R u × Takes e t r u
+at_element S R e s r t f ws ts is wide stored spot forest other (is_put g is_g range (are_written starts ends done written)) =
     let d = s.size.data_words in
     let q = s.size.pointers in
     let list = Structs d q f.elements in
@@ -297,17 +301,18 @@ at_element S R e s r t f ws ts is wide stored spot forest (is_put g is_g range (
       forest_updated S R t f.front f.list_segment f.list_at list (Structs d q (put_struct f.elements f.index y)) forest f.leads replaced,
       leads_to (ElementOf (Struct ws ts)) (Some y) spot (is_done y (in_range_makes e.op (ElementOf (Struct ws ts)) range ∙ (made_written e.op g (Struct ws ts) is_g).1 ∙ field_there g ws ts within) done refl) (sym same),
     )
-at_element S R e s r t f ws ts is wide stored spot forest (is_put g is_g range (are_outside far named same)) =
+at_element S R e s r t f ws ts is wide stored spot forest other (is_put g is_g range (are_outside far named same)) =
     let past : 64 * length ws < g.start + g.bits = rw wide far in
     (t, subst (λ Q. IsForest Q t) (sym same) forest, leads_to (ElementOf (Struct ws ts)) None spot (is_denied NoSuchPlace (in_range_makes e.op (ElementOf (Struct ws ts)) range ∙ (made_written e.op g (Struct ws ts) is_g).1 ∙ field_past g ws ts past) named refl) refl)
-at_element S R e s r t f ws ts is wide stored spot forest (is_out_of_range out named same) =
+at_element S R e s r t f ws ts is wide stored spot forest other (is_out_of_range out named same) =
     (t, subst (λ Q. IsForest Q t) (sym same) forest, leads_to (ElementOf (Struct ws ts)) None spot (is_denied NoSuchPlace (out_makes e.op (ElementOf (Struct ws ts)) out) named refl) refl)
-at_element S R e s r t f ws ts is wide stored spot forest (has_none none named same) =
-    (t, subst (λ Q. IsForest Q t) (sym same) forest, leads_to (ElementOf (Struct ws ts)) None spot (is_denied NoSuchPlace (never_makes e.op (ElementOf (Struct ws ts)) (none_made e.op (Struct ws ts) none)) named refl) refl)
+at_element S R e s r t f ws ts is wide stored spot forest other (has_none none named same) =
+    (t, subst (λ Q. IsForest Q t) (sym same) forest, leads_to (ElementOf (Struct ws ts)) None spot (is_denied NoSuchPlace (never_makes e.op (ElementOf (Struct ws ts)) (none_made e.op (Struct ws ts) none other)) named refl) refl)
 
 -- at an element
-pub applied_element : (S R : Segments) (e : Edit) (s : ExistingStruct) (r : Option ErrorKind) → ((t : Tree) → IsStored S 0 0 t → IsElementFound S 0 0 t (path_of e.path.now) s) → WritesAt S R s e.op r → IsApplied S R e r
-applied_element S R e s r leads w t forest =
+pub applied_element : (S R : Segments) (e : Edit) (s : ExistingStruct) (r : Option ErrorKind) → ((t : Tree) → IsStored S 0 0 t → IsElementFound S 0 0 t (path_of e.path.now) s) → ((source : Source) → e.op ≡ CopyContent source → ⊥) → WritesAt S R s e.op r →
+    IsApplied S R e r
+applied_element S R e s r leads other w t forest =
     let stored = forest_stored S t forest in
     let f = leads t stored in
     let list = Structs s.size.data_words s.size.pointers f.elements in
@@ -317,7 +322,7 @@ applied_element S R e s r leads w t forest =
     let wide = element_width S means.0 f.list_segment f.list_at s.size.data_words s.size.pointers f.elements means.1 f.index ws ts means.2 f.counts is in
     let spot : found t (path_of e.path.now) ≡ Some (ElementOf (Struct ws ts)) =
     ap (found t) f.path_is ∙ found-append t f.front (Element f.index ∷ []) list f.spot ∙ first f.index (element_count f.elements) _ _ f.counts ∙ ap (λ x. Some (ElementOf x)) is in
-    at_element S R e s r t f ws ts is wide there spot forest w
+    at_element S R e s r t f ws ts is wide there spot forest other w
 
 -- nowhere
 pub applied_nowhere : (S : Segments) (e : Edit) → ((t : Tree) → IsStored S 0 0 t → IsFound S 0 0 t (path_of e.path.now) None) → IsApplied S S e (Some NoSuchPlace)

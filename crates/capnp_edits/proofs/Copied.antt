@@ -20,7 +20,7 @@ use Rattle.capnp_objects.specs.declared.object.Expected.{Expected}
 use Rattle.capnp_objects.specs.declared.object.Expected.TheVariants.{Struct as ExpectedStruct, List as ExpectedList}
 use Rattle.capnp_objects.specs.Expected.{CanBeGiven, too_deep, another_kind, misfit, narrow_elements, one_level, Withheld, no_level, unfollowed, of_another_kind, stopped, misfits}
 use Rattle.capnp_objects.specs.Outcomes.{Reads, ReadsAll}
-use Rattle.capnp_objects.specs.Reading.{Reading}
+use Rattle.capnp_objects.specs.Reading.{Reading, behind}
 use Rattle.capnp_objects.specs.Refusals.{Refused, here as stops_here, Unfollowed, exceeding, leading_nowhere, pads_exceed, nowhere}
 use Rattle.capnp_objects.specs.Wanted.{plain}
 use Rattle.capnp_objects.proofs.Expecting.{not_withheld}
@@ -40,13 +40,13 @@ use Rattle.capnp_copies.specs.ListValues.{ListElements, ReadsList, RefusesElemen
 use Rattle.capnp_copies.specs.StructValues.{RefusesSections, RefusesStruct, data_of}
 use Rattle.capnp_builders.specs.Kept.{PutsCopy, PutsStruct, PutsList, IsKept}
 use Rattle.capnp_edits.specs.declared.edit.Op.{Op}
-use Rattle.capnp_edits.specs.declared.edit.Op.TheVariants.{CopyFrom, SetStruct, SetList}
+use Rattle.capnp_edits.specs.declared.edit.Op.TheVariants.{CopyFrom, SetStruct, SetList, CopyContent}
 use Rattle.capnp_edits.specs.declared.edit.Source.{Source}
 use Rattle.capnp_edits.specs.declared.edit.copying.Copying.{Copying}
 use Rattle.capnp_edits.specs.declared.edit.copying.Wanted.{Wanted}
-use Rattle.capnp_edits.specs.declared.edit.copying.Wanted.TheVariants.{Value, Struct as AStruct, List as AList}
+use Rattle.capnp_edits.specs.declared.edit.copying.Wanted.TheVariants.{Value, Struct as AStruct, List as AList, Content}
 use Rattle.capnp_edits.specs.Paths.{PointerTo}
-use Rattle.capnp_edits.specs.Sources.{words_in, root_of, once_at_root, as_wanted, HasRoot, CanBeCopiedAs, IsRootless, IsWithheld, IsUnread, FitsBehind, Sections, LeadsToStruct, LeadsToList, RefusesAs, CopiedOrRefused}
+use Rattle.capnp_edits.specs.Sources.{copying, is_whole, RefusesNext, words_in, root_of, once_at_root, as_wanted, HasRoot, CanBeCopiedAs, IsRootless, IsWithheld, IsUnread, FitsBehind, Sections, LeadsToStruct, LeadsToList, RefusesAs, CopiedOrRefused}
 use Rattle.capnp_edits.specs.Edits.{refusal_of, made, copies, copied_by, IsOfMemory, IsSourceRefused, IsCallRefused, CallFits, OpFits, words_taken, is_of_place, IsRefusedAs, IsCopyCounted, IsCounted, refusals_after, CopiesRoot, root_copied, root_not_copied, root_unread, Does, is_copied, is_not_copied, is_unread}
 use Rattle.capnp_edits.proofs.Applied.{of_allocation, of_no_place, never_refused}
 use Rattle.capnp_edits.proofs.CopiedStruct.{struct_at, struct_reads, struct_refused, struct_counted, struct_given, struct_fits}
@@ -79,21 +79,46 @@ value_counted b id at old new r m m' k (inl (n, (refuses, none), wanted, large))
 ]
 value_counted b id at old new r m m' k (inr refused) e = absurd (not_for_memory (subst (λ y. Refused (form_of b) r m m' y) e refused))
 
-copy_refused_as : (w : Wanted) (b : Bool) (id at : ℕ) (old new : View) (r : Reading) (m m' : Meter) (k : ErrorKind) → RefusesAs w r (change b id at old new m m') k → IsOfMemory k ⊎ Refused (form_of b) r m m' k
-copy_refused_as Value b id at old new r m m' k refuses = value_refused b id at old new r m m' k refuses
-copy_refused_as AStruct b id at old new r m m' k (s, leads, refuses) = struct_refused b id at old new r m m' s k leads refuses
-copy_refused_as AList b id at old new r m m' k (l, n, leads, refuses) = list_refused b id at old new r m n m' l k leads refuses
+copy_refused_as : (w : Wanted) (b : Bool) (id at : ℕ) (old new : View) (r : Reading) (m m' : Meter) (k : ErrorKind) → is_whole w ≡ true → RefusesAs w r (change b id at old new m m') k →
+    IsOfMemory k ⊎ Refused (form_of b) r m m' k
+copy_refused_as Value b id at old new r m m' k whole refuses = value_refused b id at old new r m m' k refuses
+copy_refused_as AStruct b id at old new r m m' k whole (s, leads, refuses) = struct_refused b id at old new r m m' s k leads refuses
+copy_refused_as AList b id at old new r m m' k whole (l, n, leads, refuses) = list_refused b id at old new r m n m' l k leads refuses
+copy_refused_as Content b id at old new r m m' k whole refuses = absurd (cc)
+
+content_counted : (b : Bool) (id at : ℕ) (old new : View) (m m' : Meter) (s : Sections) (i : ℕ) (k : ErrorKind) → RefusesNext s i (change b id at old new m m') k → k ≡ AllocationFailed → new.refusals ≡ one_more old.refusals
+content_counted b id at old new m m' s i k (between, inl (taken, n, limits, (refuses, none))) e = elim refuses [
+  | inl h ↦ h.3 ∙ ap one_more (ap (λ (v : View). v.refusals) limits)
+  | inr (inl h) ↦ absurd (let f : AllocationFailed ≡ MessageTooLarge (n + 1) = sym e ∙ h.0 in cc)
+  | inr (inr h) ↦ absurd (let f : AllocationFailed ≡ MessageTooLarge _ = sym e ∙ h.0 in cc)
+]
+content_counted b id at old new m m' s i k (between, inr refused) e = absurd (not_for_memory (subst (λ y. Refused plain (behind s.first i) between m' y) e refused))
+
+content_nowhere : (b : Bool) (id at : ℕ) (old new : View) (m m' : Meter) (s : Sections) (i : ℕ) (k : ErrorKind) → RefusesNext s i (change b id at old new m m') k → k ≡ NoSuchPlace → ⊥
+content_nowhere b id at old new m m' s i k (between, inl (taken, n, limits, (refuses, none))) e = of_no_place k (of_allocation taken new (length new.words) (n + 1) k refuses) e
+content_nowhere b id at old new m m' s i k (between, inr refused) e = not_for_place (subst (λ y. Refused plain (behind s.first i) between m' y) e refused)
 
 copy_counted_as : (w : Wanted) (b : Bool) (id at : ℕ) (old new : View) (r : Reading) (m m' : Meter) (k : ErrorKind) → RefusesAs w r (change b id at old new m m') k → k ≡ AllocationFailed → new.refusals ≡ one_more old.refusals
 copy_counted_as Value b id at old new r m m' k refuses = value_counted b id at old new r m m' k refuses
 copy_counted_as AStruct b id at old new r m m' k (s, leads, refuses) = struct_counted b id at old new s.limiter m' s k refuses
 copy_counted_as AList b id at old new r m m' k (l, n, leads, refuses) = list_counted b id at old new n m' l k refuses
+copy_counted_as Content b id at old new r m m' k (s, i, leads, refuses) = content_counted b id at old new m m' s i k refuses
 
-copy_nowhere_as : (w : Wanted) (b : Bool) (id at : ℕ) (old new : View) (r : Reading) (m m' : Meter) (k : ErrorKind) → RefusesAs w r (change b id at old new m m') k → k ≡ NoSuchPlace → ⊥
-copy_nowhere_as w b id at old new r m m' k refuses e = elim (copy_refused_as w b id at old new r m m' k refuses) [
+whole_nowhere : (w : Wanted) (b : Bool) (id at : ℕ) (old new : View) (r : Reading) (m m' : Meter) (k : ErrorKind) → is_whole w ≡ true → RefusesAs w r (change b id at old new m m') k → k ≡ NoSuchPlace → ⊥
+whole_nowhere w b id at old new r m m' k whole refuses e = elim (copy_refused_as w b id at old new r m m' k whole refuses) [
   | inl memory ↦ of_no_place k memory e
   | inr refused ↦ not_for_place (subst (λ y. Refused (form_of b) r m m' y) e refused)
 ]
+
+copy_nowhere_as : (w : Wanted) (b : Bool) (id at : ℕ) (old new : View) (r : Reading) (m m' : Meter) (k : ErrorKind) → RefusesAs w r (change b id at old new m m') k → k ≡ NoSuchPlace → ⊥
+copy_nowhere_as Content b id at old new r m m' k (s, i, leads, refuses) e = content_nowhere b id at old new m m' s i k refuses e
+copy_nowhere_as Value b id at old new r m m' k refuses e = whole_nowhere Value b id at old new r m m' k refl refuses e
+copy_nowhere_as AStruct b id at old new r m m' k refuses e = whole_nowhere AStruct b id at old new r m m' k refl refuses e
+copy_nowhere_as AList b id at old new r m m' k refuses e = whole_nowhere AList b id at old new r m m' k refl refuses e
+
+-- no whole value is copied as content
+none_wanted : (t u : Tree) → as_wanted Content t ≡ Some u → ⊥
+none_wanted t u e = absurd (cc)
 
 copy_fits_as : (w : Wanted) (c : Copying) (id at : ℕ) (old new : View) (r : Reading) (m m' : Meter) (k : ErrorKind) → c.wanted ≡ w → (c.wanted ≡ AList → AreWords r.segments) →
     CanBeCopiedAs c r m (length (segment old.words id)) (old.room id) → RefusesAs w r (change c.canonicalize id at old new m m') k → ⊥
@@ -103,6 +128,7 @@ copy_fits_as Value c id at old new r m m' k is small can (inl (n, why, wanted, l
 copy_fits_as Value c id at old new r m m' k is small can (inr refused) = (unreadable refused).only can.value can.cost can.means can.takes can.covers
 copy_fits_as AStruct c id at old new r m m' k is small can (s, leads, refuses) = struct_fits c r m m' s id at old new k is leads can refuses
 copy_fits_as AList c id at old new r m m' k is small can (l, n, leads, refuses) = list_fits c r m n m' l id at old new k is leads (list_small r m n l (small is) leads) can refuses
+copy_fits_as Content c id at old new r m m' k is small can refuses = none_wanted can.value can.copied (subst (λ w. as_wanted w can.value ≡ Some can.copied) is can.is_wanted)
 
 -- A copy that was tried: what it leaves where result is Ok, and why it is refused where it isn't.
 pub record Tried {A : Type 0} (result : Result A ErrorKind) (c : Copying) (old new : View) (place : PointerPlace) : Type 0 where
@@ -111,13 +137,13 @@ pub record Tried {A : Type 0} (result : Result A ErrorKind) (c : Copying) (old n
   pub done : IfOk result (λ x. IsDone c after old.words new.words place)
   pub refused : IfErr result (RefusesAs c.wanted (root_of c.source) (change c.canonicalize place.segment place.word old new (once_at_root c.source) after))
 
-pub tried_done : {A : Type 0} (result : Result A ErrorKind) (c : Copying) (old new : View) (place : PointerPlace) → Tried result c old new place → OnErr result (Puts old.words new.words place.segment place.word Null) →
+pub tried_done : {A : Type 0} (result : Result A ErrorKind) (c : Copying) (old new : View) (place : PointerPlace) → is_whole c.wanted ≡ true → Tried result c old new place → OnErr result (Puts old.words new.words place.segment place.word Null) →
     CopiesRoot old.words new.words place c (refusal_of result)
-tried_done (Ok x) c old new place tried cleared =
+tried_done (Ok x) c old new place whole tried cleared =
     let (t, w, reads, is, puts) = tried.done in
     root_copied (kept c.canonicalize w) (record { root = tried.root; value = t; after = tried.after; is_read = reads; copied = w; is_wanted = is; is_kept = refl }) refl puts
-tried_done (Err k) c old new place tried cleared =
-    root_not_copied k (elim (copy_refused_as c.wanted c.canonicalize place.segment place.word old new (root_of c.source) (once_at_root c.source) tried.after k tried.refused) [
+tried_done (Err k) c old new place whole tried cleared =
+    root_not_copied k (elim (copy_refused_as c.wanted c.canonicalize place.segment place.word old new (root_of c.source) (once_at_root c.source) tried.after k whole tried.refused) [
       | inl memory ↦ inl memory
       | inr refused ↦ inr (tried.root, (tried.after, refused))
     ]) refl cleared
@@ -191,7 +217,7 @@ list_tried result c l m m' old new place is has leads done refused = record { ro
 own_pointer : {A : Type 0} (g : Ghosts A) (expected : Expected) (from p : PointerReader A g) → IsRead g expected from p None → p ≡ from
 own_pointer g expected from p (without_default e) = e
 
-where_read : {A : Type 0} (g : Ghosts A) (expected : Expected) (from : PointerReader A g) (P : PointerReader A g → Type 0) → WhereRead g (call g from expected None) P → P from
+pub where_read : {A : Type 0} (g : Ghosts A) (expected : Expected) (from : PointerReader A g) (P : PointerReader A g → Type 0) → WhereRead g (call g from expected None) P → P from
 where_read g expected from P (p, is, h) = subst P (own_pointer g expected from p is) h
 
 answered : {A : Type 0} (g : Ghosts A) (expected : Expected) (from : PointerReader A g) (m : Meter) → CanBeGiven expected (reading g from) m → IsAnswered g (call g from expected None) m
@@ -231,6 +257,9 @@ unread_as g c expected from m m' k wanted here refused =
 
 pub struct_unread : {A : Type 0} (g : Ghosts A) (c : Copying) (from : PointerReader A g) (m m' : Meter) (k : ErrorKind) → c.wanted ≡ AStruct → AtRoot g c.source from m → IsRefused g (call g from ExpectedStruct None) m m' k → IsUnread c k
 struct_unread g c from m m' k is here refused = unread_as g c ExpectedStruct from m m' k (λ r i j h. subst (λ w. IsWithheld w r i j k) (sym is) h) here refused
+
+pub content_unread : {A : Type 0} (g : Ghosts A) (c : Copying) (from : PointerReader A g) (m m' : Meter) (k : ErrorKind) → c.wanted ≡ Content → AtRoot g c.source from m → IsRefused g (call g from ExpectedStruct None) m m' k → IsUnread c k
+content_unread g c from m m' k is at_root refused = unread_as g c ExpectedStruct from m m' k (λ r i j h. subst (λ w. IsWithheld w r i j k) (sym is) h) at_root refused
 
 pub list_unread : {A : Type 0} (g : Ghosts A) (c : Copying) (from : PointerReader A g) (m m' : Meter) (k : ErrorKind) → c.wanted ≡ AList → AtRoot g c.source from m → IsRefused g (call g from (ExpectedList Void) None) m m' k → IsUnread c k
 list_unread g c from m m' k is here refused = unread_as g c (ExpectedList Void) from m m' k (λ r i j h. subst (λ w. IsWithheld w r i j k) (sym is) h) here refused
@@ -298,12 +327,14 @@ other_narrow n =
 other_unwanted : (w : Wanted) (r : Reading) (m m' : Meter) (k : ErrorKind) → IsWithheld w r m m' k → is_of_call k ≡ false
 other_unwanted Value r m m' k h = absurd h
 other_unwanted AStruct r m m' k h = other_withheld ExpectedStruct r m m' k other_kind (λ S a. tt) h
+other_unwanted Content r m m' k h = other_withheld ExpectedStruct r m m' k other_kind (λ S a. tt) h
 other_unwanted AList r m m' k h =
     other_withheld (ExpectedList Void) r m m' k other_list (λ S a. other_of (nat_eq (element_size a.word) 7) None (narrow_elements Void (element_size a.word)) tt (other_narrow (element_size a.word))) h
 
 -- what can be copied is neither unread nor unreadable
 wanted_there : (w : Wanted) (c : Copying) (r : Reading) (m m' : Meter) (used room : ℕ) (k : ErrorKind) → c.wanted ≡ w → CanBeCopiedAs c r m used room → IsWithheld w r m m' k → ⊥
 wanted_there Value c r m m' used room k is can h = h
+wanted_there Content c r m m' used room k is can h = none_wanted can.value can.copied (subst (λ w. as_wanted w can.value ≡ Some can.copied) is can.is_wanted)
 wanted_there AStruct c r m m' used room k is can h = not_withheld ExpectedStruct r m m' k (struct_given c r m used room is can) h
 wanted_there AList c r m m' used room k is can h = not_withheld (ExpectedList Void) r m m' k (list_given c r m used room is can) h
 
@@ -363,16 +394,24 @@ copy_nowhere (Err k) old new c why e = elim why [
 ]
 
 -- at its place
-pub made_copied : (op : Op) (c : Copying) (t : Tree) → copied_by op ≡ Some c → made op (PointerTo t) ≡ copies c
-made_copied (CopyFrom source b) c t e = ap copies (same_some _ c e)
-made_copied (SetStruct source b) c t e = ap copies (same_some _ c e)
-made_copied (SetList source b) c t e = ap copies (same_some _ c e)
-made_copied op c t e = absurd (cc)
+pub made_copied : (op : Op) (c : Copying) (t : Tree) → is_whole c.wanted ≡ true → copied_by op ≡ Some c → made op (PointerTo t) ≡ copies c
+made_copied (CopyFrom source b) c t whole e = ap copies (same_some _ c e)
+made_copied (SetStruct source b) c t whole e = ap copies (same_some _ c e)
+made_copied (SetList source b) c t whole e = ap copies (same_some _ c e)
+made_copied (CopyContent source) c t whole e = absurd (false≢true (ap (λ (x : Copying). is_whole x.wanted) (same_some _ c e) ∙ whole))
+made_copied op c t whole e = absurd (cc)
 
-pub copied_at : (S R : Segments) (place : PointerPlace) (op : Op) (c : Copying) (r : Option ErrorKind) → copied_by op ≡ Some c → CopiesRoot S R place c r → Does S R place op r
-copied_at S R place op c r is (root_copied u copied done puts) t stored = record { left = Some u; yields = is_copied c u (made_copied op c t is) copied done refl; stands = puts t stored }
-copied_at S R place op c r is (root_not_copied k why named puts) t stored = record { left = Some Null; yields = is_not_copied c k (made_copied op c t is) why named refl; stands = puts t stored }
-copied_at S R place op c r is (root_unread k why named same) t stored = record { left = None; yields = is_unread c k (made_copied op c t is) why named refl; stands = same }
+pub whole_copy : (op : Op) (c : Copying) → ((source : Source) → op ≡ CopyContent source → ⊥) → copied_by op ≡ Some c → is_whole c.wanted ≡ true
+whole_copy (CopyFrom source b) c other e = ap (λ (x : Copying). is_whole x.wanted) (sym (same_some _ c e))
+whole_copy (SetStruct source b) c other e = ap (λ (x : Copying). is_whole x.wanted) (sym (same_some _ c e))
+whole_copy (SetList source b) c other e = ap (λ (x : Copying). is_whole x.wanted) (sym (same_some _ c e))
+whole_copy (CopyContent source) c other e = absurd (other source refl)
+whole_copy op c other e = absurd (cc)
+
+pub copied_at : (S R : Segments) (place : PointerPlace) (op : Op) (c : Copying) (r : Option ErrorKind) → is_whole c.wanted ≡ true → copied_by op ≡ Some c → CopiesRoot S R place c r → Does S R place op r
+copied_at S R place op c r whole is (root_copied u copied done puts) t stored = record { left = Some u; yields = is_copied c u (made_copied op c t whole is) copied done refl; stands = puts t stored }
+copied_at S R place op c r whole is (root_not_copied k why named puts) t stored = record { left = Some Null; yields = is_not_copied c k (made_copied op c t whole is) why named refl; stands = puts t stored }
+copied_at S R place op c r whole is (root_unread k why named same) t stored = record { left = None; yields = is_unread c k (made_copied op c t whole is) why named refl; stands = same }
 
 pub copy_refused : {A : Type 0} (result : Result A ErrorKind) (old new : View) (op : Op) (c : Copying) → copied_by op ≡ Some c → IfErr result (IsSourceRefused old new c) → IfErr result (IsRefusedAs old new op)
 copy_refused (Ok x) old new op c is why = tt
@@ -385,6 +424,10 @@ words_fit result old id op none fits room = never_refused result (fits (subst (�
 -- and a copy where what it keeps does
 pub copy_fits : {A : Type 0} (result : Result A ErrorKind) (old : View) (id : ℕ) (op : Op) (c : Copying) → copied_by op ≡ Some c → (FitsBehind old id c → IsOk result) → OpFits old id op → IfErr result (λ k. is_of_place k ≡ true)
 copy_fits result old id op c is fits room = never_refused result (fits (subst (λ o. CallFits old id (words_taken op) o) is room))
+
+-- of content nothing is said to fit
+pub content_never : (v : View) (id : ℕ) (source : Source) → FitsBehind v id (copying source Content false) → ⊥
+content_never v id source fits = none_wanted fits.fits.value fits.fits.copied fits.fits.is_wanted
 
 -- how refusals are counted
 pub counted_as : (op : Op) (c : Copying) (r : Option ErrorKind) (old new : ℕ) → copied_by op ≡ Some c → IsCopyCounted r old new → IsCounted op r old new

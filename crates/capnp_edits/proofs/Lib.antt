@@ -8,3 +8,4 @@ pub mod Searches
 pub mod CopiedStruct
 pub mod CopiedList
 pub mod Copied
+pub mod Filled

@@ -1,5 +1,5 @@
 -- What edits make of the value of a message.
-use Rattle.std.specs.Prelude.{◌≡◌, ◌⊎◌, ℕ, ◌+◌, ◌*◌, ◌^◌, ◌<◌, ◌≤◌, Bool, true, false, cond, ◌&&◌, nat_le, nat_lt, List, ◌++◌, [], ◌∷◌, length, get_or, slice_set, Option, Some, None, Result, Ok, Err, ⊤}
+use Rattle.std.specs.Prelude.{◌≡◌, ◌⊎◌, ℕ, min, ◌+◌, ◌*◌, ◌^◌, ◌<◌, ◌≤◌, Bool, true, false, cond, ◌&&◌, nat_le, nat_lt, List, ◌++◌, [], ◌∷◌, length, get_or, slice_set, Option, Some, None, Result, Ok, Err, ⊤}
 use Rattle.std.specs.Borrow.{Bor}
 use Rattle.capnp_words.specs.declared.error.ErrorKind.{ErrorKind}
 use Rattle.capnp_words.specs.declared.error.ErrorKind.TheVariants.{AllocationFailed, MessageTooLarge, NoSuchPlace}
@@ -8,12 +8,13 @@ use Rattle.capnp_pointers.specs.Sizes.{size_number}
 use Rattle.capnp_format.specs.Bytes.{words_of}
 use Rattle.capnp_format.specs.Numbers.{element_bits, words_for}
 use Rattle.capnp_format.specs.Segments.{Segments, Target}
-use Rattle.capnp_format.specs.Tree.{Tree, Null, Capability, Struct, Flat, Structs}
+use Rattle.capnp_format.specs.Tree.{Tree, Null, Capability, Struct, Flat, Structs, Trees, count}
 use Rattle.capnp_format.specs.Forest.{IsForest}
 use Rattle.capnp_arena.specs.Allocations.{one_more}
 use Rattle.capnp_arena.specs.View.{View}
 use Rattle.capnp_making.specs.Existing.{list_in, data_in, text_in, LieIn}
 use Rattle.capnp_making.specs.Fields.{with_bits, put_field, with_field}
+use Rattle.capnp_making.specs.Filled.{AreFilled}
 use Rattle.capnp_making.specs.Memory.{HasRoom, IsRefusedFor}
 use Rattle.capnp_making.specs.Made.{list_words, zero_struct, zero_structs, zero_list}
 use Rattle.capnp_making.specs.Path.{Step, struct_at, put_struct, update}
@@ -21,7 +22,15 @@ use Rattle.capnp_making.specs.Stored.{IsStored, IsReplaced, Puts}
 use Rattle.capnp_making.specs.declared.existing.ExistingBytes.{ExistingBytes}
 use Rattle.capnp_making.specs.declared.existing.ExistingList.{ExistingList}
 use Rattle.capnp_making.specs.declared.existing.ExistingStruct.{ExistingStruct}
+use Rattle.capnp_words.specs.Meter.{Meter}
+use Rattle.capnp_objects.specs.Outcomes.{ReadsAll}
+use Rattle.capnp_objects.specs.Reading.{behind}
+use Rattle.capnp_objects.specs.Refusals.{Refused}
+use Rattle.capnp_objects.specs.Wanted.{plain}
 use Rattle.capnp_readers.specs.Readers.{IsListPlace}
+use Rattle.capnp_readers.specs.declared.readers.struct_reader.StructPlace.{StructPlace}
+use Rattle.capnp_builders.specs.Laws.{TakesBytes}
+use Rattle.capnp_edits.specs.declared.edit.Source.{Source}
 use Rattle.capnp_readers.specs.Sections.{step_bits, data_bits}
 use Rattle.capnp_readers.specs.declared.readers.PointerPlace.{PointerPlace}
 use Rattle.capnp_builders.specs.declared.builders.PointerBuilder.{PointerBuilder}
@@ -29,10 +38,10 @@ use Rattle.capnp_builders.specs.Found.{place_of as list_place, in_place_of_null,
 use Rattle.capnp_builders.specs.Places.{Field, field}
 use Rattle.capnp_edits.specs.declared.edit.Edit.{Edit}
 use Rattle.capnp_edits.specs.declared.edit.Op.{Op}
-use Rattle.capnp_edits.specs.declared.edit.Op.TheVariants.{InitStruct, InitList, InitStructList, InitText, InitData, SetText, SetData, SetCapability, Clear, SetField, SetBool, SetElement, WriteText, WriteData, GetStruct, GetList, GetStructList, GetText, GetData, CopyFrom, SetStruct, SetList}
+use Rattle.capnp_edits.specs.declared.edit.Op.TheVariants.{InitStruct, InitList, InitStructList, InitText, InitData, SetText, SetData, SetCapability, Clear, SetField, SetBool, SetElement, WriteText, WriteData, GetStruct, GetList, GetStructList, GetText, GetData, CopyFrom, SetStruct, SetList, CopyContent}
 use Rattle.capnp_edits.specs.declared.edit.copying.Copying.{Copying}
-use Rattle.capnp_edits.specs.declared.edit.copying.Wanted.TheVariants.{Value, Struct as AStruct, List as AList}
-use Rattle.capnp_edits.specs.Sources.{copying, Copies, IsUnread, IsUnreadable, IsCopyRefused, FitsBehind}
+use Rattle.capnp_edits.specs.declared.edit.copying.Wanted.TheVariants.{Value, Struct as AStruct, List as AList, Content}
+use Rattle.capnp_edits.specs.Sources.{copying, Copies, Sections, LeadsToStruct, HasRoot, root_of, once_at_root, Fills, FillsAll, IsUnread, IsUnreadable, IsCopyRefused, FitsBehind}
 use Rattle.capnp_edits.specs.Paths.{Spot, PointerTo, ElementOf, path_of, found}
 
 -- The name by which a call is refused, if it is.
@@ -99,11 +108,13 @@ is_in_range (GetList size default) = nat_le (size_number size) 6
 is_in_range (GetStructList size default) = false
 is_in_range op = true
 
--- What an operation makes where a path leads: a value; or it is refused by a name, and nothing is changed; or what is copied from another message.
+-- What an operation makes where a path leads: a value; or it is refused by a name, and nothing is changed; or what is copied from another message; or a
+-- struct of so many data words and pointers gets the content of that message's.
 pub data Making : Type 0 where
   becomes : Tree → Making
   denied : ErrorKind → Making
   copies : Copying → Making
+  fills : Source → ℕ → ℕ → Making
 
 -- A struct with bits of its data section written.
 abbrev pub struct_with : Field → Tree → Tree
@@ -163,12 +174,19 @@ as_found t instead (Ok (Some x)) = becomes t
 as_found t instead (Ok None) = instead
 as_found t instead (Err k) = denied k
 
+-- Content is copied over a struct.
+abbrev pub content_over : Source → Tree → Making
+content_over source (Struct ws ts) = fills source (length ws) (count ts)
+content_over source t = denied NoSuchPlace
+
 -- What an operation whose numbers are in range makes where a path leads, memory aside; or by what name it is refused, and nothing is changed.
 abbrev pub made_at : Op → Spot → Making
 made_at (SetField size i v) (PointerTo t) = with_written (number_at size i v) t
 made_at (SetField size i v) (ElementOf t) = with_written (number_at size i v) t
 made_at (SetBool i b) (PointerTo t) = with_written (bit_at i b) t
 made_at (SetBool i b) (ElementOf t) = with_written (bit_at i b) t
+made_at (CopyContent source) (PointerTo t) = content_over source t
+made_at (CopyContent source) (ElementOf t) = content_over source t
 made_at op (ElementOf t) = denied NoSuchPlace
 made_at (InitStruct size) (PointerTo t) = becomes (zero_struct size)
 made_at (InitList size n) (PointerTo t) = becomes (zero_list (size_number size) n)
@@ -215,6 +233,7 @@ takes_memory (GetData default) = false
 takes_memory (CopyFrom source canonicalize) = false
 takes_memory (SetStruct source canonicalize) = false
 takes_memory (SetList source canonicalize) = false
+takes_memory (CopyContent source) = false
 takes_memory op = true
 
 -- How many words the object takes that an operation makes, its landing pad aside.
@@ -238,6 +257,7 @@ abbrev pub copied_by : Op → Option Copying
 copied_by (CopyFrom source canonicalize) = Some (copying source Value canonicalize)
 copied_by (SetStruct source canonicalize) = Some (copying source AStruct canonicalize)
 copied_by (SetList source canonicalize) = Some (copying source AList canonicalize)
+copied_by (CopyContent source) = Some (copying source Content false)
 copied_by op = None
 
 -- A copy is refused by a name: its source isn't read, and all is as it was; or as the copy of what was read is.
@@ -274,8 +294,14 @@ place_of b = record { segment = b.segment; word = b.at }
 abbrev pub GivesAt : Segments → Segments → PointerPlace → Op → Option ErrorKind → Type 0
 GivesAt S R place op r = (t : Tree) → IsStored S place.segment place.word t → (u : Tree) × Gives op t r u × IsReplaced S R place.segment place.word t u
 
+-- The pointers before one are copied, and that is refused by the name k, for what it reads or for memory.
+abbrev pub FillsFirst : Source → ℕ → ℕ → ErrorKind → Tree → Type 0
+FillsFirst source d q k u =
+    (ts : Trees) × (f : Fills source d q ts u) × (count ts < min q f.from.pointers) × (IsOfMemory k ⊎ ((m : Meter) × Refused plain (behind f.from.first (count ts)) f.after m k))
+
 -- What an operation leaves where it makes this, with its outcome: o in the value's stead, if anything is changed. It is what is made; or null, for want
--- of memory; or all as it was; or it is what is copied; or null, where that is refused; or all as it was, where there is nothing to be copied.
+-- of memory; or all as it was; or it is what is copied; or null, where that is refused; or all as it was, where there is nothing to be copied. Of content it is
+-- all that is copied; or what is before a refusal; or all as it was.
 pub data Yields (op : Op) (making : Making) (r : Option ErrorKind) (o : Option Tree) : Type 0 where
   is_done : (u : Tree) → making ≡ becomes u → r ≡ None → o ≡ Some u → Yields op making r o
   lacks_memory : (u : Tree) (k : ErrorKind) → making ≡ becomes u → takes_memory op ≡ true → IsOfMemory k → r ≡ Some k → o ≡ Some Null → Yields op making r o
@@ -283,6 +309,9 @@ pub data Yields (op : Op) (making : Making) (r : Option ErrorKind) (o : Option T
   is_copied : (c : Copying) (u : Tree) → making ≡ copies c → Copies c u → r ≡ None → o ≡ Some u → Yields op making r o
   is_not_copied : (c : Copying) (k : ErrorKind) → making ≡ copies c → IsOfMemory k ⊎ IsUnreadable c k → r ≡ Some k → o ≡ Some Null → Yields op making r o
   is_unread : (c : Copying) (k : ErrorKind) → making ≡ copies c → IsUnread c k → r ≡ Some k → o ≡ None → Yields op making r o
+  is_filled : (source : Source) (d q : ℕ) (u : Tree) → making ≡ fills source d q → FillsAll source d q u → r ≡ None → o ≡ Some u → Yields op making r o
+  is_half_filled : (source : Source) (d q : ℕ) (k : ErrorKind) (u : Tree) → making ≡ fills source d q → FillsFirst source d q k u → r ≡ Some k → o ≡ Some u → Yields op making r o
+  is_not_filled : (source : Source) (d q : ℕ) (k : ErrorKind) → making ≡ fills source d q → IsUnread (copying source Content false) k → r ≡ Some k → o ≡ None → Yields op making r o
 
 -- The pointer at a place means o in t's stead, if anything is changed.
 abbrev pub IsReplacedIf : Segments → Segments → PointerPlace → Tree → Option Tree → Type 0
@@ -319,6 +348,49 @@ pub data CopiesRoot (S R : Segments) (place : PointerPlace) (c : Copying) (r : O
   root_copied : (u : Tree) → Copies c u → r ≡ None → Puts S R place.segment place.word u → CopiesRoot S R place c r
   root_not_copied : (k : ErrorKind) → IsOfMemory k ⊎ IsUnreadable c k → r ≡ Some k → Puts S R place.segment place.word Null → CopiesRoot S R place c r
   root_unread : (k : ErrorKind) → IsUnread c k → r ≡ Some k → R ≡ S → CopiesRoot S R place c r
+
+-- Where the sections of a struct are.
+abbrev pub sections : ExistingStruct → StructPlace
+sections e = record {
+  segment = e.segment;
+  byte = 8 * e.start;
+  bits = 64 * e.size.data_words;
+  pointers_at = e.start + e.size.data_words;
+  pointers = e.size.pointers;
+}
+
+-- From S on a struct takes the data of a source's struct, and then its first pointers are copied.
+pub record Filling (S : Segments) (place : StructPlace) (source : Source) : Type 0 where
+  pub root : HasRoot source
+  pub from : Sections
+  pub leads : LeadsToStruct (root_of source) (once_at_root source) from
+  pub after : Meter
+  pub children : Trees
+  pub are_read : ReadsAll plain from.first from.limiter after children
+  pub bytes : List ℕ
+  pub are_words : words_of bytes ≡ from.words
+  pub taken : Segments
+  pub takes : TakesBytes S taken place (64 * length from.words) bytes
+  pub filled : Segments
+  pub fills_first : AreFilled taken filled place.segment place.pointers_at children
+
+-- What copying content leaves, with its outcome: as many pointers are copied as both have; or those before one, which is refused and null; or there is no struct
+-- to be copied.
+pub data FillsAt (S R : Segments) (place : StructPlace) (source : Source) (r : Option ErrorKind) : Type 0 where
+  all_filled : (f : Filling S place source) → count f.children ≡ min place.pointers f.from.pointers → R ≡ f.filled → r ≡ None → FillsAt S R place source r
+  first_filled :
+      (f : Filling S place source) (k : ErrorKind) →
+      count f.children < min place.pointers f.from.pointers →
+      IsReplaced f.filled R place.segment (place.pointers_at + count f.children) Null Null →
+      IsOfMemory k ⊎ ((m : Meter) × Refused plain (behind f.from.first (count f.children)) f.after m k) →
+      r ≡ Some k →
+      FillsAt S R place source r
+  none_filled : (k : ErrorKind) → IsUnread (copying source Content false) k → R ≡ S → r ≡ Some k → FillsAt S R place source r
+
+-- What an operation at an element of a list leaves: it copies content; or it writes bits, or is for something else.
+abbrev pub FillsOrWrites : Segments → Segments → ExistingStruct → Op → Option ErrorKind → Type 0
+FillsOrWrites S R e (CopyContent source) r = FillsAt S R (sections e) source r
+FillsOrWrites S R e op r = WritesAt S R e op r
 
 -- What writing an element leaves, with its outcome, where a list was looked for: its lowest bits are written; or it isn't there, in no list that lies in
 -- the message and is as wide; or there is no list, or the search was refused.

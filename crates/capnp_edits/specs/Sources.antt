@@ -1,36 +1,38 @@
 -- What is copied from another message.
-use Rattle.std.specs.Prelude.{ℕ, pred, ◌+◌, ◌≤◌, ◌≡◌, ◌⊎◌, Bool, true, false, cond, nat_eq, List, [], map, length, Option, Some, None}
+use Rattle.std.specs.Prelude.{ℕ, pred, min, ◌+◌, ◌*◌, ◌≤◌, ◌≡◌, ◌⊎◌, Bool, true, false, cond, nat_eq, List, [], map, length, Option, Some, None}
 use Rattle.capnp_words.specs.Meter.{Meter, Affords, charged, unused}
 use Rattle.capnp_words.specs.declared.error.ErrorKind.{ErrorKind}
 use Rattle.capnp_words.specs.declared.error.ErrorKind.TheVariants.{InvalidSegmentId, ReadLimitExceeded}
 use Rattle.capnp_pointers.specs.declared.wire_pointer.ElementSize.TheVariants.{Void, InlineComposite}
 use Rattle.capnp_pointers.specs.Sizes.{size_number}
-use Rattle.capnp_format.specs.Bytes.{message}
+use Rattle.capnp_format.specs.Bytes.{message, words_of}
 use Rattle.capnp_format.specs.Canonical.{word_count}
 use Rattle.capnp_format.specs.Segments.{Segments, Target, segment, words_at, AreWords}
-use Rattle.capnp_format.specs.Tree.{Tree, Null, Struct, Flat, Pointers, Structs, no_trees, capabilities}
+use Rattle.capnp_format.specs.Tree.{Tree, Null, Struct, Flat, Pointers, Structs, Trees, no_trees, count, capabilities}
 use Rattle.capnp_format.specs.Word.{kind, offset_bits, data_words, pointer_count, element_size, list_count}
 use Rattle.capnp_arena.specs.Checks.{Holds, misplaced}
 use Rattle.capnp_arena.specs.Limits.{whole}
-use Rattle.capnp_arena.specs.View.{View}
+use Rattle.capnp_arena.specs.View.{View, KeepsLimits}
+use Rattle.capnp_making.specs.Memory.{RefusesWords}
 use Rattle.capnp_objects.specs.declared.object.Expected.TheVariants.{Struct as ExpectedStruct, List as ExpectedList}
 use Rattle.capnp_objects.specs.Demands.{IsStructList, tag}
 use Rattle.capnp_objects.specs.Expected.{Withheld}
 use Rattle.capnp_objects.specs.Faults.{child_at}
-use Rattle.capnp_objects.specs.Outcomes.{Reads, Entered, MeansThere}
-use Rattle.capnp_objects.specs.Reading.{Reading, word_of, tag_size}
+use Rattle.capnp_objects.specs.Outcomes.{Reads, ReadsAll, Entered, MeansThere}
+use Rattle.capnp_objects.specs.Reading.{Reading, word_of, behind, tag_size}
 use Rattle.capnp_objects.specs.Refusals.{Refused}
 use Rattle.capnp_objects.specs.Source.{levels}
-use Rattle.capnp_objects.specs.Wanted.{Takes}
+use Rattle.capnp_objects.specs.Wanted.{Takes, plain}
 use Rattle.capnp_readers.specs.declared.readers.PointerPlace.{PointerPlace}
 use Rattle.capnp_copies.specs.Changes.{Change, RefusesValue, change}
 use Rattle.capnp_copies.specs.Forms.{form_of, kept}
 use Rattle.capnp_copies.specs.ListValues.{ListElements, RefusesElements}
 use Rattle.capnp_copies.specs.StructValues.{RefusesSections}
+use Rattle.capnp_builders.specs.Laws.{HoldContent, up_to}
 use Rattle.capnp_edits.specs.declared.edit.Source.{Source}
 use Rattle.capnp_edits.specs.declared.edit.copying.Copying.{Copying}
 use Rattle.capnp_edits.specs.declared.edit.copying.Wanted.{Wanted}
-use Rattle.capnp_edits.specs.declared.edit.copying.Wanted.TheVariants.{Value, Struct as AStruct, List as AList}
+use Rattle.capnp_edits.specs.declared.edit.copying.Wanted.TheVariants.{Value, Struct as AStruct, List as AList, Content}
 
 abbrev pub copying : Source → Wanted → Bool → Copying
 copying source wanted canonicalize = record { source = source; wanted = wanted; canonicalize = canonicalize }
@@ -54,7 +56,7 @@ abbrev pub HasRoot : Source → Type 0
 HasRoot source = Holds (words_in source) 0 0 1 × Affords true (limiter_of source) 1
 
 -- The value that is copied where a root means t: t itself; but where a struct or a list is wanted, of null one of nothing, and none where t is of another
--- kind, or a list of bits.
+-- kind, or a list of bits. Of content no whole value is copied.
 abbrev pub as_wanted : Wanted → Tree → Option Tree
 as_wanted Value t = Some t
 as_wanted AStruct Null = Some (Struct [] no_trees)
@@ -76,6 +78,12 @@ abbrev pub IsWithheld : Wanted → Reading → Meter → Meter → ErrorKind →
 IsWithheld Value r m m' k = ⊥
 IsWithheld AStruct r m m' k = Withheld ExpectedStruct r m m' k
 IsWithheld AList r m m' k = Withheld (ExpectedList Void) r m m' k
+IsWithheld Content r m m' k = Withheld ExpectedStruct r m m' k
+
+-- A whole value is copied.
+abbrev pub is_whole : Wanted → Bool
+is_whole Content = false
+is_whole wanted = true
 
 -- There is nothing to be copied, by the name k: the root isn't reached, or what is wanted isn't found there.
 abbrev pub IsUnread : Copying → ErrorKind → Type 0
@@ -155,11 +163,35 @@ pub data LeadsToList (r : Reading) (m m' : Meter) (l : ListElements) : Type 0 wh
       l.count ≡ offset_bits (tag r.segments a) →
       LeadsToList r m m' l
 
+-- The content of a source's struct stands in the stead of that of a struct of d data words and q pointers, of which ts are the first: u. The data that both
+-- have is copied, with zeros behind it, and these pointers are, with nulls behind them.
+pub record Fills (source : Source) (d q : ℕ) (ts : Trees) (u : Tree) : Type 0 where
+  pub root : HasRoot source
+  pub from : Sections
+  pub leads : LeadsToStruct (root_of source) (once_at_root source) from
+  pub after : Meter
+  pub are_read : ReadsAll plain from.first from.limiter after ts
+  pub bytes : List ℕ
+  pub are_words : words_of bytes ≡ from.words
+  pub section : List ℕ
+  pub holds : HoldContent section d (64 * length from.words) bytes
+  pub is_filled : u ≡ Struct section (up_to q ts)
+
+-- So as many pointers are copied as both have.
+abbrev pub FillsAll : Source → ℕ → ℕ → Tree → Type 0
+FillsAll source d q u = (ts : Trees) × (f : Fills source d q ts u) × (count ts ≡ min q f.from.pointers)
+
+-- Between these there are i pointers; the next one is refused by the name k: it can't be read, or an object finds no room once the data is taken.
+abbrev pub RefusesNext : Sections → ℕ → Change → ErrorKind → Type 0
+RefusesNext s i c k =
+    (between : Meter) × (((taken : View) × (n : ℕ) × KeepsLimits c.old taken × RefusesWords taken c.new n k) ⊎ Refused plain (behind s.first i) between c.after k)
+
 -- The copy of what is wanted at a place is refused by the name k.
 abbrev pub RefusesAs : Wanted → Reading → Change → ErrorKind → Type 0
 RefusesAs Value r c k = RefusesValue r c k
 RefusesAs AStruct r c k = (s : Sections) × LeadsToStruct r c.before s × RefusesSections s.words s.first s.pointers (record c { before = s.limiter }) k
 RefusesAs AList r c k = (l : ListElements) × (m : Meter) × LeadsToList r c.before m l × RefusesElements l (record c { before = m }) k
+RefusesAs Content r c k = (s : Sections) × (i : ℕ) × LeadsToStruct r c.before s × RefusesNext s i c k
 
 -- From old to new the copy to a place is refused by the name k: an object finds no room, or reading is refused.
 abbrev pub IsCopyRefused : View → View → Copying → ErrorKind → Type 0

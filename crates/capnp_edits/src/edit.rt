@@ -7,11 +7,12 @@ ghost use Rattle.capnp_edits.specs.Edits.{refusal_of, is_of_place, OpFits, IsRef
 mod copying;
 mod elements;
 mod fields;
+mod filling;
 mod found;
 mod path;
 mod pointer;
 
-use self::fields::edit_struct;
+use self::filling::edit_element;
 use self::path::{Place, find, has_words};
 use self::pointer::edit_pointer;
 use capnp_arena::arena::{BuilderArena, ReaderArenaImpl, SegmentArray};
@@ -90,6 +91,10 @@ pub enum Op<'a> {
     /// `PointerBuilder::set_list` makes it; of a null root a list of no `Void`. The list is looked for as
     /// `PointerReader::get_list` does with the size `Void`, so it is none of bits.
     SetList(Source<'a>, bool),
+    /// The content of a struct becomes that of the struct that the root of another message leads to, as
+    /// `StructBuilder::copy_content_from` makes it; of a null root it is all zero and null. The struct is
+    /// looked for as `PointerReader::get_struct` does.
+    CopyContent(Source<'a>),
 }
 
 /// A change of a message: what is done, and where.
@@ -108,7 +113,8 @@ pub struct Edit<'a> {
 /// `get_list`, `get_text` or `get_data` of a `PointerBuilder`; where there is nothing to be copied, it is that of
 /// `PointerReader::get_root_from_arena`, or of the root's `get_struct` or `get_list`. Nothing is changed then.
 /// `AllocationFailed` and `MessageTooLarge` are those of the arena, and the pointer is null then, as it is where
-/// the copy is refused for what it reads.
+/// the copy is refused for what it reads. Of content the data and the pointers before the refused one are copied
+/// then, and the others are null.
 pub fn apply<A: BuilderArena>(arena: &mut A, edit: &Edit<'_>) -> Result<(), ErrorKind>
     ensures applied { IsApplied (A.view arena.old).words (A.view arena.new).words edit.now (refusal_of result) }
     ensures counted { IsCounted edit.now.op (refusal_of result) (A.view arena.old).refusals (A.view arena.new).refusals }
@@ -121,7 +127,7 @@ pub fn apply<A: BuilderArena>(arena: &mut A, edit: &Edit<'_>) -> Result<(), Erro
     }
     match find(&*arena, edit.path) {
         Some(Place::Pointer(place)) => edit_pointer(arena, place, edit.op),
-        Some(Place::Element(parent)) => edit_struct(arena, parent, edit.op),
+        Some(Place::Element(parent)) => edit_element(arena, parent, edit.op),
         None => Err(ErrorKind::NoSuchPlace),
     }
 }

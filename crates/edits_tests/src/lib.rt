@@ -13,6 +13,8 @@ mod copies_without_memory;
 #[cfg(test)]
 mod done;
 #[cfg(test)]
+mod filled;
+#[cfg(test)]
 mod memory_among_refusals;
 #[cfg(test)]
 mod messages;

@@ -1,7 +1,9 @@
 //! Other messages, what is copied of them into one that is made, and what becomes of it.
 use crate::messages::{check, edit, size};
 use capnp_arena::arena::{ReaderArenaImpl, ReaderOptions, SegmentArray};
-use capnp_edits::edit::Op::{CopyFrom, InitStruct, InitStructList, SetList, SetStruct};
+use capnp_edits::edit::Op::{
+    CopyContent, CopyFrom, InitStruct, InitStructList, SetList, SetStruct,
+};
 use capnp_edits::edit::Step::{Child, Element};
 use capnp_edits::edit::{Op, Source, Step};
 use capnp_words::error::ErrorKind;
@@ -75,6 +77,8 @@ pub enum Copied {
     Struct,
     /// The list.
     List,
+    /// The struct's content, over that of another struct.
+    Content,
 }
 
 /// The operation that copies so of a message, in canonical form or as it stands.
@@ -83,6 +87,7 @@ pub fn copy_of<'a>(copied: Copied, source: Source<'a>, canonicalize: bool) -> Op
         Copied::Value => CopyFrom(source, canonicalize),
         Copied::Struct => SetStruct(source, canonicalize),
         Copied::List => SetList(source, canonicalize),
+        Copied::Content => CopyContent(source),
     }
 }
 

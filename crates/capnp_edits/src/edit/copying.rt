@@ -1,8 +1,8 @@
 //! Edits that copy from another message.
-ghost use Rattle.std.specs.Prelude.{◌≡◌, IsOk, IfErr};
+ghost use Rattle.std.specs.Prelude.{◌≡◌, true, IsOk, IfErr};
 ghost use Rattle.capnp_format.specs.Segments.{IsPlace};
 ghost use Rattle.capnp_builders.specs.Building.{built, IsThere};
-ghost use Rattle.capnp_edits.specs.Sources.{FitsBehind};
+ghost use Rattle.capnp_edits.specs.Sources.{is_whole, FitsBehind};
 ghost use Rattle.capnp_edits.specs.Edits.{refusal_of, copied_by, place_of, IsCopyCounted, CopiesRoot, IsSourceRefused};
 
 use crate::edit::{Op, Source};
@@ -22,6 +22,8 @@ pub(crate) enum Wanted {
     Struct,
     /// A list.
     List,
+    /// A struct, of which the content alone is copied.
+    Content,
 }
 
 /// A copy from another message.
@@ -43,6 +45,7 @@ pub(crate) fn copying_of(op: Op<'_>) -> Option<Copying<'_>>
         Op::CopyFrom(source, canonicalize) => (source, Wanted::Value, canonicalize),
         Op::SetStruct(source, canonicalize) => (source, Wanted::Struct, canonicalize),
         Op::SetList(source, canonicalize) => (source, Wanted::List, canonicalize),
+        Op::CopyContent(source) => (source, Wanted::Content, false),
         _ => return None,
     };
     Some(Copying {
@@ -57,7 +60,8 @@ fn copy_root<A: BuilderArena>(
     pointer: &mut PointerBuilder<'_, A>,
     copying: Copying<'_>,
 ) -> Result<(), ErrorKind>
-    requires { IsThere (built A.view pointer.old) }
+    requires there { IsThere (built A.view pointer.old) }
+    requires whole { is_whole copying.wanted ≡ true }
     ensures done { CopiesRoot (A.view pointer.old.arena.now).words (A.view pointer.new.arena.now).words (place_of pointer.old) copying.entry (refusal_of result) }
     ensures counted { IsCopyCounted (refusal_of result) (A.view pointer.old.arena.now).refusals (A.view pointer.new.arena.now).refusals }
     ensures named { IfErr result (IsSourceRefused (A.view pointer.old.arena.now) (A.view pointer.new.arena.now) copying.entry) }
@@ -79,6 +83,7 @@ fn copy_root<A: BuilderArena>(
             Ok(value) => pointer.set_list(&value, &mut lim, copying.canonicalize),
             Err(k) => Err(k),
         },
+        Wanted::Content => Err(ErrorKind::NoSuchPlace),
     }
 }
 
@@ -88,7 +93,8 @@ pub(crate) fn edit_source<A: BuilderArena>(
     place: PointerPlace,
     copying: Copying<'_>,
 ) -> Result<(), ErrorKind>
-    requires { IsPlace (A.view arena.old).words place.segment place.word }
+    requires there { IsPlace (A.view arena.old).words place.segment place.word }
+    requires whole { is_whole copying.wanted ≡ true }
     ensures done { CopiesRoot (A.view arena.old).words (A.view arena.new).words place copying.entry (refusal_of result) }
     ensures counted { IsCopyCounted (refusal_of result) (A.view arena.old).refusals (A.view arena.new).refusals }
     ensures named { IfErr result (IsSourceRefused (A.view arena.old) (A.view arena.new) copying.entry) }

@@ -10,6 +10,7 @@ use crate::edit::Op;
 use crate::edit::copying::{copying_of, edit_source};
 use crate::edit::elements::edit_content;
 use crate::edit::fields::{edit_struct, is_element_of, is_number_of};
+use crate::edit::filling::fill;
 use crate::edit::found::edit_search;
 use capnp_arena::arena::BuilderArena;
 use capnp_builders::builders::PointerBuilder;
@@ -42,6 +43,7 @@ pub(crate) fn is_in_range(op: Op<'_>) -> bool
         Op::InitStruct(_) | Op::SetCapability(_) | Op::Clear | Op::SetBool(_, _) => true,
         Op::WriteText(_, _) | Op::WriteData(_, _) | Op::GetText(_) | Op::GetData(_) => true,
         Op::CopyFrom(_, _) | Op::SetStruct(_, _) | Op::SetList(_, _) => true,
+        Op::CopyContent(_) => true,
     }
 }
 
@@ -105,7 +107,7 @@ fn set<A: BuilderArena>(pointer: &mut PointerBuilder<'_, A>, op: Op<'_>) -> Resu
         }
         Op::GetStruct(_, _) | Op::GetStructList(_, _) => Err(ErrorKind::NoSuchPlace),
         Op::GetList(_, _) | Op::GetText(_) | Op::GetData(_) => Err(ErrorKind::NoSuchPlace),
-        Op::CopyFrom(_, _) | Op::SetStruct(_, _) | Op::SetList(_, _) => {
+        Op::CopyFrom(_, _) | Op::SetStruct(_, _) | Op::SetList(_, _) | Op::CopyContent(_) => {
             Err(ErrorKind::NoSuchPlace)
         }
     }
@@ -192,6 +194,12 @@ pub(crate) fn edit_pointer<A: BuilderArena>(
     }
     if !is_in_range(op) {
         return Err(ErrorKind::NoSuchPlace);
+    }
+    if let Op::CopyContent(source) = op {
+        return match existing::get_struct(&*arena, place.segment, place.word) {
+            Some(parent) => fill(arena, parent, source),
+            None => Err(ErrorKind::NoSuchPlace),
+        };
     }
     if let Some(copying) = copying_of(op) {
         return edit_source(arena, place, copying);

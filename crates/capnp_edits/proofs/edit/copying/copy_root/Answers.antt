@@ -24,7 +24,7 @@ value_at g c =
     (c.in-Ok.ensures.granted ∙ ap (λ m. charged true m 1) c.new-lim.ensures) (held.0, subst (λ m. Affords true m 1) c.new-lim.ensures held.1) c.copy_from.ensures.copied c.copy_from.ensures.refused
 
 pub returns-in-Value-clause-done : goal.returns-in-Value-clause-done
-returns-in-Value-clause-done g c = tried_done c.copy_from.result c.args.copying _ _ _ (value_at g c) c.copy_from.ensures.cleared
+returns-in-Value-clause-done g c = tried_done c.copy_from.result c.args.copying _ _ _ c.requires.whole (value_at g c) c.copy_from.ensures.cleared
 
 pub returns-in-Value-clause-counted : goal.returns-in-Value-clause-counted
 returns-in-Value-clause-counted g c = tried_counted c.copy_from.result c.args.copying _ _ _ (value_at g c) c.copy_from.ensures.granted c.copy_from.ensures.memory
@@ -47,7 +47,7 @@ struct_there g c =
     }) c.in-Ok-get_struct.value.content_is.1 c.in-Ok-get_struct.ensures.read c.set_struct.ensures.copied c.set_struct.ensures.refused
 
 pub returns-in-Ok-get_struct-clause-done : goal.returns-in-Ok-get_struct-clause-done
-returns-in-Ok-get_struct-clause-done g c = tried_done c.set_struct.result c.args.copying _ _ _ (struct_there g c) c.set_struct.ensures.cleared
+returns-in-Ok-get_struct-clause-done g c = tried_done c.set_struct.result c.args.copying _ _ _ c.requires.whole (struct_there g c) c.set_struct.ensures.cleared
 
 pub returns-in-Ok-get_struct-clause-counted : goal.returns-in-Ok-get_struct-clause-counted
 returns-in-Ok-get_struct-clause-counted g c = tried_counted c.set_struct.result c.args.copying _ _ _ (struct_there g c) c.set_struct.ensures.granted c.set_struct.ensures.memory
@@ -99,7 +99,7 @@ list_there g c =
     }) c.in-Ok-get_list.ensures.read c.set_list.ensures.copied c.set_list.ensures.refused
 
 pub returns-in-Ok-get_list-clause-done : goal.returns-in-Ok-get_list-clause-done
-returns-in-Ok-get_list-clause-done g c = tried_done c.set_list.result c.args.copying _ _ _ (list_there g c) c.set_list.ensures.cleared
+returns-in-Ok-get_list-clause-done g c = tried_done c.set_list.result c.args.copying _ _ _ c.requires.whole (list_there g c) c.set_list.ensures.cleared
 
 pub returns-in-Ok-get_list-clause-counted : goal.returns-in-Ok-get_list-clause-counted
 returns-in-Ok-get_list-clause-counted g c = tried_counted c.set_list.result c.args.copying _ _ _ (list_there g c) c.set_list.ensures.granted c.set_list.ensures.memory

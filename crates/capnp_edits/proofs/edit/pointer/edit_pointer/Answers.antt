@@ -1,7 +1,11 @@
-use Rattle.std.proofs.Common.{sym, ◌∙◌, refl, ap}
+use Rattle.std.proofs.Common.{false, sym, ◌∙◌, refl, ap}
 use Rattle.capnp_arena.specs.View.{View}
+use Rattle.capnp_edits.specs.declared.edit.copying.Wanted.TheVariants.{Content}
+use Rattle.capnp_edits.specs.Sources.{copying}
+use Rattle.capnp_edits.specs.Edits.{copied_by}
 use Rattle.capnp_edits.proofs.Applied.{none_counted, refused_as, given_at, written_at, no_struct_at, out_of_range, never_nowhere, kept_nowhere, refused_there, of_place}
-use Rattle.capnp_edits.proofs.Copied.{copied_at, counted_as, copy_refused, copy_nowhere, copy_fits, words_fit, none_copied, exactly_counted}
+use Rattle.capnp_edits.proofs.Copied.{copied_at, whole_copy, counted_as, copy_refused, copy_nowhere, copy_fits, words_fit, none_copied, exactly_counted, content_never}
+use Rattle.capnp_edits.proofs.Filled.{filled_at, none_filled_at}
 use Rattle.capnp_edits.proofs.edit.pointer.edit_pointer.Goals as goal
 
 pub returns-in-Some-clause-done : goal.returns-in-Some-clause-done
@@ -22,10 +26,10 @@ pub returns-in-Some-clause-named : goal.returns-in-Some-clause-named
 returns-in-Some-clause-named g c = refused_there c.edit_struct.result _ _ c.args.op (of_place c.edit_struct.result c.edit_struct.ensures.named) c.edit_struct.ensures.kept
 
 pub returns-clause-fits : goal.returns-clause-fits
-returns-clause-fits g c = words_fit c.put_at.result _ _ c.args.op (none_copied c.args.op (λ copied e. c.in_default.not-Some copied (c.copying_of.ensures ∙ e))) c.put_at.ensures.fits
+returns-clause-fits g c = words_fit c.put_at.result _ _ c.args.op (none_copied c.args.op (λ copied e. c.in_default-copying_of.not-Some copied (c.copying_of.ensures ∙ e))) c.put_at.ensures.fits
 
 pub returns-clause-named : goal.returns-clause-named
-returns-clause-named g c = refused_as c.put_at.result _ _ c.args.op (none_copied c.args.op (λ copied e. c.in_default.not-Some copied (c.copying_of.ensures ∙ e))) c.put_at.ensures.named
+returns-clause-named g c = refused_as c.put_at.result _ _ c.args.op (none_copied c.args.op (λ copied e. c.in_default-copying_of.not-Some copied (c.copying_of.ensures ∙ e))) c.put_at.ensures.named
 
 pub returns-in-None-clause-done : goal.returns-in-None-clause-done
 returns-in-None-clause-done g c = no_struct_at _ c.args.place c.args.op (sym c.is_on_field.ensures ∙ c.if-is_on_field.true) c.in-None.ensures.found
@@ -34,7 +38,7 @@ pub returns-then-not-is_in_range-clause-done : goal.returns-then-not-is_in_range
 returns-then-not-is_in_range-clause-done g c = out_of_range _ c.args.place c.args.op (sym c.is_in_range.ensures ∙ c.if-not-is_in_range.true)
 
 pub returns-in-Some-copying_of-clause-done : goal.returns-in-Some-copying_of-clause-done
-returns-in-Some-copying_of-clause-done g c = copied_at _ _ c.args.place c.args.op c.in-Some-copying_of.copying _ (sym c.copying_of.ensures ∙ c.in-Some-copying_of.is) c.edit_source.ensures.done
+returns-in-Some-copying_of-clause-done g c = copied_at _ _ c.args.place c.args.op c.in-Some-copying_of.copying _ (whole_copy c.args.op c.in-Some-copying_of.copying c.in_default.not-CopyContent (sym c.copying_of.ensures ∙ c.in-Some-copying_of.is)) (sym c.copying_of.ensures ∙ c.in-Some-copying_of.is) c.edit_source.ensures.done
 
 pub returns-in-Some-copying_of-clause-counted : goal.returns-in-Some-copying_of-clause-counted
 returns-in-Some-copying_of-clause-counted g c = counted_as c.args.op c.in-Some-copying_of.copying _ _ _ (sym c.copying_of.ensures ∙ c.in-Some-copying_of.is) c.edit_source.ensures.counted
@@ -59,3 +63,28 @@ returns-then-not-is_in_range-clause-counted g c = exactly_counted c.args.op _ _ 
 
 pub returns-clause-counted : goal.returns-clause-counted
 returns-clause-counted g c = exactly_counted c.args.op _ _ _ c.put_at.ensures.counted
+
+pub edit_source-requires-clause-whole : goal.edit_source-requires-clause-whole
+edit_source-requires-clause-whole g c = whole_copy c.args.op c.in-Some-copying_of.copying c.in_default.not-CopyContent (sym c.copying_of.ensures ∙ c.in-Some-copying_of.is)
+
+-- Content over the struct that the pointer leads to.
+pub returns-in-Some-get_struct-clause-done : goal.returns-in-Some-get_struct-clause-done
+returns-in-Some-get_struct-clause-done g c = filled_at _ _ c.args.place c.args.op c.in-CopyContent.source _ c.in-Some-get_struct.parent c.in-CopyContent.is c.in-Some-get_struct.ensures.found c.fill.ensures.filled
+
+pub returns-in-Some-get_struct-clause-counted : goal.returns-in-Some-get_struct-clause-counted
+returns-in-Some-get_struct-clause-counted g c = counted_as c.args.op (copying c.in-CopyContent.source Content false) _ _ _ (ap copied_by c.in-CopyContent.is) c.fill.ensures.counted
+
+pub returns-in-Some-get_struct-clause-named : goal.returns-in-Some-get_struct-clause-named
+returns-in-Some-get_struct-clause-named g c = copy_refused c.fill.result _ _ c.args.op (copying c.in-CopyContent.source Content false) (ap copied_by c.in-CopyContent.is) c.fill.ensures.named
+
+pub returns-in-Some-get_struct-clause-fits : goal.returns-in-Some-get_struct-clause-fits
+returns-in-Some-get_struct-clause-fits g c = copy_fits c.fill.result (g.A.BuilderArena.view c.args.arena.now) c.args.place.segment c.args.op (copying c.in-CopyContent.source Content false) (ap copied_by c.in-CopyContent.is) (λ fits. absurd (content_never (g.A.BuilderArena.view c.args.arena.now) c.args.place.segment c.in-CopyContent.source fits))
+
+pub returns-in-Some-get_struct-clause-nowhere : goal.returns-in-Some-get_struct-clause-nowhere
+returns-in-Some-get_struct-clause-nowhere g c = copy_nowhere c.fill.result _ _ (copying c.in-CopyContent.source Content false) c.fill.ensures.named
+
+pub returns-in-None-get_struct-clause-done : goal.returns-in-None-get_struct-clause-done
+returns-in-None-get_struct-clause-done g c = none_filled_at _ c.args.place c.args.op c.in-CopyContent.source c.in-CopyContent.is c.in-None-get_struct.ensures.found
+
+pub returns-in-None-get_struct-clause-counted : goal.returns-in-None-get_struct-clause-counted
+returns-in-None-get_struct-clause-counted g c = exactly_counted c.args.op _ _ _ refl

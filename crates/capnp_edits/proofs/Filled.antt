@@ -1,0 +1,314 @@
+-- Content of another message's struct that is copied over a struct, which a pointer leads to or which is an element of a list.
+use Rattle.std.proofs.Common.{◌≡◌, inl, inr, ℕ, min, ◌+◌, ◌*◌, ◌/◌, ◌%◌, false, List, [], ◌∷◌, length, Option, Some, None, Result, Ok, Err, IfOk, IfErr, refl, sym, ap, ap₂, ◌∙◌, subst, arith}
+use Rattle.capnp_words.specs.Meter.{Meter}
+use Rattle.capnp_words.specs.declared.error.ErrorKind.{ErrorKind}
+use Rattle.capnp_words.specs.declared.error.ErrorKind.TheVariants.{AllocationFailed, MessageTooLarge, NoSuchPlace}
+use Rattle.capnp_arena.specs.Allocations.{one_more}
+use Rattle.capnp_arena.specs.View.{View}
+use Rattle.capnp_arena.specs.declared.arena.reader_arena.ReaderArena.{Ghosts}
+use Rattle.capnp_format.specs.Bytes.{words_of}
+use Rattle.capnp_format.specs.Forest.{IsForest, target}
+use Rattle.capnp_format.specs.Segments.{Segments}
+use Rattle.capnp_format.specs.Tree.{Tree, Null, Capability, Struct, Flat, Pointers, Structs, Trees, no_trees, count, element_count}
+use Rattle.capnp_format.proofs.WordsOf.{words}
+use Rattle.capnp_making.specs.declared.existing.ExistingStruct.{ExistingStruct}
+use Rattle.capnp_making.specs.Existing.{struct_in}
+use Rattle.capnp_making.specs.Path.{Element, update, put_struct, struct_at}
+use Rattle.capnp_making.specs.Stored.{IsStored, IsReplaced}
+use Rattle.capnp_making.proofs.Replaced.{forest_stored, forest_updated, stored_within}
+use Rattle.capnp_objects.specs.declared.object.Expected.TheVariants.{Struct as ExpectedStruct}
+use Rattle.capnp_objects.specs.Reading.{behind}
+use Rattle.capnp_objects.specs.Refusals.{Refused}
+use Rattle.capnp_objects.specs.Wanted.{plain}
+use Rattle.capnp_objects.proofs.Copies.{read_none}
+use Rattle.capnp_objects.proofs.Limits.{not_for_memory}
+use Rattle.capnp_readers.specs.Calls.{WhereRead, IsStructRead, call}
+use Rattle.capnp_readers.specs.Readers.{reading}
+use Rattle.capnp_readers.specs.Sections.{bytes_for}
+use Rattle.capnp_readers.specs.Sizes.{pointers_read}
+use Rattle.capnp_readers.specs.declared.readers.PointerPlace.{PointerPlace}
+use Rattle.capnp_readers.specs.declared.readers.PointerReader.{PointerReader}
+use Rattle.capnp_readers.specs.declared.readers.struct_reader.StructPlace.{StructPlace}
+use Rattle.capnp_readers.specs.declared.readers.struct_reader.StructReader.{StructReader}
+use Rattle.capnp_copies.specs.StructValues.{section_words, data_of}
+use Rattle.capnp_copies.proofs.DataSections.{whole_section}
+use Rattle.capnp_builders.specs.Content.{TakesContent, StopsAtContent, pointers_copied}
+use Rattle.capnp_builders.specs.Laws.{up_to}
+use Rattle.capnp_builders.specs.Places.{IsAligned}
+use Rattle.capnp_builders.proofs.ContentTaken.{content_taken, content_stopped}
+use Rattle.capnp_builders.proofs.ElementContent.{element_content_taken, element_content_stopped, element_long}
+use Rattle.capnp_edits.specs.declared.edit.Edit.{Edit}
+use Rattle.capnp_edits.specs.declared.edit.Op.{Op}
+use Rattle.capnp_edits.specs.declared.edit.Op.TheVariants.{CopyContent}
+use Rattle.capnp_edits.specs.declared.edit.Source.{Source}
+use Rattle.capnp_edits.specs.declared.edit.copying.Wanted.TheVariants.{Content}
+use Rattle.capnp_edits.specs.Paths.{path_of, found, IsElementFound, PointerTo, ElementOf}
+use Rattle.capnp_edits.specs.Sources.{copying, root_of, once_at_root, LeadsToStruct}
+use Rattle.capnp_edits.specs.Edits.{refusal_of, made, fills, sections, FillsAt, FillsOrWrites, WritesAt, all_filled, first_filled, none_filled, IsCopyCounted, IsSourceRefused, IsApplied, Takes, leads_to, is_filled, is_half_filled, is_not_filled, Does, DoesAt}
+use Rattle.capnp_edits.proofs.Applied.{of_allocation, denied_at, element_struct, applied_element}
+use Rattle.capnp_edits.proofs.Copied.{AtRoot, where_read}
+use Rattle.capnp_edits.proofs.CopiedStruct.{struct_at as source_at}
+use Rattle.capnp_edits.proofs.Steps.{same_some, first, struct_of}
+use Rattle.capnp_edits.proofs.Walks.{found-append, update-append}
+
+-- the struct that get_struct gave has whole words
+whole_words : (bytes : List ℕ) (bits : ℕ) → length bytes ≡ bytes_for bits → bits % 64 ≡ 0 → (section_words bits bytes ≡ words_of bytes) × (bits ≡ 64 * length (words_of bytes))
+whole_words bytes bits long whole =
+    let d : ℕ = bits / 64 in
+    let is : bits ≡ 64 * d = omega (arith, whole) in
+    let all : length bytes ≡ 8 * d = omega (arith, long, is) in
+    let many : d ≡ length (words_of bytes) = omega (arith, words bytes, all) in
+    (ap (λ b. section_words b bytes) is ∙ whole_section d bytes all, is ∙ ap (λ n. 64 * n) many)
+
+whole_bits : {A : Type 0} (g : Ghosts A) (p : PointerReader A g) (m n : Meter) (v : StructReader A g) → IsStructRead g p m n v → v.bits % 64 ≡ 0
+whole_bits g p m n v (inl ((null, same), (nothing, no_bits, none, nesting))) = omega (arith, no_bits)
+whole_bits g p m n v (inr (a, o, z, shows, source, nesting)) = omega (arith, shows.bits_are)
+
+-- as the sections of a source's struct
+record SourceStruct {A : Type 0} (g : Ghosts A) (source : Source) (v : StructReader A g) (n : Meter) : Type 0 where
+  leads : LeadsToStruct (root_of source) (once_at_root source) (record { words = words_of v.content.now; first = pointers_read g v; pointers = v.pointer_count; limiter = n })
+  bits : v.bits ≡ 64 * length (words_of v.content.now)
+
+source_struct : {A : Type 0} (g : Ghosts A) (source : Source) (from : PointerReader A g) (v : StructReader A g) (m n : Meter) → AtRoot g source from m → length v.content.now ≡ bytes_for v.bits →
+    WhereRead g (call g from ExpectedStruct None) (λ p. IsStructRead g p m n v) → SourceStruct g source v n
+source_struct g source from v m n at_root long read =
+    let there : IsStructRead g from m n v = where_read g ExpectedStruct from (λ p. IsStructRead g p m n v) read in
+    let all = whole_words v.content.now v.bits long (whole_bits g from m n v there) in
+    let leads : LeadsToStruct (reading g from) m (record { words = data_of g v; first = pointers_read g v; pointers = v.pointer_count; limiter = n }) = source_at g from m n v long there in
+    let of_words : LeadsToStruct (reading g from) m (record { words = words_of v.content.now; first = pointers_read g v; pointers = v.pointer_count; limiter = n }) =
+    subst (λ w. LeadsToStruct (reading g from) m (record { words = w; first = pointers_read g v; pointers = v.pointer_count; limiter = n })) all.0 leads in
+    record {
+      leads =
+          subst (λ y. LeadsToStruct (root_of source) y (record { words = words_of v.content.now; first = pointers_read g v; pointers = v.pointer_count; limiter = n })) at_root.once
+          (subst (λ r. LeadsToStruct r m (record { words = words_of v.content.now; first = pointers_read g v; pointers = v.pointer_count; limiter = n })) at_root.reads of_words);
+      bits = all.1;
+    }
+
+-- what copying over a struct leaves
+pub fill_done : {A B : Type 0} (result : Result B ErrorKind) (g : Ghosts A) (source : Source) (from : PointerReader A g) (v : StructReader A g) (m n m' : Meter) (old new : View) (place : StructPlace) → AtRoot g source from m →
+    length v.content.now ≡ bytes_for v.bits → WhereRead g (call g from ExpectedStruct None) (λ p. IsStructRead g p m n v) → IfOk result (λ x. TakesContent g v place (pointers_copied place old new n m')) →
+    IfErr result (StopsAtContent g v place (pointers_copied place old new n m')) → FillsAt old.words new.words place source (refusal_of result)
+fill_done (Ok x) g source from v m n m' old new place at_root long read (mid, taking, copies) refused =
+    let s = source_struct g source from v m n at_root long read in
+    all_filled (record {
+      root = at_root.root;
+      from = record { words = words_of v.content.now; first = pointers_read g v; pointers = v.pointer_count; limiter = n };
+      leads = s.leads;
+      after = m';
+      children = copies.children;
+      are_read = copies.are_read;
+      bytes = v.content.now;
+      are_words = refl;
+      taken = mid.words;
+      takes = rw (← s.bits) taking.cleared;
+      filled = new.words;
+      fills_first = copies.made;
+    }) copies.counts refl refl
+fill_done (Err k) g source from v m n m' old new place at_root long read copied (mid, taking, stops) =
+    let s = source_struct g source from v m n at_root long read in
+    first_filled (record {
+      root = at_root.root;
+      from = record { words = words_of v.content.now; first = pointers_read g v; pointers = v.pointer_count; limiter = n };
+      leads = s.leads;
+      after = stops.between;
+      children = stops.first;
+      are_read = stops.are_read;
+      bytes = v.content.now;
+      are_words = refl;
+      taken = mid.words;
+      takes = rw (← s.bits) taking.cleared;
+      filled = stops.filled;
+      fills_first = stops.made;
+    }) k stops.fewer stops.cleared (elim stops.why [
+      | inl h ↦ inl (of_allocation mid new (length new.words) (h.0 + 1) k h.1.0)
+      | inr h ↦ inr (m', h)
+    ]) refl
+
+pub fill_counted : {A B : Type 0} (result : Result B ErrorKind) (g : Ghosts A) (v : StructReader A g) (n m' : Meter) (old new : View) (place : StructPlace) → IfOk result (λ x. TakesContent g v place (pointers_copied place old new n m')) →
+    IfErr result (StopsAtContent g v place (pointers_copied place old new n m')) → IsCopyCounted (refusal_of result) old.refusals new.refusals
+fill_counted (Ok x) g v n m' old new place (mid, taking, copies) refused =
+    let same : new.refusals ≡ old.refusals = ap (λ (y : View). y.refusals) copies.memory.0 ∙ ap (λ (y : View). y.refusals) taking.limits in
+    (λ e. same, λ e. absurd (cc), inl same)
+fill_counted (Err k) g v n m' old new place copied (mid, taking, stops) =
+    let same : mid.refusals ≡ old.refusals = ap (λ (y : View). y.refusals) taking.limits in
+    (λ e. absurd (cc), λ e. failed same (same_some k AllocationFailed e), elim stops.memory.2 [ inl h ↦ inl (h ∙ same) | inr h ↦ inr (h ∙ ap one_more same) ])
+  where
+    failed : mid.refusals ≡ old.refusals → k ≡ AllocationFailed → new.refusals ≡ one_more old.refusals
+    failed same e = elim stops.why [
+      | inl (i, (refuses, none), wanted) ↦ elim refuses [
+        | inl h ↦ h.3 ∙ ap one_more same
+        | inr (inl h) ↦ absurd (let f : AllocationFailed ≡ MessageTooLarge (i + 1) = sym e ∙ h.0 in cc)
+        | inr (inr h) ↦ absurd (let f : AllocationFailed ≡ MessageTooLarge _ = sym e ∙ h.0 in cc)
+      ]
+      | inr refused ↦ absurd (not_for_memory (subst (λ y. Refused plain (behind (pointers_read g v) (count stops.first)) stops.between m' y) e refused))
+    ]
+
+pub fill_named : {A B : Type 0} (result : Result B ErrorKind) (g : Ghosts A) (source : Source) (from : PointerReader A g) (v : StructReader A g) (m n m' : Meter) (old new : View) (place : StructPlace) → AtRoot g source from m →
+    length v.content.now ≡ bytes_for v.bits → WhereRead g (call g from ExpectedStruct None) (λ p. IsStructRead g p m n v) → IfErr result (StopsAtContent g v place (pointers_copied place old new n m')) →
+    IfErr result (IsSourceRefused old new (copying source Content false))
+fill_named (Ok x) g source from v m n m' old new place at_root long read refused = tt
+fill_named (Err k) g source from v m n m' old new place at_root long read (mid, taking, stops) =
+    let s = source_struct g source from v m n at_root long read in
+    inr (
+      record { segment = place.segment; word = place.pointers_at },
+      m',
+      (
+        record { words = words_of v.content.now; first = pointers_read g v; pointers = v.pointer_count; limiter = n },
+        count stops.first,
+        s.leads,
+        (stops.between, elim stops.why [ inl h ↦ inl (mid, h.0, taking.limits, h.1) | inr h ↦ inr h ]),
+      ),
+    )
+
+-- whole words start at a word
+pub sections_aligned : (e : ExistingStruct) → IsAligned (sections e)
+sections_aligned e some =
+    let eight : min 8 (64 * e.size.data_words / 8) ≡ 8 = omega (arith, some) in
+    (rw eight refl, rw eight (omega arith))
+
+-- a struct of no words takes nothing
+pub fill_nothing : {A : Type 0} (g : Ghosts A) (source : Source) (from : PointerReader A g) (v : StructReader A g) (m n : Meter) (S : Segments) (e : ExistingStruct) → AtRoot g source from m → length v.content.now ≡ bytes_for v.bits →
+    WhereRead g (call g from ExpectedStruct None) (λ p. IsStructRead g p m n v) → e.size.data_words + e.size.pointers ≡ 0 → FillsAt S S (sections e) source None
+fill_nothing g source from v m n S e at_root long read empty =
+    let s = source_struct g source from v m n at_root long read in
+    let no_data : e.size.data_words ≡ 0 = omega (arith, empty) in
+    let no_pointers : e.size.pointers ≡ 0 = omega (arith, empty) in
+    all_filled (record {
+      root = at_root.root;
+      from = record { words = words_of v.content.now; first = pointers_read g v; pointers = v.pointer_count; limiter = n };
+      leads = s.leads;
+      after = n;
+      children = no_trees;
+      are_read = read_none plain (pointers_read g v) n;
+      bytes = v.content.now;
+      are_words = refl;
+      taken = S;
+      takes = rw (no_data, no_pointers) refl;
+      filled = S;
+      fills_first = refl;
+    }) (omega (arith, no_pointers)) refl refl
+
+-- at a struct that a pointer leads to
+filled_struct : (S R : Segments) (place : PointerPlace) (op : Op) (source : Source) (r : Option ErrorKind) (ws : List ℕ) (ts : Trees) → op ≡ CopyContent source → IsStored S place.segment place.word (Struct ws ts) →
+    FillsAt S R (sections (struct_of (target S place.segment place.word).segment (target S place.segment place.word).start (length ws) (count ts))) source r → DoesAt S R place op (Struct ws ts) r
+filled_struct S R place op source r ws ts is stored (all_filled f counts same done) =
+    let (vs, holds, replaced, leads) =
+    content_taken S f.taken f.filled place.segment place.word ws ts f.children _ (64 * length f.from.words) f.bytes stored (refl, refl, refl, refl, refl) f.takes f.fills_first (omega (arith, counts)) in
+    let u : Tree = Struct vs (up_to (count ts) f.children) in
+    record {
+      left = Some u;
+      yields =
+          is_filled source (length ws) (count ts) u (ap (λ o. made o (PointerTo (Struct ws ts))) is)
+          (f.children, record { root = f.root; from = f.from; leads = f.leads; after = f.after; are_read = f.are_read; bytes = f.bytes; are_words = f.are_words; section = vs; holds = holds; is_filled = refl }, counts) done refl;
+      stands = subst (λ Q. IsReplaced S Q place.segment place.word (Struct ws ts) u) (sym same) replaced;
+    }
+filled_struct S R place op source r ws ts is stored (first_filled f k fewer null why named) =
+    let (vs, holds, replaced, leads) =
+    content_stopped S f.taken f.filled R place.segment place.word ws ts f.children _ (64 * length f.from.words) f.bytes stored (refl, refl, refl, refl, refl) f.takes f.fills_first (omega (arith, fewer)) null in
+    let u : Tree = Struct vs (up_to (count ts) f.children) in
+    record {
+      left = Some u;
+      yields =
+          is_half_filled source (length ws) (count ts) k u (ap (λ o. made o (PointerTo (Struct ws ts))) is)
+          (f.children, record { root = f.root; from = f.from; leads = f.leads; after = f.after; are_read = f.are_read; bytes = f.bytes; are_words = f.are_words; section = vs; holds = holds; is_filled = refl }, fewer, why) named refl;
+      stands = replaced;
+    }
+filled_struct S R place op source r ws ts is stored (none_filled k unread same named) =
+    record { left = None; yields = is_not_filled source (length ws) (count ts) k (ap (λ o. made o (PointerTo (Struct ws ts))) is) unread named refl; stands = same }
+
+filled_value : (S R : Segments) (place : PointerPlace) (op : Op) (source : Source) (r : Option ErrorKind) (e : ExistingStruct) (t : Tree) → op ≡ CopyContent source → Some e ≡ struct_in (target S place.segment place.word) t → FillsAt S R (sections e) source r →
+    IsStored S place.segment place.word t → DoesAt S R place op t r
+filled_value S R place op source r e (Struct ws ts) is is_e h stored =
+    let a = target S place.segment place.word in
+    filled_struct S R place op source r ws ts is stored (subst (λ x. FillsAt S R (sections x) source r) (same_some e (struct_of a.segment a.start (length ws) (count ts)) is_e) h)
+filled_value S R place op source r e Null is is_e h stored = absurd (cc)
+filled_value S R place op source r e (Capability j) is is_e h stored = absurd (cc)
+filled_value S R place op source r e (Flat size ns) is is_e h stored = absurd (cc)
+filled_value S R place op source r e (Pointers ts) is is_e h stored = absurd (cc)
+filled_value S R place op source r e (Structs d q es) is is_e h stored = absurd (cc)
+
+pub filled_at : (S R : Segments) (place : PointerPlace) (op : Op) (source : Source) (r : Option ErrorKind) (e : ExistingStruct) → op ≡ CopyContent source →
+    ((t : Tree) → IsStored S place.segment place.word t → Some e ≡ struct_in (target S place.segment place.word) t) → FillsAt S R (sections e) source r → Does S R place op r
+filled_at S R place op source r e is is_e h t stored = filled_value S R place op source r e t is (is_e t stored) h stored
+
+-- and where none is
+no_struct_value : (S : Segments) (place : PointerPlace) (op : Op) (source : Source) (t : Tree) → op ≡ CopyContent source → None ≡ struct_in (target S place.segment place.word) t → DoesAt S S place op t (Some NoSuchPlace)
+no_struct_value S place op source (Struct ws ts) is none = absurd (cc)
+no_struct_value S place op source Null is none = denied_at NoSuchPlace (ap (λ o. made o (PointerTo Null)) is) refl refl
+no_struct_value S place op source (Capability j) is none = denied_at NoSuchPlace (ap (λ o. made o (PointerTo (Capability j))) is) refl refl
+no_struct_value S place op source (Flat size ns) is none = denied_at NoSuchPlace (ap (λ o. made o (PointerTo (Flat size ns))) is) refl refl
+no_struct_value S place op source (Pointers ts) is none = denied_at NoSuchPlace (ap (λ o. made o (PointerTo (Pointers ts))) is) refl refl
+no_struct_value S place op source (Structs d q es) is none = denied_at NoSuchPlace (ap (λ o. made o (PointerTo (Structs d q es))) is) refl refl
+
+pub none_filled_at : (S : Segments) (place : PointerPlace) (op : Op) (source : Source) → op ≡ CopyContent source → ((t : Tree) → IsStored S place.segment place.word t → None ≡ struct_in (target S place.segment place.word) t) →
+    Does S S place op (Some NoSuchPlace)
+none_filled_at S place op source is is_none t stored = no_struct_value S place op source t is (is_none t stored)
+
+-- at an element of a list
+filled_element : (S R : Segments) (e : Edit) (s : ExistingStruct) (source : Source) (r : Option ErrorKind) → e.op ≡ CopyContent source → ((t : Tree) → IsStored S 0 0 t → IsElementFound S 0 0 t (path_of e.path.now) s) →
+    FillsAt S R (sections s) source r → IsApplied S R e r
+filled_element S R e s source r is leads h t forest =
+    let stored = forest_stored S t forest in
+    let f = leads t stored in
+    let d : ℕ = s.size.data_words in
+    let q : ℕ = s.size.pointers in
+    let list : Tree = Structs d q f.elements in
+    let (ws, ts, at) = element_struct f.elements f.index f.counts in
+    let there = stored_within S 0 0 t f.front f.list_segment f.list_at list f.leads stored in
+    let long = element_long S f.list_segment f.list_at d q f.elements f.index ws ts there f.counts at in
+    let spot : found t (path_of e.path.now) ≡ Some (ElementOf (Struct ws ts)) =
+    ap (found t) f.path_is ∙ found-append t f.front (Element f.index ∷ []) list f.spot ∙ first f.index (element_count f.elements) _ _ f.counts ∙ ap (λ x. Some (ElementOf x)) at in
+    let makes : made e.op (ElementOf (Struct ws ts)) ≡ fills source d q = ap (λ o. made o (ElementOf (Struct ws ts))) is ∙ ap₂ (fills source) long.0 long.1 in
+    done_there stored f ws ts at there spot makes h
+  where
+    done_there : (stored : IsStored S 0 0 t) (f : IsElementFound S 0 0 t (path_of e.path.now) s) (ws : List ℕ) (ts : Trees) → struct_at f.elements f.index ≡ Struct ws ts →
+        IsStored S f.list_segment f.list_at (Structs s.size.data_words s.size.pointers f.elements) → found t (path_of e.path.now) ≡ Some (ElementOf (Struct ws ts)) →
+        made e.op (ElementOf (Struct ws ts)) ≡ fills source s.size.data_words s.size.pointers → FillsAt S R (sections s) source r → (u : Tree) × IsForest R u × Takes e t r u
+    done_there stored f ws ts at there spot makes (all_filled h counts same done) =
+        let d : ℕ = s.size.data_words in
+        let q : ℕ = s.size.pointers in
+        let list : Tree = Structs d q f.elements in
+        let (vs, holds, replaced) =
+        element_content_taken S h.taken h.filled f.list_segment f.list_at d q f.elements f.index ws ts h.children (sections s) (64 * length h.from.words) h.bytes there f.counts at
+        (f.segment_is, ap (λ x. 8 * x) f.start_is, refl, ap (λ x. x + d) f.start_is, refl) h.takes h.fills_first (omega (arith, counts)) in
+        let y : Tree = Struct vs (up_to q h.children) in
+        let now : IsReplaced S R f.list_segment f.list_at list (Structs d q (put_struct f.elements f.index y)) = subst (λ Q. IsReplaced S Q f.list_segment f.list_at list (Structs d q (put_struct f.elements f.index y))) (sym same) replaced in
+        let path : update t (path_of e.path.now) y ≡ update t f.front (Structs d q (put_struct f.elements f.index y)) =
+        ap (λ p. update t p y) f.path_is ∙ update-append t f.front (Element f.index ∷ []) list y f.spot in (
+          update t f.front (Structs d q (put_struct f.elements f.index y)),
+          forest_updated S R t f.front f.list_segment f.list_at list (Structs d q (put_struct f.elements f.index y)) forest f.leads now,
+          leads_to (ElementOf (Struct ws ts)) (Some y) spot
+              (is_filled source d q y makes
+              (h.children, record { root = h.root; from = h.from; leads = h.leads; after = h.after; are_read = h.are_read; bytes = h.bytes; are_words = h.are_words; section = vs; holds = holds; is_filled = refl }, counts) done refl) (sym path),
+        )
+    done_there stored f ws ts at there spot makes (first_filled h k fewer null why named) =
+        let d : ℕ = s.size.data_words in
+        let q : ℕ = s.size.pointers in
+        let list : Tree = Structs d q f.elements in
+        let (vs, holds, replaced) =
+        element_content_stopped S h.taken h.filled R f.list_segment f.list_at d q f.elements f.index ws ts h.children (sections s) (64 * length h.from.words) h.bytes there f.counts at
+        (f.segment_is, ap (λ x. 8 * x) f.start_is, refl, ap (λ x. x + d) f.start_is, refl) h.takes h.fills_first (omega (arith, fewer)) null in
+        let y : Tree = Struct vs (up_to q h.children) in
+        let path : update t (path_of e.path.now) y ≡ update t f.front (Structs d q (put_struct f.elements f.index y)) =
+        ap (λ p. update t p y) f.path_is ∙ update-append t f.front (Element f.index ∷ []) list y f.spot in (
+          update t f.front (Structs d q (put_struct f.elements f.index y)),
+          forest_updated S R t f.front f.list_segment f.list_at list (Structs d q (put_struct f.elements f.index y)) forest f.leads replaced,
+          leads_to (ElementOf (Struct ws ts)) (Some y) spot
+              (is_half_filled source d q k y makes
+              (h.children, record { root = h.root; from = h.from; leads = h.leads; after = h.after; are_read = h.are_read; bytes = h.bytes; are_words = h.are_words; section = vs; holds = holds; is_filled = refl }, fewer, why) named refl) (sym path),
+        )
+    done_there stored f ws ts at there spot makes (none_filled k unread same named) =
+        (t, subst (λ Q. IsForest Q t) (sym same) forest, leads_to (ElementOf (Struct ws ts)) None spot (is_not_filled source s.size.data_words s.size.pointers k makes unread named refl) refl)
+
+-- any other operation at an element writes a field
+pub writes_there : (S R : Segments) (s : ExistingStruct) (op : Op) (r : Option ErrorKind) → ((source : Source) → op ≡ CopyContent source → ⊥) → WritesAt S R s op r → FillsOrWrites S R s op r
+writes_there S R s (CopyContent source) r other w = absurd (other source refl)
+writes_there S R s op r other w = w
+
+-- an edit at an element
+pub element_applied : (S R : Segments) (e : Edit) (s : ExistingStruct) (r : Option ErrorKind) → ((t : Tree) → IsStored S 0 0 t → IsElementFound S 0 0 t (path_of e.path.now) s) → FillsOrWrites S R s e.op r → IsApplied S R e r
+element_applied S R e s r leads h = by_op e.op refl h
+  where
+    by_op : (op : Op) → e.op ≡ op → FillsOrWrites S R s op r → IsApplied S R e r
+    by_op (CopyContent source) is h = filled_element S R e s source r is leads h
+    by_op op is h = applied_element S R e s r leads (λ source f. absurd (let g : op ≡ CopyContent source = sym is ∙ f in cc)) (subst (λ o. WritesAt S R s o r) (sym is) h)

@@ -1,0 +1,102 @@
+//! Edits that copy the content of a struct of another message.
+ghost use Rattle.std.specs.Prelude.{◌≡◌, ◌+◌, None, false, true, IfOk, IfErr, IfSome};
+ghost use Rattle.capnp_arena.specs.View.{View};
+ghost use Rattle.capnp_making.specs.Existing.{LiesIn};
+ghost use Rattle.capnp_readers.specs.Readers.{IsStructPlace};
+ghost use Rattle.capnp_builders.specs.Places.{IsAligned};
+ghost use Rattle.capnp_builders.specs.Content.{TakesContent, StopsAtContent, pointers_copied};
+ghost use Rattle.capnp_words.specs.declared.error.ErrorKind.TheVariants.{NoSuchPlace};
+ghost use Rattle.capnp_edits.specs.declared.edit.copying.Wanted.TheVariants.{Content};
+ghost use Rattle.capnp_edits.specs.Sources.{copying};
+ghost use Rattle.capnp_edits.specs.Edits.{refusal_of, is_of_place, sections, FillsAt, FillsOrWrites, IsCopyCounted, IsCounted, IsSourceRefused, IsRefusedAs, OpFits};
+
+use crate::edit::fields::edit_struct;
+use crate::edit::path::has_words;
+use crate::edit::{Op, Source};
+use capnp_arena::arena::{BuilderArena, ReaderArena};
+use capnp_builders::builders::StructBuilder;
+use capnp_making::existing::ExistingStruct;
+use capnp_readers::readers::{PointerReader, StructPlace, StructReader};
+use capnp_words::error::ErrorKind;
+use capnp_words::read_limiter::ReadLimiter;
+
+/// Where the sections of a struct are that lies in the message, if it has a word.
+fn sections_of<A: BuilderArena>(arena: &A, parent: ExistingStruct) -> Option<StructPlace>
+    requires { LiesIn (A.view arena.now).words parent }
+    ensures empty { result ≡ None → parent.size.data_words + parent.size.pointers ≡ 0 }
+    ensures place { IfSome result (λ place. place ≡ sections parent) }
+    ensures inside { IfSome result (IsStructPlace (A.view arena.now).words) }
+{
+    let end = u64::from(parent.start) + u64::from(parent.size.total());
+    if parent.size.total() == 0 || !has_words(arena, parent.segment, end) {
+        return None;
+    }
+    Some(StructPlace {
+        segment: parent.segment,
+        byte: 8 * u64::from(parent.start),
+        bits: 64 * u32::from(parent.size.data_words),
+        pointers_at: parent.start + u32::from(parent.size.data_words),
+        pointers: parent.size.pointers,
+    })
+}
+
+/// Makes the content of a struct of the message that of another one.
+fn copy_over<A: BuilderArena, B: ReaderArena>(
+    arena: &mut A,
+    place: StructPlace,
+    value: &StructReader<'_, B>,
+    lim: &mut ReadLimiter,
+) -> Result<(), ErrorKind>
+    requires inside { IsStructPlace (A.view arena.old).words place }
+    requires aligned { IsAligned place }
+    ensures copied { IfOk result (λ _. TakesContent B.ReaderArena value.now place (pointers_copied place (A.view arena.old) (A.view arena.new) lim.old lim.new)) }
+    ensures refused { IfErr result (StopsAtContent B.ReaderArena value.now place (pointers_copied place (A.view arena.old) (A.view arena.new) lim.old lim.new)) }
+{
+    let mut builder = StructBuilder { arena, place };
+    builder.copy_content_from(value, lim)
+}
+
+/// Makes the content of a struct of the message that of the struct that the root of another one leads to.
+pub(crate) fn fill<A: BuilderArena>(
+    arena: &mut A,
+    parent: ExistingStruct,
+    source: Source<'_>,
+) -> Result<(), ErrorKind>
+    requires { LiesIn (A.view arena.old).words parent }
+    ensures filled { FillsAt (A.view arena.old).words (A.view arena.new).words (sections parent) source.entry (refusal_of result) }
+    ensures counted { IsCopyCounted (refusal_of result) (A.view arena.old).refusals (A.view arena.new).refusals }
+    ensures named { IfErr result (IsSourceRefused (A.view arena.old) (A.view arena.new) (copying source.entry Content false)) }
+{
+    let mut lim = ReadLimiter::new(source.budget);
+    let root = match PointerReader::get_root_from_arena(source.arena, &mut lim) {
+        Ok(root) => root,
+        Err(k) => return Err(k),
+    };
+    let value = match root.get_struct(&mut lim, None) {
+        Ok(value) => value,
+        Err(k) => return Err(k),
+    };
+    match sections_of(&*arena, parent) {
+        Some(place) => copy_over(arena, place, &value, &mut lim),
+        None => Ok(()),
+    }
+}
+
+/// Does an operation at an element of a list of structs, if it is one on the content or a field of a struct.
+pub(crate) fn edit_element<A: BuilderArena>(
+    arena: &mut A,
+    parent: ExistingStruct,
+    op: Op<'_>,
+) -> Result<(), ErrorKind>
+    requires { LiesIn (A.view arena.old).words parent }
+    ensures done { FillsOrWrites (A.view arena.old).words (A.view arena.new).words parent op.entry (refusal_of result) }
+    ensures counted { IsCounted op.entry (refusal_of result) (A.view arena.old).refusals (A.view arena.new).refusals }
+    ensures named { IfErr result (IsRefusedAs (A.view arena.old) (A.view arena.new) op.entry) }
+    ensures fits { OpFits (A.view arena.old) parent.segment op.entry → IfErr result (λ k. is_of_place k ≡ true) }
+    ensures nowhere { refusal_of result ≡ Some NoSuchPlace → A.view arena.new ≡ A.view arena.old }
+{
+    match op {
+        Op::CopyContent(source) => fill(arena, parent, source),
+        _ => edit_struct(arena, parent, op),
+    }
+}
