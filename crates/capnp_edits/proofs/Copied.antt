@@ -46,7 +46,7 @@ use Rattle.capnp_edits.specs.declared.edit.copying.Copying.{Copying}
 use Rattle.capnp_edits.specs.declared.edit.copying.Wanted.{Wanted}
 use Rattle.capnp_edits.specs.declared.edit.copying.Wanted.TheVariants.{Value, Struct as AStruct, List as AList, Content}
 use Rattle.capnp_edits.specs.Paths.{PointerTo}
-use Rattle.capnp_edits.specs.Sources.{copying, is_whole, RefusesNext, words_in, root_of, once_at_root, as_wanted, HasRoot, CanBeCopiedAs, IsRootless, IsWithheld, IsUnread, FitsBehind, Sections, LeadsToStruct, LeadsToList, RefusesAs, CopiedOrRefused}
+use Rattle.capnp_edits.specs.Sources.{copying, is_whole, RefusesNext, words_in, root_of, once_at_root, as_wanted, HasRoot, IsOpened, CanBeCopiedAs, IsRootless, IsWithheld, IsUnread, FitsBehind, Sections, LeadsToStruct, LeadsToList, RefusesAs, CopiedOrRefused}
 use Rattle.capnp_edits.specs.Edits.{refusal_of, made, copies, copied_by, IsOfMemory, IsSourceRefused, IsCallRefused, CallFits, OpFits, words_taken, is_of_place, IsRefusedAs, IsCopyCounted, IsCounted, refusals_after, CopiesRoot, root_copied, root_not_copied, root_unread, Does, is_copied, is_not_copied, is_unread}
 use Rattle.capnp_edits.proofs.Applied.{of_allocation, of_no_place, never_refused}
 use Rattle.capnp_edits.proofs.CopiedStruct.{struct_at, struct_reads, struct_refused, struct_counted, struct_given, struct_fits}
@@ -228,12 +228,7 @@ withheld_at g expected from m m' k (inl (unread, same)) = elim unread [ ]
 withheld_at g expected from m m' k (inr h) = where_read g expected from (λ p. Withheld expected (reading g p) m m' k) h
 
 -- The calls on a root's reader.
-pub record AtRoot {A : Type 0} (g : Ghosts A) (source : Source) (from : PointerReader A g) (m : Meter) : Type 0 where
-  pub root : HasRoot source
-  pub reads : reading g from ≡ root_of source
-  pub once : m ≡ once_at_root source
-
-pub struct_copied : {A B : Type 0} (result : Result B ErrorKind) (c : Copying) (g : Ghosts A) (from : PointerReader A g) (v : StructReader A g) (m n m' : Meter) (old new : View) (place : PointerPlace) → c.wanted ≡ AStruct → AtRoot g c.source from m →
+pub struct_copied : {A B : Type 0} (result : Result B ErrorKind) (c : Copying) (g : Ghosts A) (from : PointerReader A g) (v : StructReader A g) (m n m' : Meter) (old new : View) (place : PointerPlace) → c.wanted ≡ AStruct → IsOpened g c.source from m →
     length v.content.now ≡ bytes_for v.bits → WhereRead g (call g from ExpectedStruct None) (λ p. IsStructRead g p m n v) → IfOk result (λ x. PutsStruct g v (change c.canonicalize place.segment place.word old new n m')) →
     IfErr result (RefusesStruct g v (change c.canonicalize place.segment place.word old new n m')) → Tried result c old new place
 struct_copied result c g from v m n m' old new place is here long read done refused =
@@ -241,7 +236,7 @@ struct_copied result c g from v m n m' old new place is here long read done refu
     let leads : LeadsToStruct (reading g from) m s = struct_at g from m n v long (where_read g ExpectedStruct from (λ p. IsStructRead g p m n v) read) in
     struct_tried result c s m' old new place is here.root (subst (λ y. LeadsToStruct (root_of c.source) y s) here.once (subst (λ r. LeadsToStruct r m s) here.reads leads)) done refused
 
-pub list_copied : {A B : Type 0} (result : Result B ErrorKind) (c : Copying) (g : Ghosts A) (from : PointerReader A g) (v : ListReader A g) (m n m' : Meter) (old new : View) (place : PointerPlace) → c.wanted ≡ AList → AtRoot g c.source from m →
+pub list_copied : {A B : Type 0} (result : Result B ErrorKind) (c : Copying) (g : Ghosts A) (from : PointerReader A g) (v : ListReader A g) (m n m' : Meter) (old new : View) (place : PointerPlace) → c.wanted ≡ AList → IsOpened g c.source from m →
     GivesList g Void (call g from (ExpectedList Void) None) m n v → IfOk result (λ x. PutsList g v (change c.canonicalize place.segment place.word old new n m')) →
     IfErr result (RefusesList g v (change c.canonicalize place.segment place.word old new n m')) → Tried result c old new place
 list_copied result c g from v m n m' old new place is here read done refused =
@@ -249,27 +244,27 @@ list_copied result c g from v m n m' old new place is here read done refused =
     let leads : LeadsToList (reading g from) m n l = list_at g from m n v (where_read g (ExpectedList Void) from (λ p. IsListRead g Void p m n v) read) in
     list_tried result c l n m' old new place is here.root (subst (λ y. LeadsToList (root_of c.source) y n l) here.once (subst (λ r. LeadsToList r m n l) here.reads leads)) done refused
 
-unread_as : {A : Type 0} (g : Ghosts A) (c : Copying) (expected : Expected) (from : PointerReader A g) (m m' : Meter) (k : ErrorKind) → ((r : Reading) (i j : Meter) → Withheld expected r i j k → IsWithheld c.wanted r i j k) → AtRoot g c.source from m →
+unread_as : {A : Type 0} (g : Ghosts A) (c : Copying) (expected : Expected) (from : PointerReader A g) (m m' : Meter) (k : ErrorKind) → ((r : Reading) (i j : Meter) → Withheld expected r i j k → IsWithheld c.wanted r i j k) → IsOpened g c.source from m →
     IsRefused g (call g from expected None) m m' k → IsUnread c k
 unread_as g c expected from m m' k wanted here refused =
     let h = wanted (reading g from) m m' (withheld_at g expected from m m' k refused) in
     inr (here.root, (m', subst (λ y. IsWithheld c.wanted (root_of c.source) y m' k) here.once (subst (λ r. IsWithheld c.wanted r m m' k) here.reads h)))
 
-pub struct_unread : {A : Type 0} (g : Ghosts A) (c : Copying) (from : PointerReader A g) (m m' : Meter) (k : ErrorKind) → c.wanted ≡ AStruct → AtRoot g c.source from m → IsRefused g (call g from ExpectedStruct None) m m' k → IsUnread c k
+pub struct_unread : {A : Type 0} (g : Ghosts A) (c : Copying) (from : PointerReader A g) (m m' : Meter) (k : ErrorKind) → c.wanted ≡ AStruct → IsOpened g c.source from m → IsRefused g (call g from ExpectedStruct None) m m' k → IsUnread c k
 struct_unread g c from m m' k is here refused = unread_as g c ExpectedStruct from m m' k (λ r i j h. subst (λ w. IsWithheld w r i j k) (sym is) h) here refused
 
-pub content_unread : {A : Type 0} (g : Ghosts A) (c : Copying) (from : PointerReader A g) (m m' : Meter) (k : ErrorKind) → c.wanted ≡ Content → AtRoot g c.source from m → IsRefused g (call g from ExpectedStruct None) m m' k → IsUnread c k
+pub content_unread : {A : Type 0} (g : Ghosts A) (c : Copying) (from : PointerReader A g) (m m' : Meter) (k : ErrorKind) → c.wanted ≡ Content → IsOpened g c.source from m → IsRefused g (call g from ExpectedStruct None) m m' k → IsUnread c k
 content_unread g c from m m' k is at_root refused = unread_as g c ExpectedStruct from m m' k (λ r i j h. subst (λ w. IsWithheld w r i j k) (sym is) h) at_root refused
 
-pub list_unread : {A : Type 0} (g : Ghosts A) (c : Copying) (from : PointerReader A g) (m m' : Meter) (k : ErrorKind) → c.wanted ≡ AList → AtRoot g c.source from m → IsRefused g (call g from (ExpectedList Void) None) m m' k → IsUnread c k
+pub list_unread : {A : Type 0} (g : Ghosts A) (c : Copying) (from : PointerReader A g) (m m' : Meter) (k : ErrorKind) → c.wanted ≡ AList → IsOpened g c.source from m → IsRefused g (call g from (ExpectedList Void) None) m m' k → IsUnread c k
 list_unread g c from m m' k is here refused = unread_as g c (ExpectedList Void) from m m' k (λ r i j h. subst (λ w. IsWithheld w r i j k) (sym is) h) here refused
 
-pub struct_found : {A : Type 0} (g : Ghosts A) (c : Copying) (from : PointerReader A g) (m : Meter) (v : View) (id : ℕ) → c.wanted ≡ AStruct → AtRoot g c.source from m → FitsBehind v id c → IsAnswered g (call g from ExpectedStruct None) m
+pub struct_found : {A : Type 0} (g : Ghosts A) (c : Copying) (from : PointerReader A g) (m : Meter) (v : View) (id : ℕ) → c.wanted ≡ AStruct → IsOpened g c.source from m → FitsBehind v id c → IsAnswered g (call g from ExpectedStruct None) m
 struct_found g c from m v id is here fits =
     let given = struct_given c (root_of c.source) (once_at_root c.source) (length (segment v.words id)) (v.room id) is fits.fits in
     answered g ExpectedStruct from m (subst (λ y. CanBeGiven ExpectedStruct (reading g from) y) (sym here.once) (subst (λ r. CanBeGiven ExpectedStruct r (once_at_root c.source)) (sym here.reads) given))
 
-pub list_found : {A : Type 0} (g : Ghosts A) (c : Copying) (from : PointerReader A g) (m : Meter) (v : View) (id : ℕ) → c.wanted ≡ AList → AtRoot g c.source from m → FitsBehind v id c → IsAnswered g (call g from (ExpectedList Void) None) m
+pub list_found : {A : Type 0} (g : Ghosts A) (c : Copying) (from : PointerReader A g) (m : Meter) (v : View) (id : ℕ) → c.wanted ≡ AList → IsOpened g c.source from m → FitsBehind v id c → IsAnswered g (call g from (ExpectedList Void) None) m
 list_found g c from m v id is here fits =
     let given = list_given c (root_of c.source) (once_at_root c.source) (length (segment v.words id)) (v.room id) is fits.fits in
     answered g (ExpectedList Void) from m (subst (λ y. CanBeGiven (ExpectedList Void) (reading g from) y) (sym here.once) (subst (λ r. CanBeGiven (ExpectedList Void) r (once_at_root c.source)) (sym here.reads) given))

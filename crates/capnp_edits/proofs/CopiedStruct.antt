@@ -15,8 +15,8 @@ use Rattle.capnp_format.specs.Tree.{Tree, Null, Capability, Struct, Flat, Pointe
 use Rattle.capnp_format.specs.Word.{kind, data_words, pointer_count}
 use Rattle.capnp_objects.specs.declared.object.Expected.TheVariants.{Struct as ExpectedStruct}
 use Rattle.capnp_objects.specs.Demands.{claim, own}
-use Rattle.capnp_objects.specs.Expected.{CanBeGiven, too_deep}
-use Rattle.capnp_objects.specs.Faults.{child_at}
+use Rattle.capnp_objects.specs.Expected.{CanBeGiven, IsSuited, too_deep}
+use Rattle.capnp_objects.specs.Faults.{child_at, LeadsTo}
 use Rattle.capnp_objects.specs.Outcomes.{Reads, ReadsAll, MeansThere}
 use Rattle.capnp_objects.specs.Reading.{Reading, behind}
 use Rattle.capnp_objects.specs.Refusals.{Refused, RefusedAll}
@@ -117,22 +117,21 @@ level_there (suc n) l = refl
 pub own_covered : (charging : Bool) (m : Meter) (n c : ℕ) → n ≤ c → Affords charging m c → Affords charging m n
 own_covered charging m n c le covers = affords_rest {r = 0} n c (record { covers = affords_none charging m; spent = sym (after_none charging m) }) (omega arith) covers
 
+pub struct_suits : (r : Reading) (a : Target) → LeadsTo r a → kind a.word ≡ 0 → 0 < r.levels → Claims r.segments a (claim a.word) → IsSuited ExpectedStruct r a
+struct_suits r a leads z some claims = record {
+  level = level_there r.levels some;
+  leads_to = leads;
+  of_kind = ap (λ i. cond (nat_eq i 0) None (Some MessageContainsNonStructPointerWhereStructPointerWasExpected)) z;
+  meets = record { levels = omega arith; is_object = omega (arith, z); claims = claims; tagged = λ tagged. absurd (omega (arith, z, tagged.0)) };
+  fits = refl;
+}
+
 struct_suited : (r : Reading) (m : Meter) (t : Tree) (c : ℕ) (copied : Tree) → MeansThere r t c → Affords r.charging m c → as_wanted AStruct t ≡ Some copied → CanBeGiven ExpectedStruct r m
 unfolding CanBeGiven
 struct_suited r m Null c copied means covers e = inl means.0
 struct_suited r m (Struct ws ts) c copied means covers e =
     let (a, leads, z, some, claims, paid) = struct_meets r.segments r.levels r.segment r.at ws ts c means in
-    inr (
-      a,
-      record {
-        level = level_there r.levels some;
-        leads_to = leads;
-        of_kind = ap (λ i. cond (nat_eq i 0) None (Some MessageContainsNonStructPointerWhereStructPointerWasExpected)) z;
-        meets = record { levels = omega arith; is_object = omega (arith, z); claims = claims; tagged = λ tagged. absurd (omega (arith, z, tagged.0)) };
-        fits = refl;
-      },
-      own_covered r.charging m (own r.segments a) c paid covers,
-    )
+    inr (a, struct_suits r a leads z some claims, own_covered r.charging m (own r.segments a) c paid covers)
 struct_suited r m (Capability i) c copied means covers e = absurd (cc)
 struct_suited r m (Flat size ns) c copied means covers e = absurd (cc)
 struct_suited r m (Pointers ts) c copied means covers e = absurd (cc)

@@ -1,5 +1,5 @@
 -- Content of another message's struct that is copied over a struct, which a pointer leads to or which is an element of a list.
-use Rattle.std.proofs.Common.{◌≡◌, inl, inr, ℕ, min, ◌+◌, ◌*◌, ◌/◌, ◌%◌, false, List, [], ◌∷◌, length, Option, Some, None, Result, Ok, Err, IfOk, IfErr, refl, sym, ap, ap₂, ◌∙◌, subst, arith}
+use Rattle.std.proofs.Common.{◌≡◌, inl, inr, ℕ, pred, min, ◌+◌, ◌*◌, ◌/◌, ◌%◌, ◌<◌, false, List, [], ◌∷◌, length, Option, Some, None, Result, Ok, Err, IfOk, IfErr, refl, sym, ap, ap₂, ◌∙◌, subst, arith}
 use Rattle.capnp_words.specs.Meter.{Meter}
 use Rattle.capnp_words.specs.declared.error.ErrorKind.{ErrorKind}
 use Rattle.capnp_words.specs.declared.error.ErrorKind.TheVariants.{AllocationFailed, MessageTooLarge, NoSuchPlace}
@@ -8,8 +8,9 @@ use Rattle.capnp_arena.specs.View.{View}
 use Rattle.capnp_arena.specs.declared.arena.reader_arena.ReaderArena.{Ghosts}
 use Rattle.capnp_format.specs.Bytes.{words_of}
 use Rattle.capnp_format.specs.Forest.{IsForest, target}
-use Rattle.capnp_format.specs.Segments.{Segments}
+use Rattle.capnp_format.specs.Segments.{Segments, Target}
 use Rattle.capnp_format.specs.Tree.{Tree, Null, Capability, Struct, Flat, Pointers, Structs, Trees, no_trees, count, element_count}
+use Rattle.capnp_format.specs.Word.{data_words, pointer_count}
 use Rattle.capnp_format.proofs.WordsOf.{words}
 use Rattle.capnp_making.specs.declared.existing.ExistingStruct.{ExistingStruct}
 use Rattle.capnp_making.specs.Existing.{struct_in}
@@ -17,11 +18,19 @@ use Rattle.capnp_making.specs.Path.{Element, update, put_struct, struct_at}
 use Rattle.capnp_making.specs.Stored.{IsStored, IsReplaced}
 use Rattle.capnp_making.proofs.Replaced.{forest_stored, forest_updated, stored_within}
 use Rattle.capnp_objects.specs.declared.object.Expected.TheVariants.{Struct as ExpectedStruct}
-use Rattle.capnp_objects.specs.Reading.{behind}
+use Rattle.capnp_objects.specs.Outcomes.{ReadsAll}
+use Rattle.capnp_objects.specs.Reading.{Reading, behind}
+use Rattle.capnp_objects.specs.Demands.{own}
+use Rattle.capnp_objects.specs.Expected.{CanBeGiven}
+use Rattle.capnp_objects.specs.Faults.{child_at}
 use Rattle.capnp_objects.specs.Refusals.{Refused}
+use Rattle.capnp_objects.specs.Spending.{after}
 use Rattle.capnp_objects.specs.Wanted.{plain}
-use Rattle.capnp_objects.proofs.Copies.{read_none}
+use Rattle.capnp_objects.proofs.Copies.{read_none, read_stop}
+use Rattle.capnp_objects.proofs.Expecting.{not_withheld}
+use Rattle.capnp_objects.proofs.Faultless.{same_target}
 use Rattle.capnp_objects.proofs.Limits.{not_for_memory}
+use Rattle.capnp_objects.proofs.Refusals.{unreadable}
 use Rattle.capnp_readers.specs.Calls.{WhereRead, IsStructRead, call}
 use Rattle.capnp_readers.specs.Readers.{reading}
 use Rattle.capnp_readers.specs.Sections.{bytes_for}
@@ -43,11 +52,11 @@ use Rattle.capnp_edits.specs.declared.edit.Op.TheVariants.{CopyContent}
 use Rattle.capnp_edits.specs.declared.edit.Source.{Source}
 use Rattle.capnp_edits.specs.declared.edit.copying.Wanted.TheVariants.{Content}
 use Rattle.capnp_edits.specs.Paths.{path_of, found, IsElementFound, PointerTo, ElementOf}
-use Rattle.capnp_edits.specs.Sources.{copying, root_of, once_at_root, LeadsToStruct}
+use Rattle.capnp_edits.specs.Sources.{copying, root_of, once_at_root, HasRoot, IsOpened, Sections, LeadsToStruct, no_struct, a_struct, ContentRead, FilledOrRefused}
 use Rattle.capnp_edits.specs.Edits.{refusal_of, made, fills, sections, FillsAt, FillsOrWrites, WritesAt, all_filled, first_filled, none_filled, IsCopyCounted, IsSourceRefused, IsApplied, Takes, leads_to, is_filled, is_half_filled, is_not_filled, Does, DoesAt}
 use Rattle.capnp_edits.proofs.Applied.{of_allocation, denied_at, element_struct, applied_element}
-use Rattle.capnp_edits.proofs.Copied.{AtRoot, where_read}
-use Rattle.capnp_edits.proofs.CopiedStruct.{struct_at as source_at}
+use Rattle.capnp_edits.proofs.Copied.{where_read}
+use Rattle.capnp_edits.proofs.CopiedStruct.{struct_at as source_at, struct_suits}
 use Rattle.capnp_edits.proofs.Steps.{same_some, first, struct_of}
 use Rattle.capnp_edits.proofs.Walks.{found-append, update-append}
 
@@ -69,9 +78,9 @@ record SourceStruct {A : Type 0} (g : Ghosts A) (source : Source) (v : StructRea
   leads : LeadsToStruct (root_of source) (once_at_root source) (record { words = words_of v.content.now; first = pointers_read g v; pointers = v.pointer_count; limiter = n })
   bits : v.bits ≡ 64 * length (words_of v.content.now)
 
-source_struct : {A : Type 0} (g : Ghosts A) (source : Source) (from : PointerReader A g) (v : StructReader A g) (m n : Meter) → AtRoot g source from m → length v.content.now ≡ bytes_for v.bits →
+source_struct : {A : Type 0} (g : Ghosts A) (source : Source) (from : PointerReader A g) (v : StructReader A g) (m n : Meter) → IsOpened g source from m → length v.content.now ≡ bytes_for v.bits →
     WhereRead g (call g from ExpectedStruct None) (λ p. IsStructRead g p m n v) → SourceStruct g source v n
-source_struct g source from v m n at_root long read =
+source_struct g source from v m n opened long read =
     let there : IsStructRead g from m n v = where_read g ExpectedStruct from (λ p. IsStructRead g p m n v) read in
     let all = whole_words v.content.now v.bits long (whole_bits g from m n v there) in
     let leads : LeadsToStruct (reading g from) m (record { words = data_of g v; first = pointers_read g v; pointers = v.pointer_count; limiter = n }) = source_at g from m n v long there in
@@ -79,42 +88,40 @@ source_struct g source from v m n at_root long read =
     subst (λ w. LeadsToStruct (reading g from) m (record { words = w; first = pointers_read g v; pointers = v.pointer_count; limiter = n })) all.0 leads in
     record {
       leads =
-          subst (λ y. LeadsToStruct (root_of source) y (record { words = words_of v.content.now; first = pointers_read g v; pointers = v.pointer_count; limiter = n })) at_root.once
-          (subst (λ r. LeadsToStruct r m (record { words = words_of v.content.now; first = pointers_read g v; pointers = v.pointer_count; limiter = n })) at_root.reads of_words);
+          subst (λ y. LeadsToStruct (root_of source) y (record { words = words_of v.content.now; first = pointers_read g v; pointers = v.pointer_count; limiter = n })) opened.once
+          (subst (λ r. LeadsToStruct r m (record { words = words_of v.content.now; first = pointers_read g v; pointers = v.pointer_count; limiter = n })) opened.reads of_words);
       bits = all.1;
     }
 
+abbrev content_read : {A : Type 0} (g : Ghosts A) (source : Source) (v : StructReader A g) (n m' : Meter) (ts : Trees) → HasRoot source → SourceStruct g source v n → ReadsAll plain (pointers_read g v) n m' ts → ContentRead source
+content_read g source v n m' ts root s are_read = record {
+  root = root;
+  from = record { words = words_of v.content.now; first = pointers_read g v; pointers = v.pointer_count; limiter = n };
+  leads = s.leads;
+  after = m';
+  children = ts;
+  are_read = are_read;
+  bytes = v.content.now;
+  are_words = refl;
+}
+
 -- what copying over a struct leaves
-pub fill_done : {A B : Type 0} (result : Result B ErrorKind) (g : Ghosts A) (source : Source) (from : PointerReader A g) (v : StructReader A g) (m n m' : Meter) (old new : View) (place : StructPlace) → AtRoot g source from m →
+pub fill_done : {A B : Type 0} (result : Result B ErrorKind) (g : Ghosts A) (source : Source) (from : PointerReader A g) (v : StructReader A g) (m n m' : Meter) (old new : View) (place : StructPlace) → IsOpened g source from m →
     length v.content.now ≡ bytes_for v.bits → WhereRead g (call g from ExpectedStruct None) (λ p. IsStructRead g p m n v) → IfOk result (λ x. TakesContent g v place (pointers_copied place old new n m')) →
     IfErr result (StopsAtContent g v place (pointers_copied place old new n m')) → FillsAt old.words new.words place source (refusal_of result)
-fill_done (Ok x) g source from v m n m' old new place at_root long read (mid, taking, copies) refused =
-    let s = source_struct g source from v m n at_root long read in
+fill_done (Ok x) g source from v m n m' old new place opened long read (mid, taking, copies) refused =
+    let s = source_struct g source from v m n opened long read in
     all_filled (record {
-      root = at_root.root;
-      from = record { words = words_of v.content.now; first = pointers_read g v; pointers = v.pointer_count; limiter = n };
-      leads = s.leads;
-      after = m';
-      children = copies.children;
-      are_read = copies.are_read;
-      bytes = v.content.now;
-      are_words = refl;
+      content = content_read g source v n m' copies.children opened.root s copies.are_read;
       taken = mid.words;
       takes = rw (← s.bits) taking.cleared;
       filled = new.words;
       fills_first = copies.made;
     }) copies.counts refl refl
-fill_done (Err k) g source from v m n m' old new place at_root long read copied (mid, taking, stops) =
-    let s = source_struct g source from v m n at_root long read in
+fill_done (Err k) g source from v m n m' old new place opened long read copied (mid, taking, stops) =
+    let s = source_struct g source from v m n opened long read in
     first_filled (record {
-      root = at_root.root;
-      from = record { words = words_of v.content.now; first = pointers_read g v; pointers = v.pointer_count; limiter = n };
-      leads = s.leads;
-      after = stops.between;
-      children = stops.first;
-      are_read = stops.are_read;
-      bytes = v.content.now;
-      are_words = refl;
+      content = content_read g source v n stops.between stops.first opened.root s stops.are_read;
       taken = mid.words;
       takes = rw (← s.bits) taking.cleared;
       filled = stops.filled;
@@ -143,12 +150,12 @@ fill_counted (Err k) g v n m' old new place copied (mid, taking, stops) =
       | inr refused ↦ absurd (not_for_memory (subst (λ y. Refused plain (behind (pointers_read g v) (count stops.first)) stops.between m' y) e refused))
     ]
 
-pub fill_named : {A B : Type 0} (result : Result B ErrorKind) (g : Ghosts A) (source : Source) (from : PointerReader A g) (v : StructReader A g) (m n m' : Meter) (old new : View) (place : StructPlace) → AtRoot g source from m →
+pub fill_named : {A B : Type 0} (result : Result B ErrorKind) (g : Ghosts A) (source : Source) (from : PointerReader A g) (v : StructReader A g) (m n m' : Meter) (old new : View) (place : StructPlace) → IsOpened g source from m →
     length v.content.now ≡ bytes_for v.bits → WhereRead g (call g from ExpectedStruct None) (λ p. IsStructRead g p m n v) → IfErr result (StopsAtContent g v place (pointers_copied place old new n m')) →
     IfErr result (IsSourceRefused old new (copying source Content false))
-fill_named (Ok x) g source from v m n m' old new place at_root long read refused = tt
-fill_named (Err k) g source from v m n m' old new place at_root long read (mid, taking, stops) =
-    let s = source_struct g source from v m n at_root long read in
+fill_named (Ok x) g source from v m n m' old new place opened long read refused = tt
+fill_named (Err k) g source from v m n m' old new place opened long read (mid, taking, stops) =
+    let s = source_struct g source from v m n opened long read in
     inr (
       record { segment = place.segment; word = place.pointers_at },
       m',
@@ -167,21 +174,14 @@ sections_aligned e some =
     (rw eight refl, rw eight (omega arith))
 
 -- a struct of no words takes nothing
-pub fill_nothing : {A : Type 0} (g : Ghosts A) (source : Source) (from : PointerReader A g) (v : StructReader A g) (m n : Meter) (S : Segments) (e : ExistingStruct) → AtRoot g source from m → length v.content.now ≡ bytes_for v.bits →
+pub fill_nothing : {A : Type 0} (g : Ghosts A) (source : Source) (from : PointerReader A g) (v : StructReader A g) (m n : Meter) (S : Segments) (e : ExistingStruct) → IsOpened g source from m → length v.content.now ≡ bytes_for v.bits →
     WhereRead g (call g from ExpectedStruct None) (λ p. IsStructRead g p m n v) → e.size.data_words + e.size.pointers ≡ 0 → FillsAt S S (sections e) source None
-fill_nothing g source from v m n S e at_root long read empty =
-    let s = source_struct g source from v m n at_root long read in
+fill_nothing g source from v m n S e opened long read empty =
+    let s = source_struct g source from v m n opened long read in
     let no_data : e.size.data_words ≡ 0 = omega (arith, empty) in
     let no_pointers : e.size.pointers ≡ 0 = omega (arith, empty) in
     all_filled (record {
-      root = at_root.root;
-      from = record { words = words_of v.content.now; first = pointers_read g v; pointers = v.pointer_count; limiter = n };
-      leads = s.leads;
-      after = n;
-      children = no_trees;
-      are_read = read_none plain (pointers_read g v) n;
-      bytes = v.content.now;
-      are_words = refl;
+      content = content_read g source v n n no_trees opened.root s (read_none plain (pointers_read g v) n);
       taken = S;
       takes = rw (no_data, no_pointers) refl;
       filled = S;
@@ -193,24 +193,24 @@ filled_struct : (S R : Segments) (place : PointerPlace) (op : Op) (source : Sour
     FillsAt S R (sections (struct_of (target S place.segment place.word).segment (target S place.segment place.word).start (length ws) (count ts))) source r → DoesAt S R place op (Struct ws ts) r
 filled_struct S R place op source r ws ts is stored (all_filled f counts same done) =
     let (vs, holds, replaced, leads) =
-    content_taken S f.taken f.filled place.segment place.word ws ts f.children _ (64 * length f.from.words) f.bytes stored (refl, refl, refl, refl, refl) f.takes f.fills_first (omega (arith, counts)) in
-    let u : Tree = Struct vs (up_to (count ts) f.children) in
+    content_taken S f.taken f.filled place.segment place.word ws ts f.content.children _ (64 * length f.content.from.words) f.content.bytes stored (refl, refl, refl, refl, refl) f.takes f.fills_first (omega (arith, counts)) in
+    let u : Tree = Struct vs (up_to (count ts) f.content.children) in
     record {
       left = Some u;
       yields =
           is_filled source (length ws) (count ts) u (ap (λ o. made o (PointerTo (Struct ws ts))) is)
-          (f.children, record { root = f.root; from = f.from; leads = f.leads; after = f.after; are_read = f.are_read; bytes = f.bytes; are_words = f.are_words; section = vs; holds = holds; is_filled = refl }, counts) done refl;
+          (f.content, record { section = vs; holds = holds; is_filled = refl }, counts) done refl;
       stands = subst (λ Q. IsReplaced S Q place.segment place.word (Struct ws ts) u) (sym same) replaced;
     }
 filled_struct S R place op source r ws ts is stored (first_filled f k fewer null why named) =
     let (vs, holds, replaced, leads) =
-    content_stopped S f.taken f.filled R place.segment place.word ws ts f.children _ (64 * length f.from.words) f.bytes stored (refl, refl, refl, refl, refl) f.takes f.fills_first (omega (arith, fewer)) null in
-    let u : Tree = Struct vs (up_to (count ts) f.children) in
+    content_stopped S f.taken f.filled R place.segment place.word ws ts f.content.children _ (64 * length f.content.from.words) f.content.bytes stored (refl, refl, refl, refl, refl) f.takes f.fills_first (omega (arith, fewer)) null in
+    let u : Tree = Struct vs (up_to (count ts) f.content.children) in
     record {
       left = Some u;
       yields =
           is_half_filled source (length ws) (count ts) k u (ap (λ o. made o (PointerTo (Struct ws ts))) is)
-          (f.children, record { root = f.root; from = f.from; leads = f.leads; after = f.after; are_read = f.are_read; bytes = f.bytes; are_words = f.are_words; section = vs; holds = holds; is_filled = refl }, fewer, why) named refl;
+          (f.content, record { section = vs; holds = holds; is_filled = refl }, fewer, why) named refl;
       stands = replaced;
     }
 filled_struct S R place op source r ws ts is stored (none_filled k unread same named) =
@@ -269,9 +269,9 @@ filled_element S R e s source r is leads h t forest =
         let q : ℕ = s.size.pointers in
         let list : Tree = Structs d q f.elements in
         let (vs, holds, replaced) =
-        element_content_taken S h.taken h.filled f.list_segment f.list_at d q f.elements f.index ws ts h.children (sections s) (64 * length h.from.words) h.bytes there f.counts at
+        element_content_taken S h.taken h.filled f.list_segment f.list_at d q f.elements f.index ws ts h.content.children (sections s) (64 * length h.content.from.words) h.content.bytes there f.counts at
         (f.segment_is, ap (λ x. 8 * x) f.start_is, refl, ap (λ x. x + d) f.start_is, refl) h.takes h.fills_first (omega (arith, counts)) in
-        let y : Tree = Struct vs (up_to q h.children) in
+        let y : Tree = Struct vs (up_to q h.content.children) in
         let now : IsReplaced S R f.list_segment f.list_at list (Structs d q (put_struct f.elements f.index y)) = subst (λ Q. IsReplaced S Q f.list_segment f.list_at list (Structs d q (put_struct f.elements f.index y))) (sym same) replaced in
         let path : update t (path_of e.path.now) y ≡ update t f.front (Structs d q (put_struct f.elements f.index y)) =
         ap (λ p. update t p y) f.path_is ∙ update-append t f.front (Element f.index ∷ []) list y f.spot in (
@@ -279,23 +279,23 @@ filled_element S R e s source r is leads h t forest =
           forest_updated S R t f.front f.list_segment f.list_at list (Structs d q (put_struct f.elements f.index y)) forest f.leads now,
           leads_to (ElementOf (Struct ws ts)) (Some y) spot
               (is_filled source d q y makes
-              (h.children, record { root = h.root; from = h.from; leads = h.leads; after = h.after; are_read = h.are_read; bytes = h.bytes; are_words = h.are_words; section = vs; holds = holds; is_filled = refl }, counts) done refl) (sym path),
+              (h.content, record { section = vs; holds = holds; is_filled = refl }, counts) done refl) (sym path),
         )
     done_there stored f ws ts at there spot makes (first_filled h k fewer null why named) =
         let d : ℕ = s.size.data_words in
         let q : ℕ = s.size.pointers in
         let list : Tree = Structs d q f.elements in
         let (vs, holds, replaced) =
-        element_content_stopped S h.taken h.filled R f.list_segment f.list_at d q f.elements f.index ws ts h.children (sections s) (64 * length h.from.words) h.bytes there f.counts at
+        element_content_stopped S h.taken h.filled R f.list_segment f.list_at d q f.elements f.index ws ts h.content.children (sections s) (64 * length h.content.from.words) h.content.bytes there f.counts at
         (f.segment_is, ap (λ x. 8 * x) f.start_is, refl, ap (λ x. x + d) f.start_is, refl) h.takes h.fills_first (omega (arith, fewer)) null in
-        let y : Tree = Struct vs (up_to q h.children) in
+        let y : Tree = Struct vs (up_to q h.content.children) in
         let path : update t (path_of e.path.now) y ≡ update t f.front (Structs d q (put_struct f.elements f.index y)) =
         ap (λ p. update t p y) f.path_is ∙ update-append t f.front (Element f.index ∷ []) list y f.spot in (
           update t f.front (Structs d q (put_struct f.elements f.index y)),
           forest_updated S R t f.front f.list_segment f.list_at list (Structs d q (put_struct f.elements f.index y)) forest f.leads replaced,
           leads_to (ElementOf (Struct ws ts)) (Some y) spot
               (is_half_filled source d q k y makes
-              (h.children, record { root = h.root; from = h.from; leads = h.leads; after = h.after; are_read = h.are_read; bytes = h.bytes; are_words = h.are_words; section = vs; holds = holds; is_filled = refl }, fewer, why) named refl) (sym path),
+              (h.content, record { section = vs; holds = holds; is_filled = refl }, fewer, why) named refl) (sym path),
         )
     done_there stored f ws ts at there spot makes (none_filled k unread same named) =
         (t, subst (λ Q. IsForest Q t) (sym same) forest, leads_to (ElementOf (Struct ws ts)) None spot (is_not_filled source s.size.data_words s.size.pointers k makes unread named refl) refl)
@@ -312,3 +312,31 @@ element_applied S R e s r leads h = by_op e.op refl h
     by_op : (op : Op) → e.op ≡ op → FillsOrWrites S R s op r → IsApplied S R e r
     by_op (CopyContent source) is h = filled_element S R e s source r is leads h
     by_op op is h = applied_element S R e s r leads (λ source f. absurd (let g : op ≡ CopyContent source = sym is ∙ f in cc)) (subst (λ o. WritesAt S R s o r) (sym is) h)
+
+-- a place leads to one struct
+same_struct : {r : Reading} {m : Meter} {s z : Sections} → LeadsToStruct r m s → LeadsToStruct r m z → 0 < s.pointers → (s.first ≡ z.first) × (s.limiter ≡ z.limiter) × (s.pointers ≡ z.pointers)
+same_struct (no_struct null ws none same) other some = absurd (omega (arith, none, some))
+same_struct (a_struct a o k ws start n) (no_struct null us none same) some = absurd (o.leads_to.0 null)
+same_struct {r} {m} (a_struct a o k ws start n) (a_struct b i l us at c) some =
+    let e : a ≡ b = same_target r.segments r.segment r.at o.leads_to.1 i.leads_to.1 in (
+      start ∙ ap (λ (x : Target). child_at r x (pred r.levels) (x.start + data_words x.word)) e ∙ sym at,
+      o.spent ∙ ap (λ x. after r.charging m (own r.segments x) 1) e ∙ sym i.spent,
+      n ∙ ap (λ (x : Target). pointer_count x.word) e ∙ sym c,
+    )
+
+-- and it can be given
+there_given : {r : Reading} {m : Meter} {s : Sections} → LeadsToStruct r m s → CanBeGiven ExpectedStruct r m
+unfolding CanBeGiven
+there_given (no_struct null ws none same) = inl null
+there_given {r} (a_struct a o z ws start n) = inr (a, struct_suits r a o.leads_to z o.meets.levels o.meets.claims, o.covers)
+
+-- so content whose pointers can be read isn't refused for what is read
+pub filled_or_refused : FilledOrRefused
+filled_or_refused source q k whole counts (inl (inl rootless)) = rootless.0 whole.root
+filled_or_refused source q k whole counts (inl (inr (has, (m, withheld)))) = not_withheld ExpectedStruct (root_of source) (once_at_root source) m k (there_given whole.leads) withheld
+filled_or_refused source q k whole counts (inr (part, fewer, (m, refused))) =
+    let (place, limiter, pointers) = same_struct part.leads whole.leads (omega (arith, fewer)) in
+    let x = whole.are_read in
+    let moved : ReadsAll plain part.from.first part.from.limiter whole.after whole.children =
+    subst (λ y. ReadsAll plain part.from.first y whole.after whole.children) (sym limiter) (subst (λ f. ReadsAll plain f whole.from.limiter whole.after whole.children) (sym place) x) in
+    (read_stop (min q part.from.pointers) part.are_read fewer (unreadable refused)).only whole.children moved.cost (counts ∙ ap (min q) (sym pointers)) moved.means moved.takes moved.covers

@@ -8,7 +8,7 @@ use Rattle.capnp_pointers.specs.Sizes.{size_number}
 use Rattle.capnp_format.specs.Bytes.{words_of}
 use Rattle.capnp_format.specs.Numbers.{element_bits, words_for}
 use Rattle.capnp_format.specs.Segments.{Segments, Target}
-use Rattle.capnp_format.specs.Tree.{Tree, Null, Capability, Struct, Flat, Structs, Trees, count}
+use Rattle.capnp_format.specs.Tree.{Tree, Null, Capability, Struct, Flat, Structs, count}
 use Rattle.capnp_format.specs.Forest.{IsForest}
 use Rattle.capnp_arena.specs.Allocations.{one_more}
 use Rattle.capnp_arena.specs.View.{View}
@@ -22,11 +22,6 @@ use Rattle.capnp_making.specs.Stored.{IsStored, IsReplaced, Puts}
 use Rattle.capnp_making.specs.declared.existing.ExistingBytes.{ExistingBytes}
 use Rattle.capnp_making.specs.declared.existing.ExistingList.{ExistingList}
 use Rattle.capnp_making.specs.declared.existing.ExistingStruct.{ExistingStruct}
-use Rattle.capnp_words.specs.Meter.{Meter}
-use Rattle.capnp_objects.specs.Outcomes.{ReadsAll}
-use Rattle.capnp_objects.specs.Reading.{behind}
-use Rattle.capnp_objects.specs.Refusals.{Refused}
-use Rattle.capnp_objects.specs.Wanted.{plain}
 use Rattle.capnp_readers.specs.Readers.{IsListPlace}
 use Rattle.capnp_readers.specs.declared.readers.struct_reader.StructPlace.{StructPlace}
 use Rattle.capnp_builders.specs.Laws.{TakesBytes}
@@ -41,7 +36,7 @@ use Rattle.capnp_edits.specs.declared.edit.Op.{Op}
 use Rattle.capnp_edits.specs.declared.edit.Op.TheVariants.{InitStruct, InitList, InitStructList, InitText, InitData, SetText, SetData, SetCapability, Clear, SetField, SetBool, SetElement, WriteText, WriteData, GetStruct, GetList, GetStructList, GetText, GetData, CopyFrom, SetStruct, SetList, CopyContent}
 use Rattle.capnp_edits.specs.declared.edit.copying.Copying.{Copying}
 use Rattle.capnp_edits.specs.declared.edit.copying.Wanted.TheVariants.{Value, Struct as AStruct, List as AList, Content}
-use Rattle.capnp_edits.specs.Sources.{copying, Copies, Sections, LeadsToStruct, HasRoot, root_of, once_at_root, Fills, FillsAll, IsUnread, IsUnreadable, IsCopyRefused, FitsBehind}
+use Rattle.capnp_edits.specs.Sources.{copying, Copies, ContentRead, Fills, FillsAll, IsNextUnreadable, IsUnread, IsUnreadable, IsCopyRefused, FitsBehind}
 use Rattle.capnp_edits.specs.Paths.{Spot, PointerTo, ElementOf, path_of, found}
 
 -- The name by which a call is refused, if it is.
@@ -294,10 +289,14 @@ place_of b = record { segment = b.segment; word = b.at }
 abbrev pub GivesAt : Segments → Segments → PointerPlace → Op → Option ErrorKind → Type 0
 GivesAt S R place op r = (t : Tree) → IsStored S place.segment place.word t → (u : Tree) × Gives op t r u × IsReplaced S R place.segment place.word t u
 
--- The pointers before one are copied, and that is refused by the name k, for what it reads or for memory.
+-- The pointer behind those that are read is refused by the name k, for memory or for what it reads.
+abbrev pub IsNextRefused : (source : Source) → ContentRead source → ErrorKind → Type 0
+IsNextRefused source c k = IsOfMemory k ⊎ IsNextUnreadable source c k
+
+-- The pointers before one are copied, and that is refused by the name k.
 abbrev pub FillsFirst : Source → ℕ → ℕ → ErrorKind → Tree → Type 0
 FillsFirst source d q k u =
-    (ts : Trees) × (f : Fills source d q ts u) × (count ts < min q f.from.pointers) × (IsOfMemory k ⊎ ((m : Meter) × Refused plain (behind f.from.first (count ts)) f.after m k))
+    (c : ContentRead source) × Fills source c d q u × (count c.children < min q c.from.pointers) × IsNextRefused source c k
 
 -- What an operation leaves where it makes this, with its outcome: o in the value's stead, if anything is changed. It is what is made; or null, for want
 -- of memory; or all as it was; or it is what is copied; or null, where that is refused; or all as it was, where there is nothing to be copied. Of content it is
@@ -359,30 +358,23 @@ sections e = record {
   pointers = e.size.pointers;
 }
 
--- From S on a struct takes the data of a source's struct, and then its first pointers are copied.
+-- From S on a struct takes the data of a source's struct, and then the pointers that are read of it are copied to its first ones.
 pub record Filling (S : Segments) (place : StructPlace) (source : Source) : Type 0 where
-  pub root : HasRoot source
-  pub from : Sections
-  pub leads : LeadsToStruct (root_of source) (once_at_root source) from
-  pub after : Meter
-  pub children : Trees
-  pub are_read : ReadsAll plain from.first from.limiter after children
-  pub bytes : List ℕ
-  pub are_words : words_of bytes ≡ from.words
+  pub content : ContentRead source
   pub taken : Segments
-  pub takes : TakesBytes S taken place (64 * length from.words) bytes
+  pub takes : TakesBytes S taken place (64 * length content.from.words) content.bytes
   pub filled : Segments
-  pub fills_first : AreFilled taken filled place.segment place.pointers_at children
+  pub fills_first : AreFilled taken filled place.segment place.pointers_at content.children
 
 -- What copying content leaves, with its outcome: as many pointers are copied as both have; or those before one, which is refused and null; or there is no struct
 -- to be copied.
 pub data FillsAt (S R : Segments) (place : StructPlace) (source : Source) (r : Option ErrorKind) : Type 0 where
-  all_filled : (f : Filling S place source) → count f.children ≡ min place.pointers f.from.pointers → R ≡ f.filled → r ≡ None → FillsAt S R place source r
+  all_filled : (f : Filling S place source) → count f.content.children ≡ min place.pointers f.content.from.pointers → R ≡ f.filled → r ≡ None → FillsAt S R place source r
   first_filled :
       (f : Filling S place source) (k : ErrorKind) →
-      count f.children < min place.pointers f.from.pointers →
-      IsReplaced f.filled R place.segment (place.pointers_at + count f.children) Null Null →
-      IsOfMemory k ⊎ ((m : Meter) × Refused plain (behind f.from.first (count f.children)) f.after m k) →
+      count f.content.children < min place.pointers f.content.from.pointers →
+      IsReplaced f.filled R place.segment (place.pointers_at + count f.content.children) Null Null →
+      IsNextRefused source f.content k →
       r ≡ Some k →
       FillsAt S R place source r
   none_filled : (k : ErrorKind) → IsUnread (copying source Content false) k → R ≡ S → r ≡ Some k → FillsAt S R place source r

@@ -1,5 +1,5 @@
 -- What is copied from another message.
-use Rattle.std.specs.Prelude.{ℕ, pred, min, ◌+◌, ◌*◌, ◌≤◌, ◌≡◌, ◌⊎◌, Bool, true, false, cond, nat_eq, List, [], map, length, Option, Some, None}
+use Rattle.std.specs.Prelude.{ℕ, pred, min, ◌+◌, ◌*◌, ◌<◌, ◌≤◌, ◌≡◌, ◌⊎◌, Bool, true, false, cond, nat_eq, List, [], map, length, Option, Some, None}
 use Rattle.capnp_words.specs.Meter.{Meter, Affords, charged, unused}
 use Rattle.capnp_words.specs.declared.error.ErrorKind.{ErrorKind}
 use Rattle.capnp_words.specs.declared.error.ErrorKind.TheVariants.{InvalidSegmentId, ReadLimitExceeded}
@@ -13,6 +13,7 @@ use Rattle.capnp_format.specs.Word.{kind, offset_bits, data_words, pointer_count
 use Rattle.capnp_arena.specs.Checks.{Holds, misplaced}
 use Rattle.capnp_arena.specs.Limits.{whole}
 use Rattle.capnp_arena.specs.View.{View, KeepsLimits}
+use Rattle.capnp_arena.specs.declared.arena.reader_arena.ReaderArena.{Ghosts}
 use Rattle.capnp_making.specs.Memory.{RefusesWords}
 use Rattle.capnp_objects.specs.declared.object.Expected.TheVariants.{Struct as ExpectedStruct, List as ExpectedList}
 use Rattle.capnp_objects.specs.Demands.{IsStructList, tag}
@@ -23,7 +24,9 @@ use Rattle.capnp_objects.specs.Reading.{Reading, word_of, behind, tag_size}
 use Rattle.capnp_objects.specs.Refusals.{Refused}
 use Rattle.capnp_objects.specs.Source.{levels}
 use Rattle.capnp_objects.specs.Wanted.{Takes, plain}
+use Rattle.capnp_readers.specs.Readers.{reading}
 use Rattle.capnp_readers.specs.declared.readers.PointerPlace.{PointerPlace}
+use Rattle.capnp_readers.specs.declared.readers.PointerReader.{PointerReader}
 use Rattle.capnp_copies.specs.Changes.{Change, RefusesValue, change}
 use Rattle.capnp_copies.specs.Forms.{form_of, kept}
 use Rattle.capnp_copies.specs.ListValues.{ListElements, RefusesElements}
@@ -72,6 +75,12 @@ abbrev pub IsRootless : Source → ErrorKind → Type 0
 IsRootless source k =
     (HasRoot source → ⊥) × ((Holds (words_in source) 0 0 1 → ⊥) → k ≡ misplaced (words_in source) 0 (InvalidSegmentId 0))
     × (Holds (words_in source) 0 0 1 → k ≡ ReadLimitExceeded)
+
+-- A reader is at the root, whose word is charged.
+pub record IsOpened {A : Type 0} (g : Ghosts A) (source : Source) (from : PointerReader A g) (m : Meter) : Type 0 where
+  pub root : HasRoot source
+  pub reads : reading g from ≡ root_of source
+  pub once : m ≡ once_at_root source
 
 -- What is wanted isn't found at a place, by the name k, as get_struct, or get_list of Void, refuses it.
 abbrev pub IsWithheld : Wanted → Reading → Meter → Meter → ErrorKind → Type 0
@@ -163,23 +172,31 @@ pub data LeadsToList (r : Reading) (m m' : Meter) (l : ListElements) : Type 0 wh
       l.count ≡ offset_bits (tag r.segments a) →
       LeadsToList r m m' l
 
--- The content of a source's struct stands in the stead of that of a struct of d data words and q pointers, of which ts are the first: u. The data that both
--- have is copied, with zeros behind it, and these pointers are, with nulls behind them.
-pub record Fills (source : Source) (d q : ℕ) (ts : Trees) (u : Tree) : Type 0 where
+-- What is read of a source's struct to copy its content: its sections, the values of its first pointers, and its data section as bytes.
+pub record ContentRead (source : Source) : Type 0 where
   pub root : HasRoot source
   pub from : Sections
   pub leads : LeadsToStruct (root_of source) (once_at_root source) from
   pub after : Meter
-  pub are_read : ReadsAll plain from.first from.limiter after ts
+  pub children : Trees
+  pub are_read : ReadsAll plain from.first from.limiter after children
   pub bytes : List ℕ
   pub are_words : words_of bytes ≡ from.words
+
+-- It stands in the stead of the content of a struct of d data words and q pointers, which is u then: the data that both have is copied, with zeros behind it,
+-- and the pointers that are read are, with nulls behind them.
+pub record Fills (source : Source) (c : ContentRead source) (d q : ℕ) (u : Tree) : Type 0 where
   pub section : List ℕ
-  pub holds : HoldContent section d (64 * length from.words) bytes
-  pub is_filled : u ≡ Struct section (up_to q ts)
+  pub holds : HoldContent section d (64 * length c.from.words) c.bytes
+  pub is_filled : u ≡ Struct section (up_to q c.children)
 
 -- So as many pointers are copied as both have.
 abbrev pub FillsAll : Source → ℕ → ℕ → Tree → Type 0
-FillsAll source d q u = (ts : Trees) × (f : Fills source d q ts u) × (count ts ≡ min q f.from.pointers)
+FillsAll source d q u = (c : ContentRead source) × Fills source c d q u × (count c.children ≡ min q c.from.pointers)
+
+-- The pointer behind those that are read can't be read, by the name k.
+abbrev pub IsNextUnreadable : (source : Source) → ContentRead source → ErrorKind → Type 0
+IsNextUnreadable source c k = (m : Meter) × Refused plain (behind c.from.first (count c.children)) c.after m k
 
 -- Between these there are i pointers; the next one is refused by the name k: it can't be read, or an object finds no room once the data is taken.
 abbrev pub RefusesNext : Sections → ℕ → Change → ErrorKind → Type 0
@@ -202,3 +219,9 @@ IsCopyRefused old new c k =
 -- Where there is a value to be copied, reading isn't refused.
 abbrev pub CopiedOrRefused : Type 0
 CopiedOrRefused = (c : Copying) (u : Tree) (k : ErrorKind) → Copies c u → IsUnread c k ⊎ IsUnreadable c k → ⊥
+
+-- Where the pointers can be read that a source's struct and one of q pointers both have, reading isn't refused.
+abbrev pub FilledOrRefused : Type 0
+FilledOrRefused =
+    (source : Source) (q : ℕ) (k : ErrorKind) (all : ContentRead source) → count all.children ≡ min q all.from.pointers
+    → IsUnread (copying source Content false) k ⊎ ((some : ContentRead source) × (count some.children < min q some.from.pointers) × IsNextUnreadable source some k) → ⊥

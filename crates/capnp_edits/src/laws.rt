@@ -1,8 +1,14 @@
-//! What follows of the contracts of this crate. The function does nothing: its contract is a law, proved
+//! What follows of the contracts of this crate. Each function does nothing: its contract is a law, proved
 //! for all messages.
-ghost use Rattle.capnp_edits.specs.Sources.{CopiedOrRefused};
+ghost use Rattle.capnp_edits.specs.Sources.{CopiedOrRefused, FilledOrRefused};
 
 /// What is copied of another message can be copied or is refused for what is read of it, and never both.
 pub fn copied_or_refused()
     ensures { CopiedOrRefused }
+{}
+
+/// So is the content of another message's struct: where its root leads to a struct, and the pointers that are
+/// copied mean values within both limits, no copy of it is refused for what is read.
+pub fn filled_or_refused()
+    ensures { FilledOrRefused }
 {}

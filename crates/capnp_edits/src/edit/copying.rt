@@ -1,12 +1,12 @@
 //! Edits that copy from another message.
-ghost use Rattle.std.specs.Prelude.{◌≡◌, true, IsOk, IfErr};
+ghost use Rattle.std.specs.Prelude.{◌≡◌, true, IsOk, IfOk, IfErr};
 ghost use Rattle.capnp_format.specs.Segments.{IsPlace};
 ghost use Rattle.capnp_builders.specs.Building.{built, IsThere};
-ghost use Rattle.capnp_edits.specs.Sources.{is_whole, FitsBehind};
+ghost use Rattle.capnp_edits.specs.Sources.{is_whole, FitsBehind, IsOpened, IsRootless};
 ghost use Rattle.capnp_edits.specs.Edits.{refusal_of, copied_by, place_of, IsCopyCounted, CopiesRoot, IsSourceRefused};
 
 use crate::edit::{Op, Source};
-use capnp_arena::arena::BuilderArena;
+use capnp_arena::arena::{BuilderArena, ReaderArena, ReaderArenaImpl, SegmentArray};
 use capnp_builders::builders::PointerBuilder;
 use capnp_readers::readers::{PointerPlace, PointerReader};
 use capnp_words::error::ErrorKind;
@@ -55,6 +55,23 @@ pub(crate) fn copying_of(op: Op<'_>) -> Option<Copying<'_>>
     })
 }
 
+/// A pointer of another message.
+pub(crate) type SourceReader<'a> = PointerReader<'a, ReaderArenaImpl<SegmentArray<'a>>>;
+
+/// The root of another message, and what is left to be read of it once its word is charged.
+pub(crate) fn open_source<'a>(
+    source: Source<'a>,
+) -> Result<(SourceReader<'a>, ReadLimiter), ErrorKind>
+    ensures found { IfOk result (λ r. IsOpened ⟦<ReaderArenaImpl<SegmentArray<'a>> as ReaderArena>⟧ source.entry r.0 r.1) }
+    ensures refused { IfErr result (IsRootless source.entry) }
+{
+    let mut lim = ReadLimiter::new(source.budget);
+    match PointerReader::get_root_from_arena(source.arena, &mut lim) {
+        Ok(root) => Ok((root, lim)),
+        Err(k) => Err(k),
+    }
+}
+
 /// Makes of a pointer a copy of what the root of another message leads to.
 fn copy_root<A: BuilderArena>(
     pointer: &mut PointerBuilder<'_, A>,
@@ -68,9 +85,8 @@ fn copy_root<A: BuilderArena>(
     ensures fits { FitsBehind (A.view pointer.old.arena.now) pointer.old.segment copying.entry → IsOk result }
     ensures same { pointer.new.arena.ghost_name ≡ pointer.old.arena.ghost_name }
 {
-    let mut lim = ReadLimiter::new(copying.source.budget);
-    let root = match PointerReader::get_root_from_arena(copying.source.arena, &mut lim) {
-        Ok(root) => root,
+    let (root, mut lim) = match open_source(copying.source) {
+        Ok(opened) => opened,
         Err(k) => return Err(k),
     };
     match copying.wanted {

@@ -10,13 +10,14 @@ ghost use Rattle.capnp_edits.specs.declared.edit.copying.Wanted.TheVariants.{Con
 ghost use Rattle.capnp_edits.specs.Sources.{copying};
 ghost use Rattle.capnp_edits.specs.Edits.{refusal_of, is_of_place, sections, FillsAt, FillsOrWrites, IsCopyCounted, IsCounted, IsSourceRefused, IsRefusedAs, OpFits};
 
+use crate::edit::copying::open_source;
 use crate::edit::fields::edit_struct;
 use crate::edit::path::has_words;
 use crate::edit::{Op, Source};
 use capnp_arena::arena::{BuilderArena, ReaderArena};
 use capnp_builders::builders::StructBuilder;
 use capnp_making::existing::ExistingStruct;
-use capnp_readers::readers::{PointerReader, StructPlace, StructReader};
+use capnp_readers::readers::{StructPlace, StructReader};
 use capnp_words::error::ErrorKind;
 use capnp_words::read_limiter::ReadLimiter;
 
@@ -67,9 +68,8 @@ pub(crate) fn fill<A: BuilderArena>(
     ensures counted { IsCopyCounted (refusal_of result) (A.view arena.old).refusals (A.view arena.new).refusals }
     ensures named { IfErr result (IsSourceRefused (A.view arena.old) (A.view arena.new) (copying source.entry Content false)) }
 {
-    let mut lim = ReadLimiter::new(source.budget);
-    let root = match PointerReader::get_root_from_arena(source.arena, &mut lim) {
-        Ok(root) => root,
+    let (root, mut lim) = match open_source(source) {
+        Ok(opened) => opened,
         Err(k) => return Err(k),
     };
     let value = match root.get_struct(&mut lim, None) {

@@ -1,5 +1,4 @@
-use Rattle.std.proofs.Common.{inl, true, refl, sym, ap, ◌∙◌, subst}
-use Rattle.capnp_words.specs.Meter.{Affords, charged}
+use Rattle.std.proofs.Common.{inl, refl}
 use Rattle.capnp_edits.specs.Sources.{IsUnread}
 use Rattle.capnp_edits.specs.Edits.{place_of, root_unread}
 use Rattle.capnp_edits.proofs.Copied.{Tried, tried_done, tried_counted, tried_named, tried_fits, value_tried, struct_copied, list_copied, unread_counted, struct_unread, list_unread, struct_found, list_found}
@@ -7,8 +6,7 @@ use Rattle.capnp_edits.proofs.edit.copying.copy_root.Goals as goal
 
 -- There is no root where it is refused.
 rootless : (g : _) (c : goal.In-Err g) → IsUnread c.args.copying c.in-Err.k
-rootless g c =
-    inl (λ has. absurd (let e = c.in-Err.ensures.exactly.1 (has.0, subst (λ m. Affords true m 1) (sym c.new-lim.ensures) has.1) in cc), c.in-Err.ensures.outside, c.in-Err.ensures.budget)
+rootless g c = inl c.in-Err.ensures.refused
 
 pub returns-in-Err-clause-done : goal.returns-in-Err-clause-done
 returns-in-Err-clause-done g c = root_unread c.in-Err.k (rootless g c) refl refl
@@ -19,9 +17,7 @@ returns-in-Err-clause-named g c = inl (rootless g c, refl)
 -- The copy of what the root means.
 value_at : (g : _) (c : goal.After-copy_from g) → Tried c.copy_from.result c.args.copying (g.A.BuilderArena.view c.args.pointer.now.arena.now) (g.A.BuilderArena.view c.copy_from.new.self.arena.now) (place_of c.args.pointer.now)
 value_at g c =
-    let held = c.in-Ok.ensures.exactly.0 refl in
-    value_tried c.copy_from.result c.args.copying _ _ _ _ _ (place_of c.args.pointer.now) c.in-Value.is (rw (c.in-Ok.ensures.source, c.in-Ok.ensures.place.0, c.in-Ok.ensures.place.1, c.in-Ok.ensures.nesting) refl)
-    (c.in-Ok.ensures.granted ∙ ap (λ m. charged true m 1) c.new-lim.ensures) (held.0, subst (λ m. Affords true m 1) c.new-lim.ensures held.1) c.copy_from.ensures.copied c.copy_from.ensures.refused
+    value_tried c.copy_from.result c.args.copying _ _ _ _ _ (place_of c.args.pointer.now) c.in-Value.is c.in-Ok.ensures.found.reads c.in-Ok.ensures.found.once c.in-Ok.ensures.found.root c.copy_from.ensures.copied c.copy_from.ensures.refused
 
 pub returns-in-Value-clause-done : goal.returns-in-Value-clause-done
 returns-in-Value-clause-done g c = tried_done c.copy_from.result c.args.copying _ _ _ c.requires.whole (value_at g c) c.copy_from.ensures.cleared
@@ -38,13 +34,7 @@ returns-in-Value-clause-fits g c = tried_fits c.copy_from.result c.args.copying 
 -- The copy of the struct that it leads to.
 struct_there : (g : _) (c : goal.After-set_struct g) → Tried c.set_struct.result c.args.copying (g.A.BuilderArena.view c.args.pointer.now.arena.now) (g.A.BuilderArena.view c.set_struct.new.self.arena.now) (place_of c.args.pointer.now)
 struct_there g c =
-    let held = c.in-Ok.ensures.exactly.0 refl in
-    struct_copied c.set_struct.result c.args.copying _ c.in-Ok.root c.in-Ok-get_struct.value _ _ _ _ _ (place_of c.args.pointer.now) c.in-Struct.is
-    (record {
-      root = (held.0, subst (λ m. Affords true m 1) c.new-lim.ensures held.1);
-      reads = rw (c.in-Ok.ensures.source, c.in-Ok.ensures.place.0, c.in-Ok.ensures.place.1, c.in-Ok.ensures.nesting) refl;
-      once = c.in-Ok.ensures.granted ∙ ap (λ m. charged true m 1) c.new-lim.ensures;
-    }) c.in-Ok-get_struct.value.content_is.1 c.in-Ok-get_struct.ensures.read c.set_struct.ensures.copied c.set_struct.ensures.refused
+    struct_copied c.set_struct.result c.args.copying _ c.in-Ok.opened.0 c.in-Ok-get_struct.value _ _ _ _ _ (place_of c.args.pointer.now) c.in-Struct.is c.in-Ok.ensures.found c.in-Ok-get_struct.value.content_is.1 c.in-Ok-get_struct.ensures.read c.set_struct.ensures.copied c.set_struct.ensures.refused
 
 pub returns-in-Ok-get_struct-clause-done : goal.returns-in-Ok-get_struct-clause-done
 returns-in-Ok-get_struct-clause-done g c = tried_done c.set_struct.result c.args.copying _ _ _ c.requires.whole (struct_there g c) c.set_struct.ensures.cleared
@@ -61,13 +51,7 @@ returns-in-Ok-get_struct-clause-fits g c = tried_fits c.set_struct.result c.args
 -- There is none where it isn't found.
 struct_missing : (g : _) (c : goal.In-Err-get_struct g) → IsUnread c.args.copying c.in-Err-get_struct.k
 struct_missing g c =
-    let held = c.in-Ok.ensures.exactly.0 refl in
-    struct_unread _ c.args.copying c.in-Ok.root _ _ c.in-Err-get_struct.k c.in-Struct.is
-    (record {
-      root = (held.0, subst (λ m. Affords true m 1) c.new-lim.ensures held.1);
-      reads = rw (c.in-Ok.ensures.source, c.in-Ok.ensures.place.0, c.in-Ok.ensures.place.1, c.in-Ok.ensures.nesting) refl;
-      once = c.in-Ok.ensures.granted ∙ ap (λ m. charged true m 1) c.new-lim.ensures;
-    }) c.in-Err-get_struct.ensures.refused
+    struct_unread _ c.args.copying c.in-Ok.opened.0 _ _ c.in-Err-get_struct.k c.in-Struct.is c.in-Ok.ensures.found c.in-Err-get_struct.ensures.refused
 
 pub returns-in-Err-get_struct-clause-done : goal.returns-in-Err-get_struct-clause-done
 returns-in-Err-get_struct-clause-done g c = root_unread c.in-Err-get_struct.k (struct_missing g c) refl refl
@@ -80,23 +64,12 @@ returns-in-Err-get_struct-clause-named g c = inl (struct_missing g c, refl)
 
 pub returns-in-Err-get_struct-clause-fits : goal.returns-in-Err-get_struct-clause-fits
 returns-in-Err-get_struct-clause-fits g c = λ fits.
-    (c.in-Err-get_struct.ensures.exactly.1 (struct_found _ c.args.copying c.in-Ok.root _ _ _ c.in-Struct.is
-    (record {
-      root = fits.root;
-      reads = rw (c.in-Ok.ensures.source, c.in-Ok.ensures.place.0, c.in-Ok.ensures.place.1, c.in-Ok.ensures.nesting) refl;
-      once = c.in-Ok.ensures.granted ∙ ap (λ m. charged true m 1) c.new-lim.ensures;
-    }) fits))
+    (c.in-Err-get_struct.ensures.exactly.1 (struct_found _ c.args.copying c.in-Ok.opened.0 _ _ _ c.in-Struct.is c.in-Ok.ensures.found fits))
 
 -- The copy of the list that it leads to.
 list_there : (g : _) (c : goal.After-set_list g) → Tried c.set_list.result c.args.copying (g.A.BuilderArena.view c.args.pointer.now.arena.now) (g.A.BuilderArena.view c.set_list.new.self.arena.now) (place_of c.args.pointer.now)
 list_there g c =
-    let held = c.in-Ok.ensures.exactly.0 refl in
-    list_copied c.set_list.result c.args.copying _ c.in-Ok.root c.in-Ok-get_list.value _ _ _ _ _ (place_of c.args.pointer.now) c.in-List.is
-    (record {
-      root = (held.0, subst (λ m. Affords true m 1) c.new-lim.ensures held.1);
-      reads = rw (c.in-Ok.ensures.source, c.in-Ok.ensures.place.0, c.in-Ok.ensures.place.1, c.in-Ok.ensures.nesting) refl;
-      once = c.in-Ok.ensures.granted ∙ ap (λ m. charged true m 1) c.new-lim.ensures;
-    }) c.in-Ok-get_list.ensures.read c.set_list.ensures.copied c.set_list.ensures.refused
+    list_copied c.set_list.result c.args.copying _ c.in-Ok.opened.0 c.in-Ok-get_list.value _ _ _ _ _ (place_of c.args.pointer.now) c.in-List.is c.in-Ok.ensures.found c.in-Ok-get_list.ensures.read c.set_list.ensures.copied c.set_list.ensures.refused
 
 pub returns-in-Ok-get_list-clause-done : goal.returns-in-Ok-get_list-clause-done
 returns-in-Ok-get_list-clause-done g c = tried_done c.set_list.result c.args.copying _ _ _ c.requires.whole (list_there g c) c.set_list.ensures.cleared
@@ -113,13 +86,7 @@ returns-in-Ok-get_list-clause-fits g c = tried_fits c.set_list.result c.args.cop
 -- There is none where it isn't found.
 list_missing : (g : _) (c : goal.In-Err-get_list g) → IsUnread c.args.copying c.in-Err-get_list.k
 list_missing g c =
-    let held = c.in-Ok.ensures.exactly.0 refl in
-    list_unread _ c.args.copying c.in-Ok.root _ _ c.in-Err-get_list.k c.in-List.is
-    (record {
-      root = (held.0, subst (λ m. Affords true m 1) c.new-lim.ensures held.1);
-      reads = rw (c.in-Ok.ensures.source, c.in-Ok.ensures.place.0, c.in-Ok.ensures.place.1, c.in-Ok.ensures.nesting) refl;
-      once = c.in-Ok.ensures.granted ∙ ap (λ m. charged true m 1) c.new-lim.ensures;
-    }) c.in-Err-get_list.ensures.refused
+    list_unread _ c.args.copying c.in-Ok.opened.0 _ _ c.in-Err-get_list.k c.in-List.is c.in-Ok.ensures.found c.in-Err-get_list.ensures.refused
 
 pub returns-in-Err-get_list-clause-done : goal.returns-in-Err-get_list-clause-done
 returns-in-Err-get_list-clause-done g c = root_unread c.in-Err-get_list.k (list_missing g c) refl refl
@@ -132,9 +99,4 @@ returns-in-Err-get_list-clause-named g c = inl (list_missing g c, refl)
 
 pub returns-in-Err-get_list-clause-fits : goal.returns-in-Err-get_list-clause-fits
 returns-in-Err-get_list-clause-fits g c = λ fits.
-    (c.in-Err-get_list.ensures.exactly.1 (list_found _ c.args.copying c.in-Ok.root _ _ _ c.in-List.is
-    (record {
-      root = fits.root;
-      reads = rw (c.in-Ok.ensures.source, c.in-Ok.ensures.place.0, c.in-Ok.ensures.place.1, c.in-Ok.ensures.nesting) refl;
-      once = c.in-Ok.ensures.granted ∙ ap (λ m. charged true m 1) c.new-lim.ensures;
-    }) fits))
+    (c.in-Err-get_list.ensures.exactly.1 (list_found _ c.args.copying c.in-Ok.opened.0 _ _ _ c.in-List.is c.in-Ok.ensures.found fits))

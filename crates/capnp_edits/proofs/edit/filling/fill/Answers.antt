@@ -1,5 +1,4 @@
-use Rattle.std.proofs.Common.{inl, true, false, refl, sym, ap, ◌∙◌, subst}
-use Rattle.capnp_words.specs.Meter.{Affords, charged}
+use Rattle.std.proofs.Common.{inl, false, refl, sym, subst}
 use Rattle.capnp_edits.specs.declared.edit.copying.Wanted.TheVariants.{Content}
 use Rattle.capnp_edits.specs.Sources.{copying, IsUnread}
 use Rattle.capnp_edits.specs.Edits.{refusal_of, FillsAt, none_filled}
@@ -10,8 +9,7 @@ use Rattle.capnp_edits.proofs.edit.filling.fill.Goals as goal
 
 -- There is no root where it is refused.
 rootless : (g : _) (c : goal.In-Err g) → IsUnread (copying c.args.source Content false) c.in-Err.k
-rootless g c =
-    inl (λ has. absurd (let e = c.in-Err.ensures.exactly.1 (has.0, subst (λ m. Affords true m 1) (sym c.new-lim.ensures) has.1) in cc), c.in-Err.ensures.outside, c.in-Err.ensures.budget)
+rootless g c = inl c.in-Err.ensures.refused
 
 pub returns-in-Err-clause-filled : goal.returns-in-Err-clause-filled
 returns-in-Err-clause-filled g c = none_filled c.in-Err.k (rootless g c) refl refl
@@ -25,13 +23,7 @@ returns-in-Err-clause-named g c = inl (rootless g c, refl)
 -- There is no struct where none is found.
 missing : (g : _) (c : goal.In-Err-get_struct g) → IsUnread (copying c.args.source Content false) c.in-Err-get_struct.k
 missing g c =
-    let held = c.in-Ok.ensures.exactly.0 refl in
-    content_unread _ (copying c.args.source Content false) c.in-Ok.root _ _ c.in-Err-get_struct.k refl
-    (record {
-      root = (held.0, subst (λ m. Affords true m 1) c.new-lim.ensures held.1);
-      reads = rw (c.in-Ok.ensures.source, c.in-Ok.ensures.place.0, c.in-Ok.ensures.place.1, c.in-Ok.ensures.nesting) refl;
-      once = c.in-Ok.ensures.granted ∙ ap (λ m. charged true m 1) c.new-lim.ensures;
-    }) c.in-Err-get_struct.ensures.refused
+    content_unread _ (copying c.args.source Content false) c.in-Ok.opened.0 _ _ c.in-Err-get_struct.k refl c.in-Ok.ensures.found c.in-Err-get_struct.ensures.refused
 
 pub returns-in-Err-get_struct-clause-filled : goal.returns-in-Err-get_struct-clause-filled
 returns-in-Err-get_struct-clause-filled g c = none_filled c.in-Err-get_struct.k (missing g c) refl refl
@@ -44,17 +36,11 @@ returns-in-Err-get_struct-clause-named g c = inl (missing g c, refl)
 
 pub returns-in-Some-clause-filled : goal.returns-in-Some-clause-filled
 returns-in-Some-clause-filled g c =
-    let held = c.in-Ok.ensures.exactly.0 refl in
     let old = g.A.BuilderArena.view c.args.arena.now in
     let new = g.A.BuilderArena.view c.copy_over.new.arena in
     let value = c.in-Ok-get_struct.value in
     subst (λ p. FillsAt old.words new.words p c.args.source (refusal_of c.copy_over.result)) c.in-Some.ensures.place
-    (fill_done c.copy_over.result _ c.args.source c.in-Ok.root value _ _ _ old new c.in-Some.place
-    (record {
-      root = (held.0, subst (λ m. Affords true m 1) c.new-lim.ensures held.1);
-      reads = rw (c.in-Ok.ensures.source, c.in-Ok.ensures.place.0, c.in-Ok.ensures.place.1, c.in-Ok.ensures.nesting) refl;
-      once = c.in-Ok.ensures.granted ∙ ap (λ m. charged true m 1) c.new-lim.ensures;
-    }) value.content_is.1 c.in-Ok-get_struct.ensures.read c.copy_over.ensures.copied c.copy_over.ensures.refused)
+    (fill_done c.copy_over.result _ c.args.source c.in-Ok.opened.0 value _ _ _ old new c.in-Some.place c.in-Ok.ensures.found value.content_is.1 c.in-Ok-get_struct.ensures.read c.copy_over.ensures.copied c.copy_over.ensures.refused)
 
 pub returns-in-Some-clause-counted : goal.returns-in-Some-clause-counted
 returns-in-Some-clause-counted g c =
@@ -62,26 +48,14 @@ returns-in-Some-clause-counted g c =
 
 pub returns-in-Some-clause-named : goal.returns-in-Some-clause-named
 returns-in-Some-clause-named g c =
-    let held = c.in-Ok.ensures.exactly.0 refl in
     let value = c.in-Ok-get_struct.value in
-    fill_named c.copy_over.result _ c.args.source c.in-Ok.root value _ _ _ _ _ c.in-Some.place
-    (record {
-      root = (held.0, subst (λ m. Affords true m 1) c.new-lim.ensures held.1);
-      reads = rw (c.in-Ok.ensures.source, c.in-Ok.ensures.place.0, c.in-Ok.ensures.place.1, c.in-Ok.ensures.nesting) refl;
-      once = c.in-Ok.ensures.granted ∙ ap (λ m. charged true m 1) c.new-lim.ensures;
-    }) value.content_is.1 c.in-Ok-get_struct.ensures.read c.copy_over.ensures.refused
+    fill_named c.copy_over.result _ c.args.source c.in-Ok.opened.0 value _ _ _ _ _ c.in-Some.place c.in-Ok.ensures.found value.content_is.1 c.in-Ok-get_struct.ensures.read c.copy_over.ensures.refused
 
 -- Nothing is taken by a struct of no words.
 pub returns-in-None-clause-filled : goal.returns-in-None-clause-filled
 returns-in-None-clause-filled g c =
-    let held = c.in-Ok.ensures.exactly.0 refl in
     let value = c.in-Ok-get_struct.value in
-    fill_nothing _ c.args.source c.in-Ok.root value _ _ _ c.args.parent
-    (record {
-      root = (held.0, subst (λ m. Affords true m 1) c.new-lim.ensures held.1);
-      reads = rw (c.in-Ok.ensures.source, c.in-Ok.ensures.place.0, c.in-Ok.ensures.place.1, c.in-Ok.ensures.nesting) refl;
-      once = c.in-Ok.ensures.granted ∙ ap (λ m. charged true m 1) c.new-lim.ensures;
-    }) value.content_is.1 c.in-Ok-get_struct.ensures.read (c.in-None.ensures.empty refl)
+    fill_nothing _ c.args.source c.in-Ok.opened.0 value _ _ _ c.args.parent c.in-Ok.ensures.found value.content_is.1 c.in-Ok-get_struct.ensures.read (c.in-None.ensures.empty refl)
 
 pub copy_over-requires-clause-aligned : goal.copy_over-requires-clause-aligned
 copy_over-requires-clause-aligned g c = subst IsAligned (sym c.in-Some.ensures.place) (sections_aligned c.args.parent)
