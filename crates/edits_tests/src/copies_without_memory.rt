@@ -4,7 +4,7 @@ use crate::messages::{check_outcomes, edit, size};
 use crate::sources::Copied::{List, Struct, Value};
 use crate::sources::{
     CAPABILITY, Copied, ELEMENT, EMPTY_STRUCTS, KEPT, LIST, NULL, ROOT, Read, SOURCE, STRUCTS,
-    VOIDS, copy_of,
+    TWO_TEXTS, VOIDS, copy_of,
 };
 use capnp_arena::arena::{
     BuilderArena, HeapAllocator, ReaderArenaImpl, ReaderOptions, SegmentArray,
@@ -17,10 +17,6 @@ use std::alloc::Global;
 use std::cell::Cell;
 use std::process::Abort;
 use test_support::{Granted, TestAllocator, arena_of_root, bytes_of, has_words};
-
-/// A struct of two texts.
-const TWO_TEXTS: &str =
-    "0000000000000200 0500000012000000 0500000012000000 6100000000000000 6200000000000000";
 
 /// A struct of a word of zero.
 const ZERO: &str = "0000000001000000 0000000000000000";

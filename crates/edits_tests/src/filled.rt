@@ -2,16 +2,20 @@
 //! pointer leads to, and over an element of a list.
 use crate::messages::{check, edit, size};
 use crate::sources::Copied::Content;
-use crate::sources::{BYTES, CUT, KEPT, LIST, NULL, Read, SOURCE, check_copy};
+use crate::sources::{
+    BYTES, CAPABILITY, CUT, FAR, HOLDER, KEPT, LIST, NULL, Read, SOURCE, VOIDS, check_copy,
+};
 use capnp_arena::arena::{ReaderArenaImpl, ReaderOptions, SegmentArray};
 use capnp_edits::edit::Op::{CopyContent, InitStruct, SetData, SetField};
 use capnp_edits::edit::Step::{Child, Element};
 use capnp_edits::edit::{Source, Step};
 use capnp_words::error::ErrorKind;
 use capnp_words::error::ErrorKind::{
+    InlineCompositeListsElementsOverrunItsWordCount,
+    InlineCompositeListsOfNonStructTypeAreNotSupported, InvalidSegmentId,
     MessageContainsNonStructPointerWhereStructPointerWasExpected,
     MessageContainsOutOfBoundsPointer, MessageIsTooDeeplyNestedOrContainsCycles, NoSuchPlace,
-    ReadLimitExceeded,
+    ReadLimitExceeded, UnknownPointerType,
 };
 use capnp_words::wire_pointer::ElementSize::EightBytes;
 use std::alloc::Global;
@@ -20,6 +24,18 @@ use test_support::bytes_of;
 
 /// A struct of two texts, the second of which is not there.
 const HALF: &str = "0000000000000200 0500000012000000 2500000012000000 6100000000000000";
+
+/// A struct of a far pointer to segment 1.
+const BELOW_FAR: &str = "0000000000000100 0200000001000000";
+
+/// A struct of a pointer of no known type.
+const UNKNOWN: &str = "0000000000000100 ffffffff00000000";
+
+/// A struct of a list of structs whose tag is a list pointer.
+const BELOW_UNTAGGED: &str = "0000000000000100 0100000007000000 0100000000000000";
+
+/// A struct of a list of two structs of a word each, with words for one.
+const BELOW_OVERRUN: &str = "0000000000000100 010000000f000000 0800000001000000 0000000000000000";
 
 /// A struct of a data word of ones and of two pointers, the first one to a byte.
 const BEFORE: &str =
@@ -91,6 +107,11 @@ fn over_a_struct(rt: HostRuntime) {
             0000000000000000 0000000000000000, 0100000012000000 6100000000000000",
         ),
         (1024, (NULL, 0, Some(1)), EMPTIED),
+        (
+            1024,
+            (HOLDER, 1, Some(2)),
+            "0000000001000200 0000000000000000 0300000001000000 0000000000000000 0000000000000000",
+        ),
     ] {
         check_over(&rt, rt.alloc(), words, read, (None, segments));
     }
@@ -138,9 +159,59 @@ fn no_content(rt: HostRuntime) {
         ((SOURCE, 64, Some(3)), ReadLimitExceeded),
         ((SOURCE, 0, None), deep),
         ((BYTES, 64, None), another),
+        ((VOIDS, 64, None), another),
+        ((CAPABILITY, 64, None), another),
         ((CUT, 64, None), outside),
+        ((FAR, 64, None), InvalidSegmentId(1)),
     ] {
         check_over(&rt, rt.alloc(), 1024, read, (Some(want), BEFORE));
+    }
+}
+
+/// Makes the root a struct of a struct and of a null pointer, and copies the content of another message's
+/// struct over its children: the struct, the null pointer, and one that isn't there.
+fn check_children<'a>(
+    rt: &impl Abort,
+    alloc: Global,
+    words: u16,
+    arena: &'a ReaderArenaImpl<SegmentArray<'a>>,
+    segments: &str,
+) {
+    let source = Source {
+        arena,
+        budget: Some(5),
+    };
+    let edits = &[
+        edit(&[], InitStruct(size(0, 2))),
+        edit(&[Child(0)], InitStruct(size(1, 1))),
+        edit(&[Child(0)], CopyContent(source)),
+        edit(&[Child(1)], CopyContent(source)),
+        edit(&[Child(2)], CopyContent(source)),
+    ];
+    let none = Some(NoSuchPlace);
+    let want = &[None, None, None, none, none];
+    check(rt, alloc, words, edits, (want, segments));
+}
+
+/// Over a struct that is a child of the root, and not over a child that is null or isn't there.
+#[test]
+fn over_a_child(rt: HostRuntime) {
+    let bytes = bytes_of(rt.alloc(), SOURCE).expect(&rt, "hex digits");
+    let segments: &[&[u8]] = &[bytes.as_slice()];
+    let array = SegmentArray::new(segments).expect(&rt, "small");
+    let arena = ReaderArenaImpl::new(array, ReaderOptions::default());
+    for (words, segments) in [
+        (
+            1024,
+            "0000000000000200 0400000001000100 0000000000000000 0700000000000000 0100000012000000 6100000000000000",
+        ),
+        (
+            1,
+            "0200000001000000, 0000000000000200 0200000002000000 0000000000000000, \
+            0000000001000100 0700000000000000 0200000003000000, 0100000012000000 6100000000000000",
+        ),
+    ] {
+        check_children(&rt, rt.alloc(), words, &arena, segments);
     }
 }
 
@@ -149,6 +220,8 @@ fn no_content(rt: HostRuntime) {
 #[test]
 fn half_copied(rt: HostRuntime) {
     let deep = MessageIsTooDeeplyNestedOrContainsCycles;
+    let untagged = InlineCompositeListsOfNonStructTypeAreNotSupported;
+    let overrun = InlineCompositeListsElementsOverrunItsWordCount;
     let data =
         "0000000001000200 0700000000000000 0000000000000000 0000000000000000 0000000000000000";
     let first =
@@ -157,6 +230,10 @@ fn half_copied(rt: HostRuntime) {
         ((SOURCE, 64, Some(4)), ReadLimitExceeded, data),
         ((SOURCE, 1, None), deep, data),
         ((HALF, 64, None), MessageContainsOutOfBoundsPointer, first),
+        ((BELOW_FAR, 64, None), InvalidSegmentId(1), EMPTIED),
+        ((UNKNOWN, 64, None), UnknownPointerType, EMPTIED),
+        ((BELOW_UNTAGGED, 64, None), untagged, EMPTIED),
+        ((BELOW_OVERRUN, 64, None), overrun, EMPTIED),
     ] {
         check_over(&rt, rt.alloc(), 1024, read, (Some(want), segments));
     }

@@ -15,9 +15,13 @@ mod done;
 #[cfg(test)]
 mod filled;
 #[cfg(test)]
+mod filled_without_memory;
+#[cfg(test)]
 mod memory_among_refusals;
 #[cfg(test)]
 mod messages;
+#[cfg(test)]
+mod places;
 #[cfg(test)]
 mod refused;
 #[cfg(test)]

@@ -132,6 +132,13 @@ fn greatest_numbers(rt: HostRuntime) {
         edits,
         (&[None], "0100000007000000 fcffffff00000000"),
     );
+    // 2^29 - 1 words of numbers, and a landing pad.
+    let edits = &[
+        edit(&[], SetCapability(1)),
+        edit(&[], InitList(EightBytes, 0x1fff_ffff)),
+    ];
+    let want = &[None, Some(MessageTooLarge(0x2000_0000))];
+    check(&rt, alloc, 8, edits, (want, "0000000000000000"));
     // 256,999 times 2089 words are 2^29 - 1; with the tag and a landing pad they are two more.
     let edits = &[
         edit(&[], SetCapability(1)),
