@@ -14,6 +14,7 @@ ghost use Rattle.capnp_words.specs.declared.error.ErrorKind.{ErrorKind};
 ghost use Rattle.capnp_pointers.specs.Sizes.{size_number};
 ghost use Rattle.capnp_making.specs.Made.{zero_struct, zero_structs, zero_list, list_words};
 ghost use Rattle.capnp_making.specs.Memory.{HasRoom, KeepsMemory, TakesWords, SpendsMemory, IsRefusedFor, CanRefuse};
+ghost use Rattle.capnp_making.specs.Stored.{ZeroesOld};
 ghost use Rattle.capnp_making.specs.Zeroed.{IsPruned};
 ghost use Rattle.capnp_builders.specs.Places.{IsAligned, IsStructOf, IsListOf, IsStructListOf};
 ghost use Rattle.capnp_words.specs.declared.error.ErrorKind.TheVariants.{MessageTooLarge, UnknownPointerType};
@@ -170,6 +171,7 @@ impl<'a, A: BuilderArena> PointerBuilder<'a, A> {
         ensures granted { OnOk result (KeepsMemory (A.view self.old.arena.now) (A.view self.new.arena.now)) }
         ensures taken { OnOk result (TakesWords (A.view self.old.arena.now) (A.view self.new.arena.now) self.old.segment (size.data_words + size.pointers)) }
         ensures named { IfErr result (IsRefusedFor (A.view self.old.arena.now) (A.view self.new.arena.now) (size.data_words + size.pointers)) }
+        ensures zeroed { OnOk result (ZeroesOld (A.view self.old.arena.now).words (A.view self.new.arena.now).words self.old.segment self.old.at) }
         ensures refused { OnErr result (Becomes (built A.view self.old) (built A.view self.new) Null) }
         ensures only { OnErr result (IsPruned (A.view self.old.arena.now).words (A.view self.new.arena.now).words) }
         ensures same { self.new.arena.ghost_name ≡ self.old.arena.ghost_name }
@@ -215,6 +217,7 @@ impl<'a, A: BuilderArena> PointerBuilder<'a, A> {
         ensures fits { HasRoom (A.view self.entry.arena.now) self.entry.segment (size.data_words + size.pointers) → IsOk result }
         ensures granted { IfOk result (λ b. KeepsMemory (A.view self.entry.arena.now) (A.view b.arena.now)) }
         ensures taken { IfOk result (λ b. TakesWords (A.view self.entry.arena.now) (A.view b.arena.now) self.entry.segment (size.data_words + size.pointers)) }
+        ensures zeroed { IfOk result (λ b. ZeroesOld (A.view self.entry.arena.now).words (A.view b.arena.now).words self.entry.segment self.entry.at) }
         ensures named { IfErr result (CanRefuse (A.view self.entry.arena.now) (size.data_words + size.pointers)) }
     {
         match self.put_struct(size) {
@@ -240,6 +243,7 @@ impl<'a, A: BuilderArena> PointerBuilder<'a, A> {
         ensures granted { OnOk result (KeepsMemory (A.view self.old.arena.now) (A.view self.new.arena.now)) }
         ensures taken { OnOk result (TakesWords (A.view self.old.arena.now) (A.view self.new.arena.now) self.old.segment (list_words (size_number size) count)) }
         ensures named { IfErr result (IsRefusedFor (A.view self.old.arena.now) (A.view self.new.arena.now) (list_words (size_number size) count)) }
+        ensures zeroed { OnOk result (ZeroesOld (A.view self.old.arena.now).words (A.view self.new.arena.now).words self.old.segment self.old.at) }
         ensures refused { OnErr result (Becomes (built A.view self.old) (built A.view self.new) Null) }
         ensures only { OnErr result (IsPruned (A.view self.old.arena.now).words (A.view self.new.arena.now).words) }
         ensures same { self.new.arena.ghost_name ≡ self.old.arena.ghost_name }
@@ -290,6 +294,7 @@ impl<'a, A: BuilderArena> PointerBuilder<'a, A> {
         ensures fits { HasRoom (A.view self.entry.arena.now) self.entry.segment (list_words (size_number size) count) → IsOk result }
         ensures granted { IfOk result (λ b. KeepsMemory (A.view self.entry.arena.now) (A.view b.arena.now)) }
         ensures taken { IfOk result (λ b. TakesWords (A.view self.entry.arena.now) (A.view b.arena.now) self.entry.segment (list_words (size_number size) count)) }
+        ensures zeroed { IfOk result (λ b. ZeroesOld (A.view self.entry.arena.now).words (A.view b.arena.now).words self.entry.segment self.entry.at) }
         ensures named { IfErr result (CanRefuse (A.view self.entry.arena.now) (list_words (size_number size) count)) }
     {
         match self.put_list(size, count) {
@@ -313,6 +318,7 @@ impl<'a, A: BuilderArena> PointerBuilder<'a, A> {
         ensures granted { OnOk result (KeepsMemory (A.view self.old.arena.now) (A.view self.new.arena.now)) }
         ensures taken { OnOk result (TakesWords (A.view self.old.arena.now) (A.view self.new.arena.now) self.old.segment (1 + count * (size.data_words + size.pointers))) }
         ensures named { IfErr result (IsRefusedFor (A.view self.old.arena.now) (A.view self.new.arena.now) (1 + count * (size.data_words + size.pointers))) }
+        ensures zeroed { OnOk result (ZeroesOld (A.view self.old.arena.now).words (A.view self.new.arena.now).words self.old.segment self.old.at) }
         ensures refused { OnErr result (Becomes (built A.view self.old) (built A.view self.new) Null) }
         ensures only { OnErr result (IsPruned (A.view self.old.arena.now).words (A.view self.new.arena.now).words) }
         ensures same { self.new.arena.ghost_name ≡ self.old.arena.ghost_name }
@@ -348,6 +354,7 @@ impl<'a, A: BuilderArena> PointerBuilder<'a, A> {
         ensures fits { HasRoom (A.view self.entry.arena.now) self.entry.segment (1 + count * (size.data_words + size.pointers)) → IsOk result }
         ensures granted { IfOk result (λ b. KeepsMemory (A.view self.entry.arena.now) (A.view b.arena.now)) }
         ensures taken { IfOk result (λ b. TakesWords (A.view self.entry.arena.now) (A.view b.arena.now) self.entry.segment (1 + count * (size.data_words + size.pointers))) }
+        ensures zeroed { IfOk result (λ b. ZeroesOld (A.view self.entry.arena.now).words (A.view b.arena.now).words self.entry.segment self.entry.at) }
         ensures named { IfErr result (CanRefuse (A.view self.entry.arena.now) (1 + count * (size.data_words + size.pointers))) }
     {
         match self.put_struct_list(count, size) {
@@ -420,6 +427,7 @@ impl<'a, A: BuilderArena> PointerBuilder<'a, A> {
         ensures granted { OnOk result (KeepsMemory (A.view self.old.arena.now) (A.view self.new.arena.now)) }
         ensures taken { OnOk result (TakesWords (A.view self.old.arena.now) (A.view self.new.arena.now) self.old.segment (words_for 2 (length bytes.now))) }
         ensures named { IfErr result (IsRefusedFor (A.view self.old.arena.now) (A.view self.new.arena.now) (words_for 2 (length bytes.now))) }
+        ensures zeroed { OnOk result (ZeroesOld (A.view self.old.arena.now).words (A.view self.new.arena.now).words self.old.segment self.old.at) }
         ensures refused { OnErr result (Becomes (built A.view self.old) (built A.view self.new) Null) }
         ensures only { OnErr result (IsPruned (A.view self.old.arena.now).words (A.view self.new.arena.now).words) }
         ensures same { self.new.arena.ghost_name ≡ self.old.arena.ghost_name }
@@ -442,6 +450,7 @@ impl<'a, A: BuilderArena> PointerBuilder<'a, A> {
         ensures granted { OnOk result (KeepsMemory (A.view self.old.arena.now) (A.view self.new.arena.now)) }
         ensures taken { OnOk result (TakesWords (A.view self.old.arena.now) (A.view self.new.arena.now) self.old.segment (words_for 2 (length bytes.now + 1))) }
         ensures named { IfErr result (IsRefusedFor (A.view self.old.arena.now) (A.view self.new.arena.now) (words_for 2 (length bytes.now + 1))) }
+        ensures zeroed { OnOk result (ZeroesOld (A.view self.old.arena.now).words (A.view self.new.arena.now).words self.old.segment self.old.at) }
         ensures refused { OnErr result (Becomes (built A.view self.old) (built A.view self.new) Null) }
         ensures only { OnErr result (IsPruned (A.view self.old.arena.now).words (A.view self.new.arena.now).words) }
         ensures same { self.new.arena.ghost_name ≡ self.old.arena.ghost_name }

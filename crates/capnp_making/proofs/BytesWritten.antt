@@ -22,7 +22,7 @@ use Rattle.capnp_making.specs.Zeroed.{row}
 use Rattle.capnp_making.specs.Stored.{IsStored, IsReplaced}
 use Rattle.capnp_making.proofs.Replaced.{replaced_again}
 use Rattle.capnp_making.proofs.Written.{SameLengths, SameBut, flat_written}
-use Rattle.capnp_making.proofs.Zeros.{there, segment_here, word_here, word_other, lengths_kept, length-over, over_beside, of_row}
+use Rattle.capnp_making.proofs.Zeros.{there, segment_here, word_here, word_other, lengths_kept, length-over, over_beside, in_row, of_row}
 
 -- a segment has the bytes of its words
 pub bytes_room : (S : Segments) (B : List (List ℕ)) (id : ℕ) (bs : List ℕ) → S ≡ message B → slice_get B id ≡ Some bs → 8 * length (segment S id) ≤ length bs
@@ -198,20 +198,35 @@ whole_words S R h xs u a k w is_u is_a some enough claim =
           ∙ message_set B u (overwritten bs (8 * a) xs) ∙ ap₂ (λ T ws. with_segment T u ws) (sym w.old_read) (words_over bs a k xs enough room ∙ ap (λ ws. overwritten ws a (words_of (over_front bs a k xs))) (sym shown)),
     )
 
+words_there : (S R : Segments) (h : Start) (xs : List ℕ) (k : ℕ) (w : WritesBytes S R h xs) → 0 < length xs → length xs ≤ 8 * k → h.at + k ≤ length (segment S h.segment) →
+    AreWritten S R h.segment h.at k (words_of (over_front (slice_index_or w.old h.segment []) h.at k xs))
+words_there S R h xs k w some enough claim =
+    let bs : List ℕ = slice_index_or w.old h.segment [] in
+    let (shown, room, whole) = whole_words S R h xs h.segment h.at k w refl refl some enough claim in
+    let new : List ℕ = over_front bs h.at k xs in
+    let long : length new ≡ 8 * k = length-front bs h.at k xs enough room in
+    words_written S R h.segment h.at k (words_of new) (omega (arith, some, enough)) (length-words_of k new (omega (arith, long)) (omega (arith, long))) claim whole
+
 -- and no segment is longer or shorter
 pub written_lengths : (S R : Segments) (h : Start) (xs : List ℕ) (k : ℕ) → WritesBytes S R h xs → length xs ≤ 8 * k → h.at + k ≤ length (segment S h.segment) → SameLengths S R
 written_lengths S R h xs k w enough claim = elim (cases_eq (length xs) 0) [
   | inl e ↦ record { segments = ap length (w.nothing e); words = λ v. ap (λ T. length (segment T v)) (w.nothing e) }
-  | inr some ↦ (
-      let u : ℕ = h.segment in
-      let a : ℕ = h.at in
-      let bs : List ℕ = slice_index_or w.old u [] in
-      let (shown, room, whole) = whole_words S R h xs u a k w refl refl (omega arith) enough claim in
-      let new : List ℕ = over_front bs a k xs in
-      let long : length new ≡ 8 * k = length-front bs a k xs enough room in
-      (words_written S R u a k (words_of new) (omega arith) (length-words_of k new (omega (arith, long)) (omega (arith, long))) claim whole).long
-      )
+  | inr some ↦ (words_there S R h xs k w (omega (arith, some)) enough claim).long
 ]
+
+-- and no word before the first of these is another
+pub written_beside : (S R : Segments) (h : Start) (xs : List ℕ) (k : ℕ) → WritesBytes S R h xs → length xs ≤ 8 * k → h.at + k ≤ length (segment S h.segment) →
+    (v r : ℕ) → (v ≡ h.segment → 0 < length xs → r < h.at) → word_at R v r ≡ word_at S v r
+written_beside S R h xs k w enough claim v r before = elim (cases_eq (length xs) 0) [
+  | inl e ↦ ap (λ T. word_at T v r) (w.nothing e)
+  | inr some ↦ (words_there S R h xs k w (omega (arith, some)) enough claim).but v r (none (omega (arith, some)))
+]
+  where
+    none : 0 < length xs → times (row h.segment h.at k ∷ []) v r ≡ 0
+    none some = elim (cases_eq (times (row h.segment h.at k ∷ []) v r) 0) [
+      | inl z ↦ z
+      | inr held ↦ (let (there, from, below) = in_row h.segment h.at k v r (omega (arith, held)) in absurd (omega (arith, from, before there some)))
+    ]
 
 -- some bytes over the first ones of a list of zero bytes
 some_bytes : (S R : Segments) (s p n : ℕ) (h : Start) (xs : List ℕ) → WritesBytes S R h xs → IsStored S s p (Flat 2 (zeros n)) → LeadsTo S s p h → 0 < length xs → length xs ≤ n →

@@ -3,7 +3,7 @@ use Rattle.std.specs.Prelude.{◌≡◌, ℕ, ◌<◌, ◌≤◌, ◌⊎◌, len
 use Rattle.capnp_format.specs.Segments.{Segments, segment, word_at}
 use Rattle.capnp_format.specs.Tree.{Tree}
 use Rattle.capnp_format.specs.Means.{Means}
-use Rattle.capnp_format.specs.Forest.{times, IsTidy}
+use Rattle.capnp_format.specs.Forest.{times, cover, IsTidy}
 use Rattle.capnp_making.specs.Path.{extent}
 
 -- the place means t, and holds no word twice and none outside its segment
@@ -29,3 +29,7 @@ pub record IsReplaced (S R : Segments) (s p : ℕ) (t u : Tree) : Type 0 where
 -- Whatever value the place has in S, in R it has u in its stead.
 abbrev pub Puts : Segments → Segments → ℕ → ℕ → Tree → Type 0
 Puts S R s p u = (t : Tree) → IsStored S s p t → IsReplaced S R s p t u
+
+-- The words below a place that its value in S used are zero in R: what the place has in R uses none of them again.
+abbrev pub ZeroesOld : Segments → Segments → ℕ → ℕ → Type 0
+ZeroesOld S R s p = (t : Tree) → IsStored S s p t → (v r : ℕ) → 0 < times (cover S s p t) v r → word_at R v r ≡ 0

@@ -9,7 +9,7 @@ ghost use Rattle.capnp_arena.specs.View.{KeepsLimits};
 ghost use Rattle.capnp_making.specs.Made.{zeros};
 ghost use Rattle.capnp_making.specs.Memory.{HasRoom, KeepsMemory, TakesWords, IsRefusedFor};
 ghost use Rattle.capnp_making.specs.Overwritten.{HoldsBytes, bytes_over};
-ghost use Rattle.capnp_making.specs.Stored.{Puts};
+ghost use Rattle.capnp_making.specs.Stored.{Puts, ZeroesOld};
 ghost use Rattle.capnp_making.specs.Zeroed.{IsPruned};
 
 use crate::making::{Start, init_list};
@@ -35,6 +35,7 @@ pub fn set_data<A: BuilderArena>(
     ensures granted { OnOk result (KeepsMemory (A.view arena.old) (A.view arena.new)) }
     ensures taken { OnOk result (TakesWords (A.view arena.old) (A.view arena.new) id (words_for 2 (length from.now))) }
     ensures named { IfErr result (IsRefusedFor (A.view arena.old) (A.view arena.new) (words_for 2 (length from.now))) }
+    ensures zeroed { OnOk result (ZeroesOld (A.view arena.old).words (A.view arena.new).words id at) }
     ensures refused { OnErr result (Puts (A.view arena.old).words (A.view arena.new).words id at Null) }
     ensures only { OnErr result (IsPruned (A.view arena.old).words (A.view arena.new).words) }
 {
@@ -60,6 +61,7 @@ pub fn set_text<A: BuilderArena>(
     ensures granted { OnOk result (KeepsMemory (A.view arena.old) (A.view arena.new)) }
     ensures taken { OnOk result (TakesWords (A.view arena.old) (A.view arena.new) id (words_for 2 (length from.now + 1))) }
     ensures named { IfErr result (IsRefusedFor (A.view arena.old) (A.view arena.new) (words_for 2 (length from.now + 1))) }
+    ensures zeroed { OnOk result (ZeroesOld (A.view arena.old).words (A.view arena.new).words id at) }
     ensures refused { OnErr result (Puts (A.view arena.old).words (A.view arena.new).words id at Null) }
     ensures only { OnErr result (IsPruned (A.view arena.old).words (A.view arena.new).words) }
 {
@@ -84,6 +86,7 @@ fn set_bytes<A: BuilderArena>(
     ensures granted { OnOk result (KeepsMemory (A.view arena.old) (A.view arena.new)) }
     ensures taken { OnOk result (TakesWords (A.view arena.old) (A.view arena.new) id (words_for 2 count)) }
     ensures named { IfErr result (IsRefusedFor (A.view arena.old) (A.view arena.new) (words_for 2 count)) }
+    ensures zeroed { OnOk result (ZeroesOld (A.view arena.old).words (A.view arena.new).words id at) }
     ensures refused { OnErr result (Puts (A.view arena.old).words (A.view arena.new).words id at Null) }
     ensures only { OnErr result (IsPruned (A.view arena.old).words (A.view arena.new).words) }
 {

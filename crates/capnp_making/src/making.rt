@@ -13,7 +13,7 @@ ghost use Rattle.capnp_arena.specs.View.{KeepsLimits};
 ghost use Rattle.capnp_making.specs.Made.{IsShape, IsFew, AsksWords, zero_struct, zero_structs, zero_list, list_words, IsMadeAt, LeadsTo, LieFrom};
 ghost use Rattle.capnp_making.specs.Memory.{HasRoom, KeepsMemory, TakesWords, StandsBehind, IsRefusedFor};
 ghost use Rattle.capnp_making.specs.Near.{HasOwnRoom, HasStructRoom, HasStructsRoom, StartsBehind, shape_word, with_shape, with_struct, with_list, with_struct_list};
-ghost use Rattle.capnp_making.specs.Stored.{IsReplaced, Puts};
+ghost use Rattle.capnp_making.specs.Stored.{IsReplaced, Puts, ZeroesOld};
 ghost use Rattle.capnp_making.specs.Zeroed.{IsPruned};
 ghost use Rattle.capnp_arena.specs.Written.{with_word};
 
@@ -183,6 +183,7 @@ pub fn init_struct<A: BuilderArena>(
     ensures taken { OnOk result (TakesWords (A.view arena.old) (A.view arena.new) id (size.data_words + size.pointers)) }
     ensures behind { IfOk result (StandsBehind (A.view arena.old) id (size.data_words + size.pointers)) }
     ensures named { IfErr result (IsRefusedFor (A.view arena.old) (A.view arena.new) (size.data_words + size.pointers)) }
+    ensures zeroed { OnOk result (ZeroesOld (A.view arena.old).words (A.view arena.new).words id at) }
     ensures refused { OnErr result (Puts (A.view arena.old).words (A.view arena.new).words id at Null) }
     ensures only { OnErr result (IsPruned (A.view arena.old).words (A.view arena.new).words) }
 {
@@ -243,6 +244,7 @@ pub fn init_list<A: BuilderArena>(
     ensures taken { OnOk result (TakesWords (A.view arena.old) (A.view arena.new) id (list_words (size_number size) count)) }
     ensures behind { IfOk result (StandsBehind (A.view arena.old) id (list_words (size_number size) count)) }
     ensures named { IfErr result (IsRefusedFor (A.view arena.old) (A.view arena.new) (list_words (size_number size) count)) }
+    ensures zeroed { OnOk result (ZeroesOld (A.view arena.old).words (A.view arena.new).words id at) }
     ensures refused { OnErr result (Puts (A.view arena.old).words (A.view arena.new).words id at Null) }
     ensures only { OnErr result (IsPruned (A.view arena.old).words (A.view arena.new).words) }
 {
@@ -321,6 +323,7 @@ pub fn init_struct_list<A: BuilderArena>(
     ensures taken { OnOk result (TakesWords (A.view arena.old) (A.view arena.new) id (1 + count * (size.data_words + size.pointers))) }
     ensures behind { IfOk result (StandsBehind (A.view arena.old) id (1 + count * (size.data_words + size.pointers))) }
     ensures named { IfErr result (IsRefusedFor (A.view arena.old) (A.view arena.new) (1 + count * (size.data_words + size.pointers))) }
+    ensures zeroed { OnOk result (ZeroesOld (A.view arena.old).words (A.view arena.new).words id at) }
     ensures refused { OnErr result (Puts (A.view arena.old).words (A.view arena.new).words id at Null) }
     ensures only { OnErr result (IsPruned (A.view arena.old).words (A.view arena.new).words) }
 {

@@ -2,8 +2,21 @@ use Rattle.std.proofs.Common.{ℕ, ap, arith}
 use Rattle.capnp_format.specs.Numbers.{words_for}
 use Rattle.capnp_format.specs.Segments.{Segments}
 use Rattle.capnp_making.proofs.BytesWritten.{WritesBytes, bytes_written, written_lengths}
+use Rattle.capnp_making.proofs.OldWords.{old_beside}
 use Rattle.capnp_making.proofs.Taken.{takes_written}
 use Rattle.capnp_making.proofs.bytes.set_bytes.Goals as goal
+
+-- The bytes are written from where the list starts.
+writes : (g : _) (c : goal.After-write_bytes g) → WritesBytes (g.A.BuilderArena.view c.init_list.new.arena).words (g.A.BuilderArena.view c.write_bytes.new.arena).words c.in-Ok.start c.args.from.now
+writes g c = record {
+  old = g.A.ReaderArena.segments c.init_list.new.arena;
+  new = g.A.ReaderArena.segments c.write_bytes.new.arena;
+  old_read = g.met.A.BuilderArena.read c.init_list.new.arena;
+  new_read = g.met.A.BuilderArena.read c.write_bytes.new.arena;
+  small = λ i. omega (arith, c.type_inv.from i);
+  nothing = λ e. ap (λ a. (g.A.BuilderArena.view a).words) (c.write_bytes.ensures.nothing e);
+  written = λ some holds. c.write_bytes.ensures.written some;
+}
 
 -- The list is made of zero bytes, and then its first ones are written.
 pub returns-in-Ok-clause-made : goal.returns-in-Ok-clause-made
@@ -11,16 +24,7 @@ returns-in-Ok-clause-made g c =
     let S : Segments = (g.A.BuilderArena.view c.args.arena.now).words in
     let M : Segments = (g.A.BuilderArena.view c.init_list.new.arena).words in
     let R : Segments = (g.A.BuilderArena.view c.write_bytes.new.arena).words in
-    let writes : WritesBytes M R c.in-Ok.start c.args.from.now = record {
-      old = g.A.ReaderArena.segments c.init_list.new.arena;
-      new = g.A.ReaderArena.segments c.write_bytes.new.arena;
-      old_read = g.met.A.BuilderArena.read c.init_list.new.arena;
-      new_read = g.met.A.BuilderArena.read c.write_bytes.new.arena;
-      small = λ i. omega (arith, c.type_inv.from i);
-      nothing = λ e. ap (λ a. (g.A.BuilderArena.view a).words) (c.write_bytes.ensures.nothing e);
-      written = λ some holds. c.write_bytes.ensures.written some;
-    } in
-    λ t stored. bytes_written S M R c.args.id c.args.at c.args.count t c.in-Ok.start c.args.from.now writes (c.in-Ok.ensures.made t stored) c.in-Ok.ensures.start c.requires.enough
+    λ t stored. bytes_written S M R c.args.id c.args.at c.args.count t c.in-Ok.start c.args.from.now (writes g c) (c.in-Ok.ensures.made t stored) c.in-Ok.ensures.start c.requires.enough
 
 -- No segment is longer or shorter for these.
 pub returns-in-Ok-clause-taken : goal.returns-in-Ok-clause-taken
@@ -28,14 +32,11 @@ returns-in-Ok-clause-taken g c =
     let M : Segments = (g.A.BuilderArena.view c.init_list.new.arena).words in
     let R : Segments = (g.A.BuilderArena.view c.write_bytes.new.arena).words in
     let k : ℕ = words_for 2 c.args.count in
-    let writes : WritesBytes M R c.in-Ok.start c.args.from.now = record {
-      old = g.A.ReaderArena.segments c.init_list.new.arena;
-      new = g.A.ReaderArena.segments c.write_bytes.new.arena;
-      old_read = g.met.A.BuilderArena.read c.init_list.new.arena;
-      new_read = g.met.A.BuilderArena.read c.write_bytes.new.arena;
-      small = λ i. omega (arith, c.type_inv.from i);
-      nothing = λ e. ap (λ a. (g.A.BuilderArena.view a).words) (c.write_bytes.ensures.nothing e);
-      written = λ some holds. c.write_bytes.ensures.written some;
-    } in
-    let long = written_lengths M R c.in-Ok.start c.args.from.now k writes (omega (arith, c.requires.enough)) c.in-Ok.ensures.inside.1 in
+    let long = written_lengths M R c.in-Ok.start c.args.from.now k (writes g c) (omega (arith, c.requires.enough)) c.in-Ok.ensures.inside.1 in
     takes_written _ _ _ c.args.id k c.in-Ok.ensures.taken long.segments long.words
+
+-- They stand behind all words that were there.
+pub returns-in-Ok-clause-zeroed : goal.returns-in-Ok-clause-zeroed
+returns-in-Ok-clause-zeroed g c =
+    let k : ℕ = words_for 2 c.args.count in
+    old_beside (g.A.BuilderArena.view c.args.arena.now) _ _ c.args.id c.args.at k c.in-Ok.start c.args.from.now c.in-Ok.ensures.zeroed c.in-Ok.ensures.behind (writes g c) (omega (arith, c.requires.enough)) c.in-Ok.ensures.inside.1

@@ -7,6 +7,7 @@ use Rattle.capnp_making.proofs.Memory.{room_left}
 use Rattle.capnp_making.proofs.Replaced.{replaced_again}
 use Rattle.capnp_making.proofs.Placed.{zeroed_replaced}
 use Rattle.capnp_making.proofs.Taken.{takes_after, stands_after}
+use Rattle.capnp_making.proofs.OldWords.{old_zeroed}
 use Rattle.capnp_making.proofs.Outcomes.{if_ok_so, on_made_so, on_err_so}
 use Rattle.capnp_making.proofs.making.init_struct.Goals as goal
 
@@ -42,3 +43,6 @@ returns-clause-behind g c =
     let old : View = g.A.BuilderArena.view c.args.arena.now in
     let mid : View = g.A.BuilderArena.view c.zero_object.new.arena in
     if_ok_so c.make_struct.result _ _ c.make_struct.ensures.behind (λ h. stands_after old mid c.args.id (c.args.size.data_words + c.args.size.pointers) h c.zero_object.ensures.limits c.zero_object.ensures.pruned)
+
+pub returns-clause-zeroed : goal.returns-clause-zeroed
+returns-clause-zeroed g c = on_made_so c.make_struct.result _ _ c.make_struct.ensures.made (old_zeroed _ _ _ c.args.id c.args.at _ c.zero_object.ensures.zeroed)
