@@ -1,5 +1,5 @@
 -- What a struct of a message that is built has of another struct's content ("Structs").
-use Rattle.std.specs.Prelude.{◌≡◌, ℕ, zero, suc, ◌+◌, ◌-◌, ◌*◌, ◌/◌, ◌%◌, ◌^◌, ◌<◌, List, slice_index, min, false}
+use Rattle.std.specs.Prelude.{◌≡◌, ℕ, zero, suc, ◌+◌, ◌-◌, ◌*◌, ◌/◌, ◌%◌, ◌^◌, ◌<◌, List, Result, slice_index, min, false}
 use Rattle.capnp_words.specs.Meter.{Meter}
 use Rattle.capnp_format.specs.Segments.{Segments, word_at}
 use Rattle.capnp_format.specs.Tree.{Null}
@@ -12,7 +12,7 @@ use Rattle.capnp_readers.specs.declared.readers.struct_reader.StructReader.{Stru
 use Rattle.capnp_words.specs.declared.error.ErrorKind.{ErrorKind}
 use Rattle.capnp_readers.specs.Sizes.{pointers_read}
 use Rattle.capnp_copies.specs.Changes.{Change, CopiesChildren, change}
-use Rattle.capnp_copies.specs.Growth.{TakesAtMost}
+use Rattle.capnp_copies.specs.Growth.{TakesForPointers}
 use Rattle.capnp_copies.specs.StructValues.{CopiesFirst}
 
 -- Byte number i of content of so many bits: the bits behind these are zero.
@@ -61,5 +61,5 @@ module _ {A : Type 0} (g : Ghosts A) where
   StopsAtContent value place c k = (mid : View) × TakesData value place c.old mid × CopiesFirst (pointers_read g value) (both_have value place) (record c { old = mid }) k
 
   -- Words are taken for the copies of these pointers alone.
-  abbrev pub TakesForContent : StructReader A g → StructPlace → Change → Type 0
-  TakesForContent value place c = TakesAtMost (pointers_read g value).charging 0 (both_have value place) c
+  abbrev pub TakesForContent : {B E : Type 0} → Result B E → StructReader A g → StructPlace → Change → Type 0
+  TakesForContent result value place c = TakesForPointers result (pointers_read g value) (both_have value place) c

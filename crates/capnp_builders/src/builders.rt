@@ -631,8 +631,9 @@ impl<'a, A: BuilderArena> PointerBuilder<'a, A> {
     /// words and one more. That comes only where the words don't fit the segment.
     ///
     /// After a refusal the pointer is null, the words that were taken are zero and stay allocated, and
-    /// what was charged stays charged. Refused or not, at most as many words are taken as were charged,
-    /// and a landing pad for each pointer that was followed.
+    /// what was charged stays charged. At most as many words are taken as reading the value costs, or what
+    /// was read of it before the object where a refused copy breaks off, and a landing pad for each pointer
+    /// that was followed.
     pub fn copy_from<B: ReaderArena>(
         &mut self,
         from: PointerReader<'_, B>,
@@ -647,7 +648,7 @@ impl<'a, A: BuilderArena> PointerBuilder<'a, A> {
         ensures alone { IsFresh (built A.view self.old) → IfOk result (λ _. FillsMessage (reading B.ReaderArena from.entry) (copying A.view canonicalize self.old self.new lim.old lim.new)) }
         ensures fits { CopyFits canonicalize (reading B.ReaderArena from.entry) lim.old (built A.view self.old) → IsOk result }
         ensures refused { IfErr result (RefusesValue (reading B.ReaderArena from.entry) (copying A.view canonicalize self.old self.new lim.old lim.new)) }
-        ensures taken { TakesAtMost (reading B.ReaderArena from.entry).charging 0 1 (copying A.view canonicalize self.old self.new lim.old lim.new) }
+        ensures taken { TakesAtMost result (reading B.ReaderArena from.entry) (copying A.view canonicalize self.old self.new lim.old lim.new) }
         ensures spent { OnErr result (BreaksOff (form_of canonicalize) (reading B.ReaderArena from.entry) lim.old lim.new) }
         ensures cleared { OnErr result (Becomes (built A.view self.old) (built A.view self.new) Null) }
         ensures there { IsThere (built A.view self.new) }
@@ -690,7 +691,7 @@ impl<'a, A: BuilderArena> PointerBuilder<'a, A> {
         ensures stands { OnOk result (OnceCleared (StructStands B.ReaderArena value.now) (copying A.view canonicalize self.old self.new lim.old lim.new)) }
         ensures fits { StructFits B.ReaderArena value.now (copying A.view canonicalize self.old self.new lim.old lim.new) → IsOk result }
         ensures refused { IfErr result (RefusesStruct B.ReaderArena value.now (copying A.view canonicalize self.old self.new lim.old lim.new)) }
-        ensures taken { TakesForStruct B.ReaderArena value.now (copying A.view canonicalize self.old self.new lim.old lim.new) }
+        ensures taken { TakesForStruct B.ReaderArena result value.now (copying A.view canonicalize self.old self.new lim.old lim.new) }
         ensures spent { OnErr result ((lim.new ≡ lim.old) ⊎ BreaksOffAmong (form_of canonicalize) (pointers_read B.ReaderArena value.now) value.now.pointer_count lim.old lim.new) }
         ensures cleared { OnErr result (Becomes (built A.view self.old) (built A.view self.new) Null) }
         ensures there { IsThere (built A.view self.new) }
@@ -738,7 +739,7 @@ impl<'a, A: BuilderArena> PointerBuilder<'a, A> {
         ensures stands { OnOk result (OnceCleared (ListStands (elements_read B.ReaderArena value.now)) (copying A.view canonicalize self.old self.new lim.old lim.new)) }
         ensures fits { ListFits (elements_read B.ReaderArena value.now) (copying A.view canonicalize self.old self.new lim.old lim.new) → IsOk result }
         ensures refused { IfErr result (RefusesList B.ReaderArena value.now (copying A.view canonicalize self.old self.new lim.old lim.new)) }
-        ensures taken { TakesForList B.ReaderArena value.now (copying A.view canonicalize self.old self.new lim.old lim.new) }
+        ensures taken { TakesForList B.ReaderArena result value.now (copying A.view canonicalize self.old self.new lim.old lim.new) }
         ensures spent { OnErr result ((lim.new ≡ lim.old) ⊎ BreaksOffList (form_of canonicalize) (elements_read B.ReaderArena value.now) lim.old lim.new) }
         ensures long { IsTooLong (elements_read B.ReaderArena value.now) → (result ≡ Err (MessageTooLarge (2 ^ 64 - 1))) × (lim.new ≡ lim.old) }
         ensures cleared { OnErr result (Becomes (built A.view self.old) (built A.view self.new) Null) }

@@ -1,5 +1,5 @@
 -- The copy of a struct that is read, from where it is made: its words, its children, and where it stops.
-use Rattle.std.proofs.Common.{◌≡◌, inl, inr, ℕ, ◌+◌, ◌-◌, ◌<◌, ◌≤◌, ◌^◌, Bool, true, false, List, length, take, sym, ap, ◌∙◌, subst, le_trans, arith, length-take, take_all}
+use Rattle.std.proofs.Common.{◌≡◌, inl, inr, ℕ, ◌+◌, ◌-◌, ◌<◌, ◌≤◌, ◌^◌, Bool, true, false, List, length, take, refl, sym, ap, ◌∙◌, subst, le_trans, arith, length-take, take_all}
 use Rattle.capnp_words.specs.declared.error.ErrorKind.{ErrorKind}
 use Rattle.capnp_words.specs.Meter.{Meter}
 use Rattle.capnp_pointers.specs.declared.wire_pointer.StructSize.{StructSize}
@@ -20,6 +20,7 @@ use Rattle.capnp_making.proofs.Memory.{keeps_both, keeps_written, keeps_then_spe
 use Rattle.capnp_making.proofs.WordsPut.{words_put}
 use Rattle.capnp_objects.specs.Outcomes.{ReadsAll}
 use Rattle.capnp_objects.specs.Reading.{Reading, row, words_from}
+use Rattle.capnp_objects.specs.Spending.{pointers_in_all}
 use Rattle.capnp_copies.specs.Changes.{change, CopiesChildren, StopsAtChildren}
 use Rattle.capnp_copies.specs.Forms.{form_of, kept, kept_each}
 use Rattle.capnp_copies.specs.StructValues.{kept_count, CopiesSections, StopsAtSections, SectionsExceed}
@@ -33,14 +34,17 @@ use Rattle.capnp_copies.proofs.TooLarge.{ObjectMade, sections_too_large}
 use Rattle.capnp_copies.proofs.TightObjects.{StructMade, struct_tight}
 use Rattle.capnp_copies.proofs.UsedChildren.{used_children, trim-struct, fill_nulls, null_behind}
 
--- The kept children of a struct were read, and so were all of them; and a struct of them is kept so.
-pub record SectionsKept (b : Bool) (ws : List ℕ) (r : Reading) (q : ℕ) (m m' : Meter) (ts : Trees) : Type 0 where
+-- The kept children of a struct were read, and so were all of them, at a cost that with the pointers is n; and a struct of them is
+-- kept so.
+pub record SectionsKept (b : Bool) (ws : List ℕ) (r : Reading) (q : ℕ) (m m' : Meter) (ts : Trees) (n : ℕ) : Type 0 where
   pub all : Trees
   pub counts : count all ≡ q
   pub are_read : ReadsAll (form_of b) r m m' all
   pub form : kept b (Struct ws all) ≡ Struct (take (kept_count b ws) ws) (kept_each b ts)
+  pub costs : are_read.cost + pointers_in_all all ≡ n
 
-pub sections_kept : (b : Bool) (ws : List ℕ) (r : Reading) (q : ℕ) (m m' : Meter) (ts : Trees) → r.at + q ≤ length (row r) → count ts ≡ kept_count b (words_from r q) → ReadsAll (form_of b) r m m' ts → SectionsKept b ws r q m m' ts
+pub sections_kept : (b : Bool) (ws : List ℕ) (r : Reading) (q : ℕ) (m m' : Meter) (ts : Trees) → r.at + q ≤ length (row r) → count ts ≡ kept_count b (words_from r q) → (read : ReadsAll (form_of b) r m m' ts) →
+    SectionsKept b ws r q m m' ts (read.cost + pointers_in_all ts)
 sections_kept true ws r q m m' ts inside len all =
     let few : count ts ≤ q = omega (arith, kept_count-le true (words_from r q), length_words r.segments r.segment r.at q inside, len) in
     let f = fill_nulls q all few (λ i a b. null_behind r q i (omega (arith, len, a)) b) in
@@ -51,9 +55,10 @@ sections_kept true ws r q m m' ts inside len all =
       form =
           trim-struct ws f.all ∙ ap (λ i. Struct (take (used_words ws) ws) (trim_each (take_trees i f.all))) (used_children r f.all f.are_read.cost inside f.counts f.are_read.means ∙ sym len)
           ∙ ap (λ us. Struct (take (used_words ws) ws) (trim_each us)) f.first;
+      costs = f.costs;
     }
 sections_kept false ws r q m m' ts inside len all =
-    record { all = ts; counts = len ∙ length_words r.segments r.segment r.at q inside; are_read = all; form = ap (λ xs. Struct xs ts) (sym (take_all (length ws) ws (omega arith))) }
+    record { all = ts; counts = len ∙ length_words r.segments r.segment r.at q inside; are_read = all; form = ap (λ xs. Struct xs ts) (sym (take_all (length ws) ws (omega arith))); costs = refl }
 
 -- A struct is made and starts at h, and the data words that are kept are written.
 pub record SectionsBegun (b : Bool) (ws : List ℕ) (r : Reading) (q : ℕ) (least : StructSize) (s p : ℕ) (old made mid : View) (h : Start) : Type 0 where

@@ -39,7 +39,7 @@ use Rattle.capnp_copies.proofs.StructsCopied.{null_written}
 use Rattle.capnp_copies.proofs.ObjectsRead.{inside, stopped_plain, capability_refused, capability_breaks_off, flat_held}
 
 -- what a plain reading is refused by, the other is refused by too
-stopped_in : {r : Reading} {m m' : Meter} {k : ErrorKind} (b : Bool) → Stopped plain r m m' k → Stopped (form_of b) r m m' k
+pub stopped_in : {r : Reading} {m m' : Meter} {k : ErrorKind} (b : Bool) → Stopped plain r m m' k → Stopped (form_of b) r m m' k
 stopped_in true h = stopped_plain h
 stopped_in false h = h
 
@@ -64,7 +64,7 @@ null_copied {r} {b} {s} {p} {v} {m} {m'} object place null = record {
   stands = subst (λ t. Fits (change b s p v v m m') (word_count t) → IsCopied v.words v.words s p t) (sym (kept_null b)) (λ fits. null_written v.words s p null);
 }
 
-capability_read : {r : Reading} (m m' : Meter) (i : ℕ) → IsObject r m m' (ObjectCapability i) → Reads plain r m m' (Capability i)
+unfoldable pub capability_read : {r : Reading} (m m' : Meter) (i : ℕ) → IsObject r m m' (ObjectCapability i) → Reads plain r m m' (Capability i)
 capability_read m m' i (a, l, low, e, covers, spent) =
     record { cost = a.pads; means = (a, l, (let f : a.word ≡ capability_word i = omega (arith, low, e) in f), refl); takes = λ f. absurd f; covers = covers; spent = spent }
 

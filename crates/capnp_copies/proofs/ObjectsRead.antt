@@ -45,7 +45,7 @@ stopped_plain {r} {k = k} (broken a f h paid) = broken a f (still_refused r.segm
 stopped_plain (claim_exceeds a f level object claims short paid named) = claim_exceeds a f level object claims short paid named
 stopped_plain (count_exceeds a f meets short paid named) = count_exceeds a f meets short paid named
 
-capability_stopped : {r : Reading} (m m' : Meter) (i : ℕ) → IsObject r m m' (ObjectCapability i) → Stopped canonical r m m' CannotCreateACanonicalMessageWithACapability
+pub capability_stopped : {r : Reading} (m m' : Meter) (i : ℕ) → IsObject r m m' (ObjectCapability i) → Stopped canonical r m m' CannotCreateACanonicalMessageWithACapability
 capability_stopped {r} m m' i (a, l, low, e, covers, spent) =
     let none : a.pads ≡ a.pads + 0 = omega arith in
     broken a (leads_to r a l) (tt, low) (record { covers = subst (Affords r.charging m) none covers; spent = spent ∙ ap (λ g. after r.charging m g 1) none })

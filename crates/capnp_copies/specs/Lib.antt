@@ -4,6 +4,7 @@ pub mod Copies
 pub mod Rooms
 pub mod Widths
 pub mod Changes
+pub mod Costs
 pub mod Growth
 pub mod ListValues
 pub mod StructValues

@@ -43,8 +43,9 @@ pub use struct_value::copy_struct_value;
 /// the pointer. As it stands, these are all words of the sections and elements; in canonical form, the
 /// trimmed ones.
 ///
-/// A copy, refused or not, takes at most as many words as it is granted to read, and a landing pad for
-/// each pointer that it follows.
+/// A copy takes at most as many words as reading the value costs, and a landing pad for each pointer that
+/// is followed; a refused one, for what was read before the object where it breaks off. So it is without
+/// a budget too, and where nothing is charged.
 ///
 /// A refusal of the arena is `AllocationFailed` or `MessageTooLarge`, and comes only where the words
 /// don't fit behind those of the pointer's segment; a capability is
@@ -67,7 +68,7 @@ pub fn copy_value<A: BuilderArena, B: ReaderArena>(
     ensures refused { IfErr result (RefusesValue (reading B.ReaderArena from.entry) (change canonicalize id at (A.view arena.old) (A.view arena.new) lim.old lim.new)) }
     ensures cleared { OnErr result (IsReplaced (A.view arena.old).words (A.view arena.new).words id at Null Null) }
     ensures spent { OnErr result (BreaksOff (form_of canonicalize) (reading B.ReaderArena from.entry) lim.old lim.new) }
-    ensures taken { TakesAtMost (reading B.ReaderArena from.entry).charging 0 1 (change canonicalize id at (A.view arena.old) (A.view arena.new) lim.old lim.new) }
+    ensures taken { TakesAtMost result (reading B.ReaderArena from.entry) (change canonicalize id at (A.view arena.old) (A.view arena.new) lim.old lim.new) }
     ensures granted { OnOk result (KeepsMemory (A.view arena.old) (A.view arena.new)) }
     ensures memory { OnErr result (SpendsMemory (A.view arena.old) (A.view arena.new)) }
 {
@@ -94,7 +95,7 @@ fn copy_object<A: BuilderArena, B: ReaderArena>(
     requires null { word_at (A.view arena.old).words id at ≡ 0 }
     ensures copied { IfOk result (λ _. CopiesValue (reading B.ReaderArena from.entry) (change canonicalize id at (A.view arena.old) (A.view arena.new) lim.old lim.new)) }
     ensures refused { IfErr result (StopsAtValue (reading B.ReaderArena from.entry) (change canonicalize id at (A.view arena.old) (A.view arena.new) lim.old lim.new)) }
-    ensures taken { TakesAtMost (reading B.ReaderArena from.entry).charging 0 1 (change canonicalize id at (A.view arena.old) (A.view arena.new) lim.old lim.new) }
+    ensures taken { TakesAtMost result (reading B.ReaderArena from.entry) (change canonicalize id at (A.view arena.old) (A.view arena.new) lim.old lim.new) }
 {
     let object = match from.source.read_object(from.place, from.nesting_limit, lim) {
         Ok(object) => object,

@@ -26,11 +26,11 @@ pointers_in-with_last no_trees u = omega arith
 pointers_in-with_last (tree t ts) u = omega (arith, pointers_in-with_last ts u)
 
 -- nothing yet
-pub read_none : (form : Form) (r : Reading) (m : Meter) → ReadsAll form r m m no_trees
+unfoldable pub read_none : (form : Form) (r : Reading) (m : Meter) → ReadsAll form r m m no_trees
 read_none form r m = record { cost = 0; means = refl; takes = λ e. refl; covers = affords_none r.charging m; spent = sym (after_none r.charging m) }
 
 -- one child more
-pub read_more : {form : Form} {r : Reading} {m m' m'' : Meter} {ts : Trees} {u : Tree} → ReadsAll form r m m' ts → Reads form (behind r (count ts)) m' m'' u → ReadsAll form r m m'' (with_last ts u)
+unfoldable pub read_more : {form : Form} {r : Reading} {m m' m'' : Meter} {ts : Trees} {u : Tree} → ReadsAll form r m m' ts → Reads form (behind r (count ts)) m' m'' u → ReadsAll form r m m'' (with_last ts u)
 read_more {form} {r} {m} {m'} {m''} {ts} {u} all one = record {
   cost = all.cost + one.cost;
   means = means_more r.segments r.levels r.segment r.at ts u all.cost one.cost all.means one.means;
@@ -100,14 +100,14 @@ pointers_in-with_last_element no_elements ws ts = omega arith
 pointers_in-with_last_element (element vs us es) ws ts = omega (arith, pointers_in-with_last_element es ws ts)
 
 -- the element number j of elements of a size: its words, and what its children cost
-record ElementAt (r : Reading) (size : StructSize) (j : ℕ) (ws : List ℕ) (ts : Trees) : Type 0 where
-  long : length ws ≡ size.data_words
-  len : count ts ≡ size.pointers
-  words : HasWords r.segments r.segment (r.at + j * (size.data_words + size.pointers)) ws
-  cost : ℕ
-  means : MeanThere (pointers_of r size j) ts cost
+pub record ElementAt (r : Reading) (size : StructSize) (j : ℕ) (ws : List ℕ) (ts : Trees) : Type 0 where
+  pub long : length ws ≡ size.data_words
+  pub len : count ts ≡ size.pointers
+  pub words : HasWords r.segments r.segment (r.at + j * (size.data_words + size.pointers)) ws
+  pub cost : ℕ
+  pub means : MeanThere (pointers_of r size j) ts cost
 
-elements_more : {r : Reading} {size : StructSize} {ws : List ℕ} {ts : Trees} (es : Elements) (k : ℕ) (last : ElementAt r size (element_count es) ws ts) → ElementsMean r size es k →
+pub elements_more : {r : Reading} {size : StructSize} {ws : List ℕ} {ts : Trees} (es : Elements) (k : ℕ) (last : ElementAt r size (element_count es) ws ts) → ElementsMean r size es k →
     ElementsMean r size (with_last_element es ws ts) (k + last.cost)
 elements_more {r} {size} {ws} {ts} no_elements k last h = (
   last.cost,
@@ -133,11 +133,11 @@ elements_more {r} {size} {ws} {ts} (element vs us es) k last (a, b, long, len, h
     (a, b + last.cost, long, len, has, first, elements_more {r = behind (behind r d) q} {size = size} {ws = ws} {ts = ts} es b last' rest, omega arith)
 
 -- no element yet
-pub read_no_element : (form : Form) (r : Reading) (size : StructSize) (m : Meter) → ReadsElements form r size m m no_elements
+unfoldable pub read_no_element : (form : Form) (r : Reading) (size : StructSize) (m : Meter) → ReadsElements form r size m m no_elements
 read_no_element form r size m = record { cost = 0; means = refl; takes = λ e. refl; covers = affords_none r.charging m; spent = sym (after_none r.charging m) }
 
 -- one element more, its children being read
-pub read_element : {form : Form} {r : Reading} {size : StructSize} {m m' m'' : Meter} {es : Elements} {ts : Trees} → ReadsElements form r size m m' es →
+unfoldable pub read_element : {form : Form} {r : Reading} {size : StructSize} {m m' m'' : Meter} {es : Elements} {ts : Trees} → ReadsElements form r size m m' es →
     r.at + element_count es * (size.data_words + size.pointers) + size.data_words ≤ length (segment r.segments r.segment) → count ts ≡ size.pointers → ReadsAll form (pointers_of r size (element_count es)) m' m'' ts →
     ReadsElements form r size m m'' (with_last_element es (words_at r.segments r.segment (r.at + element_count es * (size.data_words + size.pointers)) size.data_words) ts)
 read_element {form} {r} {size} {m} {m'} {m''} {es} {ts} all fits len one =

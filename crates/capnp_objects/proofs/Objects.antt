@@ -17,7 +17,7 @@ use Rattle.capnp_format.proofs.Digits.{length-digits}
 use Rattle.capnp_format.proofs.Meanings.{struct_meaning, flat_meaning, pointers_meaning}
 use Rattle.capnp_objects.proofs.Budgets.{after_none, affords_none, paid_both, paid_own, paid_all, paid_elements}
 
-pub read_null : {form : Form} {r : Reading} (m : Meter) → word_of r ≡ 0 → Reads form r m m Null
+unfoldable pub read_null : {form : Form} {r : Reading} (m : Meter) → word_of r ≡ 0 → Reads form r m m Null
 read_null {form} {r} m z = record { cost = 0; means = (z, refl); takes = λ e. refl; covers = affords_none r.charging m; spent = sym (after_none r.charging m) }
 
 pub own_struct : (S : Segments) (a : Target) → kind a.word ≡ 0 → own S a ≡ a.pads + (data_words a.word + pointer_count a.word)
@@ -33,7 +33,7 @@ own_pointers S a z six = omega (arith, claim_list a.word 6 z six, extra_list S a
 pub own_structs : (S : Segments) (a : Target) → kind a.word ≡ 1 → element_size a.word ≡ 7 → own S a ≡ a.pads + (list_count a.word + 1) + count_cost (data_words (tag S a) + pointer_count (tag S a)) (offset_bits (tag S a))
 own_structs S a z seven = ap₂ (λ i j. a.pads + i + j) (claim_list a.word 7 z seven) (extra_list S a 7 z seven)
 
-pub read_struct : {form : Form} {r : Reading} {m m' m'' : Meter} {a : Target} {ts : Trees} → Entered r m m' a → kind a.word ≡ 0 → count ts ≡ pointer_count a.word →
+unfoldable pub read_struct : {form : Form} {r : Reading} {m m' m'' : Meter} {a : Target} {ts : Trees} → Entered r m m' a → kind a.word ≡ 0 → count ts ≡ pointer_count a.word →
     ReadsAll form (child_at r a (pred r.levels) (a.start + data_words a.word)) m' m'' ts → Reads form r m m'' (Struct (words_at r.segments a.segment a.start (data_words a.word)) ts)
 read_struct {form} {r} {m} {m'} {m''} {a} {ts} o z len all =
     let S : Segments = r.segments in
@@ -51,7 +51,7 @@ read_struct {form} {r} {m} {m'} {m''} {a} {ts} o z len all =
       spent = paid.spent;
     }
 
-pub read_flat : {form : Form} {r : Reading} {m m' : Meter} {a : Target} → Entered r m m' a → kind a.word ≡ 1 → element_size a.word ≤ 5 →
+unfoldable pub read_flat : {form : Form} {r : Reading} {m m' : Meter} {a : Target} → Entered r m m' a → kind a.word ≡ 1 → element_size a.word ≤ 5 →
     Reads form r m m' (Flat (element_size a.word) (unpacked (element_size a.word) (list_count a.word) (words_at r.segments a.segment a.start (words_for (element_size a.word) (list_count a.word)))))
 read_flat {form} {r} {m} {m'} {a} o z small =
     let S : Segments = r.segments in
@@ -66,7 +66,7 @@ read_flat {form} {r} {m} {m'} {a} o z small =
       spent = o.spent;
     }
 
-pub read_pointers : {form : Form} {r : Reading} {m m' m'' : Meter} {a : Target} {ts : Trees} → Entered r m m' a → kind a.word ≡ 1 → element_size a.word ≡ 6 → count ts ≡ list_count a.word →
+unfoldable pub read_pointers : {form : Form} {r : Reading} {m m' m'' : Meter} {a : Target} {ts : Trees} → Entered r m m' a → kind a.word ≡ 1 → element_size a.word ≡ 6 → count ts ≡ list_count a.word →
     ReadsAll form (child_at r a (pred r.levels) a.start) m' m'' ts → Reads form r m m'' (Pointers ts)
 read_pointers {form} {r} {m} {m'} {m''} {a} {ts} o z six len all =
     let S : Segments = r.segments in
@@ -81,7 +81,7 @@ read_pointers {form} {r} {m} {m'} {m''} {a} {ts} o z six len all =
       spent = paid.spent;
     }
 
-pub read_structs : {form : Form} {r : Reading} {m m' m'' : Meter} {a : Target} {es : Elements} → Entered r m m' a → kind a.word ≡ 1 → element_size a.word ≡ 7 → element_count es ≡ offset_bits (tag r.segments a) →
+unfoldable pub read_structs : {form : Form} {r : Reading} {m m' m'' : Meter} {a : Target} {es : Elements} → Entered r m m' a → kind a.word ≡ 1 → element_size a.word ≡ 7 → element_count es ≡ offset_bits (tag r.segments a) →
     ReadsElements form (child_at r a (pred r.levels) (a.start + 1)) (tag_size r.segments a) m' m'' es → Reads form r m m'' (Structs (data_words (tag r.segments a)) (pointer_count (tag r.segments a)) es)
 read_structs {form} {r} {m} {m'} {m''} {a} {es} o z seven len all =
     let S : Segments = r.segments in

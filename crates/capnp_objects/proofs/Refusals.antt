@@ -72,15 +72,15 @@ stopped_below {form} {r} {m} {first} {mid} {m'} {q} {a} {k} o (in_element es ts 
     stopped_structs o z seven (read_element_stop _ rows fewer (read_stop _ all less (subst (λ y. Unreadable form (child_at r a (pred r.levels) y) mid m' k) e child)))
 
 -- where the reading of one of an object's pointers stops, so does that of the object
-pub stops_struct : {form : Form} {P : Reading → Meter → Meter → Type 0} {r : Reading} {m m' m'' : Meter} {a : Target} → Entered r m m' a → kind a.word ≡ 0 →
+unfoldable pub stops_struct : {form : Form} {P : Reading → Meter → Meter → Type 0} {r : Reading} {m m' m'' : Meter} {a : Target} → Entered r m m' a → kind a.word ≡ 0 →
     StopsAmong form P (child_at r a (pred r.levels) (a.start + data_words a.word)) (pointer_count a.word) m' m'' → StopsWithin form P r m m''
 stops_struct {a = a} o z h = below a (a.start + data_words a.word + count h.first) o (in_struct h.first z h.fewer refl h.are_read) h.stops
 
-pub stops_pointers : {form : Form} {P : Reading → Meter → Meter → Type 0} {r : Reading} {m m' m'' : Meter} {a : Target} → Entered r m m' a → kind a.word ≡ 1 → element_size a.word ≡ 6 →
+unfoldable pub stops_pointers : {form : Form} {P : Reading → Meter → Meter → Type 0} {r : Reading} {m m' m'' : Meter} {a : Target} → Entered r m m' a → kind a.word ≡ 1 → element_size a.word ≡ 6 →
     StopsAmong form P (child_at r a (pred r.levels) a.start) (list_count a.word) m' m'' → StopsWithin form P r m m''
 stops_pointers {a = a} o z six h = below a (a.start + count h.first) o (in_pointers h.first z six h.fewer refl h.are_read) h.stops
 
-pub stops_structs : {form : Form} {P : Reading → Meter → Meter → Type 0} {r : Reading} {m m' m'' : Meter} {a : Target} → Entered r m m' a → kind a.word ≡ 1 → element_size a.word ≡ 7 →
+unfoldable pub stops_structs : {form : Form} {P : Reading → Meter → Meter → Type 0} {r : Reading} {m m' m'' : Meter} {a : Target} → Entered r m m' a → kind a.word ≡ 1 → element_size a.word ≡ 7 →
     StopsAmongElements form P (child_at r a (pred r.levels) (a.start + 1)) (tag_size r.segments a) (offset_bits (tag r.segments a)) m' m'' → StopsWithin form P r m m''
 stops_structs {r = r} {a = a} o z seven h =
     below a ((pointers_of (child_at r a (pred r.levels) (a.start + 1)) (tag_size r.segments a) (element_count h.first)).at + count h.stops.first) o

@@ -103,7 +103,7 @@ impl<'a, A: BuilderArena> StructBuilder<'a, A> {
         requires inside { IsStructPlace (A.view self.old.arena.now).words self.old.place }
         ensures copied { IfOk result (λ _. TakesContent B.ReaderArena value.now self.old.place (pointers_copied self.old.place (A.view self.old.arena.now) (A.view self.new.arena.now) lim.old lim.new)) }
         ensures refused { IfErr result (StopsAtContent B.ReaderArena value.now self.old.place (pointers_copied self.old.place (A.view self.old.arena.now) (A.view self.new.arena.now) lim.old lim.new)) }
-        ensures taken { TakesForContent B.ReaderArena value.now self.old.place (pointers_copied self.old.place (A.view self.old.arena.now) (A.view self.new.arena.now) lim.old lim.new) }
+        ensures taken { TakesForContent B.ReaderArena result value.now self.old.place (pointers_copied self.old.place (A.view self.old.arena.now) (A.view self.new.arena.now) lim.old lim.new) }
         ensures inside { IsStructPlace (A.view self.new.arena.now).words self.new.place }
         ensures same { self.new.arena.ghost_name ≡ self.old.arena.ghost_name }
         ensures place { self.new.place ≡ self.old.place }

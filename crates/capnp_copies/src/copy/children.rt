@@ -3,7 +3,7 @@ ghost use Rattle.std.specs.Prelude.{◌≡◌, ℕ, ◌+◌, ◌<◌, ◌≤◌,
 ghost use Rattle.capnp_format.specs.Segments.{segment, word_at};
 ghost use Rattle.capnp_objects.specs.Reading.{row};
 ghost use Rattle.capnp_readers.specs.Readers.{reading};
-ghost use Rattle.capnp_copies.specs.Growth.{TakesAtMost};
+ghost use Rattle.capnp_copies.specs.Growth.{TakesForPointers};
 ghost use Rattle.capnp_copies.specs.Changes.{change, CopiesChildren, StopsAtChildren};
 
 use capnp_arena::arena::{BuilderArena, ReaderArena};
@@ -29,7 +29,7 @@ pub(crate) fn copy_children<A: BuilderArena, B: ReaderArena>(
     requires inside { from.place.at + count ≤ length (row (reading B.ReaderArena from)) }
     ensures copied { IfOk result (λ _. CopiesChildren (reading B.ReaderArena from.entry) count (change canonicalize id at (A.view arena.old) (A.view arena.new) lim.old lim.new)) }
     ensures refused { IfErr result (StopsAtChildren (reading B.ReaderArena from.entry) count (change canonicalize id at (A.view arena.old) (A.view arena.new) lim.old lim.new)) }
-    ensures taken { TakesAtMost (reading B.ReaderArena from.entry).charging 0 count (change canonicalize id at (A.view arena.old) (A.view arena.new) lim.old lim.new) }
+    ensures taken { TakesForPointers result (reading B.ReaderArena from.entry) count (change canonicalize id at (A.view arena.old) (A.view arena.new) lim.old lim.new) }
 {
     for i in 0..count {
         let child = PointerReader {

@@ -5,7 +5,7 @@ ghost use Rattle.capnp_format.specs.Segments.{segment, word_at};
 ghost use Rattle.capnp_arena.specs.Written.{with_words};
 ghost use Rattle.capnp_objects.specs.Reading.{row};
 ghost use Rattle.capnp_readers.specs.Readers.{reading};
-ghost use Rattle.capnp_copies.specs.Growth.{message_words, TakesAtMost};
+ghost use Rattle.capnp_copies.specs.Growth.{message_words, TakesForElement, TakesForRows};
 ghost use Rattle.capnp_copies.specs.Changes.{change, CopiesElement, StopsAtElement, CopiesElements, StopsAtElements, KeepsPointers};
 
 use super::children::copy_children;
@@ -38,7 +38,7 @@ pub(crate) fn copy_elements<A: BuilderArena, B: ReaderArena>(
     requires pointers { KeepsPointers canonicalize (reading B.ReaderArena from) sizes count }
     ensures copied { IfOk result (λ _. CopiesElements (reading B.ReaderArena from.entry) sizes count (change canonicalize to.segment to.at (A.view arena.old) (A.view arena.new) lim.old lim.new)) }
     ensures refused { IfErr result (StopsAtElements (reading B.ReaderArena from.entry) sizes count (change canonicalize to.segment to.at (A.view arena.old) (A.view arena.new) lim.old lim.new)) }
-    ensures taken { TakesAtMost (reading B.ReaderArena from.entry).charging 0 (count * sizes.kept.pointers) (change canonicalize to.segment to.at (A.view arena.old) (A.view arena.new) lim.old lim.new) }
+    ensures taken { TakesForRows result (reading B.ReaderArena from.entry) sizes.source count (change canonicalize to.segment to.at (A.view arena.old) (A.view arena.new) lim.old lim.new) }
 {
     let source_words = sizes.source.total();
     let kept_words = sizes.kept.total();
@@ -84,7 +84,7 @@ fn copy_element<A: BuilderArena, B: ReaderArena>(
     requires less_pointers { sizes.kept.pointers ≤ sizes.source.pointers }
     ensures copied { IfOk result (λ _. CopiesElement (reading B.ReaderArena from.entry) sizes (change canonicalize to.segment to.at (A.view arena.old) (A.view arena.new) lim.old lim.new)) }
     ensures refused { IfErr result (StopsAtElement (reading B.ReaderArena from.entry) sizes (change canonicalize to.segment to.at (A.view arena.old) (A.view arena.new) lim.old lim.new)) }
-    ensures taken { TakesAtMost (reading B.ReaderArena from.entry).charging 0 sizes.kept.pointers (change canonicalize to.segment to.at (A.view arena.old) (A.view arena.new) lim.old lim.new) }
+    ensures taken { TakesForElement result (reading B.ReaderArena from.entry) sizes (change canonicalize to.segment to.at (A.view arena.old) (A.view arena.new) lim.old lim.new) }
 {
     let data_words = usize::from(sizes.kept.data_words);
     let data = part(from.place.bytes, from.place.at as usize, data_words);

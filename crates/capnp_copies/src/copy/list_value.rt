@@ -50,7 +50,7 @@ pub fn copy_list<A: BuilderArena, B: ReaderArena>(
     ensures cleared { OnErr result (IsReplaced (A.view arena.old).words (A.view arena.new).words id at Null Null) }
     ensures spent { OnErr result ((lim.new ≡ lim.old) ⊎ BreaksOffList (form_of canonicalize) (elements_read B.ReaderArena value.entry) lim.old lim.new) }
     ensures long { IsTooLong (elements_read B.ReaderArena value.entry) → (result ≡ Err (MessageTooLarge (2 ^ 64 - 1))) × (lim.new ≡ lim.old) }
-    ensures taken { TakesForList B.ReaderArena value.entry (change canonicalize id at (A.view arena.old) (A.view arena.new) lim.old lim.new) }
+    ensures taken { TakesForList B.ReaderArena result value.entry (change canonicalize id at (A.view arena.old) (A.view arena.new) lim.old lim.new) }
     ensures granted { OnOk result (KeepsMemory (A.view arena.old) (A.view arena.new)) }
     ensures memory { OnErr result (SpendsMemory (A.view arena.old) (A.view arena.new)) }
 {
@@ -77,7 +77,7 @@ fn copy_elements_read<A: BuilderArena, B: ReaderArena>(
     ensures copied { IfOk result (λ _. CopiesList (elements_read B.ReaderArena value.entry) (change canonicalize id at (A.view arena.old) (A.view arena.new) lim.old lim.new)) }
     ensures refused { IfErr result (StopsAtList (elements_read B.ReaderArena value.entry) (change canonicalize id at (A.view arena.old) (A.view arena.new) lim.old lim.new)) }
     ensures long { IsTooLong (elements_read B.ReaderArena value.entry) → (result ≡ Err (MessageTooLarge (2 ^ 64 - 1))) × (lim.new ≡ lim.old) }
-    ensures taken { TakesForList B.ReaderArena value.entry (change canonicalize id at (A.view arena.old) (A.view arena.new) lim.old lim.new) }
+    ensures taken { TakesForList B.ReaderArena result value.entry (change canonicalize id at (A.view arena.old) (A.view arena.new) lim.old lim.new) }
 {
     let count = value.count;
     if !fits_list_pointer(value.element_size, value.struct_size, count) {

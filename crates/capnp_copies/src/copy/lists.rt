@@ -3,8 +3,7 @@ ghost use Rattle.std.specs.Prelude.{◌≡◌, ◌+◌, ◌*◌, ◌<◌, ◌≤
 ghost use Rattle.capnp_format.specs.Segments.{word_at, IsPlace};
 ghost use Rattle.capnp_objects.specs.Reading.{row};
 ghost use Rattle.capnp_readers.specs.Readers.{reading};
-ghost use Rattle.capnp_pointers.specs.declared.wire_pointer.ElementSize.TheVariants.{InlineComposite};
-ghost use Rattle.capnp_copies.specs.Growth.{TakesAtMost, TakesForElements};
+ghost use Rattle.capnp_copies.specs.Growth.{TakesForObject, TakesForStructs};
 ghost use Rattle.capnp_copies.specs.Changes.{change, CopiesPointers, StopsAtPointers, CopiesStructs, StopsAtStructs, KeepsWidths};
 
 use super::children::copy_children;
@@ -34,7 +33,7 @@ pub(crate) fn copy_pointers<A: BuilderArena, B: ReaderArena>(
     requires inside { from.place.at + count ≤ length (row (reading B.ReaderArena from)) }
     ensures copied { IfOk result (λ _. CopiesPointers (reading B.ReaderArena from.entry) count (change canonicalize id at (A.view arena.old) (A.view arena.new) lim.old lim.new)) }
     ensures refused { IfErr result (StopsAtPointers (reading B.ReaderArena from.entry) count (change canonicalize id at (A.view arena.old) (A.view arena.new) lim.old lim.new)) }
-    ensures taken { TakesAtMost (reading B.ReaderArena from.entry).charging (count + 1) count (change canonicalize id at (A.view arena.old) (A.view arena.new) lim.old lim.new) }
+    ensures taken { TakesForObject result (reading B.ReaderArena from.entry) count (count + 1) (change canonicalize id at (A.view arena.old) (A.view arena.new) lim.old lim.new) }
 {
     match make_list(arena, id, at, ElementSize::Pointer, count) {
         Ok(start) => copy_children(
@@ -70,7 +69,7 @@ pub(crate) fn copy_structs<A: BuilderArena, B: ReaderArena>(
     requires inside { from.place.at + count * (size.data_words + size.pointers) ≤ length (row (reading B.ReaderArena from)) }
     ensures copied { IfOk result (λ _. CopiesStructs (reading B.ReaderArena from.entry) size count (change canonicalize id at (A.view arena.old) (A.view arena.new) lim.old lim.new)) }
     ensures refused { IfErr result (StopsAtStructs (reading B.ReaderArena from.entry) size count (change canonicalize id at (A.view arena.old) (A.view arena.new) lim.old lim.new)) }
-    ensures taken { TakesForElements (reading B.ReaderArena from.entry) InlineComposite size count (change canonicalize id at (A.view arena.old) (A.view arena.new) lim.old lim.new) }
+    ensures taken { TakesForStructs result (reading B.ReaderArena from.entry) size count (change canonicalize id at (A.view arena.old) (A.view arena.new) lim.old lim.new) }
 {
     let kept = kept_widths(from, size, count, canonicalize);
     let sizes = ElementSizes { source: size, kept };

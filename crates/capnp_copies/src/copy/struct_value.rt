@@ -51,7 +51,7 @@ pub fn copy_struct_value<A: BuilderArena, B: ReaderArena>(
     ensures refused { IfErr result (RefusesStruct B.ReaderArena value.entry (change canonicalize id at (A.view arena.old) (A.view arena.new) lim.old lim.new)) }
     ensures cleared { OnErr result (IsReplaced (A.view arena.old).words (A.view arena.new).words id at Null Null) }
     ensures spent { OnErr result ((lim.new ≡ lim.old) ⊎ BreaksOffAmong (form_of canonicalize) (pointers_read B.ReaderArena value.entry) value.entry.pointer_count lim.old lim.new) }
-    ensures taken { TakesForStruct B.ReaderArena value.entry (change canonicalize id at (A.view arena.old) (A.view arena.new) lim.old lim.new) }
+    ensures taken { TakesForStruct B.ReaderArena result value.entry (change canonicalize id at (A.view arena.old) (A.view arena.new) lim.old lim.new) }
     ensures granted { OnOk result (KeepsMemory (A.view arena.old) (A.view arena.new)) }
     ensures memory { OnErr result (SpendsMemory (A.view arena.old) (A.view arena.new)) }
 {
@@ -77,7 +77,7 @@ fn copy_sections<A: BuilderArena, B: ReaderArena>(
     requires null { word_at (A.view arena.old).words id at ≡ 0 }
     ensures copied { IfOk result (λ _. CopiesStructRead B.ReaderArena value.entry (change canonicalize id at (A.view arena.old) (A.view arena.new) lim.old lim.new)) }
     ensures refused { IfErr result (StopsAtStructRead B.ReaderArena value.entry (change canonicalize id at (A.view arena.old) (A.view arena.new) lim.old lim.new)) }
-    ensures taken { TakesForStruct B.ReaderArena value.entry (change canonicalize id at (A.view arena.old) (A.view arena.new) lim.old lim.new) }
+    ensures taken { TakesForStruct B.ReaderArena result value.entry (change canonicalize id at (A.view arena.old) (A.view arena.new) lim.old lim.new) }
 {
     let kept = match kept_sections(value, canonicalize) {
         Ok(kept) => kept,

@@ -35,7 +35,7 @@ pub(crate) fn copy_struct<A: BuilderArena, B: ReaderArena>(
     requires null { word_at (A.view arena.old).words id at ≡ 0 }
     ensures copied { IfOk result (λ _. CopiesStruct (reading B.ReaderArena from.entry) size (change canonicalize id at (A.view arena.old) (A.view arena.new) lim.old lim.new)) }
     ensures refused { IfErr result (StopsAtStruct (reading B.ReaderArena from.entry) size (change canonicalize id at (A.view arena.old) (A.view arena.new) lim.old lim.new)) }
-    ensures taken { TakesForSections (reading B.ReaderArena from.entry) size (change canonicalize id at (A.view arena.old) (A.view arena.new) lim.old lim.new) }
+    ensures taken { TakesForSections result (reading B.ReaderArena from.entry) size (change canonicalize id at (A.view arena.old) (A.view arena.new) lim.old lim.new) }
 {
     let kept = kept_sections(from, size, canonicalize);
     let start = match make_struct(arena, id, at, kept) {

@@ -1,4 +1,4 @@
-use Rattle.std.proofs.Common.{◌≡◌, inl, ℕ, ◌+◌, ◌*◌, ◌<◌, ◌≤◌, ◌^◌, length, refl, ap, ◌∙◌, arith, rules}
+use Rattle.std.proofs.Common.{◌≡◌, inl, inr, ℕ, ◌+◌, ◌*◌, ◌<◌, ◌≤◌, ◌^◌, length, refl, ap, ◌∙◌, arith, rules}
 use Rattle.std.proofs.lemmas.Int.{to_z-of_z}
 use Rattle.std.proofs.lemmas.Bool.{false≢true}
 use mir.Syntax.{w32}
@@ -12,8 +12,6 @@ use Rattle.capnp_making.specs.Memory.{HasRoom}
 use Rattle.capnp_making.proofs.FillingMade.{IsBegun, pointers_ready, structs_ready}
 use Rattle.capnp_objects.specs.Reading.{Reading, row, words_from}
 use Rattle.capnp_arena.specs.View.{View}
-use Rattle.capnp_objects.proofs.Budgets.{one_element_more}
-use Rattle.capnp_objects.proofs.Refusals.{stopped_spends}
 use Rattle.capnp_readers.specs.Readers.{reading}
 use Rattle.capnp_copies.specs.Growth.{message_words}
 use Rattle.capnp_copies.specs.Changes.{KeepsPointers}
@@ -22,7 +20,7 @@ use Rattle.capnp_copies.proofs.FilledChildren.{no_child, children_grow, child_ah
 use Rattle.capnp_copies.proofs.FilledElements.{DataWritten, element_copied, element_stops, no_row, no_width, AtRow, row_end, next_room, next_null, next_inside, row_copied, row_stops}
 use Rattle.capnp_copies.proofs.FilledObjects.{nothing_made, StructBegun, struct_fits, struct_null, struct_copied, struct_stops, ObjectBegun, pointers_copied, pointers_stop, widths_keep, structs_copied, structs_stop}
 use Rattle.capnp_copies.proofs.FilledValues.{read_stops, null_copied, capability_copied, capability_stops, struct_value, struct_value_stops, pointers_value, pointers_value_stops, structs_value, structs_value_stops, FlatOutcome, flat_value, flat_stops}
-use Rattle.capnp_copies.proofs.Growth.{nothing_read, nothing_taken, takes_both, takes_first, takes_from, takes_less, takes_words, words_same, word_over, no_wider, null_takes, capability_takes, struct_takes, flat_takes, pointers_take, structs_take}
+use Rattle.capnp_copies.proofs.Growth.{taken_so, taken_as, none_taken, one_taken, stop_taken, all_taken, no_row_taken, blank_taken, row_taken, row_stop_taken, rows_taken, for_all, among, for_elements, among_elements, nothing_taken, sections_taken, takes_words, word_over, no_wider, read_stop_taken, null_takes, capability_takes, capability_stop_takes, struct_takes, struct_stop_takes, flat_takes, flat_stop_takes, pointers_take, pointers_stop_take, structs_take, structs_stop_take}
 use Rattle.capnp_copies.proofs.KeptForms.{SourceKept}
 use Rattle.capnp_copies.proofs.TightElements.{all_rows}
 use Rattle.capnp_copies.proofs.TooLarge.{no_struct_room, no_pointers_room, no_structs_room}
@@ -32,7 +30,7 @@ use Rattle.capnp_copies.proofs.copy.+copies.Goals as goal
 
 pub children::copy_children-loop-i-init : goal.children::copy_children-loop-i-init
 children::copy_children-loop-i-init g t c =
-    (no_child (reading g.B.ReaderArena c.args.from) c.args.canonicalize c.args.id c.args.at (g.A.BuilderArena.view c.args.arena.now) c.args.lim.now, nothing_read 0 refl (omega arith))
+    (no_child (reading g.B.ReaderArena c.args.from) c.args.canonicalize c.args.id c.args.at (g.A.BuilderArena.view c.args.arena.now) c.args.lim.now, none_taken (reading g.B.ReaderArena c.args.from) c.args.canonicalize c.args.id c.args.at (g.A.BuilderArena.view c.args.arena.now) c.args.lim.now)
 
 pub children::copy_children-copy_object-requires : goal.children::copy_children-copy_object-requires
 children::copy_children-copy_object-requires g t c κs within =
@@ -52,11 +50,16 @@ children::copy_children-loop-i-preserved g t c =
     let few : length (segment (g.A.BuilderArena.view c.loop-i.arena).words c.args.id) < 2 ^ 29 =
     omega (arith, g.met.A.BuilderArena.within c.loop-i.arena c.args.id, g.met.A.BuilderArena.small c.loop-i.arena c.args.id) in (
       child_copied (omega (arith, c.requires.room, c.loop-i-test.true)) few c.loop-i.invariant.0 (rw nl at c.in-Ok.ensures.copied),
-      takes_less (omega arith) (omega arith) (takes_both c.loop-i.invariant.1 c.in-Ok.ensures.taken),
+      one_taken c.loop-i.invariant.1 (rw nl at c.in-Ok.ensures.taken),
     )
 
 pub children::copy_children-returns-in-Err-clause-taken : goal.children::copy_children-returns-in-Err-clause-taken
-children::copy_children-returns-in-Err-clause-taken g t c = takes_less (omega arith) (omega (arith, c.loop-i-test.true)) (takes_both c.loop-i.invariant.1 c.in-Err.ensures.taken)
+children::copy_children-returns-in-Err-clause-taken g t c =
+    let nl = to_z-of_z w32 c.args.from.nesting_limit (search rules) in
+    stop_taken c.loop-i-test.true c.loop-i.invariant.1 (rw nl at c.in-Err.ensures.taken)
+
+pub children::copy_children-returns-clause-taken : goal.children::copy_children-returns-clause-taken
+children::copy_children-returns-clause-taken g t c = all_taken (omega arith) c.loop-i.invariant.1
 
 -- What a pointer means.
 
@@ -66,7 +69,9 @@ copy_object-returns-in-Err-clause-refused g t c =
     read_stops c.requires.place c.requires.null (rw nl at c.in-Err.ensures.refused)
 
 pub copy_object-returns-in-Err-clause-taken : goal.copy_object-returns-in-Err-clause-taken
-copy_object-returns-in-Err-clause-taken g t c = nothing_taken (stopped_spends c.in-Err.ensures.refused)
+copy_object-returns-in-Err-clause-taken g t c =
+    let nl = to_z-of_z w32 c.args.from.nesting_limit (search rules) in
+    read_stop_taken (rw nl at c.in-Err.ensures.refused)
 
 pub copy_object-returns-then-canonicalize-clause-refused : goal.copy_object-returns-then-canonicalize-clause-refused
 copy_object-returns-then-canonicalize-clause-refused g t c =
@@ -74,7 +79,9 @@ copy_object-returns-then-canonicalize-clause-refused g t c =
     rw c.if-canonicalize.true (capability_stops object c.requires.place c.requires.null)
 
 pub copy_object-returns-then-canonicalize-clause-taken : goal.copy_object-returns-then-canonicalize-clause-taken
-copy_object-returns-then-canonicalize-clause-taken g t c = capability_takes (reading g.B.ReaderArena c.args.from) (rw c.in-Capability.is at c.in-Ok.ensures.object) (omega arith)
+copy_object-returns-then-canonicalize-clause-taken g t c =
+    let object = rw c.in-Capability.is at c.in-Ok.ensures.object in
+    rw c.if-canonicalize.true (capability_stop_takes object)
 
 pub copy_object-copy_pointers-requires : goal.copy_object-copy_pointers-requires
 copy_object-copy_pointers-requires g t c κs within =
@@ -93,7 +100,7 @@ copy_object-returns-in-Null-clause-copied g t c =
     null_copied (rw c.in-Null.is at c.in-Ok.ensures.object) c.requires.place c.requires.null
 
 pub copy_object-returns-in-Null-clause-taken : goal.copy_object-returns-in-Null-clause-taken
-copy_object-returns-in-Null-clause-taken g t c = null_takes (reading g.B.ReaderArena c.args.from) (rw c.in-Null.is at c.in-Ok.ensures.object)
+copy_object-returns-in-Null-clause-taken g t c = null_takes (rw c.in-Null.is at c.in-Ok.ensures.object)
 
 pub copy_object-returns-else-canonicalize-clause-copied : goal.copy_object-returns-else-canonicalize-clause-copied
 copy_object-returns-else-canonicalize-clause-copied g t c =
@@ -103,7 +110,8 @@ copy_object-returns-else-canonicalize-clause-copied g t c =
 pub copy_object-returns-else-canonicalize-clause-taken : goal.copy_object-returns-else-canonicalize-clause-taken
 copy_object-returns-else-canonicalize-clause-taken g t c =
     let words : message_words (g.A.BuilderArena.view c.set_word.new.self).words ≤ message_words (g.A.BuilderArena.view c.args.arena.now).words = omega (arith, ap (λ (v : View). message_words v.words) c.set_word.ensures, word_over (g.A.BuilderArena.view c.args.arena.now).words c.args.id c.args.at c.new_capability.result.0) in
-    capability_takes (reading g.B.ReaderArena c.args.from) (rw c.in-Capability.is at c.in-Ok.ensures.object) words
+    let object = rw c.in-Capability.is at c.in-Ok.ensures.object in
+    rw c.if-canonicalize.false (capability_takes object words)
 
 pub copy_object-returns-in-Struct-clause-copied : goal.copy_object-returns-in-Struct-clause-copied
 copy_object-returns-in-Struct-clause-copied g t c =
@@ -122,7 +130,9 @@ copy_object-returns-in-Struct-clause-refused g t c =
 pub copy_object-returns-in-Struct-clause-taken : goal.copy_object-returns-in-Struct-clause-taken
 copy_object-returns-in-Struct-clause-taken g t c =
     let nl = to_z-of_z w32 c.args.from.nesting_limit (search rules) in
-    struct_takes (reading g.B.ReaderArena c.args.from) c.in-Struct.start (rw (c.in-Struct.is, nl) at c.in-Ok.ensures.object) c.copy_struct.ensures.taken
+    let less = one_level_in c.args.from.nesting_limit (search rules) in
+    let object = rw (c.in-Struct.is, nl) at c.in-Ok.ensures.object in
+    taken_so c.copy_struct.result _ _ _ _ (λ x. struct_takes c.in-Struct.start less object x) (λ x. struct_stop_takes c.in-Struct.start less object x) c.copy_struct.ensures.taken
 
 pub copy_object-returns-in-Flat-clause-copied : goal.copy_object-returns-in-Flat-clause-copied
 copy_object-returns-in-Flat-clause-copied g t c =
@@ -143,7 +153,8 @@ copy_object-returns-in-Flat-clause-refused g t c =
 pub copy_object-returns-in-Flat-clause-taken : goal.copy_object-returns-in-Flat-clause-taken
 copy_object-returns-in-Flat-clause-taken g t c =
     let nl = to_z-of_z w32 c.args.from.nesting_limit (search rules) in
-    flat_takes (reading g.B.ReaderArena c.args.from) c.in-Flat.size c.in-Flat.start (rw (c.in-Flat.is, nl) at c.in-Ok.ensures.object) c.copy_flat.ensures.taken
+    let object = rw (c.in-Flat.is, nl) at c.in-Ok.ensures.object in
+    taken_as c.copy_flat.result _ _ _ (flat_takes c.in-Flat.size c.in-Flat.start object c.copy_flat.ensures.taken) (λ kept. flat_stop_takes c.in-Flat.size c.in-Flat.start object kept) c.copy_flat.ensures.kept
 
 pub copy_object-returns-in-Pointers-clause-copied : goal.copy_object-returns-in-Pointers-clause-copied
 copy_object-returns-in-Pointers-clause-copied g t c =
@@ -162,7 +173,9 @@ copy_object-returns-in-Pointers-clause-refused g t c =
 pub copy_object-returns-in-Pointers-clause-taken : goal.copy_object-returns-in-Pointers-clause-taken
 copy_object-returns-in-Pointers-clause-taken g t c =
     let nl = to_z-of_z w32 c.args.from.nesting_limit (search rules) in
-    pointers_take (reading g.B.ReaderArena c.args.from) c.in-Pointers.start (rw (c.in-Pointers.is, nl) at c.in-Ok.ensures.object) c.copy_pointers.ensures.taken
+    let less = one_level_in c.args.from.nesting_limit (search rules) in
+    let object = rw (c.in-Pointers.is, nl) at c.in-Ok.ensures.object in
+    taken_so c.copy_pointers.result _ _ _ _ (λ x. pointers_take c.in-Pointers.start less object x) (λ x. pointers_stop_take c.in-Pointers.start less object x) c.copy_pointers.ensures.taken
 
 pub copy_object-returns-in-Structs-clause-copied : goal.copy_object-returns-in-Structs-clause-copied
 copy_object-returns-in-Structs-clause-copied g t c =
@@ -183,7 +196,9 @@ copy_object-returns-in-Structs-clause-refused g t c =
 pub copy_object-returns-in-Structs-clause-taken : goal.copy_object-returns-in-Structs-clause-taken
 copy_object-returns-in-Structs-clause-taken g t c =
     let nl = to_z-of_z w32 c.args.from.nesting_limit (search rules) in
-    structs_take (reading g.B.ReaderArena c.args.from) c.in-Structs.start (rw (c.in-Structs.is, nl) at c.in-Ok.ensures.object) c.copy_structs.ensures.taken
+    let less = one_level_in c.args.from.nesting_limit (search rules) in
+    let object = rw (c.in-Structs.is, nl) at c.in-Ok.ensures.object in
+    taken_so c.copy_structs.result _ _ _ _ (λ x. structs_take c.in-Structs.start less object x) (λ x. structs_stop_take c.in-Structs.start less object x) c.copy_structs.ensures.taken
 
 pub elements::copy_element-returns-clause-copied : goal.elements::copy_element-returns-clause-copied
 elements::copy_element-returns-clause-copied g t c =
@@ -206,7 +221,10 @@ elements::copy_element-returns-clause-refused g t c =
     err_so c.copy_children.result _ _ c.copy_children.ensures.refused (λ k stop. element_stops put (rw (c.from.ensures, c.from-2.ensures, c.from-pointers.ensures, nl) at stop))
 
 pub elements::copy_element-returns-clause-taken : goal.elements::copy_element-returns-clause-taken
-elements::copy_element-returns-clause-taken g t c = takes_less (omega arith) (omega (arith, c.from-pointers.ensures)) (takes_from c.put_words.ensures.none_more c.copy_children.ensures.taken)
+elements::copy_element-returns-clause-taken g t c =
+    let nl = to_z-of_z w32 c.args.from.nesting_limit (search rules) in
+    let none = c.put_words.ensures.none_more in
+    taken_so c.copy_children.result _ _ _ _ (λ x. for_all (omega (arith, none)) (omega arith) x) (λ x. among (omega arith) (omega (arith, none)) (omega arith) x) (rw (c.from.ensures, c.from-2.ensures, c.from-pointers.ensures, nl) at c.copy_children.ensures.taken)
 
 pub elements::copy_elements-returns-then-kept_words-eq0-clause-copied : goal.elements::copy_elements-returns-then-kept_words-eq0-clause-copied
 elements::copy_elements-returns-then-kept_words-eq0-clause-copied g t c =
@@ -215,11 +233,14 @@ elements::copy_elements-returns-then-kept_words-eq0-clause-copied g t c =
     no_width from c.args.sizes c.args.count c.args.canonicalize c.args.to.segment c.args.to.at (g.A.BuilderArena.view c.args.arena.now) c.args.lim.now fits (omega (arith, c.total-kept_words.ensures, c.if-kept_words-eq0.true))
 
 pub elements::copy_elements-returns-then-kept_words-eq0-clause-taken : goal.elements::copy_elements-returns-then-kept_words-eq0-clause-taken
-elements::copy_elements-returns-then-kept_words-eq0-clause-taken g t c = nothing_read _ refl (omega arith)
+elements::copy_elements-returns-then-kept_words-eq0-clause-taken g t c =
+    let from : Reading = reading g.B.ReaderArena c.args.from in
+    let fits : SourceKept c.args.canonicalize from c.args.sizes c.args.count = record { inside = c.requires.inside; less_data = c.requires.less_data; less_pointers = c.requires.less_pointers; used = c.requires.pointers } in
+    blank_taken from c.args.sizes c.args.count c.args.canonicalize c.args.to.segment c.args.to.at (g.A.BuilderArena.view c.args.arena.now) c.args.lim.now fits (omega (arith, c.total-kept_words.ensures, c.if-kept_words-eq0.true))
 
 pub elements::copy_elements-loop-i-init : goal.elements::copy_elements-loop-i-init
 elements::copy_elements-loop-i-init g t c =
-    (no_row (reading g.B.ReaderArena c.args.from) c.args.sizes _ c.args.canonicalize c.args.to.segment c.args.to.at (g.A.BuilderArena.view c.args.arena.now) c.args.lim.now, nothing_read _ refl (omega arith))
+    (no_row (reading g.B.ReaderArena c.args.from) c.args.sizes _ c.args.canonicalize c.args.to.segment c.args.to.at (g.A.BuilderArena.view c.args.arena.now) c.args.lim.now, no_row_taken (reading g.B.ReaderArena c.args.from) c.args.sizes.source c.args.canonicalize c.args.to.segment c.args.to.at (g.A.BuilderArena.view c.args.arena.now) c.args.lim.now)
 
 pub elements::copy_elements-overflow_mul-element : goal.elements::copy_elements-overflow_mul-element
 elements::copy_elements-overflow_mul-element g t c =
@@ -276,15 +297,21 @@ elements::copy_elements-loop-i-preserved g t c =
       rows = c.loop-i.invariant.0;
     } in (
       row_copied here (rw (c.total-source_words.ensures, c.total-kept_words.ensures, nl) at c.in-Ok.ensures.copied),
-      takes_less (omega arith) (one_element_more c.loop-i.i (c.loop-i.i + 1) c.args.sizes.kept.pointers (omega arith)) (takes_both c.loop-i.invariant.1 c.in-Ok.ensures.taken),
+      row_taken here.fits c.loop-i-test.true c.loop-i.invariant.1 (rw (c.total-source_words.ensures, c.total-kept_words.ensures, nl) at c.in-Ok.ensures.taken),
     )
 
 pub elements::copy_elements-returns-in-Err-clause-taken : goal.elements::copy_elements-returns-in-Err-clause-taken
 elements::copy_elements-returns-in-Err-clause-taken g t c =
-    takes_less (omega arith) (one_element_more c.loop-i.i c.args.count c.args.sizes.kept.pointers c.loop-i-test.true) (takes_both c.loop-i.invariant.1 c.in-Err.ensures.taken)
+    let nl = to_z-of_z w32 c.args.from.nesting_limit (search rules) in
+    let from : Reading = reading g.B.ReaderArena c.args.from in
+    let fits : SourceKept c.args.canonicalize from c.args.sizes c.args.count = record { inside = c.requires.inside; less_data = c.requires.less_data; less_pointers = c.requires.less_pointers; used = c.requires.pointers } in
+    row_stop_taken fits c.loop-i-test.true c.loop-i.invariant.1 (rw (c.total-source_words.ensures, c.total-kept_words.ensures, nl) at c.in-Err.ensures.taken)
 
 pub elements::copy_elements-returns-clause-copied : goal.elements::copy_elements-returns-clause-copied
 elements::copy_elements-returns-clause-copied g t c = all_rows (omega arith) (omega arith) c.loop-i.invariant.0
+
+pub elements::copy_elements-returns-clause-taken : goal.elements::copy_elements-returns-clause-taken
+elements::copy_elements-returns-clause-taken g t c = rows_taken (omega arith) c.loop-i.invariant.1
 
 pub elements::copy_elements-overflow_add-element : goal.elements::copy_elements-overflow_add-element
 elements::copy_elements-overflow_add-element g t c =
@@ -317,7 +344,8 @@ lists::copy_pointers-returns-in-Ok-clause-refused g t c =
 
 pub lists::copy_pointers-returns-in-Ok-clause-taken : goal.lists::copy_pointers-returns-in-Ok-clause-taken
 lists::copy_pointers-returns-in-Ok-clause-taken g t c =
-    takes_less (omega arith) (omega arith) (takes_first (c.args.count + 1) (takes_words (g.A.BuilderArena.view c.args.arena.now) (g.A.BuilderArena.view c.make_list.new.arena) c.args.id c.args.count c.in-Ok.ensures.taken) c.copy_children.ensures.taken)
+    let made = takes_words (g.A.BuilderArena.view c.args.arena.now) (g.A.BuilderArena.view c.make_list.new.arena) c.args.id c.args.count c.in-Ok.ensures.taken in
+    taken_so c.copy_children.result _ _ _ _ (λ x. for_all (omega (arith, made)) (omega arith) x) (λ x. inr (among (omega arith) (omega (arith, made)) (omega arith) x)) c.copy_children.ensures.taken
 
 pub lists::copy_pointers-returns-in-Err-clause-refused : goal.lists::copy_pointers-returns-in-Err-clause-refused
 lists::copy_pointers-returns-in-Err-clause-refused g t c =
@@ -330,7 +358,7 @@ lists::copy_pointers-returns-in-Err-clause-refused g t c =
 
 pub lists::copy_pointers-returns-in-Err-clause-taken : goal.lists::copy_pointers-returns-in-Err-clause-taken
 lists::copy_pointers-returns-in-Err-clause-taken g t c =
-    nothing_read _ refl (omega (arith, words_same (g.A.BuilderArena.view c.args.arena.now) (g.A.BuilderArena.view c.make_list.new.arena) c.in-Err.ensures.refused))
+    inl (nothing_taken c.in-Err.ensures.refused)
 
 pub lists::copy_structs-copy_elements-requires : goal.lists::copy_structs-copy_elements-requires
 lists::copy_structs-copy_elements-requires g t c κs within =
@@ -362,7 +390,8 @@ pub lists::copy_structs-returns-in-Ok-clause-taken : goal.lists::copy_structs-re
 lists::copy_structs-returns-in-Ok-clause-taken g t c =
     let least = c.kept_widths-kept.result in
     let less = no_wider c.args.count least.data_words least.pointers c.args.size.data_words c.args.size.pointers c.kept_widths-kept.ensures.less_data c.kept_widths-kept.ensures.less_pointers in
-    takes_less (omega (arith, less.0)) less.1 (takes_first (1 + c.args.count * (least.data_words + least.pointers) + 1) (takes_words (g.A.BuilderArena.view c.args.arena.now) (g.A.BuilderArena.view c.make_struct_list.new.arena) c.args.id (1 + c.args.count * (least.data_words + least.pointers)) c.in-Ok.ensures.taken) c.copy_elements.ensures.taken)
+    let made = takes_words (g.A.BuilderArena.view c.args.arena.now) (g.A.BuilderArena.view c.make_struct_list.new.arena) c.args.id (1 + c.args.count * (least.data_words + least.pointers)) c.in-Ok.ensures.taken in
+    taken_so c.copy_elements.result _ _ _ _ (λ x. for_elements (omega (arith, made, less)) (omega arith) x) (λ x. inr (among_elements (omega (arith, made, less)) (omega arith) x)) c.copy_elements.ensures.taken
 
 pub lists::copy_structs-returns-in-Err-clause-refused : goal.lists::copy_structs-returns-in-Err-clause-refused
 lists::copy_structs-returns-in-Err-clause-refused g t c =
@@ -376,7 +405,7 @@ lists::copy_structs-returns-in-Err-clause-refused g t c =
 
 pub lists::copy_structs-returns-in-Err-clause-taken : goal.lists::copy_structs-returns-in-Err-clause-taken
 lists::copy_structs-returns-in-Err-clause-taken g t c =
-    nothing_read _ refl (omega (arith, words_same (g.A.BuilderArena.view c.args.arena.now) (g.A.BuilderArena.view c.make_struct_list.new.arena) c.in-Err.ensures.refused))
+    inl (nothing_taken c.in-Err.ensures.refused)
 
 pub structs::copy_struct-returns-in-Err-clause-refused : goal.structs::copy_struct-returns-in-Err-clause-refused
 structs::copy_struct-returns-in-Err-clause-refused g t c =
@@ -388,7 +417,7 @@ structs::copy_struct-returns-in-Err-clause-refused g t c =
 
 pub structs::copy_struct-returns-in-Err-clause-taken : goal.structs::copy_struct-returns-in-Err-clause-taken
 structs::copy_struct-returns-in-Err-clause-taken g t c =
-    nothing_read _ refl (omega (arith, words_same (g.A.BuilderArena.view c.args.arena.now) (g.A.BuilderArena.view c.make_struct.new.arena) c.in-Err.ensures.refused))
+    inl (nothing_taken c.in-Err.ensures.refused)
 
 pub structs::copy_struct-returns-clause-copied : goal.structs::copy_struct-returns-clause-copied
 structs::copy_struct-returns-clause-copied g t c =
@@ -440,8 +469,11 @@ pub structs::copy_struct-returns-clause-taken : goal.structs::copy_struct-return
 structs::copy_struct-returns-clause-taken g t c =
     let least = c.kept_sections-kept.result in
     let words = takes_words (g.A.BuilderArena.view c.args.arena.now) (g.A.BuilderArena.view c.make_struct.new.arena) c.args.id (least.data_words + least.pointers) c.in-Ok.ensures.taken in
-    takes_less (omega (arith, c.kept_sections-kept.ensures.less_data, c.kept_sections-kept.ensures.less_pointers)) (omega (arith, c.from-pointers.ensures, c.kept_sections-kept.ensures.less_pointers))
-    (takes_first (least.data_words + least.pointers + 1) (omega (arith, words, c.put_words.ensures.none_more)) c.copy_children.ensures.taken)
+    let nl = to_z-of_z w32 c.args.from.nesting_limit (search rules) in
+    let fewer = c.kept_sections-kept.ensures.less_pointers in
+    let made : message_words (g.A.BuilderArena.view c.put_words.new.arena).words ≤ message_words (g.A.BuilderArena.view c.args.arena.now).words + (c.args.size.data_words + c.args.size.pointers + 1) = omega (arith, words, c.put_words.ensures.none_more, c.kept_sections-kept.ensures.less_data, fewer) in
+    taken_so c.copy_children.result _ _ _ _ (λ x. sections_taken (reading g.B.ReaderArena c.args.from) c.args.size least c.requires.inside c.kept_sections-kept.ensures.kept (omega (arith, made)) x) (λ x. inr (among fewer (omega (arith, made)) (omega arith) x))
+    (rw (c.from.ensures, c.from-2.ensures, c.from-pointers.ensures, nl) at c.copy_children.ensures.taken)
 
 pub structs::copy_struct-copy_children-requires : goal.structs::copy_struct-copy_children-requires
 structs::copy_struct-copy_children-requires g t c κs within =

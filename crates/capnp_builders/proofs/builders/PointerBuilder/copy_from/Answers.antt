@@ -9,7 +9,7 @@ use Rattle.capnp_readers.specs.Readers.{reading}
 use Rattle.capnp_copies.specs.Changes.{change, StandsAsRead}
 use Rattle.capnp_copies.specs.Forms.{kept}
 use Rattle.capnp_making.specs.Stored.{IsReplaced}
-use Rattle.capnp_copies.proofs.Growth.{takes_from, words_pruned}
+use Rattle.capnp_copies.proofs.Growth.{taken_so, value_within, until_within, words_pruned}
 use Rattle.capnp_copies.proofs.FlatRead.{ok_so, err_so}
 use Rattle.capnp_builders.proofs.CopiesHeld.{null_replaced, null_cleared, fresh_copied, alone_copied, stands_once, nothing_zeroed, either_way, words_refused_later, beyond_before}
 use Rattle.capnp_builders.proofs.builders.PointerBuilder.copy_from.Goals as goal
@@ -92,4 +92,6 @@ returns-clause-there g c =
     either_way c.copy_value-2.result _ _ _ c.copy_value-2.ensures.copied c.copy_value-2.ensures.cleared (λ x. omega (arith, x.2.words s, long, c.requires.place)) (λ x. omega (arith, x.words s, long, c.requires.place))
 
 pub returns-clause-taken : goal.returns-clause-taken
-returns-clause-taken g c = takes_from (words_pruned (g.A.BuilderArena.view c.args.self.now.arena.now) (g.A.BuilderArena.view c.clear.new.arena) c.clear.ensures.only) c.copy_value-2.ensures.taken
+returns-clause-taken g c =
+    let before = words_pruned (g.A.BuilderArena.view c.args.self.now.arena.now) (g.A.BuilderArena.view c.clear.new.arena) c.clear.ensures.only in
+    taken_so c.copy_value-2.result _ _ _ _ (λ x. value_within before (omega arith) x) (λ x. until_within before (omega arith) x) c.copy_value-2.ensures.taken

@@ -1,9 +1,10 @@
 use Rattle.std.proofs.Common.{inl, inr, arith}
 use Rattle.capnp_arena.specs.View.{View}
+use Rattle.capnp_making.proofs.Memory.{keeps_written, keeps_then_spends}
 use Rattle.capnp_making.proofs.Replaced.{replaced_again}
 use Rattle.capnp_copies.specs.Changes.{change}
 use Rattle.capnp_copies.specs.ListValues.{ListStands, elements_read}
-use Rattle.capnp_copies.proofs.Growth.{takes_from, words_pruned}
+use Rattle.capnp_copies.proofs.Growth.{list_within, words_pruned}
 use Rattle.capnp_copies.proofs.FlatRead.{ok_so, err_so}
 use Rattle.capnp_builders.proofs.CopiesHeld.{stands_once, either_way, words_refused_later, exceeds_before, room_later}
 use Rattle.capnp_builders.proofs.builders.PointerBuilder.set_list.Goals as goal
@@ -24,7 +25,13 @@ returns-clause-refused g c =
     ])
 
 pub returns-clause-taken : goal.returns-clause-taken
-returns-clause-taken g c = takes_from (words_pruned (g.A.BuilderArena.view c.args.self.now.arena.now) (g.A.BuilderArena.view c.clear.new.arena) c.clear.ensures.only) c.copy_list.ensures.taken
+returns-clause-taken g c = list_within (words_pruned (g.A.BuilderArena.view c.args.self.now.arena.now) (g.A.BuilderArena.view c.clear.new.arena) c.clear.ensures.only) (omega arith) c.copy_list.ensures.taken
+
+pub returns-clause-memory : goal.returns-clause-memory
+returns-clause-memory g c =
+    let old : View = g.A.BuilderArena.view c.args.self.now.arena.now in
+    let mid : View = g.A.BuilderArena.view c.clear.new.arena in
+    err_so c.copy_list.result _ _ c.copy_list.ensures.memory (λ k spends. keeps_then_spends old mid (g.A.BuilderArena.view c.copy_list.new.arena) (omega (arith, c.clear.ensures.only.segments)) (keeps_written old mid _ c.clear.ensures.limits) spends)
 
 pub returns-clause-there : goal.returns-clause-there
 returns-clause-there g c =

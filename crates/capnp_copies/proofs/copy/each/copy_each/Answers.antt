@@ -1,15 +1,15 @@
-use Rattle.std.proofs.Common.{◌≡◌, ◌+◌, ◌^◌, ◌<◌, false, length, refl, ◌∙◌, arith, rules}
+use Rattle.std.proofs.Common.{◌≡◌, ◌+◌, ◌^◌, ◌<◌, false, length, ◌∙◌, arith, rules}
 use Rattle.std.proofs.lemmas.Int.{to_z-of_z}
 use mir.Syntax.{w32}
 use Rattle.capnp_format.specs.Segments.{segment, word_at, IsPlace}
 use Rattle.capnp_readers.specs.Readers.{reading}
 use Rattle.capnp_copies.proofs.FilledChildren.{no_child, children_grow, child_ahead}
-use Rattle.capnp_copies.proofs.Growth.{nothing_read, takes_both, takes_less}
+use Rattle.capnp_copies.proofs.Growth.{none_taken, one_taken, stop_taken, all_taken}
 use Rattle.capnp_copies.proofs.EachCopied.{each_copied, each_stops}
 use Rattle.capnp_copies.proofs.copy.each.copy_each.Goals as goal
 
 pub loop-i-init : goal.loop-i-init
-loop-i-init g c = (no_child (reading g.B.ReaderArena c.args.from) false c.args.id c.args.at (g.A.BuilderArena.view c.args.arena.now) c.args.lim.now, nothing_read 0 refl (omega arith))
+loop-i-init g c = (no_child (reading g.B.ReaderArena c.args.from) false c.args.id c.args.at (g.A.BuilderArena.view c.args.arena.now) c.args.lim.now, none_taken (reading g.B.ReaderArena c.args.from) false c.args.id c.args.at (g.A.BuilderArena.view c.args.arena.now) c.args.lim.now)
 
 pub copy_value-requires : goal.copy_value-requires
 copy_value-requires g c =
@@ -29,8 +29,13 @@ loop-i-preserved g c =
     let few : length (segment (g.A.BuilderArena.view c.loop-i.arena).words c.args.id) < 2 ^ 29 =
     omega (arith, g.met.A.BuilderArena.within c.loop-i.arena c.args.id, g.met.A.BuilderArena.small c.loop-i.arena c.args.id) in (
       each_copied (omega (arith, c.requires.room, c.loop-i-test.true)) few c.loop-i.invariant.0 (rw nl at c.in-Ok.ensures.copied) c.in-Ok.ensures.granted (rw nl at c.in-Ok.ensures.stands),
-      takes_less (omega arith) (omega arith) (takes_both c.loop-i.invariant.1 c.in-Ok.ensures.taken),
+      one_taken c.loop-i.invariant.1 (rw nl at c.in-Ok.ensures.taken),
     )
 
 pub returns-in-Err-clause-taken : goal.returns-in-Err-clause-taken
-returns-in-Err-clause-taken g c = takes_less (omega arith) (omega (arith, c.loop-i-test.true)) (takes_both c.loop-i.invariant.1 c.in-Err.ensures.taken)
+returns-in-Err-clause-taken g c =
+    let nl = to_z-of_z w32 c.args.from.nesting_limit (search rules) in
+    stop_taken c.loop-i-test.true c.loop-i.invariant.1 (rw nl at c.in-Err.ensures.taken)
+
+pub returns-clause-taken : goal.returns-clause-taken
+returns-clause-taken g c = all_taken (omega arith) c.loop-i.invariant.1

@@ -1,10 +1,10 @@
 use Rattle.std.proofs.Common.{false}
 use Rattle.capnp_readers.specs.Readers.{reading}
 use Rattle.capnp_copies.specs.Changes.{change, CopiesChildren}
-use Rattle.capnp_copies.specs.Growth.{TakesAtMost}
+use Rattle.capnp_copies.specs.Growth.{TakesForAll}
 use Rattle.capnp_copies.proofs.copy.each.copy_each.Given as goal
 
 abbrev pub invariant-loop-i : goal.invariant-loop-i
 invariant-loop-i g l =
     CopiesChildren (reading g.B.ReaderArena l.from) l.i (change false l.id l.at (g.A.BuilderArena.view l.fn.arena) (g.A.BuilderArena.view l.arena) l.fn.lim l.lim)
-    × TakesAtMost (reading g.B.ReaderArena l.from).charging 0 l.i (change false l.id l.at (g.A.BuilderArena.view l.fn.arena) (g.A.BuilderArena.view l.arena) l.fn.lim l.lim)
+    × TakesForAll (reading g.B.ReaderArena l.from) l.i 0 (change false l.id l.at (g.A.BuilderArena.view l.fn.arena) (g.A.BuilderArena.view l.arena) l.fn.lim l.lim)

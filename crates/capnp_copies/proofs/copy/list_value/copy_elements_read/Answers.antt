@@ -7,10 +7,11 @@ use Rattle.capnp_format.specs.Tree.{Flat}
 use Rattle.capnp_objects.specs.Source.{source_segments}
 use Rattle.capnp_pointers.specs.Sizes.{size_number}
 use Rattle.capnp_copies.specs.Changes.{Change, change}
+use Rattle.capnp_copies.specs.Growth.{of_numbers, of_pointers, of_structs}
 use Rattle.capnp_copies.specs.ListValues.{ListElements, FitsListPointer, elements_read}
 use Rattle.capnp_copies.proofs.FilledValues.{FlatOutcome}
 use Rattle.capnp_copies.proofs.FlatRead.{ok_so, err_so, flat_words}
-use Rattle.capnp_copies.proofs.Growth.{nothing_read, numbers_take}
+use Rattle.capnp_copies.proofs.Growth.{nothing_taken, nothing_for_list, numbers_take}
 use Rattle.capnp_copies.proofs.ListValues.{too_long, number_size, few_numbers, numbers_held, numbers_copied, numbers_stop, pointers_list_copied, structs_list_copied, pointers_list_stops, structs_list_stops}
 use Rattle.capnp_copies.proofs.copy.list_value.copy_elements_read.Goals as goal
 
@@ -42,7 +43,7 @@ returns-in_default g c =
     let list : ListElements = elements_read g.B.ReaderArena value in
     record {
       long = λ long. absurd (long (c.fits_list_pointer.ensures.0 (search rules)));
-      taken = numbers_take list call c.in_default.not-Pointer c.in_default.not-InlineComposite refl c.copy_flat.ensures.taken;
+      taken = of_numbers flat (numbers_take c.copy_flat.result list.first (words_for size value.count + 1) c.args.canonicalize c.args.id c.args.at (g.A.BuilderArena.view c.args.arena.now) (g.A.BuilderArena.view c.copy_flat.new.arena) c.args.lim.now c.copy_flat.ensures.taken c.copy_flat.ensures.kept);
       copied = numbers_copied list call value.content.now c.copy_flat.result flat held.stand refl outcome;
       refused = numbers_stop list call value.content.now c.copy_flat.result flat held.stand (c.requires.place, c.requires.null) refl outcome;
     }
@@ -65,13 +66,17 @@ returns-in-Pointer-clause-refused g c =
     err_so c.copy_pointers.result _ _ c.copy_pointers.ensures.refused (λ k stop. pointers_list_stops c.in-Pointer.is (rw nl at stop))
 
 pub returns-then-not-fits_list_pointer-clause-taken : goal.returns-then-not-fits_list_pointer-clause-taken
-returns-then-not-fits_list_pointer-clause-taken g c = nothing_read _ refl (omega arith)
+returns-then-not-fits_list_pointer-clause-taken g c = nothing_for_list refl (nothing_taken refl)
 
 pub returns-in-Pointer-clause-taken : goal.returns-in-Pointer-clause-taken
-returns-in-Pointer-clause-taken g c = rw c.in-Pointer.is c.copy_pointers.ensures.taken
+returns-in-Pointer-clause-taken g c =
+    let nl = to_z-of_z w32 c.args.value.nesting_limit (search rules) in
+    of_pointers c.in-Pointer.is (rw nl at c.copy_pointers.ensures.taken)
 
 pub returns-in-InlineComposite-clause-taken : goal.returns-in-InlineComposite-clause-taken
-returns-in-InlineComposite-clause-taken g c = rw c.in-InlineComposite.is c.copy_structs.ensures.taken
+returns-in-InlineComposite-clause-taken g c =
+    let nl = to_z-of_z w32 c.args.value.nesting_limit (search rules) in
+    of_structs c.in-InlineComposite.is (rw nl at c.copy_structs.ensures.taken)
 
 pub returns-in-InlineComposite-clause-refused : goal.returns-in-InlineComposite-clause-refused
 returns-in-InlineComposite-clause-refused g c =

@@ -1,6 +1,8 @@
-use Rattle.std.proofs.Common.{inl, inr}
+use Rattle.std.proofs.Common.{inl, inr, arith}
+use Rattle.capnp_format.specs.Tree.{Null}
 use Rattle.capnp_making.proofs.Memory.{words_refused_before}
-use Rattle.capnp_copies.proofs.Growth.{takes_last, words_pruned}
+use Rattle.capnp_making.proofs.Replaced.{replaced_again}
+use Rattle.capnp_copies.proofs.Growth.{list_within, words_pruned}
 use Rattle.capnp_copies.proofs.OneReading.{list_refused_rightly, list_stands}
 use Rattle.capnp_copies.proofs.copy.list_value.copy_list.Goals as goal
 
@@ -10,9 +12,14 @@ returns-in-Err-clause-refused g c = elim c.in-Err.ensures.refused.why [
   | inr x ↦ inr x
 ]
 
+pub returns-in-Err-clause-cleared : goal.returns-in-Err-clause-cleared
+returns-in-Err-clause-cleared g c =
+    let (t, made) = c.in-Err.ensures.refused.left.0 in
+    replaced_again _ _ _ c.args.id c.args.at Null t Null made (c.clear.ensures.cleared t made.stored)
+
 pub returns-in-Err-clause-taken : goal.returns-in-Err-clause-taken
 returns-in-Err-clause-taken g c =
-    takes_last c.in-Err.ensures.taken (words_pruned (g.A.BuilderArena.view c.copy_elements_read.new.arena) (g.A.BuilderArena.view c.clear.new.arena) c.clear.ensures.only)
+    list_within (omega arith) (words_pruned (g.A.BuilderArena.view c.copy_elements_read.new.arena) (g.A.BuilderArena.view c.clear.new.arena) c.clear.ensures.only) c.in-Err.ensures.taken
 
 -- A reading gives one value.
 pub returns-in-Ok-clause-stands : goal.returns-in-Ok-clause-stands

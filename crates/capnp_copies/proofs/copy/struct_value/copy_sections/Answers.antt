@@ -1,4 +1,4 @@
-use Rattle.std.proofs.Common.{inl, inr, ℕ, ◌+◌, ◌≤◌, List, length, take, refl, ap, ap₂, arith, length-take, rules}
+use Rattle.std.proofs.Common.{inl, inr, ℕ, ◌+◌, ◌/◌, ◌≤◌, List, length, take, refl, ap, ap₂, arith, length-take, rules}
 use Rattle.std.proofs.lemmas.Int.{to_z-of_z}
 use Rattle.std.proofs.lemmas.Bool.{false≢true}
 use mir.Syntax.{w32}
@@ -6,6 +6,7 @@ use Rattle.capnp_format.proofs.Slices.{length_words}
 use Rattle.capnp_arena.specs.View.{View}
 use Rattle.capnp_objects.specs.Reading.{Reading, words_from}
 use Rattle.capnp_readers.specs.Sizes.{pointers_read}
+use Rattle.capnp_copies.specs.Growth.{message_words}
 use Rattle.capnp_copies.specs.StructValues.{data_of}
 use Rattle.capnp_copies.proofs.DataSections.{kept_count-le, section_long}
 use Rattle.capnp_copies.proofs.FilledObjects.{nothing_made, nothing_left}
@@ -16,7 +17,7 @@ use Rattle.capnp_making.specs.Memory.{HasRoom}
 use Rattle.capnp_copies.proofs.FlatRead.{ok_so, err_so}
 use Rattle.capnp_making.proofs.Memory.{keeps_itself, spends_nothing}
 use Rattle.capnp_format.specs.Tree.{Null}
-use Rattle.capnp_copies.proofs.Growth.{nothing_read, takes_first, takes_less, takes_words, words_over, words_same}
+use Rattle.capnp_copies.proofs.Growth.{taken_so, nothing_taken, among, cut_taken, takes_words, words_over}
 use Rattle.capnp_copies.proofs.copy.struct_value.copy_sections.Goals as goal
 
 -- A struct of more data words than a struct can have, and one that the arena refuses.
@@ -130,11 +131,11 @@ returns-clause-refused g c =
 -- What is taken.
 
 pub returns-in-Err-clause-taken : goal.returns-in-Err-clause-taken
-returns-in-Err-clause-taken g c = nothing_read _ refl (omega arith)
+returns-in-Err-clause-taken g c = inl (nothing_taken refl)
 
 pub returns-in-Err-make_struct-clause-taken : goal.returns-in-Err-make_struct-clause-taken
 returns-in-Err-make_struct-clause-taken g c =
-    nothing_read _ refl (omega (arith, words_same (g.A.BuilderArena.view c.args.arena.now) (g.A.BuilderArena.view c.make_struct.new.arena) c.in-Err-make_struct.ensures.refused))
+    inl (nothing_taken c.in-Err-make_struct.ensures.refused)
 
 pub returns-clause-taken : goal.returns-clause-taken
 returns-clause-taken g c =
@@ -150,4 +151,6 @@ returns-clause-taken g c =
     let long = section_long value.bits value.content.now (search rules) in
     let words = takes_words (g.A.BuilderArena.view c.args.arena.now) made c.args.id (size.data_words + size.pointers) c.in-Ok-make_struct.ensures.taken in
     let over = words_over made put c.in-Ok-make_struct.start.segment c.in-Ok-make_struct.start.at (take size.data_words ws) (omega (arith, c.in-Ok-make_struct.ensures.inside.1, length-take size.data_words ws)) (ap (λ (v : View). v.words) c.put_section.ensures) in
-    takes_less (omega (arith, words_kept, pointers_kept, long)) (omega (arith, c.from-pointers.ensures, pointers_kept)) (takes_first (size.data_words + size.pointers + 1) (omega (arith, words, over)) c.copy_children.ensures.taken)
+    let nl = to_z-of_z w32 value.nesting_limit (search rules) in
+    let made : message_words put.words ≤ message_words (g.A.BuilderArena.view c.args.arena.now).words + ((value.bits + 63) / 64 + value.pointer_count + 1) = omega (arith, words, over, words_kept, pointers_kept, long) in
+    taken_so c.copy_children.result _ _ _ _ (λ x. cut_taken value.inside c.in-Ok.ensures.pointers (omega (arith, made)) x) (λ x. inr (among pointers_kept (omega (arith, made)) (omega arith) x)) (rw (c.from.ensures, c.from-pointers.ensures, nl) at c.copy_children.ensures.taken)

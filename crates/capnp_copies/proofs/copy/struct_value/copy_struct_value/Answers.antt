@@ -1,6 +1,6 @@
-use Rattle.std.proofs.Common.{inl, inr}
+use Rattle.std.proofs.Common.{inl, inr, arith}
 use Rattle.capnp_making.proofs.Memory.{words_refused_before}
-use Rattle.capnp_copies.proofs.Growth.{takes_last, words_pruned}
+use Rattle.capnp_copies.proofs.Growth.{either_within, words_pruned}
 use Rattle.capnp_copies.proofs.OneReading.{sections_refused_rightly, sections_stand}
 use Rattle.capnp_copies.proofs.copy.struct_value.copy_struct_value.Goals as goal
 
@@ -12,7 +12,7 @@ returns-in-Err-clause-refused g c = elim c.in-Err.ensures.refused.why [
 
 pub returns-in-Err-clause-taken : goal.returns-in-Err-clause-taken
 returns-in-Err-clause-taken g c =
-    takes_last c.in-Err.ensures.taken (words_pruned (g.A.BuilderArena.view c.copy_sections.new.arena) (g.A.BuilderArena.view c.clear.new.arena) c.clear.ensures.only)
+    either_within (omega arith) (words_pruned (g.A.BuilderArena.view c.copy_sections.new.arena) (g.A.BuilderArena.view c.clear.new.arena) c.clear.ensures.only) c.in-Err.ensures.taken
 
 -- A reading gives one value.
 pub returns-in-Ok-clause-stands : goal.returns-in-Ok-clause-stands

@@ -1,10 +1,12 @@
-use Rattle.std.proofs.Common.{◌≡◌, length, subst, ap, ◌∙◌, arith}
+use Rattle.std.proofs.Common.{◌≡◌, length, subst, ap, ◌∙◌, arith, rules}
+use Rattle.std.proofs.lemmas.Int.{to_z-of_z}
+use mir.Syntax.{w32}
 use Rattle.capnp_arena.specs.View.{View}
 use Rattle.capnp_format.specs.Segments.{Segments, segment}
 use Rattle.capnp_making.specs.Zeroed.{IsPruned}
 use Rattle.capnp_readers.specs.declared.readers.struct_reader.StructPlace.{StructPlace}
 use Rattle.capnp_builders.specs.Content.{with_content}
-use Rattle.capnp_copies.proofs.Growth.{no_longer, takes_from, takes_less, words_pruned}
+use Rattle.capnp_copies.proofs.Growth.{no_longer, taken_so, for_all, among, words_pruned}
 use Rattle.capnp_builders.proofs.ContentWritten.{content_long, each_grows, content_inside}
 use Rattle.capnp_builders.proofs.builders.struct_builder.StructBuilder.copy_content_from.Goals as goal
 
@@ -41,4 +43,6 @@ returns-clause-taken g c =
     let place : StructPlace = c.args.self.now.place in
     let same : put.words ≡ with_content old.words place c.args.value.now.bits c.args.value.now.content.now = ap (λ (v : View). v.words) c.write_content.ensures in
     let written = no_longer old.words put.words (λ v. omega (arith, ap (λ (T : Segments). length (segment T v)) same, content_long old.words place c.args.value.now.bits c.args.value.now.content.now v)) in
-    takes_less (omega arith) (omega (arith, c.min.ensures, c.from-count.ensures)) (takes_from (omega (arith, words_pruned put mid c.clear_pointers.ensures.only, written)) c.copy_each.ensures.taken)
+    let nl = to_z-of_z w32 c.args.value.now.nesting_limit (search rules) in
+    let pruned = words_pruned put mid c.clear_pointers.ensures.only in
+    taken_so c.copy_each.result _ _ _ _ (λ x. for_all (omega (arith, pruned, written)) (omega arith) x) (λ x. among (omega arith) (omega (arith, pruned, written)) (omega arith) x) (rw (nl, c.from-count.ensures, c.min.ensures) at c.copy_each.ensures.taken)
