@@ -1,14 +1,14 @@
 -- Bytes written over those of a segment, as fields of a byte each; and such fields one part after the other.
-use Rattle.std.proofs.Common.{◌≡◌, ℕ, zero, suc, ◌+◌, ◌-◌, ◌*◌, ◌/◌, ◌%◌, ◌^◌, ◌<◌, ◌≤◌, min, List, [], ◌∷◌, ◌++◌, length, get_or, set, take, drop, replicate, Some, slice_get, refl, sym, ap, ap₂, ◌∙◌, arith, drop-drop, take-append-drop, set-set, length-take}
+use Rattle.std.proofs.Common.{◌≡◌, ℕ, zero, suc, ◌+◌, ◌-◌, ◌*◌, ◌/◌, ◌%◌, ◌^◌, ◌<◌, ◌≤◌, min, List, [], ◌∷◌, length, get_or, set, take, replicate, Some, slice_get, refl, sym, ap, ap₂, ◌∙◌, arith, take-append-drop, set-set, length-take}
 use Rattle.std.proofs.Math.Nat.{mod-eq_of_lt}
-use Rattle.std.proofs.lemmas.List.{length-set, set_split, get_or-take, length-replicate}
-use borrow.Rule.Slice.PartMut.{put_mid}
+use Rattle.std.proofs.lemmas.List.{length-set, get_or-take, length-replicate}
 use Rattle.capnp_arena.specs.View.{View}
 use Rattle.capnp_arena.specs.Written.{overwritten}
 use Rattle.capnp_format.proofs.WordsOf.{words}
 use Rattle.capnp_format.specs.Bytes.{words_of, message}
 use Rattle.capnp_format.specs.Segments.{Segments, segment}
 use Rattle.capnp_making.specs.Fields.{with_field}
+use Rattle.capnp_making.proofs.FieldBit.{set_is_put}
 use Rattle.capnp_making.proofs.FieldBytes.{words_of-put_field, message_written}
 use Rattle.capnp_builders.specs.Content.{content_byte, with_fields}
 use Rattle.capnp_builders.proofs.ContentWritten.{fields_long}
@@ -58,10 +58,6 @@ get_found (b ∷ B) zero bs cs e = refl
 get_found (b ∷ B) (suc s) bs cs e = get_found B s bs cs e
 
 -- one byte written
-set_is_put : (bs : List ℕ) (b y : ℕ) → b < length bs → set bs b y ≡ put_mid b 1 bs (y ∷ [])
-set_is_put bs b y l =
-    set_split bs b y l ∙ ap (λ zs. take b bs ++ (y ∷ zs)) (ap (λ n. drop n bs) (let q : suc b ≡ b + 1 = omega arith in q) ∙ sym (drop-drop 1 b bs))
-
 byte_written : (B : List (List ℕ)) (s a x : ℕ) (bs : List ℕ) → slice_get B s ≡ Some bs → ((j : ℕ) → get_or bs j 0 < 256) → a < 8 * (length bs / 8) → message (set B s (set bs a x)) ≡ with_field (message B) s (8 * a) 8 x
 byte_written B s a x bs e small l =
     message_written B s bs (set bs a x) (8 * a) 8 x e (

@@ -653,7 +653,7 @@ impl<'a, A: BuilderArena> PointerBuilder<'a, A> {
         ensures cleared { OnErr result (Becomes (built A.view self.old) (built A.view self.new) Null) }
         ensures there { IsThere (built A.view self.new) }
         ensures granted { OnOk result (KeepsMemory (A.view self.old.arena.now) (A.view self.new.arena.now)) }
-        ensures memory { OnErr result (SpendsMemory (A.view self.old.arena.now) (A.view self.new.arena.now)) }
+        ensures memory { IfErr result (SpendsMemory (A.view self.old.arena.now) (A.view self.new.arena.now)) }
         ensures same { self.new.arena.ghost_name ≡ self.old.arena.ghost_name }
         ensures builder { (self.new.segment ≡ self.old.segment) × (self.new.at ≡ self.old.at) }
     {
@@ -696,7 +696,7 @@ impl<'a, A: BuilderArena> PointerBuilder<'a, A> {
         ensures cleared { OnErr result (Becomes (built A.view self.old) (built A.view self.new) Null) }
         ensures there { IsThere (built A.view self.new) }
         ensures granted { OnOk result (KeepsMemory (A.view self.old.arena.now) (A.view self.new.arena.now)) }
-        ensures memory { OnErr result (SpendsMemory (A.view self.old.arena.now) (A.view self.new.arena.now)) }
+        ensures memory { IfErr result (SpendsMemory (A.view self.old.arena.now) (A.view self.new.arena.now)) }
         ensures same { self.new.arena.ghost_name ≡ self.old.arena.ghost_name }
         ensures builder { (self.new.segment ≡ self.old.segment) × (self.new.at ≡ self.old.at) }
     {
@@ -745,7 +745,7 @@ impl<'a, A: BuilderArena> PointerBuilder<'a, A> {
         ensures cleared { OnErr result (Becomes (built A.view self.old) (built A.view self.new) Null) }
         ensures there { IsThere (built A.view self.new) }
         ensures granted { OnOk result (KeepsMemory (A.view self.old.arena.now) (A.view self.new.arena.now)) }
-        ensures memory { OnErr result (SpendsMemory (A.view self.old.arena.now) (A.view self.new.arena.now)) }
+        ensures memory { IfErr result (SpendsMemory (A.view self.old.arena.now) (A.view self.new.arena.now)) }
         ensures same { self.new.arena.ghost_name ≡ self.old.arena.ghost_name }
         ensures builder { (self.new.segment ≡ self.old.segment) × (self.new.at ≡ self.old.at) }
     {

@@ -22,7 +22,7 @@ pub each_copied : {r : Reading} {s p i : ℕ} {old mid new : View} {m m' m'' : M
 each_copied place few first (t, read, made) memory stands = child_copied place few first (record { value = t; is_read = read; made = (made, memory); stands = stands t read })
 
 pub each_stops : {r : Reading} {s p i n : ℕ} {old mid new : View} {m m' m'' : Meter} {k : ErrorKind} → i < n → CopiesChildren r i (change false s p old mid m m') → LacksRoom (change false s (p + i) mid new m' m'') k (WantedAt (behind r i) (change false s (p + i) mid new m' m'')) (IsTooLarge false (behind r i)) ⊎ Refused plain (behind r i) m' m'' k → BreaksOff plain (behind r i) m' m'' →
-    IsReplaced mid.words new.words s (p + i) Null Null → SpendsMemory mid new → CopiesFirst r n (change false s p old new m m'') k
+    IsReplaced mid.words new.words s (p + i) Null Null → SpendsMemory mid new k → CopiesFirst r n (change false s p old new m m'') k
 each_stops {r} {s} {p} {i} {n} {old} {mid} {new} {m} {m'} {m''} {k} less first why off cleared memory = record {
   first = first.children;
   fewer = omega (arith, first.counts);
@@ -36,5 +36,5 @@ each_stops {r} {s} {p} {i} {n} {old} {mid} {new} {m} {m'} {m''} {k} less first w
     | inr x ↦ inr (subst (λ j. Refused plain (behind r j) m' m'' k) (sym first.counts) x)
   ];
   off = subst (λ j. BreaksOff plain (behind r j) m' m'') (sym first.counts) off;
-  memory = keeps_then_spends old mid new (children_grow first).segments first.memory memory;
+  memory = keeps_then_spends old mid new k (children_grow first).segments first.memory memory;
 }

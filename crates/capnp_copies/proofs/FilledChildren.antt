@@ -83,5 +83,5 @@ child_stops {r} {b} {s} {p} {i} {n} {old} {mid} {new} {m} {m'} {m''} {k} place l
       left = with_last (kept_each b ts) t;
       few = omega (arith, count-with_last (kept_each b ts) t, kept_each-count b ts, first.counts);
       made = one_filled new t first made;
-      memory = keeps_then_spends old mid new (children_grow first).segments first.memory stop.left.1;
+      memory = keeps_then_spends old mid new k (children_grow first).segments first.memory stop.left.1;
     }

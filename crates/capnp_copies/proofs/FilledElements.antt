@@ -76,7 +76,7 @@ element_stops {r} {sizes} {b} {s} {p} {old} {mid} {new} {k = k} put stop = recor
   left = stop.left;
   few = stop.few;
   made = element_made new stop.left put stop.made;
-  memory = keeps_then_spends old mid new (same_segments put) (keeps_written old mid _ put.writes) stop.memory;
+  memory = keeps_then_spends old mid new k (same_segments put) (keeps_written old mid _ put.writes) stop.memory;
 }
 
 -- elements, one after the other
@@ -232,5 +232,5 @@ module _ {r : Reading} {sizes : ElementSizes} {n i : ℕ} {b : Bool} {s p : ℕ}
           before = here.rows.made;
           last = rw rows_before stop.made;
         };
-        memory = keeps_then_spends old mid new rows_grow.segments here.rows.memory stop.memory;
+        memory = keeps_then_spends old mid new k rows_grow.segments here.rows.memory stop.memory;
       }

@@ -38,7 +38,7 @@ pub nothing_left : (S R : Segments) (s p : ℕ) → IsPlace S s p → word_at S 
 nothing_left S R s p place null same = subst (λ T. IsReplaced S T s p Null Null) (sym same) (unchanged S s p Null (null_stored S s p place null))
 
 pub nothing_made : (b : Bool) (s p n : ℕ) (old new : View) (m m' : Meter) (k : ErrorKind) → IsPlace old.words s p → word_at old.words s p ≡ 0 → IsRefusedFor old new n k → new.words ≡ old.words → (HasRoom old s n → ⊥) →
-    RefusesWords old new n k × Leaves (change b s p old new m m')
+    RefusesWords old new n k × Leaves (change b s p old new m m') k
 nothing_made b s p n old new m m' k place null named same full =
     let r = made_refused old new s n k named same full in
     (r.0, ((Null, nothing_left old.words new.words s p place null same), r.1))
@@ -128,7 +128,7 @@ module _ {b : Bool} {r : Reading} {size least : StructSize} {s p : ℕ} {old mad
           | inr x ↦ inr (stops_sooner o.less_pointers x)
         ];
         off = inr (stops_sooner o.less_pointers stop.off);
-        left = ((_, struct_done old.words made.words mid.words new.words s p least.pointers h ws stop.left is_begun writes (rw (sym long) at stop.made) stop.few), keeps_then_spends old mid new segments keeps stop.memory);
+        left = ((_, struct_done old.words made.words mid.words new.words s p least.pointers h ws stop.left is_begun writes (rw (sym long) at stop.made) stop.few), keeps_then_spends old mid new k segments keeps stop.memory);
       }
 
 -- a list of pointers
@@ -162,7 +162,7 @@ pointers_stop {b} {r} {i} {s} {p} {old} {mid} {new} {h} {k = k} o made at_end st
     | inr x ↦ inr x
   ];
   off = inr stop.off;
-  left = ((_, pointers_done old.words mid.words new.words s p i h stop.left o.begun stop.made stop.few), keeps_then_spends old mid new o.begun.made.segments o.memory stop.memory);
+  left = ((_, pointers_done old.words mid.words new.words s p i h stop.left o.begun stop.made stop.few), keeps_then_spends old mid new k o.begun.made.segments o.memory stop.memory);
 }
 
 -- a list of structs
@@ -196,5 +196,5 @@ structs_stop {b} {r} {sizes} {i} {s} {p} {old} {mid} {new} {h} {m} {m'} {k} insi
     | inr x ↦ inr x
   ];
   off = inr stop.off;
-  left = (structs_done old.words mid.words new.words s p sizes.kept.data_words sizes.kept.pointers i h o.begun stop.left, keeps_then_spends old mid new o.begun.made.segments o.memory stop.memory);
+  left = (structs_done old.words mid.words new.words s p sizes.kept.data_words sizes.kept.pointers i h o.begun stop.left, keeps_then_spends old mid new k o.begun.made.segments o.memory stop.memory);
 }

@@ -154,5 +154,5 @@ module _ {b : Bool} {ws : List ℕ} {r : Reading} {q : ℕ} {least : StructSize}
           | inr x ↦ inr (inl (stops_sooner fewer x))
         ];
         off = inr (stops_sooner fewer stop.off);
-        left = ((_, struct_done old.words made.words mid.words new.words s p least.pointers h section stop.left is_begun writes (rw (sym long) at stop.made) stop.few), keeps_then_spends old mid new segments keeps stop.memory);
+        left = ((_, struct_done old.words made.words mid.words new.words s p least.pointers h section stop.left is_begun writes (rw (sym long) at stop.made) stop.few), keeps_then_spends old mid new k segments keeps stop.memory);
       }

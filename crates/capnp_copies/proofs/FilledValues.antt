@@ -18,7 +18,7 @@ use Rattle.capnp_arena.specs.Written.{with_word, with_segment}
 use Rattle.capnp_making.specs.Memory.{KeepsMemory, SpendsMemory, RefusesWords}
 use Rattle.capnp_making.specs.Near.{HasOwnRoom}
 use Rattle.capnp_making.specs.Stored.{IsReplaced}
-use Rattle.capnp_making.proofs.Memory.{keeps_itself, keeps_written, spends_nothing}
+use Rattle.capnp_making.proofs.Memory.{not_the_allocator, keeps_itself, keeps_written, spends_nothing}
 use Rattle.capnp_making.proofs.PlacedStructs.{capability_made}
 use Rattle.capnp_objects.specs.Objects.{IsObject}
 use Rattle.capnp_objects.specs.Outcomes.{Reads}
@@ -27,6 +27,7 @@ use Rattle.capnp_objects.specs.Reading.{Reading}
 use Rattle.capnp_objects.specs.Wanted.{plain}
 use Rattle.capnp_objects.specs.declared.object.Place.{Place}
 use Rattle.capnp_objects.specs.declared.object.Object.TheVariants.{Null as ObjectNull, Capability as ObjectCapability, Struct as ObjectStruct, Flat as ObjectFlat, Pointers as ObjectPointers, Structs as ObjectStructs}
+use Rattle.capnp_objects.proofs.Limits.{not_for_memory}
 use Rattle.capnp_objects.proofs.Objects.{read_null, read_flat, read_struct, read_pointers, read_structs}
 use Rattle.capnp_objects.proofs.Refusals.{stops_struct, stops_pointers, stops_structs}
 use Rattle.capnp_copies.specs.Changes.{WantsWords, as_struct, as_numbers, as_pointers, as_structs, Change, change, IsCopiedInRoom, Fits, StandsWhereItFits, StandsAsRead, CopiesValue, StopsAtValue, CopiesStruct, StopsAtStruct, CopiesPointers, StopsAtPointers, CopiesStructs, StopsAtStructs}
@@ -44,10 +45,10 @@ stopped_in true h = stopped_plain h
 stopped_in false h = h
 
 pub read_stops : {r : Reading} {b : Bool} {s p : ℕ} {v : View} {m m' : Meter} {k : ErrorKind} → IsPlace v.words s p → word_at v.words s p ≡ 0 → Stopped plain r m m' k → StopsAtValue r (change b s p v v m m') k
-read_stops {r} {b} {s} {p} {v} {k = k} place null h = record {
+read_stops {r} {b} {s} {p} {v} {m} {m'} {k} place null h = record {
   why = inr (here (stopped_in b h));
   off = here (inl (k, stopped_in b h));
-  left = ((Null, nothing_left v.words v.words s p place null refl), spends_nothing v v (keeps_itself v));
+  left = ((Null, nothing_left v.words v.words s p place null refl), spends_nothing v v k (not_the_allocator k (λ e. not_for_memory (here (subst (Stopped plain r m m') e h)))) (keeps_itself v));
 }
 
 -- null pointers and capabilities
@@ -80,7 +81,7 @@ pub capability_stops : {r : Reading} {s p i : ℕ} {v : View} {m m' : Meter} →
 capability_stops {r} {s} {p} {i} {v} {m} {m'} object place null = record {
   why = inr (capability_refused m m' i object);
   off = capability_breaks_off m m' i object;
-  left = ((Null, nothing_left v.words v.words s p place null refl), spends_nothing v v (keeps_itself v));
+  left = ((Null, nothing_left v.words v.words s p place null refl), spends_nothing v v CannotCreateACanonicalMessageWithACapability (λ n. refl) (keeps_itself v));
 }
 
 -- a struct
@@ -205,7 +206,7 @@ pub record FlatOutcome (result : Result (Unit {0}) ErrorKind) (s p n : ℕ) (old
   pub granted : OnOk result (KeepsMemory old new)
   pub refused : IfErr result (RefusesWords old new n)
   pub kept : OnErr result (new.words ≡ old.words)
-  pub memory : OnErr result (SpendsMemory old new)
+  pub memory : IfErr result (SpendsMemory old new)
   pub stands : OnOk result (IsCopiedInRoom old new s p t)
   pub fits : HasOwnRoom old s (word_count t) → IsOk result
 

@@ -34,7 +34,7 @@ pub too_long : {list : ListElements} {b : Bool} {s p : ℕ} {v : View} {m : Mete
 too_long {s = s} {p = p} {v = v} place null long = record {
   why = inr (inr (long, refl));
   off = inl refl;
-  left = ((Null, nothing_left v.words v.words s p place null refl), spends_nothing v v (keeps_itself v));
+  left = ((Null, nothing_left v.words v.words s p place null refl), spends_nothing v v (MessageTooLarge (2 ^ 64 - 1)) (λ n. refl) (keeps_itself v));
 }
 
 -- elements that are neither pointers nor structs

@@ -131,9 +131,9 @@ pub record EndsInZeros (c : Change) (n : ℕ) : Type 0 where
 abbrev pub PutsAtNull : Change → Tree → Type 0
 PutsAtNull c t = IsReplaced c.old.words c.new.words c.segment c.at Null t × KeepsMemory c.old c.new
 
--- The call leaves some value there, and what it allocated.
-abbrev pub Leaves : Change → Type 0
-Leaves c = ((t : Tree) × IsReplaced c.old.words c.new.words c.segment c.at Null t) × SpendsMemory c.old c.new
+-- The call is refused by the name k, and leaves some value there, and what it allocated.
+abbrev pub Leaves : Change → ErrorKind → Type 0
+Leaves c k = ((t : Tree) × IsReplaced c.old.words c.new.words c.segment c.at Null t) × SpendsMemory c.old c.new k
 
 -- The arena has no room for an object of what a place means, by the name k.
 abbrev pub FindsNoRoom : Reading → Change → ErrorKind → Type 0
@@ -157,7 +157,7 @@ pub record CopiesValue (r : Reading) (c : Change) : Type 0 where
 pub record StopsAtValue (r : Reading) (c : Change) (k : ErrorKind) : Type 0 where
   pub why : RefusesValue r c k
   pub off : BreaksOff (form_of c.canonicalize) r c.before c.after
-  pub left : Leaves c
+  pub left : Leaves c k
 
 -- So of i pointers from a place on.
 pub record CopiesChildren (r : Reading) (i : ℕ) (c : Change) : Type 0 where
@@ -174,7 +174,7 @@ pub record StopsAtChildren (r : Reading) (i : ℕ) (c : Change) (k : ErrorKind) 
   pub left : Trees
   pub few : count left ≤ i
   pub made : AreFilled c.old.words c.new.words c.segment c.at left
-  pub memory : SpendsMemory c.old c.new
+  pub memory : SpendsMemory c.old c.new k
 
 -- So of the list of i pointers from a place on.
 pub record CopiesPointers (r : Reading) (i : ℕ) (c : Change) : Type 0 where
@@ -187,7 +187,7 @@ pub record CopiesPointers (r : Reading) (i : ℕ) (c : Change) : Type 0 where
 pub record StopsAtPointers (r : Reading) (i : ℕ) (c : Change) (k : ErrorKind) : Type 0 where
   pub why : LacksRoom c k (λ n. ((c.after ≡ c.before) × (n ≡ i)) ⊎ WantedAmong r i c n) (IsTooLargePointers c.canonicalize r i) ⊎ RefusedAll (form_of c.canonicalize) r i c.before c.after k
   pub off : (c.after ≡ c.before) ⊎ BreaksOffAmong (form_of c.canonicalize) r i c.before c.after
-  pub left : Leaves c
+  pub left : Leaves c k
 
 -- So of the struct of this size at a place.
 pub record CopiesStruct (r : Reading) (size : StructSize) (c : Change) : Type 0 where
@@ -211,7 +211,7 @@ WantedForStructs r size i c n =
 pub record StopsAtStruct (r : Reading) (size : StructSize) (c : Change) (k : ErrorKind) : Type 0 where
   pub why : LacksRoom c k (WantedForStruct r size c) (IsTooLargeStruct c.canonicalize r size) ⊎ RefusedAll (form_of c.canonicalize) (behind r size.data_words) size.pointers c.before c.after k
   pub off : (c.after ≡ c.before) ⊎ BreaksOffAmong (form_of c.canonicalize) (behind r size.data_words) size.pointers c.before c.after
-  pub left : Leaves c
+  pub left : Leaves c k
 
 -- So of the list of i structs of this size from a place on.
 pub record CopiesStructs (r : Reading) (size : StructSize) (i : ℕ) (c : Change) : Type 0 where
@@ -224,7 +224,7 @@ pub record CopiesStructs (r : Reading) (size : StructSize) (i : ℕ) (c : Change
 pub record StopsAtStructs (r : Reading) (size : StructSize) (i : ℕ) (c : Change) (k : ErrorKind) : Type 0 where
   pub why : LacksRoom c k (WantedForStructs r size i c) (IsTooLargeList c.canonicalize r size i) ⊎ RefusedElements (form_of c.canonicalize) r size i c.before c.after k
   pub off : (c.after ≡ c.before) ⊎ BreaksOffAmongElements (form_of c.canonicalize) r size i c.before c.after
-  pub left : Leaves c
+  pub left : Leaves c k
 
 -- So of its elements, cut to the sections that are kept, where the rows of so many others are still to come.
 pub record CopiesRows (r : Reading) (sizes : ElementSizes) (i left : ℕ) (c : Change) : Type 0 where
@@ -252,7 +252,7 @@ pub record StopsAtElements (r : Reading) (sizes : ElementSizes) (i : ℕ) (c : C
       ⊎ RefusedElements (form_of c.canonicalize) r sizes.source i c.before c.after k
   pub off : BreaksOffAmongElements (form_of c.canonicalize) r sizes.source i c.before c.after
   pub left : ArePartlyFilled c.old.words c.new.words c.segment c.at sizes.kept.data_words sizes.kept.pointers i
-  pub memory : SpendsMemory c.old c.new
+  pub memory : SpendsMemory c.old c.new k
 
 -- So of one element, of which the kept sections are copied.
 pub record CopiesElement (r : Reading) (sizes : ElementSizes) (c : Change) : Type 0 where
@@ -275,4 +275,4 @@ pub record StopsAtElement (r : Reading) (sizes : ElementSizes) (c : Change) (k :
   pub left : Trees
   pub few : count left ≤ sizes.kept.pointers
   pub made : IsElementFilled c.old.words c.new.words c.segment c.at (words_from r sizes.kept.data_words) left
-  pub memory : SpendsMemory c.old c.new
+  pub memory : SpendsMemory c.old c.new k

@@ -107,7 +107,7 @@ ListStands list c = (t : Tree) → ReadsList (form_of c.canonicalize) list c.bef
 pub record StopsAtList (list : ListElements) (c : Change) (k : ErrorKind) : Type 0 where
   pub why : RefusesElements list c k
   pub off : (c.after ≡ c.before) ⊎ BreaksOffList (form_of c.canonicalize) list c.before c.after
-  pub left : Leaves c
+  pub left : Leaves c k
 
 module _ {A : Type 0} (g : Ghosts A) where
   -- The elements of a list that is read.

@@ -82,7 +82,7 @@ RefusesSections ws r q c k = LacksSections ws r q c k ⊎ RefusedAll (form_of c.
 pub record StopsAtSections (ws : List ℕ) (r : Reading) (q : ℕ) (c : Change) (k : ErrorKind) : Type 0 where
   pub why : RefusesSections ws r q c k
   pub off : (c.after ≡ c.before) ⊎ BreaksOffAmong (form_of c.canonicalize) r q c.before c.after
-  pub left : Leaves c
+  pub left : Leaves c k
 
 -- Of i pointers from a place on the first are read and copied as they stand; the next one is refused by the name k, and stays
 -- null.
@@ -96,7 +96,7 @@ pub record CopiesFirst (r : Reading) (i : ℕ) (c : Change) (k : ErrorKind) : Ty
   pub cleared : IsReplaced filled c.new.words c.segment (c.at + count first) Null Null
   pub why : ((n : ℕ) × RefusesWords c.old c.new n k × StopsWithin plain (WantsWords false n) (behind r (count first)) between c.after) ⊎ Refused plain (behind r (count first)) between c.after k
   pub off : BreaksOff plain (behind r (count first)) between c.after
-  pub memory : SpendsMemory c.old c.new
+  pub memory : SpendsMemory c.old c.new k
 
 module _ {A : Type 0} (g : Ghosts A) where
   -- The data words of a struct that is read.

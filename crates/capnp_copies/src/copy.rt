@@ -70,7 +70,7 @@ pub fn copy_value<A: BuilderArena, B: ReaderArena>(
     ensures spent { OnErr result (BreaksOff (form_of canonicalize) (reading B.ReaderArena from.entry) lim.old lim.new) }
     ensures taken { TakesAtMost result (reading B.ReaderArena from.entry) (change canonicalize id at (A.view arena.old) (A.view arena.new) lim.old lim.new) }
     ensures granted { OnOk result (KeepsMemory (A.view arena.old) (A.view arena.new)) }
-    ensures memory { OnErr result (SpendsMemory (A.view arena.old) (A.view arena.new)) }
+    ensures memory { IfErr result (SpendsMemory (A.view arena.old) (A.view arena.new)) }
 {
     match copy_object(arena, id, at, from, lim, canonicalize) {
         Ok(()) => Ok(()),

@@ -3,9 +3,8 @@ use Rattle.std.proofs.Common.{◌≡◌, inl, inr, ◌⊎◌, ℕ, zero, suc, �
 use Rattle.std.proofs.lemmas.Bool.{cases_lt, false≢true}
 use Rattle.capnp_words.specs.Meter.{Meter}
 use Rattle.capnp_words.specs.declared.error.ErrorKind.{ErrorKind}
-use Rattle.capnp_words.specs.declared.error.ErrorKind.TheVariants.{AllocationFailed, FoundBitListWhereStructListWasExpected, InvalidSegmentId, MessageContainsListWithIncompatibleElementType, MessageContainsNonListPointerWhereListPointerWasExpected, MessageContainsNonStructPointerWhereStructPointerWasExpected, MessageContainsOutOfBoundsPointer, MessageTooLarge, NoSuchPlace, ReadLimitExceeded}
+use Rattle.capnp_words.specs.declared.error.ErrorKind.TheVariants.{AllocationFailed, FoundBitListWhereStructListWasExpected, InvalidSegmentId, MessageContainsListWithIncompatibleElementType, MessageContainsNonListPointerWhereListPointerWasExpected, MessageContainsNonStructPointerWhereStructPointerWasExpected, MessageContainsOutOfBoundsPointer, NoSuchPlace, ReadLimitExceeded}
 use Rattle.capnp_pointers.specs.declared.wire_pointer.ElementSize.TheVariants.{Void}
-use Rattle.capnp_arena.specs.Allocations.{one_more}
 use Rattle.capnp_arena.specs.View.{View}
 use Rattle.capnp_arena.specs.Checks.{misplaced}
 use Rattle.capnp_arena.specs.declared.arena.reader_arena.ReaderArena.{Ghosts}
@@ -15,6 +14,7 @@ use Rattle.capnp_format.specs.Segments.{Segments, Target, segment, AreWords}
 use Rattle.capnp_format.specs.Word.{kind, element_size}
 use Rattle.capnp_format.specs.Tree.{Tree, Null, Struct, Trees, count}
 use Rattle.capnp_making.specs.Memory.{HasRoom, KeepsMemory, SpendsMemory}
+use Rattle.capnp_making.proofs.Memory.{not_the_allocator}
 use Rattle.capnp_making.specs.Stored.{Puts}
 use Rattle.capnp_objects.specs.declared.object.Expected.{Expected}
 use Rattle.capnp_objects.specs.declared.object.Expected.TheVariants.{Struct as ExpectedStruct, List as ExpectedList}
@@ -47,10 +47,10 @@ use Rattle.capnp_edits.specs.declared.edit.copying.Wanted.{Wanted}
 use Rattle.capnp_edits.specs.declared.edit.copying.Wanted.TheVariants.{Value, Struct as AStruct, List as AList, Content}
 use Rattle.capnp_edits.specs.Paths.{PointerTo}
 use Rattle.capnp_edits.specs.Sources.{copying, is_whole, RefusesNext, words_in, root_of, once_at_root, as_wanted, HasRoot, IsOpened, CanBeCopiedAs, IsRootless, IsWithheld, IsUnread, FitsBehind, Sections, LeadsToStruct, LeadsToList, RefusesAs, CopiedOrRefused}
-use Rattle.capnp_edits.specs.Edits.{refusal_of, made, copies, copied_by, IsOfMemory, IsSourceRefused, IsCallRefused, CallFits, OpFits, words_taken, is_of_place, IsRefusedAs, IsCopyCounted, IsCounted, refusals_after, CopiesRoot, root_copied, root_not_copied, root_unread, Does, is_copied, is_not_copied, is_unread}
+use Rattle.capnp_edits.specs.Edits.{refusal_of, made, copies, copied_by, IsOfMemory, IsSourceRefused, IsCallRefused, CallFits, OpFits, words_taken, is_of_place, IsRefusedAs, refusals_after, CopiesRoot, root_copied, root_not_copied, root_unread, Does, is_copied, is_not_copied, is_unread}
 use Rattle.capnp_edits.proofs.Applied.{of_allocation, of_no_place, never_refused}
-use Rattle.capnp_edits.proofs.CopiedStruct.{struct_at, struct_reads, struct_refused, struct_counted, struct_given, struct_fits}
-use Rattle.capnp_edits.proofs.CopiedList.{list_at, list_reads, list_refused, list_counted, list_given, list_small, list_fits}
+use Rattle.capnp_edits.proofs.CopiedStruct.{struct_at, struct_reads, struct_refused, struct_given, struct_fits}
+use Rattle.capnp_edits.proofs.CopiedList.{list_at, list_reads, list_refused, list_given, list_small, list_fits}
 use Rattle.capnp_edits.proofs.Steps.{same_some}
 
 -- What a copy leaves that is done.
@@ -65,19 +65,11 @@ KeepsSections s c = (ts : Trees) × (count ts ≡ s.pointers) × ReadsAll (form_
 abbrev KeepsList : ListElements → Change → Type 0
 KeepsList l c = (t : Tree) × ReadsList (form_of c.canonicalize) l c.before c.after t × IsKept c t
 
--- A copy is refused for want of memory, or its value can't be read; it is counted where it is the allocator's; and never for a place.
+-- A copy is refused for want of memory, or its value can't be read; and never for a place.
 
 value_refused : (b : Bool) (id at : ℕ) (old new : View) (r : Reading) (m m' : Meter) (k : ErrorKind) → RefusesValue r (change b id at old new m m') k → IsOfMemory k ⊎ Refused (form_of b) r m m' k
 value_refused b id at old new r m m' k (inl (n, (refuses, none), wanted, large)) = inl (of_allocation old new (length new.words) (n + 1) k refuses)
 value_refused b id at old new r m m' k (inr refused) = inr refused
-
-value_counted : (b : Bool) (id at : ℕ) (old new : View) (r : Reading) (m m' : Meter) (k : ErrorKind) → RefusesValue r (change b id at old new m m') k → k ≡ AllocationFailed → new.refusals ≡ one_more old.refusals
-value_counted b id at old new r m m' k (inl (n, (refuses, none), wanted, large)) e = elim refuses [
-  | inl h ↦ h.3
-  | inr (inl h) ↦ absurd (let f : AllocationFailed ≡ MessageTooLarge (n + 1) = sym e ∙ h.0 in cc)
-  | inr (inr h) ↦ absurd (let f : AllocationFailed ≡ MessageTooLarge _ = sym e ∙ h.0 in cc)
-]
-value_counted b id at old new r m m' k (inr refused) e = absurd (not_for_memory (subst (λ y. Refused (form_of b) r m m' y) e refused))
 
 copy_refused_as : (w : Wanted) (b : Bool) (id at : ℕ) (old new : View) (r : Reading) (m m' : Meter) (k : ErrorKind) → is_whole w ≡ true → RefusesAs w r (change b id at old new m m') k →
     IsOfMemory k ⊎ Refused (form_of b) r m m' k
@@ -86,23 +78,9 @@ copy_refused_as AStruct b id at old new r m m' k whole (s, leads, refuses) = str
 copy_refused_as AList b id at old new r m m' k whole (l, n, leads, refuses) = list_refused b id at old new r m n m' l k leads refuses
 copy_refused_as Content b id at old new r m m' k whole refuses = absurd (cc)
 
-content_counted : (b : Bool) (id at : ℕ) (old new : View) (m m' : Meter) (s : Sections) (i : ℕ) (k : ErrorKind) → RefusesNext s i (change b id at old new m m') k → k ≡ AllocationFailed → new.refusals ≡ one_more old.refusals
-content_counted b id at old new m m' s i k (between, inl (taken, n, limits, (refuses, none))) e = elim refuses [
-  | inl h ↦ h.3 ∙ ap one_more (ap (λ (v : View). v.refusals) limits)
-  | inr (inl h) ↦ absurd (let f : AllocationFailed ≡ MessageTooLarge (n + 1) = sym e ∙ h.0 in cc)
-  | inr (inr h) ↦ absurd (let f : AllocationFailed ≡ MessageTooLarge _ = sym e ∙ h.0 in cc)
-]
-content_counted b id at old new m m' s i k (between, inr refused) e = absurd (not_for_memory (subst (λ y. Refused plain (behind s.first i) between m' y) e refused))
-
 content_nowhere : (b : Bool) (id at : ℕ) (old new : View) (m m' : Meter) (s : Sections) (i : ℕ) (k : ErrorKind) → RefusesNext s i (change b id at old new m m') k → k ≡ NoSuchPlace → ⊥
 content_nowhere b id at old new m m' s i k (between, inl (taken, n, limits, (refuses, none))) e = of_no_place k (of_allocation taken new (length new.words) (n + 1) k refuses) e
 content_nowhere b id at old new m m' s i k (between, inr refused) e = not_for_place (subst (λ y. Refused plain (behind s.first i) between m' y) e refused)
-
-copy_counted_as : (w : Wanted) (b : Bool) (id at : ℕ) (old new : View) (r : Reading) (m m' : Meter) (k : ErrorKind) → RefusesAs w r (change b id at old new m m') k → k ≡ AllocationFailed → new.refusals ≡ one_more old.refusals
-copy_counted_as Value b id at old new r m m' k refuses = value_counted b id at old new r m m' k refuses
-copy_counted_as AStruct b id at old new r m m' k (s, leads, refuses) = struct_counted b id at old new s.limiter m' s k refuses
-copy_counted_as AList b id at old new r m m' k (l, n, leads, refuses) = list_counted b id at old new n m' l k refuses
-copy_counted_as Content b id at old new r m m' k (s, i, leads, refuses) = content_counted b id at old new m m' s i k refuses
 
 whole_nowhere : (w : Wanted) (b : Bool) (id at : ℕ) (old new : View) (r : Reading) (m m' : Meter) (k : ErrorKind) → is_whole w ≡ true → RefusesAs w r (change b id at old new m m') k → k ≡ NoSuchPlace → ⊥
 whole_nowhere w b id at old new r m m' k whole refuses e = elim (copy_refused_as w b id at old new r m m' k whole refuses) [
@@ -148,11 +126,9 @@ tried_done (Err k) c old new place whole tried cleared =
       | inr refused ↦ inr (tried.root, (tried.after, refused))
     ]) refl cleared
 
-pub tried_counted : {A : Type 0} (result : Result A ErrorKind) (c : Copying) (old new : View) (place : PointerPlace) → Tried result c old new place → OnOk result (KeepsMemory old new) → OnErr result (SpendsMemory old new) →
-    IsCopyCounted (refusal_of result) old.refusals new.refusals
-tried_counted (Ok x) c old new place tried keeps spends = (λ e. ap (λ (v : View). v.refusals) keeps.0, λ e. absurd (cc), inl (ap (λ (v : View). v.refusals) keeps.0))
-tried_counted (Err k) c old new place tried keeps spends =
-    (λ e. absurd (cc), λ e. copy_counted_as c.wanted c.canonicalize place.segment place.word old new (root_of c.source) (once_at_root c.source) tried.after k tried.refused (same_some k AllocationFailed e), spends.2)
+pub copy_counted : {A : Type 0} (result : Result A ErrorKind) (old new : View) → OnOk result (KeepsMemory old new) → IfErr result (SpendsMemory old new) → new.refusals ≡ refusals_after (refusal_of result) old.refusals
+copy_counted (Ok x) old new keeps spends = ap (λ (v : View). v.refusals) keeps.0
+copy_counted (Err k) old new keeps spends = spends.2
 
 pub tried_named : {A : Type 0} (result : Result A ErrorKind) (c : Copying) (old new : View) (place : PointerPlace) → Tried result c old new place → IfErr result (IsSourceRefused old new c)
 tried_named (Ok x) c old new place tried = tt
@@ -377,8 +353,8 @@ other_unread : (c : Copying) (k : ErrorKind) → IsUnread c k → is_of_call k �
 other_unread c k (inl rootless) = other_rootless k (rootless_named c.source k rootless)
 other_unread c k (inr (has, (m, withheld))) = other_unwanted c.wanted (root_of c.source) (once_at_root c.source) m k withheld
 
-pub unread_counted : (c : Copying) (k : ErrorKind) (n : ℕ) → IsUnread c k → IsCopyCounted (Some k) n n
-unread_counted c k n unread = (λ e. refl, λ e. absurd (false≢true (sym (other_unread c k unread) ∙ ap is_of_call (same_some k AllocationFailed e))), inl refl)
+pub unread_counted : (c : Copying) (k : ErrorKind) (n : ℕ) → IsUnread c k → n ≡ refusals_after (Some k) n
+unread_counted c k n unread = sym (not_the_allocator k (λ e. false≢true (sym (other_unread c k unread) ∙ ap is_of_call e)) n)
 
 -- a copy is never refused for a place
 pub copy_nowhere : {A : Type 0} (result : Result A ErrorKind) (old new : View) (c : Copying) → IfErr result (IsSourceRefused old new c) → refusal_of result ≡ Some NoSuchPlace → new ≡ old
@@ -423,17 +399,6 @@ copy_fits result old id op c is fits room = never_refused result (fits (subst (�
 -- of content nothing is said to fit
 pub content_never : (v : View) (id : ℕ) (source : Source) → FitsBehind v id (copying source Content false) → ⊥
 content_never v id source fits = none_wanted fits.fits.value fits.fits.copied fits.fits.is_wanted
-
--- how refusals are counted
-pub counted_as : (op : Op) (c : Copying) (r : Option ErrorKind) (old new : ℕ) → copied_by op ≡ Some c → IsCopyCounted r old new → IsCounted op r old new
-counted_as op c r old new is counts = (λ none. absurd (let e : Some c ≡ None = sym is ∙ none in cc), counts)
-
-pub exactly_counted : (op : Op) (r : Option ErrorKind) (old new : ℕ) → new ≡ refusals_after r old → IsCounted op r old new
-exactly_counted op r old new e = (λ none. e, (λ f. e ∙ ap (λ x. refusals_after x old) f, λ f. e ∙ ap (λ x. refusals_after x old) f, subst (λ n. (n ≡ old) ⊎ (n ≡ one_more old)) (sym e) (either r)))
-  where
-    either : (q : Option ErrorKind) → (refusals_after q old ≡ old) ⊎ (refusals_after q old ≡ one_more old)
-    either (Some AllocationFailed) = inr refl
-    either q = inl refl
 
 -- an operation that copies none
 pub none_copied : (op : Op) → ((c : Copying) → copied_by op ≡ Some c → ⊥) → copied_by op ≡ None

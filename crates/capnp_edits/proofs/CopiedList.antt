@@ -3,12 +3,11 @@ use Rattle.std.proofs.Common.{◌≡◌, inl, inr, ◌⊎◌, ℕ, zero, suc, pr
 use lib.IntN.{pos, ◌-ℤ◌}
 use Rattle.capnp_words.specs.Meter.{Meter, Affords}
 use Rattle.capnp_words.specs.declared.error.ErrorKind.{ErrorKind}
-use Rattle.capnp_words.specs.declared.error.ErrorKind.TheVariants.{AllocationFailed, MessageContainsNonListPointerWhereListPointerWasExpected, MessageTooLarge}
+use Rattle.capnp_words.specs.declared.error.ErrorKind.TheVariants.{MessageContainsNonListPointerWhereListPointerWasExpected}
 use Rattle.capnp_pointers.specs.declared.wire_pointer.ElementSize.{ElementSize}
 use Rattle.capnp_pointers.specs.declared.wire_pointer.ElementSize.TheVariants.{Void, Bit, Byte, TwoBytes, FourBytes, EightBytes, Pointer, InlineComposite}
 use Rattle.capnp_pointers.specs.declared.wire_pointer.StructSize.{StructSize}
 use Rattle.capnp_pointers.specs.Sizes.{size_number}
-use Rattle.capnp_arena.specs.Allocations.{one_more}
 use Rattle.capnp_arena.specs.View.{View}
 use Rattle.capnp_arena.specs.declared.arena.reader_arena.ReaderArena.{Ghosts}
 use Rattle.capnp_format.specs.Means.{IsTag, Claims, count_cost}
@@ -23,14 +22,13 @@ use Rattle.capnp_objects.specs.Demands.{tag, own, Meets}
 use Rattle.capnp_objects.specs.Expected.{CanBeGiven, too_deep, misfit, narrow_elements}
 use Rattle.capnp_objects.specs.Faults.{LeadsTo, child_at}
 use Rattle.capnp_objects.specs.Outcomes.{Reads, ReadsAll, ReadsElements, Entered, MeansThere}
-use Rattle.capnp_objects.specs.Reading.{Reading, word_of, behind, words_from, sized, tag_size, pointers_of}
+use Rattle.capnp_objects.specs.Reading.{Reading, word_of, words_from, sized, tag_size}
 use Rattle.capnp_objects.specs.Refusals.{Refused, RefusedAll, RefusedElements}
 use Rattle.capnp_objects.specs.Source.{levels}
 use Rattle.capnp_objects.specs.Spending.{after, pointers_in_all, pointers_in_elements}
 use Rattle.capnp_objects.specs.Wanted.{Form, Takes}
 use Rattle.capnp_objects.proofs.Budgets.{affords_rest, paid_own}
 use Rattle.capnp_objects.proofs.Faultless.{same_target}
-use Rattle.capnp_objects.proofs.Limits.{not_for_memory}
 use Rattle.capnp_objects.proofs.Objects.{read_null, read_flat, read_pointers, read_structs, own_flat, own_pointers, own_structs}
 use Rattle.capnp_objects.proofs.Parts.{claim_list, claim_flat}
 use Rattle.capnp_objects.proofs.Refusals.{stops_pointers, stops_structs, unreadable}
@@ -138,23 +136,6 @@ pub list_refused : (b : Bool) (id at : ℕ) (old new : View) (r : Reading) (m n 
 list_refused b id at old new r m n m' l k leads (inl (i, (refuses, none), wanted, exceeds)) = inl (of_allocation old new (length new.words) (i + 1) k refuses)
 list_refused b id at old new r m n m' l k leads (inr (inl refused)) = inr (list_stops (form_of b) r m n m' l k leads refused)
 list_refused b id at old new r m n m' l k leads (inr (inr (long, named))) = inl (inr (_, named))
-
--- and the allocator is asked where it says so
-elements_not_for_memory : (form : Form) (l : ListElements) (m m' : Meter) (k : ErrorKind) → RefusedList form l m m' k → k ≡ AllocationFailed → ⊥
-elements_not_for_memory form l m m' k (inl (is, refused)) e = not_for_memory (subst (λ y. Refused form (behind l.first (count refused.first)) refused.mid m' y) e refused.stops)
-elements_not_for_memory form l m m' k (inr (is, refused)) e =
-    let row = pointers_of l.first l.sections (element_count refused.first) in
-    not_for_memory (subst (λ y. Refused form (behind row (count refused.stops.first)) refused.stops.mid m' y) e refused.stops.stops)
-
-pub list_counted : (b : Bool) (id at : ℕ) (old new : View) (m m' : Meter) (l : ListElements) (k : ErrorKind) → RefusesElements l (change b id at old new m m') k → k ≡ AllocationFailed →
-    new.refusals ≡ one_more old.refusals
-list_counted b id at old new m m' l k (inl (n, (refuses, none), wanted, exceeds)) e = elim refuses [
-  | inl h ↦ h.3
-  | inr (inl h) ↦ absurd (let f : AllocationFailed ≡ MessageTooLarge (n + 1) = sym e ∙ h.0 in cc)
-  | inr (inr h) ↦ absurd (let f : AllocationFailed ≡ MessageTooLarge _ = sym e ∙ h.0 in cc)
-]
-list_counted b id at old new m m' l k (inr (inl refused)) e = absurd (elements_not_for_memory (form_of b) l m m' k refused e)
-list_counted b id at old new m m' l k (inr (inr (long, named))) e = absurd (let f : AllocationFailed ≡ MessageTooLarge _ = sym e ∙ named in cc)
 
 -- a list that can be copied is found
 record ListMeets (r : Reading) (c : ℕ) : Type 0 where

@@ -4,8 +4,7 @@ use lib.IntN.{ℤ, pos, negsuc, ◌-ℤ◌}
 use Rattle.std.proofs.lemmas.Int.{ints}
 use Rattle.capnp_words.specs.Meter.{Meter, Affords}
 use Rattle.capnp_words.specs.declared.error.ErrorKind.{ErrorKind}
-use Rattle.capnp_words.specs.declared.error.ErrorKind.TheVariants.{AllocationFailed, MessageContainsNonStructPointerWhereStructPointerWasExpected, MessageTooLarge}
-use Rattle.capnp_arena.specs.Allocations.{one_more}
+use Rattle.capnp_words.specs.declared.error.ErrorKind.TheVariants.{MessageContainsNonStructPointerWhereStructPointerWasExpected}
 use Rattle.capnp_arena.specs.View.{View}
 use Rattle.capnp_arena.specs.declared.arena.reader_arena.ReaderArena.{Ghosts}
 use Rattle.capnp_format.specs.Canonical.{word_count}
@@ -18,7 +17,7 @@ use Rattle.capnp_objects.specs.Demands.{claim, own}
 use Rattle.capnp_objects.specs.Expected.{CanBeGiven, IsSuited, too_deep}
 use Rattle.capnp_objects.specs.Faults.{child_at, LeadsTo}
 use Rattle.capnp_objects.specs.Outcomes.{Reads, ReadsAll, MeansThere}
-use Rattle.capnp_objects.specs.Reading.{Reading, behind}
+use Rattle.capnp_objects.specs.Reading.{Reading}
 use Rattle.capnp_objects.specs.Refusals.{Refused, RefusedAll}
 use Rattle.capnp_objects.specs.Source.{levels}
 use Rattle.capnp_objects.specs.Spending.{after, pointers_in_all}
@@ -26,7 +25,6 @@ use Rattle.capnp_objects.specs.Wanted.{Form, Takes}
 use Rattle.capnp_objects.proofs.Budgets.{after_none, affords_none, affords_rest, paid_own}
 use Rattle.capnp_objects.proofs.Copies.{read_none}
 use Rattle.capnp_objects.proofs.Faultless.{same_target}
-use Rattle.capnp_objects.proofs.Limits.{not_for_memory}
 use Rattle.capnp_objects.proofs.Objects.{read_null, read_struct, own_struct}
 use Rattle.capnp_objects.proofs.Parts.{claim_struct}
 use Rattle.capnp_objects.proofs.Refusals.{stops_struct, unreadable}
@@ -93,17 +91,6 @@ pub struct_refused : (b : Bool) (id at : ℕ) (old new : View) (r : Reading) (m 
 struct_refused b id at old new r m m' s k leads (inl (n, (refuses, none), wanted, exceeds)) = inl (of_allocation old new (length new.words) (n + 1) k refuses)
 struct_refused b id at old new r m m' s k leads (inr (inl refused)) = inr (struct_stops (form_of b) r m m' s k leads refused)
 struct_refused b id at old new r m m' s k leads (inr (inr (wide, named))) = inl (inr (_, named))
-
--- and the allocator is asked where it says so
-pub struct_counted : (b : Bool) (id at : ℕ) (old new : View) (m m' : Meter) (s : Sections) (k : ErrorKind) → RefusesSections s.words s.first s.pointers (change b id at old new m m') k → k ≡ AllocationFailed →
-    new.refusals ≡ one_more old.refusals
-struct_counted b id at old new m m' s k (inl (n, (refuses, none), wanted, exceeds)) e = elim refuses [
-  | inl h ↦ h.3
-  | inr (inl h) ↦ absurd (let f : AllocationFailed ≡ MessageTooLarge (n + 1) = sym e ∙ h.0 in cc)
-  | inr (inr h) ↦ absurd (let f : AllocationFailed ≡ MessageTooLarge _ = sym e ∙ h.0 in cc)
-]
-struct_counted b id at old new m m' s k (inr (inl refused)) e = absurd (not_for_memory (subst (λ y. Refused (form_of b) (behind s.first (count refused.first)) refused.mid m' y) e refused.stops))
-struct_counted b id at old new m m' s k (inr (inr (wide, named))) e = absurd (let f : AllocationFailed ≡ MessageTooLarge _ = sym e ∙ named in cc)
 
 -- a struct that can be copied is found
 struct_meets : (S : Segments) (n s p : ℕ) (ws : List ℕ) (ts : Trees) (c : ℕ) → Means S n s p (Struct ws ts) c → (a : Target) × Leads S s p a × (kind a.word ≡ 0) × (0 < n) × Claims S a (claim a.word) × (own S a ≤ c)

@@ -2,8 +2,7 @@
 use Rattle.std.proofs.Common.{◌≡◌, inl, inr, ℕ, pred, min, ◌+◌, ◌*◌, ◌/◌, ◌%◌, ◌<◌, false, List, [], ◌∷◌, length, Option, Some, None, Result, Ok, Err, IfOk, IfErr, refl, sym, ap, ap₂, ◌∙◌, subst, arith}
 use Rattle.capnp_words.specs.Meter.{Meter}
 use Rattle.capnp_words.specs.declared.error.ErrorKind.{ErrorKind}
-use Rattle.capnp_words.specs.declared.error.ErrorKind.TheVariants.{AllocationFailed, MessageTooLarge, NoSuchPlace}
-use Rattle.capnp_arena.specs.Allocations.{one_more}
+use Rattle.capnp_words.specs.declared.error.ErrorKind.TheVariants.{NoSuchPlace}
 use Rattle.capnp_arena.specs.View.{View}
 use Rattle.capnp_arena.specs.declared.arena.reader_arena.ReaderArena.{Ghosts}
 use Rattle.capnp_format.specs.Bytes.{words_of}
@@ -12,6 +11,7 @@ use Rattle.capnp_format.specs.Segments.{Segments, Target}
 use Rattle.capnp_format.specs.Tree.{Tree, Null, Capability, Struct, Flat, Pointers, Structs, Trees, no_trees, count, element_count}
 use Rattle.capnp_format.specs.Word.{data_words, pointer_count}
 use Rattle.capnp_format.proofs.WordsOf.{words}
+use Rattle.capnp_making.specs.Memory.{refusals_for}
 use Rattle.capnp_making.specs.declared.existing.ExistingStruct.{ExistingStruct}
 use Rattle.capnp_making.specs.Existing.{struct_in}
 use Rattle.capnp_making.specs.Path.{Element, update, put_struct, struct_at}
@@ -19,17 +19,15 @@ use Rattle.capnp_making.specs.Stored.{IsStored, IsReplaced}
 use Rattle.capnp_making.proofs.Replaced.{forest_stored, forest_updated, stored_within}
 use Rattle.capnp_objects.specs.declared.object.Expected.TheVariants.{Struct as ExpectedStruct}
 use Rattle.capnp_objects.specs.Outcomes.{ReadsAll}
-use Rattle.capnp_objects.specs.Reading.{Reading, behind}
+use Rattle.capnp_objects.specs.Reading.{Reading}
 use Rattle.capnp_objects.specs.Demands.{own}
 use Rattle.capnp_objects.specs.Expected.{CanBeGiven}
 use Rattle.capnp_objects.specs.Faults.{child_at}
-use Rattle.capnp_objects.specs.Refusals.{Refused}
 use Rattle.capnp_objects.specs.Spending.{after}
 use Rattle.capnp_objects.specs.Wanted.{plain}
 use Rattle.capnp_objects.proofs.Copies.{read_none, read_stop}
 use Rattle.capnp_objects.proofs.Expecting.{not_withheld}
 use Rattle.capnp_objects.proofs.Faultless.{same_target}
-use Rattle.capnp_objects.proofs.Limits.{not_for_memory}
 use Rattle.capnp_objects.proofs.Refusals.{unreadable}
 use Rattle.capnp_readers.specs.Calls.{WhereRead, IsStructRead, call}
 use Rattle.capnp_readers.specs.Readers.{reading}
@@ -53,7 +51,7 @@ use Rattle.capnp_edits.specs.declared.edit.Source.{Source}
 use Rattle.capnp_edits.specs.declared.edit.copying.Wanted.TheVariants.{Content}
 use Rattle.capnp_edits.specs.Paths.{path_of, found, IsElementFound, PointerTo, ElementOf}
 use Rattle.capnp_edits.specs.Sources.{copying, root_of, once_at_root, HasRoot, IsOpened, Sections, LeadsToStruct, no_struct, a_struct, ContentRead, FilledOrRefused}
-use Rattle.capnp_edits.specs.Edits.{refusal_of, made, fills, sections, FillsAt, FillsOrWrites, WritesAt, all_filled, first_filled, none_filled, IsCopyCounted, IsSourceRefused, IsApplied, Takes, leads_to, is_filled, is_half_filled, is_not_filled, Does, DoesAt}
+use Rattle.capnp_edits.specs.Edits.{refusal_of, made, fills, sections, FillsAt, FillsOrWrites, WritesAt, all_filled, first_filled, none_filled, refusals_after, IsSourceRefused, IsApplied, Takes, leads_to, is_filled, is_half_filled, is_not_filled, Does, DoesAt}
 use Rattle.capnp_edits.proofs.Applied.{of_allocation, denied_at, element_struct, applied_element}
 use Rattle.capnp_edits.proofs.Copied.{where_read}
 use Rattle.capnp_edits.proofs.CopiedStruct.{struct_at as source_at, struct_suits}
@@ -132,23 +130,9 @@ fill_done (Err k) g source from v m n m' old new place opened long read copied (
     ]) refl
 
 pub fill_counted : {A B : Type 0} (result : Result B ErrorKind) (g : Ghosts A) (v : StructReader A g) (n m' : Meter) (old new : View) (place : StructPlace) → IfOk result (λ x. TakesContent g v place (pointers_copied place old new n m')) →
-    IfErr result (StopsAtContent g v place (pointers_copied place old new n m')) → IsCopyCounted (refusal_of result) old.refusals new.refusals
-fill_counted (Ok x) g v n m' old new place (mid, taking, copies) refused =
-    let same : new.refusals ≡ old.refusals = ap (λ (y : View). y.refusals) copies.memory.0 ∙ ap (λ (y : View). y.refusals) taking.limits in
-    (λ e. same, λ e. absurd (cc), inl same)
-fill_counted (Err k) g v n m' old new place copied (mid, taking, stops) =
-    let same : mid.refusals ≡ old.refusals = ap (λ (y : View). y.refusals) taking.limits in
-    (λ e. absurd (cc), λ e. failed same (same_some k AllocationFailed e), elim stops.memory.2 [ inl h ↦ inl (h ∙ same) | inr h ↦ inr (h ∙ ap one_more same) ])
-  where
-    failed : mid.refusals ≡ old.refusals → k ≡ AllocationFailed → new.refusals ≡ one_more old.refusals
-    failed same e = elim stops.why [
-      | inl (i, (refuses, none), wanted) ↦ elim refuses [
-        | inl h ↦ h.3 ∙ ap one_more same
-        | inr (inl h) ↦ absurd (let f : AllocationFailed ≡ MessageTooLarge (i + 1) = sym e ∙ h.0 in cc)
-        | inr (inr h) ↦ absurd (let f : AllocationFailed ≡ MessageTooLarge _ = sym e ∙ h.0 in cc)
-      ]
-      | inr refused ↦ absurd (not_for_memory (subst (λ y. Refused plain (behind (pointers_read g v) (count stops.first)) stops.between m' y) e refused))
-    ]
+    IfErr result (StopsAtContent g v place (pointers_copied place old new n m')) → new.refusals ≡ refusals_after (refusal_of result) old.refusals
+fill_counted (Ok x) g v n m' old new place (mid, taking, copies) refused = ap (λ (y : View). y.refusals) copies.memory.0 ∙ ap (λ (y : View). y.refusals) taking.limits
+fill_counted (Err k) g v n m' old new place copied (mid, taking, stops) = stops.memory.2 ∙ ap (refusals_for k) (ap (λ (y : View). y.refusals) taking.limits)
 
 pub fill_named : {A B : Type 0} (result : Result B ErrorKind) (g : Ghosts A) (source : Source) (from : PointerReader A g) (v : StructReader A g) (m n m' : Meter) (old new : View) (place : StructPlace) → IsOpened g source from m →
     length v.content.now ≡ bytes_for v.bits → WhereRead g (call g from ExpectedStruct None) (λ p. IsStructRead g p m n v) → IfErr result (StopsAtContent g v place (pointers_copied place old new n m')) →

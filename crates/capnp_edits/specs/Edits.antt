@@ -1,5 +1,5 @@
 -- What edits make of the value of a message.
-use Rattle.std.specs.Prelude.{◌≡◌, ◌⊎◌, ℕ, min, ◌+◌, ◌*◌, ◌^◌, ◌<◌, ◌≤◌, Bool, true, false, cond, ◌&&◌, nat_le, nat_lt, List, ◌++◌, [], ◌∷◌, length, get_or, slice_set, Option, Some, None, Result, Ok, Err, ⊤}
+use Rattle.std.specs.Prelude.{◌≡◌, ◌⊎◌, ℕ, min, ◌+◌, ◌*◌, ◌^◌, ◌<◌, ◌≤◌, Bool, true, false, cond, ◌&&◌, nat_le, nat_lt, List, ◌++◌, [], ◌∷◌, length, get_or, slice_set, Option, Some, None, Result, Ok, Err}
 use Rattle.std.specs.Borrow.{Bor}
 use Rattle.capnp_words.specs.declared.error.ErrorKind.{ErrorKind}
 use Rattle.capnp_words.specs.declared.error.ErrorKind.TheVariants.{AllocationFailed, MessageTooLarge, NoSuchPlace}
@@ -10,12 +10,11 @@ use Rattle.capnp_format.specs.Numbers.{element_bits, words_for}
 use Rattle.capnp_format.specs.Segments.{Segments, Target}
 use Rattle.capnp_format.specs.Tree.{Tree, Null, Capability, Struct, Flat, Structs, count}
 use Rattle.capnp_format.specs.Forest.{IsForest}
-use Rattle.capnp_arena.specs.Allocations.{one_more}
 use Rattle.capnp_arena.specs.View.{View}
 use Rattle.capnp_making.specs.Existing.{list_in, data_in, text_in, LieIn}
 use Rattle.capnp_making.specs.Fields.{with_bits, put_field, with_field}
 use Rattle.capnp_making.specs.Filled.{AreFilled}
-use Rattle.capnp_making.specs.Memory.{HasRoom, IsRefusedFor}
+use Rattle.capnp_making.specs.Memory.{HasRoom, IsRefusedFor, refusals_for}
 use Rattle.capnp_making.specs.Made.{list_words, zero_struct, zero_structs, zero_list}
 use Rattle.capnp_making.specs.Path.{Step, struct_at, put_struct, update}
 use Rattle.capnp_making.specs.Stored.{IsStored, IsReplaced, Puts}
@@ -425,29 +424,11 @@ TakesAll es rs t u = ⊥
 abbrev pub AreApplied : Segments → Segments → List Edit → List (Option ErrorKind) → Type 0
 AreApplied S R es rs = (t : Tree) → IsForest S t → (u : Tree) × IsForest R u × TakesAll es rs t u
 
--- How often memory was refused, after a refusal by a name, and after edits with their outcomes.
+-- How often memory was refused, after an outcome, and after those of edits in order: once more for each AllocationFailed.
 abbrev pub refusals_after : Option ErrorKind → ℕ → ℕ
-refusals_after (Some AllocationFailed) n = one_more n
-refusals_after r n = n
+refusals_after (Some k) n = refusals_for k n
+refusals_after None n = n
 
 abbrev pub refusals_after_all : List (Option ErrorKind) → ℕ → ℕ
 refusals_after_all [] n = n
 refusals_after_all (r ∷ rs) n = refusals_after_all rs (refusals_after r n)
-
--- So a copy is counted, which may have been refused memory, too, where it is refused by another name; and any operation.
-abbrev pub IsCopyCounted : Option ErrorKind → ℕ → ℕ → Type 0
-IsCopyCounted r old new = (r ≡ None → new ≡ old) × (r ≡ Some AllocationFailed → new ≡ one_more old) × ((new ≡ old) ⊎ (new ≡ one_more old))
-
-abbrev pub IsCounted : Op → Option ErrorKind → ℕ → ℕ → Type 0
-IsCounted op r old new = (copied_by op ≡ None → new ≡ refusals_after r old) × IsCopyCounted r old new
-
--- So are edits in order.
-abbrev pub AreCounted : List Edit → List (Option ErrorKind) → ℕ → ℕ → Type 0
-AreCounted [] [] old new = new ≡ old
-AreCounted (e ∷ es) (r ∷ rs) old new = (n : ℕ) × IsCounted e.op r old n × AreCounted es rs n new
-AreCounted es rs old new = ⊥
-
--- None of them copies from another message.
-abbrev pub copy_none : List Edit → Type 0
-copy_none [] = ⊤
-copy_none (e ∷ es) = (copied_by e.op ≡ None) × copy_none es

@@ -2,7 +2,7 @@
 //! operation that is done where the path leads.
 ghost use Rattle.std.specs.Prelude.{◌≡◌, ℕ, true, length, IfErr, Some};
 ghost use Rattle.capnp_words.specs.declared.error.ErrorKind.TheVariants.{NoSuchPlace};
-ghost use Rattle.capnp_edits.specs.Edits.{refusal_of, is_of_place, OpFits, IsRefusedAs, IsApplied, AreApplied, copy_none, IsCounted, AreCounted, refusals_after_all};
+ghost use Rattle.capnp_edits.specs.Edits.{refusal_of, is_of_place, OpFits, IsRefusedAs, IsApplied, AreApplied, refusals_after, refusals_after_all};
 
 mod copying;
 mod elements;
@@ -117,7 +117,7 @@ pub struct Edit<'a> {
 /// then, and the others are null.
 pub fn apply<A: BuilderArena>(arena: &mut A, edit: &Edit<'_>) -> Result<(), ErrorKind>
     ensures applied { IsApplied (A.view arena.old).words (A.view arena.new).words edit.now (refusal_of result) }
-    ensures counted { IsCounted edit.now.op (refusal_of result) (A.view arena.old).refusals (A.view arena.new).refusals }
+    ensures counted { (A.view arena.new).refusals ≡ refusals_after (refusal_of result) (A.view arena.old).refusals }
     ensures named { IfErr result (IsRefusedAs (A.view arena.old) (A.view arena.new) edit.now.op) }
     ensures fits { ((id : ℕ) → OpFits (A.view arena.old) id edit.now.op) → IfErr result (λ k. is_of_place k ≡ true) }
     ensures nowhere { refusal_of result ≡ Some NoSuchPlace → A.view arena.new ≡ A.view arena.old }
@@ -141,8 +141,7 @@ pub fn apply_all<A: BuilderArena>(
 )
     requires { length outcomes.old ≡ length edits.now }
     ensures applied { AreApplied (A.view arena.old).words (A.view arena.new).words edits.now outcomes.new }
-    ensures counted { AreCounted edits.now outcomes.new (A.view arena.old).refusals (A.view arena.new).refusals }
-    ensures exactly { copy_none edits.now → (A.view arena.new).refusals ≡ refusals_after_all outcomes.new (A.view arena.old).refusals }
+    ensures counted { (A.view arena.new).refusals ≡ refusals_after_all outcomes.new (A.view arena.old).refusals }
 {
     for (i, edit) in edits.iter().enumerate() {
         outcomes[i] = match apply(arena, edit) {

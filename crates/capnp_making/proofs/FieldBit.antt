@@ -36,7 +36,7 @@ byte_of_word (suc i) k (a ∷ b ∷ c ∷ d ∷ e ∷ f ∷ g ∷ h ∷ rest) sm
     ∙ byte_of_word i k rest (λ j. small (suc (suc (suc (suc (suc (suc (suc (suc j))))))))) m (omega arith)
 byte_of_word i k _ small m l = absurd (omega arith)
 
-set_is_put : (bs : List ℕ) (b y : ℕ) → b < length bs → set bs b y ≡ put_mid b 1 bs (y ∷ [])
+pub set_is_put : (bs : List ℕ) (b y : ℕ) → b < length bs → set bs b y ≡ put_mid b 1 bs (y ∷ [])
 set_is_put bs b y l =
     set_split bs b y l ∙ ap (λ zs. take b bs ++ (y ∷ zs)) (ap (λ n. drop n bs) (let q : suc b ≡ b + 1 = omega arith in q) ∙ sym (drop-drop 1 b bs))
 

@@ -1,11 +1,12 @@
 -- What an arena's view is after a call.
 use Rattle.std.proofs.Common.{◌≡◌, inl, inr, ℕ, ◌+◌, ◌≤◌, length, refl, sym, ap, ap₂, ◌∙◌, subst, arith}
 use Rattle.capnp_words.specs.declared.error.ErrorKind.{ErrorKind}
+use Rattle.capnp_words.specs.declared.error.ErrorKind.TheVariants.{AllocationFailed}
 use Rattle.capnp_format.specs.Segments.{Segments, segment}
 use Rattle.capnp_arena.specs.Allocations.{one_more}
 use Rattle.capnp_arena.specs.Taking.{IsAllocationRefusal}
 use Rattle.capnp_arena.specs.View.{View, KeepsLimits}
-use Rattle.capnp_making.specs.Memory.{HasRoom, KeepsMemory, SpendsMemory, IsRefusedFor, RefusesWords, RefusesGrowth}
+use Rattle.capnp_making.specs.Memory.{HasRoom, KeepsMemory, refusals_for, SpendsMemory, IsRefusedFor, RefusesWords, RefusesGrowth}
 use Rattle.capnp_making.specs.Zeroed.{IsPruned}
 
 abbrev pub words_in : View → Segments
@@ -31,26 +32,31 @@ keeps_both a b c grows x y = (y.0 ∙ ap (λ (v : View). record v { words = c.wo
 pub keeps_written : (a b : View) (S : Segments) → b ≡ record a { words = S } → KeepsMemory a b
 keeps_written a b S e = subst (KeepsMemory a) (sym e) (refl, λ k l. refl)
 
-pub spends_nothing : (a b : View) → KeepsMemory a b → SpendsMemory a b
-spends_nothing a b x =
-    let same : b.refusals ≡ a.refusals = ap (λ (v : View). v.refusals) x.0 in
-    (x.0 ∙ ap (λ n. record a { words = b.words; room = b.room; refusals = n }) (sym same), x.1, inl same)
+-- a refusal that isn't the allocator's
+pub not_the_allocator : (k : ErrorKind) → (k ≡ AllocationFailed → ⊥) → (n : ℕ) → refusals_for k n ≡ n
+not_the_allocator AllocationFailed other n = absurd (other refl)
+not_the_allocator k other n = refl
 
-pub keeps_then_spends : (a b c : View) → length a.words ≤ length b.words → KeepsMemory a b → SpendsMemory b c → SpendsMemory a c
-keeps_then_spends a b c grows x y =
+pub spends_nothing : (a b : View) (k : ErrorKind) → ((n : ℕ) → refusals_for k n ≡ n) → KeepsMemory a b → SpendsMemory a b k
+spends_nothing a b k other x =
+    let same : b.refusals ≡ a.refusals = ap (λ (v : View). v.refusals) x.0 in
+    (x.0 ∙ ap (λ n. record a { words = b.words; room = b.room; refusals = n }) (sym same), x.1, same ∙ sym (other a.refusals))
+
+pub keeps_then_spends : (a b c : View) (k : ErrorKind) → length a.words ≤ length b.words → KeepsMemory a b → SpendsMemory b c k → SpendsMemory a c k
+keeps_then_spends a b c k grows x y =
     let same : b.refusals ≡ a.refusals = ap (λ (v : View). v.refusals) x.0 in (
       y.0 ∙ ap (λ (v : View). record v { words = c.words; room = c.room; refusals = c.refusals }) x.0,
-      λ k l. y.1 k (omega arith) ∙ x.1 k l,
-      elim y.2 [ inl e ↦ inl (e ∙ same) | inr e ↦ inr (e ∙ ap one_more same) ],
+      λ j l. y.1 j (omega arith) ∙ x.1 j l,
+      y.2 ∙ ap (refusals_for k) same,
     )
 
-pub spends_then_limits : (a b c : View) → SpendsMemory a b → KeepsLimits b c → SpendsMemory a c
-spends_then_limits a b c x e =
+pub spends_then_limits : (a b c : View) (k : ErrorKind) → SpendsMemory a b k → KeepsLimits b c → SpendsMemory a c k
+spends_then_limits a b c k x e =
     let room : c.room ≡ b.room = ap (λ (v : View). v.room) e in
     let times : c.refusals ≡ b.refusals = ap (λ (v : View). v.refusals) e in (
       e ∙ ap (λ (v : View). record v { words = c.words }) x.0 ∙ ap₂ (λ (n : ℕ) (f : ℕ → ℕ). record a { words = c.words; room = f; refusals = n }) (sym times) (sym room),
-      λ k l. ap (λ (f : ℕ → ℕ). f k) room ∙ x.1 k l,
-      elim x.2 [ inl f ↦ inl (times ∙ f) | inr f ↦ inr (times ∙ f) ],
+      λ j l. ap (λ (f : ℕ → ℕ). f j) room ∙ x.1 j l,
+      times ∙ x.2,
     )
 
 -- a refusal, told of a view before and of one after
@@ -75,7 +81,7 @@ pub refused_before : (a b c : View) (k : ErrorKind) → RefusesGrowth a b k → 
 refused_before a b c k (n, x) e pruned = (n, words_refused_before a b c n k x e pruned)
 
 -- an object that is refused
-pub made_refused : (a b : View) (id n : ℕ) (k : ErrorKind) → IsRefusedFor a b n k → b.words ≡ a.words → (HasRoom a id n → ⊥) → RefusesWords a b n k × SpendsMemory a b
+pub made_refused : (a b : View) (id n : ℕ) (k : ErrorKind) → IsRefusedFor a b n k → b.words ≡ a.words → (HasRoom a id n → ⊥) → RefusesWords a b n k × SpendsMemory a b k
 made_refused a b id n k (r, e) words full =
     let room : b.room ≡ a.room = ap (λ (v : View). v.room) e in
     let same : (j : ℕ) → b.room j ≡ a.room j = λ j. ap (λ (f : ℕ → ℕ). f j) room in
@@ -89,9 +95,9 @@ made_refused a b id n k (r, e) words full =
         e ∙ ap (λ (f : ℕ → ℕ). record a { words = b.words; room = f; refusals = b.refusals }) (sym room),
         λ j l. same j,
         elim r [
-          | inl (x, f, g, h) ↦ inr h
-          | inr (inl (x, f, g, h)) ↦ inl h
-          | inr (inr (x, f, h)) ↦ inl h
+          | inl (x, f, g, h) ↦ h ∙ sym (ap (λ i. refusals_for i a.refusals) x)
+          | inr (inl (x, f, g, h)) ↦ h ∙ sym (ap (λ i. refusals_for i a.refusals) x)
+          | inr (inr (x, f, h)) ↦ h ∙ sym (ap (λ i. refusals_for i a.refusals) x)
         ],
       ),
     )

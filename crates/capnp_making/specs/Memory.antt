@@ -47,11 +47,17 @@ CanRefuse old n k =
     ⊎ ((k ≡ MessageTooLarge (n + 1)) × (max_segment_words < n + 1) × (length old.words < max_segments))
     ⊎ ((k ≡ MessageTooLarge (2 ^ 64 - 1)) × (length old.words ≡ max_segments))
 
--- Nothing but words is changed, the room of segments that are new, and how often memory was refused, which is once more at most.
-abbrev pub SpendsMemory : View → View → Type 0
-SpendsMemory old new =
+-- How often memory was refused, after a refusal by the name k.
+abbrev pub refusals_for : ErrorKind → ℕ → ℕ
+refusals_for AllocationFailed n = one_more n
+refusals_for k n = n
+
+-- A call is refused by the name k: nothing but words is changed, the room of segments that are new, and how often memory was
+-- refused, which is once more where that is the name, and else as before.
+abbrev pub SpendsMemory : View → View → ErrorKind → Type 0
+SpendsMemory old new k =
     (new ≡ record old { words = new.words; room = new.room; refusals = new.refusals }) × SameRoomBelow (length old.words) old.room new.room
-    × ((new.refusals ≡ old.refusals) ⊎ (new.refusals ≡ one_more old.refusals))
+    × (new.refusals ≡ refusals_for k old.refusals)
 
 -- n words and a pad are refused by this name, and no segment that is there now has room for them.
 abbrev pub RefusesWords : View → View → ℕ → ErrorKind → Type 0

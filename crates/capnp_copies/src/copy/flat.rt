@@ -41,7 +41,7 @@ pub(crate) fn copy_flat<A: BuilderArena>(
     ensures granted { OnOk result (KeepsMemory (A.view arena.old) (A.view arena.new)) }
     ensures refused { IfErr result (RefusesWords (A.view arena.old) (A.view arena.new) (words_for (size_number size) count)) }
     ensures kept { OnErr result ((A.view arena.new).words ≡ (A.view arena.old).words) }
-    ensures memory { OnErr result (SpendsMemory (A.view arena.old) (A.view arena.new)) }
+    ensures memory { IfErr result (SpendsMemory (A.view arena.old) (A.view arena.new)) }
 {
     match make_list(arena, id, at, size, count) {
         Ok(start) => {

@@ -52,7 +52,7 @@ pub fn copy_list<A: BuilderArena, B: ReaderArena>(
     ensures long { IsTooLong (elements_read B.ReaderArena value.entry) → (result ≡ Err (MessageTooLarge (2 ^ 64 - 1))) × (lim.new ≡ lim.old) }
     ensures taken { TakesForList B.ReaderArena result value.entry (change canonicalize id at (A.view arena.old) (A.view arena.new) lim.old lim.new) }
     ensures granted { OnOk result (KeepsMemory (A.view arena.old) (A.view arena.new)) }
-    ensures memory { OnErr result (SpendsMemory (A.view arena.old) (A.view arena.new)) }
+    ensures memory { IfErr result (SpendsMemory (A.view arena.old) (A.view arena.new)) }
 {
     match copy_elements_read(arena, id, at, value, lim, canonicalize) {
         Ok(()) => Ok(()),

@@ -53,7 +53,7 @@ pub fn copy_struct_value<A: BuilderArena, B: ReaderArena>(
     ensures spent { OnErr result ((lim.new ≡ lim.old) ⊎ BreaksOffAmong (form_of canonicalize) (pointers_read B.ReaderArena value.entry) value.entry.pointer_count lim.old lim.new) }
     ensures taken { TakesForStruct B.ReaderArena result value.entry (change canonicalize id at (A.view arena.old) (A.view arena.new) lim.old lim.new) }
     ensures granted { OnOk result (KeepsMemory (A.view arena.old) (A.view arena.new)) }
-    ensures memory { OnErr result (SpendsMemory (A.view arena.old) (A.view arena.new)) }
+    ensures memory { IfErr result (SpendsMemory (A.view arena.old) (A.view arena.new)) }
 {
     match copy_sections(arena, id, at, value, lim, canonicalize) {
         Ok(()) => Ok(()),

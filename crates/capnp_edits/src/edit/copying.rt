@@ -3,7 +3,7 @@ ghost use Rattle.std.specs.Prelude.{◌≡◌, true, IsOk, IfOk, IfErr};
 ghost use Rattle.capnp_format.specs.Segments.{IsPlace};
 ghost use Rattle.capnp_builders.specs.Building.{built, IsThere};
 ghost use Rattle.capnp_edits.specs.Sources.{is_whole, FitsBehind, IsOpened, IsRootless};
-ghost use Rattle.capnp_edits.specs.Edits.{refusal_of, copied_by, place_of, IsCopyCounted, CopiesRoot, IsSourceRefused};
+ghost use Rattle.capnp_edits.specs.Edits.{refusal_of, copied_by, place_of, refusals_after, CopiesRoot, IsSourceRefused};
 
 use crate::edit::{Op, Source};
 use capnp_arena::arena::{BuilderArena, ReaderArena, ReaderArenaImpl, SegmentArray};
@@ -80,7 +80,7 @@ fn copy_root<A: BuilderArena>(
     requires there { IsThere (built A.view pointer.old) }
     requires whole { is_whole copying.wanted ≡ true }
     ensures done { CopiesRoot (A.view pointer.old.arena.now).words (A.view pointer.new.arena.now).words (place_of pointer.old) copying.entry (refusal_of result) }
-    ensures counted { IsCopyCounted (refusal_of result) (A.view pointer.old.arena.now).refusals (A.view pointer.new.arena.now).refusals }
+    ensures counted { (A.view pointer.new.arena.now).refusals ≡ refusals_after (refusal_of result) (A.view pointer.old.arena.now).refusals }
     ensures named { IfErr result (IsSourceRefused (A.view pointer.old.arena.now) (A.view pointer.new.arena.now) copying.entry) }
     ensures fits { FitsBehind (A.view pointer.old.arena.now) pointer.old.segment copying.entry → IsOk result }
     ensures same { pointer.new.arena.ghost_name ≡ pointer.old.arena.ghost_name }
@@ -112,7 +112,7 @@ pub(crate) fn edit_source<A: BuilderArena>(
     requires there { IsPlace (A.view arena.old).words place.segment place.word }
     requires whole { is_whole copying.wanted ≡ true }
     ensures done { CopiesRoot (A.view arena.old).words (A.view arena.new).words place copying.entry (refusal_of result) }
-    ensures counted { IsCopyCounted (refusal_of result) (A.view arena.old).refusals (A.view arena.new).refusals }
+    ensures counted { (A.view arena.new).refusals ≡ refusals_after (refusal_of result) (A.view arena.old).refusals }
     ensures named { IfErr result (IsSourceRefused (A.view arena.old) (A.view arena.new) copying.entry) }
     ensures fits { FitsBehind (A.view arena.old) place.segment copying.entry → IsOk result }
 {

@@ -8,7 +8,7 @@ ghost use Rattle.capnp_builders.specs.Content.{TakesContent, StopsAtContent, poi
 ghost use Rattle.capnp_words.specs.declared.error.ErrorKind.TheVariants.{NoSuchPlace};
 ghost use Rattle.capnp_edits.specs.declared.edit.copying.Wanted.TheVariants.{Content};
 ghost use Rattle.capnp_edits.specs.Sources.{copying};
-ghost use Rattle.capnp_edits.specs.Edits.{refusal_of, is_of_place, sections, FillsAt, FillsOrWrites, IsCopyCounted, IsCounted, IsSourceRefused, IsRefusedAs, OpFits};
+ghost use Rattle.capnp_edits.specs.Edits.{refusal_of, is_of_place, sections, FillsAt, FillsOrWrites, refusals_after, IsSourceRefused, IsRefusedAs, OpFits};
 
 use crate::edit::copying::open_source;
 use crate::edit::fields::edit_struct;
@@ -65,7 +65,7 @@ pub(crate) fn fill<A: BuilderArena>(
 ) -> Result<(), ErrorKind>
     requires { LiesIn (A.view arena.old).words parent }
     ensures filled { FillsAt (A.view arena.old).words (A.view arena.new).words (sections parent) source.entry (refusal_of result) }
-    ensures counted { IsCopyCounted (refusal_of result) (A.view arena.old).refusals (A.view arena.new).refusals }
+    ensures counted { (A.view arena.new).refusals ≡ refusals_after (refusal_of result) (A.view arena.old).refusals }
     ensures named { IfErr result (IsSourceRefused (A.view arena.old) (A.view arena.new) (copying source.entry Content false)) }
 {
     let (root, mut lim) = match open_source(source) {
@@ -90,7 +90,7 @@ pub(crate) fn edit_element<A: BuilderArena>(
 ) -> Result<(), ErrorKind>
     requires { LiesIn (A.view arena.old).words parent }
     ensures done { FillsOrWrites (A.view arena.old).words (A.view arena.new).words parent op.entry (refusal_of result) }
-    ensures counted { IsCounted op.entry (refusal_of result) (A.view arena.old).refusals (A.view arena.new).refusals }
+    ensures counted { (A.view arena.new).refusals ≡ refusals_after (refusal_of result) (A.view arena.old).refusals }
     ensures named { IfErr result (IsRefusedAs (A.view arena.old) (A.view arena.new) op.entry) }
     ensures fits { OpFits (A.view arena.old) parent.segment op.entry → IfErr result (λ k. is_of_place k ≡ true) }
     ensures nowhere { refusal_of result ≡ Some NoSuchPlace → A.view arena.new ≡ A.view arena.old }

@@ -1,8 +1,7 @@
-use Rattle.std.proofs.Common.{◌≡◌, sym, ap, ◌∙◌, subst}
-use Rattle.std.proofs.lemmas.List.{length-set}
-use Rattle.capnp_edits.specs.declared.edit.Edit.{Edit}
-use Rattle.capnp_edits.specs.Edits.{refusal_of, IsApplied, IsCounted}
-use Rattle.capnp_edits.proofs.Folded.{next_applied, next_counted, counted_whole}
+use Rattle.std.proofs.Common.{◌≡◌, sym, ap, ◌∙◌, subst, arith}
+use Rattle.std.proofs.lemmas.List.{length-set, take_all}
+use Rattle.capnp_edits.specs.Edits.{refusal_of, IsApplied, refusals_after_all}
+use Rattle.capnp_edits.proofs.Folded.{next_applied, next_counted}
 use Rattle.capnp_edits.proofs.edit.apply_all.Goals as goal
 use Rattle.capnp_edits.proofs.edit.apply_all.Goals.{in-Ok, in-Err}
 
@@ -15,12 +14,12 @@ loop-i-preserved g c =
     let old = g.A.BuilderArena.view c.loop-i.arena in
     let new = g.A.BuilderArena.view c.apply.new.arena in
     let applied = subst (λ e. IsApplied old.words new.words e (refusal_of c.apply.result)) c.index-edits-i.is c.apply.ensures.applied in
-    let counted = subst (λ (e : Edit). IsCounted e.op (refusal_of c.apply.result) old.refusals new.refusals) c.index-edits-i.is c.apply.ensures.counted in
     record {
       applied = next_applied _ _ _ c.args.edits.now c.loop-i.outcomes c.loop-i.i edit (refusal_of c.apply.result) r c.loop-i-test.true before.long same before.applied applied;
-      counted = next_counted c.args.edits.now c.loop-i.outcomes c.loop-i.i edit _ _ _ (refusal_of c.apply.result) r c.loop-i-test.true before.long same before.counted counted;
+      counted = next_counted c.loop-i.outcomes c.loop-i.i _ _ _ (refusal_of c.apply.result) r (omega (arith, c.loop-i-test.true, before.long)) same before.counted c.apply.ensures.counted;
       long = length-set c.loop-i.outcomes c.loop-i.i r ∙ before.long;
     }
 
-pub returns-clause-exactly : goal.returns-clause-exactly
-returns-clause-exactly g c = counted_whole c.args.edits.now c.loop-i.outcomes c.loop-i.i _ _ c.loop-i-test.false c.loop-i.invariant.long c.loop-i.invariant.counted
+pub returns-clause-counted : goal.returns-clause-counted
+returns-clause-counted g c =
+    c.loop-i.invariant.counted ∙ ap (λ ys. refusals_after_all ys (g.A.BuilderArena.view c.args.arena.now).refusals) (take_all c.loop-i.i c.loop-i.outcomes (omega (arith, c.loop-i-test.false, c.loop-i.invariant.long)))

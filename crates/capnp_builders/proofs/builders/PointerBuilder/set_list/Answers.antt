@@ -31,7 +31,7 @@ pub returns-clause-memory : goal.returns-clause-memory
 returns-clause-memory g c =
     let old : View = g.A.BuilderArena.view c.args.self.now.arena.now in
     let mid : View = g.A.BuilderArena.view c.clear.new.arena in
-    err_so c.copy_list.result _ _ c.copy_list.ensures.memory (λ k spends. keeps_then_spends old mid (g.A.BuilderArena.view c.copy_list.new.arena) (omega (arith, c.clear.ensures.only.segments)) (keeps_written old mid _ c.clear.ensures.limits) spends)
+    err_so c.copy_list.result _ _ c.copy_list.ensures.memory (λ k spends. keeps_then_spends old mid (g.A.BuilderArena.view c.copy_list.new.arena) k (omega (arith, c.clear.ensures.only.segments)) (keeps_written old mid _ c.clear.ensures.limits) spends)
 
 pub returns-clause-there : goal.returns-clause-there
 returns-clause-there g c =

@@ -13,7 +13,7 @@ use Rattle.capnp_copies.proofs.FilledObjects.{nothing_made, nothing_left}
 use Rattle.capnp_copies.proofs.FilledSections.{SectionsBegun, sections_null, sections_inside, sections_copied, sections_stop}
 use Rattle.capnp_copies.proofs.KeptForms.{SectionsCut}
 use Rattle.capnp_copies.proofs.TooLarge.{no_sections_room}
-use Rattle.capnp_making.specs.Memory.{HasRoom}
+use Rattle.capnp_making.specs.Memory.{HasRoom, refusals_for}
 use Rattle.capnp_copies.proofs.FlatRead.{ok_so, err_so}
 use Rattle.capnp_making.proofs.Memory.{keeps_itself, spends_nothing}
 use Rattle.capnp_format.specs.Tree.{Null}
@@ -28,7 +28,7 @@ returns-in-Err-clause-refused g c =
     record {
       why = inr (inr c.in-Err.ensures.wide);
       off = inl refl;
-      left = ((Null, nothing_left v.words v.words c.args.id c.args.at c.requires.place c.requires.null refl), spends_nothing v v (keeps_itself v));
+      left = ((Null, nothing_left v.words v.words c.args.id c.args.at c.requires.place c.requires.null refl), spends_nothing v v c.in-Err.k (λ n. ap (λ i. refusals_for i n) c.in-Err.ensures.wide.1) (keeps_itself v));
     }
 
 pub returns-in-Err-make_struct-clause-refused : goal.returns-in-Err-make_struct-clause-refused

@@ -1,7 +1,7 @@
 use Rattle.std.proofs.Common.{inl, refl}
 use Rattle.capnp_edits.specs.Sources.{IsUnread}
 use Rattle.capnp_edits.specs.Edits.{place_of, root_unread}
-use Rattle.capnp_edits.proofs.Copied.{Tried, tried_done, tried_counted, tried_named, tried_fits, value_tried, struct_copied, list_copied, unread_counted, struct_unread, list_unread, struct_found, list_found}
+use Rattle.capnp_edits.proofs.Copied.{Tried, tried_done, copy_counted, tried_named, tried_fits, value_tried, struct_copied, list_copied, unread_counted, struct_unread, list_unread, struct_found, list_found}
 use Rattle.capnp_edits.proofs.edit.copying.copy_root.Goals as goal
 
 -- There is no root where it is refused.
@@ -23,7 +23,7 @@ pub returns-in-Value-clause-done : goal.returns-in-Value-clause-done
 returns-in-Value-clause-done g c = tried_done c.copy_from.result c.args.copying _ _ _ c.requires.whole (value_at g c) c.copy_from.ensures.cleared
 
 pub returns-in-Value-clause-counted : goal.returns-in-Value-clause-counted
-returns-in-Value-clause-counted g c = tried_counted c.copy_from.result c.args.copying _ _ _ (value_at g c) c.copy_from.ensures.granted c.copy_from.ensures.memory
+returns-in-Value-clause-counted g c = copy_counted c.copy_from.result _ _ c.copy_from.ensures.granted c.copy_from.ensures.memory
 
 pub returns-in-Value-clause-named : goal.returns-in-Value-clause-named
 returns-in-Value-clause-named g c = tried_named c.copy_from.result c.args.copying _ _ _ (value_at g c)
@@ -40,7 +40,7 @@ pub returns-in-Ok-get_struct-clause-done : goal.returns-in-Ok-get_struct-clause-
 returns-in-Ok-get_struct-clause-done g c = tried_done c.set_struct.result c.args.copying _ _ _ c.requires.whole (struct_there g c) c.set_struct.ensures.cleared
 
 pub returns-in-Ok-get_struct-clause-counted : goal.returns-in-Ok-get_struct-clause-counted
-returns-in-Ok-get_struct-clause-counted g c = tried_counted c.set_struct.result c.args.copying _ _ _ (struct_there g c) c.set_struct.ensures.granted c.set_struct.ensures.memory
+returns-in-Ok-get_struct-clause-counted g c = copy_counted c.set_struct.result _ _ c.set_struct.ensures.granted c.set_struct.ensures.memory
 
 pub returns-in-Ok-get_struct-clause-named : goal.returns-in-Ok-get_struct-clause-named
 returns-in-Ok-get_struct-clause-named g c = tried_named c.set_struct.result c.args.copying _ _ _ (struct_there g c)
@@ -75,7 +75,7 @@ pub returns-in-Ok-get_list-clause-done : goal.returns-in-Ok-get_list-clause-done
 returns-in-Ok-get_list-clause-done g c = tried_done c.set_list.result c.args.copying _ _ _ c.requires.whole (list_there g c) c.set_list.ensures.cleared
 
 pub returns-in-Ok-get_list-clause-counted : goal.returns-in-Ok-get_list-clause-counted
-returns-in-Ok-get_list-clause-counted g c = tried_counted c.set_list.result c.args.copying _ _ _ (list_there g c) c.set_list.ensures.granted c.set_list.ensures.memory
+returns-in-Ok-get_list-clause-counted g c = copy_counted c.set_list.result _ _ c.set_list.ensures.granted c.set_list.ensures.memory
 
 pub returns-in-Ok-get_list-clause-named : goal.returns-in-Ok-get_list-clause-named
 returns-in-Ok-get_list-clause-named g c = tried_named c.set_list.result c.args.copying _ _ _ (list_there g c)

@@ -4,7 +4,7 @@ use Rattle.capnp_edits.specs.declared.edit.copying.Wanted.TheVariants.{Content}
 use Rattle.capnp_edits.specs.Sources.{copying}
 use Rattle.capnp_edits.specs.Edits.{refusal_of, copied_by, FillsOrWrites}
 use Rattle.capnp_edits.proofs.Applied.{none_counted, of_place, refused_there, kept_nowhere}
-use Rattle.capnp_edits.proofs.Copied.{counted_as, exactly_counted, copy_refused, copy_fits, copy_nowhere, content_never}
+use Rattle.capnp_edits.proofs.Copied.{copy_refused, copy_fits, copy_nowhere, content_never}
 use Rattle.capnp_edits.proofs.Filled.{writes_there}
 use Rattle.capnp_edits.proofs.edit.filling.edit_element.Goals as goal
 
@@ -13,7 +13,7 @@ returns-in-CopyContent-clause-done g c =
     subst (λ op. FillsOrWrites (g.A.BuilderArena.view c.args.arena.now).words (g.A.BuilderArena.view c.fill.new.arena).words c.args.parent op (refusal_of c.fill.result)) (sym c.in-CopyContent.is) c.fill.ensures.filled
 
 pub returns-in-CopyContent-clause-counted : goal.returns-in-CopyContent-clause-counted
-returns-in-CopyContent-clause-counted g c = counted_as c.args.op (copying c.in-CopyContent.source Content false) _ _ _ (ap copied_by c.in-CopyContent.is) c.fill.ensures.counted
+returns-in-CopyContent-clause-counted g c = c.fill.ensures.counted
 
 pub returns-in-CopyContent-clause-named : goal.returns-in-CopyContent-clause-named
 returns-in-CopyContent-clause-named g c = copy_refused c.fill.result _ _ c.args.op (copying c.in-CopyContent.source Content false) (ap copied_by c.in-CopyContent.is) c.fill.ensures.named
@@ -30,7 +30,7 @@ returns-in_default-clause-done g c = writes_there _ _ c.args.parent c.args.op _ 
 
 pub returns-in_default-clause-counted : goal.returns-in_default-clause-counted
 returns-in_default-clause-counted g c =
-    exactly_counted c.args.op _ _ _ (none_counted c.edit_struct.result _ _ (ap (λ (v : View). v.refusals) c.edit_struct.ensures.limits) (of_place c.edit_struct.result c.edit_struct.ensures.named))
+    (none_counted c.edit_struct.result _ _ (ap (λ (v : View). v.refusals) c.edit_struct.ensures.limits) (of_place c.edit_struct.result c.edit_struct.ensures.named))
 
 pub returns-in_default-clause-named : goal.returns-in_default-clause-named
 returns-in_default-clause-named g c = refused_there c.edit_struct.result _ _ c.args.op (of_place c.edit_struct.result c.edit_struct.ensures.named) c.edit_struct.ensures.kept

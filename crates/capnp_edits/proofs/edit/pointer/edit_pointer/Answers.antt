@@ -4,7 +4,7 @@ use Rattle.capnp_edits.specs.declared.edit.copying.Wanted.TheVariants.{Content}
 use Rattle.capnp_edits.specs.Sources.{copying}
 use Rattle.capnp_edits.specs.Edits.{copied_by}
 use Rattle.capnp_edits.proofs.Applied.{none_counted, refused_as, given_at, written_at, no_struct_at, out_of_range, never_nowhere, kept_nowhere, refused_there, of_place}
-use Rattle.capnp_edits.proofs.Copied.{copied_at, whole_copy, counted_as, copy_refused, copy_nowhere, copy_fits, words_fit, none_copied, exactly_counted, content_never}
+use Rattle.capnp_edits.proofs.Copied.{copied_at, whole_copy, copy_refused, copy_nowhere, copy_fits, words_fit, none_copied, content_never}
 use Rattle.capnp_edits.proofs.Filled.{filled_at, none_filled_at}
 use Rattle.capnp_edits.proofs.edit.pointer.edit_pointer.Goals as goal
 
@@ -41,7 +41,7 @@ pub returns-in-Some-copying_of-clause-done : goal.returns-in-Some-copying_of-cla
 returns-in-Some-copying_of-clause-done g c = copied_at _ _ c.args.place c.args.op c.in-Some-copying_of.copying _ (whole_copy c.args.op c.in-Some-copying_of.copying c.in_default.not-CopyContent (sym c.copying_of.ensures ∙ c.in-Some-copying_of.is)) (sym c.copying_of.ensures ∙ c.in-Some-copying_of.is) c.edit_source.ensures.done
 
 pub returns-in-Some-copying_of-clause-counted : goal.returns-in-Some-copying_of-clause-counted
-returns-in-Some-copying_of-clause-counted g c = counted_as c.args.op c.in-Some-copying_of.copying _ _ _ (sym c.copying_of.ensures ∙ c.in-Some-copying_of.is) c.edit_source.ensures.counted
+returns-in-Some-copying_of-clause-counted g c = c.edit_source.ensures.counted
 
 pub returns-in-Some-copying_of-clause-named : goal.returns-in-Some-copying_of-clause-named
 returns-in-Some-copying_of-clause-named g c = copy_refused c.edit_source.result _ _ c.args.op c.in-Some-copying_of.copying (sym c.copying_of.ensures ∙ c.in-Some-copying_of.is) c.edit_source.ensures.named
@@ -53,16 +53,16 @@ pub returns-in-Some-copying_of-clause-nowhere : goal.returns-in-Some-copying_of-
 returns-in-Some-copying_of-clause-nowhere g c = copy_nowhere c.edit_source.result _ _ c.in-Some-copying_of.copying c.edit_source.ensures.named
 
 pub returns-in-Some-clause-counted : goal.returns-in-Some-clause-counted
-returns-in-Some-clause-counted g c = exactly_counted c.args.op _ _ _ (none_counted c.edit_struct.result _ _ (ap (λ (v : View). v.refusals) c.edit_struct.ensures.limits) (of_place c.edit_struct.result c.edit_struct.ensures.named))
+returns-in-Some-clause-counted g c = (none_counted c.edit_struct.result _ _ (ap (λ (v : View). v.refusals) c.edit_struct.ensures.limits) (of_place c.edit_struct.result c.edit_struct.ensures.named))
 
 pub returns-in-None-clause-counted : goal.returns-in-None-clause-counted
-returns-in-None-clause-counted g c = exactly_counted c.args.op _ _ _ refl
+returns-in-None-clause-counted g c = refl
 
 pub returns-then-not-is_in_range-clause-counted : goal.returns-then-not-is_in_range-clause-counted
-returns-then-not-is_in_range-clause-counted g c = exactly_counted c.args.op _ _ _ refl
+returns-then-not-is_in_range-clause-counted g c = refl
 
 pub returns-clause-counted : goal.returns-clause-counted
-returns-clause-counted g c = exactly_counted c.args.op _ _ _ c.put_at.ensures.counted
+returns-clause-counted g c = c.put_at.ensures.counted
 
 pub edit_source-requires-clause-whole : goal.edit_source-requires-clause-whole
 edit_source-requires-clause-whole g c = whole_copy c.args.op c.in-Some-copying_of.copying c.in_default.not-CopyContent (sym c.copying_of.ensures ∙ c.in-Some-copying_of.is)
@@ -72,7 +72,7 @@ pub returns-in-Some-get_struct-clause-done : goal.returns-in-Some-get_struct-cla
 returns-in-Some-get_struct-clause-done g c = filled_at _ _ c.args.place c.args.op c.in-CopyContent.source _ c.in-Some-get_struct.parent c.in-CopyContent.is c.in-Some-get_struct.ensures.found c.fill.ensures.filled
 
 pub returns-in-Some-get_struct-clause-counted : goal.returns-in-Some-get_struct-clause-counted
-returns-in-Some-get_struct-clause-counted g c = counted_as c.args.op (copying c.in-CopyContent.source Content false) _ _ _ (ap copied_by c.in-CopyContent.is) c.fill.ensures.counted
+returns-in-Some-get_struct-clause-counted g c = c.fill.ensures.counted
 
 pub returns-in-Some-get_struct-clause-named : goal.returns-in-Some-get_struct-clause-named
 returns-in-Some-get_struct-clause-named g c = copy_refused c.fill.result _ _ c.args.op (copying c.in-CopyContent.source Content false) (ap copied_by c.in-CopyContent.is) c.fill.ensures.named
@@ -87,4 +87,4 @@ pub returns-in-None-get_struct-clause-done : goal.returns-in-None-get_struct-cla
 returns-in-None-get_struct-clause-done g c = none_filled_at _ c.args.place c.args.op c.in-CopyContent.source c.in-CopyContent.is c.in-None-get_struct.ensures.found
 
 pub returns-in-None-get_struct-clause-counted : goal.returns-in-None-get_struct-clause-counted
-returns-in-None-get_struct-clause-counted g c = exactly_counted c.args.op _ _ _ refl
+returns-in-None-get_struct-clause-counted g c = refl
