@@ -13,7 +13,7 @@ use Rattle.capnp_words.specs.declared.error.ErrorKind.{ErrorKind}
 use Rattle.capnp_readers.specs.Sizes.{pointers_read}
 use Rattle.capnp_copies.specs.Changes.{Change, CopiesChildren, change}
 use Rattle.capnp_copies.specs.Growth.{TakesForPointers}
-use Rattle.capnp_copies.specs.StructValues.{CopiesFirst}
+use Rattle.capnp_copies.specs.StructValues.{CopiesFirst, PointersFit}
 
 -- Byte number i of content of so many bits: the bits behind these are zero.
 abbrev pub content_byte : ℕ → List ℕ → ℕ → ℕ
@@ -59,6 +59,10 @@ module _ {A : Type 0} (g : Ghosts A) where
 
   abbrev pub StopsAtContent : StructReader A g → StructPlace → Change → ErrorKind → Type 0
   StopsAtContent value place c k = (mid : View) × TakesData value place c.old mid × CopiesFirst (pointers_read g value) (both_have value place) (record c { old = mid }) k
+
+  -- The pointers that both have can be read, and the words of what they mean fit behind those of the struct's segment.
+  abbrev pub ContentFits : StructReader A g → StructPlace → Change → Type 0
+  ContentFits value place c = PointersFit (pointers_read g value) (both_have value place) c
 
   -- Words are taken for the copies of these pointers alone.
   abbrev pub TakesForContent : {B E : Type 0} → Result B E → StructReader A g → StructPlace → Change → Type 0

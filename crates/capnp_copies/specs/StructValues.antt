@@ -3,7 +3,7 @@ use Rattle.std.specs.Prelude.{◌≡◌, ◌⊎◌, ℕ, zero, suc, ◌+◌, ◌
 use Rattle.capnp_words.specs.declared.error.ErrorKind.{ErrorKind}
 use Rattle.capnp_words.specs.declared.error.ErrorKind.TheVariants.{MessageTooLarge}
 use Rattle.capnp_format.specs.Bytes.{words_of}
-use Rattle.capnp_format.specs.Canonical.{used_words, word_count}
+use Rattle.capnp_format.specs.Canonical.{used_words, word_count, word_count_all}
 use Rattle.capnp_format.specs.Numbers.{from_digits}
 use Rattle.capnp_format.specs.Segments.{Segments}
 use Rattle.capnp_format.specs.Tree.{Null, Struct, Trees, count}
@@ -19,8 +19,9 @@ use Rattle.capnp_objects.specs.Refusals.{Refused, RefusedAll, StopsWithin, Break
 use Rattle.capnp_objects.specs.Reading.{Reading, behind, words_from}
 use Rattle.capnp_readers.specs.Sizes.{pointers_read}
 use Rattle.capnp_readers.specs.declared.readers.struct_reader.StructReader.{StructReader}
-use Rattle.capnp_copies.specs.Changes.{Change, WantsWords, WantedAmong, PutsAtNull, Leaves, StandsWhereItFits, Exceeds}
-use Rattle.capnp_copies.specs.Forms.{form_of, kept}
+use Rattle.capnp_copies.specs.Changes.{Change, LacksRoom, WantsWords, WantedAmong, PutsAtNull, Leaves, StandsWhereItFits, Exceeds}
+use Rattle.capnp_copies.specs.Forms.{form_of, kept, kept_each}
+use Rattle.capnp_copies.specs.Rooms.{AreTooLarge}
 
 -- The word of the first n bits of bytes, the lowest first, with zeros behind them; none where n is 0.
 abbrev pub bits_left : ℕ → List ℕ → List ℕ
@@ -94,9 +95,16 @@ pub record CopiesFirst (r : Reading) (i : ℕ) (c : Change) (k : ErrorKind) : Ty
   pub filled : Segments
   pub made : AreFilled c.old.words filled c.segment c.at first
   pub cleared : IsReplaced filled c.new.words c.segment (c.at + count first) Null Null
-  pub why : ((n : ℕ) × RefusesWords c.old c.new n k × StopsWithin plain (WantsWords false n) (behind r (count first)) between c.after) ⊎ Refused plain (behind r (count first)) between c.after k
+  pub why :
+      LacksRoom c k (λ n. StopsWithin plain (WantsWords false n) (behind r (count first)) between c.after) (AreTooLarge false r i)
+      ⊎ Refused plain (behind r (count first)) between c.after k
   pub off : BreaksOff plain (behind r (count first)) between c.after
   pub memory : SpendsMemory c.old c.new k
+
+-- What i pointers from a place on mean can be read, and the words of what is kept of it fit behind those of their segment.
+abbrev pub PointersFit : Reading → ℕ → Change → Type 0
+PointersFit r i c =
+    (ts : Trees) × (m : Meter) × (count ts ≡ i) × ReadsAll (form_of c.canonicalize) r c.before m ts × HasOwnRoom c.old c.segment (word_count_all (kept_each c.canonicalize ts))
 
 module _ {A : Type 0} (g : Ghosts A) where
   -- The data words of a struct that is read.

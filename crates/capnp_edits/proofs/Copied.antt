@@ -46,8 +46,8 @@ use Rattle.capnp_edits.specs.declared.edit.copying.Copying.{Copying}
 use Rattle.capnp_edits.specs.declared.edit.copying.Wanted.{Wanted}
 use Rattle.capnp_edits.specs.declared.edit.copying.Wanted.TheVariants.{Value, Struct as AStruct, List as AList, Content}
 use Rattle.capnp_edits.specs.Paths.{PointerTo}
-use Rattle.capnp_edits.specs.Sources.{copying, is_whole, RefusesNext, words_in, root_of, once_at_root, as_wanted, HasRoot, IsOpened, CanBeCopiedAs, IsRootless, IsWithheld, IsUnread, FitsBehind, Sections, LeadsToStruct, LeadsToList, RefusesAs, CopiedOrRefused}
-use Rattle.capnp_edits.specs.Edits.{refusal_of, made, copies, copied_by, IsOfMemory, IsSourceRefused, IsCallRefused, CallFits, OpFits, words_taken, is_of_place, IsRefusedAs, refusals_after, CopiesRoot, root_copied, root_not_copied, root_unread, Does, is_copied, is_not_copied, is_unread}
+use Rattle.capnp_edits.specs.Sources.{is_whole, RefusesNext, words_in, root_of, once_at_root, as_wanted, HasRoot, IsOpened, CanBeCopiedAs, IsRootless, IsWithheld, IsUnread, FitsBehind, Sections, LeadsToStruct, LeadsToList, RefusesAs, CopiedOrRefused}
+use Rattle.capnp_edits.specs.Edits.{refusal_of, made, copies, copied_by, IsOfMemory, IsSourceRefused, IsCallRefused, CopyFits, CallFits, OpFits, words_taken, is_of_place, IsRefusedAs, refusals_after, CopiesRoot, root_copied, root_not_copied, root_unread, Does, is_copied, is_not_copied, is_unread}
 use Rattle.capnp_edits.proofs.Applied.{of_allocation, of_no_place, never_refused}
 use Rattle.capnp_edits.proofs.CopiedStruct.{struct_at, struct_reads, struct_refused, struct_given, struct_fits}
 use Rattle.capnp_edits.proofs.CopiedList.{list_at, list_reads, list_refused, list_given, list_small, list_fits}
@@ -393,12 +393,14 @@ pub words_fit : {A : Type 0} (result : Result A ErrorKind) (old : View) (id : �
 words_fit result old id op none fits room = never_refused result (fits (subst (λ c. CallFits old id (words_taken op) c) none room))
 
 -- and a copy where what it keeps does
-pub copy_fits : {A : Type 0} (result : Result A ErrorKind) (old : View) (id : ℕ) (op : Op) (c : Copying) → copied_by op ≡ Some c → (FitsBehind old id c → IsOk result) → OpFits old id op → IfErr result (λ k. is_of_place k ≡ true)
+pub copy_fits : {A : Type 0} (result : Result A ErrorKind) (old : View) (id : ℕ) (op : Op) (c : Copying) → copied_by op ≡ Some c → (CopyFits old id c.wanted c → IsOk result) → OpFits old id op → IfErr result (λ k. is_of_place k ≡ true)
 copy_fits result old id op c is fits room = never_refused result (fits (subst (λ o. CallFits old id (words_taken op) o) is room))
 
--- of content nothing is said to fit
-pub content_never : (v : View) (id : ℕ) (source : Source) → FitsBehind v id (copying source Content false) → ⊥
-content_never v id source fits = none_wanted fits.fits.value fits.fits.copied fits.fits.is_wanted
+pub whole_fits : (w : Wanted) (old : View) (id : ℕ) (c : Copying) → is_whole w ≡ true → CopyFits old id w c → FitsBehind old id c
+whole_fits Value old id c whole fits = fits
+whole_fits AStruct old id c whole fits = fits
+whole_fits AList old id c whole fits = fits
+whole_fits Content old id c whole fits = absurd (false≢true whole)
 
 -- an operation that copies none
 pub none_copied : (op : Op) → ((c : Copying) → copied_by op ≡ Some c → ⊥) → copied_by op ≡ None

@@ -1,5 +1,5 @@
 -- Content of another message's struct that is copied over a struct, which a pointer leads to or which is an element of a list.
-use Rattle.std.proofs.Common.{◌≡◌, inl, inr, ℕ, pred, min, ◌+◌, ◌*◌, ◌/◌, ◌%◌, ◌<◌, false, List, [], ◌∷◌, length, Option, Some, None, Result, Ok, Err, IfOk, IfErr, refl, sym, ap, ap₂, ◌∙◌, subst, arith}
+use Rattle.std.proofs.Common.{◌≡◌, inl, inr, ℕ, zero, suc, pred, min, ◌+◌, ◌*◌, ◌/◌, ◌%◌, ◌<◌, false, List, [], ◌∷◌, length, Option, Some, None, Result, Ok, Err, IfOk, IfErr, refl, sym, ap, ap₂, ◌∙◌, subst, arith}
 use Rattle.capnp_words.specs.Meter.{Meter}
 use Rattle.capnp_words.specs.declared.error.ErrorKind.{ErrorKind}
 use Rattle.capnp_words.specs.declared.error.ErrorKind.TheVariants.{NoSuchPlace}
@@ -39,7 +39,7 @@ use Rattle.capnp_readers.specs.declared.readers.struct_reader.StructPlace.{Struc
 use Rattle.capnp_readers.specs.declared.readers.struct_reader.StructReader.{StructReader}
 use Rattle.capnp_copies.specs.StructValues.{section_words, data_of}
 use Rattle.capnp_copies.proofs.DataSections.{whole_section}
-use Rattle.capnp_builders.specs.Content.{TakesContent, StopsAtContent, pointers_copied}
+use Rattle.capnp_builders.specs.Content.{TakesContent, StopsAtContent, ContentFits, pointers_copied}
 use Rattle.capnp_builders.specs.Laws.{up_to}
 use Rattle.capnp_builders.specs.Places.{IsAligned}
 use Rattle.capnp_builders.proofs.ContentTaken.{content_taken, content_stopped}
@@ -50,7 +50,7 @@ use Rattle.capnp_edits.specs.declared.edit.Op.TheVariants.{CopyContent}
 use Rattle.capnp_edits.specs.declared.edit.Source.{Source}
 use Rattle.capnp_edits.specs.declared.edit.copying.Wanted.TheVariants.{Content}
 use Rattle.capnp_edits.specs.Paths.{path_of, found, IsElementFound, PointerTo, ElementOf}
-use Rattle.capnp_edits.specs.Sources.{copying, root_of, once_at_root, HasRoot, IsOpened, Sections, LeadsToStruct, no_struct, a_struct, ContentRead, FilledOrRefused}
+use Rattle.capnp_edits.specs.Sources.{copying, root_of, once_at_root, HasRoot, IsOpened, Sections, LeadsToStruct, no_struct, a_struct, ContentRead, ContentFitsBehind, IsUnread, FilledOrRefused}
 use Rattle.capnp_edits.specs.Edits.{refusal_of, made, fills, sections, FillsAt, FillsOrWrites, WritesAt, all_filled, first_filled, none_filled, refusals_after, IsSourceRefused, IsApplied, Takes, leads_to, is_filled, is_half_filled, is_not_filled, Does, DoesAt}
 use Rattle.capnp_edits.proofs.Applied.{of_allocation, denied_at, element_struct, applied_element}
 use Rattle.capnp_edits.proofs.Copied.{where_read}
@@ -324,3 +324,31 @@ filled_or_refused source q k whole counts (inr (part, fewer, (m, refused))) =
     let moved : ReadsAll plain part.from.first part.from.limiter whole.after whole.children =
     subst (λ y. ReadsAll plain part.from.first y whole.after whole.children) (sym limiter) (subst (λ f. ReadsAll plain f whole.from.limiter whole.after whole.children) (sym place) x) in
     (read_stop (min q part.from.pointers) part.are_read fewer (unreadable refused)).only whole.children moved.cost (counts ∙ ap (min q) (sym pointers)) moved.means moved.takes moved.covers
+
+-- content that can be read, and has room, is not refused
+pub fill_unread : (v : View) (id : ℕ) (source : Source) (q : ℕ) (k : ErrorKind) → IsUnread (copying source Content false) k → ContentFitsBehind v id source q → ⊥
+fill_unread v id source q k unread (all, counts, room) = filled_or_refused source q k all counts (inl unread)
+
+pub fill_fits : {A : Type 0} (g : Ghosts A) (source : Source) (from : PointerReader A g) (v : StructReader A g) (m n m' : Meter) (old new : View) (place : StructPlace) → IsOpened g source from m → length v.content.now ≡ bytes_for v.bits →
+    WhereRead g (call g from ExpectedStruct None) (λ p. IsStructRead g p m n v) → ContentFitsBehind old place.segment source place.pointers → ContentFits g v place (pointers_copied place old new n m')
+fill_fits g source from v m n m' old new place opened long read (all, counts, room) = go all.from.pointers v.pointer_count refl refl
+  where
+    s : SourceStruct g source v n
+    s = source_struct g source from v m n opened long read
+
+    given : 0 < all.from.pointers → ContentFits g v place (pointers_copied place old new n m')
+    given some =
+        let (first, limiter, pointers) = same_struct all.leads s.leads some in (
+          all.children,
+          all.after,
+          counts ∙ ap (min place.pointers) pointers,
+          subst (λ y. ReadsAll plain (pointers_read g v) y all.after all.children) limiter (subst (λ f. ReadsAll plain f all.from.limiter all.after all.children) first all.are_read),
+          room,
+        )
+
+    go : (i j : ℕ) → all.from.pointers ≡ i → v.pointer_count ≡ j → ContentFits g v place (pointers_copied place old new n m')
+    go (suc i) j some is = given (omega (arith, some))
+    go zero (suc j) none some =
+        let (first, limiter, pointers) = same_struct s.leads all.leads (omega (arith, some)) in
+        absurd (omega (arith, none, some, pointers))
+    go zero zero none empty = (no_trees, n, omega (arith, empty), read_none plain (pointers_read g v) n, omega (arith, room))

@@ -34,8 +34,9 @@ use Rattle.capnp_edits.specs.declared.edit.Edit.{Edit}
 use Rattle.capnp_edits.specs.declared.edit.Op.{Op}
 use Rattle.capnp_edits.specs.declared.edit.Op.TheVariants.{InitStruct, InitList, InitStructList, InitText, InitData, SetText, SetData, SetCapability, Clear, SetField, SetBool, SetElement, WriteText, WriteData, GetStruct, GetList, GetStructList, GetText, GetData, CopyFrom, SetStruct, SetList, CopyContent}
 use Rattle.capnp_edits.specs.declared.edit.copying.Copying.{Copying}
+use Rattle.capnp_edits.specs.declared.edit.copying.Wanted.{Wanted}
 use Rattle.capnp_edits.specs.declared.edit.copying.Wanted.TheVariants.{Value, Struct as AStruct, List as AList, Content}
-use Rattle.capnp_edits.specs.Sources.{copying, Copies, ContentRead, Fills, FillsAll, IsNextUnreadable, IsUnread, IsUnreadable, IsCopyRefused, FitsBehind}
+use Rattle.capnp_edits.specs.Sources.{copying, Copies, ContentRead, ContentFitsBehind, Fills, FillsAll, IsNextUnreadable, IsUnread, IsUnreadable, IsCopyRefused, FitsBehind}
 use Rattle.capnp_edits.specs.Paths.{Spot, PointerTo, ElementOf, path_of, found}
 
 -- The name by which a call is refused, if it is.
@@ -268,8 +269,13 @@ abbrev pub IsRefusedAs : View → View → Op → ErrorKind → Type 0
 IsRefusedAs old new op k = ((is_of_place k ≡ true) × (new ≡ old)) ⊎ IsCallRefused old new (words_taken op) (copied_by op) k
 
 -- What a call makes of n words, or copies, fits at a pointer of segment id.
+-- What is copied does; content, at any struct of any segment.
+abbrev pub CopyFits : View → ℕ → Wanted → Copying → Type 0
+CopyFits old id Content c = (j q : ℕ) → ContentFitsBehind old j c.source q
+CopyFits old id w c = FitsBehind old id c
+
 abbrev pub CallFits : View → ℕ → ℕ → Option Copying → Type 0
-CallFits old id n (Some c) = FitsBehind old id c
+CallFits old id n (Some c) = CopyFits old id c.wanted c
 CallFits old id n None = HasRoom old id n
 
 abbrev pub OpFits : View → ℕ → Op → Type 0

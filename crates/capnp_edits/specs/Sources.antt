@@ -6,7 +6,7 @@ use Rattle.capnp_words.specs.declared.error.ErrorKind.TheVariants.{InvalidSegmen
 use Rattle.capnp_pointers.specs.declared.wire_pointer.ElementSize.TheVariants.{Void, InlineComposite}
 use Rattle.capnp_pointers.specs.Sizes.{size_number}
 use Rattle.capnp_format.specs.Bytes.{message, words_of}
-use Rattle.capnp_format.specs.Canonical.{word_count}
+use Rattle.capnp_format.specs.Canonical.{word_count, word_count_all}
 use Rattle.capnp_format.specs.Segments.{Segments, Target, segment, words_at, AreWords}
 use Rattle.capnp_format.specs.Tree.{Tree, Null, Struct, Flat, Pointers, Structs, Trees, no_trees, count, capabilities}
 use Rattle.capnp_format.specs.Word.{kind, offset_bits, data_words, pointer_count, element_size, list_count}
@@ -15,6 +15,7 @@ use Rattle.capnp_arena.specs.Limits.{whole}
 use Rattle.capnp_arena.specs.View.{View, KeepsLimits}
 use Rattle.capnp_arena.specs.declared.arena.reader_arena.ReaderArena.{Ghosts}
 use Rattle.capnp_making.specs.Memory.{RefusesWords}
+use Rattle.capnp_making.specs.Near.{HasOwnRoom}
 use Rattle.capnp_objects.specs.declared.object.Expected.TheVariants.{Struct as ExpectedStruct, List as ExpectedList}
 use Rattle.capnp_objects.specs.Demands.{IsStructList, tag}
 use Rattle.capnp_objects.specs.Expected.{Withheld}
@@ -193,6 +194,12 @@ pub record Fills (source : Source) (c : ContentRead source) (d q : ℕ) (u : Tre
 -- So as many pointers are copied as both have.
 abbrev pub FillsAll : Source → ℕ → ℕ → Tree → Type 0
 FillsAll source d q u = (c : ContentRead source) × Fills source c d q u × (count c.children ≡ min q c.from.pointers)
+
+-- The pointers can be read that a source's struct and one of q pointers in segment id both have, and the words of what they mean fit behind those of that
+-- segment.
+abbrev pub ContentFitsBehind : View → ℕ → Source → ℕ → Type 0
+ContentFitsBehind v id source q =
+    (all : ContentRead source) × (count all.children ≡ min q all.from.pointers) × HasOwnRoom v id (word_count_all all.children)
 
 -- The pointer behind those that are read can't be read, by the name k.
 abbrev pub IsNextUnreadable : (source : Source) → ContentRead source → ErrorKind → Type 0

@@ -1,12 +1,12 @@
 //! Structs of a message that is built ("Structs").
-ghost use Rattle.std.specs.Prelude.{◌≡◌, ◌≢◌, ◌↔◌, ◌+◌, ◌*◌, ◌<◌, [], IsTrue, IfOk, IfErr, cond, true, false};
+ghost use Rattle.std.specs.Prelude.{◌≡◌, ◌≢◌, ◌↔◌, ◌+◌, ◌*◌, ◌<◌, [], IsTrue, IsOk, IfOk, IfErr, cond, true, false};
 ghost use Rattle.capnp_format.specs.Segments.{word_at, IsPlace};
 ghost use Rattle.capnp_readers.specs.Readers.{IsStructPlace};
 ghost use Rattle.capnp_builders.specs.Reads.{IsArenaOf, IsReadAt};
 ghost use Rattle.capnp_builders.specs.Places.{IsAligned, WritesField, number_field, field, field_behind};
 ghost use Rattle.capnp_readers.specs.Sections.{IsInside};
 ghost use Rattle.capnp_arena.specs.View.{View};
-ghost use Rattle.capnp_builders.specs.Content.{TakesContent, StopsAtContent, TakesForContent, pointers_copied};
+ghost use Rattle.capnp_builders.specs.Content.{TakesContent, StopsAtContent, ContentFits, TakesForContent, pointers_copied};
 
 use super::content::{clear_pointers, write_content};
 use crate::builders::PointerBuilder;
@@ -91,10 +91,11 @@ impl<'a, A: BuilderArena> StructBuilder<'a, A> {
     /// the pointers that both have are copied in order ("Structs"). What the copied pointers mean is
     /// charged as reading it costs, within the reader's nesting limit, and no other words.
     ///
-    /// A refusal is the first one of reading what the pointers mean, or `AllocationFailed` or
-    /// `MessageTooLarge` of an object's words and one more. Then the data is copied and so are the
-    /// pointers before the refused one; it and those behind it are null, the words that were taken for it
-    /// are zero and stay allocated, and what was charged stays charged.
+    /// A refusal is the first one of reading what the pointers mean; or, where the words of what they mean
+    /// don't fit behind those of the struct's segment, `AllocationFailed`, or `MessageTooLarge` of an
+    /// object's words and one more. Then the data is copied and so are the pointers before the refused one;
+    /// it and those behind it are null, the words that were taken for it are zero and stay allocated, and
+    /// what was charged stays charged.
     pub fn copy_content_from<B: ReaderArena>(
         &mut self,
         value: &StructReader<'_, B>,
@@ -103,6 +104,7 @@ impl<'a, A: BuilderArena> StructBuilder<'a, A> {
         requires inside { IsStructPlace (A.view self.old.arena.now).words self.old.place }
         ensures copied { IfOk result (λ _. TakesContent B.ReaderArena value.now self.old.place (pointers_copied self.old.place (A.view self.old.arena.now) (A.view self.new.arena.now) lim.old lim.new)) }
         ensures refused { IfErr result (StopsAtContent B.ReaderArena value.now self.old.place (pointers_copied self.old.place (A.view self.old.arena.now) (A.view self.new.arena.now) lim.old lim.new)) }
+        ensures fits { ContentFits B.ReaderArena value.now self.old.place (pointers_copied self.old.place (A.view self.old.arena.now) (A.view self.new.arena.now) lim.old lim.new) → IsOk result }
         ensures taken { TakesForContent B.ReaderArena result value.now self.old.place (pointers_copied self.old.place (A.view self.old.arena.now) (A.view self.new.arena.now) lim.old lim.new) }
         ensures inside { IsStructPlace (A.view self.new.arena.now).words self.new.place }
         ensures same { self.new.arena.ghost_name ≡ self.old.arena.ghost_name }

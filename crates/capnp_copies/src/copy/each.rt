@@ -1,11 +1,11 @@
 //! The copy of pointers one behind the other, each of which is copied or stays null.
-ghost use Rattle.std.specs.Prelude.{◌≡◌, ℕ, ◌+◌, ◌<◌, ◌≤◌, false, length, IfOk, IfErr};
+ghost use Rattle.std.specs.Prelude.{◌≡◌, ℕ, ◌+◌, ◌<◌, ◌≤◌, false, length, IsOk, IfOk, IfErr};
 ghost use Rattle.capnp_format.specs.Segments.{segment, word_at};
 ghost use Rattle.capnp_objects.specs.Reading.{row};
 ghost use Rattle.capnp_readers.specs.Readers.{reading};
 ghost use Rattle.capnp_copies.specs.Growth.{TakesForPointers};
 ghost use Rattle.capnp_copies.specs.Changes.{change, CopiesChildren};
-ghost use Rattle.capnp_copies.specs.StructValues.{CopiesFirst};
+ghost use Rattle.capnp_copies.specs.StructValues.{CopiesFirst, PointersFit};
 
 use super::copy_value;
 use capnp_arena::arena::{BuilderArena, ReaderArena};
@@ -17,8 +17,9 @@ use capnp_words::read_limiter::ReadLimiter;
 /// Copies what so many pointers mean as it stands, from that of `from` on, to as many null pointers of
 /// a segment from position `at` on.
 ///
-/// A refusal is the first one of `copy_value`. Then the pointers before the refused one are copied,
-/// and it and those behind it are null.
+/// A refusal is the first one of `copy_value`: then the pointers before the refused one are copied, and
+/// it and those behind it are null. There is none where all the pointers can be read and the words of
+/// what they mean fit behind those of the segment.
 pub fn copy_each<A: BuilderArena, B: ReaderArena>(
     arena: &mut A,
     id: u32,
@@ -31,6 +32,7 @@ pub fn copy_each<A: BuilderArena, B: ReaderArena>(
     requires null { (i : ℕ) → i < count → word_at (A.view arena.old).words id (at + i) ≡ 0 }
     requires inside { from.place.at + count ≤ length (row (reading B.ReaderArena from)) }
     ensures copied { IfOk result (λ _. CopiesChildren (reading B.ReaderArena from.entry) count (change false id at (A.view arena.old) (A.view arena.new) lim.old lim.new)) }
+    ensures fits { PointersFit (reading B.ReaderArena from.entry) count (change false id at (A.view arena.old) (A.view arena.new) lim.old lim.new) → IsOk result }
     ensures refused { IfErr result (CopiesFirst (reading B.ReaderArena from.entry) count (change false id at (A.view arena.old) (A.view arena.new) lim.old lim.new)) }
     ensures taken { TakesForPointers result (reading B.ReaderArena from.entry) count (change false id at (A.view arena.old) (A.view arena.new) lim.old lim.new) }
 {

@@ -1,13 +1,13 @@
 //! Edits that copy the content of a struct of another message.
-ghost use Rattle.std.specs.Prelude.{◌≡◌, ◌+◌, None, false, true, IfOk, IfErr, IfSome};
+ghost use Rattle.std.specs.Prelude.{◌≡◌, ◌+◌, None, false, true, IsOk, IfOk, IfErr, IfSome};
 ghost use Rattle.capnp_arena.specs.View.{View};
 ghost use Rattle.capnp_making.specs.Existing.{LiesIn};
 ghost use Rattle.capnp_readers.specs.Readers.{IsStructPlace};
 ghost use Rattle.capnp_builders.specs.Places.{IsAligned};
-ghost use Rattle.capnp_builders.specs.Content.{TakesContent, StopsAtContent, pointers_copied};
+ghost use Rattle.capnp_builders.specs.Content.{TakesContent, StopsAtContent, ContentFits, pointers_copied};
 ghost use Rattle.capnp_words.specs.declared.error.ErrorKind.TheVariants.{NoSuchPlace};
 ghost use Rattle.capnp_edits.specs.declared.edit.copying.Wanted.TheVariants.{Content};
-ghost use Rattle.capnp_edits.specs.Sources.{copying};
+ghost use Rattle.capnp_edits.specs.Sources.{copying, ContentFitsBehind};
 ghost use Rattle.capnp_edits.specs.Edits.{refusal_of, is_of_place, sections, FillsAt, FillsOrWrites, refusals_after, IsSourceRefused, IsRefusedAs, OpFits};
 
 use crate::edit::copying::open_source;
@@ -51,6 +51,7 @@ fn copy_over<A: BuilderArena, B: ReaderArena>(
     requires inside { IsStructPlace (A.view arena.old).words place }
     requires aligned { IsAligned place }
     ensures copied { IfOk result (λ _. TakesContent B.ReaderArena value.now place (pointers_copied place (A.view arena.old) (A.view arena.new) lim.old lim.new)) }
+    ensures fits { ContentFits B.ReaderArena value.now place (pointers_copied place (A.view arena.old) (A.view arena.new) lim.old lim.new) → IsOk result }
     ensures refused { IfErr result (StopsAtContent B.ReaderArena value.now place (pointers_copied place (A.view arena.old) (A.view arena.new) lim.old lim.new)) }
 {
     let mut builder = StructBuilder { arena, place };
@@ -67,6 +68,7 @@ pub(crate) fn fill<A: BuilderArena>(
     ensures filled { FillsAt (A.view arena.old).words (A.view arena.new).words (sections parent) source.entry (refusal_of result) }
     ensures counted { (A.view arena.new).refusals ≡ refusals_after (refusal_of result) (A.view arena.old).refusals }
     ensures named { IfErr result (IsSourceRefused (A.view arena.old) (A.view arena.new) (copying source.entry Content false)) }
+    ensures fits { ContentFitsBehind (A.view arena.old) parent.segment source.entry parent.size.pointers → IsOk result }
 {
     let (root, mut lim) = match open_source(source) {
         Ok(opened) => opened,

@@ -5,7 +5,7 @@ use Rattle.capnp_format.specs.Segments.{segment, word_at, IsPlace}
 use Rattle.capnp_readers.specs.Readers.{reading}
 use Rattle.capnp_copies.proofs.FilledChildren.{no_child, children_grow, child_ahead}
 use Rattle.capnp_copies.proofs.Growth.{none_taken, one_taken, stop_taken, all_taken}
-use Rattle.capnp_copies.proofs.EachCopied.{each_copied, each_stops}
+use Rattle.capnp_copies.proofs.EachCopied.{each_copied, each_stops, each_refused_rightly}
 use Rattle.capnp_copies.proofs.copy.each.copy_each.Goals as goal
 
 pub loop-i-init : goal.loop-i-init
@@ -21,7 +21,7 @@ copy_value-requires g c =
 pub returns-in-Err-clause-refused : goal.returns-in-Err-clause-refused
 returns-in-Err-clause-refused g c =
     let nl = to_z-of_z w32 c.args.from.nesting_limit (search rules) in
-    each_stops c.loop-i-test.true c.loop-i.invariant.0 (rw nl at c.in-Err.ensures.refused) (rw nl at c.in-Err.ensures.spent) c.in-Err.ensures.cleared c.in-Err.ensures.memory
+    each_stops (omega (arith, c.requires.room, c.loop-i-test.true)) c.loop-i-test.true c.loop-i.invariant.0 (rw nl at c.in-Err.ensures.refused) (rw nl at c.in-Err.ensures.spent) c.in-Err.ensures.cleared c.in-Err.ensures.memory
 
 pub loop-i-preserved : goal.loop-i-preserved
 loop-i-preserved g c =
@@ -39,3 +39,8 @@ returns-in-Err-clause-taken g c =
 
 pub returns-clause-taken : goal.returns-clause-taken
 returns-clause-taken g c = all_taken (omega arith) c.loop-i.invariant.1
+
+pub returns-in-Err-clause-fits : goal.returns-in-Err-clause-fits
+returns-in-Err-clause-fits g c =
+    let nl = to_z-of_z w32 c.args.from.nesting_limit (search rules) in
+    λ fits. absurd (each_refused_rightly (each_stops (omega (arith, c.requires.room, c.loop-i-test.true)) c.loop-i-test.true c.loop-i.invariant.0 (rw nl at c.in-Err.ensures.refused) (rw nl at c.in-Err.ensures.spent) c.in-Err.ensures.cleared c.in-Err.ensures.memory) fits)

@@ -4,7 +4,7 @@ use Rattle.capnp_edits.specs.declared.edit.copying.Wanted.TheVariants.{Content}
 use Rattle.capnp_edits.specs.Sources.{copying}
 use Rattle.capnp_edits.specs.Edits.{refusal_of, copied_by, FillsOrWrites}
 use Rattle.capnp_edits.proofs.Applied.{none_counted, of_place, refused_there, kept_nowhere}
-use Rattle.capnp_edits.proofs.Copied.{copy_refused, copy_fits, copy_nowhere, content_never}
+use Rattle.capnp_edits.proofs.Copied.{copy_refused, copy_fits, copy_nowhere}
 use Rattle.capnp_edits.proofs.Filled.{writes_there}
 use Rattle.capnp_edits.proofs.edit.filling.edit_element.Goals as goal
 
@@ -20,7 +20,7 @@ returns-in-CopyContent-clause-named g c = copy_refused c.fill.result _ _ c.args.
 
 pub returns-in-CopyContent-clause-fits : goal.returns-in-CopyContent-clause-fits
 returns-in-CopyContent-clause-fits g c =
-    copy_fits c.fill.result (g.A.BuilderArena.view c.args.arena.now) c.args.parent.segment c.args.op (copying c.in-CopyContent.source Content false) (ap copied_by c.in-CopyContent.is) (λ fits. absurd (content_never (g.A.BuilderArena.view c.args.arena.now) c.args.parent.segment c.in-CopyContent.source fits))
+    copy_fits c.fill.result (g.A.BuilderArena.view c.args.arena.now) c.args.parent.segment c.args.op (copying c.in-CopyContent.source Content false) (ap copied_by c.in-CopyContent.is) (λ fits. c.fill.ensures.fits (fits c.args.parent.segment c.args.parent.size.pointers))
 
 pub returns-in-CopyContent-clause-nowhere : goal.returns-in-CopyContent-clause-nowhere
 returns-in-CopyContent-clause-nowhere g c = copy_nowhere c.fill.result _ _ (copying c.in-CopyContent.source Content false) c.fill.ensures.named

@@ -1,10 +1,11 @@
 use Rattle.std.proofs.Common.{inl, false, refl, sym, subst}
+use Rattle.capnp_readers.specs.declared.readers.struct_reader.StructPlace.{StructPlace}
 use Rattle.capnp_edits.specs.declared.edit.copying.Wanted.TheVariants.{Content}
-use Rattle.capnp_edits.specs.Sources.{copying, IsUnread}
+use Rattle.capnp_edits.specs.Sources.{copying, IsUnread, ContentFitsBehind}
 use Rattle.capnp_edits.specs.Edits.{refusal_of, FillsAt, none_filled}
 use Rattle.capnp_edits.proofs.Copied.{unread_counted, content_unread}
 use Rattle.capnp_builders.specs.Places.{IsAligned}
-use Rattle.capnp_edits.proofs.Filled.{fill_done, fill_counted, fill_named, fill_nothing, sections_aligned}
+use Rattle.capnp_edits.proofs.Filled.{fill_done, fill_counted, fill_named, fill_nothing, fill_unread, fill_fits, sections_aligned}
 use Rattle.capnp_edits.proofs.edit.filling.fill.Goals as goal
 
 -- There is no root where it is refused.
@@ -19,6 +20,9 @@ returns-in-Err-clause-counted g c = unread_counted (copying c.args.source Conten
 
 pub returns-in-Err-clause-named : goal.returns-in-Err-clause-named
 returns-in-Err-clause-named g c = inl (rootless g c, refl)
+
+pub returns-in-Err-clause-fits : goal.returns-in-Err-clause-fits
+returns-in-Err-clause-fits g c = λ fits. absurd (fill_unread (g.A.BuilderArena.view c.args.arena.now) c.args.parent.segment c.args.source c.args.parent.size.pointers c.in-Err.k (rootless g c) fits)
 
 -- There is no struct where none is found.
 missing : (g : _) (c : goal.In-Err-get_struct g) → IsUnread (copying c.args.source Content false) c.in-Err-get_struct.k
@@ -59,3 +63,13 @@ returns-in-None-clause-filled g c =
 
 pub copy_over-requires-clause-aligned : goal.copy_over-requires-clause-aligned
 copy_over-requires-clause-aligned g c = subst IsAligned (sym c.in-Some.ensures.place) (sections_aligned c.args.parent)
+
+pub returns-in-Err-get_struct-clause-fits : goal.returns-in-Err-get_struct-clause-fits
+returns-in-Err-get_struct-clause-fits g c = λ fits. absurd (fill_unread (g.A.BuilderArena.view c.args.arena.now) c.args.parent.segment c.args.source c.args.parent.size.pointers c.in-Err-get_struct.k (missing g c) fits)
+
+pub returns-in-Some-clause-fits : goal.returns-in-Some-clause-fits
+returns-in-Some-clause-fits g c = λ fits.
+    (let old = g.A.BuilderArena.view c.args.arena.now in
+    let value = c.in-Ok-get_struct.value in
+    let there : ContentFitsBehind old c.in-Some.place.segment c.args.source c.in-Some.place.pointers = subst (λ (p : StructPlace). ContentFitsBehind old p.segment c.args.source p.pointers) (sym c.in-Some.ensures.place) fits in
+    c.copy_over.ensures.fits (fill_fits _ c.args.source c.in-Ok.opened.0 value _ _ c.copy_over.new.lim old (g.A.BuilderArena.view c.copy_over.new.arena) c.in-Some.place c.in-Ok.ensures.found value.content_is.1 c.in-Ok-get_struct.ensures.read there))

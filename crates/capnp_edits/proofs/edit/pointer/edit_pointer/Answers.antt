@@ -4,7 +4,7 @@ use Rattle.capnp_edits.specs.declared.edit.copying.Wanted.TheVariants.{Content}
 use Rattle.capnp_edits.specs.Sources.{copying}
 use Rattle.capnp_edits.specs.Edits.{copied_by}
 use Rattle.capnp_edits.proofs.Applied.{none_counted, refused_as, given_at, written_at, no_struct_at, out_of_range, never_nowhere, kept_nowhere, refused_there, of_place}
-use Rattle.capnp_edits.proofs.Copied.{copied_at, whole_copy, copy_refused, copy_nowhere, copy_fits, words_fit, none_copied, content_never}
+use Rattle.capnp_edits.proofs.Copied.{copied_at, whole_copy, copy_refused, copy_nowhere, copy_fits, whole_fits, words_fit, none_copied}
 use Rattle.capnp_edits.proofs.Filled.{filled_at, none_filled_at}
 use Rattle.capnp_edits.proofs.edit.pointer.edit_pointer.Goals as goal
 
@@ -47,7 +47,8 @@ pub returns-in-Some-copying_of-clause-named : goal.returns-in-Some-copying_of-cl
 returns-in-Some-copying_of-clause-named g c = copy_refused c.edit_source.result _ _ c.args.op c.in-Some-copying_of.copying (sym c.copying_of.ensures ∙ c.in-Some-copying_of.is) c.edit_source.ensures.named
 
 pub returns-in-Some-copying_of-clause-fits : goal.returns-in-Some-copying_of-clause-fits
-returns-in-Some-copying_of-clause-fits g c = copy_fits c.edit_source.result _ _ c.args.op c.in-Some-copying_of.copying (sym c.copying_of.ensures ∙ c.in-Some-copying_of.is) c.edit_source.ensures.fits
+returns-in-Some-copying_of-clause-fits g c = copy_fits c.edit_source.result _ _ c.args.op c.in-Some-copying_of.copying (sym c.copying_of.ensures ∙ c.in-Some-copying_of.is)
+    (λ fits. c.edit_source.ensures.fits (whole_fits c.in-Some-copying_of.copying.wanted _ _ c.in-Some-copying_of.copying (whole_copy c.args.op c.in-Some-copying_of.copying c.in_default.not-CopyContent (sym c.copying_of.ensures ∙ c.in-Some-copying_of.is)) fits))
 
 pub returns-in-Some-copying_of-clause-nowhere : goal.returns-in-Some-copying_of-clause-nowhere
 returns-in-Some-copying_of-clause-nowhere g c = copy_nowhere c.edit_source.result _ _ c.in-Some-copying_of.copying c.edit_source.ensures.named
@@ -78,7 +79,7 @@ pub returns-in-Some-get_struct-clause-named : goal.returns-in-Some-get_struct-cl
 returns-in-Some-get_struct-clause-named g c = copy_refused c.fill.result _ _ c.args.op (copying c.in-CopyContent.source Content false) (ap copied_by c.in-CopyContent.is) c.fill.ensures.named
 
 pub returns-in-Some-get_struct-clause-fits : goal.returns-in-Some-get_struct-clause-fits
-returns-in-Some-get_struct-clause-fits g c = copy_fits c.fill.result (g.A.BuilderArena.view c.args.arena.now) c.args.place.segment c.args.op (copying c.in-CopyContent.source Content false) (ap copied_by c.in-CopyContent.is) (λ fits. absurd (content_never (g.A.BuilderArena.view c.args.arena.now) c.args.place.segment c.in-CopyContent.source fits))
+returns-in-Some-get_struct-clause-fits g c = copy_fits c.fill.result (g.A.BuilderArena.view c.args.arena.now) c.args.place.segment c.args.op (copying c.in-CopyContent.source Content false) (ap copied_by c.in-CopyContent.is) (λ fits. c.fill.ensures.fits (fits c.in-Some-get_struct.parent.segment c.in-Some-get_struct.parent.size.pointers))
 
 pub returns-in-Some-get_struct-clause-nowhere : goal.returns-in-Some-get_struct-clause-nowhere
 returns-in-Some-get_struct-clause-nowhere g c = copy_nowhere c.fill.result _ _ (copying c.in-CopyContent.source Content false) c.fill.ensures.named

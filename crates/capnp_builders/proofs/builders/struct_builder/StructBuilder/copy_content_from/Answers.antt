@@ -1,12 +1,16 @@
-use Rattle.std.proofs.Common.{◌≡◌, length, subst, ap, ◌∙◌, arith, rules}
+use Rattle.std.proofs.Common.{◌≡◌, ℕ, length, subst, ap, ◌∙◌, arith, rules}
 use Rattle.std.proofs.lemmas.Int.{to_z-of_z}
 use mir.Syntax.{w32}
 use Rattle.capnp_arena.specs.View.{View}
 use Rattle.capnp_format.specs.Segments.{Segments, segment}
+use Rattle.capnp_format.specs.Canonical.{word_count_all}
+use Rattle.capnp_making.specs.Near.{HasOwnRoom}
 use Rattle.capnp_making.specs.Zeroed.{IsPruned}
 use Rattle.capnp_readers.specs.declared.readers.struct_reader.StructPlace.{StructPlace}
-use Rattle.capnp_builders.specs.Content.{with_content}
+use Rattle.capnp_builders.specs.Content.{with_content, AreCleared, TakesData}
+use Rattle.capnp_copies.proofs.FlatRead.{err_so}
 use Rattle.capnp_copies.proofs.Growth.{no_longer, taken_so, for_all, among, words_pruned}
+use Rattle.capnp_builders.proofs.CopiesHeld.{room_later}
 use Rattle.capnp_builders.proofs.ContentWritten.{content_long, each_grows, content_inside}
 use Rattle.capnp_builders.proofs.builders.struct_builder.StructBuilder.copy_content_from.Goals as goal
 
@@ -46,3 +50,31 @@ returns-clause-taken g c =
     let nl = to_z-of_z w32 c.args.value.now.nesting_limit (search rules) in
     let pruned = words_pruned put mid c.clear_pointers.ensures.only in
     taken_so c.copy_each.result _ _ _ _ (λ x. for_all (omega (arith, pruned, written)) (omega arith) x) (λ x. among (omega arith) (omega (arith, pruned, written)) (omega arith) x) (rw (nl, c.from-count.ensures, c.min.ensures) at c.copy_each.ensures.taken)
+
+pub returns-clause-refused : goal.returns-clause-refused
+returns-clause-refused g c =
+    let nl = to_z-of_z w32 c.args.value.now.nesting_limit (search rules) in
+    let mid : View = g.A.BuilderArena.view c.clear_pointers.new.arena in
+    let place : StructPlace = c.args.self.now.place in
+    let written = ap (λ (v : View). v.words) c.write_content.ensures in
+    let taking : TakesData g.B.ReaderArena c.args.value.now place (g.A.BuilderArena.view c.args.self.now.arena.now) mid = record {
+      cleared = subst (λ (T : Segments). AreCleared T mid.words place.segment place.pointers_at place.pointers) written c.clear_pointers.ensures.cleared;
+      null = c.clear_pointers.ensures.null;
+      limits = c.clear_pointers.ensures.limits ∙ ap (λ (v : View). record v { words = mid.words }) c.write_content.ensures;
+    } in
+    err_so c.copy_each.result _ _ (rw (nl, c.from-count.ensures, c.min.ensures) at c.copy_each.ensures.refused) (λ k stops. (mid, taking, stops))
+
+pub returns-clause-fits : goal.returns-clause-fits
+returns-clause-fits g c = λ fits.
+    (let nl = to_z-of_z w32 c.args.value.now.nesting_limit (search rules) in
+    let old : View = g.A.BuilderArena.view c.args.self.now.arena.now in
+    let put : View = g.A.BuilderArena.view c.write_content.new.arena in
+    let mid : View = g.A.BuilderArena.view c.clear_pointers.new.arena in
+    let place : StructPlace = c.args.self.now.place in
+    let n : ℕ = word_count_all fits.0 in
+    let same : put.words ≡ with_content old.words place c.args.value.now.bits c.args.value.now.content.now = ap (λ (v : View). v.words) c.write_content.ensures in
+    let long : length (segment put.words place.segment) ≡ length (segment old.words place.segment) = ap (λ (T : Segments). length (segment T place.segment)) same ∙ content_long old.words place c.args.value.now.bits c.args.value.now.content.now place.segment in
+    let room : put.room place.segment ≡ old.room place.segment = ap (λ (v : View). v.room place.segment) c.write_content.ensures in
+    let written : HasOwnRoom put place.segment n = omega (arith, long, room, fits.4) in
+    let copied = rw (nl, c.from-count.ensures, c.min.ensures) at c.copy_each.ensures.fits in
+    copied (fits.0, fits.1, fits.2, fits.3, room_later n put mid place.segment c.clear_pointers.ensures.limits c.clear_pointers.ensures.only written))
