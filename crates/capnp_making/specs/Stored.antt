@@ -30,6 +30,6 @@ pub record IsReplaced (S R : Segments) (s p : ℕ) (t u : Tree) : Type 0 where
 abbrev pub Puts : Segments → Segments → ℕ → ℕ → Tree → Type 0
 Puts S R s p u = (t : Tree) → IsStored S s p t → IsReplaced S R s p t u
 
--- The words below a place that its value in S used are zero in R: what the place has in R uses none of them again.
+-- The words below a place that its value in S used are zero in R: of what the place has in R no word but one of zero stands there.
 abbrev pub ZeroesOld : Segments → Segments → ℕ → ℕ → Type 0
 ZeroesOld S R s p = (t : Tree) → IsStored S s p t → (v r : ℕ) → 0 < times (cover S s p t) v r → word_at R v r ≡ 0
