@@ -1,13 +1,15 @@
 #!/usr/bin/env python3
-"""The gate: `rt ci`, and then the outside vectors over the program that it has just proved and built.
+"""The gate: `rt ci`, and then the outside vectors and the rows over the programs that it has just proved and built.
 
-    gate.py
+    gate.py [--anew]
 
-Shows what both print. Each ends in a line `N passed, M failed`, which is shown behind its name; the last line of
-all is `N passed, M failed` of both together, and the exit status is 0 exactly where M is 0.
+With --anew `rt ci` proves all again, also what passed before on this machine.
 
-`rt ci` begins with no `out/` folder, and leaves there the program that it built. A program of an earlier run is
-removed before, so that the vectors run over the new one or not at all: then that is one failure."""
+Shows what all print. Each ends in a line `N passed, M failed`, which is shown behind its name; the last line of
+all is `N passed, M failed` of them together, and the exit status is 0 exactly where M is 0.
+
+`rt ci` begins with no `out/` folder, and leaves there the programs that it built. A program of an earlier run is
+removed before, so that the new one is run or none: then that is one failure."""
 import pathlib
 import re
 import shutil
@@ -15,8 +17,11 @@ import subprocess
 import sys
 
 TOP = pathlib.Path(__file__).resolve().parents[1]
-PROGRAM = TOP / 'crates/layout_tool/out/layout_tool'
-VECTORS = TOP / 'tests/vectors/run.py'
+# What is run over a program that `rt ci` built: its name, the script, and the program.
+OVER_PROGRAMS = (
+    ('vectors', TOP / 'tests/vectors/run.py', TOP / 'crates/layout_tool/out/layout_tool'),
+    ('rows', TOP / 'tests/rows/run.py', TOP / 'crates/layout_rows/out/layout_rows'),
+)
 COUNTS = re.compile(r'(\d+) passed, (\d+) failed')
 
 
@@ -54,16 +59,21 @@ def counted(name, command):
     return passed, failed
 
 
+def over_program(name, script, program):
+    if program.is_file():
+        return counted(name, [sys.executable, str(script), str(program)])
+    say(f'{name}: not run, since no {program.relative_to(TOP)} was built')
+    return 0, 1
+
+
 def main():
     # as it came, whatever the locale
     sys.stdout.reconfigure(encoding='utf-8', errors='surrogateescape')
-    remove(PROGRAM)
-    parts = [counted('rt ci', ['rt', 'ci'])]
-    if PROGRAM.is_file():
-        parts.append(counted('vectors', [sys.executable, str(VECTORS), str(PROGRAM)]))
-    else:
-        say(f'vectors: not run, since no {PROGRAM.relative_to(TOP)} was built')
-        parts.append((0, 1))
+    if sys.argv[1:] not in ([], ['--anew']):
+        sys.exit(__doc__)
+    for _, _, program in OVER_PROGRAMS:
+        remove(program)
+    parts = [counted('rt ci', ['rt', 'ci', *sys.argv[1:]]), *(over_program(*it) for it in OVER_PROGRAMS)]
     passed, failed = (sum(it) for it in zip(*parts))
     say(f'{passed} passed, {failed} failed')
     return 1 if failed else 0
