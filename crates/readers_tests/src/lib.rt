@@ -1,23 +1,9 @@
-//! Tests of capnp_readers, by its public calls: worked messages that are read in place, and the
-//! objects that one pointer leads to.
+//! Tests of capnp_readers, by its public calls, of what no row of `tests/rows/reads.jsonl` says: fields, laws,
+//! copies, readers at places that the caller names, other arenas, and the objects that the readers stand on.
 #![tactic(auto)]
 
 #[cfg(test)]
-mod calls;
-#[cfg(test)]
 mod canonical;
-#[cfg(test)]
-mod canonical_structs;
-#[cfg(test)]
-mod defaults;
-#[cfg(test)]
-mod elements;
-#[cfg(test)]
-mod fields;
-#[cfg(test)]
-mod kinds;
-#[cfg(test)]
-mod lists;
 #[cfg(test)]
 mod messages;
 #[cfg(test)]
@@ -26,15 +12,3 @@ mod names;
 mod objects;
 #[cfg(test)]
 mod places;
-#[cfg(test)]
-mod refusing;
-#[cfg(test)]
-mod roots;
-#[cfg(test)]
-mod sizes;
-#[cfg(test)]
-mod structs;
-#[cfg(test)]
-mod texts;
-#[cfg(test)]
-mod widths;

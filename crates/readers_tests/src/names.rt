@@ -1,10 +1,24 @@
-//! The fields of readers and places, and the laws, that no other test here uses.
+//! The fields of readers, the calls and the laws that no row names, and readers of other arenas.
 use crate::messages::*;
+use capnp_arena::arena::NullArena;
 use capnp_readers::laws::*;
-use capnp_readers::readers::{ListPlace, ListReader, PointerPlace, StructPlace, StructReader};
+use capnp_readers::readers::{
+    DEFAULT_SEGMENT, ListReader, MessageSize, PointerReader, PrimitiveElement, StructReader, Target,
+};
 use capnp_readers::source::Source;
+use capnp_words::error::ErrorKind;
 use capnp_words::read_limiter::ReadLimiter;
-use capnp_words::wire_pointer::{ElementSize, StructSize};
+use capnp_words::wire_pointer::ElementSize;
+
+#[test]
+fn fields_of_a_pointer(rt: HostRuntime) {
+    let arena = arena(&rt, rt.alloc(), NUMBERS);
+    let pointer = root(&rt, &arena, &mut ReadLimiter::new(None));
+    assert!(rt; matches!(pointer.source, Source::Arena(_)));
+    assert!(rt; pointer.place.segment == 0);
+    assert!(rt; pointer.place.word().0 == 0x0000_000d_0000_0001);
+    assert!(rt; pointer.place.bytes.len() == 16);
+}
 
 #[test]
 fn fields_of_a_struct(rt: HostRuntime) {
@@ -42,37 +56,65 @@ fn fields_of_a_list(rt: HostRuntime) {
     assert!(rt; struct_size.total() == 2 && count == 1 && nesting_limit == 63);
 }
 
+/// Readers are copied, whatever their arena: a null arena isn't.
 #[test]
 fn readers_are_copied(rt: HostRuntime) {
     let arena = arena(&rt, rt.alloc(), STRUCTS);
-    let found = root_list(&rt, &arena, &mut ReadLimiter::new(None));
+    let mut lim = ReadLimiter::new(None);
+    let pointer = root(&rt, &arena, &mut lim);
+    let found = pointer.reborrow().next(&mut lim).expect(&rt, "an object");
     let same = found;
-    assert!(rt; found.len() == same.len());
+    for target in [found, same] {
+        assert!(rt; matches!(target, Target::List(list) if list.len() == 1 && !list.is_empty()));
+    }
+    let nothing: StructReader<'_, NullArena> = StructReader::new_default();
+    let same = nothing;
+    assert!(rt; nothing.pointer_count() == same.pointer_count());
 }
 
 #[test]
-fn places() {
-    let _pointer = PointerPlace {
-        segment: 0u32,
-        word: 0u32,
+fn of_the_null_arena(rt: HostRuntime) {
+    let mut lim = ReadLimiter::new(Some(9));
+    let root = PointerReader::get_root_from_arena(&NullArena, &mut lim);
+    assert!(rt; matches!(root, Err(ErrorKind::TriedToReadFromNullArena)));
+    assert!(rt; (lim.left(), lim.followed()) == (Some(9), 0));
+}
+
+#[test]
+fn a_default_without_an_arena(rt: HostRuntime) {
+    let words = [0u8; 16];
+    let pointer: PointerReader<'_, NullArena> = PointerReader::from_default(&words).expect(
+        &rt,
+        "a default",
+    );
+    assert!(rt; matches!(pointer.source, Source::Default(_)));
+    assert!(rt; pointer.place.segment == DEFAULT_SEGMENT);
+    assert!(rt; pointer.place.length() == 2);
+}
+
+#[test]
+fn a_size(rt: HostRuntime) {
+    let arena = arena(&rt, rt.alloc(), STRUCTS);
+    let mut lim = ReadLimiter::new(None);
+    let want = MessageSize {
+        word_count: 3,
+        cap_count: 1,
     };
-    let _structure = StructPlace {
-        segment: 0u32,
-        byte: 0u64,
-        bits: 0u32,
-        pointers_at: 0u32,
-        pointers: 0u16,
-    };
-    let _list = ListPlace {
-        segment: 0u32,
-        byte: 0u64,
-        size: ElementSize::Void,
-        struct_size: StructSize {
-            data_words: 0,
-            pointers: 0,
-        },
-        count: 0u32,
-    };
+    assert!(rt; root(&rt, &arena, &mut lim).total_size(&mut lim) == Ok(want));
+}
+
+#[test]
+fn element_sizes(rt: HostRuntime) {
+    assert!(rt; u8::element_size() == ElementSize::Byte);
+    assert!(rt; u16::element_size() == ElementSize::TwoBytes);
+    assert!(rt; u32::element_size() == ElementSize::FourBytes);
+    assert!(rt; u64::element_size() == ElementSize::EightBytes);
+    assert!(rt; i8::element_size() == ElementSize::Byte);
+    assert!(rt; i16::element_size() == ElementSize::TwoBytes);
+    assert!(rt; i32::element_size() == ElementSize::FourBytes);
+    assert!(rt; i64::element_size() == ElementSize::EightBytes);
+    assert!(rt; bool::element_size() == ElementSize::Bit);
+    assert!(rt; <() as PrimitiveElement>::element_size() == ElementSize::Void);
 }
 
 #[test]

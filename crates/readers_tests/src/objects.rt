@@ -2,7 +2,7 @@
 use crate::messages::*;
 use capnp_arena::arena::ReaderArena;
 use capnp_readers::object::{Expected, Object, Place};
-use capnp_readers::readers::{DEFAULT_SEGMENT, PointerReader};
+use capnp_readers::readers::PointerReader;
 use capnp_readers::source::Source;
 use capnp_words::error::ErrorKind;
 use capnp_words::read_limiter::ReadLimiter;
@@ -85,25 +85,4 @@ fn their_kinds(rt: HostRuntime) {
     let found = pointer.source.read_type(pointer.place, 0, &mut lim);
     assert!(rt; found == Ok(PointerType::List));
     assert!(rt; (lim.left(), lim.followed()) == (Some(0), 1));
-}
-
-#[test]
-fn where_pointers_are_read(rt: HostRuntime) {
-    let arena = arena(&rt, rt.alloc(), NUMBERS);
-    let pointer = root(&rt, &arena, &mut ReadLimiter::new(None));
-    assert!(rt; matches!(pointer.source, Source::Arena(_)));
-    assert!(rt; pointer.place.segment == 0);
-    assert!(rt; pointer.place.word().0 == 0x0000_000d_0000_0001);
-    assert!(rt; pointer.place.bytes.len() == 16);
-}
-
-#[test]
-fn where_a_default_is_read(rt: HostRuntime) {
-    let words = [0u8; 16];
-    let pointer: PointerReader<'_, capnp_arena::arena::NullArena> = PointerReader::from_default(
-        &words,
-    ).expect(&rt, "a default");
-    assert!(rt; matches!(pointer.source, Source::Default(_)));
-    assert!(rt; pointer.place.segment == DEFAULT_SEGMENT);
-    assert!(rt; pointer.place.length() == 2);
 }

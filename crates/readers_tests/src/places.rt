@@ -1,33 +1,9 @@
-//! Readers at places that the caller names.
+//! Structs and lists at places that the caller names.
 use crate::messages::*;
 use capnp_arena::arena::ReaderArena;
-use capnp_readers::readers::{
-    ListPlace, ListReader, PointerPlace, PointerReader, StructPlace, StructReader,
-};
-use capnp_words::error::ErrorKind;
-use capnp_words::read_limiter::ReadLimiter;
+use capnp_readers::readers::{ListPlace, ListReader, StructPlace, StructReader};
 use capnp_words::wire_pointer::{ElementSize, StructSize};
 use std::process::Abort;
-
-const TOO_DEEP: ErrorKind = ErrorKind::MessageIsTooDeeplyNestedOrContainsCycles;
-
-fn first_pointer<'a, A: ReaderArena>(
-    rt: &impl Abort,
-    arena: &'a A,
-    nesting_limit: i32,
-) -> PointerReader<'a, A> {
-    let Ok(bytes) = arena.get_segment(0) else {
-        panic!(rt; "a segment was expected");
-    };
-    if bytes.len() < 8 {
-        panic!(rt; "a word was expected");
-    }
-    let place = PointerPlace {
-        segment: 0,
-        word: 0,
-    };
-    PointerReader::at(arena, place, nesting_limit)
-}
 
 // A data section of 12 bits from byte 33 on, and word 5 as its pointer.
 fn struct_of_bits<'a, A: ReaderArena>(rt: &impl Abort, arena: &'a A) -> StructReader<'a, A> {
@@ -66,17 +42,6 @@ fn two_structs<'a, A: ReaderArena>(rt: &impl Abort, arena: &'a A) -> ListReader<
         count: 2,
     };
     ListReader::at(arena, place, 3)
-}
-
-#[test]
-fn levels_end(rt: HostRuntime) {
-    let arena = arena(&rt, rt.alloc(), TWO_CHILDREN);
-    let mut lim = ReadLimiter::new(None);
-    let found = structure(&rt, first_pointer(&rt, &arena, 1), &mut lim);
-    let refused = refusal(found.get_pointer_field(0).next(&mut lim));
-    assert!(rt; refused == Some(TOO_DEEP));
-    let refused = refusal(first_pointer(&rt, &arena, i32::MIN).next(&mut lim));
-    assert!(rt; refused == Some(TOO_DEEP));
 }
 
 #[test]
