@@ -56,51 +56,93 @@ fn shared_answer<A: ReaderArena>(
     (said, head, (data, pointers))
 }
 
-/// Flags that are set before a yes are those of the struct's own sections after it.
+/// Flags that are set before the test are those of the struct's own sections after a yes, and stay else, as the
+/// heads do.
 #[test]
-fn flags_of_structs(rt: HostRuntime) {
-    for (message, heads, after, flags) in [
-        (ONE_CHILD, (1, 3), (3, 4), (true, true)),
-        (UNTRIMMED, (1, 5), (5, 6), (false, false)),
+fn flags_by_two_heads(rt: HostRuntime) {
+    for (message, nesting_limit, budget, heads, want, after, flags) in [
+        (ONE_CHILD, 64, 9, (1, 3), Ok(true), (3, 4), (true, true)),
+        (UNTRIMMED, 64, 9, (1, 5), Ok(true), (5, 6), (false, false)),
         (
             "0000000001000000 0000000000000000",
+            64,
+            9,
             (1, 9),
+            Ok(true),
             (2, 9),
             (false, true),
         ),
         (
             "0000000000000100 0000000000000000",
+            64,
+            9,
             (1, 2),
+            Ok(true),
             (2, 2),
             (true, false),
         ),
-        (EMPTY, (0, 5), (0, 5), (true, true)),
-        (FAR, (1, 9), (2, 9), (true, true)),
-        (DOUBLE_FAR, (1, 9), (3, 9), (true, true)),
-    ] {
-        let arena = arena(&rt, rt.alloc(), message);
-        let mut lim = ReadLimiter::new(None);
-        let found = root_struct(&rt, &arena, &mut lim);
-        let said = answer(found, heads, &mut lim);
-        assert!(rt; said == (Ok(true), after, flags), "{message}");
-    }
-}
-
-/// What is no yes leaves heads and flags.
-#[test]
-fn flags_stay(rt: HostRuntime) {
-    for (message, nesting_limit, budget, heads, want) in [
-        (ONE_CHILD, 64, 9, (1, 4), Ok(false)),
-        (ONE_CHILD, 64, 9, (1, u32::MAX), Ok(false)),
-        (ONE_CHILD, 64, 9, (2, 3), Ok(false)),
-        (ONE_CHILD, 64, 9, (0, 3), Ok(false)),
-        (ONE_CHILD, 64, 9, (u32::MAX, 3), Ok(false)),
-        (FIRST_CHILD_OUTSIDE, 64, 9, (2, 3), Ok(false)),
-        (CAPABILITY_BELOW_A_STRUCT, 64, 9, (1, 2), Ok(false)),
-        (FIRST_CHILD_OUTSIDE, 64, 9, (1, 3), Err(OUTSIDE)),
-        (ONE_CHILD, 1, 9, (1, 3), Err(TOO_DEEP)),
-        (TEXT_BELOW_A_STRUCT, 1, 9, (1, 3), Err(NO_LEVEL)),
-        (ONE_CHILD, 64, 3, (1, 3), Err(SPENT)),
+        (EMPTY, 64, 9, (0, 5), Ok(true), (0, 5), (true, true)),
+        (FAR, 64, 9, (1, 9), Ok(true), (2, 9), (true, true)),
+        (DOUBLE_FAR, 64, 9, (1, 9), Ok(true), (3, 9), (true, true)),
+        (ONE_CHILD, 64, 9, (1, 4), Ok(false), (1, 4), (true, true)),
+        (
+            ONE_CHILD,
+            64,
+            9,
+            (1, u32::MAX),
+            Ok(false),
+            (1, u32::MAX),
+            (true, true),
+        ),
+        (ONE_CHILD, 64, 9, (2, 3), Ok(false), (2, 3), (true, true)),
+        (ONE_CHILD, 64, 9, (0, 3), Ok(false), (0, 3), (true, true)),
+        (
+            ONE_CHILD,
+            64,
+            9,
+            (u32::MAX, 3),
+            Ok(false),
+            (u32::MAX, 3),
+            (true, true),
+        ),
+        (
+            FIRST_CHILD_OUTSIDE,
+            64,
+            9,
+            (2, 3),
+            Ok(false),
+            (2, 3),
+            (true, true),
+        ),
+        (
+            CAPABILITY_BELOW_A_STRUCT,
+            64,
+            9,
+            (1, 2),
+            Ok(false),
+            (1, 2),
+            (true, true),
+        ),
+        (
+            FIRST_CHILD_OUTSIDE,
+            64,
+            9,
+            (1, 3),
+            Err(OUTSIDE),
+            (1, 3),
+            (true, true),
+        ),
+        (ONE_CHILD, 1, 9, (1, 3), Err(TOO_DEEP), (1, 3), (true, true)),
+        (
+            TEXT_BELOW_A_STRUCT,
+            1,
+            9,
+            (1, 3),
+            Err(NO_LEVEL),
+            (1, 3),
+            (true, true),
+        ),
+        (ONE_CHILD, 64, 3, (1, 3), Err(SPENT), (1, 3), (true, true)),
     ] {
         let options = ReaderOptions {
             nesting_limit,
@@ -110,7 +152,7 @@ fn flags_stay(rt: HostRuntime) {
         let mut lim = ReadLimiter::new(Some(budget));
         let found = root_struct(&rt, &arena, &mut lim);
         let said = answer(found, heads, &mut lim);
-        assert!(rt; said == (want, heads, (true, true)), "{message}");
+        assert!(rt; said == (want, after, flags), "{message}");
     }
 }
 
