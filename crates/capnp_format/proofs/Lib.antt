@@ -1,3 +1,4 @@
+pub mod Agreements
 pub mod Appending
 pub mod Bounds
 pub mod BytesLemmas

@@ -144,3 +144,22 @@ abbrev pub CanonicalAgain : Type 0
 CanonicalAgain =
     (t u : Tree) (more : List ℕ) (n c : ℕ) → IsValue t → IsEncodable (trim t) → Means ((encoding (trim t) ++ more) ∷ []) n 0 0 u c
     → encoding (trim u) ≡ encoding (trim t)
+
+-- Where canonical words stand at a message's root with the head right behind it, whatever the root means within some levels has no
+-- capability, and its canonical words are a beginning of the first segment: the test's yes and the copy's words agree.
+abbrev pub TestedIsCopied : Type 0
+TestedIsCopied =
+    (S : Segments) (n c : ℕ) (t u : Tree) → Stands S 0 0 1 t → Means S n 0 0 u c → (capabilities u ≡ 0) × (more : List ℕ) × (segment S 0 ≡ encoding (trim u) ++ more)
+
+-- The words that a canonical copy writes of a value, read within n levels at a cost of c, are found canonical whatever follows them, at no
+-- more cost and within no more levels; and whatever they mean has the same canonical words, and no capability.
+pub record IsCopiedAgain (R : Segments) (n c : ℕ) (t : Tree) : Type 0 where
+  pub stands : Stands R 0 0 1 (trim t)
+  pub means : Means R n 0 0 (trim t) (charge (trim t))
+  pub cost : charge (trim t) ≤ c
+  pub levels : depth (trim t) ≤ n
+  pub again : (m e : ℕ) (u : Tree) → Means R m 0 0 u e → (capabilities u ≡ 0) × (encoding (trim u) ≡ encoding (trim t))
+
+abbrev pub CopiedIsTested : Type 0
+CopiedIsTested =
+    (S : Segments) (n s p c : ℕ) (t : Tree) (more : List ℕ) → AreWords S → Means S n s p t c → capabilities t ≡ 0 → IsEncodable (trim t) → IsCopiedAgain ((encoding (trim t) ++ more) ∷ []) n c t

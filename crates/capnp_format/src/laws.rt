@@ -1,7 +1,7 @@
 //! Laws of the format's definitions. Each function does nothing: its contract is the law, proved for all messages and
 //! values. The definitions stand in `specs/`, and docs/FORMAT.md reads them in order.
 
-ghost use Rattle.capnp_format.specs.Laws.{OneMeaning, LevelsFromDepth, DecodeAgrees, DecodeRefuses, MeaningIsValue, BodyLength, CanonicalWordsMean, StandingMeans, OneStands, EncodingsDiffer, NoEncodingBegins, SameCanonicalWords, SmallIsEncodable, OthersMayChange, CanonicalCost, CanonicalLength, TrimTwice, TrimKeeps, CanonicalAgain, LeastWords, LeastChildren, LeastDataWidth, LeastPointerWidth, WordsAreBytes, ElementIsBits, OneArenaValue};
+ghost use Rattle.capnp_format.specs.Laws.{OneMeaning, LevelsFromDepth, DecodeAgrees, DecodeRefuses, MeaningIsValue, BodyLength, CanonicalWordsMean, StandingMeans, OneStands, EncodingsDiffer, NoEncodingBegins, SameCanonicalWords, SmallIsEncodable, OthersMayChange, CanonicalCost, CanonicalLength, TrimTwice, TrimKeeps, CanonicalAgain, LeastWords, LeastChildren, LeastDataWidth, LeastPointerWidth, WordsAreBytes, ElementIsBits, OneArenaValue, TestedIsCopied, CopiedIsTested};
 ghost use Rattle.capnp_format.specs.Examples.{WorkedMessages, WorkedMeanings, WorkedWords, WorkedLists, WorkedTargets, WorkedValues, WorkedCanonical, WorkedCovers};
 
 /// At a place of a message there is at most one value and one cost, whatever the nesting limit.
@@ -133,4 +133,17 @@ pub fn worked_examples()
     ensures values { WorkedValues }
     ensures canonical { WorkedCanonical }
     ensures covers { WorkedCovers }
+{}
+
+/// What is found canonical at a message's root is what a canonical copy makes of it: the canonical words of the root's value are a beginning of
+/// the first segment.
+#[tactic(auto, using(crate::proofs::Agreements::tested_is_copied))]
+pub fn tested_is_copied()
+    ensures { TestedIsCopied }
+{}
+
+/// What a canonical copy writes is found canonical, at no more cost than its source and within no more levels, and a canonical copy of it is the
+/// same words.
+pub fn copied_is_tested()
+    ensures { CopiedIsTested }
 {}
