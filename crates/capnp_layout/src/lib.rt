@@ -9,5 +9,5 @@ pub use capnp_builders::builders;
 pub use capnp_edits::edit;
 pub use capnp_readers::{object, readers, source};
 pub use capnp_words::{
-    error, laws, mask, primitive, read_limiter, units, wire_pointer, words, zero,
+    error, lanes, laws, mask, primitive, read_limiter, units, wire_pointer, words, zero,
 };

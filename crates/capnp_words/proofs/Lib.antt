@@ -1,2 +1,3 @@
+pub mod LaneLemmas
 pub mod Masks
 pub mod WordsPut

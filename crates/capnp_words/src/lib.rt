@@ -3,6 +3,7 @@
 #![tactic(auto)]
 
 pub mod error;
+pub mod lanes;
 pub mod mask;
 pub mod read_limiter;
 pub mod words;

@@ -5,6 +5,7 @@ ghost use Rattle.capnp_format.specs.Bytes.{words_of};
 ghost use Rattle.capnp_format.specs.Canonical.{used_words};
 ghost use borrow.Rule.Slice.PartMut.{put_mid};
 
+use crate::lanes;
 use std::simd::prelude::*;
 
 /// The word at a position.
@@ -45,7 +46,7 @@ pub fn copy_words(bytes: &mut [u8], at: usize, from: &[u8])
     ensures { words_of bytes.new ≡ put_mid at (length (words_of from.now)) (words_of bytes.old) (words_of from.now) }
 {
     let start = 8 * at;
-    bytes[start..start + from.len()].copy_from_slice(from);
+    lanes::copy(from, &mut bytes[start..start + from.len()]);
 }
 
 /// Writes zeros over n words.
@@ -55,7 +56,7 @@ pub fn zero_words(bytes: &mut [u8], at: usize, n: usize)
     ensures { words_of bytes.new ≡ put_mid at n (words_of bytes.old) (replicate n 0) }
 {
     let start = 8 * at;
-    bytes[start..start + 8 * n].fill(0);
+    lanes::zero(&mut bytes[start..start + 8 * n]);
 }
 
 /// How many words there are up to the last that is not zero.
@@ -63,14 +64,8 @@ pub fn used(bytes: &[u8]) -> usize
     ensures value { result ≡ used_words (words_of bytes.now) }
     ensures within { result ≤ length bytes.now / 8 }
 {
-    let mut n = bytes.len() / 8;
-    while n > 0 {
-        if word_at(bytes, n - 1) != 0 {
-            return n;
-        }
-        n -= 1;
-    }
-    0
+    let words = bytes.len() / 8;
+    words - lanes::trailing_zero_words(&bytes[..8 * words])
 }
 
 /// The words in a part of a slice.

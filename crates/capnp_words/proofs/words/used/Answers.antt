@@ -1,21 +1,20 @@
-use Rattle.std.proofs.Common.{◌-◌, ◌/◌, ℕ, List, length, sym, ap, ◌∙◌, arith, take_all}
+use Rattle.std.proofs.Common.{◌≡◌, ◌+◌, ◌*◌, ◌/◌, ℕ, List, length, take, ◌∙◌, arith, take_all}
 use Rattle.capnp_format.specs.Bytes.{words_of}
 use Rattle.capnp_format.specs.Canonical.{used_words}
-use Rattle.capnp_format.proofs.WordsOf.{words}
-use Rattle.capnp_format.proofs.UsedUp.{used_whole, used_before}
+use Rattle.capnp_format.proofs.WordsOf.{words, words_of-take}
 use Rattle.capnp_words.proofs.words.used.Goals as goal
 
-pub loop-n-init : goal.loop-n-init
-loop-n-init c =
-    let bs : List ℕ = c.args.bytes.now in
-    (omega arith, ap used_words (sym (take_all (length bs / 8) (words_of bs) (omega (arith, words bs)))))
+-- what is found in the whole words is found in all
+found : (n : ℕ) (bs : List ℕ) → n + used_words (words_of (take (8 * (length bs / 8)) bs)) ≡ length (words_of (take (8 * (length bs / 8)) bs)) → n + used_words (words_of bs) ≡ length (words_of bs)
+found n bs h =
+    let same : words_of (take (8 * (length bs / 8)) bs) ≡ words_of bs = words_of-take (length bs / 8) bs (omega arith) ∙ take_all (length bs / 8) (words_of bs) (omega (arith, words bs)) in
+    rw same at h
 
-pub returns-then-word_at-ne0-clause-value : goal.returns-then-word_at-ne0-clause-value
-returns-then-word_at-ne0-clause-value c =
-    let bs : List ℕ = c.args.bytes.now in
-    sym (c.loop-n.invariant.1 ∙ used_whole (words_of bs) (c.loop-n.n - 1) c.loop-n.n (omega arith) (omega (arith, words bs)) (λ e. c.if-word_at-ne0.true (c.word_at.ensures ∙ e)))
+pub overflow_sub-result : goal.overflow_sub-result
+overflow_sub-result c = omega (arith, words c.args.bytes.now, found _ c.args.bytes.now c.trailing_zero_words.ensures)
 
-pub loop-n-preserved : goal.loop-n-preserved
-loop-n-preserved c =
+pub returns : goal.returns
+returns c =
     let bs : List ℕ = c.args.bytes.now in
-    (omega arith, c.loop-n.invariant.1 ∙ used_before (words_of bs) (c.loop-n.n - 1) c.loop-n.n (omega arith) (omega (arith, words bs)) (sym c.word_at.ensures ∙ c.if-word_at-ne0.false))
+    let known = found _ bs c.trailing_zero_words.ensures in
+    record { value = omega (arith, words bs, known); within = omega (arith, words bs, known) }

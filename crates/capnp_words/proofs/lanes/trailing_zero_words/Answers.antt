@@ -1,0 +1,6 @@
+use Rattle.std.proofs.Common.{arith}
+use Rattle.capnp_format.proofs.WordsOf.{words}
+use Rattle.capnp_words.proofs.lanes.trailing_zero_words.Goals as goal
+
+pub returns : goal.returns
+returns c = omega (arith, words c.args.bytes.now, c.used_before.ensures.value, c.used_before.ensures.within, c.end_of_words.ensures.used, c.end_of_words.ensures.within)

@@ -1,0 +1,210 @@
+//! Zero tests, zeroing and copies of bytes by vectors: 64 bytes at a time, then what is left word by word
+//! and byte by byte. Each says what its plain loop would, for every length.
+ghost use Rattle.std.specs.Prelude.{◌≡◌, ◌↔◌, ◌<◌, ◌≤◌, ◌+◌, ◌*◌, ◌%◌, All, IsTrue, length, take, drop, replicate};
+ghost use Rattle.capnp_format.specs.Bytes.{words_of};
+ghost use Rattle.capnp_format.specs.Canonical.{used_words};
+
+use crate::words::word_at;
+use std::simd::prelude::*;
+
+/// Whether the 64 bytes from a position on are zero.
+#[inline(always)]
+fn is_block_zero(bytes: &[u8], at: usize) -> bool
+    requires { at + 64 ≤ length bytes.now }
+    ensures { IsTrue result ↔ All (λ byte. byte ≡ 0) (take 64 (drop at bytes.now)) }
+{
+    u8x64::from_slice(&bytes[at..]).reduce_or() == 0
+}
+
+/// Whether the eight bytes from a position on are zero.
+#[inline(always)]
+fn is_word_zero(bytes: &[u8], at: usize) -> bool
+    requires { at + 8 ≤ length bytes.now }
+    ensures { IsTrue result ↔ All (λ byte. byte ≡ 0) (take 8 (drop at bytes.now)) }
+{
+    u8x8::from_slice(&bytes[at..]).reduce_or() == 0
+}
+
+/// Whether bytes are zero, one by one.
+#[inline(always)]
+fn are_zero(bytes: &[u8]) -> bool
+    ensures { IsTrue result ↔ All (λ byte. byte ≡ 0) bytes.now }
+{
+    bytes.iter().all(|byte| *byte == 0)
+}
+
+/// Whether bytes are zero, word by word and then byte by byte.
+#[inline(always)]
+fn is_rest_zero(bytes: &[u8]) -> bool
+    ensures { IsTrue result ↔ All (λ byte. byte ≡ 0) bytes.now }
+{
+    let mut at = 0;
+    while bytes.len() - at >= 8 {
+        if !is_word_zero(bytes, at) {
+            return false;
+        }
+        at += 8;
+    }
+    are_zero(&bytes[at..])
+}
+
+/// Whether no byte but 0 is among these.
+pub fn is_zero(bytes: &[u8]) -> bool
+    ensures { IsTrue result ↔ All (λ byte. byte ≡ 0) bytes.now }
+{
+    let mut at = 0;
+    while bytes.len() - at >= 64 {
+        if !is_block_zero(bytes, at) {
+            return false;
+        }
+        at += 64;
+    }
+    is_rest_zero(&bytes[at..])
+}
+
+/// How many of the words before a position there are up to the last that is not zero.
+#[inline(always)]
+fn used_before(bytes: &[u8], end: usize) -> usize
+    requires { 8 * end ≤ length bytes.now }
+    ensures value { result ≡ used_words (take end (words_of bytes.now)) }
+    ensures within { result ≤ end }
+{
+    let mut n = end;
+    while n > 0 {
+        if word_at(bytes, n - 1) != 0 {
+            return n;
+        }
+        n -= 1;
+    }
+    0
+}
+
+/// A position in words behind which all is zero, found by 64 bytes at a time.
+#[inline(never)]
+fn end_of_blocks(bytes: &[u8]) -> usize
+    ensures used { used_words (words_of bytes.now) ≡ used_words (take result (words_of bytes.now)) }
+    ensures within { 8 * result ≤ length bytes.now }
+{
+    let mut end = bytes.len() / 8;
+    while end >= 8 {
+        if !is_block_zero(bytes, 8 * (end - 8)) {
+            return end;
+        }
+        end -= 8;
+    }
+    end
+}
+
+/// The same. Few words, and those that end in one that is not zero, are left to the plain loop: for them
+/// it is the fastest.
+#[inline(always)]
+fn end_of_words(bytes: &[u8]) -> usize
+    ensures used { used_words (words_of bytes.now) ≡ used_words (take result (words_of bytes.now)) }
+    ensures within { 8 * result ≤ length bytes.now }
+{
+    let words = bytes.len() / 8;
+    if words < 16 {
+        return words;
+    }
+    if word_at(bytes, words - 1) != 0 {
+        return words;
+    }
+    end_of_blocks(bytes)
+}
+
+/// How many words at the end are zero. The bytes are whole words.
+pub fn trailing_zero_words(bytes: &[u8]) -> usize
+    requires { length bytes.now % 8 ≡ 0 }
+    ensures { result + used_words (words_of bytes.now) ≡ length (words_of bytes.now) }
+{
+    bytes.len() / 8 - used_before(bytes, end_of_words(bytes))
+}
+
+/// Makes fewer than 64 bytes zero: by two vectors that may overlap, up to seven one by one.
+#[inline(always)]
+fn zero_short(bytes: &mut [u8])
+    requires { length bytes.old < 64 }
+    ensures { bytes.new ≡ replicate (length bytes.old) 0 }
+{
+    let n = bytes.len();
+    if n >= 32 {
+        u8x32::splat(0).copy_to_slice(bytes);
+        u8x32::splat(0).copy_to_slice(&mut bytes[n - 32..]);
+    } else if n >= 16 {
+        u8x16::splat(0).copy_to_slice(bytes);
+        u8x16::splat(0).copy_to_slice(&mut bytes[n - 16..]);
+    } else if n >= 8 {
+        u8x8::splat(0).copy_to_slice(bytes);
+        u8x8::splat(0).copy_to_slice(&mut bytes[n - 8..]);
+    } else {
+        for i in 0..n {
+            bytes[i] = 0;
+        }
+    }
+}
+
+/// Makes bytes zero; the standard library's way is the fastest from 64 bytes on.
+#[inline(always)]
+fn zero_long(bytes: &mut [u8])
+    ensures { bytes.new ≡ replicate (length bytes.old) 0 }
+{
+    bytes.fill(0);
+}
+
+/// Makes all bytes zero.
+#[inline(always)]
+pub fn zero(bytes: &mut [u8])
+    ensures { bytes.new ≡ replicate (length bytes.old) 0 }
+{
+    if bytes.len() < 64 {
+        zero_short(bytes);
+    } else {
+        zero_long(bytes);
+    }
+}
+
+/// Copies fewer than 64 bytes: by two vectors that may overlap, up to seven one by one.
+#[inline(always)]
+fn copy_short(from: &[u8], to: &mut [u8])
+    requires same { length from.now ≡ length to.old }
+    requires short { length from.now < 64 }
+    ensures { to.new ≡ from.now }
+{
+    let n = from.len();
+    if n >= 32 {
+        u8x32::from_slice(from).copy_to_slice(to);
+        u8x32::from_slice(&from[n - 32..]).copy_to_slice(&mut to[n - 32..]);
+    } else if n >= 16 {
+        u8x16::from_slice(from).copy_to_slice(to);
+        u8x16::from_slice(&from[n - 16..]).copy_to_slice(&mut to[n - 16..]);
+    } else if n >= 8 {
+        u8x8::from_slice(from).copy_to_slice(to);
+        u8x8::from_slice(&from[n - 8..]).copy_to_slice(&mut to[n - 8..]);
+    } else {
+        for i in 0..n {
+            to[i] = from[i];
+        }
+    }
+}
+
+/// Copies bytes; the standard library's way is the fastest from 64 bytes on.
+#[inline(always)]
+fn copy_long(from: &[u8], to: &mut [u8])
+    requires { length from.now ≡ length to.old }
+    ensures { to.new ≡ from.now }
+{
+    to.copy_from_slice(from);
+}
+
+/// Copies bytes over as many others.
+#[inline(always)]
+pub fn copy(from: &[u8], to: &mut [u8])
+    requires { length from.now ≡ length to.old }
+    ensures { to.new ≡ from.now }
+{
+    if from.len() < 64 {
+        copy_short(from, to);
+    } else {
+        copy_long(from, to);
+    }
+}
