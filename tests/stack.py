@@ -28,7 +28,7 @@ def is_answered(binary, command, words, levels, stack):
         resource.setrlimit(resource.RLIMIT_CORE, (0, 0))
 
     message = levels * b''.join(it.to_bytes(8, 'little') for it in words) + bytes(8)
-    nesting = 2 * levels + 2  # for `check` a list of structs takes two levels
+    nesting = levels + 2
     run = subprocess.run([binary, command, str(nesting), 'none'], input=message.hex().encode(), capture_output=True, preexec_fn=limit)
     return run.returncode == 0
 

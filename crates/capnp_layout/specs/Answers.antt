@@ -8,7 +8,7 @@ use Rattle.capnp_words.specs.declared.error.ErrorKind.{ErrorKind}
 use Rattle.capnp_words.specs.declared.error.ErrorKind.TheVariants.{AllocationFailed, InvalidSegmentId, MessageTooLarge, ReadLimitExceeded}
 use Rattle.capnp_format.specs.Segments.{Segments, IsPlace}
 use Rattle.capnp_format.specs.Bytes.{message}
-use Rattle.capnp_format.specs.Tree.{Tree, capabilities}
+use Rattle.capnp_format.specs.Tree.{Tree, capabilities, depth}
 use Rattle.capnp_format.specs.Means.{Means}
 use Rattle.capnp_format.specs.Canonical.{trim, encoding, word_count, charge, Stands}
 use Rattle.capnp_words.specs.Meter.{Meter, Affords, FitsIn, less, unused}
@@ -27,7 +27,6 @@ use Rattle.capnp_objects.specs.Refusals.{Refused}
 use Rattle.capnp_objects.specs.Reading.{Reading}
 use Rattle.capnp_objects.specs.Sizing.{Totals, HasSize, SizeRefused}
 use Rattle.capnp_objects.specs.Wanted.{canonical}
-use Rattle.capnp_readers.specs.Standing.{test_levels}
 use Rattle.capnp_readers.specs.Checking.{progress, TestStops}
 use Rattle.capnp_copies.specs.Rooms.{IsTooLarge}
 
@@ -113,11 +112,11 @@ pub record CoversRoot (S : Segments) (budget : Option ℕ) : Type 0 where
   pub root : IsPlace S 0 0
   pub covered : FitsIn budget 1
 
--- The canonical words of t stand at the root of a message, the first object right behind the root pointer. They take no more than
--- n levels in a test, and the budget covers what reading them costs, and one word for the root pointer.
+-- The canonical words of t stand at the root of a message, the first object right behind the root pointer. t is no deeper than n
+-- levels, and the budget covers what reading them costs, and one word for the root pointer.
 pub record IsCanonical (S : Segments) (n : ℕ) (budget : Option ℕ) (t : Tree) : Type 0 where
   pub stands : Stands S 0 0 1 t
-  pub levels : test_levels t ≤ n
+  pub levels : depth t ≤ n
   pub covered : FitsIn budget (1 + charge t)
 
 -- No canonical words stand there, and the budget covers the word of the root pointer.

@@ -6,7 +6,7 @@ use Rattle.capnp_format.specs.Word.{kind, offset_bits, data_words, pointer_count
 use Rattle.capnp_format.specs.Bytes.{words_of}
 use Rattle.capnp_format.specs.Numbers.{words_for, element_bits, unpacked}
 use Rattle.capnp_format.specs.Segments.{Segments, segment, word_at, words_at, Target}
-use Rattle.capnp_format.specs.Tree.{Tree, Null, Struct, Flat, Pointers, Structs, Trees, no_trees, Elements, no_elements, count, element_count}
+use Rattle.capnp_format.specs.Tree.{Tree, Null, Struct, Flat, Pointers, Structs, Trees, no_trees, Elements, no_elements, count, element_count, depth_all, depth_elements}
 use Rattle.capnp_format.specs.Means.{Claims, StructAt, ListAt, IsTag, count_cost}
 use Rattle.capnp_format.specs.Canonical.{Stands, charge, charge_all, charge_elements, used_words, used_trees, data_width, pointer_width}
 use Rattle.capnp_words.specs.declared.error.ErrorKind.{ErrorKind}
@@ -36,15 +36,14 @@ use Rattle.capnp_objects.specs.declared.object.Place.{Place}
 use Rattle.capnp_objects.specs.Objects.{IsObject, EntersStruct}
 use Rattle.capnp_pointers.specs.declared.wire_pointer.ElementSize.{ElementSize}
 use Rattle.capnp_pointers.specs.Sizes.{size_number}
-use Rattle.capnp_readers.specs.Standing.{AllStand, ElementsStand, ElementsAccept, EndsUsed, IsPadded, test_levels_all, test_levels_elements}
+use Rattle.capnp_readers.specs.Standing.{AllStand, ElementsStand, ElementsAccept, EndsUsed, IsPadded}
 use Rattle.capnp_readers.specs.Checking.{Progress, progress, Finds, FindsAll, FindsElements, IsFound, AreFound, AreFoundRows, IsCanonicalAt, AreCanonicalAt, TestStops, below, in_struct, in_pointers, in_element, TestsStop, RowTestsStop, IsTested, StartsRight, Tells, TellsAll, TellsFlat, TellsStruct, TellsClaimed}
 use Rattle.capnp_readers.proofs.Accepts.{IsNear, near_to, null_stands, empty_stands, struct_stands, pointers_stand, flat_stands, structs_stand, used_where_standing, blanks_stand, data_width-blank, pointer_width-blank, words-blank}
 use Rattle.capnp_readers.proofs.Found.{struct_found, pointers_found, flat_found, structs_found, empty_found}
 use Rattle.capnp_readers.proofs.Exactly.{structs_of_tag, element_fails, widths_fail, widths_within, reached}
-use Rattle.capnp_readers.proofs.Growing.{all_stand_more, words-with_last, charge-with_last, test_levels-with_last, words-with_last_element, charge-with_last_element, test_levels-with_last_element, elements_stand_more, data_width-with_last, pointer_width-with_last, none_stand}
+use Rattle.capnp_readers.proofs.Growing.{all_stand_more, words-with_last, charge-with_last, depth-with_last, words-with_last_element, charge-with_last_element, depth-with_last_element, elements_stand_more, data_width-with_last, pointer_width-with_last, none_stand}
 use Rattle.capnp_readers.proofs.Used.{ends_used, used_ends}
 use Rattle.capnp_readers.proofs.Padding.{padded_last, padded_none}
-use Rattle.capnp_readers.proofs.Takes.{list_levels_within}
 
 pub not_far : (r : Reading) → kind (word_of r) < 2 → kind (word_at r.segments r.segment r.at) ≢ 2
 not_far r less = λ e. omega (arith, e, less)
@@ -79,7 +78,7 @@ finds_none r from = record { stand = tt; levels = omega arith; paid = paid_none 
 finds_more : {r : Reading} {from mid to : Progress} {ts : Trees} {u : Tree} → FindsAll r from mid ts → Finds (behind r (count ts)) mid to u → FindsAll r from to (with_last ts u)
 finds_more {r} {from} {mid} {to} {ts} {u} all one = record {
   stand = all_stand_more r.segments r.segment r.at from.head ts u all.stand (subst (λ h. Stands r.segments r.segment (r.at + count ts) h u) all.head_is one.stands);
-  levels = omega (arith, test_levels-with_last ts u, all.levels, one.levels);
+  levels = omega (arith, depth-with_last ts u, all.levels, one.levels);
   paid = subst (λ c. Paid r.charging from.meter to.meter c (pointers_in_all (with_last ts u))) (sym (charge-with_last ts u))
       (subst (Paid r.charging from.meter to.meter (charge_all ts + charge u)) (sym (pointers_in-with_last ts u)) (paid_both all.paid one.paid));
   head_is = omega (arith, all.head_is, one.head_is, words-with_last ts u);
@@ -109,7 +108,7 @@ finds_element {r} {size} {from} {mid} {to} {es} {ts} all fits len one =
     let long : length ws ≡ d = length_words r.segments r.segment at d fits in
     record {
       stand = elements_stand_more r.segments r.segment r.at d q from.head es ws ts all.stand long len (rw long refl) (subst (λ h. AllStand r.segments r.segment (at + d) h ts) all.head_is one.stand);
-      levels = omega (arith, test_levels-with_last_element es ws ts, all.levels, one.levels);
+      levels = omega (arith, depth-with_last_element es ws ts, all.levels, one.levels);
       paid = subst (λ c. Paid r.charging from.meter to.meter c (pointers_in_elements (with_last_element es ws ts))) (sym (charge-with_last_element es ws ts))
           (subst (Paid r.charging from.meter to.meter (charge_elements es + charge_all ts)) (sym (pointers_in-with_last_element es ws ts)) (paid_both all.paid one.paid));
       head_is = omega (arith, all.head_is, one.head_is, words-with_last_element es ws ts);
@@ -162,7 +161,7 @@ abbrev pub list_pointers : Reading → Target → Reading
 list_pointers r a = child_at r a (pred r.levels) a.start
 
 abbrev pub list_elements : Reading → Target → Reading
-list_elements r a = child_at r a (pred (pred r.levels)) (a.start + 1)
+list_elements r a = child_at r a (pred r.levels) (a.start + 1)
 
 struct_finds : {r : Reading} {from to : Progress} {m' : Meter} {a : Target} → IsTested r → Entered r from.meter m' a → kind a.word ≡ 0 → a.start ≡ from.head → 0 < data_words a.word + pointer_count a.word → SectionsUsed r a →
     AreFound (struct_pointers r a) (pointer_count a.word) (progress (a.start + data_words a.word + pointer_count a.word) m') to → IsFound r from to
@@ -184,7 +183,7 @@ struct_finds {r} {from} {to} {m'} {a} ready o z start some used (ts, len, all) =
       record {
         stands = struct_stands S r.segment r.at h a d q ts ready.small ready.there (not_far r ready.near) (struct_at o z) start claims some (used_at S seg start refl used.0) (used_at S seg (omega (arith, start)) refl used.1) len there;
         inside = for_offset (Struct ws ts) (h ≤ length (row r)) (omega (arith, room));
-        levels = one_level_more (test_levels_all ts) r.levels o.meets.levels all.levels;
+        levels = one_level_more (depth_all ts) r.levels o.meets.levels all.levels;
         paid = subst (λ c. Paid r.charging from.meter to.meter c (1 + pointers_in_all ts)) cost (paid_both (paid_own o) all.paid);
         head_is = omega (arith, all.head_is, start, long, len);
       },
@@ -205,7 +204,7 @@ pointers_find {r} {from} {to} {m'} {a} ready o z six start (ts, len, all) =
       record {
         stands = pointers_stand S r.segment r.at h a n ts ready.small ready.there (not_far r ready.near) (list_at 6 o z six) start claims len there;
         inside = for_offset (Pointers ts) (h ≤ length (row r)) (omega (arith, claims, start, ap (λ x. length (segment S x)) seg));
-        levels = one_level_more (test_levels_all ts) r.levels o.meets.levels all.levels;
+        levels = one_level_more (depth_all ts) r.levels o.meets.levels all.levels;
         paid = subst (λ c. Paid r.charging from.meter to.meter c (1 + pointers_in_all ts)) cost (paid_both (paid_own o) all.paid);
         head_is = omega (arith, all.head_is, start, len);
       },
@@ -258,7 +257,7 @@ structs_find {r} {from} {to} {m'} {a} ready o z seven start exact (es, len, dw, 
       record {
         stands = structs_stand S r.segment r.at h a m (element_count es) d q es ready.small ready.there (not_far r ready.near) (list_at 7 o z seven) start claims tagged words refl dw pw there;
         inside = for_offset (Structs d q es) (h ≤ length (row r)) (omega (arith, claims, start, ap (λ x. length (segment S x)) seg));
-        levels = (list_levels_within (test_levels_elements es) r.levels).1 (o.meets.levels, all.levels);
+        levels = one_level_more (depth_elements es) r.levels o.meets.levels all.levels;
         paid = subst (λ c. Paid r.charging from.meter to.meter c (1 + pointers_in_elements es)) cost (paid_both (paid_own o) all.paid);
         head_is = omega (arith, all.head_is, start, words);
       },
@@ -280,7 +279,7 @@ empties_found r size n from none = (
   },
 )
   where
-    levels-blank : (i : ℕ) → test_levels_elements (blank i) ≡ 0
+    levels-blank : (i : ℕ) → depth_elements (blank i) ≡ 0
     levels-blank zero = refl
     levels-blank (suc i) = omega (arith, levels-blank i)
 
@@ -428,10 +427,10 @@ flat_tells {r} {m'} from start size n None ready (a, o, z, small, (held, seg, at
 
 -- The first element of a list of structs, as its pointers are read.
 abbrev pub first_element : Reading → Place → Reading
-first_element r start = record r { levels = pred (pred r.levels); segment = start.segment; at = start.at }
+first_element r start = record r { levels = pred r.levels; segment = start.segment; at = start.at }
 
-same_elements : {s t p q : ℕ} (r : Reading) → s ≡ t → p ≡ q → record r { levels = pred (pred r.levels); segment = s; at = p } ≡ record r { levels = pred (pred r.levels); segment = t; at = q }
-same_elements r e f = ap₂ (λ s p. record r { levels = pred (pred r.levels); segment = s; at = p }) e f
+same_elements : {s t p q : ℕ} (r : Reading) → s ≡ t → p ≡ q → record r { levels = pred r.levels; segment = s; at = p } ≡ record r { levels = pred r.levels; segment = t; at = q }
+same_elements r e f = ap₂ (λ s p. record r { levels = pred r.levels; segment = s; at = p }) e f
 
 pub structs_tell : {r : Reading} {m' : Meter} (from : Progress) (m'' : Meter) (start : Place) (size : StructSize) (n : ℕ) (o : Option ℕ) → IsTested r → IsObject r from.meter m' (ObjectStructs start size n) →
     StartsRight (ObjectStructs start size n) r.at from.head → TellsClaimed (first_element r start) size n (list_count (word_of r)) m' m'' o → Tells r from m'' o
@@ -643,7 +642,7 @@ IsList (ObjectStructs start size n) = Unit {0}
 pub place_begins : {n : ℕ} (r : Reading) (start : Place) → n ≡ pred r.levels → r.segment ≡ start.segment → record r { levels = n; at = start.at } ≡ beginning r start
 place_begins r start e f = ap₂ (λ n s. record r { levels = n; segment = s; at = start.at }) e f
 
-pub elements_begin : {n : ℕ} (r : Reading) (start : Place) → n ≡ pred (pred r.levels) → r.segment ≡ start.segment → record r { levels = n; at = start.at } ≡ first_element r start
+pub elements_begin : {n : ℕ} (r : Reading) (start : Place) → n ≡ pred r.levels → r.segment ≡ start.segment → record r { levels = n; at = start.at } ≡ first_element r start
 elements_begin r start e f = ap₂ (λ n s. record r { levels = n; segment = s; at = start.at }) e f
 
 -- An object stands in the segment of its pointer.
@@ -724,8 +723,7 @@ pointers_room {r} start n (a, o, z, six, (held, seg, at), many) = omega (arith, 
 pub some_right : {n h x : ℕ} (p : ℕ) → 0 < n → x ≡ h → x ≡ cond (nat_eq n 0) p h
 some_right {n} {h} {x} p some e = starts_at n p h x (λ none. absurd (omega arith)) (λ more. e)
 
--- Two levels less is less, also by a measure that spends five steps on a level.
-pub two_levels_fall : (n : ℕ) → 0 < n → 5 * pred (pred n) + 4 < 5 * n
-two_levels_fall zero some = absurd (omega arith)
-two_levels_fall (suc zero) some = omega arith
-two_levels_fall (suc (suc n)) some = omega arith
+-- One level less is less, also by a measure that spends five steps on a level.
+pub level_falls : (n : ℕ) → 0 < n → 5 * pred n + 4 < 5 * n
+level_falls zero some = absurd (omega arith)
+level_falls (suc n) some = omega arith

@@ -2,9 +2,9 @@
 -- The lemmas take a place, a head and what stands there one by one, as `Stands` has them.
 use Rattle.std.proofs.Common.{◌≡◌, ℕ, suc, ◌+◌, ◌*◌, ◌<◌, ◌≤◌, max, List, length, refl, sym, ap, ap₂, ◌∙◌, subst, arith}
 use Rattle.capnp_format.specs.Segments.{Segments, words_at, HasWords}
-use Rattle.capnp_format.specs.Tree.{Tree, Trees, no_trees, tree, Elements, no_elements, element, count, element_count}
+use Rattle.capnp_format.specs.Tree.{Tree, Trees, no_trees, tree, Elements, no_elements, element, count, element_count, depth, depth_all, depth_elements}
 use Rattle.capnp_format.specs.Canonical.{used_words, used_trees, data_width, pointer_width, word_count, word_count_all, word_count_elements, charge, charge_all, charge_elements, Stands}
-use Rattle.capnp_readers.specs.Standing.{AllStand, ElementsStand, Accepts, AllAccept, test_levels, test_levels_all, test_levels_elements}
+use Rattle.capnp_readers.specs.Standing.{AllStand, ElementsStand, Accepts, AllAccept}
 use Rattle.capnp_format.proofs.Children.{with_last}
 use Rattle.capnp_format.proofs.Appending.{append_trees}
 use Rattle.capnp_format.proofs.LawLemmas.{one_stands}
@@ -28,9 +28,9 @@ charge-with_last no_trees u = omega arith
 charge-with_last (tree t ts) u = omega (arith, charge-with_last ts u)
 
 -- One child more takes its own levels.
-pub test_levels-with_last : (ts : Trees) (u : Tree) → test_levels_all (with_last ts u) ≡ max (test_levels_all ts) (test_levels u)
-test_levels-with_last no_trees u = omega arith
-test_levels-with_last (tree t ts) u = omega (arith, test_levels-with_last ts u)
+pub depth-with_last : (ts : Trees) (u : Tree) → depth_all (with_last ts u) ≡ max (depth_all ts) (depth u)
+depth-with_last no_trees u = omega arith
+depth-with_last (tree t ts) u = omega (arith, depth-with_last ts u)
 
 -- The child that stands next behind children, where a longer row of children stands: its charge and levels are within those
 -- of the row.
@@ -40,7 +40,7 @@ pub record NextTree (S : Segments) (s p h : ℕ) (ts us : Trees) : Type 0 where
   pub parts : us ≡ append_trees ts (tree next rest)
   pub stands : Stands S s (p + count ts) (h + word_count_all ts) next
   pub charged : charge_all ts + charge next ≤ charge_all us
-  pub levelled : test_levels next ≤ test_levels_all us
+  pub levelled : depth next ≤ depth_all us
 
 -- Of the children that stand from one place and head on, fewer begin more.
 pub next_stands : (S : Segments) (s p h : ℕ) (ts us : Trees) → AllStand S s p h ts → AllStand S s p h us → count ts < count us → NextTree S s p h ts us
@@ -86,9 +86,9 @@ charge-with_last_element no_elements vs us = omega arith
 charge-with_last_element (element ws ts es) vs us = omega (arith, charge-with_last_element es vs us)
 
 -- One element more takes the levels of its children.
-pub test_levels-with_last_element : (es : Elements) (vs : List ℕ) (us : Trees) → test_levels_elements (with_last_element es vs us) ≡ max (test_levels_elements es) (test_levels_all us)
-test_levels-with_last_element no_elements vs us = omega arith
-test_levels-with_last_element (element ws ts es) vs us = omega (arith, test_levels-with_last_element es vs us)
+pub depth-with_last_element : (es : Elements) (vs : List ℕ) (us : Trees) → depth_elements (with_last_element es vs us) ≡ max (depth_elements es) (depth_all us)
+depth-with_last_element no_elements vs us = omega arith
+depth-with_last_element (element ws ts es) vs us = omega (arith, depth-with_last_element es vs us)
 
 -- The least widths of elements are running maxima, of data words and of pointers.
 pub data_width-with_last : (es : Elements) (vs : List ℕ) (us : Trees) → data_width (with_last_element es vs us) ≡ max (data_width es) (used_words vs)
@@ -127,7 +127,7 @@ pub record NextElement (S : Segments) (s p d q h : ℕ) (es fs : Elements) : Typ
   pub counts : count next ≡ q
   pub stand : AllStand S s (p + element_count es * (d + q) + d) (h + word_count_elements es) next
   pub charged : charge_elements es + charge_all next ≤ charge_elements fs
-  pub levelled : test_levels_all next ≤ test_levels_elements fs
+  pub levelled : depth_all next ≤ depth_elements fs
 
 -- Of the elements that stand from one place and head on, fewer begin more.
 pub next_element_stands : (S : Segments) (s p d q h : ℕ) (es fs : Elements) → ElementsStand S s p d q h es → ElementsStand S s p d q h fs → element_count es < element_count fs →

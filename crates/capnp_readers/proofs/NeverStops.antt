@@ -2,7 +2,7 @@
 use Rattle.std.proofs.Common.{◌≡◌, ℕ, pred, ◌+◌, ◌*◌, ◌<◌, ◌≤◌, length, sym, ap, ap₂, ◌∙◌, subst, arith}
 use Rattle.capnp_format.specs.Word.{kind, offset_bits, data_words, pointer_count, element_size, list_count}
 use Rattle.capnp_format.specs.Segments.{Segments, segment, word_at, words_at, Target}
-use Rattle.capnp_format.specs.Tree.{Trees, Elements, count, element_count}
+use Rattle.capnp_format.specs.Tree.{Trees, Elements, count, element_count, depth, depth_all, depth_elements}
 use Rattle.capnp_format.specs.Means.{count_cost}
 use Rattle.capnp_format.specs.Canonical.{Stands, charge, charge_all, charge_elements}
 use Rattle.capnp_words.specs.Meter.{Meter, Affords}
@@ -19,19 +19,19 @@ use Rattle.capnp_objects.proofs.Objects.{own_struct, own_pointers, own_structs}
 use Rattle.capnp_objects.proofs.Parts.{claim_struct, claim_list}
 use Rattle.capnp_objects.proofs.Refusals.{unreadable}
 use Rattle.capnp_objects.proofs.Walked.{paid_none}
-use Rattle.capnp_readers.specs.Standing.{AllStand, ElementsStand, test_levels, test_levels_all, test_levels_elements}
+use Rattle.capnp_readers.specs.Standing.{AllStand, ElementsStand}
 use Rattle.capnp_readers.specs.Checking.{Progress, FindsAll, FindsElements, CanBeFound, CanAllBeFound, behind_object, in_struct, in_pointers, in_element, TestStops, here, below, TestsStop}
 use Rattle.capnp_readers.proofs.Chains.{all_within, elements_within}
 use Rattle.capnp_readers.proofs.Checks.{near_object, all_at, struct_at, list_at, struct_pointers, list_pointers, list_elements}
 use Rattle.capnp_readers.proofs.Found.{struct_found, pointers_found, structs_found}
 use Rattle.capnp_readers.proofs.Growing.{next_stands, next_element_stands}
-use Rattle.capnp_readers.proofs.Takes.{list_levels_within, checked_means}
+use Rattle.capnp_readers.proofs.Takes.{stands_means_at}
 
 -- The pointer that comes next where a row of more pointers stands can be found, if what was charged before it is part of what is covered.
 record Rest (r : Reading) (from : Progress) (m : Meter) (us : Trees) : Type 0 where
   stand : AllStand r.segments r.segment r.at from.head us
   within : from.head ≤ length (row r)
-  levels : test_levels_all us ≤ r.levels
+  levels : depth_all us ≤ r.levels
   before : ℕ
   pointers : ℕ
   whole : ℕ
@@ -68,12 +68,12 @@ struct_next {r} {from = from} {mid = mid} {first = first} {a = a} ts near o z le
     let room : a.start + claim a.word ≤ length (segment S a.segment) = o.meets.claims in
     let long : length (words_at S r.segment from.head d) ≡ d = length_words S r.segment from.head d (omega (arith, room, claimed, f.start, ap (λ x. length (segment S x)) f.same_segment)) in
     let moved : AllStand S a.segment (a.start + d) (a.start + claim a.word) us = all_at S us (sym f.same_segment) (omega (arith, f.start)) (omega (arith, f.start, claimed)) there in
-    let deep : 1 + test_levels_all us ≤ r.levels = subst (λ x. x ≤ r.levels) (ap test_levels same) levels in
+    let deep : 1 + depth_all us ≤ r.levels = subst (λ x. x ≤ r.levels) (ap depth same) levels in
     let cost : charge t ≡ d + q + charge_all us = ap charge same ∙ omega (arith, long, len) in
     let rest : Rest (struct_pointers r a) (behind_object a first) from.meter us = record {
       stand = moved;
       within = room;
-      levels = level_less (test_levels_all us) r.levels deep;
+      levels = level_less (depth_all us) r.levels deep;
       before = own S a;
       pointers = 1;
       whole = charge t;
@@ -94,12 +94,12 @@ pointers_next {r} {from = from} {mid = mid} {first = first} {a = a} ts near o z 
     let close = near_object r near o.leads_to in
     let room : a.start + claim a.word ≤ length (segment S a.segment) = o.meets.claims in
     let moved : AllStand S a.segment a.start (a.start + claim a.word) us = all_at S us (sym f.same_segment) (sym f.start) (omega (arith, f.start, claimed)) there in
-    let deep : 1 + test_levels_all us ≤ r.levels = subst (λ x. x ≤ r.levels) (ap test_levels same) levels in
+    let deep : 1 + depth_all us ≤ r.levels = subst (λ x. x ≤ r.levels) (ap depth same) levels in
     let cost : charge t ≡ n + charge_all us = ap charge same ∙ omega (arith, len) in
     let rest : Rest (list_pointers r a) (behind_object a first) from.meter us = record {
       stand = moved;
       within = room;
-      levels = level_less (test_levels_all us) r.levels deep;
+      levels = level_less (depth_all us) r.levels deep;
       before = own S a;
       pointers = 1;
       whole = charge t;
@@ -136,7 +136,7 @@ structs_next {r} {from = from} {between = between} {mid = mid} {first = first} {
     (subst (λ x. ElementsStand S r.segment (from.head + 1) d q x fs) goes
     (subst (λ x. ElementsStand S r.segment (from.head + 1) x q (from.head + 1 + m) fs) wide (subst (λ x. ElementsStand S r.segment (from.head + 1) e x (from.head + 1 + m) fs) many f.elements)))) in
     let next = next_element_stands S a.segment (a.start + 1) d q head es fs rows.stand there (omega (arith, fewer, number)) in
-    let deep = (list_levels_within (test_levels_elements fs) r.levels).0 (subst (λ x. x ≤ r.levels) (ap test_levels same) levels) in
+    let deep : 1 + depth_elements fs ≤ r.levels = subst (λ x. x ≤ r.levels) (ap depth same) levels in
     let cost : charge t ≡ own S a + charge_elements fs =
     ap charge same
     ∙ ap₂ (λ i j. i + 1 + count_cost j (element_count fs) + charge_elements fs) f.exact (ap₂ (λ x y. x + y) wide many)
@@ -145,7 +145,7 @@ structs_next {r} {from = from} {between = between} {mid = mid} {first = first} {
     let rest : Rest (pointers_of (list_elements r a) (tag_size S a) (element_count es)) between from.meter next.next = record {
       stand = subst (λ h. AllStand S a.segment (a.start + 1 + element_count es * (d + q) + d) h next.next) (sym rows.head_is) next.stand;
       within = omega (arith, rows.head_is, elements_within S a.segment (a.start + 1) d q head es room rows.stand);
-      levels = omega (arith, next.levelled, deep.1);
+      levels = omega (arith, next.levelled, level_less (depth_elements fs) r.levels deep);
       before = own S a + charge_elements es;
       pointers = _;
       whole = charge t;
@@ -157,7 +157,7 @@ structs_next {r} {from = from} {between = between} {mid = mid} {first = first} {
 
 pub stops_never : {k : ErrorKind} {r : Reading} {from : Progress} {m' : Meter} → TestStops k r from m' → CanBeFound r from → ⊥
 stops_never {r = r} {from = from} (here u) (t, stands, inside, levels, covers) =
-    (unreadable (stopped_here u.stopped)).only t (charge t) (checked_means r.segments r.levels r.segment r.at from.head t levels inside stands) (λ none. absurd none) covers
+    (unreadable (stopped_here u.stopped)).only t (charge t) (stands_means_at r.segments r.levels r.segment r.at from.head t levels inside stands) (λ none. absurd none) covers
 stops_never {r = r} {from = from} (below {mid = mid} a near o start (in_struct ts z less e all) stops) can = stops_never stops (subst (λ x. CanBeFound x mid) (sym e) (struct_next ts near o z less all can))
 stops_never {r = r} {from = from} (below {mid = mid} a near o start (in_pointers ts z six less e all) stops) can = stops_never stops (subst (λ x. CanBeFound x mid) (sym e) (pointers_next ts near o z six less all can))
 stops_never {r = r} {from = from} (below {mid = mid} a near o start (in_element es ts between list exact fewer less e rows all) stops) can =

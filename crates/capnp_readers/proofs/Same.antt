@@ -1,22 +1,31 @@
 -- What the test for canonical form tells of the values that it finds, and when two of them are the same.
 -- The lemmas take a place, a head and what stands there one by one, as `Stands` has them.
-use Rattle.std.proofs.Common.{◌≡◌, ℕ, ◌-◌, List, ◌∷◌, length, sym, ap, ap₂, ◌∙◌, subst, arith}
+use Rattle.std.proofs.Common.{◌≡◌, ℕ, ◌-◌, ◌≤◌, List, ◌∷◌, length, sym, ap, ap₂, ◌∙◌, subst, arith}
 use Rattle.capnp_format.specs.Segments.{Segments, words_at, HasWords}
-use Rattle.capnp_format.specs.Tree.{Tree}
-use Rattle.capnp_format.specs.Canonical.{word_count, pointer, body, offset_to, Stands}
+use Rattle.capnp_format.specs.Tree.{Tree, depth}
+use Rattle.capnp_format.specs.Canonical.{charge, trim, word_count, pointer, body, offset_to, Stands}
 use Rattle.capnp_format.proofs.Lengths.{length-body}
-use Rattle.capnp_format.proofs.Unique.{Standing}
-use Rattle.capnp_format.proofs.LawLemmas.{one_stands}
-use Rattle.capnp_objects.specs.Reading.{Reading}
+use Rattle.capnp_format.proofs.Levels.{depth_within}
+use Rattle.capnp_format.proofs.Trimmed.{trim-depth}
+use Rattle.capnp_format.proofs.Unique.{Standing, for_offset}
+use Rattle.capnp_format.proofs.LawLemmas.{canonical_cost, one_stands}
+use Rattle.capnp_words.specs.Meter.{Affords}
+use Rattle.capnp_objects.specs.Reading.{Reading, row}
+use Rattle.capnp_objects.proofs.Budgets.{affords_rest}
+use Rattle.capnp_objects.proofs.Walked.{paid_none}
 use Rattle.capnp_readers.specs.Checking.{Progress, Finds}
-use Rattle.capnp_readers.specs.Laws.{TwiceTheDepth, FoundIsMeant, words_tested, SameWords}
-use Rattle.capnp_readers.proofs.Takes.{levels_twice, checked_means}
+use Rattle.capnp_readers.specs.Laws.{CopyIsAnswered, FoundIsMeant, words_tested, SameWords}
+use Rattle.capnp_readers.proofs.Takes.{stands_means_at}
 
-pub twice_the_depth : TwiceTheDepth
-twice_the_depth t = levels_twice t
+pub copy_is_answered : CopyIsAnswered
+copy_is_answered r q m m' h t read copy =
+    let deep : depth (trim t) ≤ q.levels = omega (arith, trim-depth t, depth_within t (record { means = read.means }), copy.levels) in
+    let cost : charge (trim t) ≤ read.cost = canonical_cost r.segments r.levels r.segment r.at t read.cost copy.words read.means in
+    let covers : Affords r.charging m (charge (trim t)) = affords_rest (charge (trim t)) read.cost (paid_none r m) (omega (arith, cost)) read.covers in
+    (trim t, copy.stands, for_offset (trim t) (h ≤ length (row q)) copy.inside, deep, subst (λ b. Affords b m (charge (trim t))) (sym copy.charging) covers)
 
 pub found_is_meant : FoundIsMeant
-found_is_meant r from to t f = checked_means r.segments r.levels r.segment r.at from.head t f.levels f.inside f.stands
+found_is_meant r from to t f = stands_means_at r.segments r.levels r.segment r.at from.head t f.levels f.inside f.stands
 
 -- The canonical words of a value where its pointer is at position p and its body at the head h.
 abbrev standing_words : ℕ → ℕ → Tree → List ℕ

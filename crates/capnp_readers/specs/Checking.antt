@@ -1,6 +1,5 @@
 -- What the test for canonical form finds, how far it has come, and where it stops ("Canonicalization"). It goes over the pointers
--- in order with a head, the word at which the next object has to start, and takes a level for each struct and list, two for a
--- list of structs.
+-- in order with a head, the word at which the next object has to start, and takes a level for each struct and list.
 use Rattle.std.specs.Prelude.{◌≡◌, ℕ, pred, ◌+◌, ◌*◌, ◌-◌, ◌/◌, ◌%◌, ◌^◌, min, ◌<◌, ◌≤◌, List, [], ◌∷◌, Option, Some, None, cond, nat_eq, length}
 use Rattle.capnp_words.specs.declared.error.ErrorKind.{ErrorKind}
 use Rattle.capnp_words.specs.declared.error.ErrorKind.TheVariants.{MessageIsTooDeeplyNestedOrContainsCycles, NestingLimitExceeded}
@@ -11,7 +10,7 @@ use Rattle.capnp_pointers.specs.Sizes.{size_number}
 use Rattle.capnp_format.specs.Numbers.{words_for}
 use Rattle.capnp_format.specs.Word.{kind, offset_bits, data_words, pointer_count, element_size, list_count}
 use Rattle.capnp_format.specs.Segments.{Target, word_at, IsPlace}
-use Rattle.capnp_format.specs.Tree.{Tree, Trees, Elements, count, element_count}
+use Rattle.capnp_format.specs.Tree.{Tree, Trees, Elements, count, element_count, depth, depth_all, depth_elements}
 use Rattle.capnp_format.specs.Canonical.{Stands, ForOffset, word_count, word_count_all, word_count_elements, charge, charge_all, charge_elements, data_width, pointer_width}
 use Rattle.capnp_objects.specs.declared.object.Object.{Object}
 use Rattle.capnp_objects.specs.declared.object.Object.TheVariants.{Null as ObjectNull, Capability as ObjectCapability, Struct as ObjectStruct, Flat as ObjectFlat, Pointers as ObjectPointers, Structs as ObjectStructs}
@@ -26,7 +25,7 @@ use Rattle.capnp_arena.specs.declared.arena.reader_arena.ReaderArena.{Ghosts}
 use Rattle.capnp_objects.specs.Source.{source_segments}
 use Rattle.capnp_readers.specs.Sizes.{own_words, pointers_read}
 use Rattle.capnp_readers.specs.declared.readers.struct_reader.StructReader.{StructReader}
-use Rattle.capnp_readers.specs.Standing.{AllStand, ElementsStand, Accepts, AllAccept, ElementsAccept, EndsUsed, IsPadded, test_levels, test_levels_all, test_levels_elements}
+use Rattle.capnp_readers.specs.Standing.{AllStand, ElementsStand, Accepts, AllAccept, ElementsAccept, EndsUsed, IsPadded}
 
 -- How far a test has come: the word at which the next object has to start, and its limiter.
 pub record Progress : Type 0 where
@@ -40,21 +39,21 @@ progress h m = record { head = h; meter = m }
 pub record Finds (r : Reading) (from to : Progress) (t : Tree) : Type 0 where
   pub stands : Stands r.segments r.segment r.at from.head t
   pub inside : ForOffset t (from.head ≤ length (row r))
-  pub levels : test_levels t ≤ r.levels
+  pub levels : depth t ≤ r.levels
   pub paid : Paid r.charging from.meter to.meter (charge t) (pointers_in t)
   pub head_is : to.head ≡ from.head + word_count t
 
 -- So do those of pointers one behind the other, from the place on.
 pub record FindsAll (r : Reading) (from to : Progress) (ts : Trees) : Type 0 where
   pub stand : AllStand r.segments r.segment r.at from.head ts
-  pub levels : test_levels_all ts ≤ r.levels
+  pub levels : depth_all ts ≤ r.levels
   pub paid : Paid r.charging from.meter to.meter (charge_all ts) (pointers_in_all ts)
   pub head_is : to.head ≡ from.head + word_count_all ts
 
 -- So do those of the pointers of elements of a size.
 pub record FindsElements (r : Reading) (size : StructSize) (from to : Progress) (es : Elements) : Type 0 where
   pub stand : ElementsStand r.segments r.segment r.at size.data_words size.pointers from.head es
-  pub levels : test_levels_elements es ≤ r.levels
+  pub levels : depth_elements es ≤ r.levels
   pub paid : Paid r.charging from.meter to.meter (charge_elements es) (pointers_in_elements es)
   pub head_is : to.head ≡ from.head + word_count_elements es
 
@@ -131,11 +130,11 @@ TellsClaimed r size n claimed m m' None = n * (size.data_words + size.pointers) 
 -- pointers.
 abbrev pub CanBeFound : Reading → Progress → Type 0
 CanBeFound r from =
-    (t : Tree) × Stands r.segments r.segment r.at from.head t × ForOffset t (from.head ≤ length (row r)) × (test_levels t ≤ r.levels) × Affords r.charging from.meter (charge t)
+    (t : Tree) × Stands r.segments r.segment r.at from.head t × ForOffset t (from.head ≤ length (row r)) × (depth t ≤ r.levels) × Affords r.charging from.meter (charge t)
 
 abbrev pub CanAllBeFound : Reading → ℕ → Progress → Type 0
 CanAllBeFound r i from =
-    (ts : Trees) × (count ts ≡ i) × AllStand r.segments r.segment r.at from.head ts × (test_levels_all ts ≤ r.levels) × Affords r.charging from.meter (charge_all ts)
+    (ts : Trees) × (count ts ≡ i) × AllStand r.segments r.segment r.at from.head ts × (depth_all ts ≤ r.levels) × Affords r.charging from.meter (charge_all ts)
 
 -- The name of a refusal: a list that has no level is refused by another than a struct is.
 abbrev pub refusal_name : ℕ → ErrorKind → ErrorKind
@@ -176,9 +175,9 @@ pub data FindsBefore (r : Reading) (a : Target) (child : Reading) (from to : Pro
       element_words (tag r.segments a) ≡ list_count a.word →
       element_count es < offset_bits (tag r.segments a) →
       count ts < pointer_count (tag r.segments a) →
-      child ≡ behind (pointers_of (child_at r a (pred (pred r.levels)) (a.start + 1)) (tag_size r.segments a) (element_count es)) (count ts) →
-      FindsElements (child_at r a (pred (pred r.levels)) (a.start + 1)) (tag_size r.segments a) from mid es →
-      FindsAll (pointers_of (child_at r a (pred (pred r.levels)) (a.start + 1)) (tag_size r.segments a) (element_count es)) mid to ts →
+      child ≡ behind (pointers_of (child_at r a (pred r.levels) (a.start + 1)) (tag_size r.segments a) (element_count es)) (count ts) →
+      FindsElements (child_at r a (pred r.levels) (a.start + 1)) (tag_size r.segments a) from mid es →
+      FindsAll (pointers_of (child_at r a (pred r.levels) (a.start + 1)) (tag_size r.segments a) (element_count es)) mid to ts →
       FindsBefore r a child from to
 
 -- The test of a place stops by the name k: its object can't be read; or it can, starts at the head, and the test of one of its

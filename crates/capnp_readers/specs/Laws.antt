@@ -1,14 +1,14 @@
 -- What the test for canonical form tells beyond one call ("Canonicalization").
-use Rattle.std.specs.Prelude.{◌≡◌, ◌↔◌, ℕ, ◌*◌, ◌-◌, ◌≤◌, List, ◌∷◌, length}
+use Rattle.std.specs.Prelude.{◌≡◌, ◌↔◌, ℕ, ◌-◌, ◌≤◌, List, ◌∷◌, length}
 use Rattle.capnp_words.specs.declared.error.ErrorKind.{ErrorKind}
 use Rattle.capnp_words.specs.Meter.{Meter}
-use Rattle.capnp_format.specs.Tree.{Tree, depth}
-use Rattle.capnp_format.specs.Canonical.{charge}
-use Rattle.capnp_format.specs.Segments.{words_at}
-use Rattle.capnp_objects.specs.Outcomes.{MeansThere}
+use Rattle.capnp_format.specs.Tree.{Tree}
+use Rattle.capnp_format.specs.Canonical.{Stands, charge, trim}
+use Rattle.capnp_format.specs.Segments.{words_at, AreWords}
+use Rattle.capnp_objects.specs.Outcomes.{MeansThere, Reads}
 use Rattle.capnp_objects.specs.Reading.{Reading, word_of, row}
-use Rattle.capnp_readers.specs.Standing.{test_levels}
-use Rattle.capnp_readers.specs.Checking.{Progress, Finds, CanBeFound, CanAllBeFound, TestStops, TestsStop}
+use Rattle.capnp_objects.specs.Wanted.{canonical}
+use Rattle.capnp_readers.specs.Checking.{Progress, progress, Finds, CanBeFound, CanAllBeFound, TestStops, TestsStop}
 
 -- The test of a place is not refused where canonical words stand that the limits cover; nor is that of i pointers, the head of
 -- which lies in the segment.
@@ -18,9 +18,18 @@ CanonicalIsAnswered = (k : ErrorKind) (r : Reading) (from : Progress) (m' : Mete
 abbrev pub CanonicalPointersAreAnswered : Type 0
 CanonicalPointersAreAnswered = (k : ErrorKind) (r : Reading) (i : ℕ) (from : Progress) (m' : Meter) → TestsStop r i from m' k → from.head ≤ length (row r) → CanAllBeFound r i from → ⊥
 
--- Twice the depth of a value is levels enough.
-abbrev pub TwiceTheDepth : Type 0
-TwiceTheDepth = (t : Tree) → test_levels t ≤ 2 * depth t
+-- The canonical words of a value stand at a place with a head in its segment, which is read within the same levels, and charged as
+-- the place that means the value is.
+pub record IsCopyThere (r q : Reading) (h : ℕ) (t : Tree) : Type 0 where
+  pub words : AreWords r.segments
+  pub levels : q.levels ≡ r.levels
+  pub charging : q.charging ≡ r.charging
+  pub inside : h ≤ length (row q)
+  pub stands : Stands q.segments q.segment q.at h (trim t)
+
+-- What is read for a canonical copy within some limits, and stands as canonical words, is tested within the same limits.
+abbrev pub CopyIsAnswered : Type 0
+CopyIsAnswered = (r q : Reading) (m m' : Meter) (h : ℕ) (t : Tree) → Reads canonical r m m' t → IsCopyThere r q h t → CanBeFound q (progress h m)
 
 -- What is found is what the place means within its levels, and it costs what the test has charged.
 abbrev pub FoundIsMeant : Type 0

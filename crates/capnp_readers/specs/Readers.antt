@@ -1,6 +1,5 @@
 -- What readers show of a message, and where they may be put.
-use Rattle.std.specs.Prelude.{◌≡◌, ℕ, ℤ, pos, ◌+◌, ◌*◌, ◌/◌, ◌%◌, ◌^◌, slice_range, ◌-ℤ◌, ◌<◌, ◌≤◌, length}
-use Rattle.std.specs.Int.{w32, saturate_signed}
+use Rattle.std.specs.Prelude.{◌≡◌, ℕ, pos, ◌+◌, ◌*◌, ◌/◌, ◌%◌, ◌^◌, slice_range, ◌-ℤ◌, ◌<◌, ◌≤◌, length}
 use Rattle.capnp_format.specs.Bytes.{words_of}
 use Rattle.capnp_words.specs.Meter.{Meter, Affords}
 use Rattle.capnp_format.specs.Segments.{Segments, Target, segment, words_at}
@@ -37,10 +36,6 @@ abbrev pub IsListPlace : Segments → ListPlace → Type 0
 IsListPlace S place =
     (place.segment < length S) × (place.byte % 8 ≡ 0)
     × (place.byte + 8 * list_words place.size place.count (place.struct_size.data_words + place.struct_size.pointers) ≤ 8 * length (segment S place.segment))
-
--- A nesting limit of one level less; the least number of 32 bits stays.
-abbrev pub one_level_less : ℤ → ℤ
-one_level_less n = saturate_signed w32 (n -ℤ pos 1)
 
 module _ {A : Type 0} (g : Ghosts A) where
   -- A reader shows the struct of d data words and q pointers that starts at position p of segment s.

@@ -1,9 +1,8 @@
--- Canonical words that stand one behind the other, as a test with a moving head finds them; and
--- how many levels it takes.
-use Rattle.std.specs.Prelude.{◌≡◌, ◌≢◌, ℕ, zero, suc, ◌+◌, ◌-◌, ◌*◌, ◌^◌, ◌<◌, ◌⊎◌, max, length}
+-- Canonical words that stand one behind the other, as a test with a moving head finds them.
+use Rattle.std.specs.Prelude.{◌≡◌, ◌≢◌, ℕ, ◌+◌, ◌-◌, ◌*◌, ◌^◌, ◌<◌, ◌⊎◌, length}
 use Rattle.capnp_format.specs.Numbers.{from_digits, element_bits, words_for}
 use Rattle.capnp_format.specs.Segments.{Segments, word_at, words_at, HasWords}
-use Rattle.capnp_format.specs.Tree.{Tree, Null, Capability, Struct, Flat, Pointers, Structs, Trees, no_trees, tree, Elements, no_elements, element, count, element_count}
+use Rattle.capnp_format.specs.Tree.{Tree, Trees, no_trees, tree, Elements, no_elements, element, count, element_count}
 use Rattle.capnp_format.specs.Canonical.{word_count, word_count_all, data_width, pointer_width, Stands}
 
 -- The pointers of children stand from position p on, and their bodies in order from the head h on.
@@ -37,28 +36,3 @@ EndsUsed S s p n = (n ≡ 0) ⊎ (word_at S s (p + n - 1) ≢ 0)
 -- The bits behind n elements of a size are zero, in the words from position h on in which these stand.
 abbrev pub IsPadded : Segments → ℕ → ℕ → ℕ → ℕ → Type 0
 IsPadded S s h size n = from_digits (2 ^ 64) (words_at S s h (words_for size n)) < 2 ^ (element_bits size * n)
-
--- How many levels a list of structs takes, by those that the children of its elements take.
-abbrev pub list_levels : ℕ → ℕ
-list_levels zero = 1
-list_levels (suc n) = 3 + n
-
--- How many levels a value takes in a test that spends two on a list of structs, one on the list and one on the element.
-abbrev mutual
-  pub test_levels : Tree → ℕ
-  test_levels Null = 0
-  test_levels (Capability i) = 0
-  test_levels (Struct ws ts) = 1 + test_levels_all ts
-  test_levels (Flat size ns) = 1
-  test_levels (Pointers ts) = 1 + test_levels_all ts
-  test_levels (Structs d q es) = list_levels (test_levels_elements es)
-
-  -- The most that a child takes.
-  pub test_levels_all : Trees → ℕ
-  test_levels_all no_trees = 0
-  test_levels_all (tree t ts) = max (test_levels t) (test_levels_all ts)
-
-  -- The most that a child of any element takes.
-  pub test_levels_elements : Elements → ℕ
-  test_levels_elements no_elements = 0
-  test_levels_elements (element ws ts es) = max (test_levels_all ts) (test_levels_elements es)

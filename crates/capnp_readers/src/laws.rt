@@ -1,14 +1,17 @@
 //! What the test for canonical form tells beyond one call. Each function does nothing: its contract is the law, proved for
 //! all messages and limits ("Canonicalization"; docs/FORMAT.md, "The test for canonical form").
 
-ghost use Rattle.capnp_readers.specs.Laws.{CanonicalIsAnswered, CanonicalPointersAreAnswered, TwiceTheDepth, FoundIsMeant, SameWords};
+ghost use Rattle.capnp_readers.specs.Laws.{CanonicalIsAnswered, CanonicalPointersAreAnswered, CopyIsAnswered, FoundIsMeant, SameWords};
 
-/// The test is not refused where a canonical value stands that the limits cover, and twice the value's depth is levels
-/// enough.
+/// The test is not refused where a canonical value stands that the limits cover.
 pub fn canonical_is_answered()
     ensures place { CanonicalIsAnswered }
     ensures pointers { CanonicalPointersAreAnswered }
-    ensures levels { TwiceTheDepth }
+{}
+
+/// The words of a canonical copy are tested within the limits that the copy was made within: the answer is yes.
+pub fn copy_is_answered()
+    ensures { CopyIsAnswered }
 {}
 
 /// What the test finds is what the place means, at just the cost that was charged.

@@ -70,7 +70,7 @@ fn canonical(rt: HostRuntime) {
         (64, Some(536_870_912), VOIDS),
         (64, None, VOIDS),
         (64, Some(1_073_741_825), EMPTY_STRUCTS),
-        (3, Some(4), STRUCT_IN_A_LIST),
+        (2, Some(4), STRUCT_IN_A_LIST),
         (
             64,
             WORDS,
@@ -128,7 +128,7 @@ fn refusals(rt: HostRuntime) {
         ),
         (64, WORDS, VOIDS, poor),
         (64, Some(1_073_741_824), EMPTY_STRUCTS, poor),
-        (2, Some(4), STRUCT_IN_A_LIST, deep),
+        (1, Some(4), STRUCT_IN_A_LIST, deep),
         (0, Some(1), "fcffffff00000000", deep),
         (0, Some(1), "0100000000000000", "NestingLimitExceeded"),
         (64, WORDS, "0000000003000000 1111111111111111", outside),

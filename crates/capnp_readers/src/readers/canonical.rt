@@ -32,9 +32,9 @@ impl<'a, A: ReaderArena> PointerReader<'a, A> {
     ///
     /// The pointers are tested in order. Each but the null is counted, and the words that its object
     /// claims, and for elements without width their number, are charged, as `get_struct` and
-    /// `get_list` do; a struct and a list take a level, a list of structs two. It is answered
-    /// wherever a canonical value stands, the limiter covers these charges, and the nesting limit is
-    /// at least twice the value's depth. Else it may be refused by the first fault that is met:
+    /// `get_list` do; a struct and a list take a level. It is answered wherever a canonical value
+    /// stands, the limiter covers these charges, and the nesting limit is at least the value's depth.
+    /// Else it may be refused by the first fault that is met:
     /// `MessageContainsOutOfBoundsPointer`, `MessageIsTooDeeplyNestedOrContainsCycles` for a struct
     /// and `NestingLimitExceeded` for a list that have no level,
     /// `InlineCompositeListsOfNonStructTypeAreNotSupported`,
@@ -300,7 +300,7 @@ fn test_list<A: ReaderArena>(
         }
         Object::Structs { start, size, count } => {
             let claimed = word.list_inline_composite_word_count();
-            let inner = less(less(nesting_limit));
+            let inner = less(nesting_limit);
             test_structs(from, start.at, size, count, inner, claimed, lim)
         }
     }

@@ -86,7 +86,7 @@ fn words_of_elements(size: ElementSize, struct_size: StructSize, count: u32) -> 
 }
 
 impl<'a, A: ReaderArena> ListReader<'a, A> {
-    ghost use Rattle.capnp_readers.specs.Readers.{ShowsList, ShowsElement, IsListPlace, element_start, one_level_less};
+    ghost use Rattle.capnp_readers.specs.Readers.{ShowsList, ShowsElement, IsListPlace, element_start};
 
     /// The list from nothing: a void list of none. Its nesting limit is `i32::MAX`.
     pub fn new_default() -> Self
@@ -300,21 +300,9 @@ impl<'a, A: ReaderArena> ListReader<'a, A> {
         }
     }
 
-    /// An element as a struct, with one level less than the list; the least `i32` stays. The elements
-    /// are no bits, and there are more than `index`. A number is a struct of its bits, a pointer a
-    /// struct of one pointer.
+    /// An element as a struct, under the list's own nesting limit. The elements are no bits, and there
+    /// are more than `index`. A number is a struct of its bits, a pointer a struct of one pointer.
     pub fn get_struct_element(&self, index: u32) -> StructReader<'a, A>
-        requires range { index < self.now.count }
-        requires size { size_number self.now.element_size ≢ 1 }
-        ensures source { result.source ≡ self.now.source }
-        ensures element { ShowsElement A.ReaderArena self.now index result }
-        ensures nesting { result.nesting_limit ≡ one_level_less self.now.nesting_limit }
-    {
-        self.element_within(index, self.nesting_limit.saturating_sub(1))
-    }
-
-    /// An element as a struct, as `get_struct_element` gives it, under the list's own nesting limit.
-    pub fn element(&self, index: u32) -> StructReader<'a, A>
         requires range { index < self.now.count }
         requires size { size_number self.now.element_size ≢ 1 }
         ensures source { result.source ≡ self.now.source }
@@ -322,6 +310,17 @@ impl<'a, A: ReaderArena> ListReader<'a, A> {
         ensures nesting { result.nesting_limit ≡ self.now.nesting_limit }
     {
         self.element_within(index, self.nesting_limit)
+    }
+
+    /// An element as a struct, as `get_struct_element` gives it.
+    pub fn element(&self, index: u32) -> StructReader<'a, A>
+        requires range { index < self.now.count }
+        requires size { size_number self.now.element_size ≢ 1 }
+        ensures source { result.source ≡ self.now.source }
+        ensures element { ShowsElement A.ReaderArena self.now index result }
+        ensures nesting { result.nesting_limit ≡ self.now.nesting_limit }
+    {
+        self.get_struct_element(index)
     }
 
     #[tactic(auto, using(crate::proofs::Sections::elements))]

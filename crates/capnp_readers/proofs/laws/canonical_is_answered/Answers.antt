@@ -1,5 +1,4 @@
 use Rattle.capnp_readers.proofs.NeverStops.{stops_never, row_stops_never}
-use Rattle.capnp_readers.proofs.Same.{twice_the_depth}
 use Rattle.capnp_readers.proofs.laws.canonical_is_answered.Goals as goal
 
 pub returns-clause-place : goal.returns-clause-place
@@ -7,6 +6,3 @@ returns-clause-place c = λ k r from m' stops can. stops_never stops can
 
 pub returns-clause-pointers : goal.returns-clause-pointers
 returns-clause-pointers c = λ k r i from m' stops inside can. row_stops_never stops inside can
-
-pub returns-clause-levels : goal.returns-clause-levels
-returns-clause-levels c = twice_the_depth

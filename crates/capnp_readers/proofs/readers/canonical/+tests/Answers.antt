@@ -13,7 +13,7 @@ use Rattle.capnp_objects.proofs.Walked.{row_within}
 use Rattle.capnp_readers.specs.Sizes.{reading_on}
 use Rattle.capnp_readers.specs.Checking.{IsTested, Progress, progress, StartsRight, TellsStruct, TellsAll, TellsClaimed, TestsStop, RowTestsStop, AreFoundRows, here}
 use Rattle.capnp_readers.proofs.Walking.{ok_so, err_so, err_with}
-use Rattle.capnp_readers.proofs.Checks.{tested, finds_none, pointer_found, pointer_never, unplaced_never, null_found_at, empty_tells, flat_tells, struct_tells, pointers_tell, structs_tell, struct_stops, pointers_stop, structs_stop, pointers_room, structs_room, some_right, two_levels_fall, place_begins, elements_begin, pointers_here, structs_here, struct_object, none_seen, row_seen, row_never, rows_unused, empties_found, still_seen, seen_now, RowDataUsed, RowPointersUsed}
+use Rattle.capnp_readers.proofs.Checks.{tested, finds_none, pointer_found, pointer_never, unplaced_never, null_found_at, empty_tells, flat_tells, struct_tells, pointers_tell, structs_tell, struct_stops, pointers_stop, structs_stop, pointers_room, structs_room, some_right, level_falls, place_begins, elements_begin, pointers_here, structs_here, struct_object, none_seen, row_seen, row_never, rows_unused, empties_found, still_seen, seen_now, RowDataUsed, RowPointersUsed}
 use Rattle.capnp_readers.proofs.readers.canonical.+tests.Goals.{test_rows-then-is_data_used, test_rows-else-is_data_used, test_rows-then-are_pointers_used, test_rows-else-are_pointers_used, test_rows-else-is_data_used-2-via-then-is_data_used-2+else-are_pointers_used-2, test_rows-else-is_data_used-2-via-else-is_data_used-2}
 use Rattle.capnp_readers.proofs.readers.canonical.+tests.Goals as goal
 
@@ -101,9 +101,8 @@ test_list-returns-in-Structs-clause-tells g t c =
     let nl = to_z-of_z w32 c.args.nesting_limit (search rules) in
     let object : IsObject r c.args.lim.now c.read_object.new.lim (ObjectStructs c.in-Structs.start c.in-Structs.size c.in-Structs.count) = rw nl at (rw c.in-Structs.is at c.in-Ok.ensures.object) in
     let right : StartsRight (ObjectStructs c.in-Structs.start c.in-Structs.size c.in-Structs.count) c.args.at c.args.head = rw c.in-Structs.is at (c.starts_right.ensures.0 c.if-not-starts_right.false) in
-    let nm = to_z-of_z w32 c.less-in-Structs.result (search rules) in
     let nk = to_z-of_z w32 c.less-inner.result (search rules) in
-    let there = elements_begin r c.in-Structs.start ((rw nm at c.less-inner.ensures) ∙ ap pred (rw nl at c.less-in-Structs.ensures)) (structs_here {r = r} c.in-Structs.start c.in-Structs.size c.in-Structs.count ready object) in
+    let there = elements_begin r c.in-Structs.start (rw nl at c.less-inner.ensures) (structs_here {r = r} c.in-Structs.start c.in-Structs.size c.in-Structs.count ready object) in
     let claimed : c.list_inline_composite_word_count-claimed.result ≡ list_count (word_of r) = c.list_inline_composite_word_count-claimed.ensures.value ∙ ap list_count c.requires.there in
     ok_so c.test_structs.result c.test_structs.ensures.tells (λ o h. structs_tell {r = r} (progress c.args.head c.args.lim.now) c.test_structs.new.lim c.in-Structs.start c.in-Structs.size c.in-Structs.count o ready object right
     (subst (λ x. TellsClaimed x c.in-Structs.size c.in-Structs.count (list_count (word_of r)) c.read_object.new.lim c.test_structs.new.lim o) there (rw (nk, claimed) at h)))
@@ -115,9 +114,8 @@ test_list-returns-in-Structs-clause-refused g t c =
     let nl = to_z-of_z w32 c.args.nesting_limit (search rules) in
     let object : IsObject r c.args.lim.now c.read_object.new.lim (ObjectStructs c.in-Structs.start c.in-Structs.size c.in-Structs.count) = rw nl at (rw c.in-Structs.is at c.in-Ok.ensures.object) in
     let right : StartsRight (ObjectStructs c.in-Structs.start c.in-Structs.size c.in-Structs.count) c.args.at c.args.head = rw c.in-Structs.is at (c.starts_right.ensures.0 c.if-not-starts_right.false) in
-    let nm = to_z-of_z w32 c.less-in-Structs.result (search rules) in
     let nk = to_z-of_z w32 c.less-inner.result (search rules) in
-    let there = elements_begin r c.in-Structs.start ((rw nm at c.less-inner.ensures) ∙ ap pred (rw nl at c.less-in-Structs.ensures)) (structs_here {r = r} c.in-Structs.start c.in-Structs.size c.in-Structs.count ready object) in
+    let there = elements_begin r c.in-Structs.start (rw nl at c.less-inner.ensures) (structs_here {r = r} c.in-Structs.start c.in-Structs.size c.in-Structs.count ready object) in
     let claimed : c.list_inline_composite_word_count-claimed.result ≡ list_count (word_of r) = c.list_inline_composite_word_count-claimed.ensures.value ∙ ap list_count c.requires.there in
     err_with c.test_structs.result c.test_structs.ensures.exact c.test_structs.ensures.refused (λ exact k h. structs_stop {r = r} {from = progress c.args.head c.args.lim.now} c.in-Structs.start c.in-Structs.size c.in-Structs.count ready object right (exact ∙ claimed)
     (subst (λ x. RowTestsStop x c.in-Structs.size c.in-Structs.count (progress (x.at + list_count (word_of r)) c.read_object.new.lim) c.test_structs.new.lim k) there (rw (nk, claimed) at h)))
@@ -230,10 +228,9 @@ test_list-test_structs-requires g t c κs within =
     let ready : IsTested r = c.requires.tested in
     let nl = to_z-of_z w32 c.args.nesting_limit (search rules) in
     let object : IsObject r c.args.lim.now c.read_object.new.lim (ObjectStructs c.in-Structs.start c.in-Structs.size c.in-Structs.count) = rw nl at (rw c.in-Structs.is at c.in-Ok.ensures.object) in
-    let nm = to_z-of_z w32 c.less-in-Structs.result (search rules) in
     let nk = to_z-of_z w32 c.less-inner.result (search rules) in
-    let falls = two_levels_fall (levels c.args.nesting_limit) object.1.meets.levels in
-    let inner : levels c.less-inner.result ≡ pred (pred (levels c.args.nesting_limit)) = (rw nm at c.less-inner.ensures) ∙ ap pred (rw nl at c.less-in-Structs.ensures) in
+    let falls = level_falls (levels c.args.nesting_limit) object.1.meets.levels in
+    let inner : levels c.less-inner.result ≡ pred (levels c.args.nesting_limit) = rw nl at c.less-inner.ensures in
     let claimed : list_count (word_of r) ≡ c.list_inline_composite_word_count-claimed.result = sym (c.list_inline_composite_word_count-claimed.ensures.value ∙ ap list_count c.requires.there) in
     let room = rw claimed at (subst (λ i. c.in-Structs.start.at + list_count (word_of r) ≤ length (segment r.segments i)) (sym (structs_here {r = r} c.in-Structs.start c.in-Structs.size c.in-Structs.count ready object)) (structs_room {r = r} c.in-Structs.start c.in-Structs.size c.in-Structs.count ready.near object)) in
     (search (rules, nk, nl, inner, falls), (search rules, room))
