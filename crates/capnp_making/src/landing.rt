@@ -22,7 +22,7 @@ pub(crate) struct Landing {
 }
 
 /// How many words a segment has, none where there is no such segment.
-pub(crate) fn length_of<A: BuilderArena>(arena: &A, id: u32) -> u32
+pub fn length_of<A: BuilderArena>(arena: &A, id: u32) -> u32
     ensures { result ≡ length (segment (A.view arena.now).words id) }
 {
     match arena.get_segment(id) {
@@ -32,7 +32,7 @@ pub(crate) fn length_of<A: BuilderArena>(arena: &A, id: u32) -> u32
 }
 
 /// The pointer word at a place, zero where there is none.
-pub(crate) fn word_of<A: BuilderArena>(arena: &A, id: u32, at: u32) -> WirePointer
+pub fn word_of<A: BuilderArena>(arena: &A, id: u32, at: u32) -> WirePointer
     ensures { result.0 ≡ word_at (A.view arena.now).words id at }
 {
     match arena.get_segment(id) {

@@ -4,9 +4,9 @@
 
 pub mod bytes;
 pub mod existing;
-pub(crate) mod landing;
+pub mod landing;
 pub mod laws;
 pub mod lent;
 pub mod making;
 pub mod numbers;
-pub(crate) mod zeroing;
+pub mod zeroing;

@@ -27,7 +27,7 @@ use capnp_words::wire_pointer::{
 
 /// What an object is, as its pointer says.
 #[derive(Clone, Copy)]
-pub(crate) enum Shape {
+pub enum Shape {
     /// A struct.
     Struct(StructSize),
     /// A list of so many elements; of structs, of so many words.
@@ -44,7 +44,7 @@ pub struct Start {
 }
 
 /// The pointer to an object of a segment, from a position of that segment.
-fn pointer_to(shape: Shape, position: u32, target: u32) -> WirePointer
+pub fn pointer_to(shape: Shape, position: u32, target: u32) -> WirePointer
     requires reaches { Reaches position target }
     requires few { IsFew shape }
     ensures word { result.0 ≡ shape_word shape (offset_to position target) }

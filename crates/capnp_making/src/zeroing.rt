@@ -15,7 +15,7 @@ use capnp_words::wire_pointer::{
 };
 
 /// Writes zeros over words that lie in a segment.
-fn zero_part<A: BuilderArena>(arena: &mut A, id: u32, start: u32, n: u64)
+pub fn zero_part<A: BuilderArena>(arena: &mut A, id: u32, start: u32, n: u64)
     requires { n < 2 ^ 63 }
     ensures zeroed { start + n ≤ length (segment (A.view arena.old).words id) → IsZeroed (A.view arena.old).words (A.view arena.new).words (row id start n ∷ []) }
     ensures pruned { IsPruned (A.view arena.old).words (A.view arena.new).words }
@@ -27,7 +27,7 @@ fn zero_part<A: BuilderArena>(arena: &mut A, id: u32, start: u32, n: u64)
 }
 
 /// Makes the landing pads of a word zero, if it is a far pointer.
-fn zero_pads<A: BuilderArena>(arena: &mut A, word: WirePointer)
+pub fn zero_pads<A: BuilderArena>(arena: &mut A, word: WirePointer)
     ensures zeroed { PadsInside (A.view arena.old).words word.0 → IsZeroed (A.view arena.old).words (A.view arena.new).words (pads_of word.0) }
     ensures pruned { IsPruned (A.view arena.old).words (A.view arena.new).words }
     ensures limits { KeepsLimits (A.view arena.old) (A.view arena.new) }
