@@ -1,0 +1,4 @@
+pub mod FrameLemmas
+pub mod ReadingLemmas
+pub mod TableLemmas
+pub mod WritingLemmas

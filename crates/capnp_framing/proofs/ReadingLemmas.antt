@@ -1,0 +1,231 @@
+-- What is read piece by piece is read as a whole.
+use Rattle.std.proofs.Common.{◌≡◌, ℕ, zero, suc, ◌+◌, ◌-◌, ◌*◌, ◌/◌, ◌^◌, ◌<◌, ◌≤◌, inl, inr, List, [], ◌∷◌, ◌++◌, length, get_or, take, drop, map, refl, sym, ap, ap₂, ◌∙◌, subst, arith, length-append, length-take, length-drop, get_or-drop, append-nil, append_assoc, take-add, take_at, drop_at, drop-drop, take-append-drop, slice_get, Option, Some, None, IfSome}
+use Rattle.std.specs.List.{All}
+use Rattle.std.specs.Int.{from_le_bytes, to_le_bytes, w32, w64}
+use Rattle.std.specs.Io.KnownBytes.{Consumes, IsAtEnd}
+use Rattle.std.proofs.lemmas.Grind.{common_steps}
+use Rattle.std.proofs.lemmas.List.{take-append-le, drop-append-le}
+use Rattle.std.proofs.lemmas.Nat.{from_le_bytes-to_le_bytes_4, le_bytes_4}
+use Rattle.capnp_format.specs.Bytes.{message, words_of}
+use Rattle.capnp_framing.proofs.TableLemmas.{below_take, length-lengths}
+use Rattle.capnp_framing.specs.Laws.{FrameIsRead}
+use borrow.Rule.Slice.PartMut.{put_mid}
+use Rattle.capnp_format.specs.Segments.{Segments}
+use Rattle.capnp_format.proofs.WordsOf.{words}
+use Rattle.std.proofs.lemmas.List.Elements.{All-head, All-tail}
+use Rattle.capnp_framing.specs.Frames.{AreWords, IsFrameOf, bytes_of_words, contents, lengths, padding_size}
+use Rattle.capnp_framing.specs.Reading.{HasTable, NoFrame, WhyUnread, message_words, segments_told, table_size, count_cut, table_cut, too_long, too_many, total, words_cut, words_told}
+use Rattle.capnp_framing.specs.declared.framing.frame_error.FrameError.TheVariants.{MessageTooLong, Truncated}
+use Rattle.capnp_framing.specs.declared.devices.Input.{Ghosts}
+use Rattle.capnp_framing.specs.declared.framing.frame_error.FrameError.{FrameError}
+
+-- some bytes are read, and then others
+pub consumes_both : (a b c : Option (List ℕ)) (first more : List ℕ) → Consumes a b first → Consumes b c more → Consumes a c (first ++ more)
+consumes_both None b c first more f g = tt
+consumes_both (Some x) None c first more f g = absurd f
+consumes_both (Some x) (Some y) None first more f g = absurd g
+consumes_both (Some x) (Some y) (Some z) first more f g = grind (arith, common_steps)
+
+pub consumes_none : (a : Option (List ℕ)) → Consumes a a []
+consumes_none None = tt
+consumes_none (Some x) = refl
+
+-- the input ended behind these
+pub ended : (a b : Option (List ℕ)) (xs : List ℕ) (m : ℕ) → Consumes a b xs → IsAtEnd b → length xs < m → IfSome a (λ bytes. length bytes < m)
+ended None b xs m f e l = tt
+ended (Some x) None xs m f e l = absurd f
+ended (Some x) (Some y) xs m f e l = let whole : x ≡ xs = f ∙ ap (λ ys. xs ++ ys) e ∙ append-nil xs in omega (arith, ap length whole)
+
+-- it ended later
+cut_later : (a b : Option (List ℕ)) (xs : List ℕ) (n m : ℕ) → Consumes a b xs → length xs + n ≤ m → IfSome b (λ bytes. length bytes < n) → IfSome a (λ bytes. length bytes < m)
+cut_later None b xs n m f l h = tt
+cut_later (Some x) None xs n m f l h = absurd f
+cut_later (Some x) (Some y) xs n m f l h = omega (arith, ap length f, length-append xs y, h)
+
+module _ {R : Type 0} (g : Ghosts R) where
+  pub unread_later : (from mid to : R) (xs : List ℕ) (n m : ℕ) (e : FrameError) → Consumes (g.remaining from) (g.remaining mid) xs → length xs + n ≤ m → WhyUnread g mid to n e → WhyUnread g from to m e
+  unread_later from mid to xs n m e f l (inl h) = inl (h.0, cut_later (g.remaining from) (g.remaining mid) xs n m f l h.1)
+  unread_later from mid to xs n m e f l (inr h) = inr h
+
+-- k bytes more, read over those behind the first n
+pub read_on : (a b c : Option (List ℕ)) (n k : ℕ) (xs part : List ℕ) → n ≤ length xs → Consumes a b (take n xs) → Consumes b c (take k part) → Consumes a c (take (n + k) (take n xs ++ part))
+read_on a b c n k xs part l f h =
+    let size : length (take n xs) ≡ n = omega (arith, length-take n xs) in
+    subst (Consumes a c) (sym (take-add n k (take n xs ++ part) ∙ ap₂ (λ (us vs : List ℕ). us ++ take k vs) (take_at (take n xs) part n size) (drop_at (take n xs) part n size)))
+    (consumes_both a b c (take n xs) (take k part) f h)
+
+pub read_over : (a b c : Option (List ℕ)) (n k m : ℕ) (xs part : List ℕ) → n ≤ length xs → k ≤ length part → Consumes a b (take n xs) → Consumes b c (take k part) → Consumes a c (take (n + k) (put_mid n m xs part))
+read_over a b c n k m xs part l h f g = read_on a b c n k xs (part ++ drop m (drop n xs)) l f (subst (Consumes b c) (sym (take-append-le k part (drop m (drop n xs)) h)) g)
+
+pub told_fewer : (i n : ℕ) (bs : List ℕ) → i ≤ n → words_told i bs ≤ words_told n bs
+told_fewer zero n bs h = omega arith
+told_fewer (suc i) zero bs h = absurd (omega arith)
+told_fewer (suc i) (suc n) bs h = omega (arith, told_fewer i n (drop 4 bs) (omega arith))
+
+-- one length more
+pub told_more : (i : ℕ) (bs : List ℕ) → words_told (i + 1) bs ≡ words_told i bs + from_le_bytes w32 (take 4 (drop (4 * i) bs))
+told_more i bs = rw (let e : i + 1 ≡ suc i = omega arith in e) (go i bs)
+  where
+    go : (i : ℕ) (bs : List ℕ) → words_told (suc i) bs ≡ words_told i bs + from_le_bytes w32 (take 4 (drop (4 * i) bs))
+    go zero bs = omega arith
+    go (suc i) bs =
+        let there : drop (4 * i) (drop 4 bs) ≡ drop (4 * suc i) bs = drop-drop (4 * i) 4 bs ∙ ap (λ n. drop n bs) (let e : 4 + 4 * i ≡ 4 * suc i = omega arith in e) in
+        let h : words_told (suc i) (drop 4 bs) ≡ words_told i (drop 4 bs) + from_le_bytes w32 (take 4 (drop (4 * suc i) bs)) =
+        go i (drop 4 bs) ∙ ap (λ (xs : List ℕ). words_told i (drop 4 bs) + from_le_bytes w32 (take 4 xs)) there in
+        omega (arith, h)
+
+-- one segment more
+pub contents-push : (S : Segments) (ws : List ℕ) → contents (S ++ ws ∷ []) ≡ contents S ++ bytes_of_words ws
+contents-push [] ws = append-nil (bytes_of_words ws)
+contents-push (vs ∷ S) ws = ap (λ (xs : List ℕ). bytes_of_words vs ++ xs) (contents-push S ws) ∙ sym (append_assoc (bytes_of_words vs) (contents S) (bytes_of_words ws))
+
+pub lengths-push : (S : Segments) (ws : List ℕ) → lengths (S ++ ws ∷ []) ≡ lengths S ++ to_le_bytes w32 (length ws)
+lengths-push [] ws = append-nil (to_le_bytes w32 (length ws))
+lengths-push (vs ∷ S) ws = ap (λ (xs : List ℕ). to_le_bytes w32 (length vs) ++ xs) (lengths-push S ws) ∙ sym (append_assoc (to_le_bytes w32 (length vs)) (lengths S) (to_le_bytes w32 (length ws)))
+
+pub message_push : {A : Type 0} (f : A → List ℕ) (rows : List A) (row : A) → message (map f (rows ++ row ∷ [])) ≡ message (map f rows) ++ words_of (f row) ∷ []
+message_push f [] row = refl
+message_push f (x ∷ xs) row = ap (λ (ys : Segments). words_of (f x) ∷ ys) (message_push f xs row)
+
+below_drop : (n : ℕ) (bs : List ℕ) → ((i : ℕ) → get_or bs i 0 < 256) → (i : ℕ) → get_or (drop n bs) i 0 < 256
+below_drop n bs l i = omega (arith, get_or-drop n bs i 0, l (n + i))
+
+-- one length more of a table is read
+pub told_push : (i : ℕ) (table : List ℕ) (S : Segments) (ws : List ℕ) → ((j : ℕ) → get_or table j 0 < 256) → 4 * i + 4 ≤ length table → lengths S ≡ take (4 * i) table →
+    length ws ≡ from_le_bytes w32 (take 4 (drop (4 * i) table)) → lengths (S ++ ws ∷ []) ≡ take (4 * (i + 1)) table
+told_push i table S ws l room e same =
+    let four : List ℕ = take 4 (drop (4 * i) table) in
+    let long : length four ≡ 4 = omega (arith, length-take 4 (drop (4 * i) table), length-drop (4 * i) table) in
+    lengths-push S ws
+    ∙ ap₂ (λ (xs ys : List ℕ). xs ++ ys) e (le_bytes_4 four (length ws) long (below_take 4 (drop (4 * i) table) (below_drop (4 * i) table l)) same)
+    ∙ sym (take-add (4 * i) 4 table)
+    ∙ ap (λ n. take n table) (let k : 4 * i + 4 ≡ 4 * (i + 1) = omega arith in k)
+
+pub size_push : (S : Segments) (ws bs : List ℕ) (n m : ℕ) → bytes_of_words ws ≡ bs → length (contents S) ≡ n → length bs ≡ m → length (contents (S ++ ws ∷ [])) ≡ n + m
+size_push S ws bs n m whole e l = ap length (contents-push S ws) ∙ omega (arith, length-append (contents S) (bytes_of_words ws), ap length whole, e, l)
+
+pub total-push : (S : Segments) (ws : List ℕ) → total (S ++ ws ∷ []) ≡ total S + length ws
+total-push [] ws = omega arith
+total-push (vs ∷ S) ws = omega (arith, total-push S ws)
+
+-- only the lengths themselves are looked at
+told_front : (n : ℕ) (xs ys zs : List ℕ) → 4 * n ≤ length xs → words_told n (xs ++ ys) ≡ words_told n (xs ++ zs)
+told_front zero xs ys zs h = refl
+told_front (suc n) xs ys zs h =
+    ap₂ (λ us k. from_le_bytes w32 us + k)
+    (take-append-le 4 xs ys (omega arith) ∙ sym (take-append-le 4 xs zs (omega arith)))
+    (ap (words_told n) (drop-append-le 4 xs ys (omega arith)) ∙ told_front n (drop 4 xs) ys zs (omega (arith, length-drop 4 xs)) ∙ ap (words_told n) (sym (drop-append-le 4 xs zs (omega arith))))
+
+-- The bytes of a message up to its table: the number of segments less one, the lengths and the padding, and then others.
+pub record AtTable (first tab : List ℕ) (n : ℕ) : Type 0 where
+  pub four : length first ≡ 4
+  pub told : n ≡ from_le_bytes w32 first + 1
+  pub few : n ≤ 512
+  pub size : length tab ≡ 4 * n + padding_size n
+
+table_told : {first tab : List ℕ} {n : ℕ} (rest : List ℕ) → AtTable first tab n → segments_told (first ++ (tab ++ rest)) ≡ n
+table_told {first} {tab} rest h = ap (λ xs. from_le_bytes w32 xs + 1) (take_at first (tab ++ rest) 4 h.four) ∙ sym h.told
+
+has_table : {first tab : List ℕ} {n : ℕ} (rest : List ℕ) → AtTable first tab n → HasTable (first ++ (tab ++ rest))
+has_table {first} {tab} {n} rest h =
+    let long : length (first ++ (tab ++ rest)) ≡ 4 + (4 * n + padding_size n) + length rest = omega (arith, length-append first (tab ++ rest), length-append tab rest, h.four, h.size) in
+    let told = table_told rest h in
+    record { count = omega (arith, long); few = omega (arith, told, h.few); table = subst (λ k. table_size k ≤ length (first ++ (tab ++ rest))) (sym told) (omega (arith, long)) }
+
+table_words : {first tab : List ℕ} {n : ℕ} (rest zs : List ℕ) → AtTable first tab n → message_words (first ++ (tab ++ rest)) ≡ words_told n (tab ++ zs)
+table_words {first} {tab} {n} rest zs h = ap₂ words_told (table_told rest h) (drop_at first (tab ++ rest) 4 h.four) ∙ told_front n tab rest zs (omega (arith, h.size))
+
+pub long_table : {first tab : List ℕ} {n : ℕ} (rest zs : List ℕ) (w most : ℕ) → AtTable first tab n → w ≡ words_told n (tab ++ zs) → most < w → NoFrame (first ++ (tab ++ rest)) most (MessageTooLong w)
+long_table rest zs w most h e l = let same = table_words rest zs h in too_long (has_table rest h) (omega (arith, same, e)) (ap MessageTooLong (e ∙ sym same))
+
+pub cut_table : {first tab : List ℕ} {n : ℕ} (rest zs : List ℕ) (w most : ℕ) → AtTable first tab n → w ≡ words_told n (tab ++ zs) → w ≤ most → length rest < 8 * w → NoFrame (first ++ (tab ++ rest)) most Truncated
+cut_table {first} {tab} {n} rest zs w most h e l cut =
+    let same = table_words rest zs h in
+    let long : length (first ++ (tab ++ rest)) ≡ 4 + (4 * n + padding_size n) + length rest = omega (arith, length-append first (tab ++ rest), length-append tab rest, h.four, h.size) in
+    words_cut (has_table rest h) (omega (arith, same, e)) (subst (λ k. length (first ++ (tab ++ rest)) < table_size k + 8 * message_words (first ++ (tab ++ rest))) (sym (table_told rest h)) (omega (arith, long, same, e))) refl
+
+-- what was read of known bytes, and what is left
+pub read_so : (a b c : Option (List ℕ)) (first tab : List ℕ) (Q P : List ℕ → Type 0) → Consumes a b first → Consumes b c tab → IfSome c Q → ((rest : List ℕ) → Q rest → P (first ++ (tab ++ rest))) → IfSome a P
+read_so None b c first tab Q P f g q h = tt
+read_so (Some x) None c first tab Q P f g q h = absurd f
+read_so (Some x) (Some y) None first tab Q P f g q h = absurd g
+read_so (Some x) (Some y) (Some z) first tab Q P f g q h = subst P (sym (f ∙ ap (λ (ys : List ℕ). first ++ ys) g)) (h z q)
+
+pub whatever : (a : Option (List ℕ)) → IfSome a (λ _. Unit {0})
+whatever None = tt
+whatever (Some x) = tt
+
+-- all pieces are a frame
+pub frame_read : {first tab : List ℕ} {n : ℕ} (zs : List ℕ) (S : Segments) → AtTable first tab n → ((i : ℕ) → get_or first i 0 < 256) → length S ≡ n → lengths S ≡ take (4 * n) (tab ++ zs) →
+    All (λ ws. length ws < 2 ^ 32) S → All AreWords S → IsFrameOf S (first ++ (tab ++ contents S))
+frame_read {first} {tab} {n} zs S h below count told short words = record {
+  message = record { some = omega (arith, count, h.told); few = omega (arith, count, h.few); short = short; words = words };
+  padding = drop (4 * n) tab;
+  padded = omega (arith, length-drop (4 * n) tab, h.size) ∙ ap padding_size (sym count);
+  is =
+      let number : to_le_bytes w32 (length S - 1) ≡ first = le_bytes_4 first (length S - 1) h.four below (omega (arith, count, h.told)) in
+      let front : lengths S ≡ take (4 * n) tab = told ∙ take-append-le (4 * n) tab zs (omega (arith, h.size)) in
+      let table : tab ++ contents S ≡ lengths S ++ (drop (4 * n) tab ++ contents S) =
+      ap (λ (xs : List ℕ). xs ++ contents S) (sym (take-append-drop (4 * n) tab) ∙ ap (λ (xs : List ℕ). xs ++ drop (4 * n) tab) (sym front)) ∙ append_assoc (lengths S) (drop (4 * n) tab) (contents S) in
+      ap₂ (λ (xs ys : List ℕ). xs ++ ys) (sym number) table;
+}
+
+pub small_from_short : (bytes : List (List ℕ)) → All (λ ws. length ws < 2 ^ 32) (message bytes) → (k : ℕ) (s : List ℕ) → slice_get bytes k ≡ Some s → length s / 8 < 2 ^ 32
+small_from_short [] h k s e = absurd (cc e)
+small_from_short (b ∷ bs) h zero s e = let same : b ≡ s = cc in let l = All-head (λ (ws : List ℕ). length ws < 2 ^ 32) (words_of b) (message bs) h in omega (arith, words b, ap length same, l)
+small_from_short (b ∷ bs) h (suc k) s e = small_from_short bs (All-tail (λ (ws : List ℕ). length ws < 2 ^ 32) (words_of b) (message bs) h) k s e
+
+-- a frame is refused for nothing that it holds
+
+lengths_told : (S : Segments) (zs : List ℕ) → All (λ ws. length ws < 2 ^ 32) S → words_told (length S) (lengths S ++ zs) ≡ total S
+lengths_told [] zs h = refl
+lengths_told (ws ∷ S) zs h =
+    let four : List ℕ = to_le_bytes w32 (length ws) in
+    let same : (four ++ lengths S) ++ zs ≡ four ++ (lengths S ++ zs) = append_assoc four (lengths S) zs in
+    let first : from_le_bytes w32 (take 4 (four ++ (lengths S ++ zs))) ≡ length ws = from_le_bytes-to_le_bytes_4 (length ws) (All-head (λ (ws : List ℕ). length ws < 2 ^ 32) ws S h) in
+    let rest : words_told (length S) (drop 4 (four ++ (lengths S ++ zs))) ≡ total S = lengths_told S zs (All-tail (λ (ws : List ℕ). length ws < 2 ^ 32) ws S h) in
+    ap (words_told (suc (length S))) same ∙ ap₂ (λ x y. x + y) first rest
+
+bytes-length : (ws : List ℕ) → length (bytes_of_words ws) ≡ 8 * length ws
+bytes-length [] = refl
+bytes-length (w ∷ ws) = omega (arith, bytes-length ws, length-append (to_le_bytes w64 w) (bytes_of_words ws))
+
+contents-length : (S : Segments) → length (contents S) ≡ 8 * total S
+contents-length [] = refl
+contents-length (ws ∷ S) = omega (arith, contents-length S, bytes-length ws, length-append (bytes_of_words ws) (contents S))
+
+pub frame_is_read : FrameIsRead
+frame_is_read S bytes rest most e f small wrong =
+    let n : ℕ = length S in
+    let first : List ℕ = to_le_bytes w32 (n - 1) in
+    let tab : List ℕ = lengths S ++ f.padding in
+    let behind : List ℕ = contents S ++ rest in
+    let some = f.message.some in
+    let few = f.message.few in
+    let h : AtTable first tab n = record {
+      four = refl;
+      told = (let k : n ≡ n - 1 + 1 = omega (arith, some) in k ∙ ap (λ x. x + 1) (sym (from_le_bytes-to_le_bytes_4 (n - 1) (omega (arith, few)))));
+      few = few;
+      size = omega (arith, length-append (lengths S) f.padding, length-lengths S, f.padded);
+    } in
+    let shape : bytes ++ rest ≡ first ++ (tab ++ behind) =
+    ap (λ (xs : List ℕ). xs ++ rest) f.is
+    ∙ append_assoc first (lengths S ++ (f.padding ++ contents S)) rest
+    ∙ ap (λ (xs : List ℕ). first ++ xs) (append_assoc (lengths S) (f.padding ++ contents S) rest ∙ ap (λ (xs : List ℕ). lengths S ++ xs) (append_assoc f.padding (contents S) rest) ∙ sym (append_assoc (lengths S) f.padding behind)) in
+    let told : segments_told (first ++ (tab ++ behind)) ≡ n = table_told behind h in
+    let words : message_words (first ++ (tab ++ behind)) ≡ total S =
+    table_words behind [] h ∙ ap (words_told n) (append_nil tab) ∙ lengths_told S f.padding f.message.short in
+    let long : length (first ++ (tab ++ behind)) ≡ 4 + (4 * n + padding_size n) + (8 * total S + length rest) =
+    omega (arith, length-append first (tab ++ behind), length-append tab behind, length-append (contents S) rest, contents-length S, h.four, h.size) in
+    let whole : table_size (segments_told (first ++ (tab ++ behind))) ≡ 4 + 4 * n + padding_size n = ap table_size told in
+    refused (subst (λ (xs : List ℕ). NoFrame xs most e) shape wrong) told words long whole
+  where
+    append_nil : (xs : List ℕ) → xs ++ [] ≡ xs
+    append_nil xs = append-nil xs
+
+    refused : {xs : List ℕ} → NoFrame xs most e → segments_told xs ≡ length S → message_words xs ≡ total S → length xs ≡ 4 + (4 * length S + padding_size (length S)) + (8 * total S + length rest) → table_size (segments_told xs) ≡ 4 + 4 * length S + padding_size (length S) → ⊥
+    refused (count_cut some less k) told words long whole = omega (arith, long, less)
+    refused (too_many there more k) told words long whole = let few = f.message.few in omega (arith, told, more, few)
+    refused (table_cut there few less k) told words long whole = omega (arith, long, less, whole)
+    refused (too_long there more k) told words long whole = omega (arith, words, more, small)
+    refused (words_cut there fits less k) told words long whole = omega (arith, long, less, whole, words)

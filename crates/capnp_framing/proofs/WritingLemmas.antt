@@ -1,0 +1,36 @@
+-- Bytes are written one after the other.
+use Rattle.std.proofs.Common.{◌≡◌, ℕ, List, [], ◌++◌, Option, Some, None, refl, arith}
+use Rattle.std.specs.Io.KnownBytes.{Appends}
+use Rattle.std.proofs.lemmas.Grind.{common_steps}
+use Rattle.capnp_framing.specs.Writing.{IsLeftOver}
+
+-- Of bytes that were to be appended, some are left over, and then more is appended.
+pub record Writes (a b c : Option (List ℕ)) (all rest more : List ℕ) : Type 0 where
+  pub left_over : IsLeftOver a b all rest
+  pub appended : Appends b c more
+
+-- more of what is left over is written
+pub left_over_less : {a b c : Option (List ℕ)} {all rest more : List ℕ} (less : List ℕ) → Writes a b c all rest more → rest ≡ more ++ less → IsLeftOver a c all less
+left_over_less {a = None} less w e = tt
+left_over_less {a = Some x} {b = None} less w e = absurd w.left_over
+left_over_less {a = Some x} {b = Some y} {c = None} less w e = absurd w.appended
+left_over_less {a = Some x} {b = Some y} {c = Some z} less w e = grind (arith, common_steps)
+
+-- all is written, and then more
+pub left_over_none : {a b c : Option (List ℕ)} {all rest more : List ℕ} → Writes a b c all rest more → rest ≡ [] → Appends a c (all ++ more)
+left_over_none {a = None} w e = tt
+left_over_none {a = Some x} {b = None} w e = absurd w.left_over
+left_over_none {a = Some x} {b = Some y} {c = None} w e = absurd w.appended
+left_over_none {a = Some x} {b = Some y} {c = Some z} w e = grind (arith, common_steps)
+
+-- nothing is written yet
+pub left_over_all : (a : Option (List ℕ)) (all : List ℕ) → IsLeftOver a a all all
+left_over_all None all = tt
+left_over_all (Some x) all = refl
+
+-- some bytes are written, and then others
+pub appends_both : (a b c : Option (List ℕ)) (first more : List ℕ) → Appends a b first → Appends b c more → Appends a c (first ++ more)
+appends_both None b c first more f g = tt
+appends_both (Some x) None c first more f g = absurd f
+appends_both (Some x) (Some y) None first more f g = absurd g
+appends_both (Some x) (Some y) (Some z) first more f g = grind (arith, common_steps)

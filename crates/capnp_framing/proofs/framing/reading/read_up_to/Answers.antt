@@ -1,0 +1,10 @@
+use Rattle.std.proofs.Common.{rules, arith}
+use Rattle.capnp_framing.proofs.ReadingLemmas.{read_over}
+use Rattle.capnp_framing.proofs.framing.reading.read_up_to.Goals as goal
+
+pub loop-n-preserved : goal.loop-n-preserved
+loop-n-preserved g c = record {
+  within = omega (arith, c.in-Ok.ensures.bound, c.read.auto.to, c.loop-n.auto.to, c.loop-n-test.true);
+  read = read_over _ _ _ c.loop-n.n c.in-Ok.more _ c.loop-n.to c.read.new.to (omega (arith, c.loop-n.auto.to, c.loop-n-test.true)) c.in-Ok.ensures.bound c.loop-n.invariant.read c.in-Ok.ensures.bytes.0;
+  works = search rules;
+}

@@ -1,0 +1,13 @@
+use Rattle.std.proofs.Common.{◌≡◌, ◌-◌, ◌≤◌, length, take, false}
+use Rattle.std.specs.Io.KnownBytes.{Consumes}
+use Rattle.capnp_framing.proofs.framing.reading.read_up_to.Given as goal
+
+abbrev pub invariant-loop-n : goal.invariant-loop-n
+invariant-loop-n g l = record {
+  within : l.n ≤ length l.fn.to;
+  read : Consumes (g.R.Input.remaining l.fn.input) (g.R.Input.remaining l.input) (take l.n l.to);
+  works : g.R.Input.has_failed l.input ≡ false;
+}
+
+abbrev pub decreases-loop-n : goal.decreases-loop-n
+decreases-loop-n g l = length l.fn.to - l.n

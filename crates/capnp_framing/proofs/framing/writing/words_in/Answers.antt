@@ -1,0 +1,18 @@
+use Rattle.std.proofs.Common.{sym, ◌∙◌, arith, take_all}
+use Rattle.capnp_format.specs.Bytes.{words_of}
+use Rattle.capnp_format.proofs.WordsOf.{words}
+use Rattle.capnp_arena.proofs.MessageLemmas.{segment-message}
+use Rattle.capnp_framing.proofs.framing.writing.words_in.Goals as goal
+
+pub part-requires : goal.part-requires
+part-requires g c = omega (arith, words c.in-Some.bytes.now, c.count.ensures)
+
+pub returns-in-Some-clause-words : goal.returns-in-Some-clause-words
+returns-in-Some-clause-words g c inside =
+    c.part.ensures.words
+    ∙ take_all c.count.result (words_of c.in-Some.bytes.now) (omega (arith, c.count.ensures))
+    ∙ sym (segment-message (g.S.ReaderSegments.segments c.args.segments.now) c.args.id c.in-Some.bytes.now c.in-Some.ensures.bytes)
+
+pub returns-in-Some-clause-short : goal.returns-in-Some-clause-short
+returns-in-Some-clause-short g c =
+    omega (arith, c.part.ensures.count, c.count.ensures, words c.in-Some.bytes.now, c.requires.small.1 c.args.id c.in-Some.bytes.now c.in-Some.ensures.bytes)

@@ -1,0 +1,14 @@
+use Rattle.std.proofs.Common.{◌<◌, ◌^◌, ℕ, List, length, sym, subst, OnOk}
+use Rattle.std.proofs.lemmas.List.Elements.{All-from_get_or}
+use Rattle.capnp_format.specs.Bytes.{words_of}
+use Rattle.capnp_format.proofs.WordsOf.{small_word}
+use Rattle.capnp_framing.specs.Writing.{Prints}
+use Rattle.capnp_framing.proofs.TableLemmas.{bytes-words}
+use Rattle.capnp_framing.proofs.framing.writing.write_words.Goals as goal
+
+pub returns-clause-written : goal.returns-clause-written
+returns-clause-written g c =
+    subst (λ (bs : List ℕ). OnOk c.write_all.result (Prints g.W.Output c.args.output.now c.write_all.new.output bs)) (sym (bytes-words (length (words_of c.args.words.now)) c.args.words.now c.requires.whole (λ i. (c.type_inv.words i).fits))) c.write_all.ensures.written
+
+pub returns-clause-words : goal.returns-clause-words
+returns-clause-words g c = All-from_get_or (λ w. w < 2 ^ 64) (words_of c.args.words.now) 0 (λ i inside. small_word c.args.words.now (λ j. (c.type_inv.words j).fits) i)

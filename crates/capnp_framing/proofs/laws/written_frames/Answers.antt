@@ -1,0 +1,5 @@
+use Rattle.capnp_framing.proofs.FrameLemmas.{written_is_frame, same_frames}
+use Rattle.capnp_framing.proofs.laws.written_frames.Goals as goal
+
+pub returns : goal.returns
+returns c = record { framed = written_is_frame; same = same_frames }

@@ -1,0 +1,27 @@
+-- Which message bytes are a frame of.
+use Rattle.std.specs.Prelude.{◌≡◌, ℕ, ◌≤◌, List, ◌++◌}
+use Rattle.capnp_format.specs.Segments.{Segments}
+use Rattle.capnp_framing.specs.Frames.{CanBeFramed, IsFrameOf, frame}
+use Rattle.capnp_framing.specs.Reading.{NoFrame, total}
+use Rattle.capnp_framing.specs.declared.framing.frame_error.FrameError.{FrameError}
+
+-- Where two frames begin the same bytes they are one, of one message.
+abbrev pub OneFrameBegins : Type 0
+OneFrameBegins =
+    (S R : Segments) (a b rest more : List ℕ) → IsFrameOf S a → IsFrameOf R b → a ++ rest ≡ b ++ more → (S ≡ R) × (a ≡ b) × (rest ≡ more)
+
+-- Bytes are a frame of one message at most.
+abbrev pub OneMessage : Type 0
+OneMessage = (S R : Segments) (bytes : List ℕ) → IsFrameOf S bytes → IsFrameOf R bytes → S ≡ R
+
+-- What is written is a frame of its message.
+abbrev pub WrittenIsFrame : Type 0
+WrittenIsFrame = (S : Segments) → CanBeFramed S → IsFrameOf S (frame S)
+
+-- Two messages are written as the same bytes exactly if they are the same.
+abbrev pub SameFrames : Type 0
+SameFrames = (S R : Segments) → CanBeFramed S → CanBeFramed R → frame S ≡ frame R → S ≡ R
+
+-- Bytes that begin with a frame of at most so many words are refused for nothing that they hold.
+abbrev pub FrameIsRead : Type 0
+FrameIsRead = (S : Segments) (bytes rest : List ℕ) (most : ℕ) (e : FrameError) → IsFrameOf S bytes → total S ≤ most → NoFrame (bytes ++ rest) most e → ⊥

@@ -1,0 +1,5 @@
+pub mod Frames
+pub mod Laws
+pub mod Names
+pub mod Reading
+pub mod Writing

@@ -1,0 +1,60 @@
+-- Why bytes, or segments, make no frame.
+use Rattle.std.specs.Prelude.{◌≡◌, ◌⊎◌, ℕ, ◌+◌, ◌*◌, ◌<◌, ◌≤◌, List, [], ◌∷◌, length, take, drop, zero, suc, true, IfSome}
+use Rattle.std.specs.Int.{from_le_bytes, w32}
+use Rattle.std.specs.Io.KnownBytes.{Consumes}
+use Rattle.capnp_format.specs.Segments.{Segments}
+use Rattle.capnp_framing.specs.Frames.{IsFrameOf, max_segments, padding_size}
+use Rattle.capnp_framing.specs.declared.devices.Input.{Ghosts}
+use Rattle.capnp_framing.specs.declared.framing.frame_error.FrameError.{FrameError}
+use Rattle.capnp_framing.specs.declared.framing.frame_error.FrameError.TheVariants.{NoSegments, TooManySegments, MessageTooLong, Truncated, ReadFailed}
+
+-- So many segments make no frame: there are none, or too many.
+abbrev pub IsRefusedNumber : ℕ → FrameError → Type 0
+IsRefusedNumber n e = ((e ≡ NoSegments) × (n ≡ 0)) ⊎ ((e ≡ TooManySegments n) × (max_segments < n))
+
+-- The number of segments that the first bytes tell.
+abbrev pub segments_told : List ℕ → ℕ
+segments_told bytes = from_le_bytes w32 (take 4 bytes) + 1
+
+-- How many bytes stand before the words of so many segments.
+abbrev pub table_size : ℕ → ℕ
+table_size n = 4 + 4 * n + padding_size n
+
+-- The sum of the n lengths that bytes tell.
+abbrev pub words_told : ℕ → List ℕ → ℕ
+words_told zero bytes = 0
+words_told (suc n) bytes = from_le_bytes w32 (take 4 bytes) + words_told n (drop 4 bytes)
+
+-- How many words a message has.
+abbrev pub total : Segments → ℕ
+total [] = 0
+total (ws ∷ S) = length ws + total S
+
+-- The whole table is there.
+pub record HasTable (bytes : List ℕ) : Type 0 where
+  pub count : 4 ≤ length bytes
+  pub few : segments_told bytes ≤ max_segments
+  pub table : table_size (segments_told bytes) ≤ length bytes
+
+-- How many words the table tells.
+abbrev pub message_words : List ℕ → ℕ
+message_words bytes = words_told (segments_told bytes) (drop 4 bytes)
+
+-- Bytes that are not none begin with no frame of at most so many words, for the reason e: the first that stands, in this order.
+pub data NoFrame (bytes : List ℕ) (most : ℕ) (e : FrameError) : Type 0 where
+  count_cut : 0 < length bytes → length bytes < 4 → e ≡ Truncated → NoFrame bytes most e
+  too_many : 4 ≤ length bytes → max_segments < segments_told bytes → e ≡ TooManySegments (segments_told bytes) → NoFrame bytes most e
+  table_cut : 4 ≤ length bytes → segments_told bytes ≤ max_segments → length bytes < table_size (segments_told bytes) → e ≡ Truncated → NoFrame bytes most e
+  too_long : HasTable bytes → most < message_words bytes → e ≡ MessageTooLong (message_words bytes) → NoFrame bytes most e
+  words_cut : HasTable bytes → message_words bytes ≤ most → length bytes < table_size (segments_told bytes) + 8 * message_words bytes → e ≡ Truncated → NoFrame bytes most e
+
+module _ {R : Type 0} (g : Ghosts R) where
+  -- Of n bytes that were to be read not all came, for the reason e: the input ended before, or it failed.
+  abbrev pub WhyUnread : R → R → ℕ → FrameError → Type 0
+  WhyUnread from to n e = ((e ≡ Truncated) × IfSome (g.remaining from) (λ bytes. length bytes < n)) ⊎ ((e ≡ ReadFailed) × (g.has_failed to ≡ true))
+
+  -- A frame of a message was read from the front of an input, and what stands behind it is left.
+  pub record IsFrameRead (from to : R) (S : Segments) : Type 0 where
+    pub bytes : List ℕ
+    pub consumed : Consumes (g.remaining from) (g.remaining to) bytes
+    pub framed : IsFrameOf S bytes

@@ -1,0 +1,14 @@
+//! The segments of a message in a stream of bytes ("Serialization Over a Stream").
+
+mod frame_error;
+mod owned_segments;
+mod reading;
+mod writing;
+
+pub use frame_error::FrameError;
+pub use owned_segments::OwnedSegments;
+pub use reading::read;
+pub use writing::write;
+
+/// The greatest number of segments of a frame, 512. The format itself has room for 2^32.
+pub const MAX_SEGMENTS: usize = 512;

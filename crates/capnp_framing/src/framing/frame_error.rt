@@ -1,0 +1,55 @@
+//! Why a frame isn't written or read.
+ghost use Rattle.std.specs.Prelude.{◌≡◌, Some};
+ghost use Rattle.capnp_framing.specs.Names.{name_of, text_of};
+
+use std::fmt;
+use thiserror::Error;
+
+/// What a refused call says. `{}` writes the variant's name, and the number in parentheses behind it
+/// where there is one.
+#[derive(Clone, Copy, Debug, PartialEq, Eq, Error)]
+pub enum FrameError {
+    /// A message without segments has no frame.
+    NoSegments,
+    /// A message has more than 512 segments; with their number.
+    TooManySegments(u64),
+    /// A message has more words than were to be read; with their number.
+    MessageTooLong(u64),
+    /// The input ended within a frame.
+    Truncated,
+    /// The input failed.
+    ReadFailed,
+    /// The output failed.
+    WriteFailed,
+    /// No memory for what was read.
+    AllocationFailed,
+}
+
+impl FrameError {
+    /// The variant's name, without the number.
+    pub fn name(&self) -> &'static str
+        ensures { result.now ≡ name_of self.now }
+    {
+        match self {
+            FrameError::NoSegments => "NoSegments",
+            FrameError::TooManySegments(_) => "TooManySegments",
+            FrameError::MessageTooLong(_) => "MessageTooLong",
+            FrameError::Truncated => "Truncated",
+            FrameError::ReadFailed => "ReadFailed",
+            FrameError::WriteFailed => "WriteFailed",
+            FrameError::AllocationFailed => "AllocationFailed",
+        }
+    }
+}
+
+impl fmt::Display for FrameError {
+    ghost output = { λ e. Some (text_of e) };
+
+    fn fmt<W: fmt::Write>(&self, f: &mut fmt::Formatter<W>) -> fmt::Result {
+        match self {
+            FrameError::TooManySegments(n) => write!(f, "TooManySegments({n})"),
+            FrameError::MessageTooLong(n) => write!(f, "MessageTooLong({n})"),
+            _ => write!(f, "{}", self.name()),
+        }
+    }
+}

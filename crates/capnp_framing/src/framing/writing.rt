@@ -1,0 +1,139 @@
+//! A message written as a stream of bytes ("Serialization Over a Stream").
+ghost use Rattle.std.specs.Prelude.{◌≡◌, ◌⊎◌, ◌<◌, ◌≤◌, ◌+◌, ◌-◌, ◌*◌, ◌^◌, ◌++◌, All, false, true, length, take, drop, replicate, Err, IfErr, OnOk, OnErr};
+ghost use Rattle.std.specs.Int.{to_le_bytes, w32};
+ghost use Rattle.capnp_format.specs.Bytes.{message, words_of};
+ghost use Rattle.capnp_format.specs.Segments.{segment};
+ghost use Rattle.capnp_arena.specs.Limits.{IsSmall};
+ghost use Rattle.capnp_framing.specs.Frames.{CanBeFramed, AreWords, bytes_of_words, contents, frame, lengths, max_segments, padding_size};
+ghost use Rattle.capnp_framing.specs.Reading.{IsRefusedNumber};
+ghost use Rattle.capnp_framing.specs.Writing.{IsUnwritten, Prints};
+ghost use Rattle.capnp_framing.specs.declared.framing.frame_error.FrameError.TheVariants.{WriteFailed};
+ghost use borrow.Rule.Slice.PartMut.{put_mid};
+
+use super::MAX_SEGMENTS;
+use super::frame_error::FrameError;
+use crate::devices::{DeviceFault, Output, write_all};
+use capnp_arena::arena::ReaderSegments;
+use capnp_words::words::{count, part};
+
+/// The bytes of the longest table: the number of segments, 512 lengths and their padding.
+const TABLE_BYTES: usize = 2056;
+
+/// The whole words of a segment. None where there is no such segment.
+fn words_in<S: ReaderSegments>(segments: &S, id: u32) -> &[u8]
+    requires small { IsSmall (S.segments segments.now) }
+    ensures words { id < length (S.segments segments.now) → words_of result.now ≡ segment (message (S.segments segments.now)) id }
+    ensures whole { length result.now ≡ 8 * length (words_of result.now) }
+    ensures short { length (words_of result.now) < 2 ^ 32 }
+{
+    match segments.get_segment(id) {
+        Some(bytes) => part(bytes, 0, count(bytes)),
+        None => &[],
+    }
+}
+
+/// Writes a number in four bytes, the lowest first.
+fn put_number(to: &mut [u8], at: usize, number: u32)
+    requires { at + 4 ≤ length to.old }
+    ensures { to.new ≡ put_mid at 4 to.old (to_le_bytes w32 number) }
+{
+    to[at..at + 4].copy_from_slice(number.to_le_bytes().as_slice());
+}
+
+/// Writes the number of segments less one, and the length of each in words, over zeros.
+fn put_table<S: ReaderSegments>(segments: &S, count: u32, to: &mut [u8])
+    requires small { IsSmall (S.segments segments.now) }
+    requires count { count ≡ length (S.segments segments.now) }
+    requires some { 1 ≤ count }
+    requires few { count ≤ max_segments }
+    requires zeros { to.old ≡ replicate 2056 0 }
+    ensures { to.new ≡ to_le_bytes w32 (count - 1) ++ (lengths (message (S.segments segments.now)) ++ replicate (2052 - 4 * count) 0) }
+{
+    put_number(to, 0, count - 1);
+    for i in 0..count {
+        let words = words_in(segments, i).len() / 8;
+        put_number(to, 4 + 4 * i as usize, words as u32);
+    }
+}
+
+/// Writes the table of a message, with its padding.
+fn write_table<W: Output, S: ReaderSegments>(
+    output: &mut W,
+    segments: &S,
+    count: u32,
+) -> Result<(), DeviceFault>
+    requires works { W.has_failed output.old ≡ false }
+    requires small { IsSmall (S.segments segments.now) }
+    requires count { count ≡ length (S.segments segments.now) }
+    requires some { 1 ≤ count }
+    requires few { count ≤ max_segments }
+    ensures written { OnOk result (Prints W.Output output.old output.new (to_le_bytes w32 (count - 1) ++ (lengths (message (S.segments segments.now)) ++ replicate (padding_size count) 0))) }
+    ensures works { OnOk result (W.has_failed output.new ≡ false) }
+    ensures fails { OnErr result (W.has_failed output.new ≡ true) }
+{
+    let mut table = [0u8; TABLE_BYTES];
+    put_table(segments, count, &mut table);
+    write_all(output, &table[..8 * (count as usize / 2 + 1)])
+}
+
+/// Writes whole words.
+fn write_words<W: Output>(output: &mut W, words: &[u8]) -> Result<(), DeviceFault>
+    requires works { W.has_failed output.old ≡ false }
+    requires whole { length words.now ≡ 8 * length (words_of words.now) }
+    ensures written { OnOk result (Prints W.Output output.old output.new (bytes_of_words (words_of words.now))) }
+    ensures words { AreWords (words_of words.now) }
+    ensures works { OnOk result (W.has_failed output.new ≡ false) }
+    ensures fails { OnErr result (W.has_failed output.new ≡ true) }
+{
+    write_all(output, words)
+}
+
+/// Writes the words of all segments, one behind the other.
+fn write_contents<W: Output, S: ReaderSegments>(
+    output: &mut W,
+    segments: &S,
+    count: u32,
+) -> Result<(), DeviceFault>
+    requires works { W.has_failed output.old ≡ false }
+    requires small { IsSmall (S.segments segments.now) }
+    requires count { count ≡ length (S.segments segments.now) }
+    ensures written { OnOk result (Prints W.Output output.old output.new (contents (message (S.segments segments.now)))) }
+    ensures words { OnOk result (All AreWords (message (S.segments segments.now))) }
+    ensures works { OnOk result (W.has_failed output.new ≡ false) }
+    ensures fails { OnErr result (W.has_failed output.new ≡ true) }
+{
+    for i in 0..count {
+        write_words(output, words_in(segments, i))?;
+    }
+    Ok(())
+}
+
+/// Writes a message as a frame: the whole words of its segments behind a table of their lengths. The
+/// padding of the table is zero. It takes no memory.
+///
+/// A message of no segments is `NoSegments`, and one of more than 512 `TooManySegments`, with their
+/// number; nothing is written then. `WriteFailed` is the output's: how much it took isn't said.
+pub fn write<W: Output, S: ReaderSegments>(output: &mut W, segments: &S) -> Result<(), FrameError>
+    requires works { W.has_failed output.old ≡ false }
+    requires small { IsSmall (S.segments segments.now) }
+    ensures written { OnOk result (Prints W.Output output.old output.new (frame (message (S.segments segments.now)))) }
+    ensures framed { OnOk result (CanBeFramed (message (S.segments segments.now))) }
+    ensures works { OnOk result (W.has_failed output.new ≡ false) }
+    ensures refused { IfErr result (λ e. (e ≡ WriteFailed) ⊎ (IsRefusedNumber (length (S.segments segments.now)) e × IsUnwritten W.Output output.old output.new)) }
+    ensures failed { result ≡ Err WriteFailed → W.has_failed output.new ≡ true }
+{
+    let count = segments.len();
+    if count == 0 {
+        return Err(FrameError::NoSegments);
+    }
+    if count > MAX_SEGMENTS {
+        return Err(FrameError::TooManySegments(count as u64));
+    }
+    if write_table(output, segments, count as u32).is_err() {
+        return Err(FrameError::WriteFailed);
+    }
+    match write_contents(output, segments, count as u32) {
+        Ok(()) => Ok(()),
+        Err(DeviceFault) => Err(FrameError::WriteFailed),
+    }
+}

@@ -1,0 +1,7 @@
+//! The segments of a message in a stream of bytes ("Serialization Over a Stream"), and the devices that
+//! bytes come from and go to.
+#![tactic(auto)]
+
+pub mod devices;
+pub mod framing;
+pub mod laws;

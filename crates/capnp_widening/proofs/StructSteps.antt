@@ -1,0 +1,123 @@
+-- What the steps of widening a struct leave, as the calls say it.
+use Rattle.std.proofs.Common.{ap, ◌∙◌, ◌≡◌, ℕ, ◌+◌, ◌≤◌, [], ◌∷◌, ◌++◌, length, List, Some, refl, sym, subst, arith}
+use Rattle.std.proofs.lemmas.List.{get_or_past}
+use Rattle.capnp_format.specs.Word.{upper_half}
+use Rattle.capnp_format.specs.Segments.{Segments, segment, word_at, IsPlace}
+use Rattle.capnp_format.specs.Tree.{Struct, Trees, count}
+use Rattle.capnp_format.specs.Forest.{times, pads_of, object_of, target, target_in, cover, cover_all}
+use Rattle.capnp_format.proofs.Frame.{times-append}
+use Rattle.capnp_pointers.specs.declared.wire_pointer.StructSize.{StructSize}
+use Rattle.capnp_making.specs.Path.{one_word}
+use Rattle.capnp_making.specs.Stored.{IsStored, IsReplaced}
+use Rattle.capnp_making.specs.Zeroed.{row, IsZeroed, PadsInside}
+use Rattle.capnp_making.specs.declared.existing.ExistingStruct.{ExistingStruct}
+use Rattle.capnp_making.specs.declared.making.Shape.TheVariants.{Struct as StructShape}
+use Rattle.capnp_making.proofs.Below.{pads_inside}
+use Rattle.capnp_making.proofs.Extents.{times-first, once_held}
+use Rattle.capnp_making.proofs.Zeros.{zeroed_again}
+use Rattle.capnp_widening.specs.declared.widening.Room.{Room}
+use Rattle.capnp_widening.specs.Moved.{Moves, MovesSome, Unmoves, row_of_moves}
+use Rattle.capnp_widening.specs.Housed.{IsRoom, AreCopied, Settles}
+use Rattle.capnp_widening.specs.Widened.{fill_words, fill_trees, GrowsByZeros, Rehouses, LeavesStruct, HousesAt}
+use Rattle.capnp_widening.proofs.Remade.{IsRemade, leads_last, undone}
+use Rattle.capnp_widening.proofs.StructRemade.{struct_parts, struct_begun, struct_remade}
+
+pub record StructSteps (S T D P R Z Q : Segments) (id at : ℕ) (old : ExistingStruct) (size : StructSize) (h : Room) : Type 0 where
+  pub place : IsPlace S id at
+  pub room : IsRoom S T id (size.data_words + size.pointers) h
+  pub copied : AreCopied T D old.segment old.start h.segment (h.at + h.pads) old.size.data_words
+  pub moves : Moves D P (row_of_moves old.segment (old.start + old.size.data_words) h.segment (h.at + h.pads + size.data_words) old.size.pointers)
+  pub settled : Settles P R id at h (StructShape size)
+  pub object_zeroed : old.start + (old.size.data_words + old.size.pointers) ≤ length (segment R old.segment) → IsZeroed R Z (row old.segment old.start (old.size.data_words + old.size.pointers) ∷ [])
+  pub pads_zeroed : PadsInside Z (word_at S id at) → IsZeroed Z Q (pads_of (word_at S id at))
+  pub wider : (old.size.data_words ≤ size.data_words) × (old.size.pointers ≤ size.pointers)
+
+-- the struct that a place stores
+abbrev pub the_struct : Segments → ℕ → ℕ → List ℕ → Trees → ExistingStruct
+the_struct S id at ws ts = record { segment = (target S id at).segment; start = (target S id at).start; size = record { data_words = length ws; pointers = count ts } }
+
+pub same_struct : (x y : ExistingStruct) → Some x ≡ Some y → x ≡ y
+same_struct x y e = cc
+
+-- What widening a struct leaves: its place means it filled up, and leads to where it stands.
+record IsWidened (S Q : Segments) (id at : ℕ) (ws : List ℕ) (ts : Trees) (size : StructSize) (h : Room) : Type 0 where
+  replaced : IsReplaced S Q id at (Struct ws ts) (Struct (fill_words size.data_words ws) (fill_trees size.pointers ts))
+  segment_of : h.segment ≡ (target Q id at).segment
+  start_of : h.at + h.pads ≡ (target Q id at).start
+  claim : h.at + h.pads + (size.data_words + size.pointers) ≤ length (segment Q h.segment)
+
+is_widened : (S T D P R Z Q : Segments) (id at : ℕ) (size : StructSize) (h : Room) (ws : List ℕ) (ts : Trees) → IsStored S id at (Struct ws ts) → StructSteps S T D P R Z Q id at (the_struct S id at ws ts) size h → IsWidened S Q id at ws ts size h
+is_widened S T D P R Z Q id at size h ws ts x s =
+    let a = target S id at in
+    let n = length ws + count ts in
+    let word = word_at S id at in
+    let (grown, near) = s.room in
+    let (b, settled, shaped, segment_of, start_of) = s.settled in
+    let (ld, lk) = s.wider in
+    let parts = struct_parts S id at ws ts x in
+    let begun = struct_begun S T D id at ws ts size.data_words size.pointers h.segment h.at h.pads x ld lk grown s.copied in
+    let moved = s.moves S begun.can in
+    let long = λ (y : ℕ). (let e : length (segment S y) ≤ length (segment R y) = omega (arith, grown.grows.words y, s.copied.words y, moved.grows.words y, settled.words y) in e) in
+    let z = s.object_zeroed (omega (arith, parts.fits, long a.segment)) in
+    let fits : PadsInside Z word = λ far. omega (arith, pads_inside S id at a parts.leads_to.1 far, long (upper_half word), z.words (upper_half word)) in
+    let zz = s.pads_zeroed fits in
+    let both = λ (y w : ℕ). times-append (pads_of word) (object_of a n ∷ []) y w in
+    let zeroed = zeroed_again R Z Q (object_of a n ∷ []) (pads_of word) (pads_of word ++ object_of a n ∷ []) (λ y w. (λ l. omega (arith, both y w), λ e. omega (arith, both y w))) z zz in
+    let inner = cover_all S a.segment (a.start + length ws) ts in
+    let covered = λ (y w : ℕ). (let e : times (pads_of word ++ object_of a n ∷ []) y w ≤ times (cover S id at (Struct ws ts)) y w =
+    omega (arith, both y w, times-append (pads_of word) (object_of a n ∷ inner) y w, times-first (object_of a n) inner y w) in e) in
+    let whole = λ (y w : ℕ). times-first (one_word id at) (cover S id at (Struct ws ts)) y w in
+    let made : IsRemade S T D P R Q id at a n b h.segment h.at h.pads (size.data_words + size.pointers) (row_of_moves a.segment (a.start + length ws) h.segment (h.at + h.pads + size.data_words) (count ts)) = record {
+      begun = begun;
+      moves = s.moves;
+      settled = settled;
+      segment_of = segment_of;
+      start_of = start_of;
+      zeroed = zeroed;
+      place = s.place;
+      alone = omega (arith, covered id at, whole id at, x.apart id at, once_held id at);
+      inside = λ y w l. x.inside y w (omega (arith, l, covered y w, whole y w));
+    } in
+    let leads_there = leads_last S T D P R Q id at a n b h.segment h.at h.pads (size.data_words + size.pointers) (row_of_moves a.segment (a.start + length ws) h.segment (h.at + h.pads + size.data_words) (count ts)) made in
+    let goes : target Q id at ≡ b = ap target_in leads_there.1 in
+    record {
+      replaced = struct_remade S T D P R Q id at ws ts size.data_words size.pointers b h.segment h.at h.pads x ld lk s.copied made shaped.0 shaped.1 shaped.2;
+      segment_of = sym segment_of ∙ ap (λ t. t.segment) (sym goes);
+      start_of = sym start_of ∙ ap (λ t. t.start) (sym goes);
+      claim = omega (arith, grown.room, s.copied.words h.segment, moved.grows.words h.segment, settled.words h.segment, z.words h.segment, zz.words h.segment);
+    }
+
+pub struct_rehoused : (S T D P R Z Q : Segments) (id at : ℕ) (old : ExistingStruct) (size : StructSize) (h : Room) → StructSteps S T D P R Z Q id at old size h → Rehouses S Q id at old size
+struct_rehoused S T D P R Z Q id at old size h s = λ ws ts i.
+    (is_widened S T D P R Z Q id at size h ws ts i.0 (subst (λ o. StructSteps S T D P R Z Q id at o size h) (sym (same_struct (the_struct S id at ws ts) old i.1)) s)).replaced
+
+pub struct_leads : (S T D P R Z Q : Segments) (id at : ℕ) (old : ExistingStruct) (size : StructSize) (h : Room) → StructSteps S T D P R Z Q id at old size h →
+    HousesAt S Q id at old (record { segment = h.segment; start = h.at + h.pads; size = size })
+struct_leads S T D P R Z Q id at old size h s = λ ws ts i.
+    (let w = is_widened S T D P R Z Q id at size h ws ts i.0 (subst (λ o. StructSteps S T D P R Z Q id at o size h) (sym (same_struct (the_struct S id at ws ts) old i.1)) s) in
+    (w.segment_of, w.start_of, omega (arith, w.claim)))
+
+-- a growth is refused on the way
+pub record StructUndone (S T D P U Z : Segments) (id : ℕ) (old : ExistingStruct) (size : StructSize) (h : Room) : Type 0 where
+  pub room : IsRoom S T id (size.data_words + size.pointers) h
+  pub copied : AreCopied T D old.segment old.start h.segment (h.at + h.pads) old.size.data_words
+  pub some : MovesSome D P (row_of_moves old.segment (old.start + old.size.data_words) h.segment (h.at + h.pads + size.data_words) old.size.pointers)
+  pub unmoves : Unmoves P U (row_of_moves old.segment (old.start + old.size.data_words) h.segment (h.at + h.pads + size.data_words) old.size.pointers)
+  pub zeroed : h.at + h.pads + (size.data_words + size.pointers) ≤ length (segment U h.segment) → IsZeroed U Z (row h.segment (h.at + h.pads) (size.data_words + size.pointers) ∷ [])
+  pub wider : (old.size.data_words ≤ size.data_words) × (old.size.pointers ≤ size.pointers)
+
+pub struct_left : (S T D P U Z : Segments) (id at : ℕ) (old : ExistingStruct) (size : StructSize) (h : Room) → StructUndone S T D P U Z id old size h → LeavesStruct S Z id at old
+struct_left S T D P U Z id at old size h s = λ ws ts i. go ws ts i.0 (subst (λ o. StructUndone S T D P U Z id o size h) (sym (same_struct (the_struct S id at ws ts) old i.1)) s)
+  where
+    go : (ws : List ℕ) (ts : Trees) → IsStored S id at (Struct ws ts) → StructUndone S T D P U Z id (the_struct S id at ws ts) size h → GrowsByZeros S Z
+    go ws ts x s =
+        let a = target S id at in
+        let (grown, near) = s.room in
+        let (ld, lk) = s.wider in
+        let begun = struct_begun S T D id at ws ts size.data_words size.pointers h.segment h.at h.pads x ld lk grown s.copied in
+        undone S T D P U Z h.segment h.at h.pads (size.data_words + size.pointers) (row_of_moves a.segment (a.start + length ws) h.segment (h.at + h.pads + size.data_words) (count ts)) begun s.some s.unmoves s.zeroed
+
+-- nothing is changed
+pub nothing_grown : (S R : Segments) → R ≡ S → GrowsByZeros S R
+nothing_grown S R e =
+    subst (λ T. GrowsByZeros S T) (sym e) (record { grows = record { segments = omega arith; words = λ x. omega arith }; kept = λ x y l. refl; zero = λ x y l. get_or_past (segment S x) y 0 l })

@@ -1,0 +1,78 @@
+-- The landing pads of moved pointers made zero.
+use Rattle.std.proofs.Common.{◌≡◌, ◌≢◌, ◌⊎◌, inl, inr, ℕ, suc, ◌+◌, ◌<◌, cond, List, [], ◌∷◌, ◌++◌, sym, ap, ◌∙◌, subst, arith, eq-eqb, ne_eqb}
+use Rattle.capnp_format.specs.Word.{kind, is_double, far_position, upper_half}
+use Rattle.capnp_format.specs.Segments.{Segments, word_at}
+use Rattle.capnp_format.specs.Forest.{times, pads_of}
+use Rattle.capnp_format.proofs.Frame.{times-append}
+use Rattle.capnp_making.specs.Zeroed.{IsZeroed, PadsInside}
+use Rattle.capnp_widening.proofs.Basics.{is_far}
+use Rattle.capnp_making.proofs.Zeros.{of_row, zeroed_again, nothing_zeroed}
+use Rattle.capnp_making.proofs.Extents.{once_held}
+use Rattle.capnp_widening.specs.Moved.{Move, a_move, row_of_moves, old_places, new_places, own_pads, fresh_pads, Unmoves}
+use Rattle.capnp_widening.proofs.Movings.{SameMoves, same_fresh, fresh_pads-append, row_next}
+
+old_places-append : (ms ns : List Move) (x y : ℕ) → times (old_places (ms ++ ns)) x y ≡ times (old_places ms) x y + times (old_places ns) x y
+old_places-append [] ns x y = omega arith
+old_places-append (m ∷ ms) ns x y = omega (arith, old_places-append ms ns x y)
+
+new_places-append : (ms ns : List Move) (x y : ℕ) → times (new_places (ms ++ ns)) x y ≡ times (new_places ms) x y + times (new_places ns) x y
+new_places-append [] ns x y = omega arith
+new_places-append (m ∷ ms) ns x y = omega (arith, new_places-append ms ns x y)
+
+-- words that a zeroing leaves
+same_left : (S M : Segments) (ms : List Move) → ((x y : ℕ) → (0 < times (old_places ms) x y) ⊎ (0 < times (new_places ms) x y) → word_at M x y ≡ word_at S x y) → SameMoves S M ms
+same_left S M [] h = tt
+same_left S M (m ∷ ms) h = (
+  h m.segment m.at (inl (omega (arith, once_held m.segment m.at))),
+  h m.to_segment m.to_at (inr (omega (arith, once_held m.to_segment m.to_at))),
+  same_left S M ms (λ x y e. elim e [ inl l ↦ h x y (inl (omega arith)) | inr l ↦ h x y (inr (omega arith)) ]),
+)
+
+pub none_unmoved : (S : Segments) → Unmoves S S []
+none_unmoved S = λ c. nothing_zeroed S
+
+pub unmoves_both : (S M R : Segments) (ms ns : List Move) → Unmoves S M ms → Unmoves M R ns → Unmoves S R (ms ++ ns)
+unmoves_both S M R ms ns f g = λ c.
+    (let all = fresh_pads-append S ms ns in
+    let olds = old_places-append ms ns in
+    let news = new_places-append ms ns in
+    let a = f (record {
+      inside = λ x y l. c.inside x y (omega (arith, all x y));
+      old_apart = λ x y l. omega (arith, all x y, c.old_apart x y (omega (arith, olds x y)));
+      new_apart = λ x y l. omega (arith, all x y, c.new_apart x y (omega (arith, news x y)));
+    }) in
+    let same : SameMoves S M ns = same_left S M ns (λ x y e. elim e [
+      | inl l ↦ a.kept x y (omega (arith, all x y, c.old_apart x y (omega (arith, olds x y))))
+      | inr l ↦ a.kept x y (omega (arith, all x y, c.new_apart x y (omega (arith, news x y))))
+    ]) in
+    let fresh = same_fresh S M ns same in
+    let pads = λ (x y : ℕ). ap (λ is. times is x y) fresh in
+    let b = g (record {
+      inside = λ x y l. omega (arith, a.words x, c.inside x y (omega (arith, all x y, pads x y)));
+      old_apart = λ x y l. omega (arith, pads x y, all x y, c.old_apart x y (omega (arith, olds x y)));
+      new_apart = λ x y l. omega (arith, pads x y, all x y, c.new_apart x y (omega (arith, news x y)));
+    }) in
+    zeroed_again S M R (fresh_pads S ms) (fresh_pads M ns) (fresh_pads S (ms ++ ns)) (λ x y. (λ l. omega (arith, all x y, pads x y), λ e. omega (arith, all x y, pads x y))) a b)
+
+pub unmoves_next : (S M R : Segments) (s p v r k : ℕ) → Unmoves S M (row_of_moves s p v r k) → Unmoves M R (a_move s (p + k) v (r + k) ∷ []) → Unmoves S R (row_of_moves s p v r (k + 1))
+unmoves_next S M R s p v r k f g =
+    subst (λ n. Unmoves S R (row_of_moves s p v r n)) (let e : suc k ≡ k + 1 = omega arith in e)
+    (subst (λ ms. Unmoves S R ms) (sym (row_next s p v r k)) (unmoves_both S M R (row_of_moves s p v r k) (a_move s (p + k) v (r + k) ∷ []) f g))
+
+-- the pads of one pointer
+pub far_unmoved : (S : Segments) (s p v r : ℕ) → kind (word_at S s p) ≡ 2 → Unmoves S S (a_move s p v r ∷ [])
+far_unmoved S s p v r far = λ c.
+    (let none : own_pads S (a_move s p v r) ≡ [] = ap (λ b. cond b [] (pads_of (word_at S v r))) (eq-eqb (kind (word_at S s p)) 2 far) in
+    subst (λ is. IsZeroed S S (is ++ [])) (sym none) (nothing_zeroed S))
+
+pub near_unmoved : (S R : Segments) (s p v r : ℕ) → kind (word_at S s p) ≢ 2 → (PadsInside S (word_at S v r) → IsZeroed S R (pads_of (word_at S v r))) → Unmoves S R (a_move s p v r ∷ [])
+near_unmoved S R s p v r near f = λ c.
+    (let x = word_at S v r in
+    let own : own_pads S (a_move s p v r) ≡ pads_of x = ap (λ b. cond b [] (pads_of x)) (ne_eqb (kind (word_at S s p)) 2 near) in
+    let all = λ (y z : ℕ). (let e : times (fresh_pads S (a_move s p v r ∷ [])) y z ≡ times (pads_of x) y z = omega (arith, times-append (own_pads S (a_move s p v r)) [] y z, ap (λ is. times is y z) own) in e) in
+    let fits : PadsInside S x = λ far.
+    (let last = far_position x + is_double x in
+    let held : times (pads_of x) (upper_half x) last ≡ 1 = ap (λ is. times is (upper_half x) last) (is_far x far) ∙ of_row (upper_half x) (far_position x) (1 + is_double x) last (omega arith) (omega arith) in
+    omega (arith, c.inside (upper_half x) last (omega (arith, all (upper_half x) last, held)))) in
+    let z = f fits in
+    record { segments = z.segments; words = z.words; zero = λ y w l. z.zero y w (omega (arith, all y w)); kept = λ y w e. z.kept y w (omega (arith, all y w)) })

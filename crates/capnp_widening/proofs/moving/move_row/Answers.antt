@@ -1,0 +1,35 @@
+use Rattle.std.proofs.Common.{sym, subst, le_trans, arith}
+use Rattle.capnp_format.specs.Segments.{Segments}
+use Rattle.capnp_making.proofs.Memory.{keeps_both, keeps_itself, words_refused_after}
+use Rattle.capnp_widening.specs.Moved.{row_of_moves, Moves}
+use Rattle.capnp_widening.proofs.Movings.{none_moved, moves_next, moves_some}
+use Rattle.capnp_widening.proofs.moving.move_row.Goals as goal
+
+pub loop-i-init : goal.loop-i-init
+loop-i-init g c =
+    let S : Segments = (g.A.BuilderArena.view c.args.arena.now).words in
+    record { moves = none_moved S; longer = record { segments = omega arith; words = λ x. omega arith }; memory = keeps_itself (g.A.BuilderArena.view c.args.arena.now) }
+
+-- One pointer more.
+pub loop-i-preserved : goal.loop-i-preserved
+loop-i-preserved g c =
+    let S : Segments = (g.A.BuilderArena.view c.args.arena.now).words in
+    let M : Segments = (g.A.BuilderArena.view c.loop-i.arena).words in
+    let R : Segments = (g.A.BuilderArena.view c.move_pointer.new.arena).words in
+    let longer = c.in-Ok.ensures.longer in
+    record {
+      moves = moves_next S M R c.args.from.segment c.args.from.at c.args.to.segment c.args.to.at c.loop-i.i c.loop-i.invariant.moves c.in-Ok.ensures.moved;
+      longer = record { segments = le_trans c.loop-i.invariant.longer.segments longer.segments; words = λ x. le_trans (c.loop-i.invariant.longer.words x) (longer.words x) };
+      memory = keeps_both _ _ _ c.loop-i.invariant.longer.segments c.loop-i.invariant.memory c.in-Ok.ensures.granted;
+    }
+
+-- The refused move changes nothing.
+pub returns-in-Err-clause-some : goal.returns-in-Err-clause-some
+returns-in-Err-clause-some g c =
+    let S : Segments = (g.A.BuilderArena.view c.args.arena.now).words in
+    let M : Segments = (g.A.BuilderArena.view c.loop-i.arena).words in
+    let ms = row_of_moves c.args.from.segment c.args.from.at c.args.to.segment c.args.to.at c.loop-i.i in
+    moves_some S _ c.args.from.segment c.args.from.at c.args.to.segment c.args.to.at c.loop-i.i c.args.count (omega (arith, c.loop-i-test.true)) (subst (λ T. Moves S T ms) (sym c.in-Err.ensures.refused) c.loop-i.invariant.moves)
+
+pub returns-in-Err-clause-full : goal.returns-in-Err-clause-full
+returns-in-Err-clause-full g c = (1, words_refused_after (g.A.BuilderArena.view c.args.arena.now) (g.A.BuilderArena.view c.loop-i.arena) (g.A.BuilderArena.view c.move_pointer.new.arena) 1 c.in-Err.k c.loop-i.invariant.memory c.in-Err.ensures.full)

@@ -1,0 +1,35 @@
+use Rattle.std.proofs.Common.{◌≡◌, le_trans, subst, arith}
+use Rattle.capnp_format.specs.Segments.{Segments}
+use Rattle.capnp_making.proofs.BelowElements.{next_place}
+use Rattle.capnp_making.proofs.Memory.{keeps_both}
+use Rattle.capnp_widening.specs.Moved.{rows_of_moves, Moves}
+use Rattle.capnp_widening.proofs.Rows.{rows_moves_next, rows_some}
+use Rattle.capnp_widening.proofs.moving.move_rows.Goals as goal
+
+-- One row more.
+pub loop-i-preserved : goal.loop-i-preserved
+loop-i-preserved g c =
+    let S : Segments = (g.A.BuilderArena.view c.args.arena.now).words in
+    let M : Segments = (g.A.BuilderArena.view c.loop-i.arena).words in
+    let R : Segments = (g.A.BuilderArena.view c.move_row.new.arena).words in
+    let longer = c.in-Ok.ensures.longer in
+    record {
+      moves = rows_moves_next S M R c.args.from.segment c.args.from.at c.args.from.step c.args.to.segment c.args.to.at c.args.to.step c.args.pointers c.loop-i.i c.loop-i.invariant.moves
+          (rw (c.loop-i.invariant.source_at, c.loop-i.invariant.place_at) at c.in-Ok.ensures.moved);
+      source_at = omega (arith, c.loop-i.invariant.source_at, next_place c.args.from.step c.loop-i.i);
+      place_at = omega (arith, c.loop-i.invariant.place_at, next_place c.args.to.step c.loop-i.i);
+      longer = record { segments = le_trans c.loop-i.invariant.longer.segments longer.segments; words = λ x. le_trans (c.loop-i.invariant.longer.words x) (longer.words x) };
+      memory = keeps_both _ _ _ c.loop-i.invariant.longer.segments c.loop-i.invariant.memory c.in-Ok.ensures.granted;
+    }
+
+pub returns-in-Err-clause-some : goal.returns-in-Err-clause-some
+returns-in-Err-clause-some g c =
+    rows_some (g.A.BuilderArena.view c.args.arena.now).words (g.A.BuilderArena.view c.loop-i.arena).words (g.A.BuilderArena.view c.move_row.new.arena).words c.args.from.segment c.args.from.at c.args.from.step c.args.to.segment c.args.to.at
+    c.args.to.step c.args.pointers c.loop-i.i c.args.count c.loop-i-test.true c.loop-i.invariant.moves (rw (c.loop-i.invariant.source_at, c.loop-i.invariant.place_at) at c.in-Err.ensures.some)
+
+pub returns-clause-moved : goal.returns-clause-moved
+returns-clause-moved g c =
+    let all : c.loop-i.i ≡ c.args.count = omega arith in
+    subst
+    (λ n. Moves (g.A.BuilderArena.view c.args.arena.now).words (g.A.BuilderArena.view c.loop-i.arena).words (rows_of_moves c.args.from.segment c.args.from.at c.args.from.step c.args.to.segment c.args.to.at c.args.to.step c.args.pointers n)) all
+    c.loop-i.invariant.moves

@@ -1,0 +1,135 @@
+use Rattle.std.proofs.Common.{◌≡◌, ◌≢◌, inl, inr, ℕ, ◌+◌, ◌^◌, ◌<◌, ◌≤◌, length, refl, sym, ap, subst, arith, rules}
+use Rattle.capnp_format.specs.Segments.{Segments, segment}
+use Rattle.capnp_format.specs.Word.{kind, offset_bits}
+use Rattle.capnp_format.proofs.Lies.{reaches_offset}
+use Rattle.capnp_format.proofs.Following.{IsOffsetTo}
+use Rattle.capnp_making.specs.Made.{IsShape, IsGrown}
+use Rattle.capnp_making.proofs.MadeWords.{word_put, taken_grown, extended_grown}
+use Rattle.std.proofs.Common.{◌∙◌}
+use Rattle.capnp_arena.specs.View.{View}
+use Rattle.capnp_making.specs.Memory.{RefusesWords}
+use Rattle.capnp_widening.proofs.Refusing.{words_refused}
+use Rattle.capnp_making.proofs.Memory.{words_in}
+use Rattle.capnp_making.proofs.Shapes.{shape_near}
+use Rattle.capnp_widening.proofs.Pointed.{pointed_near, pointed_single, pointed_double}
+use Rattle.capnp_widening.proofs.moving.point_to.Goals as goal
+
+-- A near pointer.
+pub returns-then-object-to-clause-points : goal.returns-then-object-to-clause-points
+returns-then-object-to-clause-points g c =
+    let S : Segments = (g.A.BuilderArena.view c.args.arena.now).words in
+    let R : Segments = (g.A.BuilderArena.view c.set_word.new.self).words in
+    let v : ℕ = c.args.to.segment in
+    let q : ℕ = c.args.to.at in
+    let b : ℕ = c.args.object.at in
+    let x : ℕ = c.near_word-word.result.0 in
+    let here : c.args.object.segment ≡ v = search rules in
+    let inside : b ≤ length (segment S v) = subst (λ s. b ≤ length (segment S s)) here c.requires.inside in
+    let small : length (segment S v) < 2 ^ 29 = omega (arith, g.met.A.BuilderArena.within c.args.arena.now v, g.met.A.BuilderArena.small c.args.arena.now v) in
+    let shaped : IsShape c.args.shape x = c.near_word-word.ensures.shape in
+    let near : kind x ≢ 2 = shape_near c.args.shape x shaped in
+    elim c.near_word-word.ensures.lands [
+      | inl off ↦ (
+        record { word = x; segment = v; start = b; pads = 0 },
+        pointed_near S R v q b x c.requires.to inside (ap words_in c.set_word.ensures) c.near_word-word.ensures.some near
+            (subst (λ o. IsOffsetTo q o b) (sym off) (reaches_offset q b (omega (arith, inside, small), omega (arith, c.requires.to, small)))),
+        shaped,
+        inl (sym here, refl),
+      )
+      | inr (struct, empty, off) ↦ (
+        record { word = x; segment = v; start = q; pads = 0 },
+        pointed_near S R v q q x c.requires.to (omega (arith, c.requires.to)) (ap words_in c.set_word.ensures) c.near_word-word.ensures.some near (inr (omega (arith, off), omega (arith, off))),
+        shaped,
+        inr (struct, empty),
+      )
+    ]
+
+-- A far pointer to a pad behind the words of the object's segment.
+pub returns-in-Some-clause-points : goal.returns-in-Some-clause-points
+returns-in-Some-clause-points g c =
+    let S : Segments = (g.A.BuilderArena.view c.args.arena.now).words in
+    let T : Segments = (g.A.BuilderArena.view c.allocate.new.self).words in
+    let U : Segments = (g.A.BuilderArena.view c.set_word-in-Some.new.self).words in
+    let R : Segments = (g.A.BuilderArena.view c.set_word-in-Some-2.new.self).words in
+    let v : ℕ = c.args.object.segment in
+    let b : ℕ = c.args.object.at in
+    let q : ℕ = c.in-Some.pad in
+    let x : ℕ = c.pointer_to-word.result.0 in
+    let shaped : IsShape c.args.shape x = c.pointer_to-word.ensures.shape in
+    let (at, made) = c.in-Some.ensures.taken in
+    let first : IsGrown S T v (length (segment S v)) 1 = rw made (extended_grown S v 1 c.requires.there) in
+    let grown : IsGrown S T v q 1 = subst (λ z. IsGrown S T v z 1) (sym at) first in
+    let small : length (segment S v) + 1 < 2 ^ 29 = omega (arith, c.in-Some.ensures.exactly.0 refl, g.met.A.BuilderArena.small c.args.arena.now v) in
+    let offset : IsOffsetTo q (offset_bits x) b = subst (λ o. IsOffsetTo q o b) (sym c.pointer_to-word.ensures.offset) (reaches_offset q b (omega (arith, at, small, c.requires.inside), omega (arith, at, small))) in (
+      record { word = x; segment = v; start = b; pads = 1 },
+      pointed_single S T U R c.args.to.segment c.args.to.at v q b x c.new_far-far.result.0 c.requires.to c.requires.inside grown (ap words_in c.set_word-in-Some.ensures) (ap words_in c.set_word-in-Some-2.ensures)
+          (shape_near c.args.shape x shaped) offset c.new_far-far.ensures.kind_of c.new_far-far.ensures.pads c.new_far-far.ensures.position_of c.new_far-far.ensures.segment_of,
+      shaped,
+      inl (refl, refl),
+    )
+
+-- A far pointer to two pads, in words that the arena gave.
+pub set_word-requires-in-Ok : goal.set_word-requires-in-Ok
+set_word-requires-in-Ok g c =
+    let S : Segments = (g.A.BuilderArena.view c.args.arena.now).words in
+    let T : Segments = (g.A.BuilderArena.view c.allocate_anywhere.new.self).words in
+    let same : (g.A.BuilderArena.view c.allocate.new.self).words ≡ S = ap words_in (c.in-None.ensures.none refl) in
+    let grown : IsGrown S T c.in-Ok.segment c.in-Ok.pad 2 = taken_grown S T 2 c.in-Ok.segment c.in-Ok.pad (rw same at c.in-Ok.ensures.taken) in
+    omega (arith, grown.room)
+
+pub set_word-requires-in-Ok-2 : goal.set_word-requires-in-Ok-2
+set_word-requires-in-Ok-2 g c =
+    let S : Segments = (g.A.BuilderArena.view c.args.arena.now).words in
+    let T : Segments = (g.A.BuilderArena.view c.allocate_anywhere.new.self).words in
+    let same : (g.A.BuilderArena.view c.allocate.new.self).words ≡ S = ap words_in (c.in-None.ensures.none refl) in
+    let grown : IsGrown S T c.in-Ok.segment c.in-Ok.pad 2 = taken_grown S T 2 c.in-Ok.segment c.in-Ok.pad (rw same at c.in-Ok.ensures.taken) in
+    let first = word_put T _ c.in-Ok.segment c.in-Ok.pad c.new_far-start.result.0 (omega (arith, grown.room)) (ap words_in c.set_word-in-Ok.ensures) in
+    omega (arith, grown.room, first.words c.in-Ok.segment)
+
+pub set_word-requires-in-Ok-3 : goal.set_word-requires-in-Ok-3
+set_word-requires-in-Ok-3 g c =
+    let S : Segments = (g.A.BuilderArena.view c.args.arena.now).words in
+    let T : Segments = (g.A.BuilderArena.view c.allocate_anywhere.new.self).words in
+    let U : Segments = (g.A.BuilderArena.view c.set_word-in-Ok.new.self).words in
+    let k : ℕ = c.in-Ok.segment in
+    let q : ℕ = c.in-Ok.pad in
+    let same : (g.A.BuilderArena.view c.allocate.new.self).words ≡ S = ap words_in (c.in-None.ensures.none refl) in
+    let grown : IsGrown S T k q 2 = taken_grown S T 2 k q (rw same at c.in-Ok.ensures.taken) in
+    let first = word_put T U k q c.new_far-start.result.0 (omega (arith, grown.room)) (ap words_in c.set_word-in-Ok.ensures) in
+    let second = word_put U _ k (q + 1) c.tag_of-tag.result.0 (omega (arith, grown.room, first.words k)) (ap words_in c.set_word-in-Ok-2.ensures) in
+    omega (arith, c.requires.to, grown.grows.words c.args.to.segment, first.words c.args.to.segment, second.words c.args.to.segment)
+
+pub returns-in-Ok-clause-points : goal.returns-in-Ok-clause-points
+returns-in-Ok-clause-points g c =
+    let S : Segments = (g.A.BuilderArena.view c.args.arena.now).words in
+    let T : Segments = (g.A.BuilderArena.view c.allocate_anywhere.new.self).words in
+    let U : Segments = (g.A.BuilderArena.view c.set_word-in-Ok.new.self).words in
+    let V : Segments = (g.A.BuilderArena.view c.set_word-in-Ok-2.new.self).words in
+    let R : Segments = (g.A.BuilderArena.view c.set_word-in-Ok-3.new.self).words in
+    let v : ℕ = c.args.object.segment in
+    let b : ℕ = c.args.object.at in
+    let k : ℕ = c.in-Ok.segment in
+    let q : ℕ = c.in-Ok.pad in
+    let x : ℕ = c.tag_of-tag.result.0 in
+    let shaped : IsShape c.args.shape x = c.tag_of-tag.ensures in
+    let same : (g.A.BuilderArena.view c.allocate.new.self).words ≡ S = ap words_in (c.in-None.ensures.none refl) in
+    let grown : IsGrown S T k q 2 = taken_grown S T 2 k q (rw same at c.in-Ok.ensures.taken) in (
+      record { word = x; segment = v; start = b; pads = 2 },
+      pointed_double S T U V R c.args.to.segment c.args.to.at v b k q c.new_far-start.result.0 x c.new_double_far-far.result.0 c.requires.to c.requires.there c.requires.inside grown (ap words_in c.set_word-in-Ok.ensures)
+          (ap words_in c.set_word-in-Ok-2.ensures) (ap words_in c.set_word-in-Ok-3.ensures) c.new_far-start.ensures.segment_of c.new_far-start.ensures.position_of (shape_near c.args.shape x shaped)
+          c.new_double_far-far.ensures.kind_of c.new_double_far-far.ensures.pads c.new_double_far-far.ensures.position_of c.new_double_far-far.ensures.segment_of,
+      shaped,
+      inl (refl, refl),
+    )
+
+pub returns-in-Ok-clause-longer : goal.returns-in-Ok-clause-longer
+returns-in-Ok-clause-longer g c = let (a, w, shaped, lies) = returns-in-Ok-clause-points g c in w.grows
+
+-- No segment has room for two words more.
+pub returns-in-Err-clause-full : goal.returns-in-Err-clause-full
+returns-in-Err-clause-full g c =
+    let mid : View = g.A.BuilderArena.view c.allocate.new.self in
+    let b : View = g.A.BuilderArena.view c.allocate_anywhere.new.self in
+    let e = c.in-Err.ensures.refused in
+    let all : b ≡ record mid { words = b.words; refusals = b.refusals } = e ∙ ap (λ (S : Segments). record mid { words = S; refusals = b.refusals }) (sym (ap words_in e)) in
+    subst (λ v. RefusesWords v b 1 c.in-Err.k) (c.in-None.ensures.none refl) (words_refused mid b 1 c.in-Err.k (c.in-Err.ensures.named, all) (ap words_in e) (λ j fit. c.in-Err.ensures.first j fit)).0

@@ -1,0 +1,4 @@
+pub mod Housed
+pub mod Moved
+pub mod Pointed
+pub mod Widened

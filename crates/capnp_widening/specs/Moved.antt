@@ -1,0 +1,154 @@
+-- Pointers written anew at other places, to what the old ones lead to ("Inter-Segment Pointers").
+use Rattle.std.specs.Prelude.{◌≡◌, ◌≢◌, ℕ, zero, suc, ◌+◌, ◌%◌, ◌^◌, ◌<◌, ◌≤◌, ◌⊎◌, cond, nat_eq, List, [], ◌∷◌, ◌++◌, length}
+use Rattle.capnp_format.specs.Word.{kind, upper_half}
+use Rattle.capnp_format.specs.Segments.{Segments, Grows, segment, word_at, Target}
+use Rattle.capnp_format.specs.Tree.{Tree}
+use Rattle.capnp_format.specs.Means.{Leads, Means}
+use Rattle.capnp_format.specs.Forest.{Interval, times, pads_of, object_of}
+use Rattle.capnp_making.specs.Path.{one_word, extent}
+use Rattle.capnp_making.specs.Zeroed.{IsZeroed}
+
+-- Where the objects of two targets start: at one place, or they have no words, being structs of none or capabilities.
+pub data SameStart (S : Segments) (a b : Target) : Type 0 where
+  same_place : b.segment ≡ a.segment → b.start ≡ a.start → SameStart S a b
+  of_no_words : kind a.word ≡ 0 → upper_half a.word ≡ 0 → b.start ≤ length (segment S b.segment) → SameStart S a b
+  of_capability : a.word % 2 ^ 32 ≡ 3 → SameStart S a b
+
+-- Two targets are one object.
+pub record SameObject (S : Segments) (a b : Target) : Type 0 where
+  pub same_kind : kind b.word ≡ kind a.word
+  pub same_sizes : upper_half b.word ≡ upper_half a.word
+  pub capability : a.word % 2 ^ 32 ≡ 3 → b.word % 2 ^ 32 ≡ 3
+  pub same_start : SameStart S a b
+
+-- The place (v, r) leads to what the place (s, p) leads to, or both are null.
+abbrev pub IsMoved : Segments → ℕ → ℕ → ℕ → ℕ → Type 0
+IsMoved S s p v r = ((word_at S s p ≡ 0) × (word_at S v r ≡ 0)) ⊎ ((a : Target) × (b : Target) × Leads S s p a × Leads S v r b × SameObject S a b)
+
+-- R has the words of B, and more behind them.
+pub record Extends (B R : Segments) : Type 0 where
+  pub grows : Grows B R
+  pub kept : (x y : ℕ) → y < length (segment B x) → word_at R x y ≡ word_at B x y
+
+-- A pointer that is written anew at another place.
+pub record Move : Type 0 where
+  pub segment : ℕ
+  pub at : ℕ
+  pub to_segment : ℕ
+  pub to_at : ℕ
+
+abbrev pub a_move : ℕ → ℕ → ℕ → ℕ → Move
+a_move s p v r = record { segment = s; at = p; to_segment = v; to_at = r }
+
+-- k pointers one behind the other, written anew one behind the other.
+abbrev pub row_of_moves : ℕ → ℕ → ℕ → ℕ → ℕ → List Move
+row_of_moves s p v r zero = []
+row_of_moves s p v r (suc k) = a_move s p v r ∷ row_of_moves s (p + 1) v (r + 1) k
+
+-- So n times k pointers, every w words, written anew every z words.
+abbrev pub rows_of_moves : ℕ → ℕ → ℕ → ℕ → ℕ → ℕ → ℕ → ℕ → List Move
+rows_of_moves s p w v r z k zero = []
+rows_of_moves s p w v r z k (suc n) = row_of_moves s p v r k ++ rows_of_moves s (p + w) w v (r + z) z k n
+
+-- The old places and the new ones.
+abbrev pub old_places : List Move → List Interval
+old_places [] = []
+old_places (m ∷ ms) = one_word m.segment m.at ∷ old_places ms
+
+abbrev pub new_places : List Move → List Interval
+new_places [] = []
+new_places (m ∷ ms) = one_word m.to_segment m.to_at ∷ new_places ms
+
+-- The landing pads of the old pointers, those of the new ones, and of these the pads that were written for them: a far pointer is copied as it is.
+abbrev pub old_pads : Segments → List Move → List Interval
+old_pads R [] = []
+old_pads R (m ∷ ms) = pads_of (word_at R m.segment m.at) ++ old_pads R ms
+
+abbrev pub new_pads : Segments → List Move → List Interval
+new_pads R [] = []
+new_pads R (m ∷ ms) = pads_of (word_at R m.to_segment m.to_at) ++ new_pads R ms
+
+abbrev pub own_pads : Segments → Move → List Interval
+own_pads R m = cond (nat_eq (kind (word_at R m.segment m.at)) 2) [] (pads_of (word_at R m.to_segment m.to_at))
+
+abbrev pub fresh_pads : Segments → List Move → List Interval
+fresh_pads R [] = []
+fresh_pads R (m ∷ ms) = own_pads R m ++ fresh_pads R ms
+
+-- Each old pointer means a value in B, whose words lie in B.
+abbrev pub Stands : Segments → ℕ → ℕ → Type 0
+Stands B s p = (t : Tree) × (n : ℕ) × (c : ℕ) × Means B n s p t c × ((x y : ℕ) → 0 < times (extent B s p t) x y → y < length (segment B x))
+
+abbrev pub AllStand : Segments → List Move → Type 0
+AllStand B [] = Unit {0}
+AllStand B (m ∷ ms) = Stands B m.segment m.at × AllStand B ms
+
+-- Each new pointer leads to what the old one leads to.
+abbrev pub AllMoved : Segments → List Move → Type 0
+AllMoved R [] = Unit {0}
+AllMoved R (m ∷ ms) = IsMoved R m.segment m.at m.to_segment m.to_at × AllMoved R ms
+
+-- S has the words of B, where the old pointers mean values, and behind them the new places, each once, all zero.
+pub record CanMove (B S : Segments) (ms : List Move) : Type 0 where
+  pub extends : Extends B S
+  pub stand : AllStand B ms
+  pub behind : (x y : ℕ) → 0 < times (new_places ms) x y → (length (segment B x) ≤ y) × (y < length (segment S x)) × (word_at S x y ≡ 0)
+  pub once : (x y : ℕ) → times (new_places ms) x y ≤ 1
+
+-- From S to R the new pointers are written, and their own landing pads into new words, each once; nothing else is written.
+pub record AreMoved (S R : Segments) (ms : List Move) : Type 0 where
+  pub grows : Grows S R
+  pub moved : AllMoved R ms
+  pub kept : (x y : ℕ) → times (new_places ms) x y ≡ 0 → y < length (segment S x) → word_at R x y ≡ word_at S x y
+  pub sums : (x y : ℕ) → times (new_pads R ms) x y ≡ times (fresh_pads R ms) x y + times (old_pads R ms) x y
+  pub fresh : (x y : ℕ) → 0 < times (fresh_pads R ms) x y → (length (segment S x) ≤ y) × (y < length (segment R x))
+  pub once : (x y : ℕ) → times (fresh_pads R ms) x y ≤ 1
+  pub zero : (x y : ℕ) → times (fresh_pads R ms) x y ≡ 0 → length (segment S x) ≤ y → word_at R x y ≡ 0
+
+-- From S to R these pointers are moved, wherever they mean values.
+abbrev pub Moves : Segments → Segments → List Move → Type 0
+Moves S R ms = (B : Segments) → CanMove B S ms → AreMoved S R ms
+
+-- So are some of the first ones.
+pub record MovesSome (S R : Segments) (ms : List Move) : Type 0 where
+  pub done : List Move
+  pub left : List Move
+  pub all : ms ≡ done ++ left
+  pub moves : Moves S R done
+
+-- The pads written for moved pointers lie in S, and none of these pointers stands in them.
+pub record CanUnmove (S : Segments) (ms : List Move) : Type 0 where
+  pub inside : (x y : ℕ) → 0 < times (fresh_pads S ms) x y → y < length (segment S x)
+  pub old_apart : (x y : ℕ) → 0 < times (old_places ms) x y → times (fresh_pads S ms) x y ≡ 0
+  pub new_apart : (x y : ℕ) → 0 < times (new_places ms) x y → times (fresh_pads S ms) x y ≡ 0
+
+-- From S to R the pads that were written for these pointers become zero.
+abbrev pub Unmoves : Segments → Segments → List Move → Type 0
+Unmoves S R ms = CanUnmove S ms → IsZeroed S R (fresh_pads S ms)
+
+-- The landing pads of n pointers from a place on; and of k pointers from a place on, and every w words again, n times.
+abbrev pub pads_from : Segments → ℕ → ℕ → ℕ → List Interval
+pads_from S s p zero = []
+pads_from S s p (suc n) = pads_of (word_at S s p) ++ pads_from S s (p + 1) n
+
+abbrev pub pads_in_rows : Segments → ℕ → ℕ → ℕ → ℕ → ℕ → List Interval
+pads_in_rows S s p w k zero = []
+pads_in_rows S s p w k (suc n) = pads_from S s p k ++ pads_in_rows S s (p + w) w k n
+
+-- An object of size words, where the pointer at (u, q) leads in S, is made anew in wide words: from S to M the new object b and its pads are written
+-- into new words; from M to Q the pointer is overwritten, last of all, and the old object and its pads become zero. Its pointers had pads before, and
+-- have pads after; fresh are the new words that are used.
+pub record IsRehoused (S M Q : Segments) (u q : ℕ) (a : Target) (size : ℕ) (b : Target) (wide : ℕ) (before after fresh : List Interval) : Type 0 where
+  pub more_segments : length S ≤ length M
+  pub more_words : (x : ℕ) → length (segment S x) ≤ length (segment M x)
+  pub same_segments : length Q ≡ length M
+  pub same_words : (x : ℕ) → length (segment Q x) ≡ length (segment M x)
+  pub extends : (x y : ℕ) → y < length (segment S x) → word_at M x y ≡ word_at S x y
+  pub zero_new : (x y : ℕ) → length (segment S x) ≤ y → times fresh x y ≡ 0 → word_at M x y ≡ 0
+  pub fresh_once : (x y : ℕ) → times fresh x y ≤ 1
+  pub fresh_new : (x y : ℕ) → 0 < times fresh x y → (length (segment S x) ≤ y) × (y < length (segment M x))
+  pub all_fresh : (x y : ℕ) → times (pads_of (word_at Q u q)) x y + times (object_of b wide ∷ []) x y + times after x y ≡ times fresh x y + times before x y
+  pub object_new : (y : ℕ) → b.start ≤ y → y < b.start + wide → length (segment S b.segment) ≤ y
+  pub claim : b.start + wide ≤ length (segment M b.segment)
+  pub only_old : (x y : ℕ) → times (one_word u q ∷ pads_of (word_at S u q) ++ object_of a size ∷ []) x y ≡ 0 → word_at Q x y ≡ word_at M x y
+  pub zero_old : (x y : ℕ) → (x ≢ u) ⊎ (y ≢ q) → 0 < times (pads_of (word_at S u q) ++ object_of a size ∷ []) x y → word_at Q x y ≡ 0

@@ -1,0 +1,34 @@
+-- Pointers written to objects that are there ("Inter-Segment Pointers").
+use Rattle.std.specs.Prelude.{◌≡◌, ◌⊎◌, ℕ, ◌-◌, ◌<◌, ◌≤◌, ◌^◌, [], ◌∷◌, length}
+use Rattle.capnp_format.specs.Canonical.{offset_to}
+use Rattle.capnp_format.specs.Segments.{Segments, Grows, segment, word_at, Target}
+use Rattle.capnp_format.specs.Means.{Leads}
+use Rattle.capnp_format.specs.Forest.{times, pads_of}
+use Rattle.capnp_format.specs.Word.{kind, upper_half, offset_bits}
+use Rattle.capnp_making.specs.Path.{one_word}
+use Rattle.capnp_making.specs.Made.{IsShape}
+use Rattle.capnp_making.specs.declared.making.Shape.{Shape}
+use Rattle.capnp_making.specs.declared.making.Start.{Start}
+
+-- From S to R the pointer at a place is written, and leads to a; its pads are written into new words, and nothing else is.
+pub record IsPointed (S R : Segments) (s p : ℕ) (a : Target) : Type 0 where
+  pub grows : Grows S R
+  pub leads_there : Leads R s p a
+  pub inside : a.start ≤ length (segment R a.segment)
+  pub kept : (x y : ℕ) → times (one_word s p ∷ []) x y ≡ 0 → y < length (segment S x) → word_at R x y ≡ word_at S x y
+  pub fresh : (x y : ℕ) → 0 < times (pads_of (word_at R s p)) x y → (length (segment S x) ≤ y) × (y < length (segment R x))
+  pub zero : (x y : ℕ) → times (pads_of (word_at R s p)) x y ≡ 0 → length (segment S x) ≤ y → word_at R x y ≡ 0
+
+-- So to what starts at h and is of a shape; a struct without sections may be meant to start anywhere.
+abbrev pub PointsTo : Segments → Segments → Shape → Start → Start → Type 0
+PointsTo S R shape h at =
+    (a : Target) × IsPointed S R at.segment at.at a × IsShape shape a.word
+    × (((a.segment ≡ h.segment) × (a.start ≡ h.at)) ⊎ ((kind a.word ≡ 0) × (upper_half a.word ≡ 0)))
+
+-- The word of a near pointer at a position to a target; that of a struct without sections has the offset -1.
+abbrev pub IsNearWord : ℕ → ℕ → ℕ → Type 0
+IsNearWord p b x = (offset_bits x ≡ offset_to p b) ⊎ ((kind x ≡ 0) × (upper_half x ≡ 0) × (offset_bits x ≡ 2 ^ 30 - 1))
+
+-- From S to R no word of S is written but the one at a place.
+abbrev pub WritesOnly : Segments → Segments → Start → Type 0
+WritesOnly S R h = (x y : ℕ) → times (one_word h.segment h.at ∷ []) x y ≡ 0 → y < length (segment S x) → word_at R x y ≡ word_at S x y

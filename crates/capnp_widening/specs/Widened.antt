@@ -1,0 +1,104 @@
+-- Objects filled up with zeros and Nulls, and a struct for each element of another list ("Structs", "Lists").
+use Rattle.std.specs.Prelude.{◌≡◌, ℕ, zero, suc, ◌+◌, ◌-◌, ◌*◌, ◌^◌, ◌≤◌, ◌<◌, max, cond, ◌&&◌, nat_le, nat_lt, Result, Ok, Err, List, [], ◌∷◌, ◌++◌, ◌⊎◌, length, Some, None}
+use Rattle.capnp_format.specs.Segments.{Segments, Grows, segment, word_at}
+use Rattle.capnp_format.specs.Tree.{Tree, Null, Capability, Struct, Flat, Pointers, Structs, Trees, no_trees, tree, Elements, no_elements, element, count, element_count}
+use Rattle.capnp_pointers.specs.declared.wire_pointer.StructSize.{StructSize}
+use Rattle.capnp_making.specs.declared.existing.ExistingStruct.{ExistingStruct}
+use Rattle.capnp_making.specs.Made.{zeros, nulls, zero_elements}
+use Rattle.capnp_format.specs.Forest.{target}
+use Rattle.capnp_words.specs.declared.error.ErrorKind.{ErrorKind}
+use Rattle.capnp_words.specs.declared.error.ErrorKind.TheVariants.{ExistingPointerIsNotAList, FoundBitListWhereStructListWasExpected, MessageTooLarge, MessageContainsNonStructPointerWhereStructPointerWasExpected}
+use Rattle.capnp_arena.specs.View.{View}
+use Rattle.capnp_making.specs.Existing.{struct_in, LiesIn}
+use Rattle.capnp_making.specs.Memory.{SpendsMemory, RefusesGrowth}
+use Rattle.capnp_making.specs.Stored.{IsStored, IsReplaced}
+
+-- Filled up to n words, or n children, and never cut.
+abbrev pub fill_words : ℕ → List ℕ → List ℕ
+fill_words n ws = ws ++ zeros (n - length ws)
+
+abbrev pub fill_trees : ℕ → Trees → Trees
+fill_trees n no_trees = nulls n
+fill_trees zero ts = ts
+fill_trees (suc n) (tree t ts) = tree t (fill_trees n ts)
+
+abbrev pub fill_elements : ℕ → ℕ → Elements → Elements
+fill_elements d q no_elements = no_elements
+fill_elements d q (element ws ts es) = element (fill_words d ws) (fill_trees q ts) (fill_elements d q es)
+
+-- A struct for each number, and for each child.
+abbrev pub struct_for_each : ℕ → ℕ → List ℕ → Elements
+struct_for_each d q [] = no_elements
+struct_for_each d q (x ∷ xs) = element (fill_words d (x ∷ [])) (nulls q) (struct_for_each d q xs)
+
+abbrev pub struct_for_each_tree : ℕ → ℕ → Trees → Elements
+struct_for_each_tree d q no_trees = no_elements
+struct_for_each_tree d q (tree t ts) = element (zeros d) (fill_trees q (tree t no_trees)) (struct_for_each_tree d q ts)
+
+abbrev pub words_in : Tree → List ℕ
+words_in (Struct ws ts) = ws
+words_in t = []
+
+-- From S to R there may be more words, all zero; those of S are as they were.
+pub record GrowsByZeros (S R : Segments) : Type 0 where
+  pub grows : Grows S R
+  pub kept : (x y : ℕ) → y < length (segment S x) → word_at R x y ≡ word_at S x y
+  pub zero : (x y : ℕ) → length (segment S x) ≤ y → word_at R x y ≡ 0
+
+-- The place stores a struct in S, which is e.
+abbrev pub IsStruct : Segments → ℕ → ℕ → List ℕ → Trees → ExistingStruct → Type 0
+IsStruct S s p ws ts e = IsStored S s p (Struct ws ts) × (struct_in (target S s p) (Struct ws ts) ≡ Some e)
+
+-- From S to R the place gets, in place of the struct e, the same with its sections filled up to a size; or R has nothing but zeros more.
+abbrev pub Rehouses : Segments → Segments → ℕ → ℕ → ExistingStruct → StructSize → Type 0
+Rehouses S R s p e size =
+    (ws : List ℕ) (ts : Trees) → IsStruct S s p ws ts e → IsReplaced S R s p (Struct ws ts) (Struct (fill_words size.data_words ws) (fill_trees size.pointers ts))
+
+abbrev pub LeavesStruct : Segments → Segments → ℕ → ℕ → ExistingStruct → Type 0
+LeavesStruct S R s p e = (ws : List ℕ) (ts : Trees) → IsStruct S s p ws ts e → GrowsByZeros S R
+
+-- Where a place stores a struct in S, in R it stores it with both sections filled up to a size, never cut.
+abbrev pub WidensStruct : Segments → Segments → ℕ → ℕ → StructSize → Type 0
+WidensStruct S R s p size =
+    (ws : List ℕ) (ts : Trees) → IsStored S s p (Struct ws ts) → IsReplaced S R s p (Struct ws ts) (Struct (fill_words size.data_words ws) (fill_trees size.pointers ts))
+
+-- Whatever the place stores, R has nothing but zeros more.
+abbrev pub LeavesAll : Segments → Segments → ℕ → ℕ → Type 0
+LeavesAll S R s p = (t : Tree) → IsStored S s p t → GrowsByZeros S R
+
+-- Where the place stored a struct, it leads to e in R, all of which lies there.
+abbrev pub LeadsToStruct : Segments → Segments → ℕ → ℕ → ExistingStruct → Type 0
+LeadsToStruct S R s p e =
+    (ws : List ℕ) (ts : Trees) → IsStored S s p (Struct ws ts) → (e.segment ≡ (target R s p).segment) × (e.start ≡ (target R s p).start) × LiesIn R e
+
+-- Where it stored the struct e, it leads to f in R.
+abbrev pub HousesAt : Segments → Segments → ℕ → ℕ → ExistingStruct → ExistingStruct → Type 0
+HousesAt S R s p e f =
+    (ws : List ℕ) (ts : Trees) → IsStruct S s p ws ts e → (f.segment ≡ (target R s p).segment) × (f.start ≡ (target R s p).start) × LiesIn R f
+
+-- A struct is at least as large as asked for.
+abbrev pub IsAtLeast : StructSize → ExistingStruct → Type 0
+IsAtLeast size e = (size.data_words ≤ e.size.data_words) × (size.pointers ≤ e.size.pointers)
+
+-- A call is refused by the name k: the place stores no struct, and nothing is changed; or a growth is refused.
+abbrev pub IsNoWider : View → View → ℕ → ℕ → ErrorKind → Type 0
+IsNoWider old new s p k =
+    ((k ≡ MessageContainsNonStructPointerWhereStructPointerWasExpected) × (new ≡ old) × ((t : Tree) → IsStored old.words s p t → struct_in (target old.words s p) t ≡ None))
+    ⊎ (SpendsMemory old new k × RefusesGrowth old new k)
+
+-- A list of structs that take so many words, where these are fewer than 2^29.
+abbrev pub limited : ℕ → Tree → Result Tree ErrorKind
+limited n t = cond (nat_lt n (2 ^ 29)) (Ok t) (Err (MessageTooLarge n))
+
+-- What a list becomes where structs of at least d data words and q pointers are wanted, memory aside; or by what name that is refused. Null stays.
+-- From void the elements are of exactly that size; a number is the lowest bits of a first data word, and a pointer the first one of a struct.
+abbrev pub list_widened : ℕ → ℕ → Tree → Result Tree ErrorKind
+list_widened d q Null = Ok Null
+list_widened d q (Capability i) = Err ExistingPointerIsNotAList
+list_widened d q (Struct ws ts) = Err ExistingPointerIsNotAList
+list_widened d q (Flat zero ns) = limited (length ns * (d + q)) (Structs d q (zero_elements d q (length ns)))
+list_widened d q (Flat (suc zero) ns) = Err FoundBitListWhereStructListWasExpected
+list_widened d q (Flat size ns) = limited (length ns * (max 1 d + q)) (Structs (max 1 d) q (struct_for_each d q ns))
+list_widened d q (Pointers ts) = limited (count ts * (d + max 1 q)) (Structs d (max 1 q) (struct_for_each_tree d q ts))
+list_widened d q (Structs e k es) =
+    cond (nat_le d e && nat_le q k) (Ok (Structs e k es)) (limited (element_count es * (max e d + max k q)) (Structs (max e d) (max k q) (fill_elements d q es)))

@@ -1,0 +1,6 @@
+//! Objects of a message that is built made wider: a struct whose sections are too small, and lists
+//! whose elements are, moved into new words with all that their pointers lead to.
+#![tactic(auto)]
+
+pub mod moving;
+pub mod widening;

@@ -1,0 +1,291 @@
+//! Pointers written anew at other places, to what the old ones lead to ("Inter-Segment Pointers").
+//!
+//! A pointer that is near stays near in its object's segment. Anywhere else it becomes a far pointer: to
+//! a landing pad behind the words of the object's segment where that has room, and else to two words
+//! where the arena finds room. A far pointer and a capability are copied as they are. The old pointer
+//! stays as it was, so for a while two pointers lead to one object.
+ghost use Rattle.std.specs.Prelude.{◌*◌, ◌≡◌, ◌≢◌, ◌<◌, ◌≤◌, ◌+◌, ◌-◌, ◌^◌, ◌∷◌, [], length, true, false, OnOk, IfErr, OnErr};
+ghost use Rattle.capnp_arena.specs.View.{KeepsLimits};
+ghost use Rattle.capnp_format.specs.Canonical.{Reaches};
+ghost use Rattle.capnp_format.specs.Segments.{segment, IsPlace, Grows};
+ghost use Rattle.capnp_format.specs.Word.{kind, struct_word};
+ghost use Rattle.capnp_making.specs.Made.{IsShape, IsFew, AsksWords};
+ghost use Rattle.capnp_making.specs.Memory.{KeepsMemory, SpendsMemory, RefusesWords, RefusesGrowth};
+ghost use Rattle.capnp_making.specs.Zeroed.{IsPruned};
+ghost use Rattle.capnp_widening.specs.Moved.{a_move, row_of_moves, Moves, MovesSome, Unmoves, rows_of_moves};
+ghost use Rattle.capnp_widening.specs.Pointed.{PointsTo, IsNearWord, WritesOnly};
+
+use capnp_arena::arena::BuilderArena;
+use capnp_making::landing::{length_of, word_of};
+use capnp_making::making::{Shape, Start, pointer_to};
+use capnp_making::zeroing::zero_pads;
+use capnp_words::error::ErrorKind;
+use capnp_words::wire_pointer::{WirePointer, WirePointerKind};
+
+/// Writes the pointer at a place anew at another one, which is null, to what it leads to.
+///
+/// A refusal is that of memory for two words, and changes nothing but `refused`.
+pub fn move_pointer<A: BuilderArena>(arena: &mut A, from: Start, to: Start) -> Result<(), ErrorKind>
+    requires from { IsPlace (A.view arena.old).words from.segment from.at }
+    requires to { IsPlace (A.view arena.old).words to.segment to.at }
+    ensures moved { OnOk result (Moves (A.view arena.old).words (A.view arena.new).words (a_move from.segment from.at to.segment to.at ∷ [])) }
+    ensures granted { OnOk result (KeepsMemory (A.view arena.old) (A.view arena.new)) }
+    ensures only { OnOk result (WritesOnly (A.view arena.old).words (A.view arena.new).words to) }
+    ensures longer { Grows (A.view arena.old).words (A.view arena.new).words }
+    ensures memory { IfErr result (SpendsMemory (A.view arena.old) (A.view arena.new)) }
+    ensures full { IfErr result (RefusesWords (A.view arena.old) (A.view arena.new) 1) }
+    ensures refused { OnErr result ((A.view arena.new).words ≡ (A.view arena.old).words) }
+{
+    let word = word_of(arena, from.segment, from.at);
+    if word.is_null() {
+        return Ok(());
+    }
+    if !word.is_positional() {
+        arena.set_word(to.segment, to.at, word.0);
+        return Ok(());
+    }
+    match word.target(from.at, length_of(arena, from.segment)) {
+        Some(start) => {
+            let object = Start {
+                segment: from.segment,
+                at: start,
+            };
+            point_to(arena, shape_of(word), object, to)
+        }
+        None => Ok(()),
+    }
+}
+
+/// What a word describes that is of kind struct or list.
+fn shape_of(word: WirePointer) -> Shape
+    ensures shape { kind word.0 < 2 → IsShape result word.0 }
+    ensures few { IsFew result }
+{
+    if word.kind() == WirePointerKind::Struct {
+        Shape::Struct(word.struct_size())
+    } else {
+        Shape::List(word.list_element_size(), word.list_element_count())
+    }
+}
+
+/// Writes a pointer at a place to the object at another one. The place isn't looked at.
+fn point_to<A: BuilderArena>(
+    arena: &mut A,
+    shape: Shape,
+    object: Start,
+    to: Start,
+) -> Result<(), ErrorKind>
+    requires to { IsPlace (A.view arena.old).words to.segment to.at }
+    requires there { object.segment < length (A.view arena.old).words }
+    requires inside { object.at ≤ length (segment (A.view arena.old).words object.segment) }
+    requires few { IsFew shape }
+    ensures points { OnOk result (PointsTo (A.view arena.old).words (A.view arena.new).words shape object to) }
+    ensures granted { OnOk result (KeepsMemory (A.view arena.old) (A.view arena.new)) }
+    ensures longer { Grows (A.view arena.old).words (A.view arena.new).words }
+    ensures memory { IfErr result (SpendsMemory (A.view arena.old) (A.view arena.new)) }
+    ensures full { IfErr result (RefusesWords (A.view arena.old) (A.view arena.new) 1) }
+    ensures refused { OnErr result ((A.view arena.new).words ≡ (A.view arena.old).words) }
+{
+    if object.segment == to.segment {
+        let word = near_word(shape, to.at, object.at);
+        arena.set_word(to.segment, to.at, word.0);
+        return Ok(());
+    }
+    match arena.allocate(object.segment, 1) {
+        Some(pad) => {
+            let word = pointer_to(shape, pad, object.at);
+            arena.set_word(object.segment, pad, word.0);
+            let far = WirePointer::new_far(pad, object.segment);
+            arena.set_word(to.segment, to.at, far.0);
+            Ok(())
+        }
+        None => match arena.allocate_anywhere(2) {
+            Ok((segment, pad)) => {
+                let start = WirePointer::new_far(object.at, object.segment);
+                arena.set_word(segment, pad, start.0);
+                let tag = tag_of(shape);
+                arena.set_word(segment, pad + 1, tag.0);
+                let far = WirePointer::new_double_far(pad, segment);
+                arena.set_word(to.segment, to.at, far.0);
+                Ok(())
+            }
+            Err(k) => Err(k),
+        },
+    }
+}
+
+/// The word of a pointer to an object in its own segment. A struct without sections has the offset -1.
+fn near_word(shape: Shape, position: u32, target: u32) -> WirePointer
+    requires reaches { Reaches position target }
+    requires few { IsFew shape }
+    ensures shape { IsShape shape result.0 }
+    ensures some { result.0 ≢ 0 }
+    ensures lands { IsNearWord position target result.0 }
+{
+    if is_empty(shape) {
+        WirePointer::empty_struct()
+    } else {
+        pointer_to(shape, position, target)
+    }
+}
+
+/// Whether an object is a struct without sections.
+fn is_empty(shape: Shape) -> bool
+    ensures some { result ≡ false → AsksWords shape }
+    ensures empty { result ≡ true → IsShape shape (struct_word (2 ^ 30 - 1) 0 0) }
+{
+    match shape {
+        Shape::Struct(size) => size.total() == 0,
+        Shape::List(_, _) => false,
+    }
+}
+
+/// The second landing pad of an object, which says what it is.
+fn tag_of(shape: Shape) -> WirePointer
+    requires few { IsFew shape }
+    ensures { IsShape shape result.0 }
+{
+    match shape {
+        Shape::Struct(size) => WirePointer::new_struct(0, size),
+        Shape::List(size, count) => WirePointer::new_list(0, size, count),
+    }
+}
+
+/// Writes so many pointers one behind the other anew at other places, which are null.
+///
+/// A refusal is that of memory for two words; then some of the first pointers are written.
+pub fn move_row<A: BuilderArena>(
+    arena: &mut A,
+    from: Start,
+    to: Start,
+    count: u32,
+) -> Result<(), ErrorKind>
+    requires from { from.at + count ≤ length (segment (A.view arena.old).words from.segment) }
+    requires to { to.at + count ≤ length (segment (A.view arena.old).words to.segment) }
+    ensures moved { OnOk result (Moves (A.view arena.old).words (A.view arena.new).words (row_of_moves from.segment from.at to.segment to.at count)) }
+    ensures some { OnErr result (MovesSome (A.view arena.old).words (A.view arena.new).words (row_of_moves from.segment from.at to.segment to.at count)) }
+    ensures longer { Grows (A.view arena.old).words (A.view arena.new).words }
+    ensures granted { OnOk result (KeepsMemory (A.view arena.old) (A.view arena.new)) }
+    ensures memory { IfErr result (SpendsMemory (A.view arena.old) (A.view arena.new)) }
+    ensures full { IfErr result (RefusesGrowth (A.view arena.old) (A.view arena.new)) }
+{
+    for i in 0..count {
+        let source = Start {
+            segment: from.segment,
+            at: from.at + i,
+        };
+        let place = Start {
+            segment: to.segment,
+            at: to.at + i,
+        };
+        match move_pointer(arena, source, place) {
+            Ok(()) => {}
+            Err(k) => return Err(k),
+        }
+    }
+    Ok(())
+}
+
+/// Makes the landing pads zero that were written for so many moved pointers.
+pub fn unmove_row<A: BuilderArena>(arena: &mut A, from: Start, to: Start, count: u32)
+    requires from { from.at + count ≤ length (segment (A.view arena.old).words from.segment) }
+    requires to { to.at + count ≤ length (segment (A.view arena.old).words to.segment) }
+    ensures zeroed { Unmoves (A.view arena.old).words (A.view arena.new).words (row_of_moves from.segment from.at to.segment to.at count) }
+    ensures pruned { IsPruned (A.view arena.old).words (A.view arena.new).words }
+    ensures limits { KeepsLimits (A.view arena.old) (A.view arena.new) }
+{
+    for i in 0..count {
+        unmove_pointer(arena, from.segment, from.at + i, to.segment, to.at + i);
+    }
+}
+
+/// Makes the landing pads zero that were written for a moved pointer. Of one that was copied as it is,
+/// they are the old pointer's still.
+fn unmove_pointer<A: BuilderArena>(arena: &mut A, id: u32, at: u32, to_id: u32, to_at: u32)
+    ensures zeroed { Unmoves (A.view arena.old).words (A.view arena.new).words (a_move id at to_id to_at ∷ []) }
+    ensures pruned { IsPruned (A.view arena.old).words (A.view arena.new).words }
+    ensures limits { KeepsLimits (A.view arena.old) (A.view arena.new) }
+{
+    if word_of(arena, id, at).kind() != WirePointerKind::Far {
+        let word = word_of(arena, to_id, to_at);
+        zero_pads(arena, word);
+    }
+}
+
+/// Pointers that stand in rows: so many one behind the other, and again every `step` words.
+#[derive(Clone, Copy)]
+pub struct Rows {
+    /// The segment.
+    pub segment: u32,
+    /// Where the first pointer of the first row stands.
+    pub at: u32,
+    /// How many words lie from one row to the next.
+    pub step: u32,
+}
+
+/// Writes the pointers of so many rows anew in other rows, where they are null.
+///
+/// A refusal is that of memory for two words; then some of the first pointers are written.
+pub fn move_rows<A: BuilderArena>(
+    arena: &mut A,
+    from: Rows,
+    to: Rows,
+    pointers: u32,
+    count: u32,
+) -> Result<(), ErrorKind>
+    requires from { from.at + count * from.step + pointers ≤ length (segment (A.view arena.old).words from.segment) + from.step }
+    requires to { to.at + count * to.step + pointers ≤ length (segment (A.view arena.old).words to.segment) + to.step }
+    requires small { (from.step < 2 ^ 18) × (to.step < 2 ^ 18) }
+    ensures moved { OnOk result (Moves (A.view arena.old).words (A.view arena.new).words (rows_of_moves from.segment from.at from.step to.segment to.at to.step pointers count)) }
+    ensures some { OnErr result (MovesSome (A.view arena.old).words (A.view arena.new).words (rows_of_moves from.segment from.at from.step to.segment to.at to.step pointers count)) }
+    ensures longer { Grows (A.view arena.old).words (A.view arena.new).words }
+    ensures granted { OnOk result (KeepsMemory (A.view arena.old) (A.view arena.new)) }
+    ensures memory { IfErr result (SpendsMemory (A.view arena.old) (A.view arena.new)) }
+    ensures full { IfErr result (RefusesGrowth (A.view arena.old) (A.view arena.new)) }
+{
+    let mut source = from.at;
+    let mut place = to.at;
+    for i in 0..count {
+        let old = Start {
+            segment: from.segment,
+            at: source,
+        };
+        let new = Start {
+            segment: to.segment,
+            at: place,
+        };
+        match move_row(arena, old, new, pointers) {
+            Ok(()) => {}
+            Err(k) => return Err(k),
+        }
+        source += from.step;
+        place += to.step;
+    }
+    Ok(())
+}
+
+/// Makes the landing pads zero that were written for the moved pointers of so many rows.
+pub fn unmove_rows<A: BuilderArena>(arena: &mut A, from: Rows, to: Rows, pointers: u32, count: u32)
+    requires from { from.at + count * from.step + pointers ≤ length (segment (A.view arena.old).words from.segment) + from.step }
+    requires to { to.at + count * to.step + pointers ≤ length (segment (A.view arena.old).words to.segment) + to.step }
+    requires small { (from.step < 2 ^ 18) × (to.step < 2 ^ 18) }
+    ensures zeroed { Unmoves (A.view arena.old).words (A.view arena.new).words (rows_of_moves from.segment from.at from.step to.segment to.at to.step pointers count) }
+    ensures pruned { IsPruned (A.view arena.old).words (A.view arena.new).words }
+    ensures limits { KeepsLimits (A.view arena.old) (A.view arena.new) }
+{
+    let mut source = from.at;
+    let mut place = to.at;
+    for i in 0..count {
+        let old = Start {
+            segment: from.segment,
+            at: source,
+        };
+        let new = Start {
+            segment: to.segment,
+            at: place,
+        };
+        unmove_row(arena, old, new, pointers);
+        source += from.step;
+        place += to.step;
+    }
+}

@@ -1,0 +1,204 @@
+//! Structs and lists made wider where they are too small: the object stands anew in more words, its
+//! pointers are moved there, and at last its pointer is overwritten. Until then the old object stands
+//! as it was, and a refusal leaves nothing but zeros.
+ghost use Rattle.std.specs.Prelude.{◌≡◌, ◌<◌, ◌≤◌, ◌+◌, ◌*◌, ◌^◌, max, length, IfOk, OnOk, IfErr, OnErr};
+ghost use Rattle.capnp_arena.specs.View.{KeepsLimits};
+ghost use Rattle.capnp_format.specs.Segments.{segment, word_at, IsPlace, Grows};
+ghost use Rattle.capnp_making.specs.Existing.{LiesIn};
+ghost use Rattle.capnp_making.specs.Made.{IsFew, AsksWords};
+ghost use Rattle.capnp_making.specs.Memory.{KeepsMemory, SpendsMemory, RefusesWords, RefusesGrowth};
+ghost use Rattle.capnp_making.specs.Zeroed.{IsPruned};
+ghost use Rattle.capnp_widening.specs.Housed.{IsRoom, AreCopied, Settles};
+ghost use Rattle.capnp_widening.specs.Widened.{HousesAt, IsAtLeast, IsNoWider, LeadsToStruct, LeavesAll, LeavesStruct, Rehouses, WidensStruct};
+
+use crate::moving::{move_row, unmove_row};
+use capnp_arena::arena::BuilderArena;
+use capnp_making::existing::{self, ExistingStruct};
+use capnp_making::landing::word_of;
+use capnp_making::making::{Shape, Start, pointer_to};
+use capnp_making::zeroing::{zero_pads, zero_part};
+use capnp_words::error::ErrorKind;
+use capnp_words::wire_pointer::{StructSize, WirePointer};
+
+/// New words for an object.
+#[derive(Clone, Copy)]
+pub struct Room {
+    /// Their segment.
+    pub segment: u32,
+    /// The first of them: of the object, or of its landing pad.
+    pub at: u32,
+    /// How many words of landing pads stand before the object: none in the segment of its pointer, else
+    /// one.
+    pub pads: u32,
+}
+
+/// Takes words for an object: behind those of its pointer's segment where they fit, else behind a
+/// landing pad of one word, where the arena finds room.
+fn take<A: BuilderArena>(arena: &mut A, id: u32, amount: u32) -> Result<Room, ErrorKind>
+    requires there { id < length (A.view arena.old).words }
+    requires small { amount < 2 ^ 31 }
+    ensures taken { IfOk result (IsRoom (A.view arena.old).words (A.view arena.new).words id amount) }
+    ensures granted { OnOk result (KeepsMemory (A.view arena.old) (A.view arena.new)) }
+    ensures memory { IfErr result (SpendsMemory (A.view arena.old) (A.view arena.new)) }
+    ensures full { IfErr result (RefusesWords (A.view arena.old) (A.view arena.new) amount) }
+    ensures refused { OnErr result ((A.view arena.new).words ≡ (A.view arena.old).words) }
+{
+    match arena.allocate(id, amount) {
+        Some(at) => Ok(Room {
+            segment: id,
+            at,
+            pads: 0,
+        }),
+        None => match arena.allocate_anywhere(amount + 1) {
+            Ok((segment, at)) => Ok(Room {
+                segment,
+                at,
+                pads: 1,
+            }),
+            Err(k) => Err(k),
+        },
+    }
+}
+
+/// Copies words one behind the other over others.
+fn copy_words<A: BuilderArena>(arena: &mut A, from: Start, to: Start, count: u32)
+    requires from { from.at + count ≤ length (segment (A.view arena.old).words from.segment) }
+    requires to { to.at + count ≤ length (segment (A.view arena.old).words to.segment) }
+    requires apart { from.segment ≡ to.segment → from.at + count ≤ to.at }
+    ensures copied { AreCopied (A.view arena.old).words (A.view arena.new).words from.segment from.at to.segment to.at count }
+    ensures limits { KeepsLimits (A.view arena.old) (A.view arena.new) }
+{
+    for i in 0..count {
+        let word = word_of(arena, from.segment, from.at + i);
+        arena.set_word(to.segment, to.at + i, word.0);
+    }
+}
+
+/// Sets the pointer at a place to an object that stands in a room, and writes its landing pad, if any.
+fn settle<A: BuilderArena>(arena: &mut A, id: u32, at: u32, room: Room, shape: Shape)
+    requires place { IsPlace (A.view arena.old).words id at }
+    requires inside { room.at + room.pads < length (segment (A.view arena.old).words room.segment) }
+    requires apart { (room.segment ≡ id) → at < room.at }
+    requires near { (room.pads ≡ 0 → room.segment ≡ id) × (room.pads ≤ 1) }
+    requires few { IsFew shape }
+    requires some { AsksWords shape }
+    ensures settled { Settles (A.view arena.old).words (A.view arena.new).words id at room shape }
+    ensures limits { KeepsLimits (A.view arena.old) (A.view arena.new) }
+{
+    if room.pads == 0 {
+        let word = pointer_to(shape, at, room.at);
+        arena.set_word(id, at, word.0);
+        return;
+    }
+    let word = pointer_to(shape, room.at, room.at + 1);
+    arena.set_word(room.segment, room.at, word.0);
+    let far = WirePointer::new_far(room.at, room.segment);
+    arena.set_word(id, at, far.0);
+}
+
+/// The struct that the pointer at a place leads to, with both sections at least as large as asked for.
+/// Where one is too small, the struct stands anew with each section as large as the greater of old and
+/// wanted.
+///
+/// Anything but a struct is `MessageContainsNonStructPointerWhereStructPointerWasExpected`. Every other
+/// refusal is that of memory, or `MessageTooLarge`; the old struct stands then.
+pub fn get_struct<A: BuilderArena>(
+    arena: &mut A,
+    id: u32,
+    at: u32,
+    size: StructSize,
+) -> Result<ExistingStruct, ErrorKind>
+    requires place { IsPlace (A.view arena.old).words id at }
+    ensures widened { OnOk result (WidensStruct (A.view arena.old).words (A.view arena.new).words id at size) }
+    ensures leads { IfOk result (LeadsToStruct (A.view arena.old).words (A.view arena.new).words id at) }
+    ensures wide { IfOk result (IsAtLeast size) }
+    ensures granted { OnOk result (KeepsMemory (A.view arena.old) (A.view arena.new)) }
+    ensures refused { OnErr result (LeavesAll (A.view arena.old).words (A.view arena.new).words id at) }
+    ensures named { IfErr result (IsNoWider (A.view arena.old) (A.view arena.new) id at) }
+{
+    match existing::get_struct(arena, id, at) {
+        None => Err(ErrorKind::MessageContainsNonStructPointerWhereStructPointerWasExpected),
+        Some(old) => {
+            if size.data_words <= old.size.data_words && size.pointers <= old.size.pointers {
+                return Ok(old);
+            }
+            let wide = StructSize {
+                data_words: greater(old.size.data_words, size.data_words),
+                pointers: greater(old.size.pointers, size.pointers),
+            };
+            widen_struct(arena, id, at, old, wide)
+        }
+    }
+}
+
+/// The greater of two numbers.
+fn greater(a: u16, b: u16) -> u16
+    ensures { result ≡ max a b }
+{
+    if a < b { b } else { a }
+}
+
+/// Makes a struct anew in a larger size, where the pointer at a place leads to it.
+fn widen_struct<A: BuilderArena>(
+    arena: &mut A,
+    id: u32,
+    at: u32,
+    old: ExistingStruct,
+    size: StructSize,
+) -> Result<ExistingStruct, ErrorKind>
+    requires place { IsPlace (A.view arena.old).words id at }
+    requires inside { LiesIn (A.view arena.old).words old }
+    requires data { old.size.data_words ≤ size.data_words }
+    requires pointers { old.size.pointers ≤ size.pointers }
+    requires some { 0 < size.data_words + size.pointers }
+    ensures widened { OnOk result (Rehouses (A.view arena.old).words (A.view arena.new).words id at old size) }
+    ensures leads { IfOk result (HousesAt (A.view arena.old).words (A.view arena.new).words id at old) }
+    ensures size { IfOk result (λ e. e.size ≡ size) }
+    ensures granted { OnOk result (KeepsMemory (A.view arena.old) (A.view arena.new)) }
+    ensures refused { OnErr result (LeavesStruct (A.view arena.old).words (A.view arena.new).words id at old) }
+    ensures memory { IfErr result (SpendsMemory (A.view arena.old) (A.view arena.new)) }
+    ensures full { IfErr result (RefusesGrowth (A.view arena.old) (A.view arena.new)) }
+{
+    let pointer = word_of(arena, id, at);
+    match take(arena, id, size.total()) {
+        Ok(room) => {
+            let start = room.at + room.pads;
+            let words = Start {
+                segment: old.segment,
+                at: old.start,
+            };
+            let object = Start {
+                segment: room.segment,
+                at: start,
+            };
+            copy_words(arena, words, object, u32::from(old.size.data_words));
+            let from = Start {
+                segment: old.segment,
+                at: old.start + u32::from(old.size.data_words),
+            };
+            let to = Start {
+                segment: room.segment,
+                at: start + u32::from(size.data_words),
+            };
+            let count = u32::from(old.size.pointers);
+            match move_row(arena, from, to, count) {
+                Ok(()) => {
+                    settle(arena, id, at, room, Shape::Struct(size));
+                    zero_part(arena, old.segment, old.start, u64::from(old.size.total()));
+                    zero_pads(arena, pointer);
+                    Ok(ExistingStruct {
+                        segment: room.segment,
+                        start,
+                        size,
+                    })
+                }
+                Err(k) => {
+                    unmove_row(arena, from, to, count);
+                    zero_part(arena, room.segment, start, u64::from(size.total()));
+                    Err(k)
+                }
+            }
+        }
+        Err(k) => Err(k),
+    }
+}

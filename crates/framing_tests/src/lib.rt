@@ -1,0 +1,5 @@
+//! Tests of capnp_framing, by its public calls: messages beside their frames.
+#![tactic(auto)]
+
+#[cfg(test)]
+mod written;

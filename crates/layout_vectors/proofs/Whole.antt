@@ -1,0 +1,43 @@
+-- The whole walk: from the root alone, to no place that is left.
+use Rattle.std.proofs.Common.{inl, inr, ◌≡◌, ℕ, ◌<◌, [], ◌∷◌, length, sym, ◌∙◌, arith}
+use Rattle.std.proofs.lemmas.Bool.{cases_lt}
+use Rattle.std.proofs.lemmas.List.{get_or_past}
+use Rattle.capnp_format.specs.Segments.{Segments, segment, word_at}
+use Rattle.capnp_format.specs.Tree.{Tree}
+use Rattle.capnp_format.specs.Forest.{times, cover, root, IsForest}
+use Rattle.layout_vectors.specs.Counts.{row, Counting, Counts}
+use Rattle.layout_vectors.specs.Marks.{AreMarks}
+use Rattle.layout_vectors.specs.Spots.{spot}
+use Rattle.layout_vectors.specs.Walks.{FitsRows, IsZeroWhereFree}
+
+abbrev pub OnlyRoot : Segments → Type 0
+OnlyRoot M = (u q : ℕ) → word_at M u q ≡ times (row 0 0 1 ∷ []) u q
+
+-- what a forest covers is counted from the root
+pub forest_counts : (S M : Segments) (t : Tree) → OnlyRoot M → IsForest S t → Counts S (word_at M) (spot 0 0 ∷ []) (times (root ∷ cover S 0 0 t))
+forest_counts S M t only f = (t, record { means = f.means; tidy = f.tidy }, λ u q. omega (arith, only u q))
+
+marked_inside : (S M : Segments) (u q : ℕ) → FitsRows S M → 0 < word_at M u q → q < length (segment S u)
+marked_inside S M u q fits l = elim (cases_lt q (length (segment M u))) [
+  | inl m ↦ omega (arith, fits.words u)
+  | inr m ↦ absurd (omega (arith, get_or_past (segment M u) q 0 m))
+]
+
+-- and where the words counted are those that are marked, and all others are zero, there is a forest
+pub counts_forest : (S M N : Segments) → OnlyRoot M → Counts S (word_at M) (spot 0 0 ∷ []) (word_at N) → FitsRows S N → AreMarks N → IsZeroWhereFree S N → (t : Tree) × IsForest S t
+counts_forest S M N only (t, k, h) fits marks zero =
+    let same : (u q : ℕ) → times (root ∷ cover S 0 0 t) u q ≡ word_at N u q = λ u q. omega (arith, only u q, h u q) in (
+      t,
+      record {
+        means = k.means;
+        apart = λ u q. omega (arith, same u q, marks u q);
+        inside = λ u q l. marked_inside S N u q fits (omega (arith, same u q));
+        zero_elsewhere = λ u q e. zero u q (sym (same u q) ∙ e);
+        tidy = k.tidy;
+      },
+    )
+
+pub not_zero : (S M N : Segments) → OnlyRoot M → ((F : Counting) → Counts S (word_at M) (spot 0 0 ∷ []) F → (u q : ℕ) → F u q ≡ word_at N u q) → (IsZeroWhereFree S N → ⊥) → (t : Tree) → IsForest S t → ⊥
+not_zero S M N only ends fails t f =
+    let same = ends (times (root ∷ cover S 0 0 t)) (forest_counts S M t only f) in
+    fails (λ u q e. f.zero_elsewhere u q (same u q ∙ e))

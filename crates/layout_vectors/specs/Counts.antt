@@ -1,0 +1,75 @@
+-- What is reached from places that are still to be looked at, counted word by word.
+use Rattle.std.specs.Prelude.{◌≡◌, ℕ, ◌+◌, ◌*◌, ◌≤◌, List, [], ◌∷◌, length}
+use Rattle.capnp_format.specs.Word.{kind, is_double, far_position, upper_half, data_words, pointer_count, element_size, list_count, capability_word}
+use Rattle.capnp_format.specs.Numbers.{words_for, unpacked, packed}
+use Rattle.capnp_format.specs.Segments.{Segments, segment, word_at, words_at, HasWords, Target}
+use Rattle.capnp_format.specs.Tree.{Tree, Null, Capability, Struct, Flat, Pointers, Structs, Trees, no_trees, tree, count, Elements, no_elements, element, element_count}
+use Rattle.capnp_format.specs.Means.{Means, Claims, IsTag}
+use Rattle.capnp_format.specs.Forest.{Interval, times, cover, cover_all, cover_elements, object_of, IsTidy}
+use Rattle.layout_vectors.specs.declared.vectors.pending.Spot.{Spot}
+
+-- So many words from a place on.
+abbrev pub row : ℕ → ℕ → ℕ → Interval
+row s p n = record { segment = s; start = p; words = n }
+
+-- The landing pads of a word, if it is a far pointer, lie in the message.
+abbrev pub PadsInside : Segments → ℕ → Type 0
+PadsInside S x = kind x ≡ 2 → far_position x + (1 + is_double x) ≤ length (segment S (upper_half x))
+
+-- What is reached from a target, its pads apart.
+abbrev pub object_cover : Segments → Target → Tree → List Interval
+object_cover S a Null = []
+object_cover S a (Capability i) = []
+object_cover S a (Struct ws ts) = object_of a (length ws + count ts) ∷ cover_all S a.segment (a.start + length ws) ts
+object_cover S a (Flat size ns) = object_of a (words_for size (length ns)) ∷ []
+object_cover S a (Pointers ts) = object_of a (count ts) ∷ cover_all S a.segment a.start ts
+object_cover S a (Structs d q es) = object_of a (1 + element_count es * (d + q)) ∷ cover_elements S a.segment (a.start + 1) d q es
+
+-- How often each word of a message is held.
+abbrev pub Counting : Type 0
+Counting = ℕ → ℕ → ℕ
+
+abbrev pub plus : Counting → Counting → Counting
+plus M N u q = M u q + N u q
+
+-- A place means a value, and below it all is tidy.
+pub record IsRead (S : Segments) (s p : ℕ) (t : Tree) : Type 0 where
+  pub means : (n : ℕ) × (c : ℕ) × Means S n s p t c
+  pub tidy : IsTidy S s p t
+
+-- F is M and what is reached from these places, for some values that they mean.
+abbrev pub Counts : Segments → Counting → List Spot → Counting → Type 0
+Counts S M [] F = (u q : ℕ) → F u q ≡ M u q
+Counts S M (j ∷ J) F = (t : Tree) × IsRead S j.segment j.at t × Counts S (plus M (times (cover S j.segment j.at t))) J F
+
+-- So do pointers one behind the other, and the pointers of elements.
+abbrev pub AreRead : Segments → ℕ → ℕ → Trees → Type 0
+AreRead S s p no_trees = Unit {0}
+AreRead S s p (tree t ts) = IsRead S s p t × AreRead S s (p + 1) ts
+
+abbrev pub AreElementsRead : Segments → ℕ → ℕ → ℕ → ℕ → Elements → Type 0
+AreElementsRead S s p d q no_elements = Unit {0}
+AreElementsRead S s p d q (element ws ts es) = (length ws ≡ d) × (count ts ≡ q) × HasWords S s p ws × AreRead S s (p + d) ts × AreElementsRead S s (p + d + q) d q es
+
+-- Where the target a leads, a value stands, and all is tidy.
+abbrev pub IsTidyObject : Segments → Target → Tree → Type 0
+IsTidyObject S a Null = ⊥
+IsTidyObject S a (Capability i) = a.word ≡ capability_word i
+IsTidyObject S a (Struct ws ts) =
+    (kind a.word ≡ 0) × (data_words a.word ≡ length ws) × (pointer_count a.word ≡ count ts) × Claims S a (length ws + count ts) × HasWords S a.segment a.start ws
+    × AreRead S a.segment (a.start + length ws) ts
+IsTidyObject S a (Flat size ns) =
+    (size ≤ 5) × (kind a.word ≡ 1) × (element_size a.word ≡ size) × (list_count a.word ≡ length ns) × Claims S a (words_for size (length ns))
+    × (ns ≡ unpacked size (length ns) (words_at S a.segment a.start (words_for size (length ns)))) × (words_at S a.segment a.start (words_for size (length ns)) ≡ packed size ns)
+IsTidyObject S a (Pointers ts) = (kind a.word ≡ 1) × (element_size a.word ≡ 6) × (list_count a.word ≡ count ts) × Claims S a (count ts) × AreRead S a.segment a.start ts
+IsTidyObject S a (Structs d q es) =
+    (kind a.word ≡ 1) × (element_size a.word ≡ 7) × (list_count a.word ≡ element_count es * (d + q)) × Claims S a (1 + element_count es * (d + q))
+    × IsTag (word_at S a.segment a.start) (element_count es) d q × AreElementsRead S a.segment (a.start + 1) d q es
+
+-- F is M, and what is reached from an object where a leads, and from these places.
+abbrev pub ObjectCounts : Segments → Target → Counting → List Spot → Counting → Type 0
+ObjectCounts S a M J F = (t : Tree) × IsTidyObject S a t × Counts S (plus M (times (object_cover S a t))) J F
+
+-- No word is held more often than once.
+abbrev pub IsOnce : Counting → Type 0
+IsOnce F = (u q : ℕ) → F u q ≤ 1

@@ -1,0 +1,6 @@
+pub mod Counts
+pub mod Landings
+pub mod Marks
+pub mod Padding
+pub mod Spots
+pub mod Walks

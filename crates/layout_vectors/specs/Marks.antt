@@ -1,0 +1,60 @@
+-- Marks of words that are taken: for each segment a row of numbers, one for each word, of which those that aren't 0 are taken.
+use Rattle.std.specs.Prelude.{◌≡◌, ◌≢◌, ℕ, ◌+◌, ◌/◌, ◌<◌, ◌≤◌, cond, nat_eq, Bool, true, false, List, [], ◌∷◌, length, map, replicate, slice_index, vec_items}
+use Rattle.std.specs.Borrow.{Bor}
+use Rattle.capnp_format.specs.Segments.{Segments, segment, word_at}
+use Rattle.capnp_format.specs.Forest.{times, pads_of}
+use Rattle.layout_vectors.specs.Counts.{row, PadsInside}
+use Rattle.layout_vectors.specs.declared.vectors.marks.Marks.{Marks}
+
+abbrev pub rows_of : Marks → Segments
+rows_of m = map vec_items m.rows.items
+
+-- The rows of segments of which no word is taken.
+abbrev pub blank_rows : List (Bor (List ℕ)) → Segments
+blank_rows segments = map (λ s. replicate (length s.now / 8) 0) segments
+
+-- None of the n words of a row from a position on is taken; or one is.
+abbrev pub AreFreeWithin : List ℕ → ℕ → ℕ → Type 0
+AreFreeWithin xs p n = (q : ℕ) → p ≤ q → q < p + n → slice_index xs q ≡ 0
+
+abbrev pub IsMarkedWithin : List ℕ → ℕ → ℕ → Type 0
+IsMarkedWithin xs p n = (q : ℕ) × (p ≤ q) × (q < p + n) × (slice_index xs q ≢ 0)
+
+-- How many words are free.
+abbrev pub free_words : List ℕ → ℕ
+free_words [] = 0
+free_words (x ∷ xs) = cond (nat_eq x 0) 1 0 + free_words xs
+
+abbrev pub free : Segments → ℕ
+free [] = 0
+free (xs ∷ M) = free_words xs + free M
+
+-- No word is marked by more than 1.
+abbrev pub AreMarks : Segments → Type 0
+AreMarks M = (u q : ℕ) → word_at M u q ≤ 1
+
+-- From M to N as many words are marked, of as many segments, and none more often than once; and so many more may be.
+pub record KeepsRows (M N : Segments) : Type 0 where
+  pub segments : length N ≡ length M
+  pub words : (u : ℕ) → length (segment N u) ≡ length (segment M u)
+  pub once : AreMarks M → AreMarks N
+
+-- From M to N the n words from a place on are taken, of which none was.
+pub record Takes (M N : Segments) (s p n : ℕ) : Type 0 where
+  pub keeps : KeepsRows M N
+  pub marks : (u q : ℕ) → word_at N u q ≡ word_at M u q + times (row s p n ∷ []) u q
+  pub fewer : free N + n ≡ free M
+
+-- The landing pads of the word x are taken from M to N, if it is a far pointer; or they aren't there, or one of their words is taken already.
+pub record TakesAll (M N : Segments) (is : ℕ → ℕ → ℕ) : Type 0 where
+  pub keeps : KeepsRows M N
+  pub marks : (u q : ℕ) → word_at N u q ≡ word_at M u q + is u q
+  pub fewer : free N ≤ free M
+
+-- One of the words is taken already.
+abbrev pub IsTakenAlready : Segments → (ℕ → ℕ → ℕ) → Type 0
+IsTakenAlready M is = (u : ℕ) × (q : ℕ) × (0 < is u q) × (0 < word_at M u q)
+
+abbrev pub TakesPads : Segments → Segments → ℕ → Bool → Type 0
+TakesPads M N x true = TakesAll M N (times (pads_of x))
+TakesPads M N x false = PadsInside M x → IsTakenAlready M (times (pads_of x))

@@ -1,0 +1,14 @@
+-- The places of pointers one behind the other, and of those of elements one behind the other.
+use Rattle.std.specs.Prelude.{ℕ, zero, suc, ◌+◌, List, [], ◌∷◌, ◌++◌}
+use Rattle.layout_vectors.specs.declared.vectors.pending.Spot.{Spot}
+
+abbrev pub spot : ℕ → ℕ → Spot
+spot s p = record { segment = s; at = p }
+
+abbrev pub spots : ℕ → ℕ → ℕ → List Spot
+spots s p zero = []
+spots s p (suc n) = spot s p ∷ spots s (p + 1) n
+
+abbrev pub element_spots : ℕ → ℕ → ℕ → ℕ → ℕ → List Spot
+element_spots s p d q zero = []
+element_spots s p d q (suc n) = spots s (p + d) q ++ element_spots s (p + d + q) d q n

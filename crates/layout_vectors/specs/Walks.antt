@@ -1,0 +1,55 @@
+-- What a step of the walk over a message does: each word that is reached is marked once.
+use Rattle.std.specs.Prelude.{◌≡◌, ℕ, ◌+◌, ◌^◌, ◌<◌, ◌≤◌, ◌↔◌, List, ◌∷◌, length, slice_index}
+use Rattle.std.specs.Global.{Vec}
+use Rattle.capnp_format.specs.Segments.{Segments, segment, word_at, Target}
+use Rattle.layout_vectors.specs.Counts.{Counts, ObjectCounts, IsOnce, Counting}
+use Rattle.layout_vectors.specs.Marks.{rows_of, free, KeepsRows}
+use Rattle.layout_vectors.specs.declared.vectors.marks.Marks.{Marks}
+use Rattle.layout_vectors.specs.declared.vectors.pending.Spot.{Spot}
+
+-- The words that are marked, and the places that are still to be looked at.
+pub record Walk : Type 0 where
+  pub marks : Segments
+  pub pending : List Spot
+
+abbrev pub walk : Marks → Vec Spot → Walk
+walk m pending = record { marks = rows_of m; pending = pending.items }
+
+-- There is a mark for each word of a message, of fewer than 2^32 segments.
+pub record FitsRows (S M : Segments) : Type 0 where
+  pub few : length S < 2 ^ 32
+  pub small : (u : ℕ) → length (segment S u) < 2 ^ 32
+  pub segments : length M ≡ length S
+  pub words : (u : ℕ) → length (segment M u) ≡ length (segment S u)
+
+abbrev pub FitsMarks : Segments → Marks → Type 0
+FitsMarks S m = FitsRows S (rows_of m)
+
+-- From w to v marks are only set, at least one for each place more.
+pub record Proceeds (w v : Walk) : Type 0 where
+  pub keeps : KeepsRows w.marks v.marks
+  pub fewer : free v.marks + length v.pending ≤ free w.marks + length w.pending
+
+-- From w to v the object where a leads is taken: what is counted with it before is what is counted without it afterwards.
+pub record TakesObject (S : Segments) (a : Target) (w v : Walk) : Type 0 where
+  pub proceeds : Proceeds w v
+  pub same : (F : Counting) → ObjectCounts S a (word_at w.marks) w.pending F ↔ Counts S (word_at v.marks) v.pending F
+
+-- There is no object with which no word would be held twice.
+abbrev pub HasNoObject : Segments → Target → Walk → Type 0
+HasNoObject S a w = (F : Counting) → ObjectCounts S a (word_at w.marks) w.pending F → IsOnce F → ⊥
+
+-- So of what a pointer leads to.
+pub record Goes (S : Segments) (j : Spot) (w v : Walk) : Type 0 where
+  pub proceeds : Proceeds w v
+  pub same : (F : Counting) → Counts S (word_at w.marks) (j ∷ w.pending) F ↔ Counts S (word_at v.marks) v.pending F
+
+abbrev pub Fails : Segments → Spot → Walk → Type 0
+Fails S j w = (F : Counting) → Counts S (word_at w.marks) (j ∷ w.pending) F → IsOnce F → ⊥
+
+-- Each word that isn't marked is zero; of one segment.
+abbrev pub IsZeroWhereFree : Segments → Segments → Type 0
+IsZeroWhereFree S M = (u q : ℕ) → word_at M u q ≡ 0 → word_at S u q ≡ 0
+
+abbrev pub IsZeroBehind : List ℕ → List ℕ → Type 0
+IsZeroBehind ws row = (q : ℕ) → slice_index row q ≡ 0 → slice_index ws q ≡ 0

@@ -1,0 +1,139 @@
+//! Where the pointers of a message lead ("Inter-Segment Pointers").
+ghost use Rattle.std.specs.Prelude.{◌≡◌, ◌<◌, ◌^◌, IsTrue, ◌↔◌, length};
+ghost use Rattle.capnp_format.specs.Bytes.{message};
+ghost use Rattle.capnp_format.specs.Segments.{segment, word_at, leads, near, far};
+ghost use Rattle.capnp_format.specs.Word.{is_double};
+ghost use Rattle.layout_vectors.specs.Landings.{landed};
+
+use capnp_arena::arena::ReaderArena;
+use capnp_words::wire_pointer::{WirePointer, WirePointerKind};
+use capnp_words::words;
+
+/// Where a pointer leads, its landing pads read.
+#[derive(Clone, Copy)]
+pub(crate) struct Landing {
+    /// The word that describes the object: the pointer itself, its landing pad, or the pad's tag.
+    pub(crate) word: WirePointer,
+    /// The segment of the object.
+    pub(crate) segment: u32,
+    /// Where the object starts.
+    pub(crate) start: u32,
+    /// How many words the landing pads have.
+    pub(crate) pads: u32,
+}
+
+/// How many words a segment has, none where there is no such segment.
+pub(crate) fn length_of<A: ReaderArena>(arena: &A, id: u32) -> u32
+    ensures { result ≡ length (segment (message (A.segments arena.now)) id) }
+{
+    match arena.get_segment(id) {
+        Ok(bytes) => (bytes.len() / 8) as u32,
+        Err(_) => 0,
+    }
+}
+
+/// The word at a place, zero where there is none.
+pub(crate) fn word_of<A: ReaderArena>(arena: &A, id: u32, at: u32) -> WirePointer
+    ensures { result.0 ≡ word_at (message (A.segments arena.now)) id at }
+{
+    match arena.get_segment(id) {
+        Ok(bytes) => {
+            let at = at as usize;
+            if at < bytes.len() / 8 {
+                WirePointer(words::word_at(bytes, at))
+            } else {
+                WirePointer::null()
+            }
+        }
+        Err(_) => WirePointer::null(),
+    }
+}
+
+/// Whether there is a segment of this number.
+fn exists<A: ReaderArena>(arena: &A, id: u32) -> bool
+    ensures { IsTrue result ↔ (id < length (message (A.segments arena.now))) }
+{
+    arena.get_segment(id).is_ok()
+}
+
+/// Where the pointer at a place leads, which is not zero.
+pub(crate) fn follow<A: ReaderArena>(arena: &A, id: u32, at: u32) -> Option<Landing>
+    ensures { landed result ≡ leads (message (A.segments arena.now)) id at }
+{
+    let word = word_of(arena, id, at);
+    if word.kind() == WirePointerKind::Far {
+        follow_far(arena, word)
+    } else {
+        follow_near(arena, id, at, word, 0)
+    }
+}
+
+/// Where a word leads that is not a far pointer and stands at a place.
+fn follow_near<A: ReaderArena>(
+    arena: &A,
+    id: u32,
+    at: u32,
+    word: WirePointer,
+    pads: u32,
+) -> Option<Landing>
+    ensures { landed result ≡ near (message (A.segments arena.now)) id at word.0 pads }
+{
+    match word.target(at, length_of(arena, id)) {
+        Some(start) => Some(Landing {
+            word,
+            segment: id,
+            start,
+            pads,
+        }),
+        None => None,
+    }
+}
+
+/// Where a far pointer leads.
+fn follow_far<A: ReaderArena>(arena: &A, word: WirePointer) -> Option<Landing>
+    ensures { landed result ≡ far (message (A.segments arena.now)) word.0 (is_double word.0) }
+{
+    if word.is_double_far() {
+        follow_double(arena, word)
+    } else {
+        follow_single(arena, word)
+    }
+}
+
+/// Where a far pointer of one landing pad leads.
+fn follow_single<A: ReaderArena>(arena: &A, word: WirePointer) -> Option<Landing>
+    ensures { landed result ≡ far (message (A.segments arena.now)) word.0 0 }
+{
+    let id = word.far_segment_id();
+    let at = word.far_position_in_segment();
+    if at >= length_of(arena, id) {
+        return None;
+    }
+    let pad = word_of(arena, id, at);
+    if pad.kind() == WirePointerKind::Far {
+        return None;
+    }
+    follow_near(arena, id, at, pad, 1)
+}
+
+/// Where a far pointer of two landing pads leads.
+fn follow_double<A: ReaderArena>(arena: &A, word: WirePointer) -> Option<Landing>
+    ensures { landed result ≡ far (message (A.segments arena.now)) word.0 1 }
+{
+    let id = word.far_segment_id();
+    let at = word.far_position_in_segment();
+    if at + 1 >= length_of(arena, id) {
+        return None;
+    }
+    let pad = word_of(arena, id, at);
+    let tag = word_of(arena, id, at + 1);
+    if tag.kind() == WirePointerKind::Far || !exists(arena, pad.far_segment_id()) {
+        return None;
+    }
+    Some(Landing {
+        word: tag,
+        segment: pad.far_segment_id(),
+        start: pad.far_position_in_segment(),
+        pads: 2,
+    })
+}

@@ -1,0 +1,105 @@
+//! Which words of a message are taken.
+ghost use Rattle.std.specs.Prelude.{◌≡◌, ◌≢◌, ℕ, ◌+◌, ◌<◌, ◌≤◌, List, IsTrue, IfOk, IfErr, Bool, false, length, map, replicate, slice_index, slice_get, vec_items};
+ghost use borrow.Rule.Slice.PartMut.{put_mid};
+ghost use Rattle.capnp_format.specs.Segments.{segment, word_at};
+ghost use Rattle.capnp_arena.specs.declared.arena.reader_segments.ReaderSegments.{Ghosts};
+ghost use Rattle.capnp_words.specs.declared.error.ErrorKind.TheVariants.{AllocationFailed};
+ghost use Rattle.layout_vectors.specs.Marks.{rows_of, blank_rows, Takes, IsMarkedWithin, AreFreeWithin};
+
+use capnp_words::error::ErrorKind;
+use std::alloc::Global;
+
+/// A byte for each word of a message: 1 where the word is taken, else 0.
+#[derive(Drop)]
+pub(crate) struct Marks {
+    pub(crate) rows: Vec<Vec<u8>>,
+}
+
+/// Whether none of `n` words from a position on is taken.
+fn are_free(row: &[u8], start: usize, n: usize) -> bool
+    requires { start + n ≤ length row.now }
+    ensures free { IsTrue result → AreFreeWithin row.now start n }
+    ensures taken { result ≡ false → IsMarkedWithin row.now start n }
+{
+    for i in start..start + n {
+        if row[i] != 0 {
+            return false;
+        }
+    }
+    true
+}
+
+/// Takes `n` words from a position on.
+fn fill(row: &mut [u8], start: usize, n: usize)
+    requires { start + n ≤ length row.old }
+    ensures { row.new ≡ put_mid start n row.old (replicate n 1) }
+{
+    row[start..start + n].fill(1);
+}
+
+/// The row of a segment without any word taken.
+fn blank_row(alloc: Global, words: usize) -> Result<Vec<u8>, ErrorKind>
+    ensures free { IfOk result (λ r. r.items ≡ replicate words 0) }
+    ensures named { IfErr result (λ e. e ≡ AllocationFailed) }
+{
+    match Vec::from_elem(alloc, 0u8, words) {
+        Ok(row) => Ok(row),
+        Err(_) => Err(ErrorKind::AllocationFailed),
+    }
+}
+
+impl Marks {
+    /// No word of these segments is taken.
+    pub(crate) fn new(alloc: Global, segments: &[&[u8]]) -> Result<Self, ErrorKind>
+        ensures blank { IfOk result (λ m. rows_of m ≡ blank_rows segments.now) }
+        ensures named { IfErr result (λ e. e ≡ AllocationFailed) }
+    {
+        let mut rows = Vec::new(alloc);
+        for segment in segments {
+            let row = blank_row(alloc, segment.len() / 8)?;
+            if rows.push(row).is_err() {
+                return Err(ErrorKind::AllocationFailed);
+            }
+        }
+        Ok(Marks { rows })
+    }
+
+    /// How many words a segment has.
+    fn length_of(&self, id: u32) -> usize
+        ensures { result ≡ length (segment (rows_of self.now) id) }
+    {
+        match self.rows.get(id as usize) {
+            Some(row) => row.len(),
+            None => 0,
+        }
+    }
+
+    /// Takes `n` words of a segment from a position on, if they are there and none of them is taken.
+    pub(crate) fn take(&mut self, id: u32, start: u32, n: u32) -> bool
+        ensures inside { IsTrue result → start + n ≤ length (segment (rows_of self.old) id) }
+        ensures taken { IsTrue result → Takes (rows_of self.old) (rows_of self.new) id start n }
+        ensures refused { result ≡ false → start + n ≤ length (segment (rows_of self.old) id) → IsMarkedWithin (segment (rows_of self.old) id) start n }
+    {
+        if start as usize + n as usize > self.length_of(id) {
+            return false;
+        }
+        if n == 0 {
+            return true;
+        }
+        self.take_some(id, start as usize, n as usize)
+    }
+
+    fn take_some(&mut self, id: u32, start: usize, n: usize) -> bool
+        requires some { 0 < n }
+        requires inside { start + n ≤ length (segment (rows_of self.old) id) }
+        ensures taken { IsTrue result → Takes (rows_of self.old) (rows_of self.new) id start n }
+        ensures refused { result ≡ false → IsMarkedWithin (segment (rows_of self.old) id) start n }
+    {
+        let row = &mut self.rows[id as usize];
+        if !are_free(row.as_slice(), start, n) {
+            return false;
+        }
+        fill(row.as_mut_slice(), start, n);
+        true
+    }
+}

@@ -1,0 +1,193 @@
+//! The object that a pointer leads to, taken word by word.
+ghost use Rattle.std.specs.Prelude.{◌≡◌, ℕ, ◌+◌, ◌<◌, ◌≤◌, ◌^◌, ◌∷◌, [], ◌↔◌, IsTrue, IfOk, IfErr, false, length, slice_index};
+ghost use Rattle.capnp_format.specs.Bytes.{words_of, message};
+ghost use Rattle.capnp_format.specs.Numbers.{words_for};
+ghost use Rattle.capnp_format.specs.Segments.{segment};
+ghost use Rattle.layout_vectors.specs.Padding.{HasSmallWords};
+ghost use Rattle.capnp_format.specs.Word.{kind, element_size, list_count};
+ghost use Rattle.capnp_pointers.specs.Sizes.{size_number};
+ghost use Rattle.layout_vectors.specs.Padding.{IsPadded};
+ghost use Rattle.capnp_words.specs.declared.error.ErrorKind.TheVariants.{AllocationFailed};
+ghost use Rattle.layout_vectors.specs.Landings.{target_of};
+ghost use Rattle.layout_vectors.specs.Walks.{walk, Goes, Fails, TakesObject, HasNoObject, FitsMarks};
+
+use crate::vectors::landing::{Landing, word_of};
+use crate::vectors::marks::Marks;
+use crate::vectors::pending::{Spot, put_elements, put_pointers};
+use capnp_arena::arena::ReaderArena;
+use capnp_words::error::ErrorKind;
+use capnp_words::wire_pointer::{ElementSize, WirePointerKind, data_bits_per_element};
+use capnp_words::words::word_at;
+
+/// Takes the words of the object that a pointer leads to, and puts the places of its pointers
+/// behind the others. False where there is no such object, or one of its words is taken already,
+/// or it has padding that is not zero, or claims more than its elements.
+pub(crate) fn take_object<A: ReaderArena>(
+    arena: &A,
+    marks: &mut Marks,
+    pending: &mut Vec<Spot>,
+    landing: Landing,
+) -> Result<bool, ErrorKind>
+    requires { FitsMarks (message (A.segments arena.now)) marks.old }
+    ensures goes { IfOk result (λ b. IsTrue b → TakesObject (message (A.segments arena.now)) (target_of landing) (walk marks.old pending.old) (walk marks.new pending.new)) }
+    ensures fails { IfOk result (λ b. b ≡ false → HasNoObject (message (A.segments arena.now)) (target_of landing) (walk marks.old pending.old)) }
+    ensures named { IfErr result (λ e. e ≡ AllocationFailed) }
+{
+    match landing.word.kind() {
+        WirePointerKind::Struct => take_struct(arena, marks, pending, landing),
+        WirePointerKind::List => match landing.word.list_element_size() {
+            ElementSize::InlineComposite => take_structs(arena, marks, pending, landing),
+            ElementSize::Pointer => take_pointers(arena, marks, pending, landing),
+            size => Ok(take_flat(arena, marks, pending, landing, size)),
+        },
+        WirePointerKind::Far => Ok(false),
+        WirePointerKind::Other => Ok(landing.word.is_capability()),
+    }
+}
+
+/// Takes a struct.
+fn take_struct<A: ReaderArena>(
+    arena: &A,
+    marks: &mut Marks,
+    pending: &mut Vec<Spot>,
+    landing: Landing,
+) -> Result<bool, ErrorKind>
+    requires fits { FitsMarks (message (A.segments arena.now)) marks.old }
+    requires is_struct { kind landing.word.0 ≡ 0 }
+    ensures goes { IfOk result (λ b. IsTrue b → TakesObject (message (A.segments arena.now)) (target_of landing) (walk marks.old pending.old) (walk marks.new pending.new)) }
+    ensures fails { IfOk result (λ b. b ≡ false → HasNoObject (message (A.segments arena.now)) (target_of landing) (walk marks.old pending.old)) }
+    ensures named { IfErr result (λ e. e ≡ AllocationFailed) }
+{
+    let size = landing.word.struct_size();
+    if !marks.take(landing.segment, landing.start, size.total()) {
+        return Ok(false);
+    }
+    let start = landing.start + u32::from(size.data_words);
+    put_pointers(pending, landing.segment, start, u32::from(size.pointers))?;
+    Ok(true)
+}
+
+/// Takes a list of pointers.
+fn take_pointers<A: ReaderArena>(
+    arena: &A,
+    marks: &mut Marks,
+    pending: &mut Vec<Spot>,
+    landing: Landing,
+) -> Result<bool, ErrorKind>
+    requires fits { FitsMarks (message (A.segments arena.now)) marks.old }
+    requires is_list { kind landing.word.0 ≡ 1 }
+    requires of_pointers { element_size landing.word.0 ≡ 6 }
+    ensures goes { IfOk result (λ b. IsTrue b → TakesObject (message (A.segments arena.now)) (target_of landing) (walk marks.old pending.old) (walk marks.new pending.new)) }
+    ensures fails { IfOk result (λ b. b ≡ false → HasNoObject (message (A.segments arena.now)) (target_of landing) (walk marks.old pending.old)) }
+    ensures named { IfErr result (λ e. e ≡ AllocationFailed) }
+{
+    let count = landing.word.list_element_count();
+    if !marks.take(landing.segment, landing.start, count) {
+        return Ok(false);
+    }
+    put_pointers(pending, landing.segment, landing.start, count)?;
+    Ok(true)
+}
+
+/// Takes a list of numbers.
+fn take_flat<A: ReaderArena>(
+    arena: &A,
+    marks: &mut Marks,
+    pending: &mut Vec<Spot>,
+    landing: Landing,
+    size: ElementSize,
+) -> bool
+    requires fits { FitsMarks (message (A.segments arena.now)) marks.old }
+    requires is_list { kind landing.word.0 ≡ 1 }
+    requires is_size { size_number size ≡ element_size landing.word.0 }
+    requires is_flat { size_number size ≤ 5 }
+    ensures goes { IsTrue result → TakesObject (message (A.segments arena.now)) (target_of landing) (walk marks.old pending.old) (walk marks.new pending.new) }
+    ensures fails { result ≡ false → HasNoObject (message (A.segments arena.now)) (target_of landing) (walk marks.old pending.old) }
+    ensures kept { pending.new ≡ pending.old }
+{
+    let count = landing.word.list_element_count();
+    let words = flat_words(size, count);
+    marks.take(landing.segment, landing.start, words) && has_padding(arena, landing, size, count)
+}
+
+/// How many words so many elements take.
+fn flat_words(size: ElementSize, count: u32) -> u32
+    requires { count < 2 ^ 29 }
+    ensures { result ≡ words_for (size_number size) count }
+{
+    ((u64::from(count) * u64::from(data_bits_per_element(size)) + 63) / 64) as u32
+}
+
+/// Whether the bits behind the elements of a list are zero, whose words lie in their segment.
+fn has_padding<A: ReaderArena>(arena: &A, landing: Landing, size: ElementSize, count: u32) -> bool
+    requires inside { landing.start + words_for (size_number size) count ≤ length (segment (message (A.segments arena.now)) landing.segment) }
+    requires is_flat { size_number size ≤ 5 }
+    requires few { count < 2 ^ 29 }
+    ensures exactly { IsTrue result ↔ IsPadded (message (A.segments arena.now)) landing.segment landing.start (size_number size) count }
+    ensures small { HasSmallWords (message (A.segments arena.now)) landing.segment }
+{
+    match arena.get_segment(landing.segment) {
+        Ok(bytes) => {
+            let _words = whole_words(bytes);
+            is_padded(bytes, landing.start, size, count)
+        }
+        Err(_) => true,
+    }
+}
+
+/// How many whole words bytes have, each of which is one of 64 bits.
+fn whole_words(bytes: &[u8]) -> usize
+    ensures count { result ≡ length (words_of bytes.now) }
+    ensures small { (i : ℕ) → slice_index (words_of bytes.now) i < 2 ^ 64 }
+{
+    bytes.len() / 8
+}
+
+/// The same, in the bytes of the segment.
+fn is_padded(bytes: &[u8], start: u32, size: ElementSize, count: u32) -> bool
+    requires inside { start + words_for (size_number size) count ≤ length (words_of bytes.now) }
+    requires small { length (words_of bytes.now) < 2 ^ 32 }
+    requires is_flat { size_number size ≤ 5 }
+    requires few { count < 2 ^ 29 }
+    ensures { IsTrue result ↔ IsPadded (words_of bytes.now ∷ []) 0 start (size_number size) count }
+{
+    let bits = u64::from(count) * u64::from(data_bits_per_element(size));
+    let end = start + (bits / 64) as u32;
+    let rest = bits % 64;
+    if rest == 0 {
+        return true;
+    }
+    if word_at(bytes, end as usize) >> rest == 0 {
+        return true;
+    }
+    false
+}
+
+/// Takes a list of structs.
+fn take_structs<A: ReaderArena>(
+    arena: &A,
+    marks: &mut Marks,
+    pending: &mut Vec<Spot>,
+    landing: Landing,
+) -> Result<bool, ErrorKind>
+    requires fits { FitsMarks (message (A.segments arena.now)) marks.old }
+    requires is_list { kind landing.word.0 ≡ 1 }
+    requires of_structs { element_size landing.word.0 ≡ 7 }
+    ensures goes { IfOk result (λ b. IsTrue b → TakesObject (message (A.segments arena.now)) (target_of landing) (walk marks.old pending.old) (walk marks.new pending.new)) }
+    ensures fails { IfOk result (λ b. b ≡ false → HasNoObject (message (A.segments arena.now)) (target_of landing) (walk marks.old pending.old)) }
+    ensures named { IfErr result (λ e. e ≡ AllocationFailed) }
+{
+    let words = landing.word.list_inline_composite_word_count();
+    if !marks.take(landing.segment, landing.start, words + 1) {
+        return Ok(false);
+    }
+    let tag = word_of(arena, landing.segment, landing.start);
+    let size = tag.struct_size();
+    let count = tag.inline_composite_list_element_count();
+    let taken = u64::from(count) * u64::from(size.total());
+    if tag.kind() != WirePointerKind::Struct || taken != u64::from(words) {
+        return Ok(false);
+    }
+    put_elements(pending, landing.segment, landing.start + 1, size, count)?;
+    Ok(true)
+}

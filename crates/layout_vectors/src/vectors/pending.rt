@@ -1,0 +1,74 @@
+//! The places whose pointers are still to be looked at.
+ghost use Rattle.std.specs.Prelude.{◌≡◌, ◌+◌, ◌*◌, ◌^◌, ◌<◌, ◌≤◌, ◌++◌, OnOk, IfErr};
+ghost use Rattle.capnp_words.specs.declared.error.ErrorKind.TheVariants.{AllocationFailed};
+ghost use Rattle.layout_vectors.specs.Spots.{spots, element_spots};
+
+use capnp_words::error::ErrorKind;
+use capnp_words::wire_pointer::StructSize;
+
+/// The place of a pointer.
+#[derive(Clone, Copy)]
+pub(crate) struct Spot {
+    pub(crate) segment: u32,
+    pub(crate) at: u32,
+}
+
+/// Puts a place behind the others.
+pub(crate) fn put(pending: &mut Vec<Spot>, segment: u32, at: u32) -> Result<(), ErrorKind>
+    ensures pushed { OnOk result (pending.new.items ≡ pending.old.items ++ spots segment at 1) }
+    ensures named { IfErr result (λ e. e ≡ AllocationFailed) }
+{
+    match pending.push(Spot { segment, at }) {
+        Ok(()) => Ok(()),
+        Err(_) => Err(ErrorKind::AllocationFailed),
+    }
+}
+
+/// Puts the places of pointers one behind the other behind the others.
+#[tactic(auto, using(crate::proofs::SpotsMore::spots_more))]
+pub(crate) fn put_pointers(
+    pending: &mut Vec<Spot>,
+    segment: u32,
+    start: u32,
+    count: u32,
+) -> Result<(), ErrorKind>
+    requires { start + count < 2 ^ 32 }
+    ensures pushed { OnOk result (pending.new.items ≡ pending.old.items ++ spots segment start count) }
+    ensures named { IfErr result (λ e. e ≡ AllocationFailed) }
+{
+    for i in 0..count {
+        match put(pending, segment, start + i) {
+            Ok(()) => {}
+            Err(k) => return Err(k),
+        }
+    }
+    Ok(())
+}
+
+/// Puts the places of the pointers of elements one behind the other behind the others.
+#[tactic(auto, using(crate::proofs::SpotsMore::element_spots_more, crate::proofs::SpotsMore::element_spots_none))]
+pub(crate) fn put_elements(
+    pending: &mut Vec<Spot>,
+    segment: u32,
+    start: u32,
+    size: StructSize,
+    count: u32,
+) -> Result<(), ErrorKind>
+    requires { start + count * (size.data_words + size.pointers) < 2 ^ 32 }
+    ensures pushed { OnOk result (pending.new.items ≡ pending.old.items ++ element_spots segment start size.data_words size.pointers count) }
+    ensures named { IfErr result (λ e. e ≡ AllocationFailed) }
+{
+    if size.pointers == 0 {
+        return Ok(());
+    }
+    let mut at = start;
+    for _i in 0..count {
+        at += u32::from(size.data_words);
+        match put_pointers(pending, segment, at, u32::from(size.pointers)) {
+            Ok(()) => {}
+            Err(k) => return Err(k),
+        }
+        at += u32::from(size.pointers);
+    }
+    Ok(())
+}

@@ -1,0 +1,139 @@
+//! The audit: a walk over a message from its root, with each word that is reached marked.
+ghost use Rattle.std.specs.Prelude.{◌≡◌, ℕ, ◌+◌, ◌<◌, ◌↔◌, ◌∷◌, [], IsTrue, IfOk, IfErr, false, length, map};
+ghost use Rattle.capnp_arena.specs.Limits.{AreSmall};
+ghost use Rattle.capnp_format.specs.Bytes.{words_of, message};
+ghost use Rattle.capnp_format.specs.Forest.{IsForest};
+ghost use Rattle.capnp_format.specs.Segments.{IsPlace, segment, word_at};
+ghost use Rattle.capnp_format.specs.Tree.{Tree};
+ghost use Rattle.capnp_words.specs.declared.error.ErrorKind.TheVariants.{AllocationFailed};
+ghost use Rattle.layout_vectors.specs.Marks.{rows_of, TakesPads};
+ghost use Rattle.layout_vectors.specs.Walks.{walk, Goes, Fails, FitsMarks, IsZeroWhereFree, IsZeroBehind};
+
+use crate::vectors::landing::{follow, word_of};
+use crate::vectors::marks::Marks;
+use crate::vectors::objects::take_object;
+use crate::vectors::pending::{Spot, put};
+use capnp_arena::arena::{ReaderArena, ReaderArenaImpl, ReaderOptions, SegmentArray};
+use capnp_words::error::ErrorKind;
+use capnp_words::wire_pointer::{WirePointer, WirePointerKind};
+use capnp_words::words;
+use std::alloc::Global;
+
+/// Whether segments are those of a message that a builder made: the root pointer means a value; no
+/// word is used twice, whether by an object or by a landing pad, and none outside of its segment;
+/// the bits behind the elements of lists are zero; lists of structs claim exactly their elements;
+/// and every other word is zero.
+///
+/// There are fewer than 2^32 segments, each of fewer than 2^32 words, and segment 0 has a word.
+/// `AllocationFailed` is want of memory, of which it takes a byte for each word, and eight for each
+/// pointer that is still to be looked at. It looks at each word at most twice, and takes no more of
+/// the machine's stack the deeper the message is.
+pub fn audit(alloc: Global, segments: &[&[u8]]) -> Result<bool, ErrorKind>
+    requires small { AreSmall segments.now }
+    requires root { IsPlace (message (map (λ s. s.now) segments.now)) 0 0 }
+    ensures exactly { IfOk result (λ b. IsTrue b ↔ ((t : Tree) × IsForest (message (map (λ s. s.now) segments.now)) t)) }
+    ensures named { IfErr result (λ e. e ≡ AllocationFailed) }
+{
+    let marks = Marks::new(alloc, segments)?;
+    match SegmentArray::new(segments) {
+        Some(array) => {
+            let arena = ReaderArenaImpl::new(array, ReaderOptions::default());
+            walk_from_root(alloc, &arena, marks)
+        }
+        None => Ok(false),
+    }
+}
+
+/// The same of a message, with marks of which none is set yet.
+fn walk_from_root<A: ReaderArena>(
+    alloc: Global,
+    arena: &A,
+    mut marks: Marks,
+) -> Result<bool, ErrorKind>
+    requires fits { FitsMarks (message (A.segments arena.now)) marks }
+    requires blank { (u q : ℕ) → word_at (rows_of marks) u q ≡ 0 }
+    ensures exactly { IfOk result (λ b. IsTrue b ↔ ((t : Tree) × IsForest (message (A.segments arena.now)) t)) }
+    ensures named { IfErr result (λ e. e ≡ AllocationFailed) }
+{
+    let mut pending = Vec::new(alloc);
+    if !marks.take(0, 0, 1) {
+        return Ok(false);
+    }
+    put(&mut pending, 0, 0)?;
+    while let Some(spot) = pending.pop() {
+        if !walk_pointer(arena, &mut marks, &mut pending, spot)? {
+            return Ok(false);
+        }
+    }
+    Ok(rest_is_zero(arena, &marks))
+}
+
+/// Takes what the pointer at a place leads to, with its landing pads. False as of `take_object`.
+fn walk_pointer<A: ReaderArena>(
+    arena: &A,
+    marks: &mut Marks,
+    pending: &mut Vec<Spot>,
+    spot: Spot,
+) -> Result<bool, ErrorKind>
+    requires { FitsMarks (message (A.segments arena.now)) marks.old }
+    ensures goes { IfOk result (λ b. IsTrue b → Goes (message (A.segments arena.now)) spot (walk marks.old pending.old) (walk marks.new pending.new)) }
+    ensures fails { IfOk result (λ b. b ≡ false → Fails (message (A.segments arena.now)) spot (walk marks.old pending.old)) }
+    ensures named { IfErr result (λ e. e ≡ AllocationFailed) }
+{
+    let word = word_of(arena, spot.segment, spot.at);
+    if word.is_null() {
+        return Ok(true);
+    }
+    match follow(arena, spot.segment, spot.at) {
+        Some(landing) => {
+            if take_pads(marks, word) {
+                take_object(arena, marks, pending, landing)
+            } else {
+                Ok(false)
+            }
+        }
+        None => Ok(false),
+    }
+}
+
+/// Takes the landing pads of a word, if it is a far pointer.
+fn take_pads(marks: &mut Marks, word: WirePointer) -> bool
+    ensures { TakesPads (rows_of marks.old) (rows_of marks.new) word.0 result }
+{
+    if word.kind() == WirePointerKind::Far {
+        let words = if word.is_double_far() { 2 } else { 1 };
+        marks.take(word.far_segment_id(), word.far_position_in_segment(), words)
+    } else {
+        true
+    }
+}
+
+/// Whether each word that isn't taken is zero.
+fn rest_is_zero<A: ReaderArena>(arena: &A, marks: &Marks) -> bool
+    requires { FitsMarks (message (A.segments arena.now)) marks.now }
+    ensures { IsTrue result ↔ IsZeroWhereFree (message (A.segments arena.now)) (rows_of marks.now) }
+{
+    for (id, row) in marks.rows.iter().enumerate() {
+        let is_zero = match arena.get_segment(id as u32) {
+            Ok(bytes) => is_zero_behind(bytes, row.as_slice()),
+            Err(_) => true,
+        };
+        if !is_zero {
+            return false;
+        }
+    }
+    true
+}
+
+/// The same of one segment.
+fn is_zero_behind(bytes: &[u8], row: &[u8]) -> bool
+    requires { length row.now ≡ length (words_of bytes.now) }
+    ensures { IsTrue result ↔ IsZeroBehind (words_of bytes.now) row.now }
+{
+    for (i, taken) in row.iter().enumerate() {
+        if *taken == 0 && words::word_at(bytes, i) != 0 {
+            return false;
+        }
+    }
+    true
+}
