@@ -1,5 +1,4 @@
 pub mod Arguments
-pub mod Writing
 pub mod Lines
 pub mod Messages
 pub mod Answers

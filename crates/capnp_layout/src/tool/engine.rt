@@ -8,7 +8,7 @@ ghost use Rattle.capnp_arena.specs.Limits.{IsSmall};
 ghost use Rattle.capnp_words.specs.declared.error.ErrorKind.{ErrorKind};
 ghost use Rattle.capnp_words.specs.declared.error.ErrorKind.TheVariants.{AllocationFailed};
 ghost use Rattle.capnp_layout.specs.Answers.{Answers, AnswersRefusal, AnswersWords, IsDone, IsDoneOr, IsRefused, LacksMemoryOr, RefusesMessage, ValueOf, WhereAnswered, WantsMemory, canonical_line, digits_of, refusal_line};
-ghost use Rattle.capnp_layout.specs.Writing.{Prints};
+ghost use Rattle.capnp_framing.specs.Writing.{Prints};
 ghost use Rattle.capnp_layout.specs.Runs.{IsNoMessage, WhereItIsAnswered, WritesAnswer, WritesCountedRefusal, WritesRefusal};
 ghost use Rattle.capnp_format.specs.Bytes.{message, words_of};
 

@@ -3,7 +3,7 @@ ghost use Rattle.std.specs.Prelude.{◌≡◌, ◌+◌, ◌++◌, ◌∷◌, [],
 ghost use Rattle.capnp_format.specs.Bytes.{words_of};
 ghost use Rattle.std.specs.Fmt.{decimal};
 ghost use Rattle.capnp_layout.specs.Answers.{check_line, word_digits, digits_of, refusal_line, size_line};
-ghost use Rattle.capnp_layout.specs.Writing.{Prints};
+ghost use Rattle.capnp_framing.specs.Writing.{Prints};
 
 use crate::devices::{DeviceFault, Output, write_all};
 use capnp_readers::readers::MessageSize;

@@ -3,7 +3,8 @@ use Rattle.std.proofs.lemmas.Result.{on_ok_weaker}
 use Rattle.capnp_format.specs.Bytes.{words_of}
 use Rattle.capnp_format.proofs.WordsOf.{words}
 use Rattle.capnp_layout.specs.Answers.{word_digits, digits_of}
-use Rattle.capnp_layout.proofs.WritingLemmas.{left_over_less, left_over_none, digits-drop, digits-end}
+use Rattle.capnp_framing.proofs.WritingLemmas.{left_over_less, left_over_none}
+use Rattle.capnp_layout.proofs.WritingLemmas.{digits-drop, digits-end}
 use Rattle.capnp_layout.proofs.tool.writing.write_words.Goals as goal
 
 pub loop-at-preserved : goal.loop-at-preserved
