@@ -4,4 +4,5 @@ pub mod MessageLemmas
 pub mod RowLemmas
 pub mod RowsLemmas
 pub mod TakingLemmas
+pub mod WordsOver
 mod Small

@@ -3,8 +3,8 @@
 use Rattle.std.proofs.Common.{ℕ, zero, suc, ◌+◌, ◌*◌, ◌/◌, ◌^◌, ◌<◌, ◌≤◌, Bool, true, false, cond, nat_eq, nat_lt, Option, None, List, [], ◌∷◌, length, get_or, take, drop, Some, IfSome, sym, subst, arith, mod-lt, pow_pos, get_or-drop}
 use Rattle.capnp_format.specs.Word.{kind, is_double, far_position, upper_half, offset_bits}
 use Rattle.capnp_format.specs.Numbers.{digits, element_bits}
-pub use Rattle.capnp_format.specs.Segments.{AreWords}
-use Rattle.capnp_format.specs.Segments.{Segments, segment, word_at, words_at, Target, leads, near, far, given, offset_leads}
+pub use Rattle.capnp_format.specs.Segments.{AreWords, HasSmallWords}
+use Rattle.capnp_format.specs.Segments.{Segments, segment, word_at, words_at, HasWords, Target, leads, near, far, given, offset_leads}
 use Rattle.capnp_format.specs.Tree.{Tree, Null, Capability, Struct, Flat, Pointers, Structs, Trees, no_trees, tree, Elements, no_elements, element, element_count}
 use Rattle.capnp_format.specs.Means.{Means}
 use Rattle.capnp_format.specs.Canonical.{word_count, word_count_all, word_count_elements}
@@ -76,12 +76,12 @@ pub below_each : (limit : ℕ) (xs : List ℕ) → ((i : ℕ) → get_or xs i 0 
 below_each limit [] h = tt
 below_each limit (x ∷ xs) h = (h 0, below_each limit xs (λ i. h (suc i)))
 
--- Each word of a segment is one of 64 bits.
-abbrev pub HasSmallWords : Segments → ℕ → Type 0
-HasSmallWords S s = (p : ℕ) → word_at S s p < 2 ^ 64
-
 pub words_below : (S : Segments) (s p n : ℕ) → HasSmallWords S s → AreBelow (2 ^ 64) (words_at S s p n)
 words_below S s p n w = below_take (2 ^ 64) n (drop p (segment S s)) (below_each (2 ^ 64) (drop p (segment S s)) (λ i. rw (get_or-drop p (segment S s) i 0) (w (p + i))))
+
+-- So are words that stand in it.
+pub words_small : (S : Segments) (s p : ℕ) (ws : List ℕ) → HasSmallWords S s → HasWords S s p ws → AreBelow (2 ^ 64) ws
+words_small S s p ws w e = rw e at (words_below S s p (length ws) w)
 
 pub digits_below : (base n x : ℕ) → 0 < base → AreBelow base (digits base n x)
 digits_below base zero x h = tt

@@ -8,7 +8,7 @@ use Rattle.capnp_format.specs.Segments.{Segments, segment, word_at, words_at, Ha
 use Rattle.capnp_format.specs.Tree.{Tree, Null, Capability, Struct, Flat, Pointers, Structs, Trees, no_trees, tree, Elements, no_elements, element, count, element_count}
 use Rattle.capnp_format.specs.Means.{Leads, StructAt, ListAt, IsTag, Means, MeansAll, MeansElements}
 pub use Rattle.capnp_format.specs.Forest.{Agree}
-use Rattle.capnp_format.specs.Forest.{Interval, holds, times, pads_of, object_of, target, target_in, cover, cover_all, cover_elements}
+use Rattle.capnp_format.specs.Forest.{Interval, holds, row, times, pads_of, object_of, target, target_in, cover, cover_all, cover_elements}
 use Rattle.capnp_format.specs.Laws.{OthersMayChange}
 use Rattle.capnp_format.proofs.Meant.{Meant, AllMeant, ElementsMeant}
 use Rattle.capnp_format.proofs.Following.{leads_kept}
@@ -16,6 +16,13 @@ use Rattle.capnp_format.proofs.Following.{leads_kept}
 pub times-append : (is js : List Interval) (u q : ℕ) → times (is ++ js) u q ≡ times is u q + times js u q
 times-append [] js u q = omega arith
 times-append (i ∷ is) js u q = omega (arith, times-append is js u q)
+
+-- Whether a row holds a word.
+pub in_row : (s p n v r : ℕ) → 0 < times (row s p n ∷ []) v r → (v ≡ s) × (p ≤ r) × (r < p + n)
+in_row s p n v r l = (grind (arith, nat_tests), grind (arith, nat_tests), grind (arith, nat_tests))
+
+pub of_row : (s p n r : ℕ) → p ≤ r → r < p + n → times (row s p n ∷ []) s r ≡ 1
+of_row s p n r l m = grind (arith, nat_tests)
 
 pub agree_left : (S R : Segments) (is js : List Interval) → Agree S R (is ++ js) → Agree S R is
 agree_left S R is js h u q l = h u q (omega (arith, times-append is js u q))

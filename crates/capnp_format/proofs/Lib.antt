@@ -9,6 +9,7 @@ pub mod ExampleLemmas
 pub mod Fields
 pub mod Following
 pub mod Frame
+pub mod LandingPads
 pub mod LawLemmas
 pub mod Lengths
 pub mod Levels
@@ -17,6 +18,7 @@ pub mod ManyEmpty
 pub mod Meanings
 pub mod Meant
 pub mod Nulls
+pub mod Padding
 pub mod Reading
 pub mod Slices
 pub mod Sound
@@ -25,3 +27,4 @@ pub mod Trimming
 pub mod Unique
 pub mod UsedUp
 pub mod WordsOf
+pub mod ZeroWords

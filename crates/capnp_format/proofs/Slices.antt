@@ -1,11 +1,15 @@
 -- Words one behind the other in a segment.
 -- `moved` takes its arguments one by one: another crate cites it so.
-use Rattle.std.proofs.Common.{◌≡◌, ℕ, suc, ◌+◌, ◌≤◌, List, [], ◌∷◌, ◌++◌, length, get_or, take, drop, refl, sym, ap, ◌∙◌, subst, arith, length-append, length-take, length-drop, take-take, take_at, drop_at, drop-drop, get_or-take, get_or-drop}
+use Rattle.std.proofs.Common.{◌≡◌, ℕ, zero, suc, ◌+◌, ◌<◌, ◌≤◌, List, [], ◌∷◌, ◌++◌, length, get_or, take, drop, refl, sym, ap, ◌∙◌, subst, arith, length-append, length-take, length-drop, take-take, take_at, drop_at, drop-drop, get_or-take, get_or-drop}
 use Rattle.std.proofs.lemmas.List.{drop-take}
 use Rattle.capnp_format.specs.Segments.{Segments, segment, word_at, words_at, HasWords}
 
 pub length_words : (S : Segments) (s p n : ℕ) → p + n ≤ length (segment S s) → length (words_at S s p n) ≡ n
 length_words S s p n h = omega (arith, length-take n (drop p (segment S s)), length-drop p (segment S s))
+
+-- The words of a segment stand where they are.
+pub has_words_at : (S : Segments) (s h n : ℕ) → h + n ≤ length (segment S s) → HasWords S s h (words_at S s h n)
+has_words_at S s h n l = ap (λ m. words_at S s h m) (length_words S s h n l)
 
 pub has_words_first : (S : Segments) (s h : ℕ) (xs ys : List ℕ) → HasWords S s h (xs ++ ys) → HasWords S s h xs
 has_words_first S s h xs ys e =
@@ -32,3 +36,9 @@ has_words_within S s h xs e l = omega (arith, length-take (length xs) (drop h (s
 
 pub moved : (S : Segments) (s h i : ℕ) (ws : List ℕ) → h ≡ i → HasWords S s h ws → HasWords S s i ws
 moved S s h i ws e b = subst (λ j. HasWords S s j ws) e b
+
+-- A segment that has a word is there.
+pub there : (S : Segments) (s p : ℕ) → p < length (segment S s) → s < length S
+there [] s p l = absurd (omega arith)
+there (xs ∷ S) zero p l = omega arith
+there (xs ∷ S) (suc s) p l = omega (arith, there S s p l)

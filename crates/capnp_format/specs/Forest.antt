@@ -13,6 +13,10 @@ pub record Interval : Type 0 where
   pub start : ℕ
   pub words : ℕ
 
+-- So many words from a place on.
+abbrev pub row : ℕ → ℕ → ℕ → Interval
+row s p n = record { segment = s; start = p; words = n }
+
 -- Whether an interval holds the word at a place.
 abbrev pub holds : Interval → ℕ → ℕ → Bool
 holds i u q = nat_eq u i.segment && nat_le i.start q && nat_lt q (i.start + i.words)
@@ -29,6 +33,10 @@ Agree S R is = (u q : ℕ) → 0 < times is u q → word_at R u q ≡ word_at S 
 -- The landing pad of a word, if it is a far pointer ("Inter-Segment Pointers").
 abbrev pub pads_of : ℕ → List Interval
 pads_of x = cond (nat_eq (kind x) 2) (record { segment = upper_half x; start = far_position x; words = 1 + is_double x } ∷ []) []
+
+-- The landing pads of a word, if it is a far pointer, lie in the message.
+abbrev pub PadsInside : Segments → ℕ → Type 0
+PadsInside S x = kind x ≡ 2 → far_position x + (1 + is_double x) ≤ length (segment S (upper_half x))
 
 -- n words from where a pointer leads.
 abbrev pub object_of : Target → ℕ → Interval
@@ -65,6 +73,15 @@ abbrev mutual
   pub cover_elements : Segments → ℕ → ℕ → ℕ → ℕ → Elements → List Interval
   cover_elements S s p d q no_elements = []
   cover_elements S s p d q (element ws ts es) = cover_all S s (p + d) ts ++ cover_elements S s (p + d + q) d q es
+
+-- What is reached from a target, its pads apart.
+abbrev pub object_cover : Segments → Target → Tree → List Interval
+object_cover S a Null = []
+object_cover S a (Capability i) = []
+object_cover S a (Struct ws ts) = object_of a (length ws + count ts) ∷ cover_all S a.segment (a.start + length ws) ts
+object_cover S a (Flat size ns) = object_of a (words_for size (length ns)) ∷ []
+object_cover S a (Pointers ts) = object_of a (count ts) ∷ cover_all S a.segment a.start ts
+object_cover S a (Structs d q es) = object_of a (1 + element_count es * (d + q)) ∷ cover_elements S a.segment (a.start + 1) d q es
 
 -- Below a place all padding of lists is zero, and lists of structs claim exactly their elements.
 abbrev mutual

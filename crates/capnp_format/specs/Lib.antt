@@ -1,6 +1,7 @@
 pub mod Word
 pub mod Numbers
 pub mod Segments
+pub mod Padding
 pub mod Bytes
 pub mod Tree
 pub mod Value

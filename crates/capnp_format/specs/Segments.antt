@@ -32,6 +32,10 @@ IsPlace S s p = p < length (segment S s)
 abbrev pub AreWords : Segments → Type 0
 AreWords S = (s p : ℕ) → word_at S s p < 2 ^ 64
 
+-- Each word of a segment is one of 64 bits.
+abbrev pub HasSmallWords : Segments → ℕ → Type 0
+HasSmallWords S s = (p : ℕ) → word_at S s p < 2 ^ 64
+
 -- A message R has at least the segments of S, each at least as long.
 pub record Grows (S R : Segments) : Type 0 where
   pub segments : length S ≤ length R

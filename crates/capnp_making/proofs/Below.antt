@@ -1,17 +1,18 @@
 -- What is below a place made zero, part by part.
-use Rattle.std.proofs.Common.{◌≡◌, ◌≢◌, ℕ, zero, suc, pred, ◌+◌, ◌*◌, ◌<◌, ◌≤◌, List, [], ◌∷◌, ◌++◌, length, Some, None, Option, nat_eq, true, refl, sym, ap, ◌∙◌, subst, le_of_eq, append-nil, arith, eq-eqb}
+use Rattle.std.proofs.Common.{◌≡◌, ◌≢◌, ℕ, zero, suc, pred, ◌+◌, ◌*◌, ◌<◌, ◌≤◌, List, [], ◌∷◌, ◌++◌, length, Some, refl, sym, ap, ◌∙◌, subst, le_of_eq, append-nil, arith}
 use Rattle.std.proofs.lemmas.Bool.Decides.{nat_tests}
-use Rattle.capnp_format.specs.Word.{kind, is_double, upper_half, far_position}
+use Rattle.capnp_format.specs.Word.{kind}
 use Rattle.capnp_format.specs.Numbers.{words_for}
-use Rattle.capnp_format.specs.Segments.{Segments, segment, word_at, Target, Grows, leads, far, pad, ◌>>=◌}
+use Rattle.capnp_format.specs.Segments.{Segments, segment, word_at, Target, Grows, leads}
 use Rattle.capnp_format.specs.Tree.{Tree, Null, Capability, Struct, Flat, Pointers, Structs, Trees, no_trees, tree, count, element_count}
 use Rattle.capnp_format.specs.Means.{Means}
 use Rattle.capnp_format.specs.Forest.{Interval, times, pads_of, object_of, target_in, cover, cover_all, cover_elements}
 use Rattle.capnp_format.proofs.Frame.{Agree, times-append, agree_here, agree_rest, frame, frame_all}
 use Rattle.capnp_making.specs.Path.{tree_at, one_word, extent}
 use Rattle.capnp_making.proofs.Paths.{means_child}
-use Rattle.capnp_making.specs.Zeroed.{row, IsZeroed, PadsInside, IsApart, AreApart, IsObjectAt, object_cover, child_extents, rest}
+use Rattle.capnp_making.specs.Zeroed.{row, IsZeroed, IsApart, AreApart, IsObjectAt, object_cover, child_extents, rest}
 use Rattle.capnp_making.proofs.Zeros.{zeroed_again, nothing_zeroed}
+pub use Rattle.capnp_format.proofs.LandingPads.{pads_inside}
 
 pub split_row : (s p m n v r : ℕ) → times (row s p (m + n) ∷ []) v r ≡ times (row s p m ∷ []) v r + times (row s (p + m) n ∷ []) v r
 split_row s p m n v r = grind (arith, nat_tests)
@@ -91,24 +92,6 @@ pub all_done : (S K : Segments) (s p : ℕ) (ts : Trees) → Done S K s p ts (co
 all_done S K s p ts (is, z, sum) =
     let none : (v r : ℕ) → times (child_extents S s (p + count ts) (rest (count ts) ts)) v r ≡ 0 = λ v r. ap (λ us. times (child_extents S s (p + count ts) us) v r) (rest_none ts) in
     zeroed_again S S K [] is (row s p (count ts) ∷ cover_all S s p ts) (λ v r. (λ x. omega (arith, sum v r, none v r, times-children S s p ts v r), λ x. omega (arith, sum v r, none v r, times-children S s p ts v r))) (nothing_zeroed S) z
-
-pad_inside : (S : Segments) (x n w : ℕ) → pad S x n ≡ Some w → far_position x + n < length (segment S (upper_half x))
-pad_inside S x n w e = grind (arith, nat_tests)
-
-bound : {A B : Type 0} (o : Option A) (f : A → Option B) (y : B) → (o >>= f) ≡ Some y → (x : A) × (o ≡ Some x)
-bound (Some x) f y e = (x, refl)
-bound None f y e = cc
-
-far_inside : (S : Segments) (x d : ℕ) (a : Target) → d < 2 → far S x d ≡ Some a → far_position x + (1 + d) ≤ length (segment S (upper_half x))
-far_inside S x zero a l e = let b = bound (pad S x 0) _ a e in omega (arith, pad_inside S x 0 b.0 b.1)
-far_inside S x (suc d) a l e = let b = bound (pad S x 1) _ a e in omega (arith, pad_inside S x 1 b.0 b.1)
-
--- the pads of a word that leads somewhere
-pub pads_inside : (S : Segments) (s p : ℕ) (a : Target) → leads S s p ≡ Some a → PadsInside S (word_at S s p)
-pads_inside S s p a e far_kind =
-    let x = word_at S s p in
-    let is_far : nat_eq (kind x) 2 ≡ true = eq-eqb _ _ far_kind in
-    far_inside S x (is_double x) a (omega arith) (rw is_far at e)
 
 -- the object that a place leads to
 pub place_object : (S : Segments) (n s p : ℕ) (t : Tree) (c : ℕ) → word_at S s p ≢ 0 → Means S n s p t c →

@@ -4,12 +4,13 @@ use Rattle.std.proofs.lemmas.Bool.Decides.{nat_tests}
 use Rattle.capnp_format.specs.Word.{kind, upper_half, data_words, pointer_count, element_size, list_count}
 use Rattle.capnp_format.specs.Segments.{Segments, segment, word_at, Target, Grows, leads}
 use Rattle.capnp_format.specs.Tree.{Tree, Null, Capability, Struct, Flat, Pointers, Structs, Trees, count, Elements, element_count}
-use Rattle.capnp_format.specs.Means.{Means, MeansAll, IsTag}
+use Rattle.capnp_format.specs.Means.{MeansAll, IsTag}
 use Rattle.capnp_format.specs.Forest.{times, pads_of, object_of, cover_all, cover_elements}
 use Rattle.capnp_format.proofs.Frame.{Agree, times-append, agree_here, agree_rest, frame_all, frame_elements}
 use Rattle.capnp_making.specs.Path.{one_word, extent}
 use Rattle.capnp_making.specs.Zeroed.{row, IsZeroed, PadsInside, IsApart, AreApart, AreApartElements, IsObjectAt, object_cover, IsObjectApart}
 use Rattle.capnp_making.proofs.Zeros.{zeroed_again}
+use Rattle.capnp_format.proofs.ZeroWords.{zero_is_null}
 use Rattle.capnp_making.proofs.Below.{split_row, zeroed_grows, pads_inside, place_object}
 
 -- an object whose words and all below it stay
@@ -58,15 +59,6 @@ object_done S R K L s p t b some goes z object pads a =
 -- a pointer that leads nowhere means nothing
 pub nowhere_apart : (S : Segments) (s p : ℕ) (t : Tree) → word_at S s p ≢ 0 → ((a : Target) → leads S s p ≡ Some a → None ≡ Some a) → IsApart S s p t → ⊥
 nowhere_apart S s p t some goes a = let m = a.means in let (c, e, o, covers) = place_object S m.0 s p t m.1 some m.2 in let f = goes c e in cc
-
--- a zero word means Null
-pub zero_is_null : (S : Segments) (s p : ℕ) (u : Tree) (n c : ℕ) → word_at S s p ≡ 0 → Means S n s p u c → u ≡ Null
-zero_is_null S s p Null n c e m = refl
-zero_is_null S s p (Capability i) n c e m = absurd (m.1.0 e)
-zero_is_null S s p (Struct ws ts) n c e m = absurd (m.3.leads_to.0 e)
-zero_is_null S s p (Flat size ns) n c e m = absurd (m.3.leads_to.0 e)
-zero_is_null S s p (Pointers ts) n c e m = absurd (m.3.leads_to.0 e)
-zero_is_null S s p (Structs d q es) n c e m = absurd (m.4.leads_to.0 e)
 
 pub null_done : (S : Segments) (s p : ℕ) (t : Tree) → word_at S s p ≡ 0 → IsApart S s p t → IsZeroed S S (extent S s p t)
 null_done S s p t e a = let n = zero_is_null S s p t a.means.0 a.means.1 e a.means.2 in

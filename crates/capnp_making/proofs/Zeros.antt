@@ -1,42 +1,18 @@
 -- Words written over with zeros.
-use Rattle.std.proofs.Common.{◌≡◌, ◌≢◌, inl, inr, ◌⊎◌, ℕ, zero, suc, ◌+◌, ◌-◌, ◌<◌, ◌≤◌, List, [], ◌∷◌, ◌++◌, length, take, drop, set, replicate, get_or, refl, sym, ap, ◌∙◌, subst, arith, length-take, length-drop}
-use Rattle.std.proofs.lemmas.List.{length-set, length-append, length-replicate, get_or-set_same, get_or-set_other, get_or_append_left, get_or-append_right, get_or-take, get_or-drop}
+use Rattle.std.proofs.Common.{◌≡◌, ◌≢◌, inl, inr, ◌⊎◌, ℕ, zero, suc, ◌+◌, ◌-◌, ◌<◌, ◌≤◌, List, [], ◌∷◌, ◌++◌, length, drop, set, replicate, get_or, refl, sym, ap, ◌∙◌, subst, arith}
+use Rattle.std.proofs.lemmas.List.{length-set, length-replicate, get_or-set_same, get_or-set_other}
 use Rattle.std.proofs.lemmas.Bool.{cases_lt, cases_eq}
 use Rattle.std.proofs.lemmas.Bool.Decides.{nat_tests}
 use Rattle.capnp_format.specs.Segments.{Segments, segment, word_at}
 use Rattle.capnp_format.specs.Forest.{Interval, times}
 use Rattle.capnp_arena.specs.Written.{with_segment, overwritten, with_words, with_word}
+pub use Rattle.capnp_arena.proofs.WordsOver.{segment_here, segment_other, word_here, word_other, lengths_kept, length-over, over_within, over_beside}
+pub use Rattle.capnp_format.proofs.Frame.{in_row, of_row}
+pub use Rattle.capnp_format.proofs.Slices.{there}
 use Rattle.capnp_making.specs.Path.{one_word}
 use Rattle.capnp_making.specs.Zeroed.{row, IsZeroed, nonzero_words, nonzeros, IsPruned}
 
-pub there : (S : Segments) (s p : ℕ) → p < length (segment S s) → s < length S
-there [] s p l = absurd (omega arith)
-there (xs ∷ S) zero p l = omega arith
-there (xs ∷ S) (suc s) p l = omega (arith, there S s p l)
-
--- the segments of a message of which one is written
-pub segment_here : (S : Segments) (s : ℕ) (ws : List ℕ) → s < length S → segment (with_segment S s ws) s ≡ ws
-segment_here S s ws l = get_or-set_same S s ws [] l
-
-pub segment_other : (S : Segments) (s v : ℕ) (ws : List ℕ) → v ≢ s → segment (with_segment S s ws) v ≡ segment S v
-segment_other S s v ws n = get_or-set_other S s v ws [] n
-
--- a word of it
-pub word_other : (S : Segments) (s v r : ℕ) (ws : List ℕ) → v ≢ s → word_at (with_segment S s ws) v r ≡ word_at S v r
-word_other S s v r ws n = ap (λ xs. get_or xs r 0) (segment_other S s v ws n)
-
-pub word_here : (S : Segments) (s r : ℕ) (ws : List ℕ) → s < length S → word_at (with_segment S s ws) s r ≡ get_or ws r 0
-word_here S s r ws l = ap (λ xs. get_or xs r 0) (segment_here S s ws l)
-
--- a segment written with as many words keeps all lengths
-pub lengths_kept : (S : Segments) (s : ℕ) (ws : List ℕ) → length ws ≡ length (segment S s) → (v : ℕ) → length (segment (with_segment S s ws) v) ≡ length (segment S v)
-lengths_kept [] s ws e v = refl
-lengths_kept (xs ∷ S) zero ws e zero = e
-lengths_kept (xs ∷ S) zero ws e (suc v) = refl
-lengths_kept (xs ∷ S) (suc s) ws e zero = refl
-lengths_kept (xs ∷ S) (suc s) ws e (suc v) = lengths_kept S s ws e v
-
--- and no more words that are not zero, if it has no more
+-- a segment that is written has no more words that are not zero, if these have no more
 pub fewer_in : (S : Segments) (s : ℕ) (ws : List ℕ) → s < length S → nonzeros (with_segment S s ws) + nonzero_words (segment S s) ≡ nonzeros S + nonzero_words ws
 fewer_in [] s ws l = absurd (omega arith)
 fewer_in (xs ∷ S) zero ws l = omega arith
@@ -65,32 +41,6 @@ pub over_zero : (xs : List ℕ) (p n : ℕ) → nonzero_words (overwritten xs p 
 over_zero xs zero n = over_front xs n
 over_zero [] (suc p) n = over_front [] n
 over_zero (x ∷ xs) (suc p) n = omega (arith, over_zero xs p n)
-
-pub length-over : (xs : List ℕ) (p : ℕ) (ws : List ℕ) → p + length ws ≤ length xs → length (overwritten xs p ws) ≡ length xs
-length-over xs p ws l =
-    omega (arith, length-append (take p xs) (ws ++ drop (length ws) (drop p xs)), length-append ws (drop (length ws) (drop p xs)), length-take p xs, length-drop (length ws) (drop p xs), length-drop p xs)
-
--- what stands in words that are written over, and beside them
-pub over_within : (xs : List ℕ) (p : ℕ) (ws : List ℕ) (r : ℕ) → p + length ws ≤ length xs → p ≤ r → r < p + length ws → get_or (overwritten xs p ws) r 0 ≡ get_or ws (r - p) 0
-over_within xs p ws r l m h =
-    get_or-append_right (take p xs) (ws ++ drop (length ws) (drop p xs)) p r 0 (omega (arith, length-take p xs)) m
-    ∙ get_or_append_left ws (drop (length ws) (drop p xs)) 0 (r - p) (omega arith)
-
-pub over_beside : (xs : List ℕ) (p : ℕ) (ws : List ℕ) (r : ℕ) → p + length ws ≤ length xs → (r < p) ⊎ (p + length ws ≤ r) → get_or (overwritten xs p ws) r 0 ≡ get_or xs r 0
-over_beside xs p ws r l (inl m) =
-    get_or_append_left (take p xs) (ws ++ drop (length ws) (drop p xs)) 0 r (omega (arith, length-take p xs)) ∙ get_or-take p xs r 0 m
-over_beside xs p ws r l (inr m) =
-    get_or-append_right (take p xs) (ws ++ drop (length ws) (drop p xs)) p r 0 (omega (arith, length-take p xs)) (omega arith)
-    ∙ get_or-append_right ws (drop (length ws) (drop p xs)) (length ws) (r - p) 0 refl (omega arith)
-    ∙ get_or-drop (length ws) (drop p xs) (r - p - length ws) 0 ∙ get_or-drop p xs (length ws + (r - p - length ws)) 0
-    ∙ ap (λ j. get_or xs j 0) (let f : p + (length ws + (r - p - length ws)) ≡ r = omega arith in f)
-
--- whether a row holds a word
-pub in_row : (s p n v r : ℕ) → 0 < times (row s p n ∷ []) v r → (v ≡ s) × (p ≤ r) × (r < p + n)
-in_row s p n v r l = (grind (arith, nat_tests), grind (arith, nat_tests), grind (arith, nat_tests))
-
-pub of_row : (s p n r : ℕ) → p ≤ r → r < p + n → times (row s p n ∷ []) s r ≡ 1
-of_row s p n r l m = grind (arith, nat_tests)
 
 pub here_once : (s p : ℕ) → 0 < times (one_word s p ∷ []) s p
 here_once s p = omega (arith, of_row s p 1 p (omega arith) (omega arith))

@@ -1,17 +1,14 @@
 -- Words made zero, and what stands where a pointer leads.
 use Rattle.std.specs.Prelude.{◌≡◌, ◌⊎◌, ℕ, zero, suc, ◌+◌, ◌*◌, ◌<◌, ◌≤◌, cond, nat_eq, List, [], ◌∷◌, ◌++◌, length}
-use Rattle.capnp_format.specs.Word.{kind, is_double, far_position, upper_half, data_words, pointer_count, element_size, list_count}
+use Rattle.capnp_format.specs.Word.{kind, data_words, pointer_count, element_size, list_count}
 use Rattle.capnp_format.specs.Numbers.{words_for}
 use Rattle.capnp_format.specs.Segments.{Segments, segment, word_at, Target}
 use Rattle.capnp_format.specs.Tree.{Tree, Null, Capability, Struct, Flat, Pointers, Structs, Trees, no_trees, tree, Elements, no_elements, element, count, element_count}
 use Rattle.capnp_format.specs.Means.{Means, MeansAll, MeansElements, Claims, IsTag}
-use Rattle.capnp_format.specs.Forest.{Interval, times, object_of, cover_all, cover_elements}
+pub use Rattle.capnp_format.specs.Forest.{row, PadsInside, object_cover}
+use Rattle.capnp_format.specs.Forest.{Interval, times, cover_all, cover_elements}
 use Rattle.capnp_pointers.specs.declared.wire_pointer.StructSize.{StructSize}
 use Rattle.capnp_making.specs.Path.{extent}
-
--- So many words from a place on.
-abbrev pub row : ℕ → ℕ → ℕ → Interval
-row s p n = record { segment = s; start = p; words = n }
 
 -- From S to R the words in these intervals become zero; all others stay.
 pub record IsZeroed (S R : Segments) (is : List Interval) : Type 0 where
@@ -35,10 +32,6 @@ pub record IsPruned (S R : Segments) : Type 0 where
   pub words : (v : ℕ) → length (segment R v) ≡ length (segment S v)
   pub only : (v r : ℕ) → (word_at R v r ≡ word_at S v r) ⊎ (word_at R v r ≡ 0)
   pub fewer : nonzeros R ≤ nonzeros S
-
--- The landing pads of a word, if it is a far pointer, lie in the message.
-abbrev pub PadsInside : Segments → ℕ → Type 0
-PadsInside S x = kind x ≡ 2 → far_position x + (1 + is_double x) ≤ length (segment S (upper_half x))
 
 -- A place means a value, which holds no word twice.
 pub record IsApart (S : Segments) (s p : ℕ) (t : Tree) : Type 0 where
@@ -86,15 +79,6 @@ IsObjectAt S n a (Pointers ts) =
 IsObjectAt S n a (Structs d q es) =
     (k : ℕ) × (kind a.word ≡ 1) × (element_size a.word ≡ 7) × IsTag (word_at S a.segment a.start) (element_count es) d q
     × Claims S a (1 + element_count es * (d + q)) × MeansElements S n a.segment (a.start + 1) d q es k
-
--- What is reached from a target, its pads apart.
-abbrev pub object_cover : Segments → Target → Tree → List Interval
-object_cover S a Null = []
-object_cover S a (Capability i) = []
-object_cover S a (Struct ws ts) = object_of a (length ws + count ts) ∷ cover_all S a.segment (a.start + length ws) ts
-object_cover S a (Flat size ns) = object_of a (words_for size (length ns)) ∷ []
-object_cover S a (Pointers ts) = object_of a (count ts) ∷ cover_all S a.segment a.start ts
-object_cover S a (Structs d q es) = object_of a (1 + element_count es * (d + q)) ∷ cover_elements S a.segment (a.start + 1) d q es
 
 -- A value stands there, and holds no word twice.
 pub record IsObjectApart (S : Segments) (a : Target) (t : Tree) : Type 0 where

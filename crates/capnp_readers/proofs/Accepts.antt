@@ -2,22 +2,22 @@
 -- checks found one by one.
 use Rattle.std.proofs.Common.{◌≡◌, ◌≢◌, inl, inr, ℕ, zero, suc, ◌+◌, ◌-◌, ◌*◌, ◌^◌, ◌<◌, ◌≤◌, cond, nat_eq, List, [], ◌∷◌, ◌++◌, length, Option, Some, None, refl, sym, ap, ap₂, ◌∙◌, subst, arith, ne_eqb, take_all, pow_pos, length-append}
 use Rattle.capnp_format.specs.Word.{kind, offset_bits, data_words, pointer_count, element_size, list_count, is_double, struct_word, list_word}
-use Rattle.capnp_format.specs.Numbers.{words_for, unpacked, packed, element_bits, from_digits, digits}
+use Rattle.capnp_format.specs.Numbers.{words_for, unpacked, packed, element_bits, from_digits}
 use Rattle.capnp_format.specs.Segments.{Segments, segment, word_at, words_at, HasWords, IsPlace, Target, leads, near, far, offset_leads, ◌>>=◌}
 use Rattle.capnp_format.specs.Tree.{Null, Struct, Flat, Pointers, Structs, Trees, no_trees, tree, Elements, no_elements, element, blank, count, element_count}
 use Rattle.capnp_format.specs.Means.{Claims, StructAt, ListAt, IsTag}
 use Rattle.capnp_format.specs.Canonical.{used_from, used_words, used_trees, take_trees, data_width, pointer_width, cut_to, trim, word_count, word_count_elements, pointer, pointers, rows, bodies, element_bodies, offset_to, Reaches, Stands}
-use Rattle.capnp_format.specs.Value.{AreBelow, AreElements}
+use Rattle.capnp_format.specs.Value.{AreElements}
 use Rattle.capnp_readers.specs.Standing.{AllStand, ElementsStand, EndsUsed, IsPadded}
 use Rattle.capnp_format.specs.Forest.{target_in}
-use Rattle.capnp_format.proofs.Bounds.{HasSmallWords, digits_below}
-use Rattle.capnp_format.proofs.Digits.{length-digits, from_digits-digits, digits_again}
-use Rattle.capnp_format.proofs.Slices.{length_words, moved}
+use Rattle.capnp_format.proofs.Bounds.{HasSmallWords, digits_below, words_small}
+use Rattle.capnp_format.proofs.Digits.{length-digits}
+use Rattle.capnp_format.proofs.Padding.{packed-unpacked}
+use Rattle.capnp_format.proofs.Slices.{length_words, has_words_at, moved}
 use Rattle.capnp_format.proofs.Lengths.{length-pointers, length-rows}
 use Rattle.capnp_format.proofs.Following.{IsOffsetTo, offset_is}
-use Rattle.capnp_format.proofs.Lies.{pow_pow}
 use Rattle.capnp_format.proofs.Unique.{for_offset}
-use Rattle.capnp_readers.proofs.Chains.{laid_where_standing, rows_where_standing, has_words_joined, has_words_at, has_words_more, words_small}
+use Rattle.capnp_readers.proofs.Chains.{laid_where_standing, rows_where_standing, has_words_joined, has_words_more}
 use Rattle.capnp_readers.proofs.Used.{ends_used, pointer_is_null, words_at-more}
 
 -- What comes of two steps came of the first one, and then of the second.
@@ -185,15 +185,6 @@ pointers_stand S s p h a n ts w place other o start claim len all =
         has_words_joined S s h (pointers 0 ts) (bodies ts) l.heads (moved S s (h + count ts + 0) (h + length (pointers 0 ts)) (bodies ts) (omega (arith, length-pointers 0 ts)) l.behind),
       ),
     )
-
--- Elements that are read of words, with zeros behind them, are packed into the same words again.
-packed-unpacked : (size n : ℕ) (ws : List ℕ) → AreBelow (2 ^ 64) ws → length ws ≡ words_for size n → from_digits (2 ^ 64) ws < 2 ^ (element_bits size * n) → packed size (unpacked size n ws) ≡ ws
-packed-unpacked size n ws h e small =
-    let x = from_digits (2 ^ 64) ws in
-    let fits : x < (2 ^ element_bits size) ^ n = rw pow_pow small in
-    let same : from_digits (2 ^ element_bits size) (unpacked size n ws) ≡ x = from_digits-digits (2 ^ element_bits size) n x (pow_pos (element_bits size)) fits in
-    ap (λ m. digits (2 ^ 64) (words_for size m) (from_digits (2 ^ element_bits size) (unpacked size n ws))) (length-digits (2 ^ element_bits size) n x)
-    ∙ ap (digits (2 ^ 64) (words_for size n)) same ∙ digits_again (2 ^ 64) (words_for size n) ws h e
 
 -- A list of numbers stands that begins at the head, with zeros behind its elements.
 pub flat_stands : (S : Segments) (s p h : ℕ) (a : Target) (size n : ℕ) → HasSmallWords S s → IsPlace S s p → kind (word_at S s p) ≢ 2 → ListAt S s p a size n → size ≤ 5 → a.start ≡ h → Claims S a (words_for size n) →

@@ -2,15 +2,15 @@
 -- The lemmas take a place, a head and what stands there one by one, as `Stands` has them.
 use Rattle.std.proofs.Common.{◌≡◌, ℕ, suc, ◌+◌, ◌*◌, ◌^◌, ◌<◌, ◌≤◌, List, [], ◌∷◌, ◌++◌, length, take, drop, refl, sym, ap, ap₂, ◌∙◌, subst, arith, length-append, take-add, drop-drop}
 use Rattle.std.proofs.lemmas.List.{drop_more}
-use Rattle.capnp_format.specs.Segments.{Segments, segment, word_at, words_at, HasWords}
+use Rattle.capnp_format.specs.Segments.{Segments, segment, word_at, HasWords}
 use Rattle.capnp_format.specs.Tree.{Tree, Null, Capability, Struct, Flat, Pointers, Structs, Trees, no_trees, tree, Elements, no_elements, element, count, element_count, capabilities_all, capabilities_elements}
 use Rattle.capnp_format.specs.Canonical.{word_count, word_count_all, word_count_elements, trim_each, trim_elements, pointer, pointers, rows, body, bodies, element_bodies, ForOffset, OffsetsFit, RowsFit, AreEncodable, AreEncodableElements, offset_to, Reaches, Stands}
-use Rattle.capnp_format.specs.Value.{AreBelow, AreValues, AreElements}
+use Rattle.capnp_format.specs.Value.{AreValues, AreElements}
 use Rattle.capnp_readers.specs.Standing.{AllStand, ElementsStand}
-use Rattle.capnp_format.proofs.Slices.{length_words, has_words_first, has_words_rest, has_words_head, has_words_tail, has_words_within, moved}
+use Rattle.capnp_format.proofs.Slices.{has_words_first, has_words_rest, has_words_head, has_words_tail, has_words_within, moved}
 use Rattle.capnp_format.proofs.Lengths.{length-body, length-bodies, length-pointers}
 use Rattle.capnp_format.proofs.Lies.{pointer_ahead, reaches_ahead}
-use Rattle.capnp_format.proofs.Bounds.{HasSmallWords, words_below}
+use Rattle.capnp_format.proofs.Bounds.{HasSmallWords, words_small}
 
 -- Words that stand one behind the other stand together.
 pub has_words_joined : (S : Segments) (s h : ℕ) (xs ys : List ℕ) → HasWords S s h xs → HasWords S s (h + length xs) ys → HasWords S s h (xs ++ ys)
@@ -26,10 +26,6 @@ has_words_one S s h x e l = ap (take 1) (drop_more (segment S s) h 0 l) ∙ ap (
 -- One word more in front.
 pub has_words_more : (S : Segments) (s h x : ℕ) (xs : List ℕ) → word_at S s h ≡ x → h < length (segment S s) → HasWords S s (h + 1) xs → HasWords S s h (x ∷ xs)
 has_words_more S s h x xs e l f = has_words_joined S s h (x ∷ []) xs (has_words_one S s h x e l) f
-
--- The words of a segment stand where they are.
-pub has_words_at : (S : Segments) (s h n : ℕ) → h + n ≤ length (segment S s) → HasWords S s h (words_at S s h n)
-has_words_at S s h n l = ap (λ m. words_at S s h m) (length_words S s h n l)
 
 -- What is so where a pointer has an offset may be weakened.
 pub for_offset_map : (t : Tree) (P Q : Type 0) → (P → Q) → ForOffset t P → ForOffset t Q
@@ -117,10 +113,6 @@ standing_where_laid S s p k (tree t ts) a l =
           })
           (omega arith)),
     )
-
--- Words that stand in a message are of 64 bits.
-pub words_small : (S : Segments) (s p : ℕ) (ws : List ℕ) → HasSmallWords S s → HasWords S s p ws → AreBelow (2 ^ 64) ws
-words_small S s p ws w e = rw e at (words_below S s p (length ws) w)
 
 -- Elements of d data words and q pointers stand from position p on as a canonical list has them, and k words behind the last
 -- one the bodies of their children begin; these are trimmed and free of capabilities.

@@ -1,10 +1,10 @@
 -- The test for canonical form, step by step: what a yes finds and pays, where no value stands, and where the test stops.
-use Rattle.std.proofs.Common.{◌≡◌, ◌≢◌, ℕ, zero, suc, pred, ◌+◌, ◌*◌, ◌^◌, slice_index, ◌<◌, ◌≤◌, ◌↔◌, ◌⊎◌, inl, inr, max, cond, nat_eq, pow_pos, mul_comm, List, [], ◌∷◌, ◌/◌, ◌%◌, Option, Some, None, length, refl, sym, ap, ap₂, ◌∙◌, subst, arith}
+use Rattle.std.proofs.Common.{◌≡◌, ◌≢◌, ℕ, zero, suc, pred, ◌+◌, ◌*◌, ◌^◌, slice_index, ◌<◌, ◌≤◌, ◌↔◌, ◌⊎◌, inl, inr, max, cond, nat_eq, List, [], ◌∷◌, Option, Some, None, length, refl, sym, ap, ap₂, ◌∙◌, subst, arith}
 use Rattle.std.proofs.lemmas.Bool.{false≢true}
 use Rattle.std.proofs.lemmas.Bool.Decides.{nat_tests}
 use Rattle.capnp_format.specs.Word.{kind, offset_bits, data_words, pointer_count, element_size, list_count}
 use Rattle.capnp_format.specs.Bytes.{words_of}
-use Rattle.capnp_format.specs.Numbers.{words_for, element_bits, unpacked}
+use Rattle.capnp_format.specs.Numbers.{words_for, unpacked}
 use Rattle.capnp_format.specs.Segments.{Segments, segment, word_at, words_at, Target}
 use Rattle.capnp_format.specs.Tree.{Tree, Null, Struct, Flat, Pointers, Structs, Trees, no_trees, Elements, no_elements, count, element_count, depth_all, depth_elements}
 use Rattle.capnp_format.specs.Means.{Claims, StructAt, ListAt, IsTag, count_cost}
@@ -18,7 +18,6 @@ use Rattle.capnp_objects.specs.Faults.{LeadsTo, child_at}
 use Rattle.capnp_objects.specs.Outcomes.{Entered}
 use Rattle.capnp_objects.specs.Reading.{Reading, word_of, row, behind, pointers_of, tag_size}
 use Rattle.capnp_objects.specs.Spending.{Paid, pointers_in_all, pointers_in_elements}
-use Rattle.capnp_format.proofs.Bounds.{HasSmallWords}
 use Rattle.capnp_format.proofs.Children.{with_last, count-with_last}
 use Rattle.capnp_format.proofs.ManyEmpty.{blank, blank-count}
 use Rattle.capnp_format.proofs.Slices.{length_words}
@@ -43,7 +42,6 @@ use Rattle.capnp_readers.proofs.Found.{struct_found, pointers_found, flat_found,
 use Rattle.capnp_readers.proofs.Exactly.{structs_of_tag, element_fails, widths_fail, widths_within, reached}
 use Rattle.capnp_readers.proofs.Growing.{all_stand_more, words-with_last, charge-with_last, depth-with_last, words-with_last_element, charge-with_last_element, depth-with_last_element, elements_stand_more, data_width-with_last, pointer_width-with_last, none_stand}
 use Rattle.capnp_readers.proofs.Used.{ends_used, used_ends}
-use Rattle.capnp_readers.proofs.Padding.{padded_last, padded_none}
 
 pub not_far : (r : Reading) → kind (word_of r) < 2 → kind (word_at r.segments r.segment r.at) ≢ 2
 not_far r less = λ e. omega (arith, e, less)
@@ -690,31 +688,6 @@ seen_now e f g = (
     | inr q ↦ e ∙ g.1 q
   ]),
 )
-
--- the bits behind the numbers of a list
-
-words_are : (size n : ℕ) → words_for size n ≡ (element_bits size * n + 63) / 64
-words_are size n = ap (λ b. (b + 63) / 64) (mul_comm n (element_bits size))
-
-pub no_rest : (S : Segments) (s h size n : ℕ) → HasSmallWords S s → h + words_for size n ≤ length (segment S s) → element_bits size * n % 64 ≡ 0 → IsPadded S s h size n × (words_for size n ≡ element_bits size * n / 64)
-no_rest S s h size n small room rest = go (words_for size n) refl
-  where
-    go : (m : ℕ) → words_for size n ≡ m → IsPadded S s h size n × (words_for size n ≡ element_bits size * n / 64)
-    go zero e = (padded_none S s h size n e, omega (arith, e, rest, words_are size n))
-    go (suc j) e = ((padded_last S s h size n j 64 small (omega (arith, room, e)) e (omega (arith, e, rest, words_are size n))).1 (small (h + j)), omega (arith, e, rest, words_are size n))
-
-small_quotient : (x r : ℕ) → x / 2 ^ r ≡ 0 ↔ x < 2 ^ r
-small_quotient x r = ((λ e. grind (arith, e, pow_pos r)), (λ l. grind (arith, l, pow_pos r)))
-
-pub some_rest : (S : Segments) (s h size n : ℕ) → HasSmallWords S s → h + words_for size n ≤ length (segment S s) → element_bits size * n % 64 ≢ 0 →
-    (words_for size n ≡ element_bits size * n / 64 + 1) × (IsPadded S s h size n ↔ (word_at S s (h + element_bits size * n / 64) / 2 ^ (element_bits size * n % 64) ≡ 0))
-some_rest S s h size n small room rest =
-    let bits : ℕ = element_bits size * n in
-    let whole : ℕ = bits / 64 in
-    let e : words_for size n ≡ suc whole = words_are size n ∙ omega (arith, rest) in
-    let f = padded_last S s h size n whole (bits % 64) small (omega (arith, room, e)) e (omega arith) in
-    let g = small_quotient (word_at S s (h + whole)) (bits % 64) in
-    (omega (arith, e), ((λ p. g.1 (f.0 p)), (λ x. f.1 (g.0 x))))
 
 pub pointers_room : {r : Reading} {m m' : Meter} (start : Place) (n : ℕ) → IsObject r m m' (ObjectPointers start n) → start.at + n ≤ length (row (beginning r start))
 pointers_room {r} start n (a, o, z, six, (held, seg, at), many) = omega (arith, o.meets.claims, claim_list a.word 6 z six, at, many, ap (λ s. length (segment r.segments s)) seg)

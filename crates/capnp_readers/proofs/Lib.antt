@@ -10,7 +10,6 @@ pub mod Growing
 pub mod Accepts
 pub mod Found
 pub mod Exactly
-pub mod Padding
 pub mod Takes
 pub mod Checks
 pub mod NeverStops

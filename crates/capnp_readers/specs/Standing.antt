@@ -1,8 +1,8 @@
 -- Canonical words that stand one behind the other, as a test with a moving head finds them.
-use Rattle.std.specs.Prelude.{◌≡◌, ◌≢◌, ℕ, ◌+◌, ◌-◌, ◌*◌, ◌^◌, ◌<◌, ◌⊎◌, length}
-use Rattle.capnp_format.specs.Numbers.{from_digits, element_bits, words_for}
-use Rattle.capnp_format.specs.Segments.{Segments, word_at, words_at, HasWords}
+use Rattle.std.specs.Prelude.{◌≡◌, ◌≢◌, ℕ, ◌+◌, ◌-◌, ◌⊎◌, length}
+use Rattle.capnp_format.specs.Segments.{Segments, word_at, HasWords}
 use Rattle.capnp_format.specs.Tree.{Tree, Trees, no_trees, tree, Elements, no_elements, element, count, element_count}
+pub use Rattle.capnp_format.specs.Padding.{IsPadded}
 use Rattle.capnp_format.specs.Canonical.{word_count, word_count_all, data_width, pointer_width, Stands}
 
 -- The pointers of children stand from position p on, and their bodies in order from the head h on.
@@ -32,7 +32,3 @@ ElementsAccept S s p d q h n = (es : Elements) × (element_count es ≡ n) × (d
 -- Of n words from position p on the last is not zero, or there are none.
 abbrev pub EndsUsed : Segments → ℕ → ℕ → ℕ → Type 0
 EndsUsed S s p n = (n ≡ 0) ⊎ (word_at S s (p + n - 1) ≢ 0)
-
--- The bits behind n elements of a size are zero, in the words from position h on in which these stand.
-abbrev pub IsPadded : Segments → ℕ → ℕ → ℕ → ℕ → Type 0
-IsPadded S s h size n = from_digits (2 ^ 64) (words_at S s h (words_for size n)) < 2 ^ (element_bits size * n)

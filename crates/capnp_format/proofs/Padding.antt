@@ -1,17 +1,16 @@
 -- The bits behind the elements of a list, by its last word alone.
--- `padded_last` takes the words and what is known of their number one by one, as `IsPadded` has them.
-use Rattle.std.proofs.Common.{◌≡◌, ℕ, suc, ◌+◌, ◌*◌, ◌^◌, ◌<◌, ◌≤◌, ◌↔◌, inl, inr, List, [], ◌∷◌, ◌++◌, length, take, drop, sym, ap, ◌∙◌, subst, arith, pow-suc, pow-add, pow_pos, mul-le-mul_left, get_or-drop, length-drop}
+use Rattle.std.proofs.Common.{◌≡◌, ◌≢◌, ℕ, zero, suc, ◌+◌, ◌*◌, ◌/◌, ◌%◌, ◌^◌, ◌<◌, ◌≤◌, ◌↔◌, inl, inr, List, [], ◌∷◌, ◌++◌, length, take, drop, refl, sym, ap, ◌∙◌, subst, arith, pow-suc, pow-add, pow_pos, mul-le-mul_left, mul_comm, get_or-drop, length-drop}
 use Rattle.std.proofs.lemmas.List.{take_more}
 use Rattle.std.proofs.Math.Nat.{pow-zero}
 use Rattle.std.proofs.lemmas.Bool.{cases_lt}
-use Rattle.capnp_format.specs.Numbers.{from_digits, element_bits, words_for}
-use Rattle.capnp_format.specs.Segments.{Segments, segment, word_at, words_at}
-use Rattle.capnp_readers.specs.Standing.{IsPadded}
-use Rattle.capnp_format.proofs.Bounds.{HasSmallWords}
-use Rattle.capnp_format.proofs.Digits.{from_digits-below}
+use Rattle.capnp_format.specs.Numbers.{from_digits, digits, element_bits, words_for, unpacked, packed}
+use Rattle.capnp_format.specs.Segments.{Segments, segment, word_at, words_at, HasSmallWords}
+use Rattle.capnp_format.specs.Value.{AreBelow}
+use Rattle.capnp_format.specs.Padding.{IsPadded}
+use Rattle.capnp_format.proofs.Bounds.{words_small}
+use Rattle.capnp_format.proofs.Digits.{length-digits, from_digits-below, from_digits-digits, digits_again}
 use Rattle.capnp_format.proofs.Lies.{pow_pow}
-use Rattle.capnp_format.proofs.Slices.{length_words}
-use Rattle.capnp_readers.proofs.Chains.{has_words_at, words_small}
+use Rattle.capnp_format.proofs.Slices.{length_words, has_words_at}
 
 -- One digit more in front shifts the others.
 digit_step : (x b A P Q y : ℕ) → Q ≡ P * b → x + b * (A + P * y) ≡ x + b * A + Q * y
@@ -65,3 +64,37 @@ padded_last S s h size n j r w l e b =
 -- Behind elements of no words there are no bits.
 pub padded_none : (S : Segments) (s h size n : ℕ) → words_for size n ≡ 0 → IsPadded S s h size n
 padded_none S s h size n e = subst (λ m. from_digits (2 ^ 64) (words_at S s h m) < 2 ^ (element_bits size * n)) (sym e) (pow_pos (element_bits size * n))
+
+words_are : (size n : ℕ) → words_for size n ≡ (element_bits size * n + 63) / 64
+words_are size n = ap (λ b. (b + 63) / 64) (mul_comm n (element_bits size))
+
+-- Elements that fill their words have no bits behind them.
+pub no_rest : (S : Segments) (s h size n : ℕ) → HasSmallWords S s → h + words_for size n ≤ length (segment S s) → element_bits size * n % 64 ≡ 0 → IsPadded S s h size n × (words_for size n ≡ element_bits size * n / 64)
+no_rest S s h size n small room rest = go (words_for size n) refl
+  where
+    go : (m : ℕ) → words_for size n ≡ m → IsPadded S s h size n × (words_for size n ≡ element_bits size * n / 64)
+    go zero e = (padded_none S s h size n e, omega (arith, e, rest, words_are size n))
+    go (suc j) e = ((padded_last S s h size n j 64 small (omega (arith, room, e)) e (omega (arith, e, rest, words_are size n))).1 (small (h + j)), omega (arith, e, rest, words_are size n))
+
+small_quotient : (x r : ℕ) → x / 2 ^ r ≡ 0 ↔ x < 2 ^ r
+small_quotient x r = ((λ e. grind (arith, e, pow_pos r)), (λ l. grind (arith, l, pow_pos r)))
+
+-- Else the bits behind them are those of one word more, above the bits that are used.
+pub some_rest : (S : Segments) (s h size n : ℕ) → HasSmallWords S s → h + words_for size n ≤ length (segment S s) → element_bits size * n % 64 ≢ 0 →
+    (words_for size n ≡ element_bits size * n / 64 + 1) × (IsPadded S s h size n ↔ (word_at S s (h + element_bits size * n / 64) / 2 ^ (element_bits size * n % 64) ≡ 0))
+some_rest S s h size n small room rest =
+    let bits : ℕ = element_bits size * n in
+    let whole : ℕ = bits / 64 in
+    let e : words_for size n ≡ suc whole = words_are size n ∙ omega (arith, rest) in
+    let f = padded_last S s h size n whole (bits % 64) small (omega (arith, room, e)) e (omega arith) in
+    let g = small_quotient (word_at S s (h + whole)) (bits % 64) in
+    (omega (arith, e), ((λ p. g.1 (f.0 p)), (λ x. f.1 (g.0 x))))
+
+-- Elements that are read of words, with zeros behind them, are packed into the same words again.
+pub packed-unpacked : (size n : ℕ) (ws : List ℕ) → AreBelow (2 ^ 64) ws → length ws ≡ words_for size n → from_digits (2 ^ 64) ws < 2 ^ (element_bits size * n) → packed size (unpacked size n ws) ≡ ws
+packed-unpacked size n ws h e small =
+    let x = from_digits (2 ^ 64) ws in
+    let fits : x < (2 ^ element_bits size) ^ n = rw pow_pow small in
+    let same : from_digits (2 ^ element_bits size) (unpacked size n ws) ≡ x = from_digits-digits (2 ^ element_bits size) n x (pow_pos (element_bits size)) fits in
+    ap (λ m. digits (2 ^ 64) (words_for size m) (from_digits (2 ^ element_bits size) (unpacked size n ws))) (length-digits (2 ^ element_bits size) n x)
+    ∙ ap (digits (2 ^ 64) (words_for size n)) same ∙ digits_again (2 ^ 64) (words_for size n) ws h e
