@@ -7,7 +7,8 @@ use Rattle.capnp_format.specs.Tree.{Tree, Null, Capability, Struct, Flat, Pointe
 use Rattle.capnp_format.specs.Means.{Means, MeansAll, MeansElements, count_cost}
 use Rattle.capnp_format.specs.Forest.{pads_of, object_of, target_in, cover, cover_all, cover_elements, IsTidy, AreTidy, AreTidyElements}
 use Rattle.capnp_format.proofs.Levels.{other_levels, depth_within}
-use Rattle.layout_vectors.specs.Counts.{object_cover, IsRead, AreRead, AreElementsRead, IsTidyObject}
+use Rattle.capnp_format.specs.Forest.{object_cover}
+use Rattle.layout_vectors.specs.Counts.{IsRead, AreRead, AreElementsRead, IsTidyObject}
 
 -- pointers one behind the other, each within levels of its own, mean their values within levels together
 levels_of : (S : Segments) (s p : ℕ) (ts : Trees) → AreRead S s p ts → ℕ

@@ -1,4 +1,3 @@
-pub mod Borrowed
 pub mod Counting
 pub mod Leading
 pub mod Taken

@@ -13,9 +13,13 @@ use Rattle.capnp_format.proofs.Bounds.{HasSmallWords, digits_below, words_below}
 use Rattle.capnp_format.proofs.Digits.{length-digits, from_digits-below, from_digits-digits}
 use Rattle.capnp_format.proofs.Lies.{pow_pow}
 use Rattle.capnp_format.proofs.Slices.{length_words}
-use Rattle.layout_vectors.specs.Padding.{IsPadded}
-use Rattle.layout_vectors.proofs.Borrowed.{of_row, zero_is_null, pads_inside, packed-unpacked}
-use Rattle.layout_vectors.specs.Counts.{row, object_cover, PadsInside, Counting, plus, Counts, IsRead, AreRead, IsTidyObject, ObjectCounts}
+use Rattle.capnp_format.specs.Padding.{IsPadded}
+use Rattle.capnp_format.proofs.Frame.{of_row}
+use Rattle.capnp_format.proofs.LandingPads.{pads_inside}
+use Rattle.capnp_format.proofs.Padding.{packed-unpacked}
+use Rattle.capnp_format.proofs.ZeroWords.{zero_is_null}
+use Rattle.capnp_format.specs.Forest.{row, object_cover, PadsInside}
+use Rattle.layout_vectors.specs.Counts.{Counting, plus, Counts, IsRead, AreRead, IsTidyObject, ObjectCounts}
 use Rattle.layout_vectors.specs.Marks.{IsMarkedWithin, IsTakenAlready, Takes, TakesAll}
 use Rattle.layout_vectors.specs.Spots.{spots, element_spots}
 use Rattle.layout_vectors.specs.Walks.{Walk, FitsRows, Proceeds, TakesObject, HasNoObject, Goes, Fails}

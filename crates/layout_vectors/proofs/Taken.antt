@@ -14,8 +14,10 @@ use Rattle.capnp_format.proofs.WordsOf.{words}
 use Rattle.std.specs.List.{All}
 use Rattle.capnp_arena.specs.Limits.{AreSmall}
 use Rattle.capnp_arena.specs.Written.{with_segment, overwritten, with_words}
-use Rattle.layout_vectors.specs.Counts.{row}
-use Rattle.layout_vectors.proofs.Borrowed.{there, word_here, word_other, lengths_kept, length-over, over_within, over_beside, of_row}
+use Rattle.capnp_format.specs.Forest.{row}
+use Rattle.capnp_format.proofs.Frame.{of_row}
+use Rattle.capnp_format.proofs.Slices.{there}
+use Rattle.capnp_arena.proofs.WordsOver.{word_here, word_other, lengths_kept, length-over, over_within, over_beside}
 use Rattle.layout_vectors.specs.Marks.{AreFreeWithin, free_words, free, AreMarks, KeepsRows, Takes, blank_rows}
 use Rattle.layout_vectors.specs.Walks.{FitsRows}
 

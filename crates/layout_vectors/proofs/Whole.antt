@@ -5,7 +5,8 @@ use Rattle.std.proofs.lemmas.List.{get_or_past}
 use Rattle.capnp_format.specs.Segments.{Segments, segment, word_at}
 use Rattle.capnp_format.specs.Tree.{Tree}
 use Rattle.capnp_format.specs.Forest.{times, cover, root, IsForest}
-use Rattle.layout_vectors.specs.Counts.{row, Counting, Counts}
+use Rattle.capnp_format.specs.Forest.{row}
+use Rattle.layout_vectors.specs.Counts.{Counting, Counts}
 use Rattle.layout_vectors.specs.Marks.{AreMarks}
 use Rattle.layout_vectors.specs.Spots.{spot}
 use Rattle.layout_vectors.specs.Walks.{FitsRows, IsZeroWhereFree}

@@ -1,29 +1,12 @@
 -- What is reached from places that are still to be looked at, counted word by word.
 use Rattle.std.specs.Prelude.{◌≡◌, ℕ, ◌+◌, ◌*◌, ◌≤◌, List, [], ◌∷◌, length}
-use Rattle.capnp_format.specs.Word.{kind, is_double, far_position, upper_half, data_words, pointer_count, element_size, list_count, capability_word}
+use Rattle.capnp_format.specs.Word.{kind, data_words, pointer_count, element_size, list_count, capability_word}
 use Rattle.capnp_format.specs.Numbers.{words_for, unpacked, packed}
-use Rattle.capnp_format.specs.Segments.{Segments, segment, word_at, words_at, HasWords, Target}
+use Rattle.capnp_format.specs.Segments.{Segments, word_at, words_at, HasWords, Target}
 use Rattle.capnp_format.specs.Tree.{Tree, Null, Capability, Struct, Flat, Pointers, Structs, Trees, no_trees, tree, count, Elements, no_elements, element, element_count}
 use Rattle.capnp_format.specs.Means.{Means, Claims, IsTag}
-use Rattle.capnp_format.specs.Forest.{Interval, times, cover, cover_all, cover_elements, object_of, IsTidy}
+use Rattle.capnp_format.specs.Forest.{times, cover, object_cover, IsTidy}
 use Rattle.layout_vectors.specs.declared.vectors.pending.Spot.{Spot}
-
--- So many words from a place on.
-abbrev pub row : ℕ → ℕ → ℕ → Interval
-row s p n = record { segment = s; start = p; words = n }
-
--- The landing pads of a word, if it is a far pointer, lie in the message.
-abbrev pub PadsInside : Segments → ℕ → Type 0
-PadsInside S x = kind x ≡ 2 → far_position x + (1 + is_double x) ≤ length (segment S (upper_half x))
-
--- What is reached from a target, its pads apart.
-abbrev pub object_cover : Segments → Target → Tree → List Interval
-object_cover S a Null = []
-object_cover S a (Capability i) = []
-object_cover S a (Struct ws ts) = object_of a (length ws + count ts) ∷ cover_all S a.segment (a.start + length ws) ts
-object_cover S a (Flat size ns) = object_of a (words_for size (length ns)) ∷ []
-object_cover S a (Pointers ts) = object_of a (count ts) ∷ cover_all S a.segment a.start ts
-object_cover S a (Structs d q es) = object_of a (1 + element_count es * (d + q)) ∷ cover_elements S a.segment (a.start + 1) d q es
 
 -- How often each word of a message is held.
 abbrev pub Counting : Type 0
@@ -42,7 +25,7 @@ abbrev pub Counts : Segments → Counting → List Spot → Counting → Type 0
 Counts S M [] F = (u q : ℕ) → F u q ≡ M u q
 Counts S M (j ∷ J) F = (t : Tree) × IsRead S j.segment j.at t × Counts S (plus M (times (cover S j.segment j.at t))) J F
 
--- So do pointers one behind the other, and the pointers of elements.
+-- Pointers one behind the other mean values, and below them all is tidy; of the pointers of elements the same.
 abbrev pub AreRead : Segments → ℕ → ℕ → Trees → Type 0
 AreRead S s p no_trees = Unit {0}
 AreRead S s p (tree t ts) = IsRead S s p t × AreRead S s (p + 1) ts

@@ -1,6 +1,5 @@
 pub mod Counts
 pub mod Landings
 pub mod Marks
-pub mod Padding
 pub mod Spots
 pub mod Walks

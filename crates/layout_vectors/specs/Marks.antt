@@ -3,7 +3,7 @@ use Rattle.std.specs.Prelude.{◌≡◌, ◌≢◌, ℕ, ◌+◌, ◌/◌, ◌<�
 use Rattle.std.specs.Borrow.{Bor}
 use Rattle.capnp_format.specs.Segments.{Segments, segment, word_at}
 use Rattle.capnp_format.specs.Forest.{times, pads_of}
-use Rattle.layout_vectors.specs.Counts.{row, PadsInside}
+use Rattle.capnp_format.specs.Forest.{row, PadsInside}
 use Rattle.layout_vectors.specs.declared.vectors.marks.Marks.{Marks}
 
 abbrev pub rows_of : Marks → Segments

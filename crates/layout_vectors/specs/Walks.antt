@@ -39,7 +39,7 @@ pub record TakesObject (S : Segments) (a : Target) (w v : Walk) : Type 0 where
 abbrev pub HasNoObject : Segments → Target → Walk → Type 0
 HasNoObject S a w = (F : Counting) → ObjectCounts S a (word_at w.marks) w.pending F → IsOnce F → ⊥
 
--- So of what a pointer leads to.
+-- From w to v what the pointer at j leads to is taken: what is counted with j before is what is counted without it afterwards.
 pub record Goes (S : Segments) (j : Spot) (w v : Walk) : Type 0 where
   pub proceeds : Proceeds w v
   pub same : (F : Counting) → Counts S (word_at w.marks) (j ∷ w.pending) F ↔ Counts S (word_at v.marks) v.pending F

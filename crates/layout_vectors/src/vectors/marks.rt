@@ -64,7 +64,7 @@ impl Marks {
         Ok(Marks { rows })
     }
 
-    /// How many words a segment has.
+    /// How many words a segment has, none where there is no such segment.
     fn length_of(&self, id: u32) -> usize
         ensures { result ≡ length (segment (rows_of self.now) id) }
     {
@@ -89,6 +89,7 @@ impl Marks {
         self.take_some(id, start as usize, n as usize)
     }
 
+    /// Takes words of a segment that are there, at least one, if none of them is taken.
     fn take_some(&mut self, id: u32, start: usize, n: usize) -> bool
         requires some { 0 < n }
         requires inside { start + n ≤ length (segment (rows_of self.old) id) }

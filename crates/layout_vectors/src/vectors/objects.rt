@@ -3,10 +3,10 @@ ghost use Rattle.std.specs.Prelude.{◌≡◌, ℕ, ◌+◌, ◌<◌, ◌≤◌,
 ghost use Rattle.capnp_format.specs.Bytes.{words_of, message};
 ghost use Rattle.capnp_format.specs.Numbers.{words_for};
 ghost use Rattle.capnp_format.specs.Segments.{segment};
-ghost use Rattle.layout_vectors.specs.Padding.{HasSmallWords};
+ghost use Rattle.capnp_format.specs.Segments.{HasSmallWords};
 ghost use Rattle.capnp_format.specs.Word.{kind, element_size, list_count};
 ghost use Rattle.capnp_pointers.specs.Sizes.{size_number};
-ghost use Rattle.layout_vectors.specs.Padding.{IsPadded};
+ghost use Rattle.capnp_format.specs.Padding.{IsPadded};
 ghost use Rattle.capnp_words.specs.declared.error.ErrorKind.TheVariants.{AllocationFailed};
 ghost use Rattle.layout_vectors.specs.Landings.{target_of};
 ghost use Rattle.layout_vectors.specs.Walks.{walk, Goes, Fails, TakesObject, HasNoObject, FitsMarks};
@@ -45,7 +45,7 @@ pub(crate) fn take_object<A: ReaderArena>(
     }
 }
 
-/// Takes a struct.
+/// Takes the words of a struct, and puts the places of its pointers behind the others ("Structs").
 fn take_struct<A: ReaderArena>(
     arena: &A,
     marks: &mut Marks,
@@ -67,7 +67,7 @@ fn take_struct<A: ReaderArena>(
     Ok(true)
 }
 
-/// Takes a list of pointers.
+/// Takes the words of a list of pointers, and puts their places behind the others ("Lists").
 fn take_pointers<A: ReaderArena>(
     arena: &A,
     marks: &mut Marks,
@@ -89,7 +89,7 @@ fn take_pointers<A: ReaderArena>(
     Ok(true)
 }
 
-/// Takes a list of numbers.
+/// Takes the words of a list of numbers, if the bits behind its elements are zero ("Lists").
 fn take_flat<A: ReaderArena>(
     arena: &A,
     marks: &mut Marks,
@@ -143,7 +143,8 @@ fn whole_words(bytes: &[u8]) -> usize
     bytes.len() / 8
 }
 
-/// The same, in the bytes of the segment.
+/// Whether the bits behind the elements of a list are zero, which starts at a word of these bytes and lies
+/// in them.
 fn is_padded(bytes: &[u8], start: u32, size: ElementSize, count: u32) -> bool
     requires inside { start + words_for (size_number size) count ≤ length (words_of bytes.now) }
     requires small { length (words_of bytes.now) < 2 ^ 32 }
@@ -163,7 +164,8 @@ fn is_padded(bytes: &[u8], start: u32, size: ElementSize, count: u32) -> bool
     false
 }
 
-/// Takes a list of structs.
+/// Takes the words of a list of structs with its tag, if it claims exactly its elements, and puts the
+/// places of their pointers behind the others ("Lists").
 fn take_structs<A: ReaderArena>(
     arena: &A,
     marks: &mut Marks,

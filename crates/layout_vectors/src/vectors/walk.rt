@@ -44,7 +44,7 @@ pub fn audit(alloc: Global, segments: &[&[u8]]) -> Result<bool, ErrorKind>
     }
 }
 
-/// The same of a message, with marks of which none is set yet.
+/// Whether a message is one that a builder made, with marks for its words of which none is set yet.
 fn walk_from_root<A: ReaderArena>(
     alloc: Global,
     arena: &A,
@@ -68,7 +68,8 @@ fn walk_from_root<A: ReaderArena>(
     Ok(rest_is_zero(arena, &marks))
 }
 
-/// Takes what the pointer at a place leads to, with its landing pads. False as of `take_object`.
+/// Takes what the pointer at a place leads to, with its landing pads. False where it leads nowhere, where a
+/// word of a landing pad is taken already, and where `take_object` says so.
 fn walk_pointer<A: ReaderArena>(
     arena: &A,
     marks: &mut Marks,
@@ -125,7 +126,7 @@ fn rest_is_zero<A: ReaderArena>(arena: &A, marks: &Marks) -> bool
     true
 }
 
-/// The same of one segment.
+/// Whether each word of a segment that isn't taken is zero, by its bytes and the marks of its words.
 fn is_zero_behind(bytes: &[u8], row: &[u8]) -> bool
     requires { length row.now ≡ length (words_of bytes.now) }
     ensures { IsTrue result ↔ IsZeroBehind (words_of bytes.now) row.now }

@@ -5,7 +5,7 @@ use Rattle.capnp_format.specs.Segments.{Segments, word_at, leads}
 use Rattle.layout_vectors.specs.Landings.{target_of, landed}
 use Rattle.layout_vectors.specs.Walks.{Walk, walk}
 use Rattle.capnp_format.specs.Forest.{times, pads_of}
-use Rattle.layout_vectors.specs.Counts.{PadsInside}
+use Rattle.capnp_format.specs.Forest.{PadsInside}
 use Rattle.layout_vectors.specs.Marks.{rows_of, TakesAll, TakesPads, IsTakenAlready}
 use Rattle.layout_vectors.proofs.Steps.{null_walked, pointer_walked, pointer_unwalked, pads_refused, nowhere_fails, ok_map}
 use Rattle.layout_vectors.proofs.vectors.walk.walk_pointer.Goals as goal
