@@ -8,7 +8,7 @@ use Rattle.capnp_framing.specs.declared.devices.Input.{Ghosts}
 use Rattle.capnp_framing.specs.declared.framing.frame_error.FrameError.{FrameError}
 use Rattle.capnp_framing.specs.declared.framing.frame_error.FrameError.TheVariants.{NoSegments, TooManySegments, MessageTooLong, Truncated, ReadFailed}
 
--- So many segments make no frame: there are none, or too many.
+-- The refusal e of n segments, which make no frame: there are none, or too many.
 abbrev pub IsRefusedNumber : ℕ → FrameError → Type 0
 IsRefusedNumber n e = ((e ≡ NoSegments) × (n ≡ 0)) ⊎ ((e ≡ TooManySegments n) × (max_segments < n))
 

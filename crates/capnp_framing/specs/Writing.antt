@@ -14,6 +14,6 @@ module _ {W : Type 0} (g : Ghosts W) where
   abbrev pub Prints : W → W → List ℕ → Type 0
   Prints from to bytes = Appends (g.contents from) (g.contents to) bytes
 
-  -- It has taken none, and works.
+  -- An output has taken nothing, and works if it did before.
   abbrev pub IsUnwritten : W → W → Type 0
   IsUnwritten from to = (g.contents to ≡ g.contents from) × (g.has_failed to ≡ g.has_failed from)

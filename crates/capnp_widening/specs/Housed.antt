@@ -28,6 +28,6 @@ pub record IsSettled (S R : Segments) (u q : ℕ) (b : Target) (v at pads : ℕ)
   pub pads_there : (x y : ℕ) → times (pads_of (word_at R u q)) x y ≡ times (row v at pads ∷ []) x y
   pub kept : (x y : ℕ) → times (one_word u q ∷ []) x y ≡ 0 → times (row v at pads ∷ []) x y ≡ 0 → word_at R x y ≡ word_at S x y
 
--- So to what is in a room, and is of a shape.
+-- From S to R the pointer at (u, q) is overwritten, and leads to the object of this shape that stands in a room.
 abbrev pub Settles : Segments → Segments → ℕ → ℕ → Room → Shape → Type 0
 Settles S R u q h shape = (b : Target) × IsSettled S R u q b h.segment h.at h.pads × IsShape shape b.word × (b.segment ≡ h.segment) × (b.start ≡ h.at + h.pads)

@@ -45,7 +45,7 @@ abbrev pub row_of_moves : ℕ → ℕ → ℕ → ℕ → ℕ → List Move
 row_of_moves s p v r zero = []
 row_of_moves s p v r (suc k) = a_move s p v r ∷ row_of_moves s (p + 1) v (r + 1) k
 
--- So n times k pointers, every w words, written anew every z words.
+-- Rows of k pointers, n of them, one every w words, written anew one every z words.
 abbrev pub rows_of_moves : ℕ → ℕ → ℕ → ℕ → ℕ → ℕ → ℕ → ℕ → List Move
 rows_of_moves s p w v r z k zero = []
 rows_of_moves s p w v r z k (suc n) = row_of_moves s p v r k ++ rows_of_moves s (p + w) w v (r + z) z k n
@@ -109,7 +109,7 @@ pub record AreMoved (S R : Segments) (ms : List Move) : Type 0 where
 abbrev pub Moves : Segments → Segments → List Move → Type 0
 Moves S R ms = (B : Segments) → CanMove B S ms → AreMoved S R ms
 
--- So are some of the first ones.
+-- From S to R some of the first pointers are moved.
 pub record MovesSome (S R : Segments) (ms : List Move) : Type 0 where
   pub done : List Move
   pub left : List Move

@@ -19,7 +19,8 @@ pub record IsPointed (S R : Segments) (s p : ℕ) (a : Target) : Type 0 where
   pub fresh : (x y : ℕ) → 0 < times (pads_of (word_at R s p)) x y → (length (segment S x) ≤ y) × (y < length (segment R x))
   pub zero : (x y : ℕ) → times (pads_of (word_at R s p)) x y ≡ 0 → length (segment S x) ≤ y → word_at R x y ≡ 0
 
--- So to what starts at h and is of a shape; a struct without sections may be meant to start anywhere.
+-- From S to R the pointer at a place is written to the object of this shape that starts at h; a struct without sections may be meant
+-- to start anywhere.
 abbrev pub PointsTo : Segments → Segments → Shape → Start → Start → Type 0
 PointsTo S R shape h at =
     (a : Target) × IsPointed S R at.segment at.at a × IsShape shape a.word

@@ -26,7 +26,7 @@ abbrev pub fill_elements : ℕ → ℕ → Elements → Elements
 fill_elements d q no_elements = no_elements
 fill_elements d q (element ws ts es) = element (fill_words d ws) (fill_trees q ts) (fill_elements d q es)
 
--- A struct for each number, and for each child.
+-- A struct for each number, or for each child.
 abbrev pub struct_for_each : ℕ → ℕ → List ℕ → Elements
 struct_for_each d q [] = no_elements
 struct_for_each d q (x ∷ xs) = element (fill_words d (x ∷ [])) (nulls q) (struct_for_each d q xs)

@@ -25,7 +25,7 @@ fn is_word_zero(bytes: &[u8], at: usize) -> bool
     u8x8::from_slice(&bytes[at..]).reduce_or() == 0
 }
 
-/// Whether bytes are zero, one by one.
+/// Whether bytes are zero, looked at one by one.
 #[inline(always)]
 fn are_zero(bytes: &[u8]) -> bool
     ensures { IsTrue result ↔ All (λ byte. byte ≡ 0) bytes.now }
@@ -33,7 +33,7 @@ fn are_zero(bytes: &[u8]) -> bool
     bytes.iter().all(|byte| *byte == 0)
 }
 
-/// Whether bytes are zero, word by word and then byte by byte.
+/// Whether bytes are zero, looked at word by word, and then byte by byte.
 #[inline(always)]
 fn is_rest_zero(bytes: &[u8]) -> bool
     ensures { IsTrue result ↔ All (λ byte. byte ≡ 0) bytes.now }
@@ -48,7 +48,7 @@ fn is_rest_zero(bytes: &[u8]) -> bool
     are_zero(&bytes[at..])
 }
 
-/// Whether no byte but 0 is among these.
+/// Whether all bytes are zero. So are no bytes.
 pub fn is_zero(bytes: &[u8]) -> bool
     ensures { IsTrue result ↔ All (λ byte. byte ≡ 0) bytes.now }
 {
@@ -95,8 +95,8 @@ fn end_of_blocks(bytes: &[u8]) -> usize
     end
 }
 
-/// The same. Few words, and those that end in one that is not zero, are left to the plain loop: for them
-/// it is the fastest.
+/// A position in words behind which all is zero. Fewer than 16 words, and those of which the last is not
+/// zero, are left to the plain loop, which is the fastest for them.
 #[inline(always)]
 fn end_of_words(bytes: &[u8]) -> usize
     ensures used { used_words (words_of bytes.now) ≡ used_words (take result (words_of bytes.now)) }
@@ -112,7 +112,7 @@ fn end_of_words(bytes: &[u8]) -> usize
     end_of_blocks(bytes)
 }
 
-/// How many words at the end are zero. The bytes are whole words.
+/// How many of the words of eight bytes at the end are zero. The bytes are whole words.
 pub fn trailing_zero_words(bytes: &[u8]) -> usize
     requires { length bytes.now % 8 ≡ 0 }
     ensures { result + used_words (words_of bytes.now) ≡ length (words_of bytes.now) }

@@ -2,4 +2,6 @@
 #![tactic(auto)]
 
 #[cfg(test)]
+mod unframed;
+#[cfg(test)]
 mod written;

@@ -44,7 +44,7 @@ fn of_some_words(rt: HostRuntime) {
 
 #[test]
 fn one_bit(rt: HostRuntime) {
-    for length in 0..LENGTH {
+    for length in 0..LENGTH + 1 {
         let mut bytes = [0u8; LENGTH];
         assert!(rt; is_zero(&bytes[..length]));
         for i in 0..length {
@@ -61,7 +61,7 @@ fn one_bit(rt: HostRuntime) {
 
 #[test]
 fn zeroed(rt: HostRuntime) {
-    for length in 0..LENGTH {
+    for length in 0..LENGTH + 1 {
         let mut bytes = numbers();
         zero(&mut bytes[..length]);
         for i in 0..LENGTH {
@@ -73,7 +73,7 @@ fn zeroed(rt: HostRuntime) {
 #[test]
 fn copied(rt: HostRuntime) {
     let from = numbers();
-    for length in 0..LENGTH {
+    for length in 0..LENGTH + 1 {
         let mut to = [0u8; LENGTH];
         copy(&from[..length], &mut to[..length]);
         for i in 0..LENGTH {
