@@ -3,10 +3,10 @@ ghost use Rattle.std.specs.Prelude.{◌≡◌, ℕ, ◌<◌, ◌≤◌, ◌+◌,
 ghost use Rattle.capnp_arena.specs.View.{KeepsLimits};
 ghost use Rattle.capnp_format.specs.Segments.{segment, word_at, IsPlace};
 ghost use Rattle.capnp_format.specs.Tree.{Tree};
-ghost use Rattle.capnp_format.specs.Forest.{pads_of};
+ghost use Rattle.capnp_format.specs.Forest.{pads_of, row, PadsInside};
 ghost use Rattle.capnp_making.specs.Path.{extent};
 ghost use Rattle.capnp_making.specs.Landings.{target_of};
-ghost use Rattle.capnp_making.specs.Zeroed.{row, IsZeroed, IsPruned, PadsInside, IsApart, IsObjectZeroed, IsStructZeroed, ArePointersZeroed, IsStructListZeroed, AreElementsZeroed, element_row};
+ghost use Rattle.capnp_making.specs.Zeroed.{IsZeroed, IsPruned, IsApart, IsObjectZeroed, IsStructZeroed, ArePointersZeroed, IsStructListZeroed, AreElementsZeroed, element_row};
 
 use crate::landing::{Landing, follow, length_of, word_of};
 use capnp_arena::arena::BuilderArena;
