@@ -15,15 +15,8 @@ import re
 import subprocess
 import sys
 
-# Until a list of structs takes one level below `get_struct_element`, the answer of a row is its `stdout_two_levels`
-# where it has one.
-TWO_LEVELS = True
 # What a row may need that no call has yet.
 NOT_THERE = {'widening'}
-
-
-def wanted(row):
-    return row.get('stdout_two_levels', row['stdout']) if TWO_LEVELS else row['stdout']
 
 
 def answers(binary, command, rows, limit):
@@ -46,10 +39,10 @@ def tried(binary, path, options):
     lines, wrong = answers(binary, re.split('[_.]', path.name)[0], [row for _, row in rows], options.limit)
     failed = 0
     for (number, row), line in itertools.zip_longest(rows, lines[:len(rows)], fillvalue='(no line)'):
-        if line != wanted(row):
+        if line != row['stdout']:
             failed += 1
             if failed <= options.show:
-                print(f"{path.name}:{number} {row['stdin'].strip():.200}\n  wanted {wanted(row).strip():.400}\n  got    {line.strip():.400}")
+                print(f"{path.name}:{number} {row['stdin'].strip():.200}\n  wanted {row['stdout'].strip():.400}\n  got    {line.strip():.400}")
     if wrong or not rows:
         print(f"{path.name}: {wrong or 'no row was run'}")
         failed = max(failed, 1)
