@@ -1,8 +1,6 @@
-//! Tests of capnp_copies: worked messages beside the segments that a copy of them makes, and what
-//! stands where a copy is refused.
+//! Tests of capnp_copies: what stands where memory for a copy is refused. Worked messages beside what a copy
+//! of them makes are rows of building calls.
 #![tactic(auto)]
 
 #[cfg(test)]
 mod memory;
-#[cfg(test)]
-mod segments;

@@ -1,0 +1,63 @@
+//! Messages that are built, and their places.
+ghost use Rattle.std.specs.Prelude.{◌<◌, [], get_or, length};
+ghost use Rattle.capnp_readers.specs.Readers.{IsStructPlace};
+
+use capnp_arena::arena::{Allocator, BuilderArena, BuilderArenaImpl, ReaderArena};
+use capnp_builders::builders::{PointerBuilder, StructBuilder};
+use capnp_words::error::ErrorKind;
+use capnp_words::wire_pointer::StructSize;
+use std::alloc::Global;
+use std::process::Abort;
+
+/// One data word and one pointer.
+pub const ONE_EACH: StructSize = StructSize {
+    data_words: 1,
+    pointers: 1,
+};
+
+/// A struct of a data word, 7, and of a pointer to the bytes of the text `a`.
+pub const STRUCT: &str = "0000000001000100 0700000000000000 0100000012000000 6100000000000000";
+
+/// The same, each object behind a landing pad in a segment of its own.
+pub const STRUCT_APART: &str =
+    "0200000001000000, 0000000001000100 0700000000000000 0200000002000000, 0100000012000000 6100000000000000";
+
+/// An arena with one segment, and in it a word for the root.
+pub fn arena_of_root<A: Allocator>(
+    rt: &impl Abort,
+    alloc: Global,
+    allocator: A,
+) -> BuilderArenaImpl<A> {
+    test_support::arena_of_root(alloc, allocator).expect(rt, "memory")
+}
+
+/// The root pointer, whose word has to be there.
+pub fn root<'a, A: BuilderArena>(rt: &impl Abort, arena: &'a mut A) -> PointerBuilder<'a, A>
+    ensures { result.at < length (get_or (A.view result.arena.now).words result.segment []) }
+{
+    let segment = arena.get_segment(0).expect(rt, "a segment");
+    assert!(rt; segment.len() >= 8);
+    PointerBuilder::get_root(arena)
+}
+
+/// Checks that both sections of a struct lie in its message.
+pub fn check_struct<A: BuilderArena>(rt: &impl Abort, builder: &StructBuilder<'_, A>)
+    ensures { IsStructPlace (A.view builder.now.arena.now).words builder.now.place }
+{
+    let place = builder.place;
+    let segment = builder
+        .arena
+        .get_segment(place.segment)
+        .expect(rt, "a segment");
+    let words = segment.len() / 8;
+    let end = (place.byte as usize).checked_add((place.bits as usize + 7) / 8);
+    assert!(rt; end.expect(rt, "an end") <= 8 * words);
+    assert!(rt; place.pointers_at as usize + place.pointers as usize <= words);
+}
+
+/// Makes the root a struct of the number 7, and its pointer the text `a`.
+pub fn make_struct<A: BuilderArena>(rt: &impl Abort, arena: &mut A) -> Result<(), ErrorKind> {
+    let mut builder = root(rt, arena).init_struct(ONE_EACH)?;
+    builder.set_data_field(0, 7u64);
+    builder.get_pointer_field(0).set_text(b"a")
+}
