@@ -1,0 +1,137 @@
+//! Calls of builders of a message, and what each gives.
+
+mod bytes;
+mod call;
+mod copies;
+mod lists;
+mod numbers;
+mod place;
+mod pointers;
+mod structs;
+
+use self::call::{Call, MessageCall};
+use self::place::Place;
+use crate::memory;
+use crate::output::Output;
+use crate::parse::{self, Fault};
+use capnp_arena::arena::BuilderArena;
+use capnp_readers::readers::PointerPlace;
+use std::alloc::Global;
+
+/// The answer to a line of a number of words, a number of segments, and calls.
+pub fn answer(alloc: Global, line: &str) -> Result<String, Fault> {
+    let parts = parse::parts(alloc, line, ' ')?;
+    let [words, segments, calls @ ..] = parts.as_slice() else {
+        return Err(Fault::Malformed);
+    };
+    let allocator = memory::allocator(alloc, words, segments)?;
+    let mut out = Output::new(alloc);
+    match memory::built(alloc, allocator) {
+        Ok(mut arena) => {
+            put_answers(alloc, &mut arena, calls, &mut out)?;
+            memory::put_words(&arena, &mut out)?;
+        }
+        Err(kind) => {
+            out.text("refused ")?;
+            out.refusal(kind)?;
+        }
+    }
+    Ok(out.into_text())
+}
+
+/// Makes calls in order, and adds the answer of each with a `;` behind it.
+fn put_answers<A: BuilderArena>(
+    alloc: Global,
+    arena: &mut A,
+    calls: &[&str],
+    out: &mut Output,
+) -> Result<(), Fault> {
+    let mut kept = Vec::new(alloc);
+    keep(&mut kept, Place::Pointer(ROOT))?;
+    for text in calls {
+        match call_once(alloc, arena, kept.as_slice(), text, out) {
+            Ok(Some(place)) => keep(&mut kept, place)?,
+            Ok(None) => {}
+            Err(Fault::Unfit) => out.text("none")?,
+            Err(fault) => return Err(fault),
+        }
+        out.text(";")?;
+    }
+    Ok(())
+}
+
+/// The place of the root pointer.
+const ROOT: PointerPlace = PointerPlace {
+    segment: 0,
+    word: 0,
+};
+
+/// Puts a place behind those that are kept.
+fn keep(kept: &mut Vec<Place>, place: Place) -> Result<(), Fault> {
+    match kept.push(place) {
+        Ok(()) => Ok(()),
+        Err(_) => Err(Fault::NoMemory),
+    }
+}
+
+/// Makes a call and adds its answer. Gives the place that is to be kept, if there is one.
+fn call_once<A: BuilderArena>(
+    alloc: Global,
+    arena: &mut A,
+    kept: &[Place],
+    text: &str,
+    out: &mut Output,
+) -> Result<Option<Place>, Fault> {
+    let (place, text) = made_of(kept, text);
+    let parts = parse::parts(alloc, text, ',')?;
+    let [name, arguments @ ..] = parts.as_slice() else {
+        return Err(Fault::Malformed);
+    };
+    match (Call::new(name, arguments)?, place) {
+        (Call::Message(call), _) => message_call(arena, call, out),
+        (Call::Read, Some(place)) => place.read(arena, out),
+        (Call::Pointer(call), Some(Place::Pointer(place))) => {
+            pointers::call(alloc, arena, place, call, out)
+        }
+        (Call::Struct(call), Some(Place::Struct(place))) => {
+            structs::call(alloc, arena, place, call, out)
+        }
+        (Call::List(call), Some(Place::List(place))) => lists::call(alloc, arena, place, call, out),
+        _ => Err(Fault::Unfit),
+    }
+}
+
+/// The place that a call is made of, and the call: the place by its number before a point, or that
+/// which was kept last.
+fn made_of<'a>(kept: &[Place], text: &'a str) -> (Option<Place>, &'a str) {
+    match text.split_once('.') {
+        Some((number, call)) if parse::is_number(number) => {
+            let place = match parse::number::<usize>(number) {
+                Ok(number) => kept.get(number).copied(),
+                Err(_) => None,
+            };
+            (place, call)
+        }
+        _ => (kept.last().copied(), text),
+    }
+}
+
+/// Makes a call of the message itself.
+fn message_call<A: BuilderArena>(
+    arena: &A,
+    call: MessageCall,
+    out: &mut Output,
+) -> Result<Option<Place>, Fault> {
+    match call {
+        MessageCall::Words => memory::put_words(arena, out)?,
+        MessageCall::Refused => out.number(arena.refused())?,
+        MessageCall::Size => out.number(arena.size_in_words() as u64)?,
+        MessageCall::PointerAt(place) => {
+            if !place::is_pointer(arena, place) {
+                return Err(Fault::Unfit);
+            }
+            return Place::Pointer(place).put(out);
+        }
+    }
+    Ok(None)
+}

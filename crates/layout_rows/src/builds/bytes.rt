@@ -1,0 +1,179 @@
+//! Calls on a text or on data that a pointer leads to.
+
+use super::call::{Blob, BlobCall};
+use super::place::{Place, pointer, put_numbers, put_outcome, refuse};
+use super::pointers::LIST_LIMIT;
+use crate::output::Output;
+use crate::parse::{self, Fault};
+use capnp_arena::arena::BuilderArena;
+use capnp_readers::readers::PointerPlace;
+use capnp_words::error::ErrorKind;
+use std::alloc::Global;
+
+/// Makes a call on a text or on data and adds its answer.
+pub fn call<A: BuilderArena>(
+    alloc: Global,
+    arena: &mut A,
+    place: PointerPlace,
+    (blob, call): (Blob, BlobCall<'_>),
+    out: &mut Output,
+) -> Result<Option<Place>, Fault> {
+    match call {
+        BlobCall::Init(count, first) => {
+            let first = optional(alloc, first)?;
+            init(arena, place, (blob, count), slice(&first), out)
+        }
+        BlobCall::Set(text) => {
+            let bytes = parse::bytes(alloc, text)?;
+            set(arena, place, blob, bytes.as_slice(), out)
+        }
+        BlobCall::Find(default) => {
+            let default = optional(alloc, default)?;
+            find(arena, place, blob, slice(&default), out)
+        }
+        BlobCall::Get(default) => {
+            let default = optional(alloc, default)?;
+            get(arena, place, blob, slice(&default), out)
+        }
+        BlobCall::Write(index, byte) => write(arena, place, blob, (index, byte), out),
+    }
+}
+
+/// The bytes of hex digits, where these aren't missing.
+pub fn optional(alloc: Global, text: Option<&str>) -> Result<Option<Vec<u8>>, Fault> {
+    match text {
+        Some(text) => Ok(Some(parse::bytes(alloc, text)?)),
+        None => Ok(None),
+    }
+}
+
+/// The same bytes as a slice.
+pub fn slice(bytes: &Option<Vec<u8>>) -> Option<&[u8]> {
+    match bytes {
+        Some(bytes) => Some(bytes.as_slice()),
+        None => None,
+    }
+}
+
+// Makes so many bytes, and writes the first of them.
+fn init<A: BuilderArena>(
+    arena: &mut A,
+    place: PointerPlace,
+    (blob, count): (Blob, u32),
+    first: Option<&[u8]>,
+    out: &mut Output,
+) -> Result<Option<Place>, Fault> {
+    let pointer = pointer(arena, place)?;
+    let first = first.unwrap_or(&[]);
+    if first.len() > count as usize {
+        return Err(Fault::Unfit);
+    }
+    let made = match blob {
+        Blob::Text if count < LIST_LIMIT - 1 => pointer.init_text(count),
+        Blob::Data if count < LIST_LIMIT => pointer.init_data(count),
+        _ => return Err(Fault::Unfit),
+    };
+    match made {
+        Ok(bytes) => {
+            for (to, from) in bytes.iter_mut().zip(first) {
+                *to = *from;
+            }
+            out.number(bytes.len() as u64)?;
+            Ok(None)
+        }
+        Err(kind) => refuse(kind, out),
+    }
+}
+
+// Makes a text or data of given bytes.
+fn set<A: BuilderArena>(
+    arena: &mut A,
+    place: PointerPlace,
+    blob: Blob,
+    bytes: &[u8],
+    out: &mut Output,
+) -> Result<Option<Place>, Fault> {
+    let mut pointer = pointer(arena, place)?;
+    let limit = LIST_LIMIT as usize;
+    let outcome = match blob {
+        Blob::Text if bytes.len() < limit - 1 => pointer.set_text(bytes),
+        Blob::Data if bytes.len() < limit => pointer.set_data(bytes),
+        _ => return Err(Fault::Unfit),
+    };
+    put_outcome(outcome, out)
+}
+
+// Adds where a text or data is.
+fn find<A: BuilderArena>(
+    arena: &mut A,
+    place: PointerPlace,
+    blob: Blob,
+    default: Option<&[u8]>,
+    out: &mut Output,
+) -> Result<Option<Place>, Fault> {
+    let pointer = pointer(arena, place)?;
+    let found = match blob {
+        Blob::Text => pointer.find_text(default),
+        Blob::Data => pointer.find_data(default),
+    };
+    match found {
+        Ok(bytes) => {
+            let numbers = [bytes.segment, bytes.start, bytes.length];
+            put_numbers(&numbers.map(u64::from), out)?;
+            Ok(None)
+        }
+        Err(kind) => refuse(kind, out),
+    }
+}
+
+// Adds a text or data.
+fn get<A: BuilderArena>(
+    arena: &mut A,
+    place: PointerPlace,
+    blob: Blob,
+    default: Option<&[u8]>,
+    out: &mut Output,
+) -> Result<Option<Place>, Fault> {
+    match lent(arena, place, blob, default)? {
+        Ok(bytes) => {
+            out.hex_or_dash(bytes)?;
+            Ok(None)
+        }
+        Err(kind) => refuse(kind, out),
+    }
+}
+
+// Writes a byte of a text or of data.
+fn write<A: BuilderArena>(
+    arena: &mut A,
+    place: PointerPlace,
+    blob: Blob,
+    (index, byte): (usize, u8),
+    out: &mut Output,
+) -> Result<Option<Place>, Fault> {
+    match lent(arena, place, blob, None)? {
+        Ok(bytes) => {
+            let Some(at) = bytes.get_mut(index) else {
+                return Err(Fault::Unfit);
+            };
+            *at = byte;
+            out.text("ok")?;
+            Ok(None)
+        }
+        Err(kind) => refuse(kind, out),
+    }
+}
+
+// The bytes of a text or of data, to be written.
+fn lent<'a, A: BuilderArena>(
+    arena: &'a mut A,
+    place: PointerPlace,
+    blob: Blob,
+    default: Option<&[u8]>,
+) -> Result<Result<&'a mut [u8], ErrorKind>, Fault> {
+    let pointer = pointer(arena, place)?;
+    Ok(match blob {
+        Blob::Text => pointer.get_text(default),
+        Blob::Data => pointer.get_data(default),
+    })
+}

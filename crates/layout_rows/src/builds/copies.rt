@@ -1,0 +1,143 @@
+//! Calls that copy from another message.
+
+use super::call::Copying;
+use super::place::{Place, pointer, structure};
+use crate::output::Output;
+use crate::parse::{self, Fault};
+use crate::source::SourceText;
+use capnp_arena::arena::{BuilderArena, ReaderArena, ReaderArenaImpl, SegmentArray};
+use capnp_readers::readers::{PointerPlace, PointerReader, StructPlace};
+use capnp_words::error::ErrorKind;
+use capnp_words::read_limiter::ReadLimiter;
+use std::alloc::{AllocError, Global};
+
+/// Where a copy goes.
+#[derive(Clone, Copy)]
+enum Goal {
+    /// To a pointer.
+    Pointer(PointerPlace, Copying, bool),
+    /// To the content of a struct.
+    Content(StructPlace),
+}
+
+/// What became of a copy.
+#[derive(Drop)]
+enum Outcome {
+    /// The source wasn't found.
+    NoSource(ErrorKind),
+    /// It was copied, or the copy was refused.
+    Copied(Result<(), ErrorKind>),
+}
+
+/// Makes a pointer a copy and adds what becomes of it.
+pub fn copy<A: BuilderArena>(
+    alloc: Global,
+    arena: &mut A,
+    place: PointerPlace,
+    (copying, source, canonical): (Copying, SourceText<'_>, bool),
+    out: &mut Output,
+) -> Result<Option<Place>, Fault> {
+    copy_to(
+        alloc,
+        arena,
+        Goal::Pointer(place, copying, canonical),
+        source,
+        out,
+    )
+}
+
+/// Makes the content of a struct a copy and adds what becomes of it.
+pub fn content<A: BuilderArena>(
+    alloc: Global,
+    arena: &mut A,
+    place: StructPlace,
+    source: SourceText<'_>,
+    out: &mut Output,
+) -> Result<Option<Place>, Fault> {
+    copy_to(alloc, arena, Goal::Content(place), source, out)
+}
+
+// Copies from the root of another message.
+fn copy_to<A: BuilderArena>(
+    alloc: Global,
+    arena: &mut A,
+    goal: Goal,
+    source: SourceText<'_>,
+    out: &mut Output,
+) -> Result<Option<Place>, Fault> {
+    let segments = source.segments(alloc)?;
+    let slices = parse::slices(alloc, segments.as_slice())?;
+    let Some(array) = SegmentArray::new(slices.as_slice()) else {
+        return Err(Fault::Unfit);
+    };
+    let message = ReaderArenaImpl::new(array, source.options);
+    let mut lim = ReadLimiter::new(source.options.traversal_limit_in_words);
+    let outcome = match PointerReader::get_root_from_arena(&message, &mut lim) {
+        Ok(root) => copy_root(arena, goal, root, &mut lim)?,
+        Err(kind) => Outcome::NoSource(kind),
+    };
+    put_outcome(outcome, &lim, out)?;
+    Ok(None)
+}
+
+// Copies from a pointer.
+fn copy_root<A: BuilderArena, B: ReaderArena>(
+    arena: &mut A,
+    goal: Goal,
+    root: PointerReader<'_, B>,
+    lim: &mut ReadLimiter,
+) -> Result<Outcome, Fault> {
+    match goal {
+        Goal::Pointer(place, copying, canonical) => {
+            copy_value(arena, place, (copying, canonical), root, lim)
+        }
+        Goal::Content(place) => {
+            let mut builder = structure(arena, place)?;
+            match root.get_struct(lim, None) {
+                Ok(value) => Ok(Outcome::Copied(builder.copy_content_from(&value, lim))),
+                Err(kind) => Ok(Outcome::NoSource(kind)),
+            }
+        }
+    }
+}
+
+// Makes a pointer a copy of what another one leads to.
+fn copy_value<A: BuilderArena, B: ReaderArena>(
+    arena: &mut A,
+    place: PointerPlace,
+    (copying, canonical): (Copying, bool),
+    root: PointerReader<'_, B>,
+    lim: &mut ReadLimiter,
+) -> Result<Outcome, Fault> {
+    let mut pointer = pointer(arena, place)?;
+    match copying {
+        Copying::Value => Ok(Outcome::Copied(pointer.copy_from(root, lim, canonical))),
+        Copying::Struct => match root.get_struct(lim, None) {
+            Ok(value) => Ok(Outcome::Copied(pointer.set_struct(&value, lim, canonical))),
+            Err(kind) => Ok(Outcome::NoSource(kind)),
+        },
+        Copying::List(size) => match root.get_list(lim, size, None) {
+            Ok(value) => Ok(Outcome::Copied(pointer.set_list(&value, lim, canonical))),
+            Err(kind) => Ok(Outcome::NoSource(kind)),
+        },
+    }
+}
+
+// Adds what became of a copy, and of it what the limiter has left and how many pointers it has counted.
+fn put_outcome(outcome: Outcome, lim: &ReadLimiter, out: &mut Output) -> Result<(), AllocError> {
+    match outcome {
+        Outcome::NoSource(kind) => {
+            out.text("source:")?;
+            return out.refusal(kind);
+        }
+        Outcome::Copied(Ok(())) => out.text("ok")?,
+        Outcome::Copied(Err(kind)) => out.refusal(kind)?,
+    }
+    out.text("/")?;
+    match lim.left() {
+        Some(words) => out.number(words as u64)?,
+        None => out.text("none")?,
+    }
+    out.text("/")?;
+    out.number(lim.followed())
+}

@@ -1,0 +1,127 @@
+//! Calls of a list.
+
+use super::call::{ListCall, Number, Primitive};
+use super::numbers::{element, put_element, set_element, set_number};
+use super::place::{Place, list};
+use crate::output::Output;
+use crate::parse::{self, Fault};
+use capnp_arena::arena::BuilderArena;
+use capnp_readers::readers::{ListPlace, PointerPlace};
+use capnp_words::wire_pointer::ElementSize;
+use std::alloc::Global;
+
+/// Makes a call of a list and adds its answer.
+pub fn call<A: BuilderArena>(
+    alloc: Global,
+    arena: &mut A,
+    place: ListPlace,
+    call: ListCall<'_>,
+    out: &mut Output,
+) -> Result<Option<Place>, Fault> {
+    match call {
+        ListCall::Element(index) => return struct_element(arena, place, index)?.put(out),
+        ListCall::Pointer(index) => return pointer_element(arena, place, index)?.put(out),
+        ListCall::Get(Primitive::Void, index) => {
+            let () = element(arena, place, index)?;
+            out.text("-")?;
+        }
+        ListCall::Get(Primitive::Bool, index) => out.flag(element(arena, place, index)?)?,
+        ListCall::Get(Primitive::Number(number), index) => {
+            get_number(alloc, arena, place, (number, index), out)?;
+        }
+        ListCall::Set(primitive, index, value) => {
+            set(arena, place, primitive, (index, value))?;
+            out.text("ok")?;
+        }
+    }
+    Ok(None)
+}
+
+// An element as a struct.
+fn struct_element<A: BuilderArena>(
+    arena: &mut A,
+    place: ListPlace,
+    index: u32,
+) -> Result<Place, Fault> {
+    let builder = list(arena, place)?;
+    if index >= place.count || place.size == ElementSize::Bit {
+        return Err(Fault::Unfit);
+    }
+    Ok(Place::Struct(builder.get_struct_element(index).place))
+}
+
+// The pointer of an element.
+fn pointer_element<A: BuilderArena>(
+    arena: &mut A,
+    place: ListPlace,
+    index: u32,
+) -> Result<Place, Fault> {
+    let builder = list(arena, place)?;
+    let holds_pointer = match place.size {
+        ElementSize::Pointer => true,
+        ElementSize::InlineComposite => place.struct_size.pointers > 0,
+        _ => false,
+    };
+    if index >= place.count || !holds_pointer {
+        return Err(Fault::Unfit);
+    }
+    let pointer = builder.get_pointer_element(index);
+    Ok(Place::Pointer(PointerPlace {
+        segment: pointer.segment,
+        word: pointer.at,
+    }))
+}
+
+// Writes an element.
+fn set<A: BuilderArena>(
+    arena: &mut A,
+    place: ListPlace,
+    primitive: Primitive,
+    (index, value): (u32, &str),
+) -> Result<(), Fault> {
+    match primitive {
+        Primitive::Void if value == "-" => set_element(arena, place, index, ()),
+        Primitive::Void => Err(Fault::Malformed),
+        Primitive::Bool => set_element(arena, place, index, parse::flag(value)?),
+        Primitive::Number(number) => set_as(arena, place, number, (index, value)),
+    }
+}
+
+// Writes an element that is a number of a type.
+fn set_as<A: BuilderArena>(
+    arena: &mut A,
+    place: ListPlace,
+    number: Number,
+    element: (u32, &str),
+) -> Result<(), Fault> {
+    match number {
+        Number::U8 => set_number::<A, u8>(arena, place, element),
+        Number::U16 => set_number::<A, u16>(arena, place, element),
+        Number::U32 => set_number::<A, u32>(arena, place, element),
+        Number::U64 => set_number::<A, u64>(arena, place, element),
+        Number::I8 => set_number::<A, i8>(arena, place, element),
+        Number::I16 => set_number::<A, i16>(arena, place, element),
+        Number::I32 => set_number::<A, i32>(arena, place, element),
+        Number::I64 => set_number::<A, i64>(arena, place, element),
+    }
+}
+
+// Adds an element that is a number of a type.
+fn get_number<A: BuilderArena>(
+    alloc: Global,
+    arena: &mut A,
+    place: ListPlace,
+    (number, index): (Number, u32),
+    out: &mut Output,
+) -> Result<(), Fault> {
+    match number {
+        Number::U8 => put_element::<A, u8>(alloc, arena, place, index, out),
+        Number::U16 => put_element::<A, u16>(alloc, arena, place, index, out),
+        Number::U32 => put_element::<A, u32>(alloc, arena, place, index, out),
+        Number::U64 => put_element::<A, u64>(alloc, arena, place, index, out),
+        Number::I8 => put_element::<A, i8>(alloc, arena, place, index, out),
+        Number::I16 => put_element::<A, i16>(alloc, arena, place, index, out),
+        Number::I32 => put_element::<A, i32>(alloc, arena, place, index, out),
+        Number::I64 => put_element::<A, i64>(alloc, arena, place, index, out),
+    }
+}

@@ -1,0 +1,162 @@
+//! Numbers of the data section of a struct, and of the elements of a list.
+ghost use Rattle.std.specs.Prelude.{◌≡◌, ◌<◌, ◌≤◌, IsTrue};
+ghost use Rattle.capnp_format.specs.Numbers.{element_bits};
+ghost use Rattle.capnp_pointers.specs.Sizes.{size_number};
+ghost use Rattle.capnp_readers.specs.Sections.{IsInside, data_bits};
+
+use super::place::{list, structure};
+use crate::output::Output;
+use crate::parse::{self, Fault};
+use capnp_arena::arena::BuilderArena;
+use capnp_builders::builders::PrimitiveElement;
+use capnp_readers::readers::{ListPlace, StructPlace};
+use capnp_words::mask::Mask;
+use capnp_words::primitive::Primitive;
+use capnp_words::wire_pointer::{ElementSize, data_bits_per_element};
+use capnp_words::zero::Zero;
+use std::alloc::Global;
+use std::fmt::Display;
+use std::str::FromStr;
+
+/// Writes a number of a struct, under a mask if there is one.
+pub fn set_field<A: BuilderArena, T: Primitive + Zero + Mask<T = T> + FromStr + Drop>(
+    arena: &mut A,
+    place: StructPlace,
+    (index, value, mask): (usize, &str, Option<&str>),
+) -> Result<(), Fault>
+where
+    T::Err: Drop,
+{
+    let value: T = parse::number(value)?;
+    let mask: Option<T> = mask_of(mask)?;
+    let mut builder = structure(arena, place)?;
+    if !is_field(place.bits, 8 * T::BYTES, index) {
+        return Err(Fault::Unfit);
+    }
+    match mask {
+        Some(mask) => builder.set_data_field_mask(index, value, mask),
+        None => builder.set_data_field(index, value),
+    }
+    Ok(())
+}
+
+/// Adds a number of a struct, under a mask if there is one.
+pub fn put_field<A: BuilderArena, T: Primitive + Zero + Mask<T = T> + FromStr + Display + Drop>(
+    alloc: Global,
+    arena: &mut A,
+    place: StructPlace,
+    (index, mask): (usize, Option<&str>),
+    out: &mut Output,
+) -> Result<(), Fault>
+where
+    T::Err: Drop,
+{
+    let mask: Option<T> = mask_of(mask)?;
+    let builder = structure(arena, place)?;
+    if !is_field(place.bits, 8 * T::BYTES, index) {
+        return Err(Fault::Unfit);
+    }
+    let value: T = match mask {
+        Some(mask) => builder.get_data_field_mask(index, mask),
+        None => builder.get_data_field(index),
+    };
+    put_number(alloc, value, out)
+}
+
+// Whether a field of so many bits lies in a data section, by its index among fields as wide.
+fn is_field(bits: u32, width: usize, index: usize) -> bool
+    ensures { IsTrue result → IsInside bits width index }
+{
+    let Some(count) = index.checked_add(1) else {
+        return false;
+    };
+    match count.checked_mul(width) {
+        Some(end) => end <= bits as usize,
+        None => false,
+    }
+}
+
+// The mask of decimal digits.
+fn mask_of<T: FromStr>(digits: Option<&str>) -> Result<Option<T>, Fault>
+where
+    T::Err: Drop,
+{
+    match digits {
+        Some(digits) => Ok(Some(parse::number(digits)?)),
+        None => Ok(None),
+    }
+}
+
+// Adds a number.
+fn put_number<T: Display + Drop>(alloc: Global, value: T, out: &mut Output) -> Result<(), Fault> {
+    let digits = format!(in alloc; "{value}")?;
+    out.text(digits.as_str())?;
+    Ok(())
+}
+
+/// Writes an element of a list.
+pub fn set_element<A: BuilderArena, T: PrimitiveElement + Drop>(
+    arena: &mut A,
+    place: ListPlace,
+    index: u32,
+    value: T,
+) -> Result<(), Fault> {
+    let mut builder = list(arena, place)?;
+    if !is_element(place, T::element_size(), index) {
+        return Err(Fault::Unfit);
+    }
+    T::set(&mut builder, index, value);
+    Ok(())
+}
+
+/// An element of a list.
+pub fn element<A: BuilderArena, T: PrimitiveElement>(
+    arena: &mut A,
+    place: ListPlace,
+    index: u32,
+) -> Result<T, Fault> {
+    let builder = list(arena, place)?;
+    if !is_element(place, T::element_size(), index) {
+        return Err(Fault::Unfit);
+    }
+    Ok(T::get_from_builder(&builder, index))
+}
+
+// Whether there is such an element, whose data is as wide as that of elements of a size, or these have
+// no data.
+fn is_element(place: ListPlace, size: ElementSize, index: u32) -> bool
+    ensures range { IsTrue result → 0 < element_bits (size_number size) → index < place.count }
+    ensures wide { IsTrue result → element_bits (size_number size) ≤ data_bits place.size place.struct_size }
+{
+    let bits = match place.size {
+        ElementSize::InlineComposite => 64 * u32::from(place.struct_size.data_words),
+        size => data_bits_per_element(size),
+    };
+    let wanted = data_bits_per_element(size);
+    wanted == 0 || index < place.count && wanted <= bits
+}
+
+/// Writes a number of decimal digits over an element of a list.
+pub fn set_number<A: BuilderArena, T: PrimitiveElement + FromStr + Drop>(
+    arena: &mut A,
+    place: ListPlace,
+    (index, value): (u32, &str),
+) -> Result<(), Fault>
+where
+    T::Err: Drop,
+{
+    let value: T = parse::number(value)?;
+    set_element(arena, place, index, value)
+}
+
+/// Adds an element of a list as decimal digits.
+pub fn put_element<A: BuilderArena, T: PrimitiveElement + Display + Drop>(
+    alloc: Global,
+    arena: &mut A,
+    place: ListPlace,
+    index: u32,
+    out: &mut Output,
+) -> Result<(), Fault> {
+    let value: T = element(arena, place, index)?;
+    put_number(alloc, value, out)
+}

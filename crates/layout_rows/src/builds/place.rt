@@ -1,0 +1,279 @@
+//! Places of a message that is built: pointers, structs and lists, and whether they are in it.
+ghost use Rattle.std.specs.Prelude.{◌≡◌, ◌<◌, ◌^◌, ◌*◌, length, IsTrue, IfSome, IfOk};
+ghost use Rattle.capnp_format.specs.Segments.{segment, IsPlace};
+ghost use Rattle.capnp_readers.specs.Readers.{IsListPlace, IsStructPlace};
+ghost use Rattle.capnp_readers.specs.Sections.{bytes_for, list_words};
+ghost use Rattle.capnp_builders.specs.Building.{built, IsThere};
+ghost use Rattle.capnp_builders.specs.Places.{IsAligned};
+
+use crate::output::Output;
+use crate::parse::Fault;
+use capnp_arena::arena::BuilderArena;
+use capnp_builders::builders::{ListBuilder, PointerBuilder, StructBuilder};
+use capnp_readers::readers::{ListPlace, PointerPlace, StructPlace};
+use capnp_words::error::ErrorKind;
+use capnp_words::read_limiter::ReadLimiter;
+use capnp_words::wire_pointer::{ElementSize, data_bits_per_element};
+use std::alloc::AllocError;
+
+/// A place of a message that is built.
+#[derive(Clone, Copy)]
+pub enum Place {
+    /// A pointer.
+    Pointer(PointerPlace),
+    /// A struct.
+    Struct(StructPlace),
+    /// A list.
+    List(ListPlace),
+}
+
+impl Place {
+    /// Shows the place, which is to be kept.
+    pub fn put(self, out: &mut Output) -> Result<Option<Place>, Fault> {
+        match self {
+            Place::Pointer(place) => put_numbers(&[place.segment.into(), place.word.into()], out)?,
+            Place::Struct(place) => put_struct(place, out)?,
+            Place::List(place) => put_list(place, out)?,
+        }
+        Ok(Some(self))
+    }
+
+    /// Shows what a reader of the place reads.
+    pub fn read<A: BuilderArena>(
+        self,
+        arena: &mut A,
+        out: &mut Output,
+    ) -> Result<Option<Place>, Fault> {
+        match self {
+            Place::Pointer(place) => read_pointer(&pointer(arena, place)?, out)?,
+            Place::Struct(place) => read_struct(arena, place, out)?,
+            Place::List(place) => read_list(arena, place, out)?,
+        }
+        Ok(None)
+    }
+}
+
+/// Adds numbers, parted by `/`.
+pub fn put_numbers(numbers: &[u64], out: &mut Output) -> Result<(), AllocError> {
+    for (i, number) in numbers.iter().enumerate() {
+        if i > 0 {
+            out.text("/")?;
+        }
+        out.number(*number)?;
+    }
+    Ok(())
+}
+
+/// Adds a refusal.
+pub fn refuse(kind: ErrorKind, out: &mut Output) -> Result<Option<Place>, Fault> {
+    out.refusal(kind)?;
+    Ok(None)
+}
+
+/// Adds what became of a call that gives nothing.
+pub fn put_outcome(
+    outcome: Result<(), ErrorKind>,
+    out: &mut Output,
+) -> Result<Option<Place>, Fault> {
+    match outcome {
+        Ok(()) => out.text("ok")?,
+        Err(kind) => out.refusal(kind)?,
+    }
+    Ok(None)
+}
+
+// Shows where a struct is.
+fn put_struct(place: StructPlace, out: &mut Output) -> Result<(), AllocError> {
+    put_numbers(
+        &[
+            u64::from(place.segment),
+            place.byte,
+            u64::from(place.bits),
+            u64::from(place.pointers_at),
+            u64::from(place.pointers),
+        ],
+        out,
+    )
+}
+
+// Shows where a list is.
+fn put_list(place: ListPlace, out: &mut Output) -> Result<(), AllocError> {
+    put_numbers(
+        &[u64::from(place.segment), place.byte, u64::from(place.count)],
+        out,
+    )?;
+    put_elements(place, out)
+}
+
+// Shows what the elements of a list are.
+fn put_elements(place: ListPlace, out: &mut Output) -> Result<(), AllocError> {
+    out.text("/")?;
+    out.element_size(place.size)?;
+    out.text("/")?;
+    let size = place.struct_size;
+    put_numbers(&[u64::from(size.data_words), u64::from(size.pointers)], out)
+}
+
+// Shows what a pointer reads as.
+fn read_pointer<A: BuilderArena>(
+    pointer: &PointerBuilder<'_, A>,
+    out: &mut Output,
+) -> Result<(), AllocError> {
+    let reader = pointer.as_reader();
+    let mut lim = ReadLimiter::new(None);
+    out.flag(reader.is_null())?;
+    out.text("/")?;
+    match reader.total_size(&mut lim) {
+        Ok(size) => put_numbers(&[size.word_count, u64::from(size.cap_count)], out),
+        Err(kind) => out.refusal(kind),
+    }
+}
+
+// Shows what a struct reads as.
+fn read_struct<A: BuilderArena>(
+    arena: &mut A,
+    place: StructPlace,
+    out: &mut Output,
+) -> Result<(), Fault> {
+    let builder = structure(arena, place)?;
+    let reader = builder.as_reader();
+    out.hex_or_dash(reader.data_bytes())?;
+    out.text("/")?;
+    out.number(u64::from(reader.pointer_count()))?;
+    Ok(())
+}
+
+// Shows what a list reads as.
+fn read_list<A: BuilderArena>(
+    arena: &mut A,
+    place: ListPlace,
+    out: &mut Output,
+) -> Result<(), Fault> {
+    let builder = list(arena, place)?;
+    let reader = builder.as_reader();
+    let size = reader.struct_size();
+    out.number(u64::from(reader.len()))?;
+    out.text("/")?;
+    out.element_size(reader.get_element_size())?;
+    out.text("/")?;
+    put_numbers(&[u64::from(size.data_words), u64::from(size.pointers)], out)?;
+    Ok(())
+}
+
+// How many words a segment has, if it is there.
+fn words_in<A: BuilderArena>(arena: &A, id: u32) -> Option<u64>
+    ensures there { IfSome result (λ n. (id < length (A.view arena.now).words) × (n ≡ length (segment (A.view arena.now).words id))) }
+    ensures small { IfSome result (λ n. n < 2 ^ 32) }
+{
+    match arena.get_segment(id) {
+        Ok(bytes) => Some((bytes.len() / 8) as u64),
+        Err(_) => None,
+    }
+}
+
+/// Whether the word of a pointer is there.
+pub fn is_pointer<A: BuilderArena>(arena: &A, place: PointerPlace) -> bool
+    ensures { IsTrue result → IsPlace (A.view arena.now).words place.segment place.word }
+{
+    match words_in(arena, place.segment) {
+        Some(words) => u64::from(place.word) < words,
+        None => false,
+    }
+}
+
+// Whether both sections of a struct are there.
+fn is_struct<A: BuilderArena>(arena: &A, place: StructPlace) -> bool
+    ensures { IsTrue result → IsStructPlace (A.view arena.now).words place }
+{
+    match (
+        words_in(arena, place.segment),
+        place.byte.checked_add(bytes_for(place.bits)),
+    ) {
+        (Some(words), Some(end)) => {
+            end <= 8 * words && u64::from(place.pointers_at) + u64::from(place.pointers) <= words
+        }
+        _ => false,
+    }
+}
+
+// How many bytes so many bits touch.
+fn bytes_for(bits: u32) -> u64
+    ensures { result ≡ bytes_for bits }
+{
+    (u64::from(bits) + 7) / 8
+}
+
+// Whether the numbers of a data section lie on bytes that are a multiple of their own.
+fn is_aligned(place: StructPlace) -> bool
+    ensures { IsTrue result → IsAligned place }
+{
+    let widest = u64::from(place.bits / 8).min(8);
+    widest == 0 || 8 % widest == 0 && place.byte % widest == 0
+}
+
+// Whether the elements of a list are there.
+fn is_list<A: BuilderArena>(arena: &A, place: ListPlace) -> bool
+    ensures { IsTrue result → IsListPlace (A.view arena.now).words place }
+{
+    let elements = words_of(place.size, place.struct_size.total(), place.count);
+    match (
+        words_in(arena, place.segment),
+        (place.byte / 8).checked_add(elements),
+    ) {
+        (Some(words), Some(end)) => place.byte % 8 == 0 && end <= words,
+        _ => false,
+    }
+}
+
+// How many words so many elements take, of a width in words where they are structs.
+fn words_of(size: ElementSize, width: u32, count: u32) -> u64
+    ensures { result ≡ list_words size count width }
+{
+    match size {
+        ElementSize::InlineComposite => u64::from(count) * u64::from(width),
+        ElementSize::Pointer => u64::from(count),
+        size => (u64::from(count) * u64::from(data_bits_per_element(size)) + 63) / 64,
+    }
+}
+
+/// The pointer of a place, `Unfit` where it isn't there.
+pub fn pointer<A: BuilderArena>(
+    arena: &mut A,
+    place: PointerPlace,
+) -> Result<PointerBuilder<'_, A>, Fault>
+    ensures { IfOk result (λ b. IsThere (built A.view b)) }
+{
+    if !is_pointer(&*arena, place) {
+        return Err(Fault::Unfit);
+    }
+    Ok(PointerBuilder {
+        arena,
+        segment: place.segment,
+        at: place.word,
+    })
+}
+
+/// The struct of a place, `Unfit` where it isn't there.
+pub fn structure<A: BuilderArena>(
+    arena: &mut A,
+    place: StructPlace,
+) -> Result<StructBuilder<'_, A>, Fault>
+    ensures inside { IfOk result (λ b. IsStructPlace (A.view b.arena.now).words b.place) }
+    ensures place { IfOk result (λ b. b.place ≡ place) }
+{
+    if !is_struct(&*arena, place) || !is_aligned(place) {
+        return Err(Fault::Unfit);
+    }
+    Ok(StructBuilder { arena, place })
+}
+
+/// The list of a place, `Unfit` where it isn't there.
+pub fn list<A: BuilderArena>(arena: &mut A, place: ListPlace) -> Result<ListBuilder<'_, A>, Fault>
+    ensures inside { IfOk result (λ b. IsListPlace (A.view b.arena.now).words b.place) }
+    ensures place { IfOk result (λ b. b.place ≡ place) }
+{
+    if !is_list(&*arena, place) {
+        return Err(Fault::Unfit);
+    }
+    Ok(ListBuilder { arena, place })
+}

@@ -1,0 +1,150 @@
+//! Calls of a struct.
+
+use super::call::{Number, StructCall};
+use super::copies;
+use super::numbers::{put_field, set_field};
+use super::place::{Place, structure};
+use crate::output::Output;
+use crate::parse::Fault;
+use capnp_arena::arena::BuilderArena;
+use capnp_readers::readers::{PointerPlace, StructPlace};
+use std::alloc::Global;
+
+/// Makes a call of a struct and adds its answer.
+pub fn call<A: BuilderArena>(
+    alloc: Global,
+    arena: &mut A,
+    place: StructPlace,
+    call: StructCall<'_>,
+    out: &mut Output,
+) -> Result<Option<Place>, Fault> {
+    match call {
+        StructCall::Content(source) => return copies::content(alloc, arena, place, source, out),
+        StructCall::Field(index) => return field(arena, place, index, out),
+        StructCall::IsFieldNull(index) => is_field_null(arena, place, index, out)?,
+        StructCall::SetBool(index, value, mask) => {
+            set_bool(arena, place, (index, value, mask), out)?;
+        }
+        StructCall::GetBool(index, mask) => get_bool(arena, place, (index, mask), out)?,
+        StructCall::SetNumber(number, index, value, mask) => {
+            set_number(arena, place, number, (index, value, mask))?;
+            out.text("ok")?;
+        }
+        StructCall::GetNumber(number, index, mask) => {
+            get_number(alloc, arena, place, number, (index, mask), out)?;
+        }
+    }
+    Ok(None)
+}
+
+// Gives a pointer.
+fn field<A: BuilderArena>(
+    arena: &mut A,
+    place: StructPlace,
+    index: usize,
+    out: &mut Output,
+) -> Result<Option<Place>, Fault> {
+    let builder = structure(arena, place)?;
+    if index >= usize::from(place.pointers) {
+        return Err(Fault::Unfit);
+    }
+    let pointer = builder.get_pointer_field(index);
+    let place = PointerPlace {
+        segment: pointer.segment,
+        word: pointer.at,
+    };
+    Place::Pointer(place).put(out)
+}
+
+// Adds whether a pointer is zero.
+fn is_field_null<A: BuilderArena>(
+    arena: &mut A,
+    place: StructPlace,
+    index: usize,
+    out: &mut Output,
+) -> Result<(), Fault> {
+    let builder = structure(arena, place)?;
+    if index >= usize::from(place.pointers) {
+        return Err(Fault::Unfit);
+    }
+    out.flag(builder.is_pointer_field_null(index))?;
+    Ok(())
+}
+
+// Writes a bit.
+fn set_bool<A: BuilderArena>(
+    arena: &mut A,
+    place: StructPlace,
+    (index, value, mask): (usize, bool, Option<bool>),
+    out: &mut Output,
+) -> Result<(), Fault> {
+    let mut builder = structure(arena, place)?;
+    if index >= place.bits as usize {
+        return Err(Fault::Unfit);
+    }
+    match mask {
+        Some(mask) => builder.set_bool_field_mask(index, value, mask),
+        None => builder.set_bool_field(index, value),
+    }
+    out.text("ok")?;
+    Ok(())
+}
+
+// Adds a bit.
+fn get_bool<A: BuilderArena>(
+    arena: &mut A,
+    place: StructPlace,
+    (index, mask): (usize, Option<bool>),
+    out: &mut Output,
+) -> Result<(), Fault> {
+    let builder = structure(arena, place)?;
+    if index >= place.bits as usize {
+        return Err(Fault::Unfit);
+    }
+    let value = match mask {
+        Some(mask) => builder.get_bool_field_mask(index, mask),
+        None => builder.get_bool_field(index),
+    };
+    out.flag(value)?;
+    Ok(())
+}
+
+// Writes a number of a type.
+fn set_number<A: BuilderArena>(
+    arena: &mut A,
+    place: StructPlace,
+    number: Number,
+    field: (usize, &str, Option<&str>),
+) -> Result<(), Fault> {
+    match number {
+        Number::U8 => set_field::<A, u8>(arena, place, field),
+        Number::U16 => set_field::<A, u16>(arena, place, field),
+        Number::U32 => set_field::<A, u32>(arena, place, field),
+        Number::U64 => set_field::<A, u64>(arena, place, field),
+        Number::I8 => set_field::<A, i8>(arena, place, field),
+        Number::I16 => set_field::<A, i16>(arena, place, field),
+        Number::I32 => set_field::<A, i32>(arena, place, field),
+        Number::I64 => set_field::<A, i64>(arena, place, field),
+    }
+}
+
+// Adds a number of a type.
+fn get_number<A: BuilderArena>(
+    alloc: Global,
+    arena: &mut A,
+    place: StructPlace,
+    number: Number,
+    field: (usize, Option<&str>),
+    out: &mut Output,
+) -> Result<(), Fault> {
+    match number {
+        Number::U8 => put_field::<A, u8>(alloc, arena, place, field, out),
+        Number::U16 => put_field::<A, u16>(alloc, arena, place, field, out),
+        Number::U32 => put_field::<A, u32>(alloc, arena, place, field, out),
+        Number::U64 => put_field::<A, u64>(alloc, arena, place, field, out),
+        Number::I8 => put_field::<A, i8>(alloc, arena, place, field, out),
+        Number::I16 => put_field::<A, i16>(alloc, arena, place, field, out),
+        Number::I32 => put_field::<A, i32>(alloc, arena, place, field, out),
+        Number::I64 => put_field::<A, i64>(alloc, arena, place, field, out),
+    }
+}

@@ -1,0 +1,99 @@
+//! The program `layout_rows`: answers rows of reading and building calls, a line of standard input by a
+//! line of standard output. docs/ROWS.md says what a line holds.
+#![tactic(auto)]
+
+mod builds;
+mod edits;
+mod elements;
+mod memory;
+mod output;
+mod parse;
+mod reads;
+mod source;
+mod walk;
+
+use parse::Fault;
+use std::alloc::{AllocError, Global};
+use std::env;
+use std::io::{self, BufWriter, Read, Write};
+use std::process::ExitCode;
+
+/// What the lines are.
+#[derive(Clone, Copy)]
+enum Command {
+    /// A message, all of which is read in a fixed order.
+    Walk,
+    /// A message, and calls that read it.
+    Reads,
+    /// A message that is built, and edits of it.
+    Edits,
+    /// A message that is built, and calls that build it.
+    Builds,
+}
+
+fn main(rt: HostRuntime) -> ExitCode {
+    match run(&rt) {
+        Ok(code) => code,
+        Err(_) => ExitCode::from(1),
+    }
+}
+
+/// Does what the arguments ask for. An error is one of reading, of writing, or want of memory.
+fn run(rt: &HostRuntime) -> io::Result<ExitCode> {
+    match asked(rt)? {
+        Some(command) => {
+            respond(rt, command)?;
+            Ok(ExitCode::SUCCESS)
+        }
+        None => {
+            eprintln!(rt; "bad arguments")?;
+            Ok(ExitCode::from(2))
+        }
+    }
+}
+
+/// What the only word behind the program's name asks for.
+fn asked(rt: &HostRuntime) -> io::Result<Option<Command>> {
+    let mut words = Vec::new(rt.alloc());
+    for word in env::args(rt)?.skip(1) {
+        words.push(word)?;
+    }
+    let [word] = words.as_slice() else {
+        return Ok(None);
+    };
+    Ok(match word.as_str() {
+        "walk" => Some(Command::Walk),
+        "reads" => Some(Command::Reads),
+        "edits" => Some(Command::Edits),
+        "builds" => Some(Command::Builds),
+        _ => None,
+    })
+}
+
+/// Answers each line of standard input.
+fn respond(rt: &HostRuntime, command: Command) -> io::Result<()> {
+    let mut text = String::new(rt.alloc());
+    rt.reader().read_to_string(&mut text)?;
+    let mut writer = BufWriter::new(rt.alloc(), io::writer(rt))?;
+    for line in text.lines() {
+        let answer = answer(rt.alloc(), command, line)?;
+        writer.write_all(answer.as_bytes())?;
+        writer.write_all(b"\n")?;
+    }
+    writer.flush()
+}
+
+/// The answer to a line.
+fn answer(alloc: Global, command: Command, line: &str) -> Result<String, AllocError> {
+    let answered = match command {
+        Command::Walk => walk::answer(alloc, line),
+        Command::Reads => reads::answer(alloc, line),
+        Command::Edits => edits::answer(alloc, line),
+        Command::Builds => builds::answer(alloc, line),
+    };
+    match answered {
+        Ok(text) => Ok(text),
+        Err(Fault::NoMemory) => Err(AllocError),
+        Err(Fault::Malformed | Fault::Unfit) => String::from_str(alloc, "malformed"),
+    }
+}

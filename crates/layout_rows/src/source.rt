@@ -1,0 +1,45 @@
+//! Another message, which is copied from.
+
+use crate::parse::{self, Fault};
+use capnp_arena::arena::ReaderOptions;
+use std::alloc::Global;
+
+/// Another message as three arguments of a call have it.
+#[derive(Clone, Copy)]
+pub struct SourceText<'a> {
+    segments: &'a str,
+    /// How much of it may be read.
+    pub options: ReaderOptions,
+}
+
+impl<'a> SourceText<'a> {
+    /// The message of segments with slashes between, a nesting limit, and a number of words or `none`.
+    pub fn new(segments: &'a str, nesting: &str, budget: &str) -> Result<Self, Fault> {
+        if segments != "-" && !segments.split('/').all(|part| part == "." || is_hex(part)) {
+            return Err(Fault::Malformed);
+        }
+        Ok(SourceText {
+            segments,
+            options: ReaderOptions {
+                traversal_limit_in_words: parse::limit(budget)?,
+                nesting_limit: parse::number(nesting)?,
+            },
+        })
+    }
+
+    /// The bytes of each segment.
+    pub fn segments(&self, alloc: Global) -> Result<Vec<Vec<u8>>, Fault> {
+        parse::segments(alloc, self.segments, '/', ".")
+    }
+}
+
+/// Whether a text is bytes in lower-case hex digits, or `-`.
+pub fn is_hex(text: &str) -> bool {
+    let digits = text.as_bytes();
+    text == "-"
+        || digits.len() >= 2
+            && digits.len() % 2 == 0
+            && digits
+                .iter()
+                .all(|c| matches!(c, b'0'..=b'9' | b'a'..=b'f'))
+}
