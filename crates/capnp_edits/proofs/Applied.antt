@@ -13,7 +13,7 @@ use Rattle.capnp_format.specs.Forest.{IsForest, target, cover}
 use Rattle.capnp_making.specs.declared.existing.ExistingStruct.{ExistingStruct}
 use Rattle.capnp_making.specs.Existing.{struct_in}
 use Rattle.capnp_making.specs.Fields.{put_field}
-use Rattle.capnp_making.specs.Memory.{IsRefusedFor, KeepsMemory}
+use Rattle.capnp_making.specs.Memory.{HasRoom, IsRefusedFor, KeepsMemory}
 use Rattle.capnp_making.specs.Path.{Element, struct_at, put_struct, update, PathLeads, one_word}
 use Rattle.capnp_making.specs.Stored.{IsStored, IsReplaced, Puts}
 use Rattle.capnp_making.proofs.Extents.{once_held, times-first}
@@ -27,7 +27,7 @@ use Rattle.capnp_edits.specs.Paths.{Spot, PointerTo, ElementOf, path_of, found, 
 use Rattle.capnp_edits.specs.declared.edit.Op.{Op}
 use Rattle.capnp_edits.specs.declared.edit.Source.{Source}
 use Rattle.capnp_edits.specs.declared.edit.Op.TheVariants.{InitStruct, InitList, InitStructList, InitText, InitData, SetText, SetData, SetCapability, Clear, SetField, SetBool, SetElement, WriteText, WriteData, GetStruct, GetList, GetStructList, GetText, GetData, CopyFrom, SetStruct, SetList, CopyContent}
-use Rattle.capnp_edits.specs.Edits.{refusal_of, field_of, is_field, is_in_range, Making, becomes, denied, with_written, made_at, made, IsOfMemory, takes_memory, words_taken, is_of_place, copied_by, IsCallRefused, IsRefusedAs, GivesAt, Does, DoesAt, Yields, is_done, lacks_memory, is_denied, IsReplacedIf, leads_to, are_written, are_outside, WritesAt, is_put, is_out_of_range, has_none, Takes, leads_nowhere, IsApplied, refusals_after}
+use Rattle.capnp_edits.specs.Edits.{refusal_of, field_of, is_field, is_in_range, Making, becomes, denied, with_written, made_at, made, IsOfMemory, takes_memory, words_taken, is_of_place, copied_by, IsCallRefused, IsRefusedAs, GivesAt, IsPut, Does, DoesAt, Yields, is_done, lacks_memory, is_denied, IsReplacedIf, leads_to, are_written, are_outside, WritesAt, is_put, is_out_of_range, has_none, Takes, leads_nowhere, IsApplied, refusals_after}
 use Rattle.capnp_edits.proofs.Steps.{first, same_some, struct_of}
 use Rattle.capnp_edits.proofs.Walks.{found-append, update-append}
 
@@ -107,6 +107,34 @@ bytes_refused (Err k) old new place op n u takes makes puts why cleared t stored
 pub bytes_counted : {A : Type 0} (result : Result A ErrorKind) (old new : View) (n : ℕ) → OnOk result (KeepsMemory old new) → IfErr result (IsRefusedFor old new n) → new.refusals ≡ refusals_after (refusal_of result) old.refusals
 bytes_counted (Ok x) old new n keeps why = ap (λ (v : View). v.refusals) keeps.0
 bytes_counted (Err k) old new n keeps why = counted old new n k why
+
+-- the name of a refusal, and that there is none
+pub named_refusal : {A : Type 0} (result : Result A ErrorKind) (P : ErrorKind → Type 0) (k : ErrorKind) → IfErr result P → refusal_of result ≡ Some k → P k
+named_refusal (Ok x) P k why e = absurd (cc)
+named_refusal (Err j) P k why e = subst P (same_some j k e) why
+
+pub if_refused : {A : Type 0} (result : Result A ErrorKind) (P : ErrorKind → Type 0) → ((k : ErrorKind) → refusal_of result ≡ Some k → P k) → IfErr result P
+if_refused (Ok x) P why = tt
+if_refused (Err k) P why = why k refl
+
+not_refused : {A : Type 0} (result : Result A ErrorKind) → IsOk result → refusal_of result ≡ None
+not_refused (Ok x) done = refl
+not_refused (Err k) done = absurd (cc)
+
+pub unrefused : {A : Type 0} (result : Result A ErrorKind) → refusal_of result ≡ None → IsOk result
+unrefused (Ok x) e = refl
+unrefused (Err k) e = absurd (cc)
+
+-- a call that makes u of n words does an operation that makes it
+pub made_is_put : {A : Type 0} (result : Result A ErrorKind) (old new : View) (place : PointerPlace) (op : Op) (u : Tree) (n : ℕ) → takes_memory op ≡ true → ((t : Tree) → made_at op (PointerTo t) ≡ becomes u) → n ≡ words_taken op →
+    OnOk result (Puts old.words new.words place.segment place.word u) → OnOk result (KeepsMemory old new) → IfErr result (IsRefusedFor old new n) → OnErr result (Puts old.words new.words place.segment place.word Null) →
+    (HasRoom old place.segment n → IsOk result) → IsPut old new place op (refusal_of result)
+made_is_put result old new place op u n takes makes words puts keeps why cleared fits = record {
+  done = bytes_refused result old new place op n u takes makes puts why cleared;
+  counted = bytes_counted result old new n keeps why;
+  named = λ k e. subst (λ m. IsRefusedFor old new m k) words (named_refusal result (IsRefusedFor old new n) k why e);
+  fits = λ room. not_refused result (fits (subst (λ m. HasRoom old place.segment m) (sym words) room));
+}
 
 -- what an operation makes whose numbers are in range, and one whose are not
 pub in_range_makes : (op : Op) (spot : Spot) → is_in_range op ≡ true → made op spot ≡ made_at op spot

@@ -286,6 +286,11 @@ abbrev pub Gives : Op → Tree → Option ErrorKind → Tree → Type 0
 Gives op t None u = made_at op (PointerTo t) ≡ becomes u
 Gives op t (Some k) u = (y : Tree) × (made_at op (PointerTo t) ≡ becomes y) × (takes_memory op ≡ true) × IsOfMemory k × (u ≡ Null)
 
+-- How often memory was refused after an outcome: once more for each AllocationFailed.
+abbrev pub refusals_after : Option ErrorKind → ℕ → ℕ
+refusals_after (Some k) n = refusals_for k n
+refusals_after None n = n
+
 -- Where the pointer of a builder is.
 abbrev pub place_of : {A : Type 0} → PointerBuilder A → PointerPlace
 place_of b = record { segment = b.segment; word = b.at }
@@ -293,6 +298,14 @@ place_of b = record { segment = b.segment; word = b.at }
 -- Whatever value the pointer at a place had, it has in its stead what the operation gives, with its outcome.
 abbrev pub GivesAt : Segments → Segments → PointerPlace → Op → Option ErrorKind → Type 0
 GivesAt S R place op r = (t : Tree) → IsStored S place.segment place.word t → (u : Tree) × Gives op t r u × IsReplaced S R place.segment place.word t u
+
+-- What a call leaves that does a whole operation in range at a place, with its outcome: what the operation gives; the refused requests that are counted; a
+-- refusal is for want of memory or room, and there is none where the words fit.
+pub record IsPut (old new : View) (place : PointerPlace) (op : Op) (r : Option ErrorKind) : Type 0 where
+  pub done : GivesAt old.words new.words place op r
+  pub counted : new.refusals ≡ refusals_after r old.refusals
+  pub named : (k : ErrorKind) → r ≡ Some k → IsRefusedFor old new (words_taken op) k
+  pub fits : HasRoom old place.segment (words_taken op) → r ≡ None
 
 -- The pointer behind those that are read is refused by the name k, for memory or for what it reads.
 abbrev pub IsNextRefused : (source : Source) → ContentRead source → ErrorKind → Type 0
@@ -430,11 +443,7 @@ TakesAll es rs t u = ⊥
 abbrev pub AreApplied : Segments → Segments → List Edit → List (Option ErrorKind) → Type 0
 AreApplied S R es rs = (t : Tree) → IsForest S t → (u : Tree) × IsForest R u × TakesAll es rs t u
 
--- How often memory was refused, after an outcome, and after those of edits in order: once more for each AllocationFailed.
-abbrev pub refusals_after : Option ErrorKind → ℕ → ℕ
-refusals_after (Some k) n = refusals_for k n
-refusals_after None n = n
-
+-- How often memory was refused after the outcomes of edits in order.
 abbrev pub refusals_after_all : List (Option ErrorKind) → ℕ → ℕ
 refusals_after_all [] n = n
 refusals_after_all (r ∷ rs) n = refusals_after_all rs (refusals_after r n)

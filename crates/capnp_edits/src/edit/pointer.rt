@@ -4,7 +4,7 @@ ghost use Rattle.capnp_format.specs.Segments.{IsPlace};
 ghost use Rattle.capnp_making.specs.Memory.{HasRoom, IsRefusedFor};
 ghost use Rattle.capnp_words.specs.declared.error.ErrorKind.TheVariants.{NoSuchPlace};
 ghost use Rattle.capnp_builders.specs.Building.{built, IsThere};
-ghost use Rattle.capnp_edits.specs.Edits.{refusal_of, field_of, is_field, is_content, is_search, is_init, is_in_range, place_of, words_taken, is_of_place, copied_by, OpFits, IsRefusedAs, GivesAt, Does, refusals_after};
+ghost use Rattle.capnp_edits.specs.Edits.{refusal_of, field_of, is_field, is_content, is_search, is_init, is_in_range, place_of, is_of_place, copied_by, OpFits, IsRefusedAs, IsPut, Does, refusals_after};
 
 use crate::edit::Op;
 use crate::edit::copying::{copying_of, edit_source};
@@ -71,6 +71,16 @@ fn is_search(op: Op<'_>) -> bool
     matches!(op, Op::GetList(_, _) | Op::GetText(_) | Op::GetData(_))
 }
 
+/// An outcome without what it gives.
+fn done<T: Drop>(outcome: Result<T, ErrorKind>) -> Result<(), ErrorKind>
+    ensures { refusal_of result ≡ refusal_of outcome }
+{
+    match outcome {
+        Ok(_) => Ok(()),
+        Err(k) => Err(k),
+    }
+}
+
 /// Makes of a pointer the bytes or the capability that an operation says, or null.
 fn set<A: BuilderArena>(pointer: &mut PointerBuilder<'_, A>, op: Op<'_>) -> Result<(), ErrorKind>
     requires there { IsThere (built A.view pointer.old) }
@@ -80,10 +90,7 @@ fn set<A: BuilderArena>(pointer: &mut PointerBuilder<'_, A>, op: Op<'_>) -> Resu
     requires made { is_search op ≡ false }
     requires uncopied { copied_by op ≡ None }
     requires set { is_init op ≡ false }
-    ensures done { GivesAt (A.view pointer.old.arena.now).words (A.view pointer.new.arena.now).words (place_of pointer.old) op.entry (refusal_of result) }
-    ensures counted { (A.view pointer.new.arena.now).refusals ≡ refusals_after (refusal_of result) (A.view pointer.old.arena.now).refusals }
-    ensures named { IfErr result (IsRefusedFor (A.view pointer.old.arena.now) (A.view pointer.new.arena.now) (words_taken op.entry)) }
-    ensures fits { HasRoom (A.view pointer.old.arena.now) pointer.old.segment (words_taken op.entry) → IsOk result }
+    ensures put { IsPut (A.view pointer.old.arena.now) (A.view pointer.new.arena.now) (place_of pointer.old) op.entry (refusal_of result) }
     ensures same { pointer.new.arena.ghost_name ≡ pointer.old.arena.ghost_name }
 {
     match op {
@@ -97,19 +104,7 @@ fn set<A: BuilderArena>(pointer: &mut PointerBuilder<'_, A>, op: Op<'_>) -> Resu
             pointer.clear();
             Ok(())
         }
-        Op::InitStruct(_) | Op::InitList(_, _) | Op::InitStructList(_, _) => {
-            Err(ErrorKind::NoSuchPlace)
-        }
-        Op::InitText(_) | Op::InitData(_) => Err(ErrorKind::NoSuchPlace),
-        Op::SetField(_, _, _) | Op::SetBool(_, _) => Err(ErrorKind::NoSuchPlace),
-        Op::SetElement(_, _, _) | Op::WriteText(_, _) | Op::WriteData(_, _) => {
-            Err(ErrorKind::NoSuchPlace)
-        }
-        Op::GetStruct(_, _) | Op::GetStructList(_, _) => Err(ErrorKind::NoSuchPlace),
-        Op::GetList(_, _) | Op::GetText(_) | Op::GetData(_) => Err(ErrorKind::NoSuchPlace),
-        Op::CopyFrom(_, _) | Op::SetStruct(_, _) | Op::SetList(_, _) | Op::CopyContent(_) => {
-            Err(ErrorKind::NoSuchPlace)
-        }
+        _ => Err(ErrorKind::NoSuchPlace),
     }
 }
 
@@ -121,33 +116,15 @@ fn put<A: BuilderArena>(pointer: &mut PointerBuilder<'_, A>, op: Op<'_>) -> Resu
     requires new { is_content op ≡ false }
     requires made { is_search op ≡ false }
     requires uncopied { copied_by op ≡ None }
-    ensures done { GivesAt (A.view pointer.old.arena.now).words (A.view pointer.new.arena.now).words (place_of pointer.old) op.entry (refusal_of result) }
-    ensures counted { (A.view pointer.new.arena.now).refusals ≡ refusals_after (refusal_of result) (A.view pointer.old.arena.now).refusals }
-    ensures named { IfErr result (IsRefusedFor (A.view pointer.old.arena.now) (A.view pointer.new.arena.now) (words_taken op.entry)) }
-    ensures fits { HasRoom (A.view pointer.old.arena.now) pointer.old.segment (words_taken op.entry) → IsOk result }
+    ensures put { IsPut (A.view pointer.old.arena.now) (A.view pointer.new.arena.now) (place_of pointer.old) op.entry (refusal_of result) }
     ensures same { pointer.new.arena.ghost_name ≡ pointer.old.arena.ghost_name }
 {
     match op {
-        Op::InitStruct(size) => match pointer.put_struct(size) {
-            Ok(_) => Ok(()),
-            Err(k) => Err(k),
-        },
-        Op::InitList(size, count) => match pointer.put_list(size, count) {
-            Ok(_) => Ok(()),
-            Err(k) => Err(k),
-        },
-        Op::InitStructList(count, size) => match pointer.put_struct_list(count, size) {
-            Ok(_) => Ok(()),
-            Err(k) => Err(k),
-        },
-        Op::InitText(size) => match pointer.put_list(ElementSize::Byte, size + 1) {
-            Ok(_) => Ok(()),
-            Err(k) => Err(k),
-        },
-        Op::InitData(size) => match pointer.put_list(ElementSize::Byte, size) {
-            Ok(_) => Ok(()),
-            Err(k) => Err(k),
-        },
+        Op::InitStruct(size) => done(pointer.put_struct(size)),
+        Op::InitList(size, count) => done(pointer.put_list(size, count)),
+        Op::InitStructList(count, size) => done(pointer.put_struct_list(count, size)),
+        Op::InitText(size) => done(pointer.put_list(ElementSize::Byte, size + 1)),
+        Op::InitData(size) => done(pointer.put_list(ElementSize::Byte, size)),
         _ => set(pointer, op),
     }
 }
@@ -160,10 +137,7 @@ fn put_at<A: BuilderArena>(arena: &mut A, place: PointerPlace, op: Op<'_>) -> Re
     requires new { is_content op ≡ false }
     requires made { is_search op ≡ false }
     requires uncopied { copied_by op ≡ None }
-    ensures done { GivesAt (A.view arena.old).words (A.view arena.new).words place op.entry (refusal_of result) }
-    ensures counted { (A.view arena.new).refusals ≡ refusals_after (refusal_of result) (A.view arena.old).refusals }
-    ensures named { IfErr result (IsRefusedFor (A.view arena.old) (A.view arena.new) (words_taken op.entry)) }
-    ensures fits { HasRoom (A.view arena.old) place.segment (words_taken op.entry) → IsOk result }
+    ensures { IsPut (A.view arena.old) (A.view arena.new) place op.entry (refusal_of result) }
 {
     let mut pointer = PointerBuilder {
         arena,

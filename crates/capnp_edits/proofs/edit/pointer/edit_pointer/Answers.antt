@@ -1,9 +1,10 @@
 use Rattle.std.proofs.Common.{false, sym, ◌∙◌, refl, ap}
 use Rattle.capnp_arena.specs.View.{View}
 use Rattle.capnp_edits.specs.declared.edit.copying.Wanted.TheVariants.{Content}
+use Rattle.capnp_making.specs.Memory.{IsRefusedFor}
 use Rattle.capnp_edits.specs.Sources.{copying}
 use Rattle.capnp_edits.specs.Edits.{copied_by}
-use Rattle.capnp_edits.proofs.Applied.{none_counted, refused_as, given_at, written_at, no_struct_at, out_of_range, never_nowhere, kept_nowhere, refused_there, of_place}
+use Rattle.capnp_edits.proofs.Applied.{none_counted, refused_as, given_at, written_at, no_struct_at, out_of_range, never_nowhere, kept_nowhere, refused_there, of_place, if_refused, unrefused}
 use Rattle.capnp_edits.proofs.Copied.{copied_at, whole_copy, copy_refused, copy_nowhere, copy_fits, whole_fits, words_fit, none_copied}
 use Rattle.capnp_edits.proofs.Filled.{filled_at, none_filled_at}
 use Rattle.capnp_edits.proofs.edit.pointer.edit_pointer.Goals as goal
@@ -20,16 +21,16 @@ pub returns-in-Some-clause-nowhere : goal.returns-in-Some-clause-nowhere
 returns-in-Some-clause-nowhere g c = kept_nowhere c.edit_struct.result _ _ c.edit_struct.ensures.kept
 
 pub returns-clause-nowhere : goal.returns-clause-nowhere
-returns-clause-nowhere g c = never_nowhere c.put_at.result _ _ _ c.put_at.ensures.named
+returns-clause-nowhere g c = never_nowhere c.put_at.result _ _ _ (if_refused c.put_at.result (IsRefusedFor _ _ _) c.put_at.ensures.named)
 
 pub returns-in-Some-clause-named : goal.returns-in-Some-clause-named
 returns-in-Some-clause-named g c = refused_there c.edit_struct.result _ _ c.args.op (of_place c.edit_struct.result c.edit_struct.ensures.named) c.edit_struct.ensures.kept
 
 pub returns-clause-fits : goal.returns-clause-fits
-returns-clause-fits g c = words_fit c.put_at.result _ _ c.args.op (none_copied c.args.op (λ copied e. c.in_default-copying_of.not-Some copied (c.copying_of.ensures ∙ e))) c.put_at.ensures.fits
+returns-clause-fits g c = words_fit c.put_at.result _ _ c.args.op (none_copied c.args.op (λ copied e. c.in_default-copying_of.not-Some copied (c.copying_of.ensures ∙ e))) (λ room. unrefused c.put_at.result (c.put_at.ensures.fits room))
 
 pub returns-clause-named : goal.returns-clause-named
-returns-clause-named g c = refused_as c.put_at.result _ _ c.args.op (none_copied c.args.op (λ copied e. c.in_default-copying_of.not-Some copied (c.copying_of.ensures ∙ e))) c.put_at.ensures.named
+returns-clause-named g c = refused_as c.put_at.result _ _ c.args.op (none_copied c.args.op (λ copied e. c.in_default-copying_of.not-Some copied (c.copying_of.ensures ∙ e))) (if_refused c.put_at.result (IsRefusedFor _ _ _) c.put_at.ensures.named)
 
 pub returns-in-None-clause-done : goal.returns-in-None-clause-done
 returns-in-None-clause-done g c = no_struct_at _ c.args.place c.args.op (sym c.is_on_field.ensures ∙ c.if-is_on_field.true) c.in-None.ensures.found
