@@ -1,6 +1,6 @@
 //! The arena of a message that is built.
 ghost use Rattle.std.below.core.specs.declared.int.i32.TheConstants.{MAX};
-ghost use Rattle.std.specs.Prelude.{◌≡◌, ◌⊎◌, ◌<◌, ◌≤◌, ◌+◌, ◌*◌, ◌/◌, ◌^◌, ◌↔◌, ◌++◌, ◌∷◌, [], ℕ, ℤ, pos, false, refl, length, replicate, Some, None, IsTrue, IsSome, IsNone, IfSome, IsOk, IfOk, OnOk, OnErr, IfErr, slice_get};
+ghost use Rattle.std.specs.Prelude.{◌≡◌, ◌⊎◌, ◌<◌, ◌≤◌, ◌+◌, ◌*◌, ◌/◌, ◌^◌, ◌↔◌, ◌++◌, ◌∷◌, [], ℕ, ℤ, pos, false, refl, length, map, replicate, Some, None, IsTrue, IsSome, IsNone, IfSome, IsOk, IfOk, OnOk, OnErr, IfErr, slice_get};
 ghost use Rattle.capnp_format.specs.Bytes.{message};
 ghost use Rattle.capnp_format.specs.Segments.{segment};
 ghost use Rattle.capnp_words.specs.declared.error.ErrorKind.TheVariants.{AllocationFailed, InvalidSegmentId, MessageTooLarge};
@@ -17,7 +17,8 @@ ghost use Rattle.capnp_arena.specs.Written.{with_more};
 use crate::arena::builder_arena::sealed::Closed;
 use crate::arena::row::Row;
 use crate::arena::{
-    Allocator, BuilderArena, MAX_SEGMENTS, NullAllocator, OutputSegments, ReaderArena, SegmentId,
+    Allocator, BuilderArena, MAX_SEGMENTS, NullAllocator, OutputSegments, ReaderArena, Segment,
+    SegmentId,
 };
 use capnp_words::error::ErrorKind;
 use std::alloc::Global;
@@ -42,6 +43,23 @@ fn give_back<A: Allocator>(allocator: &mut A, mut rows: Vec<Row<A::Segment>>)
         allocator.deallocate_segment(segment, used);
     }
     rows.destroy_empty();
+}
+
+/// The allocated words of each row, in order. Want of memory is `AllocationFailed`.
+fn allocated_of_each<S: Segment>(alloc: Global, rows: &[Row<S>]) -> Result<Vec<&[u8]>, ErrorKind>
+    ensures bytes { IfOk result (λ v. map (λ s. s.now) v.items ≡ shown S.Segment rows.now) }
+    ensures named { IfErr result (λ e. e ≡ AllocationFailed) }
+{
+    let mut segments = match Vec::with_capacity(alloc, rows.len()) {
+        Ok(segments) => segments,
+        Err(_) => return Err(ErrorKind::AllocationFailed),
+    };
+    for row in rows {
+        if segments.push(row.allocated()).is_err() {
+            return Err(ErrorKind::AllocationFailed);
+        }
+    }
+    Ok(segments)
 }
 
 impl<A: Allocator> Drop for BuilderArenaImpl<A> {
@@ -162,16 +180,9 @@ impl<A: Allocator> BuilderArenaImpl<A> {
         if self.rows.len() == 1 {
             return Ok(OutputSegments::SingleSegment(self.rows[0].allocated()));
         }
-        match Vec::with_capacity(self.alloc, self.rows.len()) {
-            Ok(mut segments) => {
-                for row in self.rows.iter() {
-                    if segments.push(row.allocated()).is_err() {
-                        return Err(ErrorKind::AllocationFailed);
-                    }
-                }
-                Ok(OutputSegments::MultiSegment(segments))
-            }
-            Err(_) => Err(ErrorKind::AllocationFailed),
+        match allocated_of_each(self.alloc, &self.rows) {
+            Ok(segments) => Ok(OutputSegments::MultiSegment(segments)),
+            Err(k) => Err(k),
         }
     }
 

@@ -1,9 +1,9 @@
 //! Arenas that are read.
-ghost use Rattle.std.specs.Prelude.{◌≡◌, ◌<◌, ◌≤◌, ◌+◌, ◌*◌, ◌/◌, ◌^◌, ◌↔◌, ◌⊎◌, ℕ, ℤ, pos, ◌+ℤ◌, List, Bool, length, IsOk, IfOk, OnOk, OnErr, IfErr, Some, slice_get};
+ghost use Rattle.std.specs.Prelude.{IsTrue, IsSome, IfSome, ◌≡◌, ◌<◌, ◌≤◌, ◌+◌, ◌*◌, ◌/◌, ◌^◌, ◌↔◌, ◌⊎◌, ℕ, ℤ, pos, ◌+ℤ◌, List, Bool, length, IsOk, IfOk, OnOk, OnErr, IfErr, Some, slice_get};
 ghost use Rattle.capnp_format.specs.Segments.{segment};
 ghost use Rattle.capnp_format.specs.Bytes.{words_of, message};
 ghost use Rattle.capnp_words.specs.Meter.{Affords, charged};
-ghost use Rattle.capnp_arena.specs.Checks.{Holds, IsUnknown, LeadsInside, misplaced, total_words};
+ghost use Rattle.capnp_arena.specs.Checks.{Holds, IsUnknown, LeadsInside, StaysWithin, misplaced, total_words};
 ghost use Rattle.capnp_words.specs.declared.error.ErrorKind.{ErrorKind};
 ghost use Rattle.capnp_words.specs.declared.error.ErrorKind.TheVariants.{ReadLimitExceeded};
 
@@ -59,11 +59,9 @@ pub trait ReaderArena {
         ensures named { IfErr result (λ e. e ≡ misplaced (message (segments self.now)) id (absent self.now id)) }
     {
         let length = self.get_segment(id)?.len() / 8;
-        let at = start as i64 + offset as i64;
-        if start as usize <= length && 0 <= at && at <= length as i64 {
-            Ok(at as u32)
-        } else {
-            Err(ErrorKind::MessageContainsOutOfBoundsPointer)
+        match position_within(length, start, offset) {
+            Some(at) => Ok(at),
+            None => Err(ErrorKind::MessageContainsOutOfBoundsPointer),
         }
     }
 
@@ -101,7 +99,7 @@ pub trait ReaderArena {
         ensures budget { IfErr result (λ e. Holds (message (segments self.now)) id start size → e ≡ ReadLimitExceeded) }
     {
         let length = self.get_segment(id)?.len() / 8;
-        if start as usize <= length && size <= length - start as usize {
+        if is_within(length, start, size) {
             if self.charges() {
                 lim.can_read(size)
             } else {
@@ -111,4 +109,27 @@ pub trait ReaderArena {
             Err(ErrorKind::MessageContainsOutOfBoundsPointer)
         }
     }
+}
+
+// The position `start + offset`, where both `start` and it are from 0 to `length`.
+#[inline]
+fn position_within(length: usize, start: u32, offset: i32) -> Option<u32>
+    requires { length < 2 ^ 32 }
+    ensures exactly { IsSome result ↔ StaysWithin length start offset }
+    ensures value { IfSome result (λ r. pos r ≡ pos start +ℤ offset) }
+{
+    let at = start as i64 + offset as i64;
+    if start as usize <= length && 0 <= at && at <= length as i64 {
+        Some(at as u32)
+    } else {
+        None
+    }
+}
+
+// Whether `size` words from position `start` on end within `length` words.
+#[inline]
+fn is_within(length: usize, start: u32, size: usize) -> bool
+    ensures { IsTrue result ↔ (start + size ≤ length) }
+{
+    start as usize <= length && size <= length - start as usize
 }
