@@ -1,5 +1,5 @@
-//! Tests of capnp_arena, by its public calls: segments that are read, their limits and charges,
-//! messages that are built, and what happens where memory is refused.
+//! Tests of capnp_arena, by its public calls: places and words of segments that are read, messages that
+//! are built, and what happens where memory is refused.
 #![tactic(auto)]
 
 #[cfg(test)]

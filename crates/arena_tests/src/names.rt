@@ -1,9 +1,11 @@
 //! The names that no other test here uses, and each trait as a bound.
 use capnp_arena::arena::{
     Allocator, BuilderArena, BuilderArenaImpl, HeapAllocator, HeapSegment, MAX_SEGMENT_WORDS,
-    OutputSegments, ReaderArena, ReaderSegments, Segment, SegmentId,
+    NullArena, ReaderArena, ReaderArenaImpl, ReaderOptions, ReaderSegments, Segment, SegmentArray,
+    SegmentId,
 };
 use capnp_words::error::ErrorKind;
+use capnp_words::read_limiter::ReadLimiter;
 use std::process::Abort;
 
 fn segments_of<S: ReaderSegments>(segments: &S) -> usize {
@@ -23,36 +25,33 @@ fn place_in<A: BuilderArena>(arena: &mut A) -> Result<(SegmentId, u32), ErrorKin
 }
 
 #[test]
-fn greatest_segment(rt: HostRuntime) {
+fn of_building(rt: HostRuntime) {
     assert!(rt; MAX_SEGMENT_WORDS == 536_870_911);
-}
-
-#[test]
-fn segments_are_written(rt: HostRuntime) {
     let mut allocator = HeapAllocator::new(rt.alloc(), 0);
     let mut segment: HeapSegment = segment_of(&rt, &mut allocator);
     segment.bytes_mut().fill(3);
     assert!(rt; segment.bytes() == [3; 8].as_slice());
     drop(segment);
-}
-
-#[test]
-fn rows_are_kept(rt: HostRuntime) {
-    let mut allocator = HeapAllocator::new(rt.alloc(), 0);
+    let fresh = allocator.allocate_segment(1).expect(&rt, "memory");
+    allocator.deallocate_segment(fresh, 0);
     let mut list = Vec::new(rt.alloc());
     assert!(rt; allocator.keep(&mut list, 7u8).is_none());
-    assert!(rt; list.as_slice() == [7].as_slice());
+    assert!(rt; allocator.refused() == 0);
+    let mut arena = BuilderArenaImpl::new(rt.alloc(), allocator);
+    let first: SegmentId = 0u32;
+    assert!(rt; place_in(&mut arena) == Ok((first, 0)));
 }
 
 #[test]
-fn two_segments(rt: HostRuntime) -> Result<(), ErrorKind> {
-    let mut arena = BuilderArenaImpl::new(rt.alloc(), HeapAllocator::new(rt.alloc(), 1));
-    let second: SegmentId = 1u32;
-    assert!(rt; place_in(&mut arena)? == (0, 0));
-    assert!(rt; place_in(&mut arena)? == (second, 0));
+fn of_reading(rt: HostRuntime) {
+    let bytes = [7u8; 23];
+    let segments = [&bytes[..]];
+    let array = SegmentArray::new(&segments).expect(&rt, "small");
+    let arena = ReaderArenaImpl::new(array, ReaderOptions::default());
+    assert!(rt; arena.charges() && arena.nesting_limit() == 64);
     assert!(rt; words_of(&arena) == 2);
-    let output = arena.get_segments_for_output()?;
-    assert!(rt; matches!(output, OutputSegments::MultiSegment(_)));
-    assert!(rt; segments_of(&output) == 2);
-    Ok(())
+    assert!(rt; segments_of(&arena.into_segments()) == 1);
+    let mut lim = ReadLimiter::new(Some(1));
+    assert!(rt; NullArena.amplified_read(9, &mut lim).is_ok() && !NullArena.charges());
+    assert!(rt; NullArena.nesting_limit() == i32::MAX && words_of(&NullArena) == 0);
 }

@@ -1,42 +1,40 @@
 //! Runs in which memory or a device fails, at each place in turn.
 use crate::devices::{Dripping, Narrow};
-use crate::runs::{WORDS, lines, options};
-use capnp_layout::arena::{Allocator, HeapAllocator};
+use capnp_layout::arena::{Allocator, HeapAllocator, ReaderOptions};
 use capnp_layout::devices::{MemoryInput, MemoryOutput};
 use capnp_layout::tool::{Args, Outcome, run, run_with};
 use std::cell::Cell;
 use test_support::{Granted, TestAllocator};
 
-const SHARED: &str = "0000000000000200 0400000001000000 0000000001000000 0900000000000000";
+/// A struct whose two pointers lead to the same struct.
+const SHARED: &[u8] = b"0000000000000200040000000100000000000000010000000900000000000000\n";
 
-const COPIED: &str =
-    "0000000000000200 0400000001000000 0400000001000000 0900000000000000 0900000000000000";
+const COPIED: &[u8] =
+    b"00000000000002000400000001000000040000000100000009000000000000000900000000000000\n";
 
 /// The commands, each with the line that it answers with.
-fn commands(rt: &HostRuntime) -> Option<[(Args, Vec<u8>); 3]> {
-    let check = Vec::from_slice(rt.alloc(), b"not canonical\n").ok()?;
-    let size = Vec::from_slice(rt.alloc(), b"words 4 caps 0\n").ok()?;
-    Some([
-        (Args::Canon(options(64, WORDS)), lines(rt, COPIED)?),
-        (Args::Check(options(64, WORDS)), check),
-        (Args::Size(options(64, WORDS)), size),
-    ])
+fn commands() -> [(Args, &'static [u8]); 3] {
+    let options = ReaderOptions::default();
+    [
+        (Args::Canon(options), COPIED),
+        (Args::Check(options), b"not canonical\n"),
+        (Args::Size(options), b"words 4 caps 0\n"),
+    ]
 }
 
 #[test]
 fn memory(rt: HostRuntime) {
-    let input = lines(&rt, SHARED).expect(&rt, "memory");
     let returned = Cell::new(0);
-    for (args, line) in commands(&rt).expect(&rt, "memory").iter() {
+    for (args, line) in commands() {
         let mut refused = 0u32;
         for requests in 0..400 {
             let heap = HeapAllocator::new(rt.alloc(), 0);
             let allocator = TestAllocator::new(heap, Granted::Requests(requests), &returned);
-            let mut from = MemoryInput::new(input.as_slice());
+            let mut from = MemoryInput::new(SHARED);
             let mut to = MemoryOutput::new(rt.alloc());
-            let (outcome, allocator) = run_with(rt.alloc(), allocator, args, &mut from, &mut to);
+            let (outcome, allocator) = run_with(rt.alloc(), allocator, &args, &mut from, &mut to);
             if allocator.refused() == 0 {
-                assert!(rt; outcome == Outcome::Done && to.bytes() == line.as_slice());
+                assert!(rt; outcome == Outcome::Done && to.bytes() == line);
             } else {
                 refused = refused.saturating_add(1);
                 assert!(rt; allocator.refused() == 1, "after {requests}");
@@ -53,23 +51,22 @@ fn memory(rt: HostRuntime) {
 
 #[test]
 fn reads(rt: HostRuntime) {
-    let input = lines(&rt, SHARED).expect(&rt, "memory");
-    for (args, line) in commands(&rt).expect(&rt, "memory").iter() {
+    for (args, line) in commands() {
         for reads in 0..80 {
             let mut from = Dripping {
-                bytes: input.as_slice(),
+                bytes: SHARED,
                 reads,
                 failed: false,
             };
             let mut to = MemoryOutput::new(rt.alloc());
-            let outcome = run(rt.alloc(), args, &mut from, &mut to);
-            if reads <= input.len() {
+            let outcome = run(rt.alloc(), &args, &mut from, &mut to);
+            if reads <= SHARED.len() {
                 assert!(rt;
                     outcome == Outcome::BadInput && to.bytes().is_empty(),
                     "after {reads}"
                 );
             } else {
-                assert!(rt; outcome == Outcome::Done && to.bytes() == line.as_slice());
+                assert!(rt; outcome == Outcome::Done && to.bytes() == line);
             }
         }
     }
@@ -77,16 +74,15 @@ fn reads(rt: HostRuntime) {
 
 #[test]
 fn writes(rt: HostRuntime) {
-    let input = lines(&rt, SHARED).expect(&rt, "memory");
-    for (args, line) in commands(&rt).expect(&rt, "memory").iter() {
+    for (args, line) in commands() {
         for writes in 0..90 {
-            let mut from = MemoryInput::new(input.as_slice());
+            let mut from = MemoryInput::new(SHARED);
             let mut to = Narrow {
                 bytes: Vec::new(rt.alloc()),
                 writes,
                 failed: false,
             };
-            let outcome = run(rt.alloc(), args, &mut from, &mut to);
+            let outcome = run(rt.alloc(), &args, &mut from, &mut to);
             let (want, taken) = if writes < line.len() {
                 (Outcome::WriteFailed, writes)
             } else {
@@ -97,7 +93,7 @@ fn writes(rt: HostRuntime) {
                 "after {writes}"
             );
             assert!(rt;
-                to.bytes.as_slice() == line.as_slice().split_at(taken).0,
+                to.bytes.as_slice() == line.split_at(taken).0,
                 "after {writes}"
             );
         }

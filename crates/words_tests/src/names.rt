@@ -1,11 +1,15 @@
-//! The names that no other test here uses: aliases of units, sizes of elements, and the laws.
+//! The names that no other test here uses: units, sizes of elements and of numbers, and the laws.
 use capnp_words::laws::*;
 use capnp_words::primitive::Primitive;
+use capnp_words::read_limiter::ReadLimiter;
 use capnp_words::units::*;
-use capnp_words::wire_pointer::{EightBytes, ElementSize, FourBytes, TwoBytes};
+use capnp_words::wire_pointer::{
+    Byte, EightBytes, ElementSize, FourBytes, InlineComposite, Pointer, PointerType, StructSize,
+    TwoBytes, data_bits_per_element, pointers_per_element,
+};
 
 #[test]
-fn units() {
+fn units(rt: HostRuntime) {
     let _bits: (BitCount0, BitCount8, BitCount16, BitCount32, BitCount64) = (
         0usize, 0u8, 0u16, 0u32, 0u64,
     );
@@ -29,17 +33,31 @@ fn units() {
         WirePointerCount32,
         WirePointerCount64,
     ) = (0usize, 0u8, 0u16, 0u32, 0u64);
+    assert!(rt; [BITS_PER_BYTE, BITS_PER_WORD, BITS_PER_POINTER] == [8, 64, 64]);
+    assert!(rt; [BYTES_PER_WORD, _BYTES_PER_POINTER] == [8, 8]);
+    assert!(rt; [WORDS_PER_POINTER, POINTER_SIZE_IN_WORDS] == [1, 1]);
+    assert!(rt; [_bytes_per_element::<u8>(), bits_per_element::<u16>()] == [1, 16]);
 }
 
 #[test]
-fn element_sizes(rt: HostRuntime) {
-    for (size, same) in [
-        (TwoBytes, ElementSize::TwoBytes),
-        (FourBytes, ElementSize::FourBytes),
-        (EightBytes, ElementSize::EightBytes),
-    ] {
-        assert!(rt; size == same);
-    }
+fn sizes(rt: HostRuntime) {
+    let sizes = [TwoBytes, FourBytes, EightBytes];
+    assert!(rt;
+        sizes
+            == [
+                ElementSize::TwoBytes,
+                ElementSize::FourBytes,
+                ElementSize::EightBytes
+            ]
+    );
+    assert!(rt; data_bits_per_element(Byte) == 8 && data_bits_per_element(InlineComposite) == 0);
+    assert!(rt; pointers_per_element(Pointer) == 1 && pointers_per_element(Byte) == 0);
+    assert!(rt; PointerType::List != PointerType::Capability);
+    let most = StructSize {
+        data_words: 65535,
+        pointers: 65535,
+    };
+    assert!(rt; most.total() == 131_070);
 }
 
 #[test]
@@ -52,6 +70,14 @@ fn bytes_of_numbers(rt: HostRuntime) {
     ) = ([0u8; 1], [0u8; 2], [0u8; 4], [0u8; 8]);
     assert!(rt; [u8::BYTES, u16::BYTES, u32::BYTES, u64::BYTES] == [1, 2, 4, 8]);
     assert!(rt; [i8::BYTES, i16::BYTES, i32::BYTES, i64::BYTES] == [1, 2, 4, 8]);
+}
+
+#[test]
+fn limiter(rt: HostRuntime) {
+    let mut limiter = ReadLimiter::new(Some(10));
+    assert!(rt; limiter.can_read(3).is_ok() && limiter.left() == Some(7));
+    limiter.count();
+    assert!(rt; limiter.followed() == 1);
 }
 
 #[test]

@@ -20,36 +20,19 @@ fn four(bytes: &[u8]) -> [u64; 4]
 }
 
 #[test]
-fn one_word(rt: HostRuntime) {
+fn words(rt: HostRuntime) {
     let mut bytes = [0u8; 36];
     assert!(rt; count(&bytes) == 4 && used(&bytes) == 0);
     put_word(&mut bytes, 1, WORD);
     assert!(rt; &bytes[8..16] == [0, 1, 2, 3, 4, 5, 6, 7].as_slice());
-    assert!(rt; four(&bytes) == [0, WORD, 0, 0]);
-}
-
-#[test]
-fn parts(rt: HostRuntime) {
-    let mut bytes = [0u8; 36];
-    put_word(&mut bytes, 1, WORD);
-    assert!(rt; used(&bytes) == 2);
-    assert!(rt; [used_part(&bytes, 0, 1), used_part(&bytes, 1, 3)] == [0, 1]);
-    assert!(rt; part(&bytes, 1, 2).len() == 16);
+    assert!(rt; used(&bytes) == 2 && used_part(&bytes, 0, 1) == 0);
     assert!(rt; word_at(part(&bytes, 1, 2), 0) == WORD);
-}
-
-#[test]
-fn many_words(rt: HostRuntime) {
-    let mut bytes = [0u8; 36];
-    put_word(&mut bytes, 1, WORD);
     copy_words(
         &mut bytes,
         2,
         &[9, 0, 0, 0, 0, 0, 0, 0, 8, 0, 0, 0, 0, 0, 0, 0],
     );
-    assert!(rt; four(&bytes) == [0, WORD, 9, 8]);
     move_words(&mut bytes, 1, 0, 3);
-    assert!(rt; four(&bytes) == [WORD, 9, 8, 8]);
-    zero_words(&mut bytes, 1, 2);
-    assert!(rt; four(&bytes) == [WORD, 0, 0, 8]);
+    zero_words(&mut bytes, 1, 1);
+    assert!(rt; four(&bytes) == [WORD, 0, 8, 8]);
 }
