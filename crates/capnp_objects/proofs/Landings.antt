@@ -1,5 +1,5 @@
 -- From the steps of a reading to its outcome: pointers that are followed, objects that are entered, and the refusals of both.
--- `double_absent` and `default_refused` take eight arguments: each is a fact that the one answer which cites it has at hand.
+-- `double_absent`, `double_followed` and `default_refused` take eight or nine arguments: each is a fact that the one answer which cites it has at hand.
 use Rattle.std.proofs.Common.{◌≡◌, ◌≢◌, ◌⊎◌, inl, inr, ℕ, ℤ, zero, suc, ◌+◌, ◌^◌, ◌<◌, ◌≤◌, Bool, true, false, ◌&&◌, cond, nat_eq, nat_lt, Some, None, Result, Ok, Err, IfOk, IfErr, List, [], length, get_or, refl, sym, ap, ap₂, ◌∙◌, subst, arith, lt-ltb, eq-eqb}
 use Rattle.std.proofs.lemmas.Bool.{ne_eqb, false≢true}
 use Rattle.std.proofs.lemmas.List.{get_or_past}
@@ -93,6 +93,9 @@ at_existing S u x f h = ap (λ b. cond b (Ok x) (Err (InvalidSegmentId u)) >=> f
 
 at_absent : (S : Segments) (u x : ℕ) (f : ℕ → Result Target ErrorKind) → length S ≤ u → (existing S u x >=> f) ≡ Err (InvalidSegmentId u)
 at_absent S u x f h = ap (λ b. cond b (Ok x) (Err (InvalidSegmentId u)) >=> f) (let e : nat_lt u (length S) ≡ false = grind (arith, nat_tests) in e)
+
+target_there : (S : Segments) (u : ℕ) (a : Target) → u < length S → existing S u a ≡ Ok a
+target_there S u a h = ap (λ b. cond b (Ok a) (Err (InvalidSegmentId u))) (lt-ltb u (length S) h)
 
 target_absent : (S : Segments) (u : ℕ) (a : Target) → length S ≤ u → existing S u a ≡ Err (InvalidSegmentId u)
 target_absent S u a h = ap (λ b. cond b (Ok a) (Err (InvalidSegmentId u))) (let e : nat_lt u (length S) ≡ false = grind (arith, nat_tests) in e)
@@ -212,6 +215,22 @@ pub single_nowhere : {S : Segments} {charging : Bool} {x : ℕ} {m m' : Meter} {
 single_nowhere {S} {charging} {x} {m} {m'} {q} w is_far o z e h =
     let pads = pads_paid is_far o in
     nowhere (single w o z e ∙ ap (or_named MessageContainsOutOfBoundsPointer) (near_none S q.segment q.at w 1 (rw o.held.0 at h))) (subst (Affords charging m) (sym pads) o.covers) (o.paid ∙ ap (charged charging m) (sym pads))
+
+-- a far pointer with two pads, of which the first names a segment that is there
+pub double_followed : {S : Segments} {charging : Bool} {x : ℕ} {m m' : Meter} {q here : Place} {w : WirePointer} (f : ℕ) → IsPad S charging x m m' q → is_double x ≡ 1 → f ≡ At q q.at → w.0 ≡ At q (q.at + 1) → IsHeld S here → here.segment ≡ upper_half f → here.at ≡ far_position f → upper_half f < length S →
+    IsFollowed S charging (follow_far S x (is_double x)) m m' (record { word = w; start = here; pads = 2 })
+double_followed {S} {charging} {x} {m} {m'} {q} {here} {w} f o one e tag held segment_of position_of there =
+    let two : 1 + is_double x ≡ 2 = omega (arith, one) in
+    let word : w.0 ≡ word_at S q.segment (q.at + 1) = held_word S q (q.at + 1) w.0 o.held tag in
+    record {
+      held = held;
+      leads_to =
+          double f o one e
+          ∙ target_there S (upper_half f) (record { word = word_at S q.segment (q.at + 1); segment = upper_half f; start = far_position f; pads = 2 }) there
+          ∙ rw (word, segment_of, position_of) refl;
+      covers = subst (Affords charging m) two o.covers;
+      paid = o.paid ∙ ap (charged charging m) two;
+    }
 
 -- a far pointer with two pads, of which the first names a segment that isn't there
 pub double_absent : {S : Segments} {charging : Bool} {x : ℕ} {m m' : Meter} {q : Place} {u : ℕ} {k : ErrorKind} (f : ℕ) → kind x ≡ 2 → IsPad S charging x m m' q → is_double x ≡ 1 → f ≡ At q q.at → u ≡ upper_half f → length S ≤ u → k ≡ InvalidSegmentId u →
