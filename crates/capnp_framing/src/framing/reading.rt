@@ -50,6 +50,7 @@ fn fill<R: Input>(input: &mut R, to: &mut [u8]) -> Result<(), FrameError>
     ensures long { length to.new ≡ length to.old }
     ensures works { OnOk result (R.has_failed input.new ≡ false) }
     ensures refused { IfErr result (WhyUnread R.Input input.old input.new (length to.old)) }
+    ensures failed { IfErr result (λ e. R.has_failed input.new ≡ true → e ≡ ReadFailed) }
 {
     match read_up_to(input, to) {
         Ok(n) if n == to.len() => Ok(()),
@@ -65,6 +66,7 @@ fn read_segment<R: Input>(alloc: Global, input: &mut R, size: usize) -> Result<V
     ensures long { IfOk result (λ v. length v.items ≡ size) }
     ensures works { OnOk result (R.has_failed input.new ≡ false) }
     ensures refused { IfErr result (λ e. (e ≡ AllocationFailed) ⊎ WhyUnread R.Input input.old input.new size e) }
+    ensures failed { IfErr result (λ e. R.has_failed input.new ≡ true → e ≡ ReadFailed) }
 {
     let mut bytes = Vec::new(alloc);
     while bytes.len() < size {
@@ -133,6 +135,7 @@ fn read_segments<R: Input>(
     ensures total { IfOk result (λ v. total (message (map vec_items v.items)) ≡ words_told count table.now) }
     ensures works { OnOk result (R.has_failed input.new ≡ false) }
     ensures refused { IfErr result (λ e. (e ≡ AllocationFailed) ⊎ WhyUnread R.Input input.old input.new (8 * words_told count table.now) e) }
+    ensures failed { IfErr result (λ e. R.has_failed input.new ≡ true → e ≡ ReadFailed) }
 {
     let mut segments = Vec::new(alloc);
     for i in 0..count {
@@ -156,7 +159,8 @@ fn read_segments<R: Input>(
 /// Fewer than four bytes are `Truncated`; more than 512 segments `TooManySegments`, with their number; a
 /// table that is cut short, its padding included, `Truncated`; more than `max_words` words together
 /// `MessageTooLong`, with their number; words that are cut short `Truncated`, in this order. `ReadFailed`
-/// is the input's, and `AllocationFailed` want of memory. What a refusal leaves unread isn't said.
+/// is the input's, and where the input has failed there is no other refusal; `AllocationFailed` is want of
+/// memory. What a refusal leaves unread isn't said.
 ///
 /// The memory that is taken grows with the bytes that came, and not with those that the table announces.
 pub fn read<R: Input>(
@@ -171,6 +175,7 @@ pub fn read<R: Input>(
     ensures small { IfOk result (λ m. IfSome m (λ owned. IsSmall (⟦<OwnedSegments as ReaderSegments>⟧.segments owned))) }
     ensures works { OnOk result (R.has_failed input.new ≡ false) }
     ensures refused { IfErr result (λ e. (e ≡ AllocationFailed) ⊎ ((e ≡ ReadFailed) × (R.has_failed input.new ≡ true)) ⊎ IfSome (R.remaining input.old) (λ bytes. NoFrame bytes max_words e)) }
+    ensures failed { IfErr result (λ e. R.has_failed input.new ≡ true → e ≡ ReadFailed) }
 {
     let mut first = [0u8; 4];
     match read_up_to(input, &mut first) {
