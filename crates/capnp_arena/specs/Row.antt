@@ -1,5 +1,5 @@
 -- The segments of a builder arena, by their rows. The lemmas stand here since a law of a trait may cite nothing else.
-use Rattle.std.specs.Prelude.{ℕ, List, ◌*◌, ◌/◌, ◌≡◌, ◌≤◌, ◌-◌, length, take, drop, map, replicate, slice_index_or, slice_get, Option, Some, None}
+use Rattle.std.specs.Prelude.{ℕ, List, ◌*◌, ◌/◌, ◌≡◌, ◌<◌, ◌≤◌, ◌-◌, ◌++◌, ◌∷◌, [], length, take, drop, map, replicate, slice_index_or, slice_get, Option, Some, None}
 use Rattle.std.specs.Vec.{with_item}
 use Rattle.std.specs.Global.{Vec}
 use Rattle.std.proofs.Common.{arith, refl, sym, ap, ◌∙◌, subst, length-take, length-set}
@@ -38,6 +38,12 @@ module _ {S : Type 0} (g : Ghosts S) where
   -- how many words each segment can hold, 0 where there is none
   abbrev pub capacity_at : List (Row S g) → ℕ → ℕ
   capacity_at rows id = slice_index_or (map capacity rows) id 0
+
+  -- One more row, of this segment and with no word allocated, is behind the others, whose room is the same.
+  pub record GainsRow (old new : List (Row S g)) (segment : S) : Type 0 where
+    pub shown_more : shown new ≡ shown old ++ [] ∷ []
+    pub room_there : capacity_at new (length old) ≡ length (g.content segment) / 8
+    pub room_below : (k : ℕ) → k < length old → capacity_at new k ≡ capacity_at old k
 
   -- the zeros behind them stay
   pub clear_behind : (r : Row S g) (ws : List ℕ) → IsRow r.used (g.content (g.with_content r.segment (with_front (8 * r.used) (g.content r.segment) ws)))

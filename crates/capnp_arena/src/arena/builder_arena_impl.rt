@@ -4,12 +4,12 @@ ghost use Rattle.std.specs.Prelude.{◌≡◌, ◌⊎◌, ◌<◌, ◌≤◌, �
 ghost use Rattle.capnp_format.specs.Bytes.{message};
 ghost use Rattle.capnp_format.specs.Segments.{segment};
 ghost use Rattle.capnp_words.specs.declared.error.ErrorKind.TheVariants.{AllocationFailed, InvalidSegmentId, MessageTooLarge};
-ghost use Rattle.capnp_arena.specs.Allocations.{max_segments, max_segment_words, one_more};
+ghost use Rattle.capnp_arena.specs.Allocations.{IsFresh, max_segments, max_segment_words, one_more};
 ghost use Rattle.capnp_arena.specs.View.{view_of, same_room};
 ghost use Rattle.capnp_arena.specs.Limits.{IsSmall};
 ghost use Rattle.capnp_arena.specs.Output.{output_bytes, is_single};
 ghost use Rattle.capnp_arena.specs.Room.{rows_within, rows_small};
-ghost use Rattle.capnp_arena.specs.Row.{shown, capacity_at, with_row, few_with_row};
+ghost use Rattle.capnp_arena.specs.Row.{GainsRow, shown, capacity_at, with_row, few_with_row};
 ghost use Rattle.capnp_arena.specs.Lent.{with_row_shown, with_row_capacity};
 ghost use Rattle.capnp_arena.specs.Taking.{IsFull, IsFirstFit, IsAllocationRefusal, SameRoomBelow, with_another};
 ghost use Rattle.capnp_arena.specs.Written.{with_more};
@@ -43,6 +43,31 @@ fn give_back<A: Allocator>(allocator: &mut A, mut rows: Vec<Row<A::Segment>>)
         allocator.deallocate_segment(segment, used);
     }
     rows.destroy_empty();
+}
+
+/// Puts a segment behind the others, with none of its words allocated. Where there is no memory for
+/// its row, it goes back to the allocator.
+#[tactic(auto, using(crate::proofs::TakingLemmas::pushed))]
+fn put_behind<A: Allocator>(
+    allocator: &mut A,
+    rows: &mut Vec<Row<A::Segment>>,
+    segment: A::Segment,
+) -> Result<(), ErrorKind>
+    requires fresh { IsFresh 0 (A.Segment.content segment) }
+    ensures put { OnOk result (GainsRow A.Segment.Segment rows.old.items rows.new.items segment) }
+    ensures granted { OnOk result (A.refusals allocator.new ≡ A.refusals allocator.old) }
+    ensures named { IfErr result (λ e. e ≡ AllocationFailed) }
+    ensures refused { OnErr result (rows.new.items ≡ rows.old.items) }
+    ensures counted { OnErr result (A.refusals allocator.new ≡ one_more (A.refusals allocator.old)) }
+    ensures offers { A.offers allocator.new ≡ A.offers allocator.old }
+{
+    match allocator.keep(rows, Row::new(segment)) {
+        None => Ok(()),
+        Some(Row { segment, used }) => {
+            allocator.deallocate_segment(segment, used);
+            Err(ErrorKind::AllocationFailed)
+        }
+    }
 }
 
 /// The allocated words of each row, in order. Want of memory is `AllocationFailed`.
@@ -142,7 +167,7 @@ impl<A: Allocator> BuilderArenaImpl<A> {
     /// Puts a segment of at least `min` words behind the others, with none of its words allocated.
     ///
     /// `MessageTooLarge(usize::MAX)` says that there are 4,294,967,295 segments, else `MessageTooLarge(min)` that `min` is above 536,870,911; `AllocationFailed` is want of memory. A refusal changes nothing but `refused`.
-    #[tactic(auto, using(crate::proofs::TakingLemmas::pushed))]
+    #[tactic(auto, using(crate::proofs::RowsLemmas::counting))]
     pub fn allocate_segment(&mut self, min: u32) -> Result<(), ErrorKind>
         ensures made { OnOk result (⟦<Self as ReaderArena>⟧.segments self.new ≡ ⟦<Self as ReaderArena>⟧.segments self.old ++ [] ∷ []) }
         ensures least { OnOk result (min ≤ (⟦<Self as BuilderArena>⟧.view self.new).room (length (⟦<Self as ReaderArena>⟧.segments self.old))) }
@@ -160,13 +185,7 @@ impl<A: Allocator> BuilderArenaImpl<A> {
             return Err(ErrorKind::MessageTooLarge(usize::MAX));
         }
         let segment = self.allocator.allocate_segment(min)?;
-        match self.allocator.keep(&mut self.rows, Row::new(segment)) {
-            None => Ok(()),
-            Some(Row { segment, used }) => {
-                self.allocator.deallocate_segment(segment, used);
-                Err(ErrorKind::AllocationFailed)
-            }
-        }
+        put_behind(&mut self.allocator, &mut self.rows, segment)
     }
 
     /// The allocated words of each segment, within the limits of a reader. It takes memory where there is not exactly one segment, and want of it is `AllocationFailed`.
