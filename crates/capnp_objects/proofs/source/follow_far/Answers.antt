@@ -1,8 +1,19 @@
-use Rattle.std.proofs.Common.{◌≢◌, ◌∙◌, refl, sym, arith}
+use Rattle.std.proofs.Common.{◌≡◌, ◌≢◌, ◌<◌, ◌∙◌, length, refl, sym, arith}
 use Rattle.std.proofs.lemmas.Bool.{false≢true}
-use Rattle.capnp_format.specs.Word.{is_double}
-use Rattle.capnp_objects.proofs.Landings.{beyond, known, double_absent, single_followed, single_nowhere}
+use Rattle.capnp_format.specs.Bytes.{message}
+use Rattle.capnp_format.specs.Word.{is_double, upper_half}
+use Rattle.capnp_arena.proofs.MessageLemmas.{length-message}
+use Rattle.capnp_objects.proofs.Landings.{beyond, known, double_absent, double_followed, single_followed, single_nowhere}
 use Rattle.capnp_objects.proofs.source.follow_far.Goals as goal
+
+pub returns-in-Ok-get_segment-clause-followed : goal.returns-in-Ok-get_segment-clause-followed
+returns-in-Ok-get_segment-clause-followed g c =
+    let segments = g.A.ReaderArena.segments c.args.arena.now in
+    let found = c.in-Ok-get_segment.ensures in
+    let number : c.from.result ≡ upper_half c.word-word.result.0 = c.from.ensures ∙ c.far_segment_id-id.ensures in
+    let there : upper_half c.word-word.result.0 < length (message segments) = omega (arith, length-message segments, found.there.0 refl, c.far_segment_id-id.ensures) in
+    double_followed c.word-word.result.0 c.in-Ok.ensures.pad (c.if-is_double_far.ensures.0 refl) c.word-word.ensures.value c.word.ensures.value
+    (rw c.from.ensures (found.words, found.whole, found.small)) number c.far_position_in_segment.ensures.value there
 
 pub returns-in-Err-get_segment-clause-refused : goal.returns-in-Err-get_segment-clause-refused
 returns-in-Err-get_segment-clause-refused g c =
