@@ -72,11 +72,19 @@ fn readers_are_copied(rt: HostRuntime) {
     assert!(rt; nothing.pointer_count() == same.pointer_count());
 }
 
+/// The name of a refusal.
+fn refusal<T: Copy, E>(read: Result<T, E>) -> Option<E> {
+    match read {
+        Ok(_) => None,
+        Err(kind) => Some(kind),
+    }
+}
+
 #[test]
 fn of_the_null_arena(rt: HostRuntime) {
     let mut lim = ReadLimiter::new(Some(9));
-    let root = PointerReader::get_root_from_arena(&NullArena, &mut lim);
-    assert!(rt; matches!(root, Err(ErrorKind::TriedToReadFromNullArena)));
+    let refused = refusal(PointerReader::get_root_from_arena(&NullArena, &mut lim));
+    assert!(rt; refused == Some(ErrorKind::TriedToReadFromNullArena));
     assert!(rt; (lim.left(), lim.followed()) == (Some(9), 0));
 }
 
