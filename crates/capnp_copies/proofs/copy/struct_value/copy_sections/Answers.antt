@@ -10,7 +10,7 @@ use Rattle.capnp_copies.specs.Growth.{message_words}
 use Rattle.capnp_copies.specs.StructValues.{data_of}
 use Rattle.capnp_copies.proofs.DataSections.{kept_count-le, section_long}
 use Rattle.capnp_copies.proofs.FilledObjects.{nothing_made, nothing_left}
-use Rattle.capnp_copies.proofs.FilledSections.{SectionsBegun, sections_null, sections_inside, sections_copied, sections_stop}
+use Rattle.capnp_copies.proofs.FilledSections.{SectionsBegun, sections_fit, sections_null, sections_inside, sections_copied, sections_stop}
 use Rattle.capnp_copies.proofs.KeptForms.{SectionsCut}
 use Rattle.capnp_copies.proofs.TooLarge.{no_sections_room}
 use Rattle.capnp_making.specs.Memory.{HasRoom, refusals_for}
@@ -58,8 +58,8 @@ pub overflow_add-first : goal.overflow_add-first
 overflow_add-first g c =
     omega (arith, c.from.ensures, c.in-Ok-make_struct.ensures.inside.1, g.met.A.BuilderArena.within c.make_struct.new.arena c.in-Ok-make_struct.start.segment, g.met.A.BuilderArena.small c.make_struct.new.arena c.in-Ok-make_struct.start.segment)
 
-pub copy_children-requires-clause-null : goal.copy_children-requires-clause-null
-copy_children-requires-clause-null g c =
+pub copy_children-requires : goal.copy_children-requires
+copy_children-requires g c =
     let begun : SectionsBegun c.args.canonicalize (data_of g.B.ReaderArena c.args.value) (pointers_read g.B.ReaderArena c.args.value) c.args.value.pointer_count c.in-Ok.kept c.args.id c.args.at (g.A.BuilderArena.view c.args.arena.now) (g.A.BuilderArena.view c.make_struct.new.arena)
     (g.A.BuilderArena.view c.put_section.new.arena) c.in-Ok-make_struct.start = record {
       cut = record { inside = c.args.value.inside; of_data = c.in-Ok.ensures.data; of_pointers = c.in-Ok.ensures.pointers };
@@ -73,60 +73,11 @@ copy_children-requires-clause-null g c =
       near = c.in-Ok-make_struct.ensures.near;
       empty = c.in-Ok-make_struct.ensures.empty;
     } in
-    rw (c.from.ensures, c.from-pointers.ensures) (sections_null begun)
-
-pub copy_children-requires-clause-inside : goal.copy_children-requires-clause-inside
-copy_children-requires-clause-inside g c =
-    let begun : SectionsBegun c.args.canonicalize (data_of g.B.ReaderArena c.args.value) (pointers_read g.B.ReaderArena c.args.value) c.args.value.pointer_count c.in-Ok.kept c.args.id c.args.at (g.A.BuilderArena.view c.args.arena.now) (g.A.BuilderArena.view c.make_struct.new.arena)
-    (g.A.BuilderArena.view c.put_section.new.arena) c.in-Ok-make_struct.start = record {
-      cut = record { inside = c.args.value.inside; of_data = c.in-Ok.ensures.data; of_pointers = c.in-Ok.ensures.pointers };
-      begun = record { made = c.in-Ok-make_struct.ensures.made; start = c.in-Ok-make_struct.ensures.start; inside = c.in-Ok-make_struct.ensures.inside };
-      memory = c.in-Ok-make_struct.ensures.granted;
-      writes = c.put_section.ensures;
-      place = c.requires.place;
-      within = g.met.A.BuilderArena.within c.put_section.new.arena c.in-Ok-make_struct.start.segment;
-      taken = c.in-Ok-make_struct.ensures.taken;
-      behind = c.in-Ok-make_struct.ensures.behind;
-      near = c.in-Ok-make_struct.ensures.near;
-      empty = c.in-Ok-make_struct.ensures.empty;
-    } in
-    rw c.from-pointers.ensures (sections_inside begun)
-
-pub returns-clause-copied : goal.returns-clause-copied
-returns-clause-copied g c =
-    let nl = to_z-of_z w32 c.args.value.nesting_limit (search rules) in
-    let begun : SectionsBegun c.args.canonicalize (data_of g.B.ReaderArena c.args.value) (pointers_read g.B.ReaderArena c.args.value) c.args.value.pointer_count c.in-Ok.kept c.args.id c.args.at (g.A.BuilderArena.view c.args.arena.now) (g.A.BuilderArena.view c.make_struct.new.arena)
-    (g.A.BuilderArena.view c.put_section.new.arena) c.in-Ok-make_struct.start = record {
-      cut = record { inside = c.args.value.inside; of_data = c.in-Ok.ensures.data; of_pointers = c.in-Ok.ensures.pointers };
-      begun = record { made = c.in-Ok-make_struct.ensures.made; start = c.in-Ok-make_struct.ensures.start; inside = c.in-Ok-make_struct.ensures.inside };
-      memory = c.in-Ok-make_struct.ensures.granted;
-      writes = c.put_section.ensures;
-      place = c.requires.place;
-      within = g.met.A.BuilderArena.within c.put_section.new.arena c.in-Ok-make_struct.start.segment;
-      taken = c.in-Ok-make_struct.ensures.taken;
-      behind = c.in-Ok-make_struct.ensures.behind;
-      near = c.in-Ok-make_struct.ensures.near;
-      empty = c.in-Ok-make_struct.ensures.empty;
-    } in
-    ok_so c.copy_children.result _ _ c.copy_children.ensures.copied (λ x made. sections_copied begun (rw (c.from.ensures, c.from-pointers.ensures, nl) at made))
-
-pub returns-clause-refused : goal.returns-clause-refused
-returns-clause-refused g c =
-    let nl = to_z-of_z w32 c.args.value.nesting_limit (search rules) in
-    let begun : SectionsBegun c.args.canonicalize (data_of g.B.ReaderArena c.args.value) (pointers_read g.B.ReaderArena c.args.value) c.args.value.pointer_count c.in-Ok.kept c.args.id c.args.at (g.A.BuilderArena.view c.args.arena.now) (g.A.BuilderArena.view c.make_struct.new.arena)
-    (g.A.BuilderArena.view c.put_section.new.arena) c.in-Ok-make_struct.start = record {
-      cut = record { inside = c.args.value.inside; of_data = c.in-Ok.ensures.data; of_pointers = c.in-Ok.ensures.pointers };
-      begun = record { made = c.in-Ok-make_struct.ensures.made; start = c.in-Ok-make_struct.ensures.start; inside = c.in-Ok-make_struct.ensures.inside };
-      memory = c.in-Ok-make_struct.ensures.granted;
-      writes = c.put_section.ensures;
-      place = c.requires.place;
-      within = g.met.A.BuilderArena.within c.put_section.new.arena c.in-Ok-make_struct.start.segment;
-      taken = c.in-Ok-make_struct.ensures.taken;
-      behind = c.in-Ok-make_struct.ensures.behind;
-      near = c.in-Ok-make_struct.ensures.near;
-      empty = c.in-Ok-make_struct.ensures.empty;
-    } in
-    err_so c.copy_children.result _ _ c.copy_children.ensures.refused (λ k stop. sections_stop begun (rw (c.from.ensures, c.from-pointers.ensures, nl) at stop))
+    record {
+      room = rw (c.from.ensures, c.from-pointers.ensures) (sections_fit begun);
+      null = rw (c.from.ensures, c.from-pointers.ensures) (sections_null begun);
+      inside = rw c.from-pointers.ensures (sections_inside begun);
+    }
 
 -- What is taken.
 
@@ -137,8 +88,10 @@ pub returns-in-Err-make_struct-clause-taken : goal.returns-in-Err-make_struct-cl
 returns-in-Err-make_struct-clause-taken g c =
     inl (nothing_taken c.in-Err-make_struct.ensures.refused)
 
-pub returns-clause-taken : goal.returns-clause-taken
-returns-clause-taken g c =
+-- The copy of its pointers ends it.
+
+pub returns : goal.returns
+returns g c =
     let value = c.args.value in
     let r : Reading = pointers_read g.B.ReaderArena value in
     let made : View = g.A.BuilderArena.view c.make_struct.new.arena in
@@ -153,4 +106,21 @@ returns-clause-taken g c =
     let over = words_over made put c.in-Ok-make_struct.start.segment c.in-Ok-make_struct.start.at (take size.data_words ws) (omega (arith, c.in-Ok-make_struct.ensures.inside.1, length-take size.data_words ws)) (ap (λ (v : View). v.words) c.put_section.ensures) in
     let nl = to_z-of_z w32 value.nesting_limit (search rules) in
     let made : message_words put.words ≤ message_words (g.A.BuilderArena.view c.args.arena.now).words + ((value.bits + 63) / 64 + value.pointer_count + 1) = omega (arith, words, over, words_kept, pointers_kept, long) in
-    taken_so c.copy_children.result _ _ _ _ (λ x. cut_taken value.inside c.in-Ok.ensures.pointers (omega (arith, made)) x) (λ x. inr (among pointers_kept (omega (arith, made)) (omega arith) x)) (rw (c.from.ensures, c.from-pointers.ensures, nl) at c.copy_children.ensures.taken)
+    let begun : SectionsBegun c.args.canonicalize (data_of g.B.ReaderArena c.args.value) (pointers_read g.B.ReaderArena c.args.value) c.args.value.pointer_count c.in-Ok.kept c.args.id c.args.at (g.A.BuilderArena.view c.args.arena.now) (g.A.BuilderArena.view c.make_struct.new.arena)
+    (g.A.BuilderArena.view c.put_section.new.arena) c.in-Ok-make_struct.start = record {
+      cut = record { inside = c.args.value.inside; of_data = c.in-Ok.ensures.data; of_pointers = c.in-Ok.ensures.pointers };
+      begun = record { made = c.in-Ok-make_struct.ensures.made; start = c.in-Ok-make_struct.ensures.start; inside = c.in-Ok-make_struct.ensures.inside };
+      memory = c.in-Ok-make_struct.ensures.granted;
+      writes = c.put_section.ensures;
+      place = c.requires.place;
+      within = g.met.A.BuilderArena.within c.put_section.new.arena c.in-Ok-make_struct.start.segment;
+      taken = c.in-Ok-make_struct.ensures.taken;
+      behind = c.in-Ok-make_struct.ensures.behind;
+      near = c.in-Ok-make_struct.ensures.near;
+      empty = c.in-Ok-make_struct.ensures.empty;
+    } in
+    record {
+      copied = ok_so c.copy_children.result _ _ c.copy_children.ensures.copied (λ x made. sections_copied begun (rw (c.from.ensures, c.from-pointers.ensures, nl) at made));
+      refused = err_so c.copy_children.result _ _ c.copy_children.ensures.refused (λ k stop. sections_stop begun (rw (c.from.ensures, c.from-pointers.ensures, nl) at stop));
+      taken = taken_so c.copy_children.result _ _ _ _ (λ x. cut_taken value.inside c.in-Ok.ensures.pointers (omega (arith, made)) x) (λ x. inr (among pointers_kept (omega (arith, made)) (omega arith) x)) (rw (c.from.ensures, c.from-pointers.ensures, nl) at c.copy_children.ensures.taken);
+    }
