@@ -15,15 +15,11 @@ fn numbers() -> [u8; LENGTH] {
 /// How many words at the end are zero, one by one.
 fn zeros_at_end(words: &[u8]) -> usize {
     let (words, _) = words.as_chunks::<8>();
-    let mut count = 0;
-    for word in words {
-        count = if u64::from_le_bytes(*word) == 0 {
-            count + 1
-        } else {
-            0
-        };
-    }
-    count
+    words
+        .iter()
+        .rev()
+        .take_while(|word| u64::from_le_bytes(**word) == 0)
+        .count()
 }
 
 #[test]
