@@ -96,7 +96,7 @@ fn call_once<A: BuilderArena>(
         (Call::Struct(call), Some(Place::Struct(place))) => {
             structs::call(alloc, arena, place, call, out)
         }
-        (Call::List(call), Some(Place::List(place))) => lists::call(alloc, arena, place, call, out),
+        (Call::List(call), Some(Place::List(place))) => lists::call(arena, place, call, out),
         _ => Err(Fault::Unfit),
     }
 }
@@ -125,7 +125,7 @@ fn message_call<A: BuilderArena>(
     match call {
         MessageCall::Words => memory::put_words(arena, out)?,
         MessageCall::Refused => out.number(arena.refused())?,
-        MessageCall::Size => out.number(arena.size_in_words() as u64)?,
+        MessageCall::Size => out.number(arena.size_in_words())?,
         MessageCall::PointerAt(place) => {
             if !place::is_pointer(arena, place) {
                 return Err(Fault::Unfit);

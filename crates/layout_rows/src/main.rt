@@ -10,6 +10,7 @@ mod output;
 mod parse;
 mod reads;
 mod source;
+mod types;
 mod walk;
 
 use parse::Fault;

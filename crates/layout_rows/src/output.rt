@@ -3,6 +3,7 @@
 use capnp_words::error::ErrorKind;
 use capnp_words::wire_pointer::ElementSize;
 use std::alloc::{AllocError, Global};
+use std::fmt::Display;
 
 /// A line so far.
 #[derive(Drop)]
@@ -31,14 +32,8 @@ impl Output {
         self.text.push_str(text)
     }
 
-    /// Adds a number in decimal digits.
-    pub fn number(&mut self, n: u64) -> Result<(), AllocError> {
-        let digits = format!(in self.alloc; "{n}")?;
-        self.text.push_str(digits.as_str())
-    }
-
     /// Adds a number in decimal digits, a negative one behind a `-`.
-    pub fn signed(&mut self, n: i64) -> Result<(), AllocError> {
+    pub fn number<N: Display + Drop>(&mut self, n: N) -> Result<(), AllocError> {
         let digits = format!(in self.alloc; "{n}")?;
         self.text.push_str(digits.as_str())
     }

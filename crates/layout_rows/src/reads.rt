@@ -3,10 +3,11 @@ ghost use Rattle.std.specs.Prelude.{◌<◌, ◌/◌, ◌^◌, length, IfOk, IfS
 
 mod calls;
 
-use self::calls::{Call, ElementType, NumberType, Op, read_calls};
+use self::calls::{Call, Op, read_calls};
 use crate::elements::{low_data_at, number_at, own_struct_at, pointer_at, struct_at};
 use crate::output::Output;
 use crate::parse::{self, Fault};
+use crate::types::{ElementType, NumberType, mask_of};
 use capnp_arena::arena::{ReaderArena, ReaderArenaImpl, ReaderOptions, SegmentArray};
 use capnp_readers::readers::{
     ListReader, MessageSize, PointerPlace, PointerReader, PrimitiveElement, StructReader, Target,
@@ -19,6 +20,7 @@ use capnp_words::read_limiter::ReadLimiter;
 use capnp_words::wire_pointer::PointerType;
 use capnp_words::zero::Zero;
 use std::alloc::{AllocError, Global};
+use std::fmt::Display;
 use std::str::FromStr;
 
 /// A reader that a call has given.
@@ -98,7 +100,7 @@ impl Reading {
     fn limits(&mut self) -> Result<(), AllocError> {
         self.out.text(" ")?;
         match self.limiter.left() {
-            Some(words) => self.out.number(words as u64)?,
+            Some(words) => self.out.number(words)?,
             None => self.out.text("none")?,
         }
         self.out.text(" ")?;
@@ -199,7 +201,7 @@ impl Reading {
             Ok(Target::Null) => self.out.text("null")?,
             Ok(Target::Cap(index)) => {
                 self.out.text("capability:")?;
-                self.out.number(u64::from(index))?;
+                self.out.number(index)?;
             }
             Err(kind) => self.out.refusal(kind)?,
         }
@@ -219,7 +221,7 @@ impl Reading {
                 self.pointer_type(found)?;
             }
             Op::Capability => match from.get_capability() {
-                Ok(index) => self.out.number(u64::from(index))?,
+                Ok(index) => self.out.number(index)?,
                 Err(kind) => self.out.refusal(kind)?,
             },
             Op::Size => {
@@ -344,7 +346,7 @@ impl Reading {
         match op {
             Op::Get(of, index) => self.element(from, of, index)?,
             Op::Bytes => self.out.hex_or_dash(from.data_bytes())?,
-            Op::Bits => self.out.number(u64::from(from.element_data_bits()))?,
+            Op::Bits => self.out.number(from.element_data_bits())?,
             Op::Low(index) => {
                 let n = low_data_at(&from, index).ok_or(Fault::Unfit)?;
                 self.out.number(n)?;
@@ -354,7 +356,7 @@ impl Reading {
         Ok(())
     }
 
-    /// A number of a struct.
+    /// A number of a struct, under a mask if there is one.
     fn field<A: ReaderArena>(
         &mut self,
         from: StructReader<'_, A>,
@@ -363,33 +365,32 @@ impl Reading {
         mask: Option<&str>,
     ) -> Result<(), Fault> {
         match of {
-            NumberType::U8 => {
-                let n: u8 = field(from, index, mask_of(mask)?);
-                self.out.number(u64::from(n))?;
-            }
-            NumberType::U16 => {
-                let n: u16 = field(from, index, mask_of(mask)?);
-                self.out.number(u64::from(n))?;
-            }
-            NumberType::U32 => {
-                let n: u32 = field(from, index, mask_of(mask)?);
-                self.out.number(u64::from(n))?;
-            }
-            NumberType::U64 => self.out.number(field(from, index, mask_of(mask)?))?,
-            NumberType::I8 => {
-                let n: i8 = field(from, index, mask_of(mask)?);
-                self.out.signed(i64::from(n))?;
-            }
-            NumberType::I16 => {
-                let n: i16 = field(from, index, mask_of(mask)?);
-                self.out.signed(i64::from(n))?;
-            }
-            NumberType::I32 => {
-                let n: i32 = field(from, index, mask_of(mask)?);
-                self.out.signed(i64::from(n))?;
-            }
-            NumberType::I64 => self.out.signed(field(from, index, mask_of(mask)?))?,
+            NumberType::U8 => self.number::<u8, A>(from, index, mask),
+            NumberType::U16 => self.number::<u16, A>(from, index, mask),
+            NumberType::U32 => self.number::<u32, A>(from, index, mask),
+            NumberType::U64 => self.number::<u64, A>(from, index, mask),
+            NumberType::I8 => self.number::<i8, A>(from, index, mask),
+            NumberType::I16 => self.number::<i16, A>(from, index, mask),
+            NumberType::I32 => self.number::<i32, A>(from, index, mask),
+            NumberType::I64 => self.number::<i64, A>(from, index, mask),
         }
+    }
+
+    fn number<T: Primitive + Zero + Mask<T = T> + FromStr + Display + Drop, A: ReaderArena>(
+        &mut self,
+        from: StructReader<'_, A>,
+        index: usize,
+        mask: Option<&str>,
+    ) -> Result<(), Fault>
+    where
+        T::Err: Drop,
+    {
+        let mask: Option<T> = mask_of(mask)?;
+        let number: T = match mask {
+            Some(mask) => from.get_data_field_mask(index, mask),
+            None => from.get_data_field(index),
+        };
+        self.out.number(number)?;
         Ok(())
     }
 
@@ -418,15 +419,24 @@ impl Reading {
         index: u32,
     ) -> Result<(), Fault> {
         match of {
-            NumberType::U8 => self.out.number(u64::from(element::<u8, A>(from, index)?))?,
-            NumberType::U16 => self.out.number(u64::from(element::<u16, A>(from, index)?))?,
-            NumberType::U32 => self.out.number(u64::from(element::<u32, A>(from, index)?))?,
-            NumberType::U64 => self.out.number(element(from, index)?)?,
-            NumberType::I8 => self.out.signed(i64::from(element::<i8, A>(from, index)?))?,
-            NumberType::I16 => self.out.signed(i64::from(element::<i16, A>(from, index)?))?,
-            NumberType::I32 => self.out.signed(i64::from(element::<i32, A>(from, index)?))?,
-            NumberType::I64 => self.out.signed(element(from, index)?)?,
+            NumberType::U8 => self.number_at::<u8, A>(from, index),
+            NumberType::U16 => self.number_at::<u16, A>(from, index),
+            NumberType::U32 => self.number_at::<u32, A>(from, index),
+            NumberType::U64 => self.number_at::<u64, A>(from, index),
+            NumberType::I8 => self.number_at::<i8, A>(from, index),
+            NumberType::I16 => self.number_at::<i16, A>(from, index),
+            NumberType::I32 => self.number_at::<i32, A>(from, index),
+            NumberType::I64 => self.number_at::<i64, A>(from, index),
         }
+    }
+
+    fn number_at<E: PrimitiveElement + Display + Drop, A: ReaderArena>(
+        &mut self,
+        from: ListReader<'_, A>,
+        index: u32,
+    ) -> Result<(), Fault> {
+        let number: E = element(from, index)?;
+        self.out.number(number)?;
         Ok(())
     }
 
@@ -445,7 +455,7 @@ impl Reading {
                 self.out.text("/")?;
                 self.out.hex_or_dash(found.data_bytes())?;
                 self.out.text("/")?;
-                self.out.number(u64::from(found.pointer_count()))?;
+                self.out.number(found.pointer_count())?;
                 self.nesting(found.nesting_limit)?;
             }
             Reader::List(list) => {
@@ -470,13 +480,13 @@ impl Reading {
     fn elements<A: ReaderArena>(&mut self, list: &ListReader<'_, A>) -> Result<(), AllocError> {
         let sections = list.struct_size();
         self.out.text("/")?;
-        self.out.number(u64::from(list.len()))?;
+        self.out.number(list.len())?;
         self.out.text("/")?;
         self.out.element_size(list.get_element_size())?;
         self.out.text("/")?;
-        self.out.number(u64::from(sections.data_words))?;
+        self.out.number(sections.data_words)?;
         self.out.text("/")?;
-        self.out.number(u64::from(sections.pointers))
+        self.out.number(sections.pointers)
     }
 
     fn source<A>(&mut self, source: Source<'_, A>) -> Result<(), AllocError> {
@@ -489,7 +499,7 @@ impl Reading {
 
     fn nesting(&mut self, nesting_limit: i32) -> Result<(), AllocError> {
         self.out.text("/")?;
-        self.out.signed(i64::from(nesting_limit))
+        self.out.number(nesting_limit)
     }
 
     fn bytes(&mut self, read: Result<&[u8], ErrorKind>) -> Result<(), AllocError> {
@@ -504,7 +514,7 @@ impl Reading {
             Ok(size) => {
                 self.out.number(size.word_count)?;
                 self.out.text("/")?;
-                self.out.number(u64::from(size.cap_count))
+                self.out.number(size.cap_count)
             }
             Err(kind) => self.out.refusal(kind),
         }
@@ -531,7 +541,7 @@ impl Reading {
     /// Where the test for canonical form has come to.
     fn head(&mut self, head: u32) -> Result<(), AllocError> {
         self.out.text("/")?;
-        self.out.number(u64::from(head))
+        self.out.number(head)
     }
 
     /// Whether the last words of both sections are used.
@@ -569,36 +579,10 @@ fn default_of<'a>(call: &'a Call) -> Result<Option<&'a [u8]>, Fault>
     }
 }
 
-/// The mask that decimal digits are.
-fn mask_of<M: FromStr>(digits: Option<&str>) -> Result<Option<M>, Fault>
-where
-    M::Err: Drop,
-{
-    match digits {
-        Some(digits) => Ok(Some(parse::number(digits)?)),
-        None => Ok(None),
-    }
-}
-
-/// A number of a struct, under a mask if there is one.
-fn field<T: Primitive + Zero + Mask, A: ReaderArena>(
-    from: StructReader<'_, A>,
-    index: usize,
-    mask: Option<<T as Mask>::T>,
-) -> T {
-    match mask {
-        Some(mask) => from.get_data_field_mask(index, mask),
-        None => from.get_data_field(index),
-    }
-}
-
 /// A number of a list whose elements are wide enough.
 fn element<E: PrimitiveElement, A: ReaderArena>(
     from: ListReader<'_, A>,
     index: u32,
 ) -> Result<E, Fault> {
-    match number_at(&from, index) {
-        Some(n) => Ok(n),
-        None => Err(Fault::Unfit),
-    }
+    number_at(&from, index).ok_or(Fault::Unfit)
 }

@@ -104,7 +104,7 @@ impl Walk {
         self.pointer(root, LEVELS)?;
         self.out.text("left ")?;
         match self.limiter.left() {
-            Some(words) => self.out.number(words as u64),
+            Some(words) => self.out.number(words),
             None => self.out.text("none"),
         }
     }
@@ -218,7 +218,7 @@ impl Walk {
             Ok(size) => {
                 self.out.number(size.word_count)?;
                 self.out.text(" ")?;
-                self.out.number(u64::from(size.cap_count))?;
+                self.out.number(size.cap_count)?;
                 self.out.text(";")
             }
             Err(kind) => self.refusal(kind),
@@ -228,7 +228,7 @@ impl Walk {
     fn capability(&mut self, index: Result<u32, ErrorKind>) -> Result<(), AllocError> {
         match index {
             Ok(index) => {
-                self.out.number(u64::from(index))?;
+                self.out.number(index)?;
                 self.out.text(";")
             }
             Err(kind) => self.refusal(kind),
@@ -320,7 +320,7 @@ impl Walk {
 
     /// How many elements a list has, and how wide they are.
     fn length<A: ReaderArena>(&mut self, list: &ListReader<'_, A>) -> Result<(), AllocError> {
-        self.out.number(u64::from(list.len()))?;
+        self.out.number(list.len())?;
         self.out.text(" ")?;
         self.out.element_size(list.get_element_size())
     }
@@ -375,22 +375,23 @@ impl Walk {
         index: u32,
     ) -> Result<(), AllocError> {
         match size {
-            ElementSize::Bit => self
-                .out
-                .number(u64::from(number_at(list, index) == Some(true))),
+            ElementSize::Bit => self.out.flag(number_at(list, index) == Some(true)),
             ElementSize::Byte => {
                 let n: i8 = number_at(list, index).unwrap_or(0);
-                self.out.signed(i64::from(n))
+                self.out.number(n)
             }
             ElementSize::TwoBytes => {
                 let n: u16 = number_at(list, index).unwrap_or(0);
-                self.out.number(u64::from(n))
+                self.out.number(n)
             }
             ElementSize::FourBytes => {
                 let n: i32 = number_at(list, index).unwrap_or(0);
-                self.out.signed(i64::from(n))
+                self.out.number(n)
             }
-            _ => self.out.number(number_at(list, index).unwrap_or(0)),
+            _ => {
+                let n: u64 = number_at(list, index).unwrap_or(0);
+                self.out.number(n)
+            }
         }
     }
 
@@ -398,7 +399,7 @@ impl Walk {
     fn sections<A: ReaderArena>(&mut self, found: StructReader<'_, A>) -> Result<(), AllocError> {
         self.out.hex(found.data_bytes())?;
         self.out.text("/")?;
-        self.out.number(u64::from(found.pointer_count()))
+        self.out.number(found.pointer_count())
     }
 
     /// A struct and some of its fields.
@@ -419,15 +420,14 @@ impl Walk {
     ) -> Result<(), AllocError> {
         let i = usize::from(step);
         self.out.text(" ")?;
-        self.out
-            .number(u64::from(found.get_data_field::<u8>(7 * i)))?;
+        self.out.number(found.get_data_field::<u8>(7 * i))?;
         self.out.text(" ")?;
         self.out
-            .signed(i64::from(found.get_data_field_mask::<i16>(3 * i, -2)))?;
+            .number(found.get_data_field_mask::<i16>(3 * i, -2))?;
         self.out.text(" ")?;
-        self.out.number(u64::from(found.get_data_field::<u32>(i)))?;
+        self.out.number(found.get_data_field::<u32>(i))?;
         self.out.text(" ")?;
-        self.out.signed(found.get_data_field::<i64>(i))?;
+        self.out.number(found.get_data_field::<i64>(i))?;
         self.out.text(" ")?;
         self.out.flag(found.get_bool_field_mask(63 * i, i == 1))?;
         self.out.text(" ")?;

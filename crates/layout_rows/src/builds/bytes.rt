@@ -78,7 +78,7 @@ fn init<A: BuilderArena>(
             for (to, from) in bytes.iter_mut().zip(first) {
                 *to = *from;
             }
-            out.number(bytes.len() as u64)?;
+            out.number(bytes.len())?;
             Ok(None)
         }
         Err(kind) => refuse(kind, out),

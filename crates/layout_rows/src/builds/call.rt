@@ -2,6 +2,7 @@
 
 use crate::parse::{self, Fault};
 use crate::source::{self, SourceText};
+use crate::types::{ElementType, NumberType, element_type, number_type};
 use capnp_readers::readers::PointerPlace;
 use capnp_words::wire_pointer::{ElementSize, StructSize};
 
@@ -105,21 +106,8 @@ pub enum StructCall<'a> {
     IsFieldNull(usize),
     SetBool(usize, bool, Option<bool>),
     GetBool(usize, Option<bool>),
-    SetNumber(Number, usize, &'a str, Option<&'a str>),
-    GetNumber(Number, usize, Option<&'a str>),
-}
-
-/// A type of numbers.
-#[derive(Clone, Copy)]
-pub enum Number {
-    U8,
-    U16,
-    U32,
-    U64,
-    I8,
-    I16,
-    I32,
-    I64,
+    SetNumber(NumberType, usize, &'a str, Option<&'a str>),
+    GetNumber(NumberType, usize, Option<&'a str>),
 }
 
 /// A call of a list.
@@ -127,16 +115,8 @@ pub enum Number {
 pub enum ListCall<'a> {
     Element(u32),
     Pointer(u32),
-    Get(Primitive, u32),
-    Set(Primitive, u32, &'a str),
-}
-
-/// What an element is read and written as.
-#[derive(Clone, Copy)]
-pub enum Primitive {
-    Void,
-    Bool,
-    Number(Number),
+    Get(ElementType, u32),
+    Set(ElementType, u32, &'a str),
 }
 
 impl<'a> Call<'a> {
@@ -284,7 +264,7 @@ fn struct_call<'a>(name: &str, arguments: &[&'a str]) -> Result<Option<StructCal
 /// A call on a number of a data section.
 fn number_call<'a>(name: &str, arguments: &[&'a str]) -> Result<Option<StructCall<'a>>, Fault> {
     let set = name.strip_prefix("set_");
-    let Some(number) = number_of(set.unwrap_or(name)) else {
+    let Some(number) = number_type(set.unwrap_or(name)) else {
         return Ok(None);
     };
     match (set, arguments) {
@@ -308,43 +288,16 @@ fn list_call<'a>(name: &str, arguments: &[&'a str]) -> Result<Option<ListCall<'a
     Ok(Some(match (name, arguments) {
         ("element", [index]) => ListCall::Element(parse::number(index)?),
         ("pointer", [index]) => ListCall::Pointer(parse::number(index)?),
-        ("get", [name, index]) => ListCall::Get(primitive_of(name)?, parse::number(index)?),
+        ("get", [name, index]) => ListCall::Get(element_type(name)?, parse::number(index)?),
         ("set", [name, index, value]) => {
             ListCall::Set(
-                primitive_of(name)?,
+                element_type(name)?,
                 parse::number(index)?,
                 element(name, value)?,
             )
         }
         _ => return Ok(None),
     }))
-}
-
-/// The type of a name.
-fn number_of(name: &str) -> Option<Number> {
-    match name {
-        "u8" => Some(Number::U8),
-        "u16" => Some(Number::U16),
-        "u32" => Some(Number::U32),
-        "u64" => Some(Number::U64),
-        "i8" => Some(Number::I8),
-        "i16" => Some(Number::I16),
-        "i32" => Some(Number::I32),
-        "i64" => Some(Number::I64),
-        _ => None,
-    }
-}
-
-/// The type of a name.
-fn primitive_of(name: &str) -> Result<Primitive, Fault> {
-    match name {
-        "void" => Ok(Primitive::Void),
-        "bool" => Ok(Primitive::Bool),
-        _ => match number_of(name) {
-            Some(number) => Ok(Primitive::Number(number)),
-            None => Err(Fault::Malformed),
-        },
-    }
 }
 
 /// The size of elements that are no structs.

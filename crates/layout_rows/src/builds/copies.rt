@@ -135,7 +135,7 @@ fn put_outcome(outcome: Outcome, lim: &ReadLimiter, out: &mut Output) -> Result<
     }
     out.text("/")?;
     match lim.left() {
-        Some(words) => out.number(words as u64)?,
+        Some(words) => out.number(words)?,
         None => out.text("none")?,
     }
     out.text("/")?;

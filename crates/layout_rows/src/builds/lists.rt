@@ -1,18 +1,17 @@
 //! Calls of a list.
 
-use super::call::{ListCall, Number, Primitive};
+use super::call::ListCall;
 use super::numbers::{element, put_element, set_element, set_number};
 use super::place::{Place, list};
 use crate::output::Output;
 use crate::parse::{self, Fault};
+use crate::types::{ElementType, NumberType};
 use capnp_arena::arena::BuilderArena;
 use capnp_readers::readers::{ListPlace, PointerPlace};
 use capnp_words::wire_pointer::ElementSize;
-use std::alloc::Global;
 
 /// Makes a call of a list and adds its answer.
 pub fn call<A: BuilderArena>(
-    alloc: Global,
     arena: &mut A,
     place: ListPlace,
     call: ListCall<'_>,
@@ -21,13 +20,13 @@ pub fn call<A: BuilderArena>(
     match call {
         ListCall::Element(index) => return struct_element(arena, place, index)?.put(out),
         ListCall::Pointer(index) => return pointer_element(arena, place, index)?.put(out),
-        ListCall::Get(Primitive::Void, index) => {
+        ListCall::Get(ElementType::Void, index) => {
             let () = element(arena, place, index)?;
             out.text("-")?;
         }
-        ListCall::Get(Primitive::Bool, index) => out.flag(element(arena, place, index)?)?,
-        ListCall::Get(Primitive::Number(number), index) => {
-            get_number(alloc, arena, place, (number, index), out)?;
+        ListCall::Get(ElementType::Bool, index) => out.flag(element(arena, place, index)?)?,
+        ListCall::Get(ElementType::Number(number), index) => {
+            get_number(arena, place, (number, index), out)?;
         }
         ListCall::Set(primitive, index, value) => {
             set(arena, place, primitive, (index, value))?;
@@ -76,14 +75,14 @@ fn pointer_element<A: BuilderArena>(
 fn set<A: BuilderArena>(
     arena: &mut A,
     place: ListPlace,
-    primitive: Primitive,
+    primitive: ElementType,
     (index, value): (u32, &str),
 ) -> Result<(), Fault> {
     match primitive {
-        Primitive::Void if value == "-" => set_element(arena, place, index, ()),
-        Primitive::Void => Err(Fault::Malformed),
-        Primitive::Bool => set_element(arena, place, index, parse::flag(value)?),
-        Primitive::Number(number) => set_as(arena, place, number, (index, value)),
+        ElementType::Void if value == "-" => set_element(arena, place, index, ()),
+        ElementType::Void => Err(Fault::Malformed),
+        ElementType::Bool => set_element(arena, place, index, parse::flag(value)?),
+        ElementType::Number(number) => set_as(arena, place, number, (index, value)),
     }
 }
 
@@ -91,37 +90,36 @@ fn set<A: BuilderArena>(
 fn set_as<A: BuilderArena>(
     arena: &mut A,
     place: ListPlace,
-    number: Number,
+    number: NumberType,
     element: (u32, &str),
 ) -> Result<(), Fault> {
     match number {
-        Number::U8 => set_number::<A, u8>(arena, place, element),
-        Number::U16 => set_number::<A, u16>(arena, place, element),
-        Number::U32 => set_number::<A, u32>(arena, place, element),
-        Number::U64 => set_number::<A, u64>(arena, place, element),
-        Number::I8 => set_number::<A, i8>(arena, place, element),
-        Number::I16 => set_number::<A, i16>(arena, place, element),
-        Number::I32 => set_number::<A, i32>(arena, place, element),
-        Number::I64 => set_number::<A, i64>(arena, place, element),
+        NumberType::U8 => set_number::<A, u8>(arena, place, element),
+        NumberType::U16 => set_number::<A, u16>(arena, place, element),
+        NumberType::U32 => set_number::<A, u32>(arena, place, element),
+        NumberType::U64 => set_number::<A, u64>(arena, place, element),
+        NumberType::I8 => set_number::<A, i8>(arena, place, element),
+        NumberType::I16 => set_number::<A, i16>(arena, place, element),
+        NumberType::I32 => set_number::<A, i32>(arena, place, element),
+        NumberType::I64 => set_number::<A, i64>(arena, place, element),
     }
 }
 
 // Adds an element that is a number of a type.
 fn get_number<A: BuilderArena>(
-    alloc: Global,
     arena: &mut A,
     place: ListPlace,
-    (number, index): (Number, u32),
+    (number, index): (NumberType, u32),
     out: &mut Output,
 ) -> Result<(), Fault> {
     match number {
-        Number::U8 => put_element::<A, u8>(alloc, arena, place, index, out),
-        Number::U16 => put_element::<A, u16>(alloc, arena, place, index, out),
-        Number::U32 => put_element::<A, u32>(alloc, arena, place, index, out),
-        Number::U64 => put_element::<A, u64>(alloc, arena, place, index, out),
-        Number::I8 => put_element::<A, i8>(alloc, arena, place, index, out),
-        Number::I16 => put_element::<A, i16>(alloc, arena, place, index, out),
-        Number::I32 => put_element::<A, i32>(alloc, arena, place, index, out),
-        Number::I64 => put_element::<A, i64>(alloc, arena, place, index, out),
+        NumberType::U8 => put_element::<A, u8>(arena, place, index, out),
+        NumberType::U16 => put_element::<A, u16>(arena, place, index, out),
+        NumberType::U32 => put_element::<A, u32>(arena, place, index, out),
+        NumberType::U64 => put_element::<A, u64>(arena, place, index, out),
+        NumberType::I8 => put_element::<A, i8>(arena, place, index, out),
+        NumberType::I16 => put_element::<A, i16>(arena, place, index, out),
+        NumberType::I32 => put_element::<A, i32>(arena, place, index, out),
+        NumberType::I64 => put_element::<A, i64>(arena, place, index, out),
     }
 }

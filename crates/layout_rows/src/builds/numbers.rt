@@ -7,6 +7,7 @@ ghost use Rattle.capnp_readers.specs.Sections.{IsInside, data_bits};
 use super::place::{list, structure};
 use crate::output::Output;
 use crate::parse::{self, Fault};
+use crate::types::mask_of;
 use capnp_arena::arena::BuilderArena;
 use capnp_builders::builders::PrimitiveElement;
 use capnp_readers::readers::{ListPlace, StructPlace};
@@ -14,7 +15,6 @@ use capnp_words::mask::Mask;
 use capnp_words::primitive::Primitive;
 use capnp_words::wire_pointer::{ElementSize, data_bits_per_element};
 use capnp_words::zero::Zero;
-use std::alloc::Global;
 use std::fmt::Display;
 use std::str::FromStr;
 
@@ -42,7 +42,6 @@ where
 
 /// Adds a number of a struct, under a mask if there is one.
 pub fn put_field<A: BuilderArena, T: Primitive + Zero + Mask<T = T> + FromStr + Display + Drop>(
-    alloc: Global,
     arena: &mut A,
     place: StructPlace,
     (index, mask): (usize, Option<&str>),
@@ -60,7 +59,8 @@ where
         Some(mask) => builder.get_data_field_mask(index, mask),
         None => builder.get_data_field(index),
     };
-    put_number(alloc, value, out)
+    out.number(value)?;
+    Ok(())
 }
 
 // Whether a field of so many bits lies in a data section, by its index among fields as wide.
@@ -74,24 +74,6 @@ fn is_field(bits: u32, width: usize, index: usize) -> bool
         Some(end) => end <= bits as usize,
         None => false,
     }
-}
-
-// The mask of decimal digits.
-fn mask_of<T: FromStr>(digits: Option<&str>) -> Result<Option<T>, Fault>
-where
-    T::Err: Drop,
-{
-    match digits {
-        Some(digits) => Ok(Some(parse::number(digits)?)),
-        None => Ok(None),
-    }
-}
-
-// Adds a number.
-fn put_number<T: Display + Drop>(alloc: Global, value: T, out: &mut Output) -> Result<(), Fault> {
-    let digits = format!(in alloc; "{value}")?;
-    out.text(digits.as_str())?;
-    Ok(())
 }
 
 /// Writes an element of a list.
@@ -151,12 +133,12 @@ where
 
 /// Adds an element of a list as decimal digits.
 pub fn put_element<A: BuilderArena, T: PrimitiveElement + Display + Drop>(
-    alloc: Global,
     arena: &mut A,
     place: ListPlace,
     index: u32,
     out: &mut Output,
 ) -> Result<(), Fault> {
     let value: T = element(arena, place, index)?;
-    put_number(alloc, value, out)
+    out.number(value)?;
+    Ok(())
 }

@@ -139,7 +139,7 @@ fn read_struct<A: BuilderArena>(
     let reader = builder.as_reader();
     out.hex_or_dash(reader.data_bytes())?;
     out.text("/")?;
-    out.number(u64::from(reader.pointer_count()))?;
+    out.number(reader.pointer_count())?;
     Ok(())
 }
 
@@ -152,7 +152,7 @@ fn read_list<A: BuilderArena>(
     let builder = list(arena, place)?;
     let reader = builder.as_reader();
     let size = reader.struct_size();
-    out.number(u64::from(reader.len()))?;
+    out.number(reader.len())?;
     out.text("/")?;
     out.element_size(reader.get_element_size())?;
     out.text("/")?;

@@ -61,7 +61,7 @@ fn word<A: BuilderArena>(
             out.text("ok")?;
         }
         PointerCall::GetCapability => match pointer.get_capability() {
-            Ok(index) => out.number(u64::from(index))?,
+            Ok(index) => out.number(index)?,
             Err(kind) => out.refusal(kind)?,
         },
         _ => return Err(Fault::Unfit),

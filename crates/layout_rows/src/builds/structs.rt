@@ -1,11 +1,12 @@
 //! Calls of a struct.
 
-use super::call::{Number, StructCall};
+use super::call::StructCall;
 use super::copies;
 use super::numbers::{put_field, set_field};
 use super::place::{Place, structure};
 use crate::output::Output;
 use crate::parse::Fault;
+use crate::types::NumberType;
 use capnp_arena::arena::BuilderArena;
 use capnp_readers::readers::{PointerPlace, StructPlace};
 use std::alloc::Global;
@@ -31,7 +32,7 @@ pub fn call<A: BuilderArena>(
             out.text("ok")?;
         }
         StructCall::GetNumber(number, index, mask) => {
-            get_number(alloc, arena, place, number, (index, mask), out)?;
+            get_number(arena, place, number, (index, mask), out)?;
         }
     }
     Ok(None)
@@ -113,38 +114,37 @@ fn get_bool<A: BuilderArena>(
 fn set_number<A: BuilderArena>(
     arena: &mut A,
     place: StructPlace,
-    number: Number,
+    number: NumberType,
     field: (usize, &str, Option<&str>),
 ) -> Result<(), Fault> {
     match number {
-        Number::U8 => set_field::<A, u8>(arena, place, field),
-        Number::U16 => set_field::<A, u16>(arena, place, field),
-        Number::U32 => set_field::<A, u32>(arena, place, field),
-        Number::U64 => set_field::<A, u64>(arena, place, field),
-        Number::I8 => set_field::<A, i8>(arena, place, field),
-        Number::I16 => set_field::<A, i16>(arena, place, field),
-        Number::I32 => set_field::<A, i32>(arena, place, field),
-        Number::I64 => set_field::<A, i64>(arena, place, field),
+        NumberType::U8 => set_field::<A, u8>(arena, place, field),
+        NumberType::U16 => set_field::<A, u16>(arena, place, field),
+        NumberType::U32 => set_field::<A, u32>(arena, place, field),
+        NumberType::U64 => set_field::<A, u64>(arena, place, field),
+        NumberType::I8 => set_field::<A, i8>(arena, place, field),
+        NumberType::I16 => set_field::<A, i16>(arena, place, field),
+        NumberType::I32 => set_field::<A, i32>(arena, place, field),
+        NumberType::I64 => set_field::<A, i64>(arena, place, field),
     }
 }
 
 // Adds a number of a type.
 fn get_number<A: BuilderArena>(
-    alloc: Global,
     arena: &mut A,
     place: StructPlace,
-    number: Number,
+    number: NumberType,
     field: (usize, Option<&str>),
     out: &mut Output,
 ) -> Result<(), Fault> {
     match number {
-        Number::U8 => put_field::<A, u8>(alloc, arena, place, field, out),
-        Number::U16 => put_field::<A, u16>(alloc, arena, place, field, out),
-        Number::U32 => put_field::<A, u32>(alloc, arena, place, field, out),
-        Number::U64 => put_field::<A, u64>(alloc, arena, place, field, out),
-        Number::I8 => put_field::<A, i8>(alloc, arena, place, field, out),
-        Number::I16 => put_field::<A, i16>(alloc, arena, place, field, out),
-        Number::I32 => put_field::<A, i32>(alloc, arena, place, field, out),
-        Number::I64 => put_field::<A, i64>(alloc, arena, place, field, out),
+        NumberType::U8 => put_field::<A, u8>(arena, place, field, out),
+        NumberType::U16 => put_field::<A, u16>(arena, place, field, out),
+        NumberType::U32 => put_field::<A, u32>(arena, place, field, out),
+        NumberType::U64 => put_field::<A, u64>(arena, place, field, out),
+        NumberType::I8 => put_field::<A, i8>(arena, place, field, out),
+        NumberType::I16 => put_field::<A, i16>(arena, place, field, out),
+        NumberType::I32 => put_field::<A, i32>(arena, place, field, out),
+        NumberType::I64 => put_field::<A, i64>(arena, place, field, out),
     }
 }

@@ -1,30 +1,10 @@
 //! The calls that a line holds.
 
 use crate::parse::{self, Fault};
+use crate::types::{ElementType, NumberType, element_type, number_type};
 use capnp_readers::readers::PointerPlace;
 use capnp_words::wire_pointer::ElementSize;
 use std::alloc::Global;
-
-/// The type of a number.
-#[derive(Clone, Copy)]
-pub enum NumberType {
-    U8,
-    U16,
-    U32,
-    U64,
-    I8,
-    I16,
-    I32,
-    I64,
-}
-
-/// The type of an element that is no struct and no pointer.
-#[derive(Clone, Copy)]
-pub enum ElementType {
-    Void,
-    Bool,
-    Number(NumberType),
-}
 
 /// What a call does.
 #[derive(Clone, Copy)]
@@ -178,7 +158,10 @@ fn op_with_one<'l>(name: &str, first: &str) -> Result<Op<'l>, Fault> {
         "own_element" => Ok(Op::OwnElement(parse::number(first)?)),
         "pointer" => Ok(Op::PointerElement(parse::number(first)?)),
         "low" => Ok(Op::Low(parse::number(first)?)),
-        _ => Ok(Op::Number(number_type(name)?, parse::number(first)?, None)),
+        _ => {
+            let number = number_type(name).ok_or(Fault::Malformed)?;
+            Ok(Op::Number(number, parse::number(first)?, None))
+        }
     }
 }
 
@@ -189,33 +172,11 @@ fn op_with_two<'l>(name: &str, first: &str, second: &'l str) -> Result<Op<'l>, F
         "bool" => Ok(Op::Bool(parse::number(first)?, Some(parse::flag(second)?))),
         "get" => Ok(Op::Get(element_type(first)?, parse::number(second)?)),
         _ => {
-            let number = number_type(name)?;
+            let number = number_type(name).ok_or(Fault::Malformed)?;
             if !parse::is_number(second) {
                 return Err(Fault::Malformed);
             }
             Ok(Op::Number(number, parse::number(first)?, Some(second)))
         }
-    }
-}
-
-fn number_type(name: &str) -> Result<NumberType, Fault> {
-    match name {
-        "u8" => Ok(NumberType::U8),
-        "u16" => Ok(NumberType::U16),
-        "u32" => Ok(NumberType::U32),
-        "u64" => Ok(NumberType::U64),
-        "i8" => Ok(NumberType::I8),
-        "i16" => Ok(NumberType::I16),
-        "i32" => Ok(NumberType::I32),
-        "i64" => Ok(NumberType::I64),
-        _ => Err(Fault::Malformed),
-    }
-}
-
-fn element_type(name: &str) -> Result<ElementType, Fault> {
-    match name {
-        "void" => Ok(ElementType::Void),
-        "bool" => Ok(ElementType::Bool),
-        _ => Ok(ElementType::Number(number_type(name)?)),
     }
 }

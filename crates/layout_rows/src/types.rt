@@ -1,0 +1,63 @@
+//! The types of numbers and of elements that a line names.
+
+use crate::parse::{self, Fault};
+use std::str::FromStr;
+
+/// The type of a number.
+#[derive(Clone, Copy)]
+pub enum NumberType {
+    U8,
+    U16,
+    U32,
+    U64,
+    I8,
+    I16,
+    I32,
+    I64,
+}
+
+/// The type of an element that is no struct and no pointer.
+#[derive(Clone, Copy)]
+pub enum ElementType {
+    Void,
+    Bool,
+    Number(NumberType),
+}
+
+/// The type of numbers of a name, if it is one.
+pub fn number_type(name: &str) -> Option<NumberType> {
+    match name {
+        "u8" => Some(NumberType::U8),
+        "u16" => Some(NumberType::U16),
+        "u32" => Some(NumberType::U32),
+        "u64" => Some(NumberType::U64),
+        "i8" => Some(NumberType::I8),
+        "i16" => Some(NumberType::I16),
+        "i32" => Some(NumberType::I32),
+        "i64" => Some(NumberType::I64),
+        _ => None,
+    }
+}
+
+/// The type of elements of a name.
+pub fn element_type(name: &str) -> Result<ElementType, Fault> {
+    match name {
+        "void" => Ok(ElementType::Void),
+        "bool" => Ok(ElementType::Bool),
+        _ => match number_type(name) {
+            Some(number) => Ok(ElementType::Number(number)),
+            None => Err(Fault::Malformed),
+        },
+    }
+}
+
+/// The mask that decimal digits are, where they aren't missing.
+pub fn mask_of<M: FromStr>(digits: Option<&str>) -> Result<Option<M>, Fault>
+where
+    M::Err: Drop,
+{
+    match digits {
+        Some(digits) => Ok(Some(parse::number(digits)?)),
+        None => Ok(None),
+    }
+}
