@@ -132,3 +132,8 @@ rows_some S M R s p w v r z k i n l f g =
       all = rows_split s p w v r z k i (suc (n - i - 1)) n (omega arith) ∙ ap (λ xs. ms ++ (xs ++ others)) g.all ∙ ap (λ xs. ms ++ xs) (append_assoc g.done g.left others) ∙ sym (append_assoc ms g.done (g.left ++ others));
       moves = moves_both S M R ms g.done f g.moves;
     }
+
+-- rows without pointers
+pub no_moves : (s p w v r z n : ℕ) → rows_of_moves s p w v r z 0 n ≡ []
+no_moves s p w v r z zero = refl
+no_moves s p w v r z (suc n) = no_moves s (p + w) w v (r + z) z n

@@ -37,7 +37,7 @@ words_by_each S s p vs fits h =
     (λ k d l. let small : k < n = omega (arith, length-take n (drop p W), length-drop p W) in
     get_or-take n (drop p W) k d small ∙ get_or-drop p W k d ∙ get_or_default W (p + k) d 0 (omega arith) ∙ h k small ∙ get_or_default vs k 0 d (omega arith))
 
-zeros_at : (k i : ℕ) → get_or (zeros k) i 0 ≡ 0
+pub zeros_at : (k i : ℕ) → get_or (zeros k) i 0 ≡ 0
 zeros_at zero i = refl
 zeros_at (suc k) zero = refl
 zeros_at (suc k) (suc i) = zeros_at k i

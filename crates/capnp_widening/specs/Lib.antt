@@ -1,4 +1,5 @@
 pub mod Housed
 pub mod Moved
 pub mod Pointed
+pub mod RowsRemade
 pub mod Widened

@@ -34,7 +34,7 @@ pub struct Room {
 
 /// Takes words for an object: behind those of its pointer's segment where they fit, else behind a
 /// landing pad of one word, where the arena finds room.
-fn take<A: BuilderArena>(arena: &mut A, id: u32, amount: u32) -> Result<Room, ErrorKind>
+pub(crate) fn take<A: BuilderArena>(arena: &mut A, id: u32, amount: u32) -> Result<Room, ErrorKind>
     requires there { id < length (A.view arena.old).words }
     requires small { amount < 2 ^ 31 }
     ensures taken { IfOk result (IsRoom (A.view arena.old).words (A.view arena.new).words id amount) }
@@ -61,7 +61,7 @@ fn take<A: BuilderArena>(arena: &mut A, id: u32, amount: u32) -> Result<Room, Er
 }
 
 /// Copies words one behind the other over others.
-fn copy_words<A: BuilderArena>(arena: &mut A, from: Start, to: Start, count: u32)
+pub(crate) fn copy_words<A: BuilderArena>(arena: &mut A, from: Start, to: Start, count: u32)
     requires from { from.at + count ≤ length (segment (A.view arena.old).words from.segment) }
     requires to { to.at + count ≤ length (segment (A.view arena.old).words to.segment) }
     requires apart { from.segment ≡ to.segment → from.at + count ≤ to.at }
@@ -75,7 +75,7 @@ fn copy_words<A: BuilderArena>(arena: &mut A, from: Start, to: Start, count: u32
 }
 
 /// Sets the pointer at a place to an object that stands in a room, and writes its landing pad, if any.
-fn settle<A: BuilderArena>(arena: &mut A, id: u32, at: u32, room: Room, shape: Shape)
+pub(crate) fn settle<A: BuilderArena>(arena: &mut A, id: u32, at: u32, room: Room, shape: Shape)
     requires place { IsPlace (A.view arena.old).words id at }
     requires inside { room.at + room.pads < length (segment (A.view arena.old).words room.segment) }
     requires apart { (room.segment ≡ id) → at < room.at }
@@ -132,7 +132,7 @@ pub fn get_struct<A: BuilderArena>(
 }
 
 /// The greater of two numbers.
-fn greater(a: u16, b: u16) -> u16
+pub(crate) fn greater(a: u16, b: u16) -> u16
     ensures { result ≡ max a b }
 {
     if a < b { b } else { a }

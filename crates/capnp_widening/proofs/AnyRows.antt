@@ -1,0 +1,58 @@
+-- Any list whose elements are rows, made one of structs.
+use Rattle.std.proofs.Common.{◌≡◌, ℕ, Some, None, sym, subst}
+use Rattle.capnp_format.specs.Segments.{Segments}
+use Rattle.capnp_format.specs.Tree.{Tree, Null, Capability, Struct, Flat, Pointers, Structs}
+use Rattle.capnp_format.specs.Forest.{target}
+use Rattle.capnp_pointers.specs.declared.wire_pointer.StructSize.{StructSize}
+use Rattle.capnp_making.specs.Stored.{IsStored}
+use Rattle.capnp_widening.specs.declared.remaking.ElementRows.{ElementRows}
+use Rattle.capnp_widening.specs.declared.widening.Room.{Room}
+use Rattle.capnp_widening.specs.RowsRemade.{RowsInside, rows_in, as_structs, HasRows, BecomesList, RemakesRows, LeavesRows}
+use Rattle.capnp_widening.specs.Widened.{GrowsByZeros}
+use Rattle.capnp_widening.proofs.ListSteps.{ListSteps, ListUndone, list_at, same_size, struct_rows, structs_stored, structs_become, structs_left}
+
+pub same_rows : (x y : ElementRows) → Some x ≡ Some y → x ≡ y
+same_rows x y e = cc
+
+pub no_rows : (x : ElementRows) → None ≡ Some x → ⊥
+no_rows x e = cc
+
+pub rows_remade : (S T B D P R Z Q : Segments) (id at : ℕ) (old : ElementRows) (size : StructSize) (h : Room) → ListSteps S T B D P R Z Q id at old size h → RemakesRows S Q id at old size (list_at h size old.count)
+rows_remade S T B D P R Z Q id at old size h s = λ t i. go t i.0 i.1
+  where
+    go : (t : Tree) → IsStored S id at t → rows_in (target S id at) t ≡ Some old → BecomesList S Q id at t (as_structs size t) (list_at h size old.count)
+    go (Structs d k es) x e =
+        let same = same_rows (struct_rows S id at d k es) old e in
+        subst (λ o. BecomesList S Q id at (Structs d k es) (as_structs size (Structs d k es)) (list_at h size o.count)) same
+        (structs_become S T B D P R Z Q id at d k es size h x (subst (λ o. ListSteps S T B D P R Z Q id at o size h) (sym same) s))
+    go Null x e = absurd (no_rows old e)
+    go (Capability i) x e = absurd (no_rows old e)
+    go (Struct ws ts) x e = absurd (no_rows old e)
+    go (Flat width ns) x e = absurd (no_rows old e)
+    go (Pointers ts) x e = absurd (no_rows old e)
+
+pub rows_left : (S T B D P U Z : Segments) (id at : ℕ) (old : ElementRows) (size : StructSize) (h : Room) → ListUndone S T B D P U Z id old size h → LeavesRows S Z id at old
+rows_left S T B D P U Z id at old size h s = λ t i. go t i.0 i.1
+  where
+    go : (t : Tree) → IsStored S id at t → rows_in (target S id at) t ≡ Some old → GrowsByZeros S Z
+    go (Structs d k es) x e =
+        let same = same_rows (struct_rows S id at d k es) old e in
+        let u = subst (λ o. ListUndone S T B D P U Z id o size h) (sym same) s in
+        structs_left S T B D P U Z id at d k es size.data_words size.pointers h x (subst (λ z. ListUndone S T B D P U Z id (struct_rows S id at d k es) z h) (sym (same_size d k size u.wider.0 u.wider.1)) u)
+    go Null x e = absurd (no_rows old e)
+    go (Capability i) x e = absurd (no_rows old e)
+    go (Struct ws ts) x e = absurd (no_rows old e)
+    go (Flat width ns) x e = absurd (no_rows old e)
+    go (Pointers ts) x e = absurd (no_rows old e)
+
+-- its words lie in their segment
+pub rows_inside : (S : Segments) (id at : ℕ) (t : Tree) (old : ElementRows) → HasRows S id at t old → RowsInside S old
+rows_inside S id at t old h = go t h.0 h.1
+  where
+    go : (u : Tree) → IsStored S id at u → rows_in (target S id at) u ≡ Some old → RowsInside S old
+    go (Structs d k es) x e = subst (λ o. RowsInside S o) (same_rows (struct_rows S id at d k es) old e) (structs_stored S id at d k es x).fits
+    go Null x e = absurd (no_rows old e)
+    go (Capability i) x e = absurd (no_rows old e)
+    go (Struct ws ts) x e = absurd (no_rows old e)
+    go (Flat width ns) x e = absurd (no_rows old e)
+    go (Pointers ts) x e = absurd (no_rows old e)

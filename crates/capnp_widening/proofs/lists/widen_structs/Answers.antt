@@ -1,0 +1,41 @@
+use Rattle.std.proofs.Common.{◌≤◌, inl, inr, arith, rules}
+use Rattle.capnp_format.specs.Segments.{Segments}
+use Rattle.capnp_making.proofs.Outcomes.{on_err_so}
+use Rattle.capnp_widening.proofs.Listed.{if_ok_both, if_err_so}
+use Rattle.capnp_widening.proofs.StructLists.{structs_kept, structs_widened_to, structs_left_as, structs_refused}
+use Rattle.capnp_widening.proofs.lists.widen_structs.Goals.{else-size-had-via-then-size-had+else-size-had-2, else-size-had-via-else-size-had}
+use Rattle.capnp_widening.proofs.lists.widen_structs.Goals as goal
+
+-- Both sections are large enough.
+pub returns-then-size-had-2-clause-widened : goal.returns-then-size-had-2-clause-widened
+returns-then-size-had-2-clause-widened g c =
+    let S : Segments = (g.A.BuilderArena.view c.args.arena.now).words in
+    let wide : c.args.size.data_words ≤ c.args.old.struct_size.data_words = search rules in
+    let many : c.args.size.pointers ≤ c.args.old.struct_size.pointers = search rules in
+    structs_kept S c.args.id c.args.at c.args.old c.args.size c.requires.kind wide many
+
+-- It stands anew, with each section as large as the greater of old and wanted.
+pub returns-clause-widened : goal.returns-clause-widened
+returns-clause-widened g c =
+    let S : Segments = (g.A.BuilderArena.view c.args.arena.now).words in
+    let R : Segments = (g.A.BuilderArena.view c.widen_rows.new.arena).words in
+    let narrow : c.args.size.data_words ≤ c.args.old.struct_size.data_words → c.args.size.pointers ≤ c.args.old.struct_size.pointers → ⊥ =
+    λ l m. elim c.else-size-had.branch [ else-size-had-via-then-size-had+else-size-had-2 w ↦ omega arith | else-size-had-via-else-size-had w ↦ omega arith ] in
+    if_ok_both c.widen_rows.result _ _ _ c.widen_rows.ensures.remade c.widen_rows.ensures.small
+    (λ m made few. structs_widened_to S R c.args.id c.args.at c.args.old m c.args.size _ c.requires.kind narrow c.greater.ensures c.greater-2.ensures few (rw c.saturating_sub.ensures at made))
+
+pub returns-clause-refused : goal.returns-clause-refused
+returns-clause-refused g c =
+    let S : Segments = (g.A.BuilderArena.view c.args.arena.now).words in
+    let R : Segments = (g.A.BuilderArena.view c.widen_rows.new.arena).words in
+    on_err_so c.widen_rows.result _ _ c.widen_rows.ensures.refused (λ left. structs_left_as S R c.args.id c.args.at c.args.old c.requires.kind (rw c.saturating_sub.ensures at left))
+
+pub returns-clause-named : goal.returns-clause-named
+returns-clause-named g c =
+    let S : Segments = (g.A.BuilderArena.view c.args.arena.now).words in
+    let narrow : c.args.size.data_words ≤ c.args.old.struct_size.data_words → c.args.size.pointers ≤ c.args.old.struct_size.pointers → ⊥ =
+    λ l m. elim c.else-size-had.branch [ else-size-had-via-then-size-had+else-size-had-2 w ↦ omega arith | else-size-had-via-else-size-had w ↦ omega arith ] in
+    if_err_so c.widen_rows.result _ _ c.widen_rows.ensures.named (λ k n. elim n [
+      | inl (same, refused) ↦ inl (same, structs_refused S c.args.id c.args.at c.args.old c.args.size _ k c.requires.kind narrow c.greater.ensures c.greater-2.ensures (rw c.saturating_sub.ensures at refused))
+      | inr growth ↦ inr growth
+    ])

@@ -1,0 +1,105 @@
+use Rattle.std.proofs.Common.{◌∙◌, ◌≤◌, ℕ, length, ap, arith}
+use Rattle.capnp_arena.specs.View.{View, KeepsLimits}
+use Rattle.capnp_format.specs.Segments.{Segments}
+use Rattle.capnp_making.specs.Memory.{RefusesGrowth}
+use Rattle.capnp_making.proofs.Memory.{keeps_both, keeps_written, keeps_then_spends, spends_then_limits, words_refused_after, refused_before}
+use Rattle.capnp_widening.proofs.AnyRows.{rows_remade, rows_left}
+use Rattle.capnp_widening.proofs.ListSteps.{ListSteps, ListUndone}
+use Rattle.capnp_widening.proofs.StructSteps.{nothing_grown}
+use Rattle.capnp_widening.proofs.remaking.remake_rows.Goals as goal
+
+-- The room lies in its segment, which has fewer than 2^29 words.
+pub overflow_add-tag : goal.overflow_add-tag
+overflow_add-tag g c =
+    let (T, room, tagged) = c.in-Ok.ensures.begun in
+    let v : ℕ = c.in-Ok.room.segment in
+    omega (arith, room.0.room, tagged.words v, g.met.A.BuilderArena.within c.begin_list.new.arena v, g.met.A.BuilderArena.small c.begin_list.new.arena v)
+
+pub overflow_add-first : goal.overflow_add-first
+overflow_add-first g c =
+    let (T, room, tagged) = c.in-Ok.ensures.begun in
+    let v : ℕ = c.in-Ok.room.segment in
+    omega (arith, room.0.room, tagged.words v, g.met.A.BuilderArena.within c.begin_list.new.arena v, g.met.A.BuilderArena.small c.begin_list.new.arena v)
+
+limits_both : (x y z : View) → KeepsLimits x y → KeepsLimits y z → KeepsLimits x z
+limits_both x y z e f = f ∙ ap (λ (v : View). record v { words = z.words }) e
+
+pub returns-in-Ok-fill_rows-clause-granted : goal.returns-in-Ok-fill_rows-clause-granted
+returns-in-Ok-fill_rows-clause-granted g c =
+    let S : View = g.A.BuilderArena.view c.args.arena.now in
+    let B : View = g.A.BuilderArena.view c.begin_list.new.arena in
+    let P : View = g.A.BuilderArena.view c.fill_rows.new.arena in
+    let R : View = g.A.BuilderArena.view c.settle.new.arena in
+    let Z : View = g.A.BuilderArena.view c.zero_part.new.arena in
+    let Q : View = g.A.BuilderArena.view c.zero_pads.new.arena in
+    let (T, room, tagged) = c.in-Ok.ensures.begun in
+    let begun : length S.words ≤ length B.words = omega (arith, room.0.grows.segments, tagged.segments) in
+    let filled : length S.words ≤ length P.words = omega (arith, begun, c.fill_rows.ensures.longer.segments) in
+    let limits : KeepsLimits P Q = limits_both P Z Q (limits_both P R Z c.settle.ensures.limits c.zero_part.ensures.limits) c.zero_pads.ensures.limits in
+    keeps_both S P Q filled (keeps_both S B P begun c.in-Ok.ensures.granted c.in-Ok-fill_rows.ensures.granted) (keeps_written P Q Q.words limits)
+
+pub returns-in-Err-fill_rows-clause-memory : goal.returns-in-Err-fill_rows-clause-memory
+returns-in-Err-fill_rows-clause-memory g c =
+    let S : View = g.A.BuilderArena.view c.args.arena.now in
+    let B : View = g.A.BuilderArena.view c.begin_list.new.arena in
+    let U : View = g.A.BuilderArena.view c.fill_rows.new.arena in
+    let Z : View = g.A.BuilderArena.view c.zero_part-in-Err-fill_rows.new.arena in
+    let (T, room, tagged) = c.in-Ok.ensures.begun in
+    let begun : length S.words ≤ length B.words = omega (arith, room.0.grows.segments, tagged.segments) in
+    let k = c.in-Err-fill_rows.k in
+    spends_then_limits S U Z k (keeps_then_spends S B U k begun c.in-Ok.ensures.granted c.in-Err-fill_rows.ensures.memory) c.zero_part-in-Err-fill_rows.ensures.limits
+
+pub returns-in-Ok-fill_rows-clause-remade : goal.returns-in-Ok-fill_rows-clause-remade
+returns-in-Ok-fill_rows-clause-remade g c =
+    let S : Segments = (g.A.BuilderArena.view c.args.arena.now).words in
+    let B : Segments = (g.A.BuilderArena.view c.begin_list.new.arena).words in
+    let P : Segments = (g.A.BuilderArena.view c.fill_rows.new.arena).words in
+    let R : Segments = (g.A.BuilderArena.view c.settle.new.arena).words in
+    let Z : Segments = (g.A.BuilderArena.view c.zero_part.new.arena).words in
+    let Q : Segments = (g.A.BuilderArena.view c.zero_pads.new.arena).words in
+    let (T, room, tagged) = c.in-Ok.ensures.begun in
+    let (D, copied, moves) = c.in-Ok-fill_rows.ensures.filled in
+    let steps : ListSteps S T B D P R Z Q c.args.id c.args.at c.args.old c.args.size c.in-Ok.room = record {
+      place = c.requires.place;
+      room = room;
+      tagged = tagged;
+      copied = copied;
+      moves = moves;
+      settled = rw c.total.ensures at c.settle.ensures.settled;
+      object_zeroed = rw (c.from.ensures, c.from-in-Ok-fill_rows.ensures, c.from-step.ensures, c.total-in-Ok-fill_rows.ensures) at c.zero_part.ensures.zeroed;
+      pads_zeroed = rw c.word_of-pointer.ensures at c.zero_pads.ensures.zeroed;
+      wider = (c.requires.data, c.requires.pointers);
+    } in
+    rows_remade S T B D P R Z Q c.args.id c.args.at c.args.old c.args.size c.in-Ok.room steps
+
+pub returns-in-Err-fill_rows-clause-refused : goal.returns-in-Err-fill_rows-clause-refused
+returns-in-Err-fill_rows-clause-refused g c =
+    let S : Segments = (g.A.BuilderArena.view c.args.arena.now).words in
+    let B : Segments = (g.A.BuilderArena.view c.begin_list.new.arena).words in
+    let U : Segments = (g.A.BuilderArena.view c.fill_rows.new.arena).words in
+    let Z : Segments = (g.A.BuilderArena.view c.zero_part-in-Err-fill_rows.new.arena).words in
+    let (T, room, tagged) = c.in-Ok.ensures.begun in
+    let (D, P, copied, some, unmoves) = c.in-Err-fill_rows.ensures.undone in
+    let steps : ListUndone S T B D P U Z c.args.id c.args.old c.args.size c.in-Ok.room = record {
+      room = room;
+      tagged = tagged;
+      copied = copied;
+      some = some;
+      unmoves = unmoves;
+      zeroed = rw (c.from-in-Err-fill_rows.ensures, c.total.ensures) at c.zero_part-in-Err-fill_rows.ensures.zeroed;
+      wider = (c.requires.data, c.requires.pointers);
+    } in
+    rows_left S T B D P U Z c.args.id c.args.at c.args.old c.args.size c.in-Ok.room steps
+
+pub returns-in-Err-clause-refused : goal.returns-in-Err-clause-refused
+returns-in-Err-clause-refused g c = λ t i. nothing_grown (g.A.BuilderArena.view c.args.arena.now).words (g.A.BuilderArena.view c.begin_list.new.arena).words c.in-Err.ensures.refused
+
+pub returns-in-Err-fill_rows-clause-full : goal.returns-in-Err-fill_rows-clause-full
+returns-in-Err-fill_rows-clause-full g c =
+    let S : View = g.A.BuilderArena.view c.args.arena.now in
+    let B : View = g.A.BuilderArena.view c.begin_list.new.arena in
+    let U : View = g.A.BuilderArena.view c.fill_rows.new.arena in
+    let Z : View = g.A.BuilderArena.view c.zero_part-in-Err-fill_rows.new.arena in
+    let (n, r) = c.in-Err-fill_rows.ensures.full in
+    let first : RefusesGrowth S U c.in-Err-fill_rows.k = (n, words_refused_after S B U n c.in-Err-fill_rows.k c.in-Ok.ensures.granted r) in
+    refused_before S U Z c.in-Err-fill_rows.k first c.zero_part-in-Err-fill_rows.ensures.limits c.zero_part-in-Err-fill_rows.ensures.pruned

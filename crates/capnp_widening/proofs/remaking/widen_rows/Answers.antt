@@ -1,0 +1,20 @@
+use Rattle.std.proofs.Common.{◌≡◌, ◌∙◌, ◌≤◌, ◌+◌, ◌*◌, ◌^◌, ℕ, Err, inl, refl, sym, ap₂, subst, arith, rules}
+use Rattle.capnp_words.specs.declared.error.ErrorKind.TheVariants.{MessageTooLarge}
+use Rattle.capnp_widening.specs.RowsRemade.{as_structs}
+use Rattle.capnp_widening.specs.Widened.{limited}
+use Rattle.capnp_widening.proofs.AnyRows.{rows_inside}
+use Rattle.capnp_widening.proofs.Listed.{too_many}
+use Rattle.capnp_widening.proofs.remaking.widen_rows.Goals as goal
+
+-- Too many words.
+pub returns-then-words-ge536870912-clause-named : goal.returns-then-words-ge536870912-clause-named
+returns-then-words-ge536870912-clause-named g c =
+    let size = c.args.size in
+    let n : ℕ = c.args.old.count * (size.data_words + size.pointers) in
+    let same : c.from.result * c.from-2.result ≡ n = ap₂ (λ x y. x * y) c.from.ensures (c.from-2.ensures ∙ c.total.ensures) in
+    let many : 2 ^ 29 ≤ n = subst (λ x. 2 ^ 29 ≤ x) same (omega arith) in
+    inl (refl, λ t h. subst (λ x. limited n (as_structs size t) ≡ Err (MessageTooLarge x)) (sym same) (too_many n (as_structs size t) many))
+
+-- What a place stores lies in its segment.
+pub returns-then-not-are_inside-clause-named : goal.returns-then-not-are_inside-clause-named
+returns-then-not-are_inside-clause-named g c = inl (refl, λ t h. absurd (search (rules, rows_inside _ c.args.id c.args.at t c.args.old h)))

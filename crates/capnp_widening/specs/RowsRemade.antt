@@ -1,0 +1,136 @@
+-- Lists of structs made anew of the elements of other lists, as rows of words ("Lists").
+use Rattle.std.specs.Prelude.{◌≡◌, ◌⊎◌, ℕ, zero, suc, ◌+◌, ◌*◌, ◌<◌, ◌≤◌, Option, Some, None, IfSome, Ok, Err, List, [], ◌∷◌, length}
+use Rattle.capnp_words.specs.declared.error.ErrorKind.{ErrorKind}
+use Rattle.capnp_arena.specs.View.{View}
+use Rattle.capnp_format.specs.Segments.{Segments, segment, word_at, Target}
+use Rattle.capnp_format.specs.Tree.{Tree, Flat, Pointers, Structs, element_count}
+use Rattle.capnp_format.specs.Means.{IsTag}
+use Rattle.capnp_format.specs.Forest.{times, target}
+use Rattle.capnp_pointers.specs.declared.wire_pointer.StructSize.{StructSize}
+use Rattle.capnp_pointers.specs.declared.wire_pointer.ElementSize.TheVariants.{Void}
+use Rattle.capnp_making.specs.declared.existing.ExistingList.{ExistingList}
+use Rattle.capnp_making.specs.declared.making.Start.{Start}
+use Rattle.capnp_making.specs.Existing.{list_in}
+use Rattle.capnp_making.specs.Made.{zero_elements}
+use Rattle.capnp_making.specs.Memory.{SpendsMemory, RefusesGrowth}
+use Rattle.capnp_making.specs.Path.{one_word}
+use Rattle.capnp_making.specs.Stored.{IsStored, IsReplaced}
+use Rattle.capnp_making.specs.Zeroed.{row}
+use Rattle.capnp_widening.specs.declared.remaking.ElementRows.{ElementRows}
+use Rattle.capnp_widening.specs.declared.widening.Room.{Room}
+use Rattle.capnp_widening.specs.Housed.{IsRoom}
+use Rattle.capnp_widening.specs.Moved.{Move, rows_of_moves, Moves, MovesSome, Unmoves}
+use Rattle.capnp_widening.specs.Widened.{fill_elements, struct_for_each, struct_for_each_tree, limited, list_widened, GrowsByZeros}
+
+-- From S to R the first d words of each of n rows are copied over those of other rows, and nothing else is written. The old rows start every w words
+-- from (s, p) on, and the new ones, of z words each, from (v, r) on.
+pub record AreRowsCopied (S R : Segments) (s p w v r z d n : ℕ) : Type 0 where
+  pub segments : length R ≡ length S
+  pub words : (x : ℕ) → length (segment R x) ≡ length (segment S x)
+  pub here : (i j : ℕ) → i < n → j < d → word_at R v (r + i * z + j) ≡ word_at S s (p + i * w + j)
+  pub behind : (i j : ℕ) → i < n → d ≤ j → j < z → word_at R v (r + i * z + j) ≡ word_at S v (r + i * z + j)
+  pub kept : (x y : ℕ) → times (row v r (n * z) ∷ []) x y ≡ 0 → word_at R x y ≡ word_at S x y
+
+-- From S to R the tag of a list of n structs is written at a place, and nothing else.
+pub record IsTagWritten (S R : Segments) (s p n : ℕ) (size : StructSize) : Type 0 where
+  pub segments : length R ≡ length S
+  pub words : (x : ℕ) → length (segment R x) ≡ length (segment S x)
+  pub tag : IsTag (word_at R s p) n size.data_words size.pointers
+  pub kept : (x y : ℕ) → times (one_word s p ∷ []) x y ≡ 0 → word_at R x y ≡ word_at S x y
+
+-- From S to R words are taken for a list of n structs, all zero but for its tag.
+abbrev pub BeginsList : Segments → Segments → ℕ → ℕ → StructSize → Room → Type 0
+BeginsList S R id n size h =
+    (T : Segments) × IsRoom S T id (1 + n * (size.data_words + size.pointers)) h × IsTagWritten T R h.segment (h.at + h.pads) n size
+
+-- The words of a list lie in their segment, its tag included.
+abbrev pub RowsInside : Segments → ElementRows → Type 0
+RowsInside S rows = rows.at + (rows.tag + rows.count * (rows.size.data_words + rows.size.pointers)) ≤ length (segment S rows.segment)
+
+-- From S to R the data words of elements are copied into structs of a size, the first of which starts at h.
+abbrev pub CopiesData : Segments → Segments → ElementRows → Start → StructSize → Type 0
+CopiesData S R old h size =
+    AreRowsCopied S R old.segment (old.at + old.tag) (old.size.data_words + old.size.pointers) h.segment h.at (size.data_words + size.pointers) old.size.data_words old.count
+
+-- The pointers of elements, written anew in these structs.
+abbrev pub element_moves : ElementRows → Start → StructSize → List Move
+element_moves old h size =
+    rows_of_moves old.segment (old.at + old.tag + old.size.data_words) (old.size.data_words + old.size.pointers) h.segment (h.at + size.data_words) (size.data_words + size.pointers)
+    old.size.pointers old.count
+
+-- From S to R the data words are copied, and then the pointers moved; or some are, and their landing pads made zero again.
+abbrev pub FillsRows : Segments → Segments → ElementRows → Start → StructSize → Type 0
+FillsRows S R old h size = (D : Segments) × CopiesData S D old h size × Moves D R (element_moves old h size)
+
+abbrev pub UnfillsRows : Segments → Segments → ElementRows → Start → StructSize → Type 0
+UnfillsRows S R old h size =
+    (D : Segments) × (P : Segments) × CopiesData S D old h size × MovesSome D P (element_moves old h size) × Unmoves P R (element_moves old h size)
+
+-- The elements of a list to which the target leads, if they are whole words: behind a tag, if they are structs.
+abbrev pub rows_in : Target → Tree → Option ElementRows
+rows_in a (Structs d q es) = Some (record { segment = a.segment; at = a.start; tag = 1; size = record { data_words = d; pointers = q }; count = element_count es })
+rows_in a t = None
+
+-- The list of structs of at least their size that the elements of a list become.
+abbrev pub as_structs : StructSize → Tree → Tree
+as_structs size (Flat zero ns) = Structs size.data_words size.pointers (zero_elements size.data_words size.pointers (length ns))
+as_structs size (Flat (suc n) ns) = Structs size.data_words size.pointers (struct_for_each size.data_words size.pointers ns)
+as_structs size (Pointers ts) = Structs size.data_words size.pointers (struct_for_each_tree size.data_words size.pointers ts)
+as_structs size (Structs d q es) = Structs size.data_words size.pointers (fill_elements size.data_words size.pointers es)
+as_structs size t = t
+
+-- The place stores a list in S, of these elements.
+abbrev pub HasRows : Segments → ℕ → ℕ → Tree → ElementRows → Type 0
+HasRows S s p t rows = IsStored S s p t × (rows_in (target S s p) t ≡ Some rows)
+
+-- The structs of a list lie in their segment.
+abbrev pub ListLiesIn : Segments → ExistingList → Type 0
+ListLiesIn S l = l.start + l.count * (l.struct_size.data_words + l.struct_size.pointers) ≤ length (segment S l.segment)
+
+-- From S to R the place gets the list u in place of t, and the pointer leads to l.
+pub record BecomesList (S R : Segments) (s p : ℕ) (t u : Tree) (l : ExistingList) : Type 0 where
+  pub replaced : IsReplaced S R s p t u
+  pub found : list_in (target R s p) Void u ≡ Ok (Some l)
+
+-- From S to R the place gets, in place of a list of these elements, structs of a size made of them, which are l; or R has nothing but zeros more.
+abbrev pub RemakesRows : Segments → Segments → ℕ → ℕ → ElementRows → StructSize → ExistingList → Type 0
+RemakesRows S R s p rows size l = (t : Tree) → HasRows S s p t rows → BecomesList S R s p t (as_structs size t) l
+
+abbrev pub LeavesRows : Segments → Segments → ℕ → ℕ → ElementRows → Type 0
+LeavesRows S R s p rows = (t : Tree) → HasRows S s p t rows → GrowsByZeros S R
+
+-- A call is refused by the name k: the elements would take too many words, and nothing is changed; or a growth is refused.
+abbrev pub RefusesRows : View → View → ℕ → ℕ → ElementRows → StructSize → ErrorKind → Type 0
+RefusesRows old new s p rows size k =
+    ((new ≡ old) × ((t : Tree) → HasRows old.words s p t rows → limited (rows.count * (size.data_words + size.pointers)) (as_structs size t) ≡ Err k))
+    ⊎ (SpendsMemory old new k × RefusesGrowth old new k)
+
+-- The place stores a list in S, which is l.
+abbrev pub IsList : Segments → ℕ → ℕ → Tree → ExistingList → Type 0
+IsList S s p t l = IsStored S s p t × (list_in (target S s p) Void t ≡ Ok (Some l))
+
+-- From S to R the place gets, in place of the list l, what it becomes where structs of a size are wanted, which is m; or R has nothing but zeros more.
+abbrev pub WidensTo : Segments → Segments → ℕ → ℕ → ExistingList → StructSize → ExistingList → Type 0
+WidensTo S R s p l size m = (t : Tree) → IsList S s p t l → (u : Tree) × (list_widened size.data_words size.pointers t ≡ Ok u) × BecomesList S R s p t u m
+
+abbrev pub LeavesList : Segments → Segments → ℕ → ℕ → ExistingList → Type 0
+LeavesList S R s p l = (t : Tree) → IsList S s p t l → GrowsByZeros S R
+
+-- A call is refused by the name k: by what the list l is and what is wanted, and nothing is changed; or a growth is refused.
+abbrev pub RefusesList : View → View → ℕ → ℕ → ExistingList → StructSize → ErrorKind → Type 0
+RefusesList old new s p l size k =
+    ((new ≡ old) × ((t : Tree) → IsList old.words s p t l → list_widened size.data_words size.pointers t ≡ Err k)) ⊎ (SpendsMemory old new k × RefusesGrowth old new k)
+
+-- From S to R the place gets, in place of the value that it stores, the list that this becomes where structs of a size are wanted; null stays.
+abbrev pub WidensList : Segments → Segments → ℕ → ℕ → StructSize → Type 0
+WidensList S R s p size = (t : Tree) → IsStored S s p t → (u : Tree) × (list_widened size.data_words size.pointers t ≡ Ok u) × IsReplaced S R s p t u
+
+-- That list is l in R, and all its structs lie there.
+abbrev pub LeadsToList : Segments → Segments → ℕ → ℕ → StructSize → Option ExistingList → Type 0
+LeadsToList S R s p size l =
+    (t u : Tree) → IsStored S s p t → list_widened size.data_words size.pointers t ≡ Ok u → (list_in (target R s p) Void u ≡ Ok l) × IfSome l (ListLiesIn R)
+
+-- A call is refused by the name k: by what the place stores and what is wanted, and nothing is changed; or a growth is refused.
+abbrev pub RefusesWider : View → View → ℕ → ℕ → StructSize → ErrorKind → Type 0
+RefusesWider old new s p size k =
+    ((new ≡ old) × ((t : Tree) → IsStored old.words s p t → list_widened size.data_words size.pointers t ≡ Err k)) ⊎ (SpendsMemory old new k × RefusesGrowth old new k)

@@ -1,0 +1,245 @@
+//! Lists of structs made anew of the elements of other lists: their data words are copied, and their
+//! pointers moved, element by element.
+ghost use Rattle.std.specs.Prelude.{◌≡◌, ◌↔◌, ◌<◌, ◌≤◌, ◌+◌, ◌*◌, ◌^◌, IsTrue, length, IfOk, OnOk, IfErr, OnErr};
+ghost use Rattle.capnp_arena.specs.View.{KeepsLimits};
+ghost use Rattle.capnp_format.specs.Segments.{segment, IsPlace, Grows};
+ghost use Rattle.capnp_making.specs.Memory.{KeepsMemory, SpendsMemory, RefusesGrowth};
+ghost use Rattle.capnp_widening.specs.RowsRemade.{AreRowsCopied, BeginsList, RowsInside, FillsRows, UnfillsRows, RemakesRows, LeavesRows, RefusesRows};
+
+use crate::moving::{Rows, move_rows, unmove_rows};
+use crate::widening::{Room, copy_words, settle, take};
+use capnp_arena::arena::BuilderArena;
+use capnp_making::existing::ExistingList;
+use capnp_making::landing::{length_of, word_of};
+use capnp_making::making::{Shape, Start};
+use capnp_making::zeroing::{zero_pads, zero_part};
+use capnp_words::error::ErrorKind;
+use capnp_words::wire_pointer::{ElementSize, StructSize, WirePointer};
+
+/// The elements of a list, as rows of whole words.
+#[derive(Clone, Copy)]
+pub struct ElementRows {
+    /// Their segment.
+    pub segment: u32,
+    /// The first word of the list, its tag included.
+    pub at: u32,
+    /// How many words stand before the first element: one where there is a tag, else none.
+    pub tag: u32,
+    /// How many data words and pointers each has.
+    pub size: StructSize,
+    /// How many there are.
+    pub count: u32,
+}
+
+/// Copies the first words of each of so many rows over those of other rows.
+fn copy_rows<A: BuilderArena>(arena: &mut A, from: Rows, to: Rows, words: u32, count: u32)
+    requires from { from.at + count * from.step ≤ length (segment (A.view arena.old).words from.segment) }
+    requires to { to.at + count * to.step ≤ length (segment (A.view arena.old).words to.segment) }
+    requires apart { from.segment ≡ to.segment → from.at + count * from.step ≤ to.at }
+    requires within { (words ≤ from.step) × (words ≤ to.step) }
+    ensures copied { AreRowsCopied (A.view arena.old).words (A.view arena.new).words from.segment from.at from.step to.segment to.at to.step words count }
+    ensures limits { KeepsLimits (A.view arena.old) (A.view arena.new) }
+{
+    if words == 0 {
+        return;
+    }
+    let mut source = from.at;
+    let mut place = to.at;
+    for i in 0..count {
+        let old = Start {
+            segment: from.segment,
+            at: source,
+        };
+        let new = Start {
+            segment: to.segment,
+            at: place,
+        };
+        copy_words(arena, old, new, words);
+        source += from.step;
+        place += to.step;
+    }
+}
+
+/// Takes words for a list of so many structs, and writes its tag.
+fn begin_list<A: BuilderArena>(
+    arena: &mut A,
+    id: u32,
+    count: u32,
+    size: StructSize,
+) -> Result<Room, ErrorKind>
+    requires there { id < length (A.view arena.old).words }
+    requires few { size.data_words + size.pointers ≡ 0 → count < 2 ^ 30 }
+    requires small { count * (size.data_words + size.pointers) < 2 ^ 29 }
+    ensures begun { IfOk result (BeginsList (A.view arena.old).words (A.view arena.new).words id count size) }
+    ensures granted { OnOk result (KeepsMemory (A.view arena.old) (A.view arena.new)) }
+    ensures memory { IfErr result (SpendsMemory (A.view arena.old) (A.view arena.new)) }
+    ensures full { IfErr result (RefusesGrowth (A.view arena.old) (A.view arena.new)) }
+    ensures refused { OnErr result ((A.view arena.new).words ≡ (A.view arena.old).words) }
+{
+    let words = count * size.total();
+    match take(arena, id, 1 + words) {
+        Ok(room) => {
+            let tag = WirePointer::new_tag(count, size);
+            arena.set_word(room.segment, room.at + room.pads, tag.0);
+            Ok(room)
+        }
+        Err(k) => Err(k),
+    }
+}
+
+/// Copies the data words of elements into structs that are at least as large, all zero, and moves their
+/// pointers there.
+///
+/// A refusal is that of memory for two words; no landing pad is left then.
+fn fill_rows<A: BuilderArena>(
+    arena: &mut A,
+    old: ElementRows,
+    first: Start,
+    size: StructSize,
+) -> Result<(), ErrorKind>
+    requires from { RowsInside (A.view arena.old).words old }
+    requires to { first.at + old.count * (size.data_words + size.pointers) ≤ length (segment (A.view arena.old).words first.segment) }
+    requires apart { old.segment ≡ first.segment → old.at + (old.tag + old.count * (old.size.data_words + old.size.pointers)) ≤ first.at }
+    requires data { old.size.data_words ≤ size.data_words }
+    requires pointers { old.size.pointers ≤ size.pointers }
+    ensures filled { OnOk result (FillsRows (A.view arena.old).words (A.view arena.new).words old first size) }
+    ensures undone { OnErr result (UnfillsRows (A.view arena.old).words (A.view arena.new).words old first size) }
+    ensures longer { Grows (A.view arena.old).words (A.view arena.new).words }
+    ensures granted { OnOk result (KeepsMemory (A.view arena.old) (A.view arena.new)) }
+    ensures memory { IfErr result (SpendsMemory (A.view arena.old) (A.view arena.new)) }
+    ensures full { IfErr result (RefusesGrowth (A.view arena.old) (A.view arena.new)) }
+{
+    let rows = Rows {
+        segment: old.segment,
+        at: old.at + old.tag,
+        step: old.size.total(),
+    };
+    let structs = Rows {
+        segment: first.segment,
+        at: first.at,
+        step: size.total(),
+    };
+    copy_rows(
+        arena,
+        rows,
+        structs,
+        u32::from(old.size.data_words),
+        old.count,
+    );
+    let pointers = u32::from(old.size.pointers);
+    if pointers == 0 {
+        return Ok(());
+    }
+    let from = Rows {
+        segment: old.segment,
+        at: rows.at + u32::from(old.size.data_words),
+        step: rows.step,
+    };
+    let to = Rows {
+        segment: first.segment,
+        at: first.at + u32::from(size.data_words),
+        step: structs.step,
+    };
+    match move_rows(arena, from, to, pointers, old.count) {
+        Ok(()) => Ok(()),
+        Err(k) => {
+            unmove_rows(arena, from, to, pointers, old.count);
+            Err(k)
+        }
+    }
+}
+
+/// Makes a list of structs of the elements of another list, where the pointer at a place leads to it.
+///
+/// Elements that would take 2^29 words or more are `MessageTooLarge` of these words. Every other refusal
+/// is that of memory, or `MessageTooLarge`; the old list stands then.
+pub(crate) fn widen_rows<A: BuilderArena>(
+    arena: &mut A,
+    id: u32,
+    at: u32,
+    old: ElementRows,
+    size: StructSize,
+) -> Result<ExistingList, ErrorKind>
+    requires place { IsPlace (A.view arena.old).words id at }
+    requires few { size.data_words + size.pointers ≡ 0 → old.count < 2 ^ 30 }
+    requires data { old.size.data_words ≤ size.data_words }
+    requires pointers { old.size.pointers ≤ size.pointers }
+    ensures remade { IfOk result (RemakesRows (A.view arena.old).words (A.view arena.new).words id at old size) }
+    ensures small { OnOk result (old.count * (size.data_words + size.pointers) < 2 ^ 29) }
+    ensures granted { OnOk result (KeepsMemory (A.view arena.old) (A.view arena.new)) }
+    ensures refused { OnErr result (LeavesRows (A.view arena.old).words (A.view arena.new).words id at old) }
+    ensures named { IfErr result (RefusesRows (A.view arena.old) (A.view arena.new) id at old size) }
+{
+    let words = u64::from(old.count) * u64::from(size.total());
+    if words >= 0x2000_0000 {
+        return Err(ErrorKind::MessageTooLarge(words as usize));
+    }
+    if !are_inside(arena, old) {
+        return Err(ErrorKind::MessageContainsOutOfBoundsPointer);
+    }
+    remake_rows(arena, id, at, old, size)
+}
+
+/// Whether the words of a list lie in their segment.
+fn are_inside<A: BuilderArena>(arena: &A, rows: ElementRows) -> bool
+    ensures { IsTrue result ↔ RowsInside (A.view arena.now).words rows }
+{
+    let words = u64::from(rows.count) * u64::from(rows.size.total());
+    let end = u64::from(rows.at) + (u64::from(rows.tag) + words);
+    end <= u64::from(length_of(arena, rows.segment))
+}
+
+/// Makes a list of structs of the elements of another list, whose words lie in their segment.
+fn remake_rows<A: BuilderArena>(
+    arena: &mut A,
+    id: u32,
+    at: u32,
+    old: ElementRows,
+    size: StructSize,
+) -> Result<ExistingList, ErrorKind>
+    requires place { IsPlace (A.view arena.old).words id at }
+    requires inside { RowsInside (A.view arena.old).words old }
+    requires few { size.data_words + size.pointers ≡ 0 → old.count < 2 ^ 30 }
+    requires small { old.count * (size.data_words + size.pointers) < 2 ^ 29 }
+    requires data { old.size.data_words ≤ size.data_words }
+    requires pointers { old.size.pointers ≤ size.pointers }
+    ensures remade { IfOk result (RemakesRows (A.view arena.old).words (A.view arena.new).words id at old size) }
+    ensures granted { OnOk result (KeepsMemory (A.view arena.old) (A.view arena.new)) }
+    ensures refused { OnErr result (LeavesRows (A.view arena.old).words (A.view arena.new).words id at old) }
+    ensures memory { IfErr result (SpendsMemory (A.view arena.old) (A.view arena.new)) }
+    ensures full { IfErr result (RefusesGrowth (A.view arena.old) (A.view arena.new)) }
+{
+    let pointer = word_of(arena, id, at);
+    let words = old.count * size.total();
+    match begin_list(arena, id, old.count, size) {
+        Ok(room) => {
+            let tag = room.at + room.pads;
+            let first = Start {
+                segment: room.segment,
+                at: tag + 1,
+            };
+            match fill_rows(arena, old, first, size) {
+                Ok(()) => {
+                    let shape = Shape::List(ElementSize::InlineComposite, words);
+                    settle(arena, id, at, room, shape);
+                    let step = u64::from(old.size.total());
+                    let length = u64::from(old.tag) + u64::from(old.count) * step;
+                    zero_part(arena, old.segment, old.at, length);
+                    zero_pads(arena, pointer);
+                    Ok(ExistingList {
+                        segment: first.segment,
+                        start: first.at,
+                        size: ElementSize::InlineComposite,
+                        struct_size: size,
+                        count: old.count,
+                    })
+                }
+                Err(k) => {
+                    zero_part(arena, room.segment, tag, 1 + u64::from(words));
+                    Err(k)
+                }
+            }
+        }
+        Err(k) => Err(k),
+    }
+}
