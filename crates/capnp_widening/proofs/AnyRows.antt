@@ -1,5 +1,5 @@
 -- Any list whose elements are rows, made one of structs.
-use Rattle.std.proofs.Common.{◌≡◌, ℕ, Some, None, sym, subst}
+use Rattle.std.proofs.Common.{◌≡◌, ℕ, zero, suc, Some, None, sym, subst, arith}
 use Rattle.capnp_format.specs.Segments.{Segments}
 use Rattle.capnp_format.specs.Tree.{Tree, Null, Capability, Struct, Flat, Pointers, Structs}
 use Rattle.capnp_format.specs.Forest.{target}
@@ -10,6 +10,7 @@ use Rattle.capnp_widening.specs.declared.widening.Room.{Room}
 use Rattle.capnp_widening.specs.RowsRemade.{RowsInside, rows_in, as_structs, HasRows, BecomesList, RemakesRows, LeavesRows}
 use Rattle.capnp_widening.specs.Widened.{GrowsByZeros}
 use Rattle.capnp_widening.proofs.ListSteps.{ListSteps, ListUndone, list_at, same_size, struct_rows, structs_stored, structs_become, structs_left}
+use Rattle.capnp_widening.proofs.PointerSteps.{pointer_rows, pointers_stored, pointers_become, pointers_left, void_rows, void_stored, void_become, void_left}
 
 pub same_rows : (x y : ElementRows) → Some x ≡ Some y → x ≡ y
 same_rows x y e = cc
@@ -28,8 +29,15 @@ rows_remade S T B D P R Z Q id at old size h s = λ t i. go t i.0 i.1
     go Null x e = absurd (no_rows old e)
     go (Capability i) x e = absurd (no_rows old e)
     go (Struct ws ts) x e = absurd (no_rows old e)
-    go (Flat width ns) x e = absurd (no_rows old e)
-    go (Pointers ts) x e = absurd (no_rows old e)
+    go (Flat (suc w) ns) x e = absurd (no_rows old e)
+    go (Flat zero ns) x e =
+        let same = same_rows (void_rows S id at ns) old e in
+        subst (λ o. BecomesList S Q id at (Flat 0 ns) (as_structs size (Flat 0 ns)) (list_at h size o.count)) same
+        (void_become S T B D P R Z Q id at ns size h x (subst (λ o. ListSteps S T B D P R Z Q id at o size h) (sym same) s))
+    go (Pointers ts) x e =
+        let same = same_rows (pointer_rows S id at ts) old e in
+        subst (λ o. BecomesList S Q id at (Pointers ts) (as_structs size (Pointers ts)) (list_at h size o.count)) same
+        (pointers_become S T B D P R Z Q id at ts size h x (subst (λ o. ListSteps S T B D P R Z Q id at o size h) (sym same) s))
 
 pub rows_left : (S T B D P U Z : Segments) (id at : ℕ) (old : ElementRows) (size : StructSize) (h : Room) → ListUndone S T B D P U Z id old size h → LeavesRows S Z id at old
 rows_left S T B D P U Z id at old size h s = λ t i. go t i.0 i.1
@@ -42,8 +50,9 @@ rows_left S T B D P U Z id at old size h s = λ t i. go t i.0 i.1
     go Null x e = absurd (no_rows old e)
     go (Capability i) x e = absurd (no_rows old e)
     go (Struct ws ts) x e = absurd (no_rows old e)
-    go (Flat width ns) x e = absurd (no_rows old e)
-    go (Pointers ts) x e = absurd (no_rows old e)
+    go (Flat (suc w) ns) x e = absurd (no_rows old e)
+    go (Flat zero ns) x e = void_left S T B D P U Z id at ns size h x (subst (λ o. ListUndone S T B D P U Z id o size h) (sym (same_rows (void_rows S id at ns) old e)) s)
+    go (Pointers ts) x e = pointers_left S T B D P U Z id at ts size h x (subst (λ o. ListUndone S T B D P U Z id o size h) (sym (same_rows (pointer_rows S id at ts) old e)) s)
 
 -- its words lie in their segment
 pub rows_inside : (S : Segments) (id at : ℕ) (t : Tree) (old : ElementRows) → HasRows S id at t old → RowsInside S old
@@ -54,5 +63,6 @@ rows_inside S id at t old h = go t h.0 h.1
     go Null x e = absurd (no_rows old e)
     go (Capability i) x e = absurd (no_rows old e)
     go (Struct ws ts) x e = absurd (no_rows old e)
-    go (Flat width ns) x e = absurd (no_rows old e)
-    go (Pointers ts) x e = absurd (no_rows old e)
+    go (Flat (suc w) ns) x e = absurd (no_rows old e)
+    go (Flat zero ns) x e = subst (λ o. RowsInside S o) (same_rows (void_rows S id at ns) old e) (omega (arith, (void_stored S id at ns x).fits))
+    go (Pointers ts) x e = subst (λ o. RowsInside S o) (same_rows (pointer_rows S id at ts) old e) (omega (arith, (pointers_stored S id at ts x).fits))

@@ -1,6 +1,7 @@
 pub mod AnyRows
 pub mod Basics
 pub mod Copying
+pub mod Described
 pub mod Filled
 pub mod Filling
 pub mod ListRemade
@@ -10,7 +11,9 @@ pub mod ListsWidened
 pub mod Moves
 pub mod Movings
 pub mod NewRows
+pub mod PlainLists
 pub mod Pointed
+pub mod PointerSteps
 pub mod Refusing
 pub mod Rehoused
 pub mod Remade

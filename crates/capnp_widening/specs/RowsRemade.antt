@@ -3,7 +3,7 @@ use Rattle.std.specs.Prelude.{◌≡◌, ◌⊎◌, ℕ, zero, suc, ◌+◌, ◌
 use Rattle.capnp_words.specs.declared.error.ErrorKind.{ErrorKind}
 use Rattle.capnp_arena.specs.View.{View}
 use Rattle.capnp_format.specs.Segments.{Segments, segment, word_at, Target}
-use Rattle.capnp_format.specs.Tree.{Tree, Flat, Pointers, Structs, element_count}
+use Rattle.capnp_format.specs.Tree.{Tree, Flat, Pointers, Structs, count, element_count}
 use Rattle.capnp_format.specs.Means.{IsTag}
 use Rattle.capnp_format.specs.Forest.{times, target}
 use Rattle.capnp_pointers.specs.declared.wire_pointer.StructSize.{StructSize}
@@ -69,6 +69,8 @@ UnfillsRows S R old h size =
 -- The elements of a list to which the target leads, if they are whole words: behind a tag, if they are structs.
 abbrev pub rows_in : Target → Tree → Option ElementRows
 rows_in a (Structs d q es) = Some (record { segment = a.segment; at = a.start; tag = 1; size = record { data_words = d; pointers = q }; count = element_count es })
+rows_in a (Pointers ts) = Some (record { segment = a.segment; at = a.start; tag = 0; size = record { data_words = 0; pointers = 1 }; count = count ts })
+rows_in a (Flat zero ns) = Some (record { segment = a.segment; at = a.start; tag = 0; size = record { data_words = 0; pointers = 0 }; count = length ns })
 rows_in a t = None
 
 -- The list of structs of at least their size that the elements of a list become.

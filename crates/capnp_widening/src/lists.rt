@@ -1,6 +1,6 @@
 //! Lists made lists of structs of at least a wanted size.
-ghost use Rattle.std.specs.Prelude.{◌≡◌, ◌≤◌, ◌+◌, IfOk, OnOk, IfErr, OnErr};
-ghost use Rattle.capnp_format.specs.Segments.{IsPlace};
+ghost use Rattle.std.specs.Prelude.{◌≡◌, ◌≤◌, ◌+◌, Some, IfOk, OnOk, IfErr, OnErr};
+ghost use Rattle.capnp_format.specs.Segments.{IsPlace, leads, Target};
 ghost use Rattle.capnp_pointers.specs.Sizes.{size_number};
 ghost use Rattle.capnp_making.specs.Memory.{KeepsMemory};
 ghost use Rattle.capnp_widening.specs.RowsRemade.{WidensTo, LeavesList, RefusesList};
@@ -9,8 +9,9 @@ use crate::remaking::{ElementRows, widen_rows};
 use crate::widening::greater;
 use capnp_arena::arena::BuilderArena;
 use capnp_making::existing::ExistingList;
+use capnp_making::landing::word_of;
 use capnp_words::error::ErrorKind;
-use capnp_words::wire_pointer::StructSize;
+use capnp_words::wire_pointer::{StructSize, WirePointer, WirePointerKind};
 
 /// A list of structs, where the pointer at a place leads to it, with both sections of its structs at least
 /// as large as asked for. Where one is too small, the list stands anew with each section as large as the
@@ -48,4 +49,82 @@ pub fn widen_structs<A: BuilderArena>(
         pointers: greater(had.pointers, size.pointers),
     };
     widen_rows(arena, id, at, rows, wide)
+}
+
+/// A list of structs of at least one pointer, made of a list of pointers where the pointer at a place
+/// leads to it: each is the first pointer of a struct. Refusals are those of `widen_structs`.
+pub fn widen_pointers<A: BuilderArena>(
+    arena: &mut A,
+    id: u32,
+    at: u32,
+    old: ExistingList,
+    size: StructSize,
+) -> Result<ExistingList, ErrorKind>
+    requires place { IsPlace (A.view arena.old).words id at }
+    requires kind { size_number old.size ≡ 6 }
+    ensures widened { IfOk result (WidensTo (A.view arena.old).words (A.view arena.new).words id at old size) }
+    ensures granted { OnOk result (KeepsMemory (A.view arena.old) (A.view arena.new)) }
+    ensures refused { OnErr result (LeavesList (A.view arena.old).words (A.view arena.new).words id at old) }
+    ensures named { IfErr result (RefusesList (A.view arena.old) (A.view arena.new) id at old size) }
+{
+    let rows = ElementRows {
+        segment: old.segment,
+        at: old.start,
+        tag: 0,
+        size: StructSize {
+            data_words: 0,
+            pointers: 1,
+        },
+        count: old.count,
+    };
+    let wide = StructSize {
+        data_words: size.data_words,
+        pointers: greater(1, size.pointers),
+    };
+    widen_rows(arena, id, at, rows, wide)
+}
+
+/// A list of structs of just a size, all zero, made of a list of void where the pointer at a place leads
+/// to it. Refusals are those of `widen_structs`.
+pub fn widen_void<A: BuilderArena>(
+    arena: &mut A,
+    id: u32,
+    at: u32,
+    old: ExistingList,
+    size: StructSize,
+) -> Result<ExistingList, ErrorKind>
+    requires place { IsPlace (A.view arena.old).words id at }
+    requires kind { size_number old.size ≡ 0 }
+    ensures widened { IfOk result (WidensTo (A.view arena.old).words (A.view arena.new).words id at old size) }
+    ensures granted { OnOk result (KeepsMemory (A.view arena.old) (A.view arena.new)) }
+    ensures refused { OnErr result (LeavesList (A.view arena.old).words (A.view arena.new).words id at old) }
+    ensures named { IfErr result (RefusesList (A.view arena.old) (A.view arena.new) id at old size) }
+{
+    let rows = ElementRows {
+        segment: old.segment,
+        at: old.start,
+        tag: 0,
+        size: StructSize {
+            data_words: 0,
+            pointers: 0,
+        },
+        count: description(arena, id, at).list_element_count(),
+    };
+    widen_rows(arena, id, at, rows, size)
+}
+
+/// The word that describes what the pointer at a place leads to: the pointer itself, its landing pad, or
+/// the second word of its landing pad.
+fn description<A: BuilderArena>(arena: &A, id: u32, at: u32) -> WirePointer
+    ensures { (a : Target) → leads (A.view arena.now).words id at ≡ Some a → a.word ≡ result.0 }
+{
+    let word = word_of(arena, id, at);
+    if word.kind() != WirePointerKind::Far {
+        return word;
+    }
+    let pad = word.far_position_in_segment();
+    if word.is_double_far() {
+        return word_of(arena, word.far_segment_id(), pad + 1);
+    }
+    word_of(arena, word.far_segment_id(), pad)
 }

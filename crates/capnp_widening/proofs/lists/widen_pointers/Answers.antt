@@ -1,0 +1,26 @@
+use Rattle.std.proofs.Common.{inl, inr, refl}
+use Rattle.capnp_format.specs.Segments.{Segments}
+use Rattle.capnp_making.proofs.Outcomes.{on_err_so}
+use Rattle.capnp_widening.proofs.Listed.{if_ok_both, if_err_so}
+use Rattle.capnp_widening.proofs.PlainLists.{pointers_widened_to, pointers_left_as, pointers_refused}
+use Rattle.capnp_widening.proofs.lists.widen_pointers.Goals as goal
+
+pub returns-clause-widened : goal.returns-clause-widened
+returns-clause-widened g c =
+    let S : Segments = (g.A.BuilderArena.view c.args.arena.now).words in
+    let R : Segments = (g.A.BuilderArena.view c.widen_rows.new.arena).words in
+    if_ok_both c.widen_rows.result _ _ _ c.widen_rows.ensures.remade c.widen_rows.ensures.small
+    (λ m made few. pointers_widened_to S R c.args.id c.args.at c.args.old m c.args.size _ c.requires.kind refl c.greater.ensures few made)
+
+pub returns-clause-refused : goal.returns-clause-refused
+returns-clause-refused g c =
+    on_err_so c.widen_rows.result _ _ c.widen_rows.ensures.refused
+    (λ left. pointers_left_as (g.A.BuilderArena.view c.args.arena.now).words (g.A.BuilderArena.view c.widen_rows.new.arena).words c.args.id c.args.at c.args.old c.requires.kind left)
+
+pub returns-clause-named : goal.returns-clause-named
+returns-clause-named g c =
+    let S : Segments = (g.A.BuilderArena.view c.args.arena.now).words in
+    if_err_so c.widen_rows.result _ _ c.widen_rows.ensures.named (λ k n. elim n [
+      | inl (same, refused) ↦ inl (same, pointers_refused S c.args.id c.args.at c.args.old c.args.size _ k c.requires.kind refl c.greater.ensures refused)
+      | inr growth ↦ inr growth
+    ])

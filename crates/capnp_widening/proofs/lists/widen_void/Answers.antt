@@ -1,0 +1,30 @@
+use Rattle.std.proofs.Common.{inl, inr, ap, sym, ◌∙◌}
+use Rattle.capnp_format.specs.Word.{list_count}
+use Rattle.capnp_format.specs.Segments.{Segments}
+use Rattle.capnp_making.proofs.Outcomes.{on_err_so}
+use Rattle.capnp_widening.proofs.Listed.{if_ok_both, if_err_so}
+use Rattle.capnp_widening.proofs.PlainLists.{void_widened_to, void_left_as, void_refused}
+use Rattle.capnp_widening.proofs.lists.widen_void.Goals as goal
+
+pub returns-clause-widened : goal.returns-clause-widened
+returns-clause-widened g c =
+    let S : Segments = (g.A.BuilderArena.view c.args.arena.now).words in
+    let R : Segments = (g.A.BuilderArena.view c.widen_rows.new.arena).words in
+    if_ok_both c.widen_rows.result _ _ _ c.widen_rows.ensures.remade c.widen_rows.ensures.small
+    (λ m made few. void_widened_to S R c.args.id c.args.at c.list_element_count.result c.args.old m c.args.size c.requires.kind (λ a l. c.list_element_count.ensures.value ∙ ap list_count (sym (c.description.ensures a l))) few made)
+
+pub returns-clause-refused : goal.returns-clause-refused
+returns-clause-refused g c =
+    on_err_so c.widen_rows.result _ _ c.widen_rows.ensures.refused (λ left. void_left_as (g.A.BuilderArena.view c.args.arena.now).words (g.A.BuilderArena.view c.widen_rows.new.arena).words c.args.id c.args.at c.list_element_count.result c.args.old
+    c.requires.kind (λ a l. c.list_element_count.ensures.value ∙ ap list_count (sym (c.description.ensures a l))) left)
+
+pub returns-clause-named : goal.returns-clause-named
+returns-clause-named g c =
+    let S : Segments = (g.A.BuilderArena.view c.args.arena.now).words in
+    if_err_so c.widen_rows.result _ _ c.widen_rows.ensures.named (λ k n. elim n [
+      | inl (same, refused) ↦ inl (
+        same,
+        void_refused S c.args.id c.args.at c.list_element_count.result c.args.old c.args.size k c.requires.kind (λ a l. c.list_element_count.ensures.value ∙ ap list_count (sym (c.description.ensures a l))) refused,
+      )
+      | inr growth ↦ inr growth
+    ])
