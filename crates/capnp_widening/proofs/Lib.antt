@@ -11,6 +11,9 @@ pub mod ListsWidened
 pub mod Moves
 pub mod Movings
 pub mod NewRows
+pub mod NumberLists
+pub mod NumberSteps
+pub mod NumbersRead
 pub mod PlainLists
 pub mod Pointed
 pub mod PointerSteps

@@ -1,5 +1,5 @@
 -- A list whose elements are no structs, made one of structs.
-use Rattle.std.proofs.Common.{◌≡◌, ℕ, ◌+◌, ◌*◌, ◌^◌, ◌<◌, ◌≤◌, max, List, length, Some, Ok, Err, refl, sym, ap, ap₂, ◌∙◌, subst, arith}
+use Rattle.std.proofs.Common.{◌≡◌, ℕ, zero, suc, ◌+◌, ◌*◌, ◌^◌, ◌<◌, ◌≤◌, max, List, [], ◌∷◌, length, Some, Ok, Err, refl, sym, ap, ap₂, ◌∙◌, subst, arith}
 use Rattle.capnp_words.specs.declared.error.ErrorKind.{ErrorKind}
 use Rattle.capnp_format.specs.Segments.{Segments, leads, Target}
 use Rattle.capnp_format.specs.Word.{list_count}
@@ -10,13 +10,13 @@ use Rattle.capnp_pointers.specs.declared.wire_pointer.StructSize.{StructSize}
 use Rattle.capnp_pointers.specs.declared.wire_pointer.ElementSize.TheVariants.{Void, Pointer}
 use Rattle.capnp_making.specs.declared.existing.ExistingList.{ExistingList}
 use Rattle.capnp_making.specs.Existing.{list_in, plain_list}
-use Rattle.capnp_making.specs.Made.{zeros, zero_elements}
+use Rattle.capnp_making.specs.Made.{zeros, nulls, zero_elements}
 use Rattle.capnp_making.specs.Stored.{IsStored}
 use Rattle.capnp_widening.specs.declared.remaking.ElementRows.{ElementRows}
-use Rattle.capnp_widening.specs.RowsRemade.{rows_in, as_structs, HasRows, BecomesList, RemakesRows, LeavesRows, IsList, WidensTo, LeavesList}
-use Rattle.capnp_widening.specs.Widened.{struct_for_each_tree, limited, list_widened}
+use Rattle.capnp_widening.specs.RowsRemade.{rows_in, as_structs, HasRows, BecomesList, RemakesRows, RemakesList, LeavesRows, IsList, WidensTo, LeavesList}
+use Rattle.capnp_widening.specs.Widened.{struct_for_each, struct_for_each_tree, limited, list_widened}
 use Rattle.capnp_widening.proofs.Described.{counted}
-use Rattle.capnp_widening.proofs.Filled.{greater_trees}
+use Rattle.capnp_widening.proofs.Filled.{greater_words, greater_trees}
 use Rattle.capnp_widening.proofs.Listed.{same_list, flat_width, flat_found, number_of_size, listed_size, tree_size, few_enough, refused_for_any}
 
 -- a list of pointers
@@ -147,3 +147,45 @@ void_refused S s p n l size k is count refused = λ t i.
     (let c = are_void S s p n t l is count i in
     ap (list_widened size.data_words size.pointers) c.tree_of
     ∙ refused_for_any _ (as_structs size t) _ k (subst (λ j. limited (j * (size.data_words + size.pointers)) (as_structs size t) ≡ Err k) c.counts (refused t c.has)))
+
+first_numbers : (d k : ℕ) (ns : List ℕ) → struct_for_each (max 1 d) k ns ≡ struct_for_each d k ns
+first_numbers d k [] = refl
+first_numbers d k (x ∷ xs) = ap₂ (λ ws es. element ws (nulls k) es) (greater_words d (x ∷ [])) (first_numbers d k xs)
+
+-- numbers as wide as bytes or wider
+numbers_limited : (d q w : ℕ) (ns : List ℕ) → 2 ≤ w → list_widened d q (Flat w ns) ≡ limited (length ns * (max 1 d + q)) (Structs (max 1 d) q (struct_for_each d q ns))
+numbers_limited d q zero ns l = absurd (omega arith)
+numbers_limited d q (suc zero) ns l = absurd (omega arith)
+numbers_limited d q (suc (suc w)) ns l = refl
+
+pub numbers_as_structs : (size : StructSize) (w : ℕ) (ns : List ℕ) → 2 ≤ w → as_structs size (Flat w ns) ≡ Structs size.data_words size.pointers (struct_for_each size.data_words size.pointers ns)
+numbers_as_structs size zero ns l = absurd (omega arith)
+numbers_as_structs size (suc w) ns l = refl
+
+pub numbers_widened_to : (S R : Segments) (s p : ℕ) (l m : ExistingList) (size wide : StructSize) → 2 ≤ size_number l.size → size_number l.size ≤ 5 → wide.data_words ≡ max 1 size.data_words → wide.pointers ≡ size.pointers →
+    l.count * (wide.data_words + wide.pointers) < 2 ^ 29 → RemakesList S R s p l wide m → WidensTo S R s p l size m
+numbers_widened_to S R s p l m size wide two five wd wp few made = λ t i.
+    (let k = are_numbers S s p t l five i in
+    let w = size_number l.size in
+    let d = size.data_words in
+    let q = size.pointers in
+    let n : l.count ≡ length k.numbers = ap (λ (o : ExistingList). o.count) k.list in
+    let u = Structs (max 1 d) q (struct_for_each d q k.numbers) in
+    let same : as_structs wide t ≡ u =
+    ap (as_structs wide) k.tree_of ∙ numbers_as_structs wide w k.numbers two ∙ ap₂ (λ y z. Structs y z (struct_for_each y z k.numbers)) wd wp ∙ ap (Structs (max 1 d) q) (first_numbers d q k.numbers) in
+    let small : length k.numbers * (max 1 d + q) < 2 ^ 29 = rw (n, wd, wp) at few in (
+      u,
+      ap (list_widened d q) k.tree_of ∙ numbers_limited d q w k.numbers two ∙ few_enough _ u small,
+      subst (λ z. BecomesList S R s p t z m) same (made t i),
+    ))
+
+-- so many words are too many
+pub numbers_refused : (S : Segments) (s p : ℕ) (l : ExistingList) (size wide : StructSize) (k : ErrorKind) → 2 ≤ size_number l.size → size_number l.size ≤ 5 → wide.data_words ≡ max 1 size.data_words → wide.pointers ≡ size.pointers →
+    ((t : Tree) → limited (l.count * (wide.data_words + wide.pointers)) t ≡ Err k) → (t : Tree) → IsList S s p t l → list_widened size.data_words size.pointers t ≡ Err k
+numbers_refused S s p l size wide k two five wd wp refused = λ t i.
+    (let c = are_numbers S s p t l five i in
+    let d = size.data_words in
+    let q = size.pointers in
+    let n : l.count ≡ length c.numbers = ap (λ (o : ExistingList). o.count) c.list in
+    let u = Structs (max 1 d) q (struct_for_each d q c.numbers) in
+    ap (list_widened d q) c.tree_of ∙ numbers_limited d q (size_number l.size) c.numbers two ∙ subst (λ z. limited z u ≡ Err k) (ap₂ (λ y z. y * z) n (ap₂ (λ y z. y + z) wd wp)) (refused u))

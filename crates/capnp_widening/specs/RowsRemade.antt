@@ -1,7 +1,9 @@
 -- Lists of structs made anew of the elements of other lists, as rows of words ("Lists").
 use Rattle.std.specs.Prelude.{◌≡◌, ◌⊎◌, ℕ, zero, suc, ◌+◌, ◌*◌, ◌<◌, ◌≤◌, Option, Some, None, IfSome, Ok, Err, List, [], ◌∷◌, length}
+use Rattle.capnp_pointers.specs.Sizes.{size_number}
 use Rattle.capnp_words.specs.declared.error.ErrorKind.{ErrorKind}
 use Rattle.capnp_arena.specs.View.{View}
+use Rattle.capnp_format.specs.Numbers.{words_for}
 use Rattle.capnp_format.specs.Segments.{Segments, segment, word_at, Target}
 use Rattle.capnp_format.specs.Tree.{Tree, Flat, Pointers, Structs, count, element_count}
 use Rattle.capnp_format.specs.Means.{IsTag}
@@ -11,6 +13,7 @@ use Rattle.capnp_pointers.specs.declared.wire_pointer.ElementSize.TheVariants.{V
 use Rattle.capnp_making.specs.declared.existing.ExistingList.{ExistingList}
 use Rattle.capnp_making.specs.declared.making.Start.{Start}
 use Rattle.capnp_making.specs.Existing.{list_in}
+use Rattle.capnp_making.specs.Fields.{field_in}
 use Rattle.capnp_making.specs.Made.{zero_elements}
 use Rattle.capnp_making.specs.Memory.{SpendsMemory, RefusesGrowth}
 use Rattle.capnp_making.specs.Path.{one_word}
@@ -66,6 +69,19 @@ abbrev pub UnfillsRows : Segments → Segments → ElementRows → Start → Str
 UnfillsRows S R old h size =
     (D : Segments) × (P : Segments) × CopiesData S D old h size × MovesSome D P (element_moves old h size) × Unmoves P R (element_moves old h size)
 
+-- From S to R each of n numbers of so many bits, one behind the other from the word (s, p) on, is copied into the first word of a row; the rows are of
+-- z words, from (v, r) on. Nothing else is written.
+pub record AreNumbersCopied (S R : Segments) (s p width v r z n : ℕ) : Type 0 where
+  pub segments : length R ≡ length S
+  pub words : (x : ℕ) → length (segment R x) ≡ length (segment S x)
+  pub here : (i : ℕ) → i < n → word_at R v (r + i * z) ≡ field_in (segment S s) (64 * p + width * i) width
+  pub behind : (i j : ℕ) → i < n → 0 < j → j < z → word_at R v (r + i * z + j) ≡ word_at S v (r + i * z + j)
+  pub kept : (x y : ℕ) → times (row v r (n * z) ∷ []) x y ≡ 0 → word_at R x y ≡ word_at S x y
+
+-- The words of a list of numbers lie in their segment.
+abbrev pub NumbersInside : Segments → ExistingList → Type 0
+NumbersInside S l = l.start + words_for (size_number l.size) l.count ≤ length (segment S l.segment)
+
 -- The elements of a list to which the target leads, if they are whole words: behind a tag, if they are structs.
 abbrev pub rows_in : Target → Tree → Option ElementRows
 rows_in a (Structs d q es) = Some (record { segment = a.segment; at = a.start; tag = 1; size = record { data_words = d; pointers = q }; count = element_count es })
@@ -110,6 +126,10 @@ RefusesRows old new s p rows size k =
 -- The place stores a list in S, which is l.
 abbrev pub IsList : Segments → ℕ → ℕ → Tree → ExistingList → Type 0
 IsList S s p t l = IsStored S s p t × (list_in (target S s p) Void t ≡ Ok (Some l))
+
+-- From S to R the place gets, in place of the list l, structs of a size made of its elements, which are m.
+abbrev pub RemakesList : Segments → Segments → ℕ → ℕ → ExistingList → StructSize → ExistingList → Type 0
+RemakesList S R s p l size m = (t : Tree) → IsList S s p t l → BecomesList S R s p t (as_structs size t) m
 
 -- From S to R the place gets, in place of the list l, what it becomes where structs of a size are wanted, which is m; or R has nothing but zeros more.
 abbrev pub WidensTo : Segments → Segments → ℕ → ℕ → ExistingList → StructSize → ExistingList → Type 0

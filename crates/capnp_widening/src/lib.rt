@@ -4,5 +4,6 @@
 
 pub mod lists;
 pub mod moving;
+pub mod numbers;
 pub mod remaking;
 pub mod widening;

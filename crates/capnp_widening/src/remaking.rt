@@ -61,7 +61,7 @@ fn copy_rows<A: BuilderArena>(arena: &mut A, from: Rows, to: Rows, words: u32, c
 }
 
 /// Takes words for a list of so many structs, and writes its tag.
-fn begin_list<A: BuilderArena>(
+pub(crate) fn begin_list<A: BuilderArena>(
     arena: &mut A,
     id: u32,
     count: u32,

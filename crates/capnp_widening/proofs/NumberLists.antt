@@ -1,0 +1,65 @@
+-- What the steps of making a list of numbers one of structs leave, as the calls say it.
+use Rattle.std.proofs.Common.{◌≡◌, ℕ, ◌+◌, ◌*◌, ◌<◌, ◌≤◌, max, [], ◌∷◌, length, sym, ap, subst, arith}
+use Rattle.capnp_format.specs.Numbers.{element_bits, words_for}
+use Rattle.capnp_format.specs.Segments.{Segments, segment, word_at, IsPlace}
+use Rattle.capnp_format.specs.Tree.{Tree, Flat, Structs}
+use Rattle.capnp_format.specs.Forest.{pads_of, target}
+use Rattle.capnp_pointers.specs.Sizes.{size_number}
+use Rattle.capnp_pointers.specs.declared.wire_pointer.StructSize.{StructSize}
+use Rattle.capnp_pointers.specs.declared.wire_pointer.ElementSize.TheVariants.{InlineComposite}
+use Rattle.capnp_making.specs.declared.existing.ExistingList.{ExistingList}
+use Rattle.capnp_making.specs.declared.making.Shape.TheVariants.{List as ListShape}
+use Rattle.capnp_making.specs.Existing.{plain_list}
+use Rattle.capnp_making.specs.Stored.{IsStored}
+use Rattle.capnp_making.specs.Zeroed.{row, IsZeroed, PadsInside}
+use Rattle.capnp_widening.specs.declared.widening.Room.{Room}
+use Rattle.capnp_widening.specs.Housed.{IsRoom, Settles}
+use Rattle.capnp_widening.specs.RowsRemade.{IsTagWritten, AreNumbersCopied, BecomesList, RemakesList, as_structs, IsList, NumbersInside}
+use Rattle.capnp_widening.specs.Widened.{struct_for_each}
+use Rattle.capnp_widening.proofs.ListSteps.{list_at}
+use Rattle.capnp_widening.proofs.NumberSteps.{NumberSteps, numbers_become}
+use Rattle.capnp_widening.proofs.PointerSteps.{flat_stored}
+use Rattle.capnp_widening.proofs.PlainLists.{are_numbers, numbers_as_structs}
+
+pub record NumbersMade (S T B D R Z Q : Segments) (id at : ℕ) (old : ExistingList) (size : StructSize) (h : Room) : Type 0 where
+  pub place : IsPlace S id at
+  pub room : IsRoom S T id (1 + old.count * (size.data_words + size.pointers)) h
+  pub tagged : IsTagWritten T B h.segment (h.at + h.pads) old.count size
+  pub copied : AreNumbersCopied B D old.segment old.start (element_bits (size_number old.size)) h.segment (h.at + h.pads + 1) (size.data_words + size.pointers) old.count
+  pub settled : Settles D R id at h (ListShape InlineComposite (old.count * (size.data_words + size.pointers)))
+  pub object_zeroed : old.start + words_for (size_number old.size) old.count ≤ length (segment R old.segment) → IsZeroed R Z (row old.segment old.start (words_for (size_number old.size) old.count) ∷ [])
+  pub pads_zeroed : PadsInside Z (word_at S id at) → IsZeroed Z Q (pads_of (word_at S id at))
+
+pub numbers_made : (S T B D R Z Q : Segments) (id at : ℕ) (old : ExistingList) (size : StructSize) (h : Room) → 2 ≤ size_number old.size → size_number old.size ≤ 5 → 0 < size.data_words → NumbersMade S T B D R Z Q id at old size h →
+    RemakesList S Q id at old size (list_at h size old.count)
+numbers_made S T B D R Z Q id at old size h two five some s = λ t i.
+    (let k = are_numbers S id at t old five i in
+    let w = size_number old.size in
+    let ns = k.numbers in
+    let size_of_old = old.size in
+    let same : old ≡ plain_list (target S id at) size_of_old (length ns) = k.list in
+    let steps = subst (λ (o : ExistingList). NumbersMade S T B D R Z Q id at o size h) same s in
+    let one : ◌≡◌ {A = StructSize} (record { data_words = max 1 size.data_words; pointers = size.pointers }) size =
+    ap (λ (y : ℕ). record size { data_words = y }) (let e : max 1 size.data_words ≡ size.data_words = omega arith in e) in
+    let plain : NumberSteps S T B D R Z Q id at w (length ns) size h = record {
+      place = steps.place;
+      room = steps.room;
+      tagged = steps.tagged;
+      copied = steps.copied;
+      settled = steps.settled;
+      object_zeroed = steps.object_zeroed;
+      pads_zeroed = steps.pads_zeroed;
+    } in
+    let made = numbers_become S T B D R Z Q id at w ns size.data_words size.pointers h (subst (IsStored S id at) k.tree_of i.0) two five (subst (λ z. NumberSteps S T B D R Z Q id at w (length ns) z h) (sym one) plain) in
+    let there : BecomesList S Q id at (Flat w ns) (Structs size.data_words size.pointers (struct_for_each size.data_words size.pointers ns)) (list_at h size (length ns)) =
+    subst (λ z. BecomesList S Q id at (Flat w ns) (Structs z.data_words z.pointers (struct_for_each size.data_words size.pointers ns)) (list_at h z (length ns))) one made in
+    let counted : BecomesList S Q id at (Flat w ns) (as_structs size (Flat w ns)) (list_at h size old.count) =
+    subst (λ u. BecomesList S Q id at (Flat w ns) u (list_at h size old.count)) (sym (numbers_as_structs size w ns two)) (subst (λ n. BecomesList S Q id at (Flat w ns) (Structs size.data_words size.pointers (struct_for_each size.data_words size.pointers ns)) (list_at h size n)) (sym (ap (λ (o : ExistingList). o.count) k.list)) there) in
+    subst (λ u. BecomesList S Q id at u (as_structs size u) (list_at h size old.count)) (sym k.tree_of) counted)
+
+-- its words lie in their segment
+pub numbers_inside : (S : Segments) (id at : ℕ) (t : Tree) (l : ExistingList) → size_number l.size ≤ 5 → IsList S id at t l → NumbersInside S l
+numbers_inside S id at t l five i =
+    let k = are_numbers S id at t l five i in
+    let w = size_number l.size in
+    subst (λ (o : ExistingList). o.start + words_for w o.count ≤ length (segment S o.segment)) (sym k.list) (flat_stored S id at w k.numbers (subst (IsStored S id at) k.tree_of i.0)).fits

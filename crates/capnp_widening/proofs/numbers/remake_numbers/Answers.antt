@@ -1,0 +1,56 @@
+use Rattle.std.proofs.Common.{◌∙◌, ◌≤◌, ℕ, length, ap, arith}
+use Rattle.capnp_arena.specs.View.{View, KeepsLimits}
+use Rattle.capnp_format.specs.Segments.{Segments}
+use Rattle.capnp_making.proofs.Memory.{keeps_both, keeps_written}
+use Rattle.capnp_widening.proofs.NumberLists.{NumbersMade, numbers_made}
+use Rattle.capnp_widening.proofs.numbers.remake_numbers.Goals as goal
+
+-- The room lies in its segment, which has fewer than 2^29 words.
+pub overflow_add-first : goal.overflow_add-first
+overflow_add-first g c =
+    let (T, room, tagged) = c.in-Ok.ensures.begun in
+    let v : ℕ = c.in-Ok.room.segment in
+    omega (arith, room.0.room, tagged.words v, g.met.A.BuilderArena.within c.begin_list.new.arena v, g.met.A.BuilderArena.small c.begin_list.new.arena v)
+
+pub overflow_add-first-in-Ok : goal.overflow_add-first-in-Ok
+overflow_add-first-in-Ok g c =
+    let (T, room, tagged) = c.in-Ok.ensures.begun in
+    let v : ℕ = c.in-Ok.room.segment in
+    omega (arith, room.0.room, tagged.words v, g.met.A.BuilderArena.within c.begin_list.new.arena v, g.met.A.BuilderArena.small c.begin_list.new.arena v)
+
+limits_both : (x y z : View) → KeepsLimits x y → KeepsLimits y z → KeepsLimits x z
+limits_both x y z e f = f ∙ ap (λ (v : View). record v { words = z.words }) e
+
+pub returns-in-Ok-clause-granted : goal.returns-in-Ok-clause-granted
+returns-in-Ok-clause-granted g c =
+    let S : View = g.A.BuilderArena.view c.args.arena.now in
+    let B : View = g.A.BuilderArena.view c.begin_list.new.arena in
+    let D : View = g.A.BuilderArena.view c.copy_numbers.new.arena in
+    let R : View = g.A.BuilderArena.view c.settle.new.arena in
+    let Z : View = g.A.BuilderArena.view c.zero_part.new.arena in
+    let Q : View = g.A.BuilderArena.view c.zero_pads.new.arena in
+    let (T, room, tagged) = c.in-Ok.ensures.begun in
+    let begun : length S.words ≤ length B.words = omega (arith, room.0.grows.segments, tagged.segments) in
+    let settled : KeepsLimits B R = limits_both B D R c.copy_numbers.ensures.limits c.settle.ensures.limits in
+    let limits : KeepsLimits B Q = limits_both B Z Q (limits_both B R Z settled c.zero_part.ensures.limits) c.zero_pads.ensures.limits in
+    keeps_both S B Q begun c.in-Ok.ensures.granted (keeps_written B Q Q.words limits)
+
+pub returns-in-Ok-clause-remade : goal.returns-in-Ok-clause-remade
+returns-in-Ok-clause-remade g c =
+    let S : Segments = (g.A.BuilderArena.view c.args.arena.now).words in
+    let B : Segments = (g.A.BuilderArena.view c.begin_list.new.arena).words in
+    let D : Segments = (g.A.BuilderArena.view c.copy_numbers.new.arena).words in
+    let R : Segments = (g.A.BuilderArena.view c.settle.new.arena).words in
+    let Z : Segments = (g.A.BuilderArena.view c.zero_part.new.arena).words in
+    let Q : Segments = (g.A.BuilderArena.view c.zero_pads.new.arena).words in
+    let (T, room, tagged) = c.in-Ok.ensures.begun in
+    let steps : NumbersMade S T B D R Z Q c.args.id c.args.at c.args.old c.args.size c.in-Ok.room = record {
+      place = c.requires.place;
+      room = room;
+      tagged = tagged;
+      copied = rw c.total.ensures at c.copy_numbers.ensures.copied;
+      settled = rw c.total-in-Ok.ensures at c.settle.ensures.settled;
+      object_zeroed = rw c.words_of_numbers.ensures.value at c.zero_part.ensures.zeroed;
+      pads_zeroed = rw c.word_of-pointer.ensures at c.zero_pads.ensures.zeroed;
+    } in
+    numbers_made S T B D R Z Q c.args.id c.args.at c.args.old c.args.size c.in-Ok.room c.requires.kind.0 c.requires.kind.1 c.requires.data steps

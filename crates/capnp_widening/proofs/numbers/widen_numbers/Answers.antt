@@ -1,0 +1,43 @@
+use Rattle.std.proofs.Common.{◌≡◌, ◌∙◌, ◌≤◌, ◌<◌, ◌+◌, ◌*◌, ◌^◌, ℕ, Err, inl, refl, sym, ap₂, subst, arith, rules}
+use Rattle.capnp_words.specs.declared.error.ErrorKind.TheVariants.{MessageTooLarge}
+use Rattle.capnp_format.specs.Segments.{Segments}
+use Rattle.capnp_making.proofs.Outcomes.{if_ok_so, on_err_so}
+use Rattle.capnp_widening.specs.Widened.{limited}
+use Rattle.capnp_widening.proofs.Listed.{too_many}
+use Rattle.capnp_widening.proofs.NumberLists.{numbers_inside}
+use Rattle.capnp_widening.proofs.PlainLists.{numbers_widened_to, numbers_refused}
+use Rattle.capnp_widening.proofs.StructSteps.{nothing_grown}
+use Rattle.capnp_widening.proofs.numbers.widen_numbers.Goals as goal
+
+-- Too many words.
+pub returns-then-words-ge536870912-clause-named : goal.returns-then-words-ge536870912-clause-named
+returns-then-words-ge536870912-clause-named g c =
+    let S : Segments = (g.A.BuilderArena.view c.args.arena.now).words in
+    let n : ℕ = c.args.old.count * (c.greater.result + c.args.size.pointers) in
+    let same : c.from.result * c.from-2.result ≡ n = ap₂ (λ x y. x * y) c.from.ensures (c.from-2.ensures ∙ c.total.ensures) in
+    let many : 2 ^ 29 ≤ n = subst (λ x. 2 ^ 29 ≤ x) same (omega arith) in
+    inl (
+      refl,
+      numbers_refused S c.args.id c.args.at c.args.old c.args.size (record { data_words = c.greater.result; pointers = c.args.size.pointers }) _ c.requires.kind.0 c.requires.kind.1 c.greater.ensures refl
+          (λ u. subst (λ x. limited n u ≡ Err (MessageTooLarge x)) (sym same) (too_many n u many)),
+    )
+
+-- What a place stores lies in its segment.
+pub returns-then-not-are_numbers_inside-clause-named : goal.returns-then-not-are_numbers_inside-clause-named
+returns-then-not-are_numbers_inside-clause-named g c = inl (refl, λ t h. absurd (search (rules, numbers_inside _ c.args.id c.args.at t c.args.old c.requires.kind.1 h)))
+
+pub returns-clause-widened : goal.returns-clause-widened
+returns-clause-widened g c =
+    let S : Segments = (g.A.BuilderArena.view c.args.arena.now).words in
+    let R : Segments = (g.A.BuilderArena.view c.remake_numbers.new.arena).words in
+    let n : ℕ = c.args.old.count * (c.greater.result + c.args.size.pointers) in
+    let same : c.from.result * c.from-2.result ≡ n = ap₂ (λ x y. x * y) c.from.ensures (c.from-2.ensures ∙ c.total.ensures) in
+    let few : n < 2 ^ 29 = subst (λ x. x < 2 ^ 29) same (omega arith) in
+    if_ok_so c.remake_numbers.result _ _ c.remake_numbers.ensures.remade
+    (λ m made. numbers_widened_to S R c.args.id c.args.at c.args.old m c.args.size (record { data_words = c.greater.result; pointers = c.args.size.pointers }) c.requires.kind.0 c.requires.kind.1 c.greater.ensures refl few made)
+
+pub returns-clause-refused : goal.returns-clause-refused
+returns-clause-refused g c =
+    let S : Segments = (g.A.BuilderArena.view c.args.arena.now).words in
+    let R : Segments = (g.A.BuilderArena.view c.remake_numbers.new.arena).words in
+    on_err_so c.remake_numbers.result _ _ c.remake_numbers.ensures.refused (λ same t i. nothing_grown S R same)

@@ -1,0 +1,144 @@
+//! Lists of numbers made lists of structs: each number becomes the low bytes of a first data word.
+ghost use Rattle.std.specs.Prelude.{◌≡◌, ◌↔◌, ◌<◌, ◌≤◌, ◌+◌, ◌*◌, ◌^◌, IsTrue, length, IfOk, OnOk, IfErr, OnErr};
+ghost use Rattle.capnp_arena.specs.View.{KeepsLimits};
+ghost use Rattle.capnp_format.specs.Numbers.{element_bits, words_for};
+ghost use Rattle.capnp_format.specs.Segments.{segment, IsPlace};
+ghost use Rattle.capnp_pointers.specs.Sizes.{size_number};
+ghost use Rattle.capnp_making.specs.Fields.{field_in};
+ghost use Rattle.capnp_making.specs.Memory.{KeepsMemory, SpendsMemory, RefusesGrowth};
+ghost use Rattle.capnp_widening.specs.RowsRemade.{AreNumbersCopied, NumbersInside, RemakesList, WidensTo, LeavesList, RefusesList};
+
+use crate::remaking::begin_list;
+use crate::widening::{greater, settle};
+use capnp_arena::arena::BuilderArena;
+use capnp_making::existing::ExistingList;
+use capnp_making::landing::{length_of, word_of};
+use capnp_making::making::{Shape, Start};
+use capnp_making::zeroing::{zero_pads, zero_part};
+use capnp_words::error::ErrorKind;
+use capnp_words::wire_pointer::{ElementSize, StructSize, data_bits_per_element};
+
+/// A list of structs of at least one data word, made of a list of numbers where the pointer at a place
+/// leads to it. Refusals are those of `lists::widen_structs`.
+pub fn widen_numbers<A: BuilderArena>(
+    arena: &mut A,
+    id: u32,
+    at: u32,
+    old: ExistingList,
+    size: StructSize,
+) -> Result<ExistingList, ErrorKind>
+    requires place { IsPlace (A.view arena.old).words id at }
+    requires kind { (2 ≤ size_number old.size) × (size_number old.size ≤ 5) }
+    ensures widened { IfOk result (WidensTo (A.view arena.old).words (A.view arena.new).words id at old size) }
+    ensures granted { OnOk result (KeepsMemory (A.view arena.old) (A.view arena.new)) }
+    ensures refused { OnErr result (LeavesList (A.view arena.old).words (A.view arena.new).words id at old) }
+    ensures named { IfErr result (RefusesList (A.view arena.old) (A.view arena.new) id at old size) }
+{
+    let wide = StructSize {
+        data_words: greater(1, size.data_words),
+        pointers: size.pointers,
+    };
+    let words = u64::from(old.count) * u64::from(wide.total());
+    if words >= 0x2000_0000 {
+        return Err(ErrorKind::MessageTooLarge(words as usize));
+    }
+    if !are_numbers_inside(arena, old) {
+        return Err(ErrorKind::MessageContainsOutOfBoundsPointer);
+    }
+    remake_numbers(arena, id, at, old, wide)
+}
+
+/// Whether the words of a list of numbers lie in their segment.
+fn are_numbers_inside<A: BuilderArena>(arena: &A, list: ExistingList) -> bool
+    ensures { IsTrue result ↔ NumbersInside (A.view arena.now).words list }
+{
+    let end = u64::from(list.start) + words_of_numbers(list);
+    end <= u64::from(length_of(arena, list.segment))
+}
+
+/// How many words a list of numbers has.
+fn words_of_numbers(list: ExistingList) -> u64
+    ensures value { result ≡ words_for (size_number list.size) list.count }
+    ensures small { result < 2 ^ 33 }
+{
+    (u64::from(data_bits_per_element(list.size)) * u64::from(list.count)).div_ceil(64)
+}
+
+/// Makes a list of structs of a list of numbers, where the pointer at a place leads to it.
+fn remake_numbers<A: BuilderArena>(
+    arena: &mut A,
+    id: u32,
+    at: u32,
+    old: ExistingList,
+    size: StructSize,
+) -> Result<ExistingList, ErrorKind>
+    requires place { IsPlace (A.view arena.old).words id at }
+    requires kind { (2 ≤ size_number old.size) × (size_number old.size ≤ 5) }
+    requires inside { NumbersInside (A.view arena.old).words old }
+    requires data { 0 < size.data_words }
+    requires small { old.count * (size.data_words + size.pointers) < 2 ^ 29 }
+    ensures remade { IfOk result (RemakesList (A.view arena.old).words (A.view arena.new).words id at old size) }
+    ensures granted { OnOk result (KeepsMemory (A.view arena.old) (A.view arena.new)) }
+    ensures refused { OnErr result ((A.view arena.new).words ≡ (A.view arena.old).words) }
+    ensures memory { IfErr result (SpendsMemory (A.view arena.old) (A.view arena.new)) }
+    ensures full { IfErr result (RefusesGrowth (A.view arena.old) (A.view arena.new)) }
+{
+    let pointer = word_of(arena, id, at);
+    match begin_list(arena, id, old.count, size) {
+        Ok(room) => {
+            let first = Start {
+                segment: room.segment,
+                at: room.at + room.pads + 1,
+            };
+            copy_numbers(arena, old, first, size.total());
+            let shape = Shape::List(ElementSize::InlineComposite, old.count * size.total());
+            settle(arena, id, at, room, shape);
+            zero_part(arena, old.segment, old.start, words_of_numbers(old));
+            zero_pads(arena, pointer);
+            Ok(ExistingList {
+                segment: first.segment,
+                start: first.at,
+                size: ElementSize::InlineComposite,
+                struct_size: size,
+                count: old.count,
+            })
+        }
+        Err(k) => Err(k),
+    }
+}
+
+/// Copies the numbers of a list into the first words of rows of so many words.
+fn copy_numbers<A: BuilderArena>(arena: &mut A, old: ExistingList, to: Start, step: u32)
+    requires kind { (2 ≤ size_number old.size) × (size_number old.size ≤ 5) }
+    requires inside { NumbersInside (A.view arena.old).words old }
+    requires to { to.at + old.count * step ≤ length (segment (A.view arena.old).words to.segment) }
+    requires apart { old.segment ≡ to.segment → old.start + words_for (size_number old.size) old.count ≤ to.at }
+    requires some { 0 < step }
+    ensures copied { AreNumbersCopied (A.view arena.old).words (A.view arena.new).words old.segment old.start (element_bits (size_number old.size)) to.segment to.at step old.count }
+    ensures limits { KeepsLimits (A.view arena.old) (A.view arena.new) }
+{
+    let mut place = to.at;
+    for i in 0..old.count {
+        let number = number_at(arena, old, i);
+        arena.set_word(to.segment, place, number);
+        place += step;
+    }
+}
+
+/// The number that an element of a list is.
+fn number_at<A: BuilderArena>(arena: &A, list: ExistingList, index: u32) -> u64
+    requires kind { (2 ≤ size_number list.size) × (size_number list.size ≤ 5) }
+    requires index { index < list.count }
+    requires inside { NumbersInside (A.view arena.now).words list }
+    ensures { result ≡ field_in (segment (A.view arena.now).words list.segment) (64 * list.start + element_bits (size_number list.size) * index) (element_bits (size_number list.size)) }
+{
+    let bits = data_bits_per_element(list.size);
+    let first = u64::from(bits) * u64::from(index);
+    let word = word_of(arena, list.segment, list.start + (first / 64) as u32);
+    let low = word.0 >> (first % 64);
+    if bits < 64 {
+        low & ((1 << bits) - 1)
+    } else {
+        low
+    }
+}
