@@ -1,3 +1,4 @@
+pub mod AnyList
 pub mod AnyRows
 pub mod Basics
 pub mod Copying

@@ -3,15 +3,75 @@ ghost use Rattle.std.specs.Prelude.{◌≡◌, ◌≤◌, ◌+◌, Some, IfOk, O
 ghost use Rattle.capnp_format.specs.Segments.{IsPlace, leads, Target};
 ghost use Rattle.capnp_pointers.specs.Sizes.{size_number};
 ghost use Rattle.capnp_making.specs.Memory.{KeepsMemory};
-ghost use Rattle.capnp_widening.specs.RowsRemade.{WidensTo, LeavesList, RefusesList};
+ghost use Rattle.capnp_widening.specs.RowsRemade.{WidensList, LeadsToList, RefusesWider, WidensTo, LeavesList, RefusesList};
+ghost use Rattle.capnp_widening.specs.Widened.{LeavesAll};
 
+use crate::numbers::widen_numbers;
 use crate::remaking::{ElementRows, widen_rows};
 use crate::widening::greater;
 use capnp_arena::arena::BuilderArena;
-use capnp_making::existing::ExistingList;
+use capnp_making::existing::{self, ExistingList};
 use capnp_making::landing::word_of;
 use capnp_words::error::ErrorKind;
-use capnp_words::wire_pointer::{StructSize, WirePointer, WirePointerKind};
+use capnp_words::wire_pointer::{ElementSize, StructSize, WirePointer, WirePointerKind};
+
+/// The list that the pointer at a place leads to, as a list of structs with both sections at least as
+/// large as asked for; `None` where the pointer is null. Elements that are no structs, and structs of
+/// which a section is too small, stand anew: a number as the lowest bits of a first data word, a pointer
+/// as a first pointer, and each section as large as the greater of old and wanted.
+///
+/// Anything but a list is `ExistingPointerIsNotAList`, and a list of bits
+/// `FoundBitListWhereStructListWasExpected`. Elements that would take 2^29 words or more are
+/// `MessageTooLarge` of these words. Every other refusal is that of memory, or `MessageTooLarge`; the old
+/// list stands then.
+pub fn get_struct_list<A: BuilderArena>(
+    arena: &mut A,
+    id: u32,
+    at: u32,
+    size: StructSize,
+) -> Result<Option<ExistingList>, ErrorKind>
+    requires place { IsPlace (A.view arena.old).words id at }
+    ensures widened { OnOk result (WidensList (A.view arena.old).words (A.view arena.new).words id at size) }
+    ensures leads { IfOk result (LeadsToList (A.view arena.old).words (A.view arena.new).words id at size) }
+    ensures granted { OnOk result (KeepsMemory (A.view arena.old) (A.view arena.new)) }
+    ensures refused { OnErr result (LeavesAll (A.view arena.old).words (A.view arena.new).words id at) }
+    ensures named { IfErr result (RefusesWider (A.view arena.old) (A.view arena.new) id at size) }
+{
+    match existing::get_list(arena, id, at, ElementSize::Void) {
+        Ok(Some(old)) => match widen_list(arena, id, at, old, size) {
+            Ok(list) => Ok(Some(list)),
+            Err(k) => Err(k),
+        },
+        Ok(None) => Ok(None),
+        Err(k) => Err(k),
+    }
+}
+
+/// A list made one of structs, by what its elements are.
+fn widen_list<A: BuilderArena>(
+    arena: &mut A,
+    id: u32,
+    at: u32,
+    old: ExistingList,
+    size: StructSize,
+) -> Result<ExistingList, ErrorKind>
+    requires place { IsPlace (A.view arena.old).words id at }
+    ensures widened { IfOk result (WidensTo (A.view arena.old).words (A.view arena.new).words id at old size) }
+    ensures granted { OnOk result (KeepsMemory (A.view arena.old) (A.view arena.new)) }
+    ensures refused { OnErr result (LeavesList (A.view arena.old).words (A.view arena.new).words id at old) }
+    ensures named { IfErr result (RefusesList (A.view arena.old) (A.view arena.new) id at old size) }
+{
+    match old.size {
+        ElementSize::Void => widen_void(arena, id, at, old, size),
+        ElementSize::Bit => Err(ErrorKind::FoundBitListWhereStructListWasExpected),
+        ElementSize::Pointer => widen_pointers(arena, id, at, old, size),
+        ElementSize::InlineComposite => widen_structs(arena, id, at, old, size),
+        ElementSize::Byte
+        | ElementSize::TwoBytes
+        | ElementSize::FourBytes
+        | ElementSize::EightBytes => widen_numbers(arena, id, at, old, size),
+    }
+}
 
 /// A list of structs, where the pointer at a place leads to it, with both sections of its structs at least
 /// as large as asked for. Where one is too small, the list stands anew with each section as large as the
@@ -19,7 +79,7 @@ use capnp_words::wire_pointer::{StructSize, WirePointer, WirePointerKind};
 ///
 /// Structs that would take 2^29 words or more are `MessageTooLarge` of these words. Every other refusal is
 /// that of memory, or `MessageTooLarge`; the old list stands then.
-pub fn widen_structs<A: BuilderArena>(
+fn widen_structs<A: BuilderArena>(
     arena: &mut A,
     id: u32,
     at: u32,
@@ -53,7 +113,7 @@ pub fn widen_structs<A: BuilderArena>(
 
 /// A list of structs of at least one pointer, made of a list of pointers where the pointer at a place
 /// leads to it: each is the first pointer of a struct. Refusals are those of `widen_structs`.
-pub fn widen_pointers<A: BuilderArena>(
+fn widen_pointers<A: BuilderArena>(
     arena: &mut A,
     id: u32,
     at: u32,
@@ -86,7 +146,7 @@ pub fn widen_pointers<A: BuilderArena>(
 
 /// A list of structs of just a size, all zero, made of a list of void where the pointer at a place leads
 /// to it. Refusals are those of `widen_structs`.
-pub fn widen_void<A: BuilderArena>(
+fn widen_void<A: BuilderArena>(
     arena: &mut A,
     id: u32,
     at: u32,

@@ -20,7 +20,7 @@ use capnp_words::wire_pointer::{ElementSize, StructSize, data_bits_per_element};
 
 /// A list of structs of at least one data word, made of a list of numbers where the pointer at a place
 /// leads to it. Refusals are those of `lists::widen_structs`.
-pub fn widen_numbers<A: BuilderArena>(
+pub(crate) fn widen_numbers<A: BuilderArena>(
     arena: &mut A,
     id: u32,
     at: u32,
