@@ -27,7 +27,7 @@ bits_refused S s p t l d q is i =
 
 -- no list is found
 
-none_is_null : (a : Target) (t : Tree) → list_in a Void t ≡ Ok None → t ≡ Null
+pub none_is_null : (a : Target) (t : Tree) → list_in a Void t ≡ Ok None → t ≡ Null
 none_is_null a Null e = refl
 none_is_null a (Capability i) e = cc
 none_is_null a (Struct ws ts) e = cc

@@ -31,3 +31,5 @@ pub mod StructRemade
 pub mod StructSteps
 pub mod Unmoving
 pub mod Widenings
+pub mod StructsOpened
+pub mod ListsOpened

@@ -1,5 +1,6 @@
 pub mod Housed
 pub mod Moved
+pub mod Opening
 pub mod Pointed
 pub mod RowsRemade
 pub mod Widened

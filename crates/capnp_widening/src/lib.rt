@@ -5,5 +5,6 @@
 pub mod lists;
 pub mod moving;
 pub mod numbers;
+pub mod opening;
 pub mod remaking;
 pub mod widening;

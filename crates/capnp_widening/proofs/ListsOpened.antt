@@ -1,0 +1,172 @@
+-- Lists of structs that are opened for writing.
+use Rattle.std.proofs.Common.{◌≡◌, inl, inr, ℕ, ◌+◌, ◌*◌, ◌^◌, ◌≤◌, max, Bool, true, false, cond, nat_lt, List, length, Option, Some, None, Result, Ok, Err, IfOk, OnOk, OnErr, IfErr, refl, sym, ap, ap₂, ◌∙◌, subst, arith}
+use Rattle.capnp_words.specs.declared.error.ErrorKind.{ErrorKind}
+use Rattle.capnp_words.specs.declared.error.ErrorKind.TheVariants.{MessageTooLarge}
+use Rattle.capnp_format.specs.Segments.{Segments}
+use Rattle.capnp_format.specs.Tree.{Tree, Null, Capability, Struct, Flat, Pointers, Structs, count, element_count}
+use Rattle.capnp_format.specs.Forest.{target}
+use Rattle.capnp_pointers.specs.Sizes.{size_number}
+use Rattle.capnp_pointers.specs.declared.wire_pointer.ElementSize.{ElementSize}
+use Rattle.capnp_pointers.specs.declared.wire_pointer.ElementSize.TheVariants.{Void, Bit, Byte, TwoBytes, FourBytes, EightBytes, Pointer, InlineComposite}
+use Rattle.capnp_pointers.specs.declared.wire_pointer.StructSize.{StructSize}
+use Rattle.capnp_arena.specs.View.{View}
+use Rattle.capnp_making.specs.declared.existing.ExistingList.{ExistingList}
+use Rattle.capnp_making.specs.Existing.{list_in}
+use Rattle.capnp_making.specs.Memory.{KeepsMemory}
+use Rattle.capnp_making.specs.Stored.{IsStored, IsReplaced}
+use Rattle.capnp_making.proofs.Filling.{unchanged}
+use Rattle.capnp_making.proofs.Memory.{keeps_itself}
+use Rattle.capnp_widening.specs.Opening.{Opened, Unopened, Opens, OpensList, HasSections, IsWideList, LeadsToAll, refusal_of_words, refusal_of_elements, call_at, CallAt}
+use Rattle.capnp_widening.specs.RowsRemade.{WidensList, LeadsToList, RefusesWider}
+use Rattle.capnp_widening.specs.Widened.{fill_elements, LeavesAll, limited, list_widened}
+use Rattle.capnp_widening.proofs.AnyList.{list_inside, unfound_refused}
+use Rattle.capnp_widening.proofs.Listed.{same_list, no_list, not_a_list, structs_stay, structs_widen}
+use Rattle.capnp_widening.proofs.PlainLists.{are_numbers, are_pointers}
+use Rattle.capnp_widening.proofs.StructLists.{are_structs}
+use Rattle.capnp_widening.proofs.StructsOpened.{stands_grown}
+
+-- what isn't null
+not_null : (a : ExistingList) (S : Segments) (s p : ℕ) (t : Tree) → list_in (target S s p) Void t ≡ Ok (Some a) → t ≡ Null → ⊥
+not_null a S s p t found null = no_list a (sym (ap (list_in (target S s p) Void) null) ∙ found)
+
+opens : (size : StructSize) (r : Result (Option ExistingList) ErrorKind) (c : CallAt) (t : Tree) → (t ≡ Null → ⊥) → Opens size LeadsToAll c t (list_widened size.data_words size.pointers t) r → OpensList size r c t
+opens size r c Null some o = absurd (some refl)
+opens size r c (Capability i) some o = o
+opens size r c (Struct ws ts) some o = o
+opens size r c (Flat w ns) some o = o
+opens size r c (Pointers ts) some o = o
+opens size r c (Structs d q es) some o = o
+
+-- a list of structs that are large enough
+pub list_wide : (v : View) (s p : ℕ) (t : Tree) (l : ExistingList) (size : StructSize) → IsStored v.words s p t → list_in (target v.words s p) Void t ≡ Ok (Some l) → IsWideList size l → OpensList size (Ok (Some l)) (call_at s p v v) t
+list_wide v s p t l size stored found wide =
+    let k = are_structs v.words s p t l (ap size_number wide.0) (stored, found) in
+    let stays : list_widened size.data_words size.pointers t ≡ Ok t =
+    ap (list_widened size.data_words size.pointers) k.tree ∙ structs_stay size.data_words size.pointers l.struct_size.data_words l.struct_size.pointers k.elements wide.1 wide.2 ∙ ap Ok (sym k.tree) in
+    opens size (Ok (Some l)) (call_at s p v v) t (not_null l v.words s p t found)
+    (subst (λ x. Opens size LeadsToAll (call_at s p v v) t x (Ok (Some l))) (sym stays) (record {
+      replaced = unchanged v.words s p t stored;
+      leads = (found, list_inside v.words s p t l stored found);
+      memory = keeps_itself v;
+      unchanged = λ h. refl;
+    }))
+
+-- why elements make no structs
+abbrev Refuses : Option ErrorKind → Result Tree ErrorKind → Type 0
+Refuses None r = (u : Tree) × (r ≡ Ok u)
+Refuses (Some k) r = r ≡ Err k
+
+by_words : (n : ℕ) (u : Tree) → Refuses (refusal_of_words n) (limited n u)
+by_words n u = by_test (nat_lt n (2 ^ 29))
+  where
+    by_test : (b : Bool) → Refuses (cond b None (Some (MessageTooLarge n))) (cond b (Ok u) (Err (MessageTooLarge n)))
+    by_test true = (u, refl)
+    by_test false = refl
+
+by_number : (S : Segments) (s p : ℕ) (t : Tree) (l : ExistingList) (z : ElementSize) (n d q : ℕ) (r : ℕ → Option ErrorKind) → l.size ≡ z → size_number z ≡ n → n ≤ 5 → IsStored S s p t → list_in (target S s p) Void t ≡ Ok (Some l) →
+    ((ns : List ℕ) → Refuses (r (length ns)) (list_widened d q (Flat n ns))) → Refuses (r l.count) (list_widened d q t)
+by_number S s p t l z n d q r is e small stored found f =
+    let number : size_number l.size ≡ n = ap size_number is ∙ e in
+    let k = are_numbers S s p t l (omega (arith, number, small)) (stored, found) in
+    let tree : t ≡ Flat n k.numbers = k.tree_of ∙ ap (λ w. Flat w k.numbers) number in
+    let counts : l.count ≡ length k.numbers = ap (λ (o : ExistingList). o.count) k.list in
+    subst (λ x. Refuses (r l.count) (list_widened d q x)) (sym tree) (subst (λ m. Refuses (r m) (list_widened d q (Flat n k.numbers))) (sym counts) (f k.numbers))
+
+refuses : (S : Segments) (s p : ℕ) (t : Tree) (l : ExistingList) (size : StructSize) (z : ElementSize) → l.size ≡ z → IsStored S s p t → list_in (target S s p) Void t ≡ Ok (Some l) → (IsWideList size l → ⊥) →
+    Refuses (refusal_of_elements size z l.struct_size l.count) (list_widened size.data_words size.pointers t)
+refuses S s p t l size Void is stored found narrow =
+    by_number S s p t l Void 0 size.data_words size.pointers (λ m. refusal_of_elements size Void l.struct_size m) is refl (omega arith) stored found (λ ns. by_words (length ns * (size.data_words + size.pointers)) _)
+refuses S s p t l size Bit is stored found narrow =
+    by_number S s p t l Bit 1 size.data_words size.pointers (λ m. refusal_of_elements size Bit l.struct_size m) is refl (omega arith) stored found (λ ns. refl)
+refuses S s p t l size Byte is stored found narrow =
+    by_number S s p t l Byte 2 size.data_words size.pointers (λ m. refusal_of_elements size Byte l.struct_size m) is refl (omega arith) stored found (λ ns. by_words (length ns * (max 1 size.data_words + size.pointers)) _)
+refuses S s p t l size TwoBytes is stored found narrow =
+    by_number S s p t l TwoBytes 3 size.data_words size.pointers (λ m. refusal_of_elements size TwoBytes l.struct_size m) is refl (omega arith) stored found (λ ns. by_words (length ns * (max 1 size.data_words + size.pointers)) _)
+refuses S s p t l size FourBytes is stored found narrow =
+    by_number S s p t l FourBytes 4 size.data_words size.pointers (λ m. refusal_of_elements size FourBytes l.struct_size m) is refl (omega arith) stored found (λ ns. by_words (length ns * (max 1 size.data_words + size.pointers)) _)
+refuses S s p t l size EightBytes is stored found narrow =
+    by_number S s p t l EightBytes 5 size.data_words size.pointers (λ m. refusal_of_elements size EightBytes l.struct_size m) is refl (omega arith) stored found (λ ns. by_words (length ns * (max 1 size.data_words + size.pointers)) _)
+refuses S s p t l size Pointer is stored found narrow =
+    let k = are_pointers S s p t l (ap size_number is) (stored, found) in
+    let counts : l.count ≡ count k.children = ap (λ (o : ExistingList). o.count) k.list in
+    subst (λ x. Refuses (refusal_of_elements size Pointer l.struct_size l.count) (list_widened size.data_words size.pointers x)) (sym k.tree_of)
+    (subst (λ m. Refuses (refusal_of_elements size Pointer l.struct_size m) (list_widened size.data_words size.pointers (Pointers k.children))) (sym counts) (by_words (count k.children * (size.data_words + max 1 size.pointers)) _))
+refuses S s p t l size InlineComposite is stored found narrow =
+    let k = are_structs S s p t l (ap size_number is) (stored, found) in
+    let e = l.struct_size.data_words in
+    let q = l.struct_size.pointers in
+    let counts : l.count ≡ element_count k.elements = ap (λ (o : ExistingList). o.count) k.list in
+    let u : Tree = Structs (max e size.data_words) (max q size.pointers) (fill_elements size.data_words size.pointers k.elements) in
+    let widens = structs_widen size.data_words size.pointers e q k.elements (λ x y. narrow (is, x, y)) in
+    subst (λ x. Refuses (refusal_of_elements size InlineComposite l.struct_size l.count) (list_widened size.data_words size.pointers x)) (sym k.tree)
+    (subst (λ r. Refuses (refusal_of_elements size InlineComposite l.struct_size l.count) r) (sym widens)
+    (subst (λ m. Refuses (refusal_of_elements size InlineComposite l.struct_size l.count) (limited (m * (max e size.data_words + max q size.pointers)) u)) counts (by_words (l.count * (max e size.data_words + max q size.pointers)) u)))
+
+-- they don't
+pub list_error : (S : Segments) (s p : ℕ) (t : Tree) (l : ExistingList) (size : StructSize) (k : ErrorKind) → IsStored S s p t → list_in (target S s p) Void t ≡ Ok (Some l) → (IsWideList size l → ⊥) →
+    Some k ≡ refusal_of_elements size l.size l.struct_size l.count → list_widened size.data_words size.pointers t ≡ Err k
+list_error S s p t l size k stored found narrow refused = subst (λ o. Refuses o (list_widened size.data_words size.pointers t)) (sym refused) (refuses S s p t l size l.size refl stored found narrow)
+
+pub list_refused : (v : View) (s p : ℕ) (t : Tree) (l : ExistingList) (size : StructSize) (k : ErrorKind) → IsStored v.words s p t → list_in (target v.words s p) Void t ≡ Ok (Some l) → (IsWideList size l → ⊥) →
+    Some k ≡ refusal_of_elements size l.size l.struct_size l.count → OpensList size (Err k) (call_at s p v v) t
+list_refused v s p t l size k stored found narrow refused =
+    let e = list_error v.words s p t l size k stored found narrow refused in
+    opens size (Err k) (call_at s p v v) t (not_null l v.words s p t found) (subst (λ x. Opens size LeadsToAll (call_at s p v v) t x (Err k)) (sym e) (refl, refl))
+
+-- what is no list
+no_error : (k : ErrorKind) → ◌≡◌ {A = Result (Option ExistingList) ErrorKind} (Ok None) (Err k) → ⊥
+no_error k e = cc
+
+pub no_list_there : (v : View) (s p : ℕ) (t : Tree) (size : StructSize) (k : ErrorKind) → list_in (target v.words s p) Void t ≡ Err k → OpensList size (Err k) (call_at s p v v) t
+no_list_there v s p t size k found =
+    let e = unfound_refused (target v.words s p) t size.data_words size.pointers k found in
+    opens size (Err k) (call_at s p v v) t (λ null. no_error k (sym (ap (list_in (target v.words s p) Void) null) ∙ found)) (subst (λ x. Opens size LeadsToAll (call_at s p v v) t x (Err k)) (sym e) (refl, refl))
+
+-- null
+pub null_opened : (v : View) (s p : ℕ) (t : Tree) (size : StructSize) → t ≡ Null → OpensList size (Ok None) (call_at s p v v) t
+null_opened v s p t size null = subst (λ x. OpensList size (Ok None) (call_at s p v v) x) (sym null) (refl, refl)
+
+-- a list that is made one of larger structs
+sections_wide : (S : Segments) (s p : ℕ) (t : Tree) (l : ExistingList) (size : StructSize) → list_in (target S s p) Void t ≡ Ok (Some l) → HasSections size t → IsWideList size l
+sections_wide S s p Null l size found h = absurd h
+sections_wide S s p (Capability i) l size found h = absurd h
+sections_wide S s p (Struct ws ts) l size found h = absurd (not_a_list _ l found)
+sections_wide S s p (Flat w ns) l size found h = absurd h
+sections_wide S s p (Pointers ts) l size found h = absurd h
+sections_wide S s p (Structs d q es) l size found h = subst (λ m. IsWideList size m) (same_list _ l found) (refl, h.0, h.1)
+
+same_result : (k : ErrorKind) (u : Tree) → ◌≡◌ {A = Result Tree ErrorKind} (Ok u) (Err k) → ⊥
+same_result k u e = cc
+
+-- What the call that makes it so says.
+pub record Widens (a b : View) (s p : ℕ) (size : StructSize) (r : Result (Option ExistingList) ErrorKind) : Type 0 where
+  pub widened : OnOk r (WidensList a.words b.words s p size)
+  pub leads : IfOk r (LeadsToList a.words b.words s p size)
+  pub granted : OnOk r (KeepsMemory a b)
+  pub refused : OnErr r (LeavesAll a.words b.words s p)
+  pub named : IfErr r (RefusesWider a b s p size)
+
+pub list_made : (a b : View) (s p : ℕ) (t : Tree) (l : ExistingList) (size : StructSize) (r : Result (Option ExistingList) ErrorKind) → IsStored a.words s p t → list_in (target a.words s p) Void t ≡ Ok (Some l) → (IsWideList size l → ⊥) →
+    None ≡ refusal_of_elements size l.size l.struct_size l.count → Widens a b s p size r → OpensList size r (call_at s p a b) t
+list_made a b s p t l size (Ok m) stored found narrow none w =
+    let (u, e, made) = w.widened t stored in
+    opens size (Ok m) (call_at s p a b) t (not_null l a.words s p t found)
+    (subst (λ x. Opens size LeadsToAll (call_at s p a b) t x (Ok m)) (sym e) (record {
+      replaced = made;
+      leads = w.leads t u stored e;
+      memory = w.granted;
+      unchanged = λ h. absurd (narrow (sections_wide a.words s p t l size found h));
+    }))
+list_made a b s p t l size (Err k) stored found narrow none w =
+    let (u, e) = subst (λ o. Refuses o (list_widened size.data_words size.pointers t)) (sym none) (refuses a.words s p t l size l.size refl stored found narrow) in
+    opens size (Err k) (call_at s p a b) t (not_null l a.words s p t found)
+    (subst (λ x. Opens size LeadsToAll (call_at s p a b) t x (Err k)) (sym e)
+    (elim w.named [
+      | inl (same, refused) ↦ absurd (same_result k u (sym e ∙ refused t stored))
+      | inr (memory, full) ↦ record {
+        stands = stands_grown a.words b.words s p t stored (w.refused t stored);
+        narrow = λ h. narrow (sections_wide a.words s p t l size found h);
+        memory = memory;
+        full = full;
+      }
+    ]))

@@ -1,0 +1,13 @@
+use Rattle.std.proofs.Common.{◌+◌, false, refl}
+use Rattle.capnp_widening.proofs.StructsOpened.{struct_made, struct_unmade, no_truth}
+use Rattle.capnp_widening.proofs.opening.new_struct.Goals as goal
+
+pub returns-in-Ok-clause-opened : goal.returns-in-Ok-clause-opened
+returns-in-Ok-clause-opened g c =
+    struct_made (g.A.BuilderArena.view c.args.arena.now) (g.A.BuilderArena.view c.make_struct.new.arena) c.args.id c.args.at c.args.size c.in-Ok.start c.in-Ok.ensures.made c.in-Ok.ensures.granted c.in-Ok.ensures.start
+
+-- It fits nowhere.
+pub returns-in-Err-clause-opened : goal.returns-in-Err-clause-opened
+returns-in-Err-clause-opened g c =
+    struct_unmade (g.A.BuilderArena.view c.args.arena.now) (g.A.BuilderArena.view c.make_struct.new.arena) c.args.id c.args.at (c.args.size.data_words + c.args.size.pointers) c.args.size c.in-Err.k c.requires.place c.requires.null
+    c.in-Err.ensures.refused c.in-Err.ensures.named (λ room. no_truth false refl (c.in-Err.ensures.fits room))

@@ -1,0 +1,93 @@
+-- Structs and lists of structs that are opened for writing, at least as large as asked for ("Structs", "Lists").
+use Rattle.std.specs.Prelude.{◌≡◌, ℕ, ◌+◌, ◌*◌, ◌^◌, ◌≤◌, max, cond, nat_lt, Option, Some, None, IfSome, Result, Ok, Err, length}
+use Rattle.capnp_words.specs.declared.error.ErrorKind.{ErrorKind}
+use Rattle.capnp_words.specs.declared.error.ErrorKind.TheVariants.{FoundBitListWhereStructListWasExpected, MessageContainsNonStructPointerWhereStructPointerWasExpected, MessageTooLarge}
+use Rattle.capnp_arena.specs.View.{View}
+use Rattle.capnp_format.specs.Forest.{target}
+use Rattle.capnp_format.specs.Segments.{Segments}
+use Rattle.capnp_format.specs.Tree.{Tree, Null, Struct, Structs, count}
+use Rattle.capnp_pointers.specs.declared.wire_pointer.ElementSize.{ElementSize}
+use Rattle.capnp_pointers.specs.declared.wire_pointer.ElementSize.TheVariants.{Void, Bit, Pointer, InlineComposite}
+use Rattle.capnp_pointers.specs.declared.wire_pointer.StructSize.{StructSize}
+use Rattle.capnp_making.specs.declared.existing.ExistingList.{ExistingList}
+use Rattle.capnp_making.specs.declared.existing.ExistingStruct.{ExistingStruct}
+use Rattle.capnp_making.specs.Existing.{list_in, struct_in, LiesIn}
+use Rattle.capnp_making.specs.Made.{zero_struct}
+use Rattle.capnp_making.specs.Memory.{KeepsMemory, SpendsMemory, RefusesGrowth}
+use Rattle.capnp_making.specs.Stored.{IsReplaced}
+use Rattle.capnp_widening.specs.RowsRemade.{ListLiesIn}
+use Rattle.capnp_widening.specs.Widened.{fill_words, fill_trees, list_widened}
+
+-- A call at a place of a message: the place, and the message before the call and after it.
+pub record CallAt : Type 0 where
+  pub segment : ℕ
+  pub at : ℕ
+  pub old : View
+  pub new : View
+
+abbrev pub call_at : ℕ → ℕ → View → View → CallAt
+call_at s p old new = record { segment = s; at = p; old = old; new = new }
+
+-- What a value becomes where a struct of at least a size is opened, or by what name that is refused. Null becomes a new one.
+abbrev pub struct_opened : StructSize → Tree → Result Tree ErrorKind
+struct_opened size Null = Ok (zero_struct size)
+struct_opened size (Struct ws ts) = Ok (Struct (fill_words size.data_words ws) (fill_trees size.pointers ts))
+struct_opened size t = Err MessageContainsNonStructPointerWhereStructPointerWasExpected
+
+-- A struct, or each struct of a list, has sections of at least a size. Null is a list of none, which needs none.
+abbrev pub HasSections : StructSize → Tree → Type 0
+HasSections size (Struct ws ts) = (size.data_words ≤ length ws) × (size.pointers ≤ count ts)
+HasSections size (Structs d q es) = (size.data_words ≤ d) × (size.pointers ≤ q)
+HasSections size t = ⊥
+
+-- Where t was stored, u is so in its stead, and what is given leads to it. Where t is large enough, nothing is changed.
+pub record Opened (size : StructSize) (c : CallAt) (t u : Tree) (given : Type 0) : Type 0 where
+  pub replaced : IsReplaced c.old.words c.new.words c.segment c.at t u
+  pub leads : given
+  pub memory : KeepsMemory c.old c.new
+  pub unchanged : HasSections size t → c.new ≡ c.old
+
+-- Memory is refused by the name k, for a value that isn't large enough: it stands as it was, and new words are zero.
+pub record Unopened (size : StructSize) (c : CallAt) (t : Tree) (k : ErrorKind) : Type 0 where
+  pub stands : IsReplaced c.old.words c.new.words c.segment c.at t t
+  pub narrow : HasSections size t → ⊥
+  pub memory : SpendsMemory c.old c.new k
+  pub full : RefusesGrowth c.old c.new k
+
+-- A call opens t, which is to become u, and what it gives is as Given says; or it is refused: by what t is, and nothing is changed, or for memory.
+abbrev pub Opens : {B : Type 0} → StructSize → (Segments → ℕ → ℕ → Tree → B → Type 0) → CallAt → Tree → Result Tree ErrorKind → Result B ErrorKind → Type 0
+Opens size Given c t (Ok u) (Ok b) = Opened size c t u (Given c.new.words c.segment c.at u b)
+Opens size Given c t (Ok u) (Err k) = Unopened size c t k
+Opens size Given c t (Err k) result = (result ≡ Err k) × (c.new ≡ c.old)
+
+-- The pointer at a place leads to the struct u, which is e; or to the list u, which is l, or none where u is null.
+abbrev pub LeadsToOne : Segments → ℕ → ℕ → Tree → ExistingStruct → Type 0
+LeadsToOne S s p u e = (struct_in (target S s p) u ≡ Some e) × LiesIn S e
+
+abbrev pub LeadsToAll : Segments → ℕ → ℕ → Tree → Option ExistingList → Type 0
+LeadsToAll S s p u l = (list_in (target S s p) Void u ≡ Ok l) × IfSome l (ListLiesIn S)
+
+-- The struct that stands is opened, or a new one in place of null.
+abbrev pub OpensStruct : StructSize → Result ExistingStruct ErrorKind → CallAt → Tree → Type 0
+OpensStruct size result c t = Opens size LeadsToOne c t (struct_opened size t) result
+
+-- The list of structs that stands is opened, made one of any other list. Null is a list of none, and nothing is changed.
+abbrev pub OpensList : StructSize → Result (Option ExistingList) ErrorKind → CallAt → Tree → Type 0
+OpensList size result c Null = (result ≡ Ok None) × (c.new ≡ c.old)
+OpensList size result c t = Opens size LeadsToAll c t (list_widened size.data_words size.pointers t) result
+
+-- A list that is found is one of structs with sections of at least a size.
+abbrev pub IsWideList : StructSize → ExistingList → Type 0
+IsWideList size l = (l.size ≡ InlineComposite) × (size.data_words ≤ l.struct_size.data_words) × (size.pointers ≤ l.struct_size.pointers)
+
+-- Structs of so many words, which are 2^29 or more, are too large for a list.
+abbrev pub refusal_of_words : ℕ → Option ErrorKind
+refusal_of_words n = cond (nat_lt n (2 ^ 29)) None (Some (MessageTooLarge n))
+
+-- Why n elements make no structs of at least a size, if they don't: elements of an element size, which are structs of the size had or no structs.
+abbrev pub refusal_of_elements : StructSize → ElementSize → StructSize → ℕ → Option ErrorKind
+refusal_of_elements size Void had n = refusal_of_words (n * (size.data_words + size.pointers))
+refusal_of_elements size Bit had n = Some FoundBitListWhereStructListWasExpected
+refusal_of_elements size Pointer had n = refusal_of_words (n * (size.data_words + max 1 size.pointers))
+refusal_of_elements size InlineComposite had n = refusal_of_words (n * (max had.data_words size.data_words + max had.pointers size.pointers))
+refusal_of_elements size other had n = refusal_of_words (n * (max 1 size.data_words + size.pointers))

@@ -1,0 +1,187 @@
+//! Structs and lists of structs opened for writing, at least as large as asked for ("Structs", "Lists").
+ghost use Rattle.std.specs.Prelude.{◌≡◌, ◌↔◌, ◌+◌, ◌*◌, ◌^◌, ◌≤◌, max, IsTrue, Some, Ok, Err, IsOk, IfOk, OnOk, IfErr};
+ghost use Rattle.capnp_format.specs.Forest.{target};
+ghost use Rattle.capnp_format.specs.Segments.{IsPlace, word_at};
+ghost use Rattle.capnp_format.specs.Tree.{Tree, Null};
+ghost use Rattle.capnp_making.specs.Existing.{struct_in, LiesIn};
+ghost use Rattle.capnp_making.specs.Memory.{KeepsMemory, SpendsMemory};
+ghost use Rattle.capnp_making.specs.Stored.{IsStored};
+ghost use Rattle.capnp_widening.specs.Opening.{call_at, HasSections, IsWideList, LeadsToAll, Opens, OpensStruct, OpensList, refusal_of_elements, refusal_of_words};
+ghost use Rattle.capnp_widening.specs.RowsRemade.{RefusesWider};
+ghost use Rattle.capnp_widening.specs.Widened.{IsAtLeast, IsNoWider, list_widened};
+
+use crate::lists::get_struct_list;
+use crate::widening::{get_struct, greater};
+use capnp_arena::arena::BuilderArena;
+use capnp_making::existing::{self, ExistingList, ExistingStruct};
+use capnp_making::landing::word_of;
+use capnp_making::making::make_struct;
+use capnp_words::error::ErrorKind;
+use capnp_words::wire_pointer::{ElementSize, StructSize};
+
+/// The struct that the pointer at a place leads to, with sections at least as large as asked for: a new
+/// one, all zero, where the pointer is null, and a wider one where a section is too small. A struct that is
+/// large enough is given as it stands, and nothing is changed.
+///
+/// What is no struct is `MessageContainsNonStructPointerWhereStructPointerWasExpected`, and nothing is
+/// changed. Any other refusal is `AllocationFailed` or `MessageTooLarge`, and what stood stands.
+pub fn open_struct<A: BuilderArena>(
+    arena: &mut A,
+    id: u32,
+    at: u32,
+    size: StructSize,
+) -> Result<ExistingStruct, ErrorKind>
+    requires place { IsPlace (A.view arena.old).words id at }
+    ensures opened { (t : Tree) → IsStored (A.view arena.old).words id at t → OpensStruct size result (call_at id at (A.view arena.old) (A.view arena.new)) t }
+    ensures wide { IfOk result (IsAtLeast size) }
+    ensures granted { OnOk result (KeepsMemory (A.view arena.old) (A.view arena.new)) }
+    ensures memory { IfErr result (SpendsMemory (A.view arena.old) (A.view arena.new)) }
+    ensures named { (word_at (A.view arena.old).words id at ≡ 0 → ⊥) → IfErr result (IsNoWider (A.view arena.old) (A.view arena.new) id at) }
+{
+    match existing::get_struct(arena, id, at) {
+        Some(old) => {
+            if is_wide(old.size, size) {
+                return Ok(old);
+            }
+            widen_struct(arena, id, at, old, size)
+        }
+        None => {
+            if !word_of(arena, id, at).is_null() {
+                return Err(
+                    ErrorKind::MessageContainsNonStructPointerWhereStructPointerWasExpected,
+                );
+            }
+            new_struct(arena, id, at, size)
+        }
+    }
+}
+
+/// A struct, all zero, in place of a null pointer.
+fn new_struct<A: BuilderArena>(
+    arena: &mut A,
+    id: u32,
+    at: u32,
+    size: StructSize,
+) -> Result<ExistingStruct, ErrorKind>
+    requires place { IsPlace (A.view arena.old).words id at }
+    requires null { word_at (A.view arena.old).words id at ≡ 0 }
+    ensures opened { OpensStruct size result (call_at id at (A.view arena.old) (A.view arena.new)) Null }
+    ensures wide { IfOk result (IsAtLeast size) }
+    ensures granted { OnOk result (KeepsMemory (A.view arena.old) (A.view arena.new)) }
+    ensures memory { IfErr result (SpendsMemory (A.view arena.old) (A.view arena.new)) }
+{
+    match make_struct(arena, id, at, size) {
+        Ok(start) => Ok(ExistingStruct {
+            segment: start.segment,
+            start: start.at,
+            size,
+        }),
+        Err(k) => Err(k),
+    }
+}
+
+/// A struct that is too small, made wider.
+fn widen_struct<A: BuilderArena>(
+    arena: &mut A,
+    id: u32,
+    at: u32,
+    old: ExistingStruct,
+    size: StructSize,
+) -> Result<ExistingStruct, ErrorKind>
+    requires place { IsPlace (A.view arena.old).words id at }
+    requires narrow { size.data_words ≤ old.size.data_words → size.pointers ≤ old.size.pointers → ⊥ }
+    ensures opened { (t : Tree) → IsStored (A.view arena.old).words id at t → struct_in (target (A.view arena.old).words id at) t ≡ Some old → OpensStruct size result (call_at id at (A.view arena.old) (A.view arena.new)) t }
+    ensures wide { IfOk result (IsAtLeast size) }
+    ensures granted { OnOk result (KeepsMemory (A.view arena.old) (A.view arena.new)) }
+    ensures memory { IfErr result (SpendsMemory (A.view arena.old) (A.view arena.new)) }
+    ensures named { IfErr result (IsNoWider (A.view arena.old) (A.view arena.new) id at) }
+{
+    match get_struct(arena, id, at, size) {
+        Ok(wide) => Ok(ExistingStruct {
+            segment: wide.segment,
+            start: wide.start,
+            size: greater_size(old.size, size),
+        }),
+        Err(k) => Err(k),
+    }
+}
+
+/// Whether both sections are as large as wanted.
+fn is_wide(size: StructSize, wanted: StructSize) -> bool
+    ensures { IsTrue result ↔ ((wanted.data_words ≤ size.data_words) × (wanted.pointers ≤ size.pointers)) }
+{
+    wanted.data_words <= size.data_words && wanted.pointers <= size.pointers
+}
+
+/// Each section as large as the greater of two.
+fn greater_size(a: StructSize, b: StructSize) -> StructSize
+    ensures data_words { result.data_words ≡ max a.data_words b.data_words }
+    ensures pointers { result.pointers ≡ max a.pointers b.pointers }
+{
+    StructSize {
+        data_words: greater(a.data_words, b.data_words),
+        pointers: greater(a.pointers, b.pointers),
+    }
+}
+
+/// The list that the pointer at a place leads to, as a list of structs with sections at least as large as
+/// asked for; `None` where the pointer is null, and then nothing is changed. Any other list is made one of
+/// structs. One of structs that are large enough is given as it stands, and nothing is changed.
+///
+/// What is no list is `ExistingPointerIsNotAList`, a list of bits `FoundBitListWhereStructListWasExpected`,
+/// and elements that would take 2^29 words or more are `MessageTooLarge` of these words; nothing is
+/// changed then. Any other refusal is `AllocationFailed` or `MessageTooLarge`, and the old list stands.
+pub fn open_struct_list<A: BuilderArena>(
+    arena: &mut A,
+    id: u32,
+    at: u32,
+    size: StructSize,
+) -> Result<Option<ExistingList>, ErrorKind>
+    requires place { IsPlace (A.view arena.old).words id at }
+    ensures opened { (t : Tree) → IsStored (A.view arena.old).words id at t → OpensList size result (call_at id at (A.view arena.old) (A.view arena.new)) t }
+    ensures granted { OnOk result (KeepsMemory (A.view arena.old) (A.view arena.new)) }
+    ensures named { IfErr result (RefusesWider (A.view arena.old) (A.view arena.new) id at size) }
+{
+    match existing::get_list(arena, id, at, ElementSize::Void) {
+        Ok(Some(old)) => {
+            if is_wide_list(old, size) {
+                return Ok(Some(old));
+            }
+            match refusal_of_list(old, size) {
+                Some(k) => Err(k),
+                None => get_struct_list(arena, id, at, size),
+            }
+        }
+        Ok(None) => Ok(None),
+        Err(k) => Err(k),
+    }
+}
+
+/// Whether a list is one of structs with sections as large as wanted.
+fn is_wide_list(list: ExistingList, wanted: StructSize) -> bool
+    ensures { IsTrue result ↔ IsWideList wanted list }
+{
+    list.size == ElementSize::InlineComposite && is_wide(list.struct_size, wanted)
+}
+
+/// Why the elements of a list make no structs of at least a size, if they don't.
+fn refusal_of_list(list: ExistingList, wanted: StructSize) -> Option<ErrorKind>
+    ensures { result ≡ refusal_of_elements wanted list.size list.struct_size list.count }
+{
+    let mut size = wanted;
+    match list.size {
+        ElementSize::Void => {}
+        ElementSize::Bit => return Some(ErrorKind::FoundBitListWhereStructListWasExpected),
+        ElementSize::Pointer => size.pointers = greater(1, wanted.pointers),
+        ElementSize::InlineComposite => size = greater_size(list.struct_size, wanted),
+        ElementSize::Byte
+        | ElementSize::TwoBytes
+        | ElementSize::FourBytes
+        | ElementSize::EightBytes => size.data_words = greater(1, wanted.data_words),
+    }
+    let words = u64::from(list.count) * u64::from(size.total());
+    if words >= 0x2000_0000 {
+        return Some(ErrorKind::MessageTooLarge(words as usize));
+    }
+    None
+}
