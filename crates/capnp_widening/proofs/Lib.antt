@@ -30,6 +30,7 @@ pub mod StructLists
 pub mod StructRemade
 pub mod StructSteps
 pub mod Unmoving
+pub mod Unspent
 pub mod Widenings
 pub mod StructsOpened
 pub mod ListsOpened

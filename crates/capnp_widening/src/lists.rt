@@ -2,7 +2,7 @@
 ghost use Rattle.std.specs.Prelude.{◌≡◌, ◌≤◌, ◌+◌, Some, IfOk, OnOk, IfErr, OnErr};
 ghost use Rattle.capnp_format.specs.Segments.{IsPlace, leads, Target};
 ghost use Rattle.capnp_pointers.specs.Sizes.{size_number};
-ghost use Rattle.capnp_making.specs.Memory.{KeepsMemory};
+ghost use Rattle.capnp_making.specs.Memory.{KeepsMemory, SpendsMemory};
 ghost use Rattle.capnp_widening.specs.RowsRemade.{WidensList, LeadsToList, RefusesWider, WidensTo, LeavesList, RefusesList};
 ghost use Rattle.capnp_widening.specs.Widened.{LeavesAll};
 
@@ -34,6 +34,7 @@ pub fn get_struct_list<A: BuilderArena>(
     ensures widened { OnOk result (WidensList (A.view arena.old).words (A.view arena.new).words id at size) }
     ensures leads { IfOk result (LeadsToList (A.view arena.old).words (A.view arena.new).words id at size) }
     ensures granted { OnOk result (KeepsMemory (A.view arena.old) (A.view arena.new)) }
+    ensures memory { IfErr result (SpendsMemory (A.view arena.old) (A.view arena.new)) }
     ensures refused { OnErr result (LeavesAll (A.view arena.old).words (A.view arena.new).words id at) }
     ensures named { IfErr result (RefusesWider (A.view arena.old) (A.view arena.new) id at size) }
 {
@@ -58,6 +59,7 @@ fn widen_list<A: BuilderArena>(
     requires place { IsPlace (A.view arena.old).words id at }
     ensures widened { IfOk result (WidensTo (A.view arena.old).words (A.view arena.new).words id at old size) }
     ensures granted { OnOk result (KeepsMemory (A.view arena.old) (A.view arena.new)) }
+    ensures memory { IfErr result (SpendsMemory (A.view arena.old) (A.view arena.new)) }
     ensures refused { OnErr result (LeavesList (A.view arena.old).words (A.view arena.new).words id at old) }
     ensures named { IfErr result (RefusesList (A.view arena.old) (A.view arena.new) id at old size) }
 {
@@ -90,6 +92,7 @@ fn widen_structs<A: BuilderArena>(
     requires kind { size_number old.size ≡ 7 }
     ensures widened { IfOk result (WidensTo (A.view arena.old).words (A.view arena.new).words id at old size) }
     ensures granted { OnOk result (KeepsMemory (A.view arena.old) (A.view arena.new)) }
+    ensures memory { IfErr result (SpendsMemory (A.view arena.old) (A.view arena.new)) }
     ensures refused { OnErr result (LeavesList (A.view arena.old).words (A.view arena.new).words id at old) }
     ensures named { IfErr result (RefusesList (A.view arena.old) (A.view arena.new) id at old size) }
 {
@@ -124,6 +127,7 @@ fn widen_pointers<A: BuilderArena>(
     requires kind { size_number old.size ≡ 6 }
     ensures widened { IfOk result (WidensTo (A.view arena.old).words (A.view arena.new).words id at old size) }
     ensures granted { OnOk result (KeepsMemory (A.view arena.old) (A.view arena.new)) }
+    ensures memory { IfErr result (SpendsMemory (A.view arena.old) (A.view arena.new)) }
     ensures refused { OnErr result (LeavesList (A.view arena.old).words (A.view arena.new).words id at old) }
     ensures named { IfErr result (RefusesList (A.view arena.old) (A.view arena.new) id at old size) }
 {
@@ -157,6 +161,7 @@ fn widen_void<A: BuilderArena>(
     requires kind { size_number old.size ≡ 0 }
     ensures widened { IfOk result (WidensTo (A.view arena.old).words (A.view arena.new).words id at old size) }
     ensures granted { OnOk result (KeepsMemory (A.view arena.old) (A.view arena.new)) }
+    ensures memory { IfErr result (SpendsMemory (A.view arena.old) (A.view arena.new)) }
     ensures refused { OnErr result (LeavesList (A.view arena.old).words (A.view arena.new).words id at old) }
     ensures named { IfErr result (RefusesList (A.view arena.old) (A.view arena.new) id at old size) }
 {

@@ -31,6 +31,7 @@ pub(crate) fn widen_numbers<A: BuilderArena>(
     requires kind { (2 ≤ size_number old.size) × (size_number old.size ≤ 5) }
     ensures widened { IfOk result (WidensTo (A.view arena.old).words (A.view arena.new).words id at old size) }
     ensures granted { OnOk result (KeepsMemory (A.view arena.old) (A.view arena.new)) }
+    ensures memory { IfErr result (SpendsMemory (A.view arena.old) (A.view arena.new)) }
     ensures refused { OnErr result (LeavesList (A.view arena.old).words (A.view arena.new).words id at old) }
     ensures named { IfErr result (RefusesList (A.view arena.old) (A.view arena.new) id at old size) }
 {

@@ -167,6 +167,7 @@ pub(crate) fn widen_rows<A: BuilderArena>(
     ensures remade { IfOk result (RemakesRows (A.view arena.old).words (A.view arena.new).words id at old size) }
     ensures small { OnOk result (old.count * (size.data_words + size.pointers) < 2 ^ 29) }
     ensures granted { OnOk result (KeepsMemory (A.view arena.old) (A.view arena.new)) }
+    ensures memory { IfErr result (SpendsMemory (A.view arena.old) (A.view arena.new)) }
     ensures refused { OnErr result (LeavesRows (A.view arena.old).words (A.view arena.new).words id at old) }
     ensures named { IfErr result (RefusesRows (A.view arena.old) (A.view arena.new) id at old size) }
 {

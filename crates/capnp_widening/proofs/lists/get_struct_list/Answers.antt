@@ -3,6 +3,7 @@ use Rattle.capnp_format.specs.Segments.{Segments}
 use Rattle.capnp_format.specs.Forest.{target}
 use Rattle.capnp_widening.proofs.AnyList.{null_stays, null_leads, list_widens, list_leads, unfound_refused}
 use Rattle.capnp_widening.proofs.StructSteps.{nothing_grown}
+use Rattle.capnp_widening.proofs.Unspent.{unfound_spent}
 use Rattle.capnp_widening.proofs.lists.get_struct_list.Goals as goal
 
 -- Null stays.
@@ -38,3 +39,6 @@ returns-in-Err-widen_list-clause-named g c = elim c.in-Err-widen_list.ensures.na
   | inl (same, named) ↦ inl (same, λ t x. named t (x, sym (sym (ap Ok c.in-Ok-Some.field-0-is) ∙ c.in-Ok-Some.ensures.found t x)))
   | inr growth ↦ inr growth
 ]
+
+pub returns-in-Err-clause-memory : goal.returns-in-Err-clause-memory
+returns-in-Err-clause-memory g c = unfound_spent (g.A.BuilderArena.view c.args.arena.now) c.in-Err.k c.in-Err.ensures.named

@@ -3,6 +3,7 @@ use Rattle.capnp_format.specs.Segments.{Segments}
 use Rattle.capnp_pointers.specs.Sizes.{size_number}
 use Rattle.capnp_widening.proofs.AnyList.{bits_refused}
 use Rattle.capnp_widening.proofs.StructSteps.{nothing_grown}
+use Rattle.capnp_widening.proofs.Unspent.{bits_spent}
 use Rattle.capnp_widening.proofs.lists.widen_list.Goals as goal
 
 pub returns-in-Bit-clause-named : goal.returns-in-Bit-clause-named
@@ -12,3 +13,6 @@ returns-in-Bit-clause-named g c =
 
 pub returns-in-Bit-clause-refused : goal.returns-in-Bit-clause-refused
 returns-in-Bit-clause-refused g c = λ t i. nothing_grown (g.A.BuilderArena.view c.args.arena.now).words _ refl
+
+pub returns-in-Bit-clause-memory : goal.returns-in-Bit-clause-memory
+returns-in-Bit-clause-memory g c = bits_spent (g.A.BuilderArena.view c.args.arena.now)

@@ -7,6 +7,7 @@ use Rattle.capnp_widening.proofs.Listed.{too_many}
 use Rattle.capnp_widening.proofs.NumberLists.{numbers_inside}
 use Rattle.capnp_widening.proofs.PlainLists.{numbers_widened_to, numbers_refused}
 use Rattle.capnp_widening.proofs.StructSteps.{nothing_grown}
+use Rattle.capnp_widening.proofs.Unspent.{too_large_spent, outside_spent}
 use Rattle.capnp_widening.proofs.numbers.widen_numbers.Goals as goal
 
 -- Too many words.
@@ -41,3 +42,9 @@ returns-clause-refused g c =
     let S : Segments = (g.A.BuilderArena.view c.args.arena.now).words in
     let R : Segments = (g.A.BuilderArena.view c.remake_numbers.new.arena).words in
     on_err_so c.remake_numbers.result _ _ c.remake_numbers.ensures.refused (λ same t i. nothing_grown S R same)
+
+pub returns-then-words-ge536870912-clause-memory : goal.returns-then-words-ge536870912-clause-memory
+returns-then-words-ge536870912-clause-memory g c = too_large_spent (g.A.BuilderArena.view c.args.arena.now) 0
+
+pub returns-then-not-are_numbers_inside-clause-memory : goal.returns-then-not-are_numbers_inside-clause-memory
+returns-then-not-are_numbers_inside-clause-memory g c = outside_spent (g.A.BuilderArena.view c.args.arena.now)

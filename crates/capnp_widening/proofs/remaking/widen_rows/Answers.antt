@@ -4,6 +4,7 @@ use Rattle.capnp_widening.specs.RowsRemade.{as_structs}
 use Rattle.capnp_widening.specs.Widened.{limited}
 use Rattle.capnp_widening.proofs.AnyRows.{rows_inside}
 use Rattle.capnp_widening.proofs.Listed.{too_many}
+use Rattle.capnp_widening.proofs.Unspent.{too_large_spent, outside_spent}
 use Rattle.capnp_widening.proofs.remaking.widen_rows.Goals as goal
 
 -- Too many words.
@@ -18,3 +19,9 @@ returns-then-words-ge536870912-clause-named g c =
 -- What a place stores lies in its segment.
 pub returns-then-not-are_inside-clause-named : goal.returns-then-not-are_inside-clause-named
 returns-then-not-are_inside-clause-named g c = inl (refl, λ t h. absurd (search (rules, rows_inside _ c.args.id c.args.at t c.args.old h)))
+
+pub returns-then-words-ge536870912-clause-memory : goal.returns-then-words-ge536870912-clause-memory
+returns-then-words-ge536870912-clause-memory g c = too_large_spent (g.A.BuilderArena.view c.args.arena.now) 0
+
+pub returns-then-not-are_inside-clause-memory : goal.returns-then-not-are_inside-clause-memory
+returns-then-not-are_inside-clause-memory g c = outside_spent (g.A.BuilderArena.view c.args.arena.now)
