@@ -14,7 +14,7 @@ use Rattle.capnp_objects.specs.Demands.{claim, tag, element_words}
 use Rattle.capnp_objects.specs.Faults.{of_struct, of_list, of_element, here, below, LeadsTo, child_at, one_less, Among, AmongElements, HasFault}
 use Rattle.capnp_objects.specs.Outcomes.{MeansThere, MeanThere, ElementsMean}
 use Rattle.capnp_objects.specs.Wanted.{BreaksObject, BreaksAt, Takes, follow_at}
-use Rattle.capnp_objects.specs.Wanted.{Form, plain, canonical}
+use Rattle.capnp_objects.specs.Wanted.{Form, plain, canonical, of_default}
 use Rattle.capnp_objects.specs.Reading.{Reading, word_of, behind, row, words_from, tag_size}
 use Rattle.capnp_objects.proofs.Followed.{leads_to, leads_there}
 use Rattle.capnp_objects.proofs.Parts.{claim_struct, claim_list, claim_flat}
@@ -203,6 +203,7 @@ choose_object form r a f object h = elim (same_or_not r.levels 0) [
 
 choose_capability : (form : Form) (r : Reading) (a : Target) → FollowsTo r a → a.word % 2 ^ 32 ≡ 3 → Choice form r
 choose_capability canonical r a f low = at_place canonical r a CannotCreateACanonicalMessageWithACapability f (tt, low)
+choose_capability of_default r a f low = at_place of_default r a UnknownPointerType f (omega (arith, low), inr tt)
 choose_capability plain r a f low = inl (Capability (upper_half a.word), a.pads, (a, leads_there r a f (λ e. omega arith), omega arith, refl), λ e. absurd e)
 
 choose_target : (form : Form) (r : Reading) (a : Target) → FollowsTo r a → (0 < r.levels → Below form r a) → Choice form r
@@ -211,7 +212,7 @@ choose_target form r a f h = elim (same_or_not (kind a.word) 2) [
   | inr near ↦ elim (same_or_not (a.word % 2 ^ 32) 3) [
     | inl low ↦ choose_capability form r a f low
     | inr other ↦ elim (same_or_not (kind a.word) 3) [
-      | inl three ↦ at_place form r a UnknownPointerType f (three, other)
+      | inl three ↦ at_place form r a UnknownPointerType f (three, inl other)
       | inr object ↦ choose_object form r a f (omega (arith, near, object)) h
     ]
   ]

@@ -6,23 +6,35 @@ use Rattle.capnp_format.specs.Segments.{Segments, Target, leads}
 use Rattle.capnp_format.specs.Tree.{capabilities}
 use Rattle.capnp_objects.specs.Demands.{Meets}
 use Rattle.capnp_objects.specs.Faults.{IsPointer, Somewhere, here, below, LeadsTo, child_at, one_less}
-use Rattle.capnp_objects.specs.Wanted.{BreaksObject, BreaksAt, IsCanonical, Takes}
-use Rattle.capnp_objects.specs.Wanted.{Form}
+use Rattle.capnp_objects.specs.Wanted.{BreaksObject, BreaksAt, IsCanonical, IsOfDefault, RefusesCapabilities, Takes}
+use Rattle.capnp_objects.specs.Wanted.{Form, plain, canonical, of_default}
 use Rattle.capnp_objects.specs.Reading.{Reading}
 use Rattle.capnp_objects.proofs.Followed.{leads_to}
 use Rattle.capnp_objects.proofs.Parts.{Meant, Parts, is_null, is_capability, is_inner, means_parts}
 
+-- a copy in canonical form has no capability, and no more has one of a default
+
+canonical_refuses : (form : Form) → IsCanonical form → RefusesCapabilities form
+canonical_refuses plain h = h
+canonical_refuses canonical h = h
+canonical_refuses of_default h = tt
+
+default_refuses : (form : Form) → IsOfDefault form → RefusesCapabilities form
+default_refuses plain h = h
+default_refuses canonical h = tt
+default_refuses of_default h = h
+
 -- a capability that the form takes, or an object that meets its demands
 pub data Sound (form : Form) (r : Reading) (a : Target) : Type 0 where
-  sound_capability : a.word % 2 ^ 32 ≡ 3 → (IsCanonical form → ⊥) → Sound form r a
+  sound_capability : a.word % 2 ^ 32 ≡ 3 → (RefusesCapabilities form → ⊥) → Sound form r a
   sound_object : Meets r.segments r.levels a → Sound form r a
 
 not_refused : {form : Form} {r : Reading} {a : Target} (k : ErrorKind) → Sound form r a → BreaksObject form r.segments r.levels a k → ⊥
 not_refused MalformedDoubleFarPointer (sound_capability low other) h = omega arith
 not_refused MalformedDoubleFarPointer (sound_object o) h = omega (arith, h, o.is_object)
-not_refused UnknownPointerType (sound_capability low other) h = h.1 low
+not_refused {form} UnknownPointerType (sound_capability low other) h = elim h.1 [ inl unlike ↦ unlike low | inr default ↦ other (default_refuses form default) ]
 not_refused UnknownPointerType (sound_object o) h = omega (arith, h.0, o.is_object)
-not_refused CannotCreateACanonicalMessageWithACapability (sound_capability low other) h = other h.0
+not_refused {form} CannotCreateACanonicalMessageWithACapability (sound_capability low other) h = other (canonical_refuses form h.0)
 not_refused CannotCreateACanonicalMessageWithACapability (sound_object o) h = omega (arith, h.1, o.is_object)
 not_refused MessageIsTooDeeplyNestedOrContainsCycles (sound_capability low other) h = omega (arith, h.0, low)
 not_refused MessageIsTooDeeplyNestedOrContainsCycles (sound_object o) h = omega (arith, h.1, o.levels)

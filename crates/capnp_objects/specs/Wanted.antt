@@ -11,14 +11,23 @@ use Rattle.capnp_objects.specs.Follow.{follow}
 use Rattle.capnp_objects.specs.Demands.{claim, tag, element_words, IsStructList}
 use Rattle.capnp_objects.specs.Reading.{Reading, word_of}
 
--- A value as it stands, or one for canonical form, which has no capability.
+-- A value as it stands; one for canonical form; or one of a default, as it stands. The last two have no capability.
 pub data Form : Type 0 where
   plain : Form
   canonical : Form
+  of_default : Form
 
 abbrev pub IsCanonical : Form → Type 0
-IsCanonical plain = ⊥
 IsCanonical canonical = Unit {0}
+IsCanonical _ = ⊥
+
+abbrev pub IsOfDefault : Form → Type 0
+IsOfDefault of_default = Unit {0}
+IsOfDefault _ = ⊥
+
+abbrev pub RefusesCapabilities : Form → Type 0
+RefusesCapabilities plain = ⊥
+RefusesCapabilities _ = Unit {0}
 
 -- The words that an object claims don't lie in its segment.
 abbrev pub IsOutside : Segments → Target → Type 0
@@ -35,7 +44,7 @@ HasTag S a = IsStructList a.word × Claims S a (claim a.word) × (kind (tag S a)
 -- looked at where those before it hold, so that an object breaks one at most.
 abbrev pub BreaksObject : Form → Segments → ℕ → Target → ErrorKind → Type 0
 BreaksObject form S n a MalformedDoubleFarPointer = kind a.word ≡ 2
-BreaksObject form S n a UnknownPointerType = (kind a.word ≡ 3) × (a.word % 2 ^ 32 ≢ 3)
+BreaksObject form S n a UnknownPointerType = (kind a.word ≡ 3) × ((a.word % 2 ^ 32 ≢ 3) ⊎ IsOfDefault form)
 BreaksObject form S n a CannotCreateACanonicalMessageWithACapability = IsCanonical form × (a.word % 2 ^ 32 ≡ 3)
 BreaksObject form S n a MessageIsTooDeeplyNestedOrContainsCycles = (kind a.word < 2) × (n ≡ 0)
 BreaksObject form S n a MessageContainsOutOfBoundsPointer = (kind a.word < 2) × (0 < n) × IsOutside S a
@@ -62,4 +71,4 @@ BreaksAt form k r = (word_of r ≢ 0) × FailsThere r (BreaksObject form r.segme
 
 -- What a reading of a whole value takes: every value, or one without capabilities.
 abbrev pub Takes : Form → ℕ → Type 0
-Takes form capabilities = IsCanonical form → capabilities ≡ 0
+Takes form capabilities = RefusesCapabilities form → capabilities ≡ 0
