@@ -1,5 +1,5 @@
 -- Pointers one behind the other that are copied into their own segment: one child more.
-use Rattle.std.proofs.Common.{◌≡◌, Bool, ℕ, ◌+◌, ◌<◌, ◌≤◌, ◌^◌, List, length, sym, ap, ◌∙◌, arith}
+use Rattle.std.proofs.Common.{◌≡◌, ℕ, ◌+◌, ◌<◌, ◌≤◌, ◌^◌, List, length, sym, ap, ◌∙◌, arith}
 use Rattle.capnp_words.specs.Meter.{Meter}
 use Rattle.capnp_format.specs.Segments.{segment, IsPlace}
 use Rattle.capnp_format.specs.Tree.{Tree, Trees, count}
@@ -8,6 +8,7 @@ use Rattle.capnp_format.proofs.Children.{with_last}
 use Rattle.capnp_arena.specs.View.{View}
 use Rattle.capnp_arena.specs.Written.{with_segment}
 use Rattle.capnp_objects.specs.Reading.{Reading, behind}
+use Rattle.capnp_objects.specs.Wanted.{Form}
 use Rattle.capnp_copies.specs.Copied.{copied, with_children}
 use Rattle.capnp_copies.specs.Copies.{AreCopied}
 use Rattle.capnp_copies.proofs.CopiesNear.{Call, call_of, CopiesValue, CopiesChildren}
@@ -18,19 +19,19 @@ use Rattle.capnp_copies.proofs.Copying.{there}
 use Rattle.capnp_copies.proofs.SegmentsWritten.{then_written, words_written}
 use Rattle.capnp_copies.proofs.Shapes.{AreShaped, all_shaped}
 
-shaped : {r : Reading} {i at : ℕ} {c : Call} (first : CopiesChildren r i c at) → AreShaped (kept_each c.canonicalize first.children)
-shaped {r} {c = c} first = kept_each-shaped c.canonicalize first.children (all_shaped r first.children first.are_read.cost first.are_read.means)
+shaped : {r : Reading} {i at : ℕ} {c : Call} (first : CopiesChildren r i c at) → AreShaped (kept_each c.form first.children)
+shaped {r} {c = c} first = kept_each-shaped c.form first.children (all_shaped r first.children first.are_read.cost first.are_read.means)
 
 -- the words of the segment, once the first children are copied
-pub now : {b : Bool} {r : Reading} {old mid : View} {id i at : ℕ} {m m' : Meter} → IsPlace old.words id (at + i) → (first : CopiesChildren r i (call_of b old mid id m m') at) → segment mid.words id ≡ with_children (segment old.words id) at (kept_each b first.children)
+pub now : {b : Form} {r : Reading} {old mid : View} {id i at : ℕ} {m m' : Meter} → IsPlace old.words id (at + i) → (first : CopiesChildren r i (call_of b old mid id m m') at) → segment mid.words id ≡ with_children (segment old.words id) at (kept_each b first.children)
 now {b} {r} {old} {mid} {id} {i} {at} place first = words_written old.words mid.words id (with_children (segment old.words id) at (kept_each b first.children)) (there old.words id (at + i) place) first.made
 
-pub now_long : {b : Bool} {r : Reading} {old mid : View} {id i at : ℕ} {m m' : Meter} → at + i ≤ length (segment old.words id) → (first : CopiesChildren r i (call_of b old mid id m m') at) →
+pub now_long : {b : Form} {r : Reading} {old mid : View} {id i at : ℕ} {m m' : Meter} → at + i ≤ length (segment old.words id) → (first : CopiesChildren r i (call_of b old mid id m m') at) →
     length (with_children (segment old.words id) at (kept_each b first.children)) ≡ length (segment old.words id) + word_count_all (kept_each b first.children)
 now_long {b = b} {old = old} {id = id} {at = at} le first = length_children (segment old.words id) at (kept_each b first.children) (shaped first) (omega (arith, first.counts, kept_each-count b first.children))
 
 -- the next child, once it is copied
-pub child_put : {b : Bool} {r : Reading} {old mid new : View} {id i at : ℕ} {m m' m'' : Meter} → IsPlace old.words id (at + i) → length (segment mid.words id) < 2 ^ 29 → (first : CopiesChildren r i (call_of b old mid id m m') at) → (next : CopiesValue (behind r i) (call_of b mid new id m' m'') (at + i)) →
+pub child_put : {b : Form} {r : Reading} {old mid new : View} {id i at : ℕ} {m m' m'' : Meter} → IsPlace old.words id (at + i) → length (segment mid.words id) < 2 ^ 29 → (first : CopiesChildren r i (call_of b old mid id m m') at) → (next : CopiesValue (behind r i) (call_of b mid new id m' m'') (at + i)) →
     AreCopied old.words new.words id at (kept_each b (with_last first.children next.value))
 child_put {b} {r} {old} {mid} {new} {id} {i} {at} {m} {m'} {m''} place few first next =
     let W : List ℕ = segment old.words id in

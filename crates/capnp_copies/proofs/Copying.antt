@@ -1,5 +1,5 @@
 -- What a copy leaves: how long its segment is, what else is kept, and when there is one.
-use Rattle.std.proofs.Common.{◌≡◌, Bool, ℕ, zero, suc, ◌<◌, List, [], ◌∷◌, length, refl, ap, ap₂, ◌∙◌, arith}
+use Rattle.std.proofs.Common.{◌≡◌, ℕ, zero, suc, ◌<◌, List, [], ◌∷◌, length, refl, ap, ap₂, ◌∙◌, arith}
 use Rattle.capnp_words.specs.declared.error.ErrorKind.{ErrorKind}
 use Rattle.capnp_format.specs.Segments.{Segments, segment, IsPlace}
 use Rattle.capnp_format.specs.Tree.{Tree}
@@ -10,7 +10,7 @@ use Rattle.capnp_copies.specs.Copied.{copied}
 use Rattle.capnp_objects.specs.Refusals.{Refused}
 use Rattle.capnp_objects.proofs.Refusals.{unreadable}
 use Rattle.capnp_objects.specs.Reading.{Reading}
-use Rattle.capnp_copies.specs.Forms.{form_of}
+use Rattle.capnp_objects.specs.Wanted.{Form}
 use Rattle.capnp_copies.specs.Copies.{IsCopied, CanBeCopied}
 use Rattle.capnp_copies.specs.Rooms.{IsTooLarge}
 
@@ -29,10 +29,10 @@ segment_written (xs ∷ S) (suc s) ws l = segment_written S s ws (omega arith)
 -- copies
 
 -- one that can be is not refused
-pub not_too_large : (b : Bool) (r : Reading) (m : Meter) (used room : ℕ) → CanBeCopied b r m used room → IsTooLarge b r used room → ⊥
+pub not_too_large : (b : Form) (r : Reading) (m : Meter) (used room : ℕ) → CanBeCopied b r m used room → IsTooLarge b r used room → ⊥
 not_too_large b r m used room (t, c, means, free, covers, fits) large = let l = large t c means in omega arith
 
-pub not_refused : {r : Reading} {m m' : Meter} {k : ErrorKind} (b : Bool) (used room : ℕ) → CanBeCopied b r m used room → Refused (form_of b) r m m' k → ⊥
+pub not_refused : {r : Reading} {m m' : Meter} {k : ErrorKind} (b : Form) (used room : ℕ) → CanBeCopied b r m used room → Refused b r m m' k → ⊥
 not_refused b used room (t, c, means, free, covers, fits) refused = (unreadable refused).only t c means free covers
 
 -- a copy into one fresh word is the words of its value

@@ -1,5 +1,5 @@
 -- The words of a data section, those that a copy keeps of them, and where they are written.
-use Rattle.std.proofs.Common.{◌≡◌, ◌≢◌, ℕ, zero, suc, ◌+◌, ◌-◌, ◌*◌, ◌/◌, ◌%◌, ◌^◌, ◌<◌, ◌≤◌, Bool, true, false, List, [], ◌∷◌, ◌++◌, length, get_or, set, take, drop, refl, sym, ap, ◌∙◌, subst, arith, append-nil, append_assoc, length-append, length-take, length-drop, take_all}
+use Rattle.std.proofs.Common.{◌≡◌, ◌≢◌, ℕ, zero, suc, ◌+◌, ◌-◌, ◌*◌, ◌/◌, ◌%◌, ◌^◌, ◌<◌, ◌≤◌, List, [], ◌∷◌, ◌++◌, length, get_or, set, take, drop, refl, sym, ap, ◌∙◌, subst, arith, append-nil, append_assoc, length-append, length-take, length-drop, take_all}
 use Rattle.std.proofs.Math.Nat.{mod-one}
 use Rattle.std.proofs.Math.Pow.{pow_mono}
 use Rattle.std.proofs.Math.Seq.{drop-cons}
@@ -17,6 +17,7 @@ use Rattle.capnp_format.proofs.WordsOf.{words}
 use Rattle.capnp_arena.specs.Written.{overwritten, with_word, with_words}
 use Rattle.capnp_making.proofs.FieldBytes.{below_drop}
 use Rattle.capnp_readers.specs.Sections.{bytes_for}
+use Rattle.capnp_objects.specs.Wanted.{Form, canonical}
 use Rattle.capnp_copies.specs.StructValues.{bits_left, section_words, kept_count}
 
 -- how long a section is
@@ -40,9 +41,9 @@ whole_section d bytes long =
 
 -- what is kept of it
 
-pub kept_count-le : (b : Bool) (ws : List ℕ) → kept_count b ws ≤ length ws
-kept_count-le true ws = used_words-le ws
-kept_count-le false ws = omega arith
+pub kept_count-le : (b : Form) (ws : List ℕ) → kept_count b ws ≤ length ws
+kept_count-le canonical ws = used_words-le ws
+kept_count-le _ ws = omega arith
 
 unused_left : (ws : List ℕ) (n : ℕ) (bs : List ℕ) → from_digits 256 bs % 2 ^ n ≡ 0 → used_words (ws ++ bits_left n bs) ≡ used_words ws
 unused_left ws zero bs h = ap used_words (append-nil ws)

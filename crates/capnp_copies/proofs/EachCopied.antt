@@ -1,5 +1,5 @@
 -- The copy of pointers one behind the other, each of which is copied or stays null: one more, and where one is refused.
-use Rattle.std.proofs.Common.{◌⊎◌, inl, inr, ℕ, ◌+◌, ◌^◌, ◌<◌, false, length, sym, subst, arith}
+use Rattle.std.proofs.Common.{◌⊎◌, inl, inr, ℕ, ◌+◌, ◌^◌, ◌<◌, length, sym, subst, arith}
 use Rattle.capnp_words.specs.declared.error.ErrorKind.{ErrorKind}
 use Rattle.capnp_words.specs.Meter.{Meter}
 use Rattle.capnp_format.specs.Segments.{segment, IsPlace}
@@ -20,12 +20,12 @@ use Rattle.capnp_copies.specs.StructValues.{CopiesFirst, PointersFit}
 use Rattle.capnp_copies.proofs.FilledChildren.{children_grow, child_copied}
 use Rattle.capnp_copies.proofs.TooLarge.{child_too_large}
 
-pub each_copied : {r : Reading} {s p i : ℕ} {old mid new : View} {m m' m'' : Meter} → IsPlace old.words s (p + i) → length (segment mid.words s) < 2 ^ 29 → CopiesChildren r i (change false s p old mid m m') → ((t : Tree) × Reads plain (behind r i) m' m'' t × IsReplaced mid.words new.words s (p + i) Null t) → KeepsMemory mid new → StandsAsRead (behind r i) (change false s (p + i) mid new m' m'') →
-    CopiesChildren r (i + 1) (change false s p old new m m'')
+pub each_copied : {r : Reading} {s p i : ℕ} {old mid new : View} {m m' m'' : Meter} → IsPlace old.words s (p + i) → length (segment mid.words s) < 2 ^ 29 → CopiesChildren r i (change plain s p old mid m m') → ((t : Tree) × Reads plain (behind r i) m' m'' t × IsReplaced mid.words new.words s (p + i) Null t) → KeepsMemory mid new → StandsAsRead (behind r i) (change plain s (p + i) mid new m' m'') →
+    CopiesChildren r (i + 1) (change plain s p old new m m'')
 each_copied place few first (t, read, made) memory stands = child_copied place few first (record { value = t; is_read = read; made = (made, memory); stands = stands t read })
 
-pub each_stops : {r : Reading} {s p i n : ℕ} {old mid new : View} {m m' m'' : Meter} {k : ErrorKind} → IsPlace old.words s (p + i) → i < n → CopiesChildren r i (change false s p old mid m m') → LacksRoom (change false s (p + i) mid new m' m'') k (WantedAt (behind r i) (change false s (p + i) mid new m' m'')) (IsTooLarge false (behind r i)) ⊎ Refused plain (behind r i) m' m'' k → BreaksOff plain (behind r i) m' m'' →
-    IsReplaced mid.words new.words s (p + i) Null Null → SpendsMemory mid new k → CopiesFirst r n (change false s p old new m m'') k
+pub each_stops : {r : Reading} {s p i n : ℕ} {old mid new : View} {m m' m'' : Meter} {k : ErrorKind} → IsPlace old.words s (p + i) → i < n → CopiesChildren r i (change plain s p old mid m m') → LacksRoom (change plain s (p + i) mid new m' m'') k (WantedAt (behind r i) (change plain s (p + i) mid new m' m'')) (IsTooLarge plain (behind r i)) ⊎ Refused plain (behind r i) m' m'' k → BreaksOff plain (behind r i) m' m'' →
+    IsReplaced mid.words new.words s (p + i) Null Null → SpendsMemory mid new k → CopiesFirst r n (change plain s p old new m m'') k
 each_stops {r} {s} {p} {i} {n} {old} {mid} {new} {m} {m'} {m''} {k} place less first why off cleared memory = record {
   first = first.children;
   fewer = omega (arith, first.counts);
@@ -35,7 +35,7 @@ each_stops {r} {s} {p} {i} {n} {old} {mid} {new} {m} {m'} {m''} {k} place less f
   made = first.made;
   cleared = subst (λ j. IsReplaced mid.words new.words s (p + j) Null Null) (sym first.counts) cleared;
   why = elim why [
-    | inl x ↦ inl (x.0, words_refused_after old mid new x.0 k first.memory x.1, subst (λ j. StopsWithin plain (WantsWords false x.0) (behind r j) m' m'') (sym first.counts) x.2, child_too_large false place less first x.3)
+    | inl x ↦ inl (x.0, words_refused_after old mid new x.0 k first.memory x.1, subst (λ j. StopsWithin plain (WantsWords plain x.0) (behind r j) m' m'') (sym first.counts) x.2, child_too_large plain place less first x.3)
     | inr x ↦ inr (subst (λ j. Refused plain (behind r j) m' m'' k) (sym first.counts) x)
   ];
   off = subst (λ j. BreaksOff plain (behind r j) m' m'') (sym first.counts) off;
@@ -43,7 +43,7 @@ each_stops {r} {s} {p} {i} {n} {old} {mid} {new} {m} {m'} {m''} {k} place less f
 }
 
 -- pointers that can be read, and of which what is kept has room, are not refused
-pub each_refused_rightly : {r : Reading} {s p i : ℕ} {old new : View} {m m' : Meter} {k : ErrorKind} → CopiesFirst r i (change false s p old new m m') k → PointersFit r i (change false s p old new m m') → ⊥
+pub each_refused_rightly : {r : Reading} {s p i : ℕ} {old new : View} {m m' : Meter} {k : ErrorKind} → CopiesFirst r i (change plain s p old new m m') k → PointersFit r i (change plain s p old new m m') → ⊥
 each_refused_rightly stop (ts, n, counts, are_read, room) = elim stop.why [
   | inl x ↦ (let beyond = x.3 ts are_read.cost counts are_read.means in omega (arith, beyond, room))
   | inr refused ↦ (read_stop _ stop.are_read stop.fewer (unreadable refused)).only ts are_read.cost counts are_read.means are_read.takes are_read.covers

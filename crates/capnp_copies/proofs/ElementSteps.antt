@@ -1,5 +1,5 @@
 -- The elements of a list of structs that are copied into its segment: one element, and the next row.
-use Rattle.std.proofs.Common.{◌≡◌, Bool, ℕ, suc, ◌+◌, ◌-◌, ◌*◌, ◌<◌, ◌≤◌, List, get_or, length, take, refl, sym, ap, ◌∙◌, arith, length-take}
+use Rattle.std.proofs.Common.{◌≡◌, ℕ, suc, ◌+◌, ◌-◌, ◌*◌, ◌<◌, ◌≤◌, List, get_or, length, take, refl, sym, ap, ◌∙◌, arith, length-take}
 use Rattle.capnp_words.specs.Meter.{Meter}
 use Rattle.capnp_format.specs.Segments.{Segments, segment, word_at, words_at, IsPlace}
 use Rattle.capnp_format.specs.Tree.{Trees, Elements, element_count}
@@ -9,8 +9,9 @@ use Rattle.capnp_arena.specs.View.{View}
 use Rattle.capnp_arena.specs.Written.{with_segment, with_words, overwritten}
 use Rattle.capnp_objects.specs.Outcomes.{ReadsElements}
 use Rattle.capnp_objects.specs.Reading.{Reading, behind, row, words_from}
+use Rattle.capnp_objects.specs.Wanted.{Form}
 use Rattle.capnp_objects.proofs.Copies.{with_last_element}
-use Rattle.capnp_copies.specs.Forms.{form_of, kept_each, kept_elements}
+use Rattle.capnp_copies.specs.Forms.{kept_each, kept_elements}
 use Rattle.capnp_copies.specs.Copied.{with_children, rows_laid}
 use Rattle.capnp_copies.proofs.CopiesNear.{Call, call_of, CopiesChildren, CopiesElement}
 use Rattle.capnp_copies.specs.declared.widths.ElementSizes.{ElementSizes}
@@ -31,7 +32,7 @@ pub record DataPut (r : Reading) (sizes : ElementSizes) (old mid : View) (id at 
   pub writes : mid ≡ record old { words = with_words old.words id at us }
 
 -- the children of an element, once its words are put
-pub children_put : {b : Bool} {r : Reading} {sizes : ElementSizes} {old mid new : View} {id at : ℕ} {us : List ℕ} {m m' : Meter} → DataPut r sizes old mid id at us →
+pub children_put : {b : Form} {r : Reading} {sizes : ElementSizes} {old mid new : View} {id at : ℕ} {us : List ℕ} {m m' : Meter} → DataPut r sizes old mid id at us →
     (children : CopiesChildren (behind r sizes.source.data_words) sizes.kept.pointers (call_of b mid new id m m') (at + sizes.kept.data_words)) →
     new.words ≡ with_segment old.words id (with_children (overwritten (segment old.words id) at (words_from r sizes.kept.data_words)) (at + sizes.kept.data_words) (kept_each b children.children))
 children_put {b} {r} {sizes} {old} {mid} {new} {id} {at} {us} put children =
@@ -53,11 +54,11 @@ pub record ElementsFit (r : Reading) (sizes : ElementSizes) (n : ℕ) (W : List 
 pub record RowsCopied (r : Reading) (sizes : ElementSizes) (i left : ℕ) (c : Call) (at : ℕ) : Type 0 where
   pub elements : Elements
   pub counts : element_count elements ≡ i
-  pub are_read : ReadsElements (form_of c.canonicalize) r sizes.source c.before c.after elements
+  pub are_read : ReadsElements c.form r sizes.source c.before c.after elements
   pub made :
       c.new.words
       ≡ with_segment c.old.words c.id
-      (rows_laid (take at (segment c.old.words c.id)) sizes.kept.data_words sizes.kept.pointers (cut_to sizes.kept.data_words sizes.kept.pointers (kept_elements c.canonicalize elements)) left)
+      (rows_laid (take at (segment c.old.words c.id)) sizes.kept.data_words sizes.kept.pointers (cut_to sizes.kept.data_words sizes.kept.pointers (kept_elements c.form elements)) left)
 
 -- elements of no width
 
@@ -80,7 +81,7 @@ pub record NextRow (old mid : View) (sizes : ElementSizes) (id at i w : ℕ) (es
   pub room : at + i * w + (sizes.kept.data_words + sizes.kept.pointers) ≤ length (segment mid.words id)
   pub null : (j : ℕ) → j < sizes.kept.pointers → word_at mid.words id (at + i * w + sizes.kept.data_words + j) ≡ 0
 
-pub next_row : {b : Bool} {r : Reading} {sizes : ElementSizes} {n i w id at : ℕ} {old mid : View} {m m' : Meter} (here : AtRow r sizes n i w (call_of b old mid id m m') at) → NextRow old mid sizes id at i w (cut_kept b sizes here.rows.elements)
+pub next_row : {b : Form} {r : Reading} {sizes : ElementSizes} {n i w id at : ℕ} {old mid : View} {m m' : Meter} (here : AtRow r sizes n i w (call_of b old mid id m m') at) → NextRow old mid sizes id at i w (cut_kept b sizes here.rows.elements)
 next_row {b} {r} {sizes} {n} {i} {w} {id} {at} {old} {mid} here =
     let M : Segments = old.words in
     let e : ℕ = sizes.kept.data_words in
@@ -125,7 +126,7 @@ next_inside {r} {sizes} {n} {i} width here is =
     rw is (let f : suc i * a ≤ n * a = grind arith in omega (arith, f, here.fits.inside))
 
 -- the words of the next element, and of its children, once they are put
-pub row_put : {b : Bool} {r : Reading} {sizes : ElementSizes} {n i w id at : ℕ} {old mid new : View} {m m' m'' : Meter} (here : AtRow r sizes n i w (call_of b old mid id m m') at) →
+pub row_put : {b : Form} {r : Reading} {sizes : ElementSizes} {n i w id at : ℕ} {old mid new : View} {m m' m'' : Meter} (here : AtRow r sizes n i w (call_of b old mid id m m') at) →
     (next : CopiesElement (behind r (i * (sizes.source.data_words + sizes.source.pointers))) sizes (call_of b mid new id m' m'') (at + i * w)) →
     new.words
     ≡ with_segment old.words id

@@ -1,5 +1,5 @@
 -- Rows of elements in a segment, and the next element of a list that is meant.
-use Rattle.std.proofs.Common.{◌≡◌, Bool, ℕ, zero, suc, ◌+◌, ◌-◌, ◌*◌, ◌<◌, ◌≤◌, List, [], ◌∷◌, ◌++◌, length, get_or, take, drop, replicate, refl, sym, ap, ap₂, ◌∙◌, subst, arith, append-nil, length-append, length-drop, get_or-drop}
+use Rattle.std.proofs.Common.{◌≡◌, ℕ, zero, suc, ◌+◌, ◌-◌, ◌*◌, ◌<◌, ◌≤◌, List, [], ◌∷◌, ◌++◌, length, get_or, take, drop, replicate, refl, sym, ap, ap₂, ◌∙◌, subst, arith, append-nil, length-append, length-drop, get_or-drop}
 use Rattle.std.proofs.lemmas.List.{length-replicate, take-append-drop, get_or_append_left, get_or-append_right}
 use Rattle.std.proofs.lemmas.List.{take-take}
 use Rattle.capnp_format.specs.Segments.{Segments, segment, words_at}
@@ -7,6 +7,7 @@ use Rattle.capnp_format.specs.Tree.{Trees, no_trees, tree, Elements, no_elements
 use Rattle.capnp_pointers.specs.declared.wire_pointer.StructSize.{StructSize}
 use Rattle.capnp_objects.specs.Outcomes.{MeanThere, ElementsMean}
 use Rattle.capnp_objects.specs.Reading.{Reading, behind, pointers_of}
+use Rattle.capnp_objects.specs.Wanted.{Form}
 use Rattle.capnp_copies.specs.declared.widths.ElementSizes.{ElementSizes}
 use Rattle.capnp_format.specs.Canonical.{take_trees, cut_to, trim_elements, word_count_all, word_count_elements, rows, element_bodies}
 use Rattle.capnp_format.proofs.Levels.{one_value}
@@ -94,7 +95,7 @@ abbrev pub BothMeant : Reading → StructSize → Elements → Elements → Type
 BothMeant r size es us = ((k : ℕ) × ElementsMean r size es k) × ((c : ℕ) × ElementsMean r size us c)
 
 -- the element behind the first ones, in any longer meaning of the same place
-pub next_element_words : (b : Bool) (r : Reading) (sizes : ElementSizes) (es us : Elements) → BothMeant r sizes.source es us → element_count es < element_count us →
+pub next_element_words : (b : Form) (r : Reading) (sizes : ElementSizes) (es us : Elements) → BothMeant r sizes.source es us → element_count es < element_count us →
     (ts : Trees) × (x : ℕ) × (count ts ≡ sizes.source.pointers) × MeanThere (pointers_of r sizes.source (element_count es)) ts x
     × (word_count_elements (cut_kept b sizes es) + word_count_all (take_trees sizes.kept.pointers (kept_each b ts)) ≤ word_count_elements (cut_kept b sizes us))
 next_element_words b r sizes es no_elements h lt = absurd (omega arith)

@@ -1,5 +1,5 @@
 -- The copy of pointers one behind the other, to a message of any number of segments: none yet, one child more, and where a child stops it.
-use Rattle.std.proofs.Common.{◌≡◌, inl, inr, ℕ, ◌+◌, ◌<◌, ◌^◌, Bool, length, refl, sym, ap, ◌∙◌, subst, arith}
+use Rattle.std.proofs.Common.{◌≡◌, inl, inr, ℕ, ◌+◌, ◌<◌, ◌^◌, length, refl, sym, ap, ◌∙◌, subst, arith}
 use Rattle.capnp_words.specs.declared.error.ErrorKind.{ErrorKind}
 use Rattle.capnp_words.specs.Meter.{Meter}
 use Rattle.capnp_format.specs.Segments.{Grows, segment, word_at, IsPlace}
@@ -14,45 +14,46 @@ use Rattle.capnp_making.proofs.Memory.{keeps_itself, keeps_both, keeps_then_spen
 use Rattle.capnp_objects.specs.Outcomes.{Reads}
 use Rattle.capnp_objects.specs.Refusals.{Refused, StopsWithin, BreaksOff}
 use Rattle.capnp_objects.specs.Reading.{Reading, behind}
+use Rattle.capnp_objects.specs.Wanted.{Form}
 use Rattle.capnp_objects.proofs.Copies.{read_none, read_more}
 use Rattle.capnp_copies.specs.Copied.{with_children}
 use Rattle.capnp_copies.specs.Changes.{WantsWords, change, CopiesValue, StopsAtValue, CopiesChildren, StopsAtChildren}
-use Rattle.capnp_copies.specs.Forms.{form_of, kept, kept_each}
+use Rattle.capnp_copies.specs.Forms.{kept, kept_each}
 use Rattle.capnp_copies.proofs.ChildrenCopied.{no_children}
 use Rattle.capnp_copies.proofs.SegmentsWritten.{not_written}
 use Rattle.capnp_copies.proofs.TightChildren.{child_tight}
 use Rattle.capnp_copies.proofs.TooLarge.{child_too_large}
 use Rattle.capnp_copies.proofs.KeptChildren.{kept_none, kept_each-count, kept_each-with_last}
 
-pub no_child : (r : Reading) (b : Bool) (s p : ℕ) (v : View) (m : Meter) → CopiesChildren r 0 (change b s p v v m m)
+pub no_child : (r : Reading) (b : Form) (s p : ℕ) (v : View) (m : Meter) → CopiesChildren r 0 (change b s p v v m m)
 no_child r b s p v m = record {
   children = no_trees;
   counts = refl;
-  are_read = read_none (form_of b) r m;
+  are_read = read_none b r m;
   made = subst (AreFilled v.words v.words s p) (sym (kept_none b)) refl;
   memory = keeps_itself v;
   stands = λ fits. not_written v.words s ∙ ap (with_segment v.words s) (sym (ap (with_children (segment v.words s) p) (kept_none b) ∙ no_children (segment v.words s) p));
 }
 
 -- the segments, once the first children are copied
-pub children_grow : {r : Reading} {b : Bool} {s p i : ℕ} {old mid : View} {m m' : Meter} → CopiesChildren r i (change b s p old mid m m') → Grows old.words mid.words
+pub children_grow : {r : Reading} {b : Form} {s p i : ℕ} {old mid : View} {m m' : Meter} → CopiesChildren r i (change b s p old mid m m') → Grows old.words mid.words
 children_grow {b = b} {s = s} {p = p} {old = old} {mid = mid} first = filled_grows old.words mid.words s p (kept_each b first.children) first.made
 
 -- the pointer behind them is as before
-pub child_ahead : {r : Reading} {b : Bool} {s p i : ℕ} {old mid : View} {m m' : Meter} → CopiesChildren r i (change b s p old mid m m') → p + i < length (segment old.words s) → word_at mid.words s (p + i) ≡ word_at old.words s (p + i)
+pub child_ahead : {r : Reading} {b : Form} {s p i : ℕ} {old mid : View} {m m' : Meter} → CopiesChildren r i (change b s p old mid m m') → p + i < length (segment old.words s) → word_at mid.words s (p + i) ≡ word_at old.words s (p + i)
 child_ahead {b = b} {s = s} {p = p} {i = i} {old = old} {mid = mid} first place =
     filled_ahead old.words mid.words s p (kept_each b first.children) (p + i) first.made (omega (arith, kept_each-count b first.children, first.counts)) place
 
-one_filled : {r : Reading} {b : Bool} {s p i : ℕ} {old mid : View} {m m' : Meter} (new : View) (t : Tree) (first : CopiesChildren r i (change b s p old mid m m')) → IsReplaced mid.words new.words s (p + i) Null t → AreFilled old.words new.words s p (with_last (kept_each b first.children) t)
+one_filled : {r : Reading} {b : Form} {s p i : ℕ} {old mid : View} {m m' : Meter} (new : View) (t : Tree) (first : CopiesChildren r i (change b s p old mid m m')) → IsReplaced mid.words new.words s (p + i) Null t → AreFilled old.words new.words s p (with_last (kept_each b first.children) t)
 one_filled {b = b} {s = s} {p = p} {old = old} {mid = mid} new t first made =
     filled_more old.words mid.words new.words s p (kept_each b first.children) t first.made
     (subst (λ j. IsReplaced mid.words new.words s (p + j) Null t) (sym (kept_each-count b first.children ∙ first.counts)) made)
 
-pub child_copied : {r : Reading} {b : Bool} {s p i : ℕ} {old mid new : View} {m m' m'' : Meter} → IsPlace old.words s (p + i) → length (segment mid.words s) < 2 ^ 29 → CopiesChildren r i (change b s p old mid m m') → CopiesValue (behind r i) (change b s (p + i) mid new m' m'') → CopiesChildren r (i + 1) (change b s p old new m m'')
+pub child_copied : {r : Reading} {b : Form} {s p i : ℕ} {old mid new : View} {m m' m'' : Meter} → IsPlace old.words s (p + i) → length (segment mid.words s) < 2 ^ 29 → CopiesChildren r i (change b s p old mid m m') → CopiesValue (behind r i) (change b s (p + i) mid new m' m'') → CopiesChildren r (i + 1) (change b s p old new m m'')
 child_copied {r} {b} {s} {p} {i} {old} {mid} {new} {m} {m'} {m''} place few first next =
     let ts : Trees = first.children in
     let u : Tree = next.value in
-    let here : Reads (form_of b) (behind r (count ts)) m' m'' u = rw first.counts next.is_read in
+    let here : Reads b (behind r (count ts)) m' m'' u = rw first.counts next.is_read in
     record {
       children = with_last ts u;
       counts = count-with_last ts u ∙ omega (arith, first.counts);
@@ -62,22 +63,22 @@ child_copied {r} {b} {s} {p} {i} {old} {mid} {new} {m} {m'} {m''} place few firs
       stands = child_tight b place few (children_grow first).segments next.made.0.segments first next;
     }
 
-pub child_stops : {r : Reading} {b : Bool} {s p i n : ℕ} {old mid new : View} {m m' m'' : Meter} {k : ErrorKind} → IsPlace old.words s (p + i) → i < n → CopiesChildren r i (change b s p old mid m m') → StopsAtValue (behind r i) (change b s (p + i) mid new m' m'') k →
+pub child_stops : {r : Reading} {b : Form} {s p i n : ℕ} {old mid new : View} {m m' m'' : Meter} {k : ErrorKind} → IsPlace old.words s (p + i) → i < n → CopiesChildren r i (change b s p old mid m m') → StopsAtValue (behind r i) (change b s (p + i) mid new m' m'') k →
     StopsAtChildren r n (change b s p old new m m'') k
 child_stops {r} {b} {s} {p} {i} {n} {old} {mid} {new} {m} {m'} {m''} {k} place less first stop =
     let ts : Trees = first.children in
     let fewer : count ts < n = omega (arith, first.counts) in
-    let off : BreaksOff (form_of b) (behind r (count ts)) m' m'' = rw first.counts stop.off in
+    let off : BreaksOff b (behind r (count ts)) m' m'' = rw first.counts stop.off in
     let (t, made) = stop.left.0 in
     record {
       why = elim stop.why [
         | inl x ↦ inl (
           x.0,
           words_refused_after old mid new x.0 k first.memory x.1,
-          record { first = ts; fewer = fewer; mid = m'; are_read = first.are_read; stops = (let h : StopsWithin (form_of b) (WantsWords b x.0) (behind r (count ts)) m' m'' = rw first.counts x.2 in h) },
+          record { first = ts; fewer = fewer; mid = m'; are_read = first.are_read; stops = (let h : StopsWithin b (WantsWords b x.0) (behind r (count ts)) m' m'' = rw first.counts x.2 in h) },
           child_too_large b place less first x.3,
         )
-        | inr x ↦ inr (record { first = ts; fewer = fewer; mid = m'; are_read = first.are_read; stops = (let h : Refused (form_of b) (behind r (count ts)) m' m'' k = rw first.counts x in h) })
+        | inr x ↦ inr (record { first = ts; fewer = fewer; mid = m'; are_read = first.are_read; stops = (let h : Refused b (behind r (count ts)) m' m'' k = rw first.counts x in h) })
       ];
       off = record { first = ts; fewer = fewer; mid = m'; are_read = first.are_read; stops = off };
       left = with_last (kept_each b ts) t;

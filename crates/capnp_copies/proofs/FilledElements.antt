@@ -1,5 +1,5 @@
 -- The copy of the elements of a list of structs, to a message of any number of segments: none yet, one element more, and where an element stops it.
-use Rattle.std.proofs.Common.{◌≡◌, inl, inr, ℕ, suc, ◌+◌, ◌-◌, ◌*◌, ◌<◌, ◌≤◌, Bool, true, false, List, length, take, refl, sym, ap, ◌∙◌, subst, arith}
+use Rattle.std.proofs.Common.{◌≡◌, inl, inr, ℕ, suc, ◌+◌, ◌-◌, ◌*◌, ◌<◌, ◌≤◌, List, length, take, refl, sym, ap, ◌∙◌, subst, arith}
 use Rattle.capnp_words.specs.declared.error.ErrorKind.{ErrorKind}
 use Rattle.capnp_words.specs.Meter.{Meter}
 use Rattle.capnp_format.specs.Segments.{Segments, Grows, segment, word_at, IsPlace}
@@ -15,9 +15,10 @@ use Rattle.capnp_making.proofs.WordsPut.{words_put}
 use Rattle.capnp_objects.specs.Outcomes.{ReadsAll}
 use Rattle.capnp_objects.specs.Refusals.{RefusedAll, StopsAmong, BreaksOffAmong}
 use Rattle.capnp_objects.specs.Reading.{Reading, behind, row, words_from, pointers_of}
+use Rattle.capnp_objects.specs.Wanted.{Form, canonical}
 use Rattle.capnp_objects.proofs.Copies.{read_no_element, with_last_element}
 use Rattle.capnp_copies.specs.Changes.{WantsWords, change, CopiesChildren, StopsAtChildren, CopiesElement, StopsAtElement, CopiesRows, CopiesElements, StopsAtElements}
-use Rattle.capnp_copies.specs.Forms.{form_of, kept_each, kept_elements}
+use Rattle.capnp_copies.specs.Forms.{kept_each, kept_elements}
 use Rattle.capnp_copies.specs.Rooms.{AreTooLarge}
 use Rattle.capnp_copies.specs.declared.widths.ElementSizes.{ElementSizes}
 use Rattle.capnp_copies.proofs.TightElements.{element_tight, no_row_tight, no_width_tight, row_tight}
@@ -47,7 +48,7 @@ element_made : {r : Reading} {sizes : ElementSizes} {old mid : View} {s p : ℕ}
 element_made {r} {sizes} {old} {mid} {s} {p} new ts put f =
     record { written = mid.words; writes = ap (λ (v : View). v.words) put.writes; filled = subst (λ i. AreFilled mid.words new.words s (p + i) ts) (sym (data_long put)) f }
 
-pub element_copied : {r : Reading} {sizes : ElementSizes} {b : Bool} {s p : ℕ} {old mid new : View} {m m' : Meter} → DataWritten r sizes old mid s p → CopiesChildren (behind r sizes.source.data_words) sizes.kept.pointers (change b s (p + sizes.kept.data_words) mid new m m') →
+pub element_copied : {r : Reading} {sizes : ElementSizes} {b : Form} {s p : ℕ} {old mid new : View} {m m' : Meter} → DataWritten r sizes old mid s p → CopiesChildren (behind r sizes.source.data_words) sizes.kept.pointers (change b s (p + sizes.kept.data_words) mid new m m') →
     CopiesElement r sizes (change b s p old new m m')
 element_copied {r} {sizes} {b} {s} {p} {old} {mid} {new} put children = record {
   children = children.children;
@@ -58,14 +59,14 @@ element_copied {r} {sizes} {b} {s} {p} {old} {mid} {new} put children = record {
   stands = element_tight {r = r} {sizes = sizes} b (record { long = data_long put; room = put.room; writes = put.writes }) children;
 }
 
-element_too_large : (b : Bool) (from : Reading) (n : ℕ) {r : Reading} {sizes : ElementSizes} {s p : ℕ} {old mid : View} → DataWritten r sizes old mid s p → AreTooLarge b from n (length (segment mid.words s)) (mid.room s) → AreTooLarge b from n (length (segment old.words s)) (old.room s)
+element_too_large : (b : Form) (from : Reading) (n : ℕ) {r : Reading} {sizes : ElementSizes} {s p : ℕ} {old mid : View} → DataWritten r sizes old mid s p → AreTooLarge b from n (length (segment mid.words s)) (mid.room s) → AreTooLarge b from n (length (segment old.words s)) (old.room s)
 element_too_large b from n {r} {sizes} {s} {p} {old} {mid} put large =
     let long : length (segment mid.words s) ≡ length (segment old.words s) =
     ap (λ (v : View). length (segment v.words s)) put.writes ∙ length-with_words old.words s p (words_from r sizes.kept.data_words) (omega (arith, data_long put, put.room)) in
     let room : mid.room s ≡ old.room s = ap (λ (v : View). v.room s) put.writes in
     subst (AreTooLarge b from n (length (segment old.words s))) room (subst (λ k. AreTooLarge b from n k (mid.room s)) long large)
 
-pub element_stops : {r : Reading} {sizes : ElementSizes} {b : Bool} {s p : ℕ} {old mid new : View} {m m' : Meter} {k : ErrorKind} → DataWritten r sizes old mid s p →
+pub element_stops : {r : Reading} {sizes : ElementSizes} {b : Form} {s p : ℕ} {old mid new : View} {m m' : Meter} {k : ErrorKind} → DataWritten r sizes old mid s p →
     StopsAtChildren (behind r sizes.source.data_words) sizes.kept.pointers (change b s (p + sizes.kept.data_words) mid new m m') k → StopsAtElement r sizes (change b s p old new m m') k
 element_stops {r} {sizes} {b} {s} {p} {old} {mid} {new} {k = k} put stop = record {
   why = elim stop.why [
@@ -87,11 +88,11 @@ elements_more S R Q s p d q no_elements ws ts e long len one =
 elements_more S R Q s p d q (element vs us es) ws ts (M, a, b, first, rest) long len one =
     (M, a, b, first, elements_more M R Q s (p + d + q) d q es ws ts rest long len (subst (λ i. IsElementFilled R Q s i ws ts) (let f : p + suc (element_count es) * (d + q) ≡ p + d + q + element_count es * (d + q) = grind arith in f) one))
 
-pub no_row : (r : Reading) (sizes : ElementSizes) (n : ℕ) (b : Bool) (s p : ℕ) (v : View) (m : Meter) → CopiesRows r sizes 0 n (change b s p v v m m)
+pub no_row : (r : Reading) (sizes : ElementSizes) (n : ℕ) (b : Form) (s p : ℕ) (v : View) (m : Meter) → CopiesRows r sizes 0 n (change b s p v v m m)
 no_row r sizes n b s p v m = record {
   elements = no_elements;
   counts = refl;
-  are_read = read_no_element (form_of b) r sizes.source m;
+  are_read = read_no_element b r sizes.source m;
   made = none b;
   memory = keeps_itself v;
   stands = λ last fits.
@@ -99,12 +100,12 @@ no_row r sizes n b s p v m = record {
       ∙ ap (λ es. with_segment v.words s (rows_laid (take p (segment v.words s)) sizes.kept.data_words sizes.kept.pointers (cut_to sizes.kept.data_words sizes.kept.pointers es) n)) (sym (kept_no_elements b));
 }
   where
-    none : (b : Bool) → AreElementsFilled v.words v.words s p sizes.kept.data_words sizes.kept.pointers (cut_to sizes.kept.data_words sizes.kept.pointers (kept_elements b no_elements))
-    none true = refl
-    none false = refl
+    none : (b : Form) → AreElementsFilled v.words v.words s p sizes.kept.data_words sizes.kept.pointers (cut_to sizes.kept.data_words sizes.kept.pointers (kept_elements b no_elements))
+    none canonical = refl
+    none _ = refl
 
 -- where no section is kept, there is nothing to copy
-pub no_width : (r : Reading) (sizes : ElementSizes) (n : ℕ) (b : Bool) (s p : ℕ) (v : View) (m : Meter) → SourceKept b r sizes n → sizes.kept.data_words + sizes.kept.pointers ≡ 0 → CopiesElements r sizes n (change b s p v v m m)
+pub no_width : (r : Reading) (sizes : ElementSizes) (n : ℕ) (b : Form) (s p : ℕ) (v : View) (m : Meter) → SourceKept b r sizes n → sizes.kept.data_words + sizes.kept.pointers ≡ 0 → CopiesElements r sizes n (change b s p v v m m)
 no_width r sizes n b s p v m fits none =
     let no_data : 0 ≡ sizes.kept.data_words = omega arith in
     let no_pointers : 0 ≡ sizes.kept.pointers = omega arith in
@@ -120,7 +121,7 @@ no_width r sizes n b s p v m fits none =
     }
 
 -- The loop over n elements is at element number i; their rows of zeros lie in a segment.
-pub record AtRow (r : Reading) (sizes : ElementSizes) (n i : ℕ) (b : Bool) (s p : ℕ) (old mid : View) (m m' : Meter) : Type 0 where
+pub record AtRow (r : Reading) (sizes : ElementSizes) (n i : ℕ) (b : Form) (s p : ℕ) (old mid : View) (m m' : Meter) : Type 0 where
   pub fits : SourceKept b r sizes n
   pub room : p + n * (sizes.kept.data_words + sizes.kept.pointers) ≤ length (segment old.words s)
   pub zero : (j : ℕ) → j < n * (sizes.kept.data_words + sizes.kept.pointers) → word_at old.words s (p + j) ≡ 0
@@ -131,7 +132,7 @@ pub record AtRow (r : Reading) (sizes : ElementSizes) (n i : ℕ) (b : Bool) (s 
 pub row_end : (j n w : ℕ) → j < n → j * w + w ≤ n * w
 row_end j n w less = let f : suc j * w ≤ n * w = grind arith in omega (arith, f)
 
-module _ {r : Reading} {sizes : ElementSizes} {n i : ℕ} {b : Bool} {s p : ℕ} {old mid : View} {m m' : Meter} (here : AtRow r sizes n i b s p old mid m m') where
+module _ {r : Reading} {sizes : ElementSizes} {n i : ℕ} {b : Form} {s p : ℕ} {old mid : View} {m m' : Meter} (here : AtRow r sizes n i b s p old mid m m') where
   abbrev pub d : ℕ
   d = sizes.kept.data_words
 
@@ -178,7 +179,7 @@ module _ {r : Reading} {sizes : ElementSizes} {n i : ℕ} {b : Bool} {s p : ℕ}
   pub row_copied : {new : View} {m'' : Meter} → CopiesElement (behind r (i * (sizes.source.data_words + sizes.source.pointers))) sizes (change b s (p + i * (d + q)) mid new m' m'') → CopiesRows r sizes (i + 1) (n - (i + 1)) (change b s p old new m m'')
   row_copied {new} {m''} next =
       let es : Elements = here.rows.elements in
-      let one : ReadsAll (form_of b) (pointers_of r sizes.source (element_count es)) m' m'' next.children = rw here.rows.counts next.are_read in
+      let one : ReadsAll b (pointers_of r sizes.source (element_count es)) m' m'' next.children = rw here.rows.counts next.are_read in
       let a = one_more b r sizes n m m' m'' es next.children here.fits here.rows.are_read (omega (arith, here.rows.counts, here.more)) next.counts one in
       let at : IsElementFilled mid.words new.words s (p + element_count laid * (d + q)) next_words (kept_each b next.children) = rw rows_before next.made in
       let made = elements_more old.words mid.words new.words s p d q laid next_words (kept_each b next.children) here.rows.made next_long (kept_each-count b next.children ∙ next.counts) at in
@@ -197,7 +198,7 @@ module _ {r : Reading} {sizes : ElementSizes} {n i : ℕ} {b : Bool} {s p : ℕ}
   row_stops {new} {m''} {k} stop =
       let es : Elements = here.rows.elements in
       let fewer : element_count es < n = omega (arith, here.rows.counts, here.more) in
-      let off : BreaksOffAmong (form_of b) (pointers_of r sizes.source (element_count es)) q m' m'' = rw here.rows.counts stop.off in
+      let off : BreaksOffAmong b (pointers_of r sizes.source (element_count es)) q m' m'' = rw here.rows.counts stop.off in
       record {
         why = elim stop.why [
           | inl x ↦ inl (
@@ -208,7 +209,7 @@ module _ {r : Reading} {sizes : ElementSizes} {n i : ℕ} {b : Bool} {s p : ℕ}
               fewer = fewer;
               mid = m';
               are_read = here.rows.are_read;
-              stops = stops_sooner here.fits.less_pointers (let h : StopsAmong (form_of b) (WantsWords b x.0) (pointers_of r sizes.source (element_count es)) q m' m'' = rw here.rows.counts x.2 in h);
+              stops = stops_sooner here.fits.less_pointers (let h : StopsAmong b (WantsWords b x.0) (pointers_of r sizes.source (element_count es)) q m' m'' = rw here.rows.counts x.2 in h);
             },
             λ last. row_too_large {new = new} {m'' = m''} b here.fits here.wide here.more here.rows x.3 last,
           )
@@ -217,7 +218,7 @@ module _ {r : Reading} {sizes : ElementSizes} {n i : ℕ} {b : Bool} {s p : ℕ}
             fewer = fewer;
             mid = m';
             are_read = here.rows.are_read;
-            stops = stops_sooner here.fits.less_pointers (let h : RefusedAll (form_of b) (pointers_of r sizes.source (element_count es)) q m' m'' k = rw here.rows.counts x in h);
+            stops = stops_sooner here.fits.less_pointers (let h : RefusedAll b (pointers_of r sizes.source (element_count es)) q m' m'' k = rw here.rows.counts x in h);
           })
         ];
         off = record { first = es; fewer = fewer; mid = m'; are_read = here.rows.are_read; stops = stops_sooner here.fits.less_pointers off };

@@ -1,5 +1,5 @@
 -- The copy of a struct and of lists of pointers and of structs, from where they are made.
-use Rattle.std.proofs.Common.{◌≡◌, inl, inr, ℕ, ◌+◌, ◌-◌, ◌*◌, ◌<◌, ◌≤◌, ◌^◌, Bool, true, false, List, length, refl, sym, ap, ◌∙◌, subst, le_trans, arith}
+use Rattle.std.proofs.Common.{◌≡◌, inl, inr, ℕ, ◌+◌, ◌-◌, ◌*◌, ◌<◌, ◌≤◌, ◌^◌, List, length, refl, sym, ap, ◌∙◌, subst, le_trans, arith}
 use Rattle.capnp_words.specs.declared.error.ErrorKind.{ErrorKind}
 use Rattle.capnp_words.specs.Meter.{Meter}
 use Rattle.capnp_pointers.specs.declared.wire_pointer.StructSize.{StructSize}
@@ -21,6 +21,7 @@ use Rattle.capnp_making.proofs.FillingMade.{IsBegun, null_stored, struct_ready, 
 use Rattle.capnp_making.proofs.Memory.{keeps_both, keeps_written, keeps_then_spends, words_refused_after, made_refused}
 use Rattle.capnp_making.proofs.WordsPut.{words_put}
 use Rattle.capnp_objects.specs.Reading.{Reading, behind, row, words_from}
+use Rattle.capnp_objects.specs.Wanted.{Form, canonical}
 use Rattle.capnp_copies.specs.Changes.{KeepsSections, KeepsWidths, KeepsPointers, change, Leaves, CopiesChildren, StopsAtChildren, CopiesPointers, StopsAtPointers, CopiesStruct, StopsAtStruct, CopiesElements, StopsAtElements, CopiesStructs, StopsAtStructs}
 use Rattle.capnp_copies.specs.Forms.{kept, kept_each, kept_elements}
 use Rattle.capnp_copies.specs.declared.widths.ElementSizes.{ElementSizes}
@@ -37,7 +38,7 @@ use Rattle.capnp_copies.proofs.KeptForms.{stops_sooner, struct_kept, list_kept}
 pub nothing_left : (S R : Segments) (s p : ℕ) → IsPlace S s p → word_at S s p ≡ 0 → R ≡ S → IsReplaced S R s p Null Null
 nothing_left S R s p place null same = subst (λ T. IsReplaced S T s p Null Null) (sym same) (unchanged S s p Null (null_stored S s p place null))
 
-pub nothing_made : (b : Bool) (s p n : ℕ) (old new : View) (m m' : Meter) (k : ErrorKind) → IsPlace old.words s p → word_at old.words s p ≡ 0 → IsRefusedFor old new n k → new.words ≡ old.words → (HasRoom old s n → ⊥) →
+pub nothing_made : (b : Form) (s p n : ℕ) (old new : View) (m m' : Meter) (k : ErrorKind) → IsPlace old.words s p → word_at old.words s p ≡ 0 → IsRefusedFor old new n k → new.words ≡ old.words → (HasRoom old s n → ⊥) →
     RefusesWords old new n k × Leaves (change b s p old new m m') k
 nothing_made b s p n old new m m' k place null named same full =
     let r = made_refused old new s n k named same full in
@@ -46,7 +47,7 @@ nothing_made b s p n old new m m' k place null named same full =
 -- a struct
 
 -- A struct is made and starts at h, and its data words are written.
-pub record StructBegun (b : Bool) (r : Reading) (size least : StructSize) (s p : ℕ) (old made mid : View) (h : Start) : Type 0 where
+pub record StructBegun (b : Form) (r : Reading) (size least : StructSize) (s p : ℕ) (old made mid : View) (h : Start) : Type 0 where
   pub inside : r.at + (size.data_words + size.pointers) ≤ length (row r)
   pub sections : KeepsSections b r size least
   pub less_data : least.data_words ≤ size.data_words
@@ -61,7 +62,7 @@ pub record StructBegun (b : Bool) (r : Reading) (size least : StructSize) (s p :
   pub near : HasStructRoom old s least → made.words ≡ with_struct old.words s p least
   pub empty : least.data_words + least.pointers ≡ 0 → made.words ≡ with_word old.words s p (struct_word (2 ^ 30 - 1) 0 0)
 
-module _ {b : Bool} {r : Reading} {size least : StructSize} {s p : ℕ} {old made mid : View} {h : Start} (o : StructBegun b r size least s p old made mid h) where
+module _ {b : Form} {r : Reading} {size least : StructSize} {s p : ℕ} {old made mid : View} {h : Start} (o : StructBegun b r size least s p old made mid h) where
   abbrev ws : List ℕ
   ws = words_from r least.data_words
 
@@ -133,16 +134,16 @@ module _ {b : Bool} {r : Reading} {size least : StructSize} {s p : ℕ} {old mad
 
 -- a list of pointers
 
-kept_pointers : (b : Bool) (ts : Trees) → kept b (Pointers ts) ≡ Pointers (kept_each b ts)
-kept_pointers true ts = refl
-kept_pointers false ts = refl
+kept_pointers : (b : Form) (ts : Trees) → kept b (Pointers ts) ≡ Pointers (kept_each b ts)
+kept_pointers canonical ts = refl
+kept_pointers _ ts = refl
 
 -- An object is made and starts at h.
 pub record ObjectBegun (s p n : ℕ) (old mid : View) (h : Start) (t : Tree) : Type 0 where
   pub begun : IsBegun old.words mid.words s p n h t
   pub memory : KeepsMemory old mid
 
-pub pointers_copied : {b : Bool} {r : Reading} {i s p : ℕ} {old mid new : View} {h : Start} {m m' : Meter} → ObjectBegun s p i old mid h (Pointers (nulls i)) → PointersMade i s p old mid h → CopiesChildren r i (change b h.segment h.at mid new m m') → CopiesPointers r i (change b s p old new m m')
+pub pointers_copied : {b : Form} {r : Reading} {i s p : ℕ} {old mid new : View} {h : Start} {m m' : Meter} → ObjectBegun s p i old mid h (Pointers (nulls i)) → PointersMade i s p old mid h → CopiesChildren r i (change b h.segment h.at mid new m m') → CopiesPointers r i (change b s p old new m m')
 pointers_copied {b} {r} {i} {s} {p} {old} {mid} {new} {h} o near children =
     let ts : Trees = kept_each b children.children in
     let whole = pointers_whole old.words mid.words new.words s p i h ts o.begun children.made (kept_each-count b children.children ∙ children.counts) in
@@ -154,7 +155,7 @@ pointers_copied {b} {r} {i} {s} {p} {old} {mid} {new} {h} o near children =
       stands = pointers_tight b (children_grow children).segments near children;
     }
 
-pub pointers_stop : {b : Bool} {r : Reading} {i s p : ℕ} {old mid new : View} {h : Start} {m m' : Meter} {k : ErrorKind} → ObjectBegun s p i old mid h (Pointers (nulls i)) → ObjectMade s p i old mid h → (HasOwnRoom old s i → StartsBehind old.words s h) → StopsAtChildren r i (change b h.segment h.at mid new m m') k →
+pub pointers_stop : {b : Form} {r : Reading} {i s p : ℕ} {old mid new : View} {h : Start} {m m' : Meter} {k : ErrorKind} → ObjectBegun s p i old mid h (Pointers (nulls i)) → ObjectMade s p i old mid h → (HasOwnRoom old s i → StartsBehind old.words s h) → StopsAtChildren r i (change b h.segment h.at mid new m m') k →
     StopsAtPointers r i (change b s p old new m m') k
 pointers_stop {b} {r} {i} {s} {p} {old} {mid} {new} {h} {k = k} o made at_end stop = record {
   why = elim stop.why [
@@ -167,11 +168,11 @@ pointers_stop {b} {r} {i} {s} {p} {old} {mid} {new} {h} {k = k} o made at_end st
 
 -- a list of structs
 
-pub widths_keep : (b : Bool) (r : Reading) (sizes : ElementSizes) (i : ℕ) → KeepsWidths b r sizes.source i sizes.kept → KeepsPointers b r sizes i
-widths_keep true r sizes i widths = omega (arith, widths.of_pointers)
-widths_keep false r sizes i same = same
+pub widths_keep : (b : Form) (r : Reading) (sizes : ElementSizes) (i : ℕ) → KeepsWidths b r sizes.source i sizes.kept → KeepsPointers b r sizes i
+widths_keep canonical r sizes i widths = omega (arith, widths.of_pointers)
+widths_keep _ r sizes i same = same
 
-pub structs_copied : {b : Bool} {r : Reading} {sizes : ElementSizes} {i s p : ℕ} {old mid new : View} {h : Start} {m m' : Meter} → r.at + i * (sizes.source.data_words + sizes.source.pointers) ≤ length (row r) → KeepsWidths b r sizes.source i sizes.kept →
+pub structs_copied : {b : Form} {r : Reading} {sizes : ElementSizes} {i s p : ℕ} {old mid new : View} {h : Start} {m m' : Meter} → r.at + i * (sizes.source.data_words + sizes.source.pointers) ≤ length (row r) → KeepsWidths b r sizes.source i sizes.kept →
     ObjectBegun s p (1 + i * (sizes.kept.data_words + sizes.kept.pointers)) old mid h (zero_structs i sizes.kept) → StructsMade i s p sizes.kept old mid h → CopiesElements r sizes i (change b h.segment (h.at + 1) mid new m m') → CopiesStructs r sizes.source i (change b s p old new m m')
 structs_copied {b} {r} {sizes} {i} {s} {p} {old} {mid} {new} {h} inside widths o near elements =
     let d : ℕ = sizes.kept.data_words in
@@ -187,7 +188,7 @@ structs_copied {b} {r} {sizes} {i} {s} {p} {old} {mid} {new} {h} inside widths o
       stands = structs_tight {r = r} {sizes = sizes} b (elements_grow mid.words new.words h.segment (h.at + 1) d q (cut_to d q (kept_elements b es)) elements.made (omega (arith, cut_kept-count b d q es, elements.counts, ap (λ j. j * (d + q)) (cut_kept-count b d q es ∙ elements.counts), o.begun.inside.1))).segments inside widths near elements;
     }
 
-pub structs_stop : {b : Bool} {r : Reading} {sizes : ElementSizes} {i s p : ℕ} {old mid new : View} {h : Start} {m m' : Meter} {k : ErrorKind} → r.at + i * (sizes.source.data_words + sizes.source.pointers) ≤ length (row r) → KeepsWidths b r sizes.source i sizes.kept →
+pub structs_stop : {b : Form} {r : Reading} {sizes : ElementSizes} {i s p : ℕ} {old mid new : View} {h : Start} {m m' : Meter} {k : ErrorKind} → r.at + i * (sizes.source.data_words + sizes.source.pointers) ≤ length (row r) → KeepsWidths b r sizes.source i sizes.kept →
     ObjectBegun s p (1 + i * (sizes.kept.data_words + sizes.kept.pointers)) old mid h (zero_structs i sizes.kept) → StructsMade i s p sizes.kept old mid h →
     StopsAtElements r sizes i (change b h.segment (h.at + 1) mid new m m') k → StopsAtStructs r sizes.source i (change b s p old new m m') k
 structs_stop {b} {r} {sizes} {i} {s} {p} {old} {mid} {new} {h} {m} {m'} {k} inside widths o near stop = record {

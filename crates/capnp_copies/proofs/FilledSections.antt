@@ -1,5 +1,5 @@
 -- The copy of a struct that is read, from where it is made: its words, its children, and where it stops.
-use Rattle.std.proofs.Common.{◌≡◌, inl, inr, ℕ, ◌+◌, ◌-◌, ◌<◌, ◌≤◌, ◌^◌, Bool, true, false, List, length, take, refl, sym, ap, ◌∙◌, subst, le_trans, arith, length-take, take_all}
+use Rattle.std.proofs.Common.{◌≡◌, inl, inr, ℕ, ◌+◌, ◌-◌, ◌<◌, ◌≤◌, ◌^◌, List, length, take, refl, sym, ap, ◌∙◌, subst, le_trans, arith, length-take, take_all}
 use Rattle.capnp_words.specs.declared.error.ErrorKind.{ErrorKind}
 use Rattle.capnp_words.specs.Meter.{Meter}
 use Rattle.capnp_pointers.specs.declared.wire_pointer.StructSize.{StructSize}
@@ -21,8 +21,9 @@ use Rattle.capnp_making.proofs.WordsPut.{words_put}
 use Rattle.capnp_objects.specs.Outcomes.{ReadsAll}
 use Rattle.capnp_objects.specs.Reading.{Reading, row, words_from}
 use Rattle.capnp_objects.specs.Spending.{pointers_in_all}
+use Rattle.capnp_objects.specs.Wanted.{Form, canonical}
 use Rattle.capnp_copies.specs.Changes.{change, CopiesChildren, StopsAtChildren}
-use Rattle.capnp_copies.specs.Forms.{form_of, kept, kept_each}
+use Rattle.capnp_copies.specs.Forms.{kept, kept_each}
 use Rattle.capnp_copies.specs.StructValues.{kept_count, CopiesSections, StopsAtSections, SectionsExceed}
 use Rattle.capnp_copies.specs.Rooms.{AreTooLarge}
 use Rattle.capnp_copies.proofs.DataSections.{kept_count-le}
@@ -36,17 +37,17 @@ use Rattle.capnp_copies.proofs.UsedChildren.{used_children, trim-struct, fill_nu
 
 -- The kept children of a struct were read, and so were all of them, at a cost that with the pointers is n; and a struct of them is
 -- kept so.
-pub record SectionsKept (b : Bool) (ws : List ℕ) (r : Reading) (q : ℕ) (m m' : Meter) (ts : Trees) (n : ℕ) : Type 0 where
+pub record SectionsKept (b : Form) (ws : List ℕ) (r : Reading) (q : ℕ) (m m' : Meter) (ts : Trees) (n : ℕ) : Type 0 where
   pub all : Trees
   pub counts : count all ≡ q
-  pub are_read : ReadsAll (form_of b) r m m' all
+  pub are_read : ReadsAll b r m m' all
   pub form : kept b (Struct ws all) ≡ Struct (take (kept_count b ws) ws) (kept_each b ts)
   pub costs : are_read.cost + pointers_in_all all ≡ n
 
-pub sections_kept : (b : Bool) (ws : List ℕ) (r : Reading) (q : ℕ) (m m' : Meter) (ts : Trees) → r.at + q ≤ length (row r) → count ts ≡ kept_count b (words_from r q) → (read : ReadsAll (form_of b) r m m' ts) →
+pub sections_kept : (b : Form) (ws : List ℕ) (r : Reading) (q : ℕ) (m m' : Meter) (ts : Trees) → r.at + q ≤ length (row r) → count ts ≡ kept_count b (words_from r q) → (read : ReadsAll b r m m' ts) →
     SectionsKept b ws r q m m' ts (read.cost + pointers_in_all ts)
-sections_kept true ws r q m m' ts inside len all =
-    let few : count ts ≤ q = omega (arith, kept_count-le true (words_from r q), length_words r.segments r.segment r.at q inside, len) in
+sections_kept canonical ws r q m m' ts inside len all =
+    let few : count ts ≤ q = omega (arith, kept_count-le canonical (words_from r q), length_words r.segments r.segment r.at q inside, len) in
     let f = fill_nulls q all few (λ i a b. null_behind r q i (omega (arith, len, a)) b) in
     record {
       all = f.all;
@@ -57,11 +58,11 @@ sections_kept true ws r q m m' ts inside len all =
           ∙ ap (λ us. Struct (take (used_words ws) ws) (trim_each us)) f.first;
       costs = f.costs;
     }
-sections_kept false ws r q m m' ts inside len all =
+sections_kept _ ws r q m m' ts inside len all =
     record { all = ts; counts = len ∙ length_words r.segments r.segment r.at q inside; are_read = all; form = ap (λ xs. Struct xs ts) (sym (take_all (length ws) ws (omega arith))); costs = refl }
 
 -- A struct is made and starts at h, and the data words that are kept are written.
-pub record SectionsBegun (b : Bool) (ws : List ℕ) (r : Reading) (q : ℕ) (least : StructSize) (s p : ℕ) (old made mid : View) (h : Start) : Type 0 where
+pub record SectionsBegun (b : Form) (ws : List ℕ) (r : Reading) (q : ℕ) (least : StructSize) (s p : ℕ) (old made mid : View) (h : Start) : Type 0 where
   pub cut : SectionsCut b ws r q least
   pub begun : IsBegun old.words made.words s p (least.data_words + least.pointers) h (zero_struct least)
   pub memory : KeepsMemory old made
@@ -73,7 +74,7 @@ pub record SectionsBegun (b : Bool) (ws : List ℕ) (r : Reading) (q : ℕ) (lea
   pub near : HasStructRoom old s least → made.words ≡ with_struct old.words s p least
   pub empty : least.data_words + least.pointers ≡ 0 → made.words ≡ with_word old.words s p (struct_word (2 ^ 30 - 1) 0 0)
 
-module _ {b : Bool} {ws : List ℕ} {r : Reading} {q : ℕ} {least : StructSize} {s p : ℕ} {old made mid : View} {h : Start} (o : SectionsBegun b ws r q least s p old made mid h) where
+module _ {b : Form} {ws : List ℕ} {r : Reading} {q : ℕ} {least : StructSize} {s p : ℕ} {old made mid : View} {h : Start} (o : SectionsBegun b ws r q least s p old made mid h) where
   abbrev section : List ℕ
   section = take least.data_words ws
 

@@ -1,5 +1,5 @@
 -- What a copy keeps of structs and of elements, in canonical form and as they stand.
-use Rattle.std.proofs.Common.{◌≡◌, ℕ, zero, suc, ◌+◌, ◌*◌, ◌<◌, ◌≤◌, Bool, true, false, List, length, take, refl, sym, ap, ap₂, ◌∙◌, subst, arith, length-take}
+use Rattle.std.proofs.Common.{◌≡◌, ℕ, zero, suc, ◌+◌, ◌*◌, ◌<◌, ◌≤◌, List, length, take, refl, sym, ap, ap₂, ◌∙◌, subst, arith, length-take}
 use Rattle.std.proofs.lemmas.List.{take_all}
 use Rattle.capnp_pointers.specs.declared.wire_pointer.StructSize.{StructSize}
 use Rattle.capnp_words.specs.Meter.{Meter}
@@ -15,10 +15,10 @@ use Rattle.capnp_objects.specs.Outcomes.{ReadsAll, ReadsElements, MeanThere, Ele
 use Rattle.capnp_objects.specs.Refusals.{StopsAmong}
 use Rattle.capnp_objects.specs.Reading.{Reading, behind, row, words_from, pointers_of}
 use Rattle.capnp_objects.specs.Spending.{pointers_in_all, pointers_in_elements}
-use Rattle.capnp_objects.specs.Wanted.{Form}
+use Rattle.capnp_objects.specs.Wanted.{Form, canonical}
 use Rattle.capnp_objects.proofs.Copies.{with_last_element, count-with_last_element, pointers_in-with_last_element, read_element, read_none, read_no_element}
 use Rattle.capnp_copies.specs.Changes.{KeepsSections, KeepsWidths, KeepsPointers}
-use Rattle.capnp_copies.specs.Forms.{form_of, kept, kept_each, kept_elements}
+use Rattle.capnp_copies.specs.Forms.{kept, kept_each, kept_elements}
 use Rattle.capnp_copies.specs.StructValues.{kept_count}
 use Rattle.capnp_copies.specs.declared.widths.ElementSizes.{ElementSizes}
 use Rattle.capnp_copies.proofs.ElementsCopied.{SourceFits, another, pointers_within}
@@ -36,21 +36,21 @@ stops_sooner le h = record { first = h.first; fewer = omega (arith, h.fewer, le)
 
 -- a struct, of which the kept pointers were read, at a cost that with the pointers is n
 
-pub record StructKept (b : Bool) (r : Reading) (size least : StructSize) (m m' : Meter) (ts : Trees) (n : ℕ) : Type 0 where
+pub record StructKept (b : Form) (r : Reading) (size least : StructSize) (m m' : Meter) (ts : Trees) (n : ℕ) : Type 0 where
   pub all : Trees
   pub counts : count all ≡ size.pointers
-  pub are_read : ReadsAll (form_of b) (behind r size.data_words) m m' all
+  pub are_read : ReadsAll b (behind r size.data_words) m m' all
   pub form : kept b (Struct (words_from r size.data_words) all) ≡ Struct (words_from r least.data_words) (kept_each b ts)
   pub costs : are_read.cost + pointers_in_all all ≡ n
 
-pub struct_kept : (b : Bool) (r : Reading) (size least : StructSize) (m m' : Meter) (ts : Trees) → r.at + (size.data_words + size.pointers) ≤ length (row r) → KeepsSections b r size least → count ts ≡ least.pointers →
-    (read : ReadsAll (form_of b) (behind r size.data_words) m m' ts) → StructKept b r size least m m' ts (read.cost + pointers_in_all ts)
-struct_kept true r size least m m' ts inside uses len all =
+pub struct_kept : (b : Form) (r : Reading) (size least : StructSize) (m m' : Meter) (ts : Trees) → r.at + (size.data_words + size.pointers) ≤ length (row r) → KeepsSections b r size least → count ts ≡ least.pointers →
+    (read : ReadsAll b (behind r size.data_words) m m' ts) → StructKept b r size least m m' ts (read.cost + pointers_in_all ts)
+struct_kept canonical r size least m m' ts inside uses len all =
     let f = struct_filled inside uses len all in
     let ws : List ℕ = words_from r size.data_words in
     let section : take (used_words ws) ws ≡ words_from r least.data_words = ap (λ i. take i ws) (sym uses.of_data) ∙ words_taken r.segments r.segment r.at least.data_words size.data_words uses.less_data in
     record { all = f.all; counts = f.counts; are_read = f.are_read; form = f.form ∙ ap (λ xs. Struct xs (trim_each ts)) section; costs = f.costs }
-struct_kept false r size least m m' ts inside same len all =
+struct_kept _ r size least m m' ts inside same len all =
     record { all = ts; counts = len ∙ ap (λ s. s.pointers) same; are_read = all; form = ap (λ s. Struct (words_from r s.data_words) ts) (sym same); costs = refl }
 
 take_count : (ts : Trees) → take_trees (count ts) ts ≡ ts
@@ -58,19 +58,19 @@ take_count no_trees = refl
 take_count (tree t ts) = ap (tree t) (take_count ts)
 
 -- The kept pointers of a struct of these data words are meant, and it takes so many words.
-pub record SectionsMeant (b : Bool) (ws : List ℕ) (r : Reading) (least : StructSize) (us : Trees) (c : ℕ) : Type 0 where
+pub record SectionsMeant (b : Form) (ws : List ℕ) (r : Reading) (least : StructSize) (us : Trees) (c : ℕ) : Type 0 where
   pub counts : count (take_trees least.pointers us) ≡ least.pointers
   pub means : MeanThere r (take_trees least.pointers us) c
   pub words : word_count (kept b (Struct ws us)) ≡ least.data_words + least.pointers + word_count_all (kept_each b (take_trees least.pointers us))
 
 -- The sections that are kept of a struct of these data words, of whose pointers r is the first of q.
-pub record SectionsCut (b : Bool) (ws : List ℕ) (r : Reading) (q : ℕ) (least : StructSize) : Type 0 where
+pub record SectionsCut (b : Form) (ws : List ℕ) (r : Reading) (q : ℕ) (least : StructSize) : Type 0 where
   pub inside : r.at + q ≤ length (row r)
   pub of_data : least.data_words ≡ kept_count b ws
   pub of_pointers : least.pointers ≡ kept_count b (words_from r q)
 
-pub sections_meant : (b : Bool) {ws : List ℕ} {r : Reading} {q : ℕ} {least : StructSize} (us : Trees) (c : ℕ) → SectionsCut b ws r q least → count us ≡ q → MeanThere r us c → SectionsMeant b ws r least us c
-sections_meant true {ws} {r} {q} {least} us c cut len all =
+pub sections_meant : (b : Form) {ws : List ℕ} {r : Reading} {q : ℕ} {least : StructSize} (us : Trees) (c : ℕ) → SectionsCut b ws r q least → count us ≡ q → MeanThere r us c → SectionsMeant b ws r least us c
+sections_meant canonical {ws} {r} {q} {least} us c cut len all =
     let u : used_trees us ≡ least.pointers = used_children r us c cut.inside len all ∙ sym cut.of_pointers in
     let fewer : least.pointers ≤ q = omega (arith, cut.of_pointers, used_words-le (words_from r q), length_words r.segments r.segment r.at q cut.inside) in
     let counts : count (take_trees least.pointers us) ≡ least.pointers = take_trees-count least.pointers us (omega (arith, len, fewer)) in
@@ -80,14 +80,14 @@ sections_meant true {ws} {r} {q} {least} us c cut len all =
       words = ap word_count (trim-struct ws us ∙ ap (λ i. Struct (take (used_words ws) ws) (trim_each (take_trees i us))) u)
           ∙ omega (arith, cut.of_data, length-take (used_words ws) ws, used_words-le ws, trim_each-count (take_trees least.pointers us), counts);
     }
-sections_meant false {ws} {r} {q} {least} us c cut len all =
+sections_meant _ {ws} {r} {q} {least} us c cut len all =
     let counts : count us ≡ least.pointers = len ∙ sym (cut.of_pointers ∙ length_words r.segments r.segment r.at q cut.inside) in
     let whole : take_trees least.pointers us ≡ us = ap (λ i. take_trees i us) (sym counts) ∙ take_count us in
     record { counts = ap count whole ∙ counts; means = subst (λ ts. MeanThere r ts c) (sym whole) all; words = omega (arith, cut.of_data, counts, ap word_count_all whole) }
 
-pub sections_cut : (b : Bool) (r : Reading) (size least : StructSize) → r.at + (size.data_words + size.pointers) ≤ length (row r) → KeepsSections b r size least → SectionsCut b (words_from r size.data_words) (behind r size.data_words) size.pointers least
-sections_cut true r size least inside uses = record { inside = omega (arith, inside); of_data = uses.of_data; of_pointers = uses.of_pointers }
-sections_cut false r size least inside same = record {
+pub sections_cut : (b : Form) (r : Reading) (size least : StructSize) → r.at + (size.data_words + size.pointers) ≤ length (row r) → KeepsSections b r size least → SectionsCut b (words_from r size.data_words) (behind r size.data_words) size.pointers least
+sections_cut canonical r size least inside uses = record { inside = omega (arith, inside); of_data = uses.of_data; of_pointers = uses.of_pointers }
+sections_cut _ r size least inside same = record {
   inside = omega (arith, inside);
   of_data = ap (λ s. s.data_words) same ∙ sym (length_words r.segments r.segment r.at size.data_words (omega (arith, inside)));
   of_pointers = ap (λ s. s.pointers) same ∙ sym (length_words r.segments r.segment (r.at + size.data_words) size.pointers (omega (arith, inside)));
@@ -100,16 +100,16 @@ cut_same S n s p d q no_elements c h = refl
 cut_same S n s p d q (element ws ts es) c (a, b, long, len, words, all, rest, g) =
     ap₂ (λ (xs : List ℕ) us. element xs us (cut_to d q es)) (take_all d ws (omega arith)) (ap (λ i. take_trees i ts) (sym len) ∙ take_count ts) ∙ ap (element ws ts) (cut_same S n s (p + d + q) d q es b rest)
 
-pub list_kept : (b : Bool) (r : Reading) (size least : StructSize) (es : Elements) (c : ℕ) → r.at + element_count es * (size.data_words + size.pointers) ≤ length (row r) → KeepsWidths b r size (element_count es) least → ElementsMean r size es c →
+pub list_kept : (b : Form) (r : Reading) (size least : StructSize) (es : Elements) (c : ℕ) → r.at + element_count es * (size.data_words + size.pointers) ≤ length (row r) → KeepsWidths b r size (element_count es) least → ElementsMean r size es c →
     kept b (Structs size.data_words size.pointers es) ≡ Structs least.data_words least.pointers (cut_to least.data_words least.pointers (kept_elements b es))
-list_kept true r size least es c inside widths all =
+list_kept canonical r size least es c inside widths all =
     let is_least : AreLeast r size least (element_count es) = record { of_data = widths.of_data; of_pointers = widths.of_pointers } in
     trimmed_list es c inside is_least refl all
-list_kept false r size least es c inside same all =
+list_kept _ r size least es c inside same all =
     ap (Structs size.data_words size.pointers) (sym (cut_same r.segments r.levels r.segment r.at size.data_words size.pointers es c all)) ∙ ap (λ s. Structs s.data_words s.pointers (cut_to s.data_words s.pointers es)) (sym same)
 
 -- it takes so many words
-pub words_of_kept_list : (b : Bool) (r : Reading) (size least : StructSize) (i : ℕ) (es : Elements) (c : ℕ) → r.at + i * (size.data_words + size.pointers) ≤ length (row r) → KeepsWidths b r size i least → element_count es ≡ i → ElementsMean r size es c →
+pub words_of_kept_list : (b : Form) (r : Reading) (size least : StructSize) (i : ℕ) (es : Elements) (c : ℕ) → r.at + i * (size.data_words + size.pointers) ≤ length (row r) → KeepsWidths b r size i least → element_count es ≡ i → ElementsMean r size es c →
     word_count (kept b (Structs size.data_words size.pointers es)) ≡ 1 + i * (least.data_words + least.pointers) + word_count_elements (cut_to least.data_words least.pointers (kept_elements b es))
 words_of_kept_list b r size least i es c inside widths len all =
     ap word_count (list_kept b r size least es c (subst (λ k. r.at + k * (size.data_words + size.pointers) ≤ length (row r)) (sym len) inside) (subst (λ k. KeepsWidths b r size k least) (sym len) widths) all)
@@ -119,22 +119,22 @@ row_end : (j n w : ℕ) → j < n → j * w + w ≤ n * w
 row_end j n w less = let f : suc j * w ≤ n * w = grind arith in omega (arith, f)
 
 -- The n elements lie in the source, and no section that is used is cut.
-pub record SourceKept (b : Bool) (r : Reading) (sizes : ElementSizes) (n : ℕ) : Type 0 where
+pub record SourceKept (b : Form) (r : Reading) (sizes : ElementSizes) (n : ℕ) : Type 0 where
   pub inside : r.at + n * (sizes.source.data_words + sizes.source.pointers) ≤ length (row r)
   pub less_data : sizes.kept.data_words ≤ sizes.source.data_words
   pub less_pointers : sizes.kept.pointers ≤ sizes.source.pointers
   pub used : KeepsPointers b r sizes n
 
 -- the kept pointers of an element are meant
-pub row_kept : (b : Bool) (r : Reading) (sizes : ElementSizes) (n j : ℕ) (us : Trees) (c : ℕ) → SourceKept b r sizes n → j < n → count us ≡ sizes.source.pointers → MeanThere (pointers_of r sizes.source j) us c →
+pub row_kept : (b : Form) (r : Reading) (sizes : ElementSizes) (n j : ℕ) (us : Trees) (c : ℕ) → SourceKept b r sizes n → j < n → count us ≡ sizes.source.pointers → MeanThere (pointers_of r sizes.source j) us c →
     MeanThere (pointers_of r sizes.source j) (take_trees sizes.kept.pointers us) c
-row_kept true r sizes n j us c fits less len all =
+row_kept canonical r sizes n j us c fits less len all =
     let d : ℕ = sizes.source.data_words in
     let q : ℕ = sizes.source.pointers in
     let end = row_end j n (d + q) less in
     let u = used_children (pointers_of r sizes.source j) us c (omega (arith, end, fits.inside)) len all in
     means_taken (pointers_of r sizes.source j) us c sizes.kept.pointers (omega (arith, u, pointers_within (row r) r.at sizes.source n j less, fits.used)) all
-row_kept false r sizes n j us c fits less len all =
+row_kept _ r sizes n j us c fits less len all =
     subst (λ ts. MeanThere (pointers_of r sizes.source j) ts c) (sym (ap (λ i. take_trees i us) (ap (λ s. s.pointers) fits.used ∙ sym len) ∙ take_count us)) all
 
 -- the row of words of an element
@@ -142,10 +142,10 @@ abbrev pub element_words : Reading → ElementSizes → ℕ → List ℕ
 element_words r sizes j = words_at r.segments r.segment (r.at + j * (sizes.source.data_words + sizes.source.pointers)) sizes.kept.data_words
 
 -- elements that were read, with one more of which the kept pointers were, at a cost that with the pointers is n
-pub record OneMore (b : Bool) (r : Reading) (sizes : ElementSizes) (m m' : Meter) (es : Elements) (ts : Trees) (n : ℕ) : Type 0 where
+pub record OneMore (b : Form) (r : Reading) (sizes : ElementSizes) (m m' : Meter) (es : Elements) (ts : Trees) (n : ℕ) : Type 0 where
   pub all : Elements
   pub counts : element_count all ≡ suc (element_count es)
-  pub are_read : ReadsElements (form_of b) r sizes.source m m' all
+  pub are_read : ReadsElements b r sizes.source m m' all
   pub shape :
       cut_to sizes.kept.data_words sizes.kept.pointers (kept_elements b all)
       ≡ with_last_element (cut_to sizes.kept.data_words sizes.kept.pointers (kept_elements b es)) (element_words r sizes (element_count es)) (kept_each b ts)
@@ -155,10 +155,10 @@ cut-last : (e q : ℕ) (es : Elements) (ws : List ℕ) (us : Trees) → cut_to e
 cut-last e q no_elements ws us = refl
 cut-last e q (element vs ts es) ws us = ap (element (take e vs) (take_trees q ts)) (cut-last e q es ws us)
 
-pub one_more : (b : Bool) (r : Reading) (sizes : ElementSizes) (n : ℕ) (m m' m'' : Meter) (es : Elements) (ts : Trees) → SourceKept b r sizes n → (read : ReadsElements (form_of b) r sizes.source m m' es) → element_count es < n → count ts ≡ sizes.kept.pointers →
-    (last : ReadsAll (form_of b) (pointers_of r sizes.source (element_count es)) m' m'' ts) → OneMore b r sizes m m'' es ts (read.cost + pointers_in_elements es + (last.cost + pointers_in_all ts))
+pub one_more : (b : Form) (r : Reading) (sizes : ElementSizes) (n : ℕ) (m m' m'' : Meter) (es : Elements) (ts : Trees) → SourceKept b r sizes n → (read : ReadsElements b r sizes.source m m' es) → element_count es < n → count ts ≡ sizes.kept.pointers →
+    (last : ReadsAll b (pointers_of r sizes.source (element_count es)) m' m'' ts) → OneMore b r sizes m m'' es ts (read.cost + pointers_in_elements es + (last.cost + pointers_in_all ts))
 unfolding read_element
-one_more true r sizes n m m' m'' es ts fits all less len one =
+one_more canonical r sizes n m m' m'' es ts fits all less len one =
     let source_fits : SourceFits r sizes.source sizes.kept n = record { inside = fits.inside; used = fits.used; less = fits.less_pointers } in
     let a = another source_fits all less len one in
     let at : ℕ = r.at + element_count es * (sizes.source.data_words + sizes.source.pointers) in
@@ -170,7 +170,7 @@ one_more true r sizes n m m' m'' es ts fits all less len one =
           a.shape ∙ ap (λ xs. with_last_element (cut_to sizes.kept.data_words sizes.kept.pointers (trim_elements es)) xs (trim_each ts)) (words_taken r.segments r.segment at sizes.kept.data_words sizes.source.data_words fits.less_data);
       costs = a.costs;
     }
-one_more false r sizes n m m' m'' es ts fits all less len one =
+one_more _ r sizes n m m' m'' es ts fits all less len one =
     let d : ℕ = sizes.source.data_words in
     let q : ℕ = sizes.source.pointers in
     let j : ℕ = element_count es in
@@ -190,18 +190,18 @@ one_more false r sizes n m m' m'' es ts fits all less len one =
 
 -- elements of which no section is kept
 
-pub record Blank (b : Bool) (r : Reading) (sizes : ElementSizes) (j : ℕ) (m : Meter) : Type 0 where
+pub record Blank (b : Form) (r : Reading) (sizes : ElementSizes) (j : ℕ) (m : Meter) : Type 0 where
   pub all : Elements
   pub counts : element_count all ≡ j
-  pub are_read : ReadsElements (form_of b) r sizes.source m m all
+  pub are_read : ReadsElements b r sizes.source m m all
   pub costs : are_read.cost + pointers_in_elements all ≡ 0
 
-pub blank_elements : (b : Bool) (r : Reading) (sizes : ElementSizes) (n : ℕ) (m : Meter) (j : ℕ) → j ≤ n → SourceKept b r sizes n → sizes.kept.pointers ≡ 0 → Blank b r sizes j m
+pub blank_elements : (b : Form) (r : Reading) (sizes : ElementSizes) (n : ℕ) (m : Meter) (j : ℕ) → j ≤ n → SourceKept b r sizes n → sizes.kept.pointers ≡ 0 → Blank b r sizes j m
 unfolding read_no_element read_none
-blank_elements b r sizes n m zero le fits none = record { all = no_elements; counts = refl; are_read = read_no_element (form_of b) r sizes.source m; costs = refl }
+blank_elements b r sizes n m zero le fits none = record { all = no_elements; counts = refl; are_read = read_no_element b r sizes.source m; costs = refl }
 blank_elements b r sizes n m (suc j) le fits none =
     let x = blank_elements b r sizes n m j (omega arith) fits none in
-    let a = one_more b r sizes n m m m x.all no_trees fits x.are_read (omega (arith, x.counts)) (sym none) (read_none (form_of b) (pointers_of r sizes.source (element_count x.all)) m) in
+    let a = one_more b r sizes n m m m x.all no_trees fits x.are_read (omega (arith, x.counts)) (sym none) (read_none b (pointers_of r sizes.source (element_count x.all)) m) in
     record { all = a.all; counts = a.counts ∙ ap suc x.counts; are_read = a.are_read; costs = omega (arith, a.costs, x.costs) }
 
 pub nothing_filled : (S : Segments) (s p : ℕ) (es : Elements) → AreElementsFilled S S s p 0 0 (cut_to 0 0 es)

@@ -1,5 +1,5 @@
 -- A list of structs that is copied into the segment of its pointer, from where its words are taken: its elements.
-use Rattle.std.proofs.Common.{◌≡◌, Bool, ℕ, ◌+◌, ◌*◌, ◌<◌, ◌≤◌, ◌∷◌, ◌++◌, List, [], length, set, take, replicate, sym, ap, ap₂, ◌∙◌, arith, append_assoc, append-nil}
+use Rattle.std.proofs.Common.{◌≡◌, ℕ, ◌+◌, ◌*◌, ◌<◌, ◌≤◌, ◌∷◌, ◌++◌, List, [], length, set, take, replicate, sym, ap, ap₂, ◌∙◌, arith, append_assoc, append-nil}
 use Rattle.std.proofs.Math.Seq.{take-append-add}
 use Rattle.capnp_pointers.specs.declared.wire_pointer.StructSize.{StructSize}
 use Rattle.capnp_words.specs.Meter.{Meter}
@@ -11,6 +11,7 @@ use Rattle.capnp_arena.specs.View.{View}
 use Rattle.capnp_arena.specs.Written.{with_segment, with_word}
 use Rattle.capnp_objects.specs.Outcomes.{ElementsMean}
 use Rattle.capnp_objects.specs.Reading.{Reading, row}
+use Rattle.capnp_objects.specs.Wanted.{Form}
 use Rattle.capnp_copies.specs.Forms.{kept_elements}
 use Rattle.capnp_copies.specs.Copied.{rows_laid}
 use Rattle.capnp_copies.specs.Copies.{IsCopied}
@@ -47,7 +48,7 @@ pub record ListBegun (least : StructSize) (i : ℕ) (old mid : View) (id at head
   pub taken : TakesWords old mid id head (struct_word i least.data_words least.pointers ∷ replicate (i * (least.data_words + least.pointers)) 0)
 
 -- the tag of a list of structs, and its elements, once they are put, and the list's pointer
-pub list_put : {b : Bool} {r : Reading} {size least : StructSize} {i : ℕ} {old mid last new : View} {id at head x : ℕ} {m m' : Meter} → ListBegun least i old mid id at head → (elements : CopiesElements r (record { source = size; kept = least }) i (call_of b mid last id m m') (head + 1)) →
+pub list_put : {b : Form} {r : Reading} {size least : StructSize} {i : ℕ} {old mid last new : View} {id at head x : ℕ} {m m' : Meter} → ListBegun least i old mid id at head → (elements : CopiesElements r (record { source = size; kept = least }) i (call_of b mid last id m m') (head + 1)) →
     x ≡ list_word (offset_to at (length (segment old.words id))) 7 (i * (least.data_words + least.pointers)) → new ≡ record last { words = with_word last.words id at x } → IsCopied old.words new.words id at (Structs least.data_words least.pointers (cut_to least.data_words least.pointers (kept_elements b elements.elements)))
 list_put {b} {r} {size} {least} {i} {old} {mid} {last} {new} {id} {at} {head} {x} begun elements word writes =
     let M : Segments = old.words in

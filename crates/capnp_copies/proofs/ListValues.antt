@@ -1,5 +1,5 @@
 -- The copy of a list that is read: one that is too long, and one of numbers.
-use Rattle.std.proofs.Common.{◌≡◌, ◌≢◌, inl, inr, ℕ, ◌+◌, ◌*◌, ◌/◌, ◌^◌, ◌-◌, ◌<◌, ◌≤◌, Bool, Result, Ok, Err, IfOk, IfErr, List, length, take, drop, refl, sym, ap, ap₂, ◌∙◌, subst, arith, length-drop}
+use Rattle.std.proofs.Common.{◌≡◌, ◌≢◌, inl, inr, ℕ, ◌+◌, ◌*◌, ◌/◌, ◌^◌, ◌-◌, ◌<◌, ◌≤◌, Result, Ok, Err, IfOk, IfErr, List, length, take, drop, refl, sym, ap, ap₂, ◌∙◌, subst, arith, length-drop}
 use Rattle.capnp_words.specs.declared.error.ErrorKind.{ErrorKind}
 use Rattle.capnp_words.specs.declared.error.ErrorKind.TheVariants.{MessageTooLarge}
 use Rattle.capnp_words.specs.Meter.{Meter}
@@ -19,18 +19,19 @@ use Rattle.capnp_making.proofs.Memory.{keeps_itself, spends_nothing}
 use Rattle.capnp_objects.specs.Objects.{IsHeld}
 use Rattle.capnp_objects.specs.Reading.{words_from}
 use Rattle.capnp_objects.specs.declared.object.Place.{Place}
+use Rattle.capnp_objects.specs.Wanted.{Form}
 use Rattle.capnp_readers.specs.Sections.{IsPart, HasRoom, list_words}
 use Rattle.capnp_copies.specs.Changes.{Change, change, Fits, CopiesPointers, StopsAtPointers, CopiesStructs, StopsAtStructs}
 use Rattle.capnp_copies.specs.Copies.{IsCopied}
 use Rattle.capnp_copies.specs.ListValues.{ListElements, FitsListPointer, IsTooLong, ReadsList, ListExceeds, CopiesList, StopsAtList}
-use Rattle.capnp_copies.specs.Forms.{form_of, kept}
+use Rattle.capnp_copies.specs.Forms.{kept}
 use Rattle.capnp_copies.specs.Rooms.{IsTooLargePointers, IsTooLargeList}
 use Rattle.capnp_copies.proofs.FilledObjects.{nothing_left}
 use Rattle.capnp_copies.proofs.FilledValues.{FlatOutcome, kept_flat}
 use Rattle.capnp_copies.proofs.OneReading.{one_list}
 
 -- one that is too long leaves all as it was
-pub too_long : {list : ListElements} {b : Bool} {s p : ℕ} {v : View} {m : Meter} → IsPlace v.words s p → word_at v.words s p ≡ 0 → IsTooLong list → StopsAtList list (change b s p v v m m) (MessageTooLarge (2 ^ 64 - 1))
+pub too_long : {list : ListElements} {b : Form} {s p : ℕ} {v : View} {m : Meter} → IsPlace v.words s p → word_at v.words s p ≡ 0 → IsTooLong list → StopsAtList list (change b s p v v m m) (MessageTooLarge (2 ^ 64 - 1))
 too_long {s = s} {p = p} {v = v} place null long = record {
   why = inr (inr (long, refl));
   off = inl refl;
@@ -103,8 +104,8 @@ numbers_copied list c bytes (Ok x) flat stand free f =
     record {
       value = Flat (size_number list.size) ns;
       is_read = (flat, refl, ap (unpacked (size_number list.size) list.count) stand, free);
-      made = (subst (IsReplaced c.old.words c.new.words c.segment c.at Null) (sym (kept_flat c.canonicalize (size_number list.size) ns)) f.copied, f.granted);
-      stands = subst (λ t. Fits c (word_count t) → IsCopied c.old.words c.new.words c.segment c.at t) (sym (kept_flat c.canonicalize (size_number list.size) ns)) f.stands;
+      made = (subst (IsReplaced c.old.words c.new.words c.segment c.at Null) (sym (kept_flat c.form (size_number list.size) ns)) f.copied, f.granted);
+      stands = subst (λ t. Fits c (word_count t) → IsCopied c.old.words c.new.words c.segment c.at t) (sym (kept_flat c.form (size_number list.size) ns)) f.stands;
     }
 numbers_copied list c bytes (Err k) flat stand free f = tt
 
@@ -114,9 +115,9 @@ numbers_exceed : (list : ListElements) (c : Change) (bytes : List ℕ) → size_
 numbers_exceed list c bytes flat stand full t m is_read =
     let size : ℕ = size_number list.size in
     let numbers : Tree = Flat size (unpacked size list.count (words_of bytes)) in
-    let read : ReadsList (form_of c.canonicalize) list c.before c.before numbers = (flat, refl, ap (unpacked size list.count) stand, refl) in
-    let same = ap (λ u. word_count (kept c.canonicalize u)) (one_list (form_of c.canonicalize) list c.before c.before m numbers t read is_read) in
-    omega (arith, full, same, ap word_count (kept_flat c.canonicalize size (unpacked size list.count (words_of bytes))))
+    let read : ReadsList c.form list c.before c.before numbers = (flat, refl, ap (unpacked size list.count) stand, refl) in
+    let same = ap (λ u. word_count (kept c.form u)) (one_list c.form list c.before c.before m numbers t read is_read) in
+    omega (arith, full, same, ap word_count (kept_flat c.form size (unpacked size list.count (words_of bytes))))
 
 pub numbers_stop : (list : ListElements) (c : Change) (bytes : List ℕ) (result : Result (Unit {0}) ErrorKind) → size_number list.size ≤ 5 → words_of bytes ≡ words_from list.first (words_for (size_number list.size) list.count) → IsPlace c.old.words c.segment c.at × (word_at c.old.words c.segment c.at ≡ 0) → c.after ≡ c.before →
     FlatOutcome result c.segment c.at (words_for (size_number list.size) list.count) c.old c.new (Flat (size_number list.size) (unpacked (size_number list.size) list.count (words_of bytes))) → IfErr result (StopsAtList list c)
@@ -136,7 +137,7 @@ pub structs_list_copied : {list : ListElements} {c : Change} → list.size ≡ I
 structs_list_copied {list} is copies =
     record { value = Structs list.sections.data_words list.sections.pointers copies.elements; is_read = (is, refl, refl, copies.counts, copies.are_read); made = copies.made; stands = copies.stands }
 
-pointers_exceed : (list : ListElements) (c : Change) → list.size ≡ Pointer → IsTooLargePointers c.canonicalize list.first list.count (length (segment c.old.words c.segment)) (c.old.room c.segment) → ListExceeds list c
+pointers_exceed : (list : ListElements) (c : Change) → list.size ≡ Pointer → IsTooLargePointers c.form list.first list.count (length (segment c.old.words c.segment)) (c.old.room c.segment) → ListExceeds list c
 pointers_exceed list c is large Null m h = absurd h
 pointers_exceed list c is large (Capability i) m h = absurd h
 pointers_exceed list c is large (Struct ws ts) m h = absurd h
@@ -144,14 +145,14 @@ pointers_exceed list c is large (Flat size ns) m h = absurd (omega (arith, h.0, 
 pointers_exceed list c is large (Pointers ts) m h = large ts h.2.cost h.1 h.2.means
 pointers_exceed list c is large (Structs d q es) m h = absurd (omega (arith, ap size_number (sym h.0 ∙ is)))
 
-structs_exceed : (list : ListElements) (c : Change) → list.size ≡ InlineComposite → IsTooLargeList c.canonicalize list.first list.sections list.count (length (segment c.old.words c.segment)) (c.old.room c.segment) → ListExceeds list c
+structs_exceed : (list : ListElements) (c : Change) → list.size ≡ InlineComposite → IsTooLargeList c.form list.first list.sections list.count (length (segment c.old.words c.segment)) (c.old.room c.segment) → ListExceeds list c
 structs_exceed list c is large Null m h = absurd h
 structs_exceed list c is large (Capability i) m h = absurd h
 structs_exceed list c is large (Struct ws ts) m h = absurd h
 structs_exceed list c is large (Flat size ns) m h = absurd (omega (arith, h.0, ap size_number is))
 structs_exceed list c is large (Pointers ts) m h = absurd (omega (arith, ap size_number (sym h.0 ∙ is)))
 structs_exceed list c is large (Structs d q es) m h =
-    omega (arith, large es h.4.cost h.3 h.4.means, ap word_count (ap₂ (λ i j. kept c.canonicalize (Structs i j es)) h.1 h.2))
+    omega (arith, large es h.4.cost h.3 h.4.means, ap word_count (ap₂ (λ i j. kept c.form (Structs i j es)) h.1 h.2))
 
 pub pointers_list_stops : {list : ListElements} {c : Change} {k : ErrorKind} → list.size ≡ Pointer → StopsAtPointers list.first list.count c k → StopsAtList list c k
 pointers_list_stops {list} {c} is stop = record {

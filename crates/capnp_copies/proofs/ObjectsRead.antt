@@ -1,5 +1,5 @@
 -- What a pointer means, where its object was read.
-use Rattle.std.proofs.Common.{◌≡◌, inl, ℕ, pred, ◌+◌, refl, sym, ap, ◌∙◌, subst, arith}
+use Rattle.std.proofs.Common.{◌≡◌, inl, inr, ℕ, Bool, pred, ◌+◌, refl, sym, ap, ◌∙◌, subst, arith}
 use Rattle.capnp_words.specs.declared.error.ErrorKind.{ErrorKind}
 use Rattle.capnp_words.specs.declared.error.ErrorKind.TheVariants.{CannotCreateACanonicalMessageWithACapability, InlineCompositeListsElementsOverrunItsWordCount, InlineCompositeListsOfNonStructTypeAreNotSupported, MalformedDoubleFarPointer, MessageContainsOutOfBoundsPointer, MessageIsTooDeeplyNestedOrContainsCycles, UnknownPointerType}
 use Rattle.capnp_pointers.specs.declared.wire_pointer.ElementSize.{ElementSize}
@@ -17,44 +17,46 @@ use Rattle.capnp_objects.proofs.Faultless.{same_target}
 use Rattle.capnp_objects.specs.Demands.{tag}
 use Rattle.capnp_objects.specs.Faults.{LeadsTo}
 use Rattle.capnp_objects.specs.Outcomes.{MeansThere}
-use Rattle.capnp_objects.specs.Refusals.{Stopped, pads_exceed, nowhere, broken, claim_exceeds, count_exceeds, Refused, BreaksOff, here}
+use Rattle.capnp_objects.specs.Refusals.{Stopped, pads_exceed, nowhere, broken, claim_exceeds, count_exceeds}
 use Rattle.capnp_objects.specs.Reading.{Reading}
-use Rattle.capnp_objects.specs.Spending.{after}
-use Rattle.capnp_objects.specs.Wanted.{plain, canonical, BreaksObject}
+use Rattle.capnp_objects.specs.Spending.{after, Paid}
+use Rattle.capnp_objects.specs.Wanted.{Form, plain, canonical, of_default, BreaksObject}
 
 -- the start of an object, with so many levels
 abbrev pub inside : Reading → ℕ → Place → Reading
 inside r levels start = record r { levels = levels; segment = start.segment; at = start.at }
 
--- what a plain reading breaks, a canonical one breaks too
+-- what a plain reading breaks, one in any form breaks too
 
-still_refused : (S : Segments) (n : ℕ) (a : Target) (k : ErrorKind) → BreaksObject plain S n a k → BreaksObject canonical S n a k
-still_refused S n a CannotCreateACanonicalMessageWithACapability h = absurd h.0
-still_refused S n a MalformedDoubleFarPointer h = h
-still_refused S n a UnknownPointerType h = h
-still_refused S n a MessageIsTooDeeplyNestedOrContainsCycles h = h
-still_refused S n a MessageContainsOutOfBoundsPointer h = h
-still_refused S n a InlineCompositeListsOfNonStructTypeAreNotSupported h = h
-still_refused S n a InlineCompositeListsElementsOverrunItsWordCount h = h
-still_refused S n a _ h = absurd h
+still_refused : (form : Form) (S : Segments) (n : ℕ) (a : Target) (k : ErrorKind) → BreaksObject plain S n a k → BreaksObject form S n a k
+still_refused form S n a CannotCreateACanonicalMessageWithACapability h = absurd h.0
+still_refused form S n a MalformedDoubleFarPointer h = h
+still_refused form S n a UnknownPointerType h = (h.0, elim h.1 [ inl unlike ↦ inl unlike | inr never ↦ absurd never ])
+still_refused form S n a MessageIsTooDeeplyNestedOrContainsCycles h = h
+still_refused form S n a MessageContainsOutOfBoundsPointer h = h
+still_refused form S n a InlineCompositeListsOfNonStructTypeAreNotSupported h = h
+still_refused form S n a InlineCompositeListsElementsOverrunItsWordCount h = h
+still_refused form S n a _ h = absurd h
 
-pub stopped_plain : {r : Reading} {m m' : Meter} {k : ErrorKind} → Stopped plain r m m' k → Stopped canonical r m m' k
-stopped_plain (pads_exceed some short paid named) = pads_exceed some short paid named
-stopped_plain (nowhere some h paid) = nowhere some h paid
-stopped_plain {r} {k = k} (broken a f h paid) = broken a f (still_refused r.segments r.levels a k h) paid
-stopped_plain (claim_exceeds a f level object claims short paid named) = claim_exceeds a f level object claims short paid named
-stopped_plain (count_exceeds a f meets short paid named) = count_exceeds a f meets short paid named
+pub stopped_in : {r : Reading} {m m' : Meter} {k : ErrorKind} (form : Form) → Stopped plain r m m' k → Stopped form r m m' k
+stopped_in form (pads_exceed some short paid named) = pads_exceed some short paid named
+stopped_in form (nowhere some h paid) = nowhere some h paid
+stopped_in {r} {k = k} form (broken a f h paid) = broken a f (still_refused form r.segments r.levels a k h) paid
+stopped_in form (claim_exceeds a f level object claims short paid named) = claim_exceeds a f level object claims short paid named
+stopped_in form (count_exceeds a f meets short paid named) = count_exceeds a f meets short paid named
+
+-- a capability is refused in canonical form, and in a default
+
+pads_paid : (charging : Bool) (m m' : Meter) (g : ℕ) → Affords charging m g → m' ≡ after charging m g 1 → Paid charging m m' (g + 0) 1
+pads_paid charging m m' g covers spent =
+    let none : g ≡ g + 0 = omega arith in
+    record { covers = subst (Affords charging m) none covers; spent = spent ∙ ap (λ i. after charging m i 1) none }
 
 pub capability_stopped : {r : Reading} (m m' : Meter) (i : ℕ) → IsObject r m m' (ObjectCapability i) → Stopped canonical r m m' CannotCreateACanonicalMessageWithACapability
-capability_stopped {r} m m' i (a, l, low, e, covers, spent) =
-    let none : a.pads ≡ a.pads + 0 = omega arith in
-    broken a (leads_to r a l) (tt, low) (record { covers = subst (Affords r.charging m) none covers; spent = spent ∙ ap (λ g. after r.charging m g 1) none })
+capability_stopped {r} m m' i (a, l, low, e, covers, spent) = broken a (leads_to r a l) (tt, low) (pads_paid r.charging m m' a.pads covers spent)
 
-pub capability_refused : {r : Reading} (m m' : Meter) (i : ℕ) → IsObject r m m' (ObjectCapability i) → Refused canonical r m m' CannotCreateACanonicalMessageWithACapability
-capability_refused m m' i object = here (capability_stopped m m' i object)
-
-pub capability_breaks_off : {r : Reading} (m m' : Meter) (i : ℕ) → IsObject r m m' (ObjectCapability i) → BreaksOff canonical r m m'
-capability_breaks_off m m' i object = here (inl (CannotCreateACanonicalMessageWithACapability, capability_stopped m m' i object))
+pub default_stopped : {r : Reading} (m m' : Meter) (i : ℕ) → IsObject r m m' (ObjectCapability i) → Stopped of_default r m m' UnknownPointerType
+default_stopped {r} m m' i (a, l, low, e, covers, spent) = broken a (leads_to r a l) (omega (arith, low), inr tt) (pads_paid r.charging m m' a.pads covers spent)
 
 -- what is meant where an object was read
 

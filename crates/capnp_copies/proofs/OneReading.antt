@@ -12,7 +12,6 @@ use Rattle.capnp_objects.specs.Wanted.{Form}
 use Rattle.capnp_objects.proofs.Copies.{read_stop, read_element_stop}
 use Rattle.capnp_objects.proofs.Refusals.{unreadable}
 use Rattle.capnp_copies.specs.Changes.{Change, StandsWhereItFits}
-use Rattle.capnp_copies.specs.Forms.{form_of}
 use Rattle.capnp_copies.specs.ListValues.{ListElements, ReadsList, RefusedList, CopiesList, StopsAtList, ListStands, ListFits}
 use Rattle.capnp_copies.specs.StructValues.{CopiesSections, StopsAtSections, SectionsStand, SectionsFit}
 use Rattle.capnp_copies.proofs.ElementsLaid.{BothMeant, one_row}
@@ -67,7 +66,7 @@ one_list form list m m' m'' (Structs d q es) (Structs e o fs) h k =
     ap (λ i. Structs i q es) same_data ∙ ap (λ i. Structs e i es) same_pointers ∙ ap (Structs e o) elements
 
 pub list_stands : {list : ListElements} {c : Change} → CopiesList list c → ListStands list c
-list_stands {list} {c} copies t is_read = subst (StandsWhereItFits c) (one_list (form_of c.canonicalize) list c.before c.after c.after copies.value t copies.is_read is_read) copies.stands
+list_stands {list} {c} copies t is_read = subst (StandsWhereItFits c) (one_list c.form list c.before c.after c.after copies.value t copies.is_read is_read) copies.stands
 
 -- what can be read, and what is kept of it has room, is not refused
 

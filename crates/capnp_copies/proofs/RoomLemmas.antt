@@ -1,15 +1,16 @@
 -- Where a part finds no room, the whole is too large: what a place means is known by its first parts.
-use Rattle.std.proofs.Common.{◌≡◌, Bool, ℕ, suc, ◌+◌, ◌<◌, ◌≤◌, ap, subst, arith}
+use Rattle.std.proofs.Common.{◌≡◌, ℕ, suc, ◌+◌, ◌<◌, ◌≤◌, ap, subst, arith}
 use Rattle.capnp_format.specs.Tree.{Tree, Trees, no_trees, tree, count}
 use Rattle.capnp_format.specs.Canonical.{word_count, word_count_all}
 use Rattle.capnp_format.proofs.Levels.{one_value}
 use Rattle.capnp_objects.specs.Outcomes.{MeansThere, MeanThere}
 use Rattle.capnp_objects.specs.Reading.{Reading, behind}
+use Rattle.capnp_objects.specs.Wanted.{Form}
 use Rattle.capnp_copies.specs.Forms.{kept, kept_each}
 use Rattle.capnp_copies.proofs.KeptChildren.{kept_none, kept_first}
 
 -- the child behind the first ones, in any longer meaning of the same place
-pub next_words : (b : Bool) (r : Reading) (ts us : Trees) → (k : ℕ) × MeanThere r ts k → (c : ℕ) × MeanThere r us c → count ts < count us →
+pub next_words : (b : Form) (r : Reading) (ts us : Trees) → (k : ℕ) × MeanThere r ts k → (c : ℕ) × MeanThere r us c → count ts < count us →
     (u : Tree) × (e : ℕ) × MeansThere (behind r (count ts)) u e × (word_count_all (kept_each b ts) + word_count (kept b u) ≤ word_count_all (kept_each b us))
 next_words b r ts no_trees h g lt = absurd (omega arith)
 next_words b r no_trees (tree u us) h (c, (a, x, one, rest, g)) lt =

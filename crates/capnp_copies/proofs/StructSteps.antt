@@ -1,5 +1,5 @@
 -- A struct and a list of pointers that are copied into the segment of their pointer, from where their words are taken: their children.
-use Rattle.std.proofs.Common.{◌≡◌, Bool, ℕ, ◌+◌, ◌<◌, ◌≤◌, ◌++◌, List, length, set, take, replicate, sym, ap, ap₂, ◌∙◌, arith, append_assoc, length-append}
+use Rattle.std.proofs.Common.{◌≡◌, ℕ, ◌+◌, ◌<◌, ◌≤◌, ◌++◌, List, length, set, take, replicate, sym, ap, ap₂, ◌∙◌, arith, append_assoc, length-append}
 use Rattle.capnp_pointers.specs.declared.wire_pointer.StructSize.{StructSize}
 use Rattle.capnp_words.specs.Meter.{Meter}
 use Rattle.capnp_format.specs.Word.{struct_word, list_word}
@@ -11,7 +11,7 @@ use Rattle.capnp_arena.specs.Written.{with_segment, with_word}
 use Rattle.capnp_objects.specs.Outcomes.{ReadsAll, MeanThere}
 use Rattle.capnp_objects.specs.Reading.{Reading, behind, row, words_from}
 use Rattle.capnp_objects.specs.Spending.{pointers_in_all}
-use Rattle.capnp_objects.specs.Wanted.{canonical}
+use Rattle.capnp_objects.specs.Wanted.{canonical, Form}
 use Rattle.capnp_copies.specs.Forms.{kept_each}
 use Rattle.capnp_copies.specs.Copied.{copied, with_children}
 use Rattle.capnp_copies.specs.Copies.{IsCopied}
@@ -27,7 +27,7 @@ use Rattle.capnp_copies.proofs.UsedChildren.{used_children, trim-struct, fill_nu
 -- a list of pointers
 
 -- the pointers of a list and what they lead to, once they are put, and the list's pointer
-pub pointers_put : {b : Bool} {r : Reading} {old mid last new : View} {id at head q x : ℕ} {m m' : Meter} → IsPlace old.words id at → TakesWords old mid id head (replicate q 0) → (children : CopiesChildren r q (call_of b mid last id m m') head) → x ≡ list_word (offset_to at (length (segment old.words id))) 6 q →
+pub pointers_put : {b : Form} {r : Reading} {old mid last new : View} {id at head q x : ℕ} {m m' : Meter} → IsPlace old.words id at → TakesWords old mid id head (replicate q 0) → (children : CopiesChildren r q (call_of b mid last id m m') head) → x ≡ list_word (offset_to at (length (segment old.words id))) 6 q →
     new ≡ record last { words = with_word last.words id at x } → IsCopied old.words new.words id at (Pointers (kept_each b children.children))
 pointers_put {b} {r} {old} {mid} {last} {new} {id} {at} {head} {q} {x} place taken children word writes =
     let M : Segments = old.words in
@@ -79,7 +79,7 @@ pub record StructBegun (us : List ℕ) (used : StructSize) (old mid : View) (id 
   pub taken : TakesWords old mid id head (us ++ replicate used.pointers 0)
 
 -- the words of a struct and of its children, once they are put, and its pointer
-pub struct_put : {b : Bool} {us : List ℕ} {r : Reading} {used : StructSize} {old mid last new : View} {id at head x : ℕ} {m m' : Meter} → StructBegun us used old mid id at head → 0 < used.data_words + used.pointers →
+pub struct_put : {b : Form} {us : List ℕ} {r : Reading} {used : StructSize} {old mid last new : View} {id at head x : ℕ} {m m' : Meter} → StructBegun us used old mid id at head → 0 < used.data_words + used.pointers →
     (children : CopiesChildren r used.pointers (call_of b mid last id m m') (head + used.data_words)) → x ≡ struct_word (offset_to at (length (segment old.words id))) used.data_words used.pointers →
     new ≡ record last { words = with_word last.words id at x } → new.words ≡ with_segment old.words id (copied (segment old.words id) at (Struct us (kept_each b children.children)))
 struct_put {b} {us} {r} {used} {old} {mid} {last} {new} {id} {at} {head} {x} begun some children word writes =

@@ -1,5 +1,5 @@
 -- Children in place behind the words of their pointers' segment: one child more.
-use Rattle.std.proofs.Common.{◌≡◌, ℕ, ◌+◌, ◌<◌, ◌≤◌, ◌^◌, Bool, length, ap, ◌∙◌, arith}
+use Rattle.std.proofs.Common.{◌≡◌, ℕ, ◌+◌, ◌<◌, ◌≤◌, ◌^◌, length, ap, ◌∙◌, arith}
 use Rattle.capnp_words.specs.Meter.{Meter}
 use Rattle.capnp_format.specs.Segments.{segment, IsPlace}
 use Rattle.capnp_format.specs.Tree.{Tree, Trees}
@@ -8,6 +8,7 @@ use Rattle.capnp_format.proofs.Children.{with_last}
 use Rattle.capnp_arena.specs.View.{View}
 use Rattle.capnp_making.specs.Memory.{KeepsMemory}
 use Rattle.capnp_objects.specs.Reading.{Reading, behind}
+use Rattle.capnp_objects.specs.Wanted.{Form}
 use Rattle.capnp_copies.specs.Changes.{change, StandWhereTheyFit, CopiesValue, CopiesChildren}
 use Rattle.capnp_copies.specs.Forms.{kept, kept_each}
 use Rattle.capnp_copies.specs.Copies.{IsCopied, AreCopied}
@@ -21,7 +22,7 @@ use Rattle.capnp_copies.proofs.StayingNear.{stay_first, stay_later}
 pub room_kept : (old new : View) (s p : ℕ) → IsPlace old.words s p → KeepsMemory old new → new.room s ≡ old.room s
 room_kept old new s p place memory = memory.1 s (there old.words s p place)
 
-pub child_tight : {r : Reading} {s p i : ℕ} {old mid new : View} {m m' m'' : Meter} (b : Bool) → IsPlace old.words s (p + i) → length (segment mid.words s) < 2 ^ 29 → length old.words ≤ length mid.words → length mid.words ≤ length new.words → (first : CopiesChildren r i (change b s p old mid m m')) →
+pub child_tight : {r : Reading} {s p i : ℕ} {old mid new : View} {m m' m'' : Meter} (b : Form) → IsPlace old.words s (p + i) → length (segment mid.words s) < 2 ^ 29 → length old.words ≤ length mid.words → length mid.words ≤ length new.words → (first : CopiesChildren r i (change b s p old mid m m')) →
     (next : CopiesValue (behind r i) (change b s (p + i) mid new m' m'')) → StandWhereTheyFit (change b s p old new m m'') (with_last first.children next.value)
 child_tight {r} {s} {p} {i} {old} {mid} {new} {m} {m'} {m''} b place few grows more first next fits =
     let ts : Trees = first.children in

@@ -1,5 +1,5 @@
 -- Elements in place over the last words of a segment: none yet, one element more, and elements of no width.
-use Rattle.std.proofs.Common.{◌≡◌, ℕ, ◌+◌, ◌-◌, ◌*◌, ◌<◌, ◌≤◌, Bool, List, length, take, refl, sym, ap, ◌∙◌, subst, arith}
+use Rattle.std.proofs.Common.{◌≡◌, ℕ, ◌+◌, ◌-◌, ◌*◌, ◌<◌, ◌≤◌, List, length, take, refl, sym, ap, ◌∙◌, subst, arith}
 use Rattle.std.proofs.lemmas.List.{take_all}
 use Rattle.capnp_words.specs.Meter.{Meter}
 use Rattle.capnp_format.specs.Segments.{segment, IsPlace}
@@ -8,6 +8,7 @@ use Rattle.capnp_format.specs.Canonical.{cut_to, word_count_all, word_count_elem
 use Rattle.capnp_arena.specs.View.{View}
 use Rattle.capnp_arena.specs.Written.{with_segment, with_words, overwritten}
 use Rattle.capnp_objects.specs.Reading.{Reading, behind, words_from}
+use Rattle.capnp_objects.specs.Wanted.{Form}
 use Rattle.capnp_objects.proofs.Copies.{with_last_element}
 use Rattle.capnp_copies.specs.Changes.{change, Fits, EndsInZeros, CopiesChildren, CopiesElement, CopiesRows}
 use Rattle.capnp_copies.specs.Forms.{kept_each, kept_elements}
@@ -30,7 +31,7 @@ pub record IsPut (r : Reading) (sizes : ElementSizes) (old mid : View) (s p : �
   pub room : p + sizes.kept.data_words ≤ length (segment old.words s)
   pub writes : mid ≡ record old { words = with_words old.words s p (words_from r sizes.kept.data_words) }
 
-pub element_tight : {r : Reading} {sizes : ElementSizes} {s p : ℕ} {old mid new : View} {m m' : Meter} (b : Bool) → IsPut r sizes old mid s p → (children : CopiesChildren (behind r sizes.source.data_words) sizes.kept.pointers (change b s (p + sizes.kept.data_words) mid new m m')) →
+pub element_tight : {r : Reading} {sizes : ElementSizes} {s p : ℕ} {old mid new : View} {m m' : Meter} (b : Form) → IsPut r sizes old mid s p → (children : CopiesChildren (behind r sizes.source.data_words) sizes.kept.pointers (change b s (p + sizes.kept.data_words) mid new m m')) →
     IsPlace old.words s p → Fits (change b s p old new m m') (word_count_all (kept_each b children.children)) →
     new.words ≡ with_segment old.words s (with_children (overwritten (segment old.words s) p (words_from r sizes.kept.data_words)) (p + sizes.kept.data_words) (kept_each b children.children))
 element_tight {r} {sizes} {s} {p} {old} {mid} {new} {m} {m'} b put children place fits =
@@ -44,14 +45,14 @@ element_tight {r} {sizes} {s} {p} {old} {mid} {new} {m} {m'} b put children plac
 
 -- elements, one after the other
 
-pub no_row_tight : (b : Bool) (sizes : ElementSizes) (s p n : ℕ) (v : View) (m : Meter) → EndsInZeros (change b s p v v m m) ((0 + n) * (sizes.kept.data_words + sizes.kept.pointers)) →
+pub no_row_tight : (b : Form) (sizes : ElementSizes) (s p n : ℕ) (v : View) (m : Meter) → EndsInZeros (change b s p v v m m) ((0 + n) * (sizes.kept.data_words + sizes.kept.pointers)) →
     v.words ≡ with_segment v.words s (rows_laid (take p (segment v.words s)) sizes.kept.data_words sizes.kept.pointers no_elements n)
 no_row_tight b sizes s p n v m last =
     let none : 0 + n ≡ n = omega arith in
     not_written v.words s
     ∙ ap (with_segment v.words s) (rows_begun (segment v.words s) p n sizes.kept (subst (λ k. p + k * (sizes.kept.data_words + sizes.kept.pointers) ≡ length (segment v.words s)) none last.ends) last.zero)
 
-pub no_width_tight : (b : Bool) (sizes : ElementSizes) (s p n : ℕ) (v : View) (m : Meter) (es : Elements) → sizes.kept.data_words + sizes.kept.pointers ≡ 0 → EndsInZeros (change b s p v v m m) ((n + 0) * (sizes.kept.data_words + sizes.kept.pointers)) →
+pub no_width_tight : (b : Form) (sizes : ElementSizes) (s p n : ℕ) (v : View) (m : Meter) (es : Elements) → sizes.kept.data_words + sizes.kept.pointers ≡ 0 → EndsInZeros (change b s p v v m m) ((n + 0) * (sizes.kept.data_words + sizes.kept.pointers)) →
     v.words ≡ with_segment v.words s (rows_laid (take p (segment v.words s)) sizes.kept.data_words sizes.kept.pointers (cut_kept b sizes es) 0)
 no_width_tight b sizes s p n v m es none last =
     let W : List ℕ = segment v.words s in
@@ -59,7 +60,7 @@ no_width_tight b sizes s p n v m es none last =
     let end : length W ≤ p = omega (arith, last.ends, nothing) in
     not_written v.words s ∙ ap (with_segment v.words s) (sym (blank_rows sizes.kept.data_words sizes.kept.pointers (take p W) (kept_elements b es) none ∙ take_all p W end))
 
-pub row_tight : {r : Reading} {sizes : ElementSizes} {n i s p : ℕ} {old mid new : View} {m m' m'' : Meter} (b : Bool) → IsPlace old.words s p → length old.words ≤ length mid.words → length mid.words ≤ length new.words → SourceKept b r sizes n → 0 < sizes.kept.data_words + sizes.kept.pointers → i < n → (first : CopiesRows r sizes i (n - i) (change b s p old mid m m')) →
+pub row_tight : {r : Reading} {sizes : ElementSizes} {n i s p : ℕ} {old mid new : View} {m m' m'' : Meter} (b : Form) → IsPlace old.words s p → length old.words ≤ length mid.words → length mid.words ≤ length new.words → SourceKept b r sizes n → 0 < sizes.kept.data_words + sizes.kept.pointers → i < n → (first : CopiesRows r sizes i (n - i) (change b s p old mid m m')) →
     (next : CopiesElement (behind r (i * (sizes.source.data_words + sizes.source.pointers))) sizes (change b s (p + i * (sizes.kept.data_words + sizes.kept.pointers)) mid new m' m'')) → (all : Elements) →
     cut_to sizes.kept.data_words sizes.kept.pointers (kept_elements b all)
     ≡ with_last_element (cut_to sizes.kept.data_words sizes.kept.pointers (kept_elements b first.elements)) (words_from (behind r (i * (sizes.source.data_words + sizes.source.pointers))) sizes.kept.data_words) (kept_each b next.children) →
@@ -85,7 +86,7 @@ row_tight {r} {sizes} {n} {i} {s} {p} {old} {mid} {new} {m} {m'} {m''} b place g
     record { children = next.children; counts = next.counts; are_read = next.are_read; made = next.stands (omega (arith, x.room, wide)) (stay_later old mid new s s (word_count_elements (cut_kept b sizes all)) (word_count_all ts) (λ f. omega (arith, f, words, x.long, room)) fits) } in
     row_put here one ∙ ap (λ y. with_segment old.words s (rows_laid (take p (segment old.words s)) sizes.kept.data_words sizes.kept.pointers y (n - (i + 1)))) (sym shape)
 
-pub all_rows : {r : Reading} {sizes : ElementSizes} {i n s p : ℕ} {b : Bool} {old new : View} {m m' : Meter} → n ≤ i → i ≤ n → CopiesRows r sizes i (n - i) (change b s p old new m m') → CopiesRows r sizes n 0 (change b s p old new m m')
+pub all_rows : {r : Reading} {sizes : ElementSizes} {i n s p : ℕ} {b : Form} {old new : View} {m m' : Meter} → n ≤ i → i ≤ n → CopiesRows r sizes i (n - i) (change b s p old new m m') → CopiesRows r sizes n 0 (change b s p old new m m')
 all_rows {r} {sizes} {i} {n} {s} {p} {b} {old} {new} {m} {m'} le ge rows =
     let same : i ≡ n = omega (arith, le, ge) in
     let none : n - i ≡ 0 = omega (arith, le) in

@@ -1,5 +1,5 @@
 -- Objects in place behind the words of their pointers' segment: structs, lists of pointers and of structs.
-use Rattle.std.proofs.Common.{◌≡◌, inl, ℕ, zero, suc, ◌+◌, ◌*◌, ◌<◌, ◌≤◌, ◌-◌, ◌^◌, Bool, List, [], ◌∷◌, ◌++◌, length, get_or, set, take, drop, replicate, refl, sym, ap, ap₂, ◌∙◌, subst, arith, append-nil, length-append, length-take}
+use Rattle.std.proofs.Common.{◌≡◌, inl, ℕ, zero, suc, ◌+◌, ◌*◌, ◌<◌, ◌≤◌, ◌-◌, ◌^◌, List, [], ◌∷◌, ◌++◌, length, get_or, set, take, drop, replicate, refl, sym, ap, ap₂, ◌∙◌, subst, arith, append-nil, length-append, length-take}
 use Rattle.std.proofs.lemmas.List.{length-replicate, get_or-append_right, nil_from_length}
 use Rattle.capnp_words.specs.Meter.{Meter}
 use Rattle.capnp_pointers.specs.declared.wire_pointer.StructSize.{StructSize}
@@ -13,6 +13,7 @@ use Rattle.capnp_making.specs.Memory.{KeepsMemory, StandsBehind, TakesWords as T
 use Rattle.capnp_making.specs.Near.{HasOwnRoom, HasStructRoom, HasStructsRoom, StartsBehind, offset_behind, with_struct, with_list, with_struct_list}
 use Rattle.capnp_making.specs.declared.making.Start.{Start}
 use Rattle.capnp_objects.specs.Reading.{Reading, row}
+use Rattle.capnp_objects.specs.Wanted.{Form}
 use Rattle.capnp_copies.specs.Changes.{KeepsWidths, change, StayInSegment, StandsWhereItFits, EndsInZeros, CopiesChildren, CopiesElements}
 use Rattle.capnp_copies.specs.Forms.{kept, kept_each}
 use Rattle.capnp_copies.specs.Copied.{copied, with_children, rows_laid}
@@ -92,7 +93,7 @@ module _ {us : List ℕ} {least : StructSize} {s p : ℕ} {old made mid : View} 
       let put : mid.words ≡ with_words made.words s (length (segment P s)) us = ap (λ (v : View). v.words) o.writes ∙ ap₂ (λ i j. with_words made.words i j us) at_end.0 start in
       begun P s least.pointers us (there P s p place, taken) put
 
-  near_stands : {r : Reading} {new : View} {m m' : Meter} (b : Bool) → HasStructRoom old s least → (children : ChildrenCopied r least.pointers (call_of b mid new s m m') (length (segment P s) + least.data_words)) →
+  near_stands : {r : Reading} {new : View} {m m' : Meter} (b : Form) → HasStructRoom old s least → (children : ChildrenCopied r least.pointers (call_of b mid new s m m') (length (segment P s) + least.data_words)) →
       new.words ≡ with_segment S s (copied W p (Struct us (kept_each b children.children)))
   near_stands {r} {new} {m} {m'} b fits children =
       let H : ℕ = length (segment P s) in
@@ -117,7 +118,7 @@ module _ {us : List ℕ} {least : StructSize} {s p : ℕ} {old made mid : View} 
       stays S s p x (H + least.data_words) ws (pointers k ts) (drop (H + least.data_words + count ts) V) (bodies ts) o.place (omega (arith, same_long, o.place)) (omega (arith, width, o.long)) children_there in
       pointer_first S s p (Struct us ts) o.place is all
 
-  empty_stands : {r : Reading} {new : View} {m m' : Meter} (b : Bool) → least.data_words + least.pointers ≡ 0 → (children : CopiesChildren r least.pointers (change b h.segment (h.at + least.data_words) mid new m m')) →
+  empty_stands : {r : Reading} {new : View} {m m' : Meter} (b : Form) → least.data_words + least.pointers ≡ 0 → (children : CopiesChildren r least.pointers (change b h.segment (h.at + least.data_words) mid new m m')) →
       new.words ≡ with_segment S s (copied W p (Struct us (kept_each b children.children)))
   empty_stands {r} {new} b none children =
       let ts : Trees = children.children in
@@ -134,7 +135,7 @@ module _ {us : List ℕ} {least : StructSize} {s p : ℕ} {old made mid : View} 
       kept_mid ∙ kept_made ∙ o.empty none ∙ ap (λ ws. with_segment S s (set ws p e)) (sym (append-nil W))
       ∙ ap₂ (λ (xs : List ℕ) t. with_segment S s (copied W p (Struct xs t))) (sym no_words) (sym (ap (kept_each b) no_kids ∙ kept_none b))
 
-  pub struct_tight : {r : Reading} {new : View} {m m' : Meter} (b : Bool) → length made.words ≤ length new.words → (children : CopiesChildren r least.pointers (change b h.segment (h.at + least.data_words) mid new m m')) → (t : Tree) →
+  pub struct_tight : {r : Reading} {new : View} {m m' : Meter} (b : Form) → length made.words ≤ length new.words → (children : CopiesChildren r least.pointers (change b h.segment (h.at + least.data_words) mid new m m')) → (t : Tree) →
       kept b t ≡ Struct us (kept_each b children.children) → StandsWhereItFits (change b s p old new m m') t
   struct_tight {r} {new} {m} {m'} b longer children t form fits =
       cases_of (least.data_words + least.pointers) refl ∙ ap (λ y. with_segment S s (copied W p y)) (sym form)
@@ -164,7 +165,7 @@ pub record PointersMade (i s p : ℕ) (old mid : View) (h : Start) : Type 0 wher
   pub near : HasOwnRoom old s i → mid.words ≡ with_list old.words s p 6 i
   pub at_end : HasOwnRoom old s i → StartsBehind old.words s h
 
-pub pointers_tight : {r : Reading} {i s p : ℕ} {old mid new : View} {h : Start} {m m' : Meter} (b : Bool) → length mid.words ≤ length new.words → PointersMade i s p old mid h → (children : CopiesChildren r i (change b h.segment h.at mid new m m')) → StandsWhereItFits (change b s p old new m m') (Pointers children.children)
+pub pointers_tight : {r : Reading} {i s p : ℕ} {old mid new : View} {h : Start} {m m' : Meter} (b : Form) → length mid.words ≤ length new.words → PointersMade i s p old mid h → (children : CopiesChildren r i (change b h.segment h.at mid new m m')) → StandsWhereItFits (change b s p old new m m') (Pointers children.children)
 pointers_tight {r} {i} {s} {p} {old} {mid} {new} {h} {m} {m'} b longer o children fits =
     let S : Segments = old.words in
     let x : ℕ = list_word (offset_behind S s p) 6 i in
@@ -208,7 +209,7 @@ pub record StructsMade (i s p : ℕ) (least : StructSize) (old mid : View) (h : 
   pub near : HasStructsRoom old s i least → mid.words ≡ with_struct_list old.words s p i least
 
 -- the words of its elements are the last of the segment
-pub ends_in_zeros : {i s p : ℕ} {least : StructSize} {old mid new : View} {h : Start} {m m' : Meter} (b : Bool) → StructsMade i s p least old mid h → HasStructsRoom old s i least → EndsInZeros (change b h.segment (h.at + 1) mid new m m') (i * (least.data_words + least.pointers))
+pub ends_in_zeros : {i s p : ℕ} {least : StructSize} {old mid new : View} {h : Start} {m m' : Meter} (b : Form) → StructsMade i s p least old mid h → HasStructsRoom old s i least → EndsInZeros (change b h.segment (h.at + 1) mid new m m') (i * (least.data_words + least.pointers))
 ends_in_zeros {i} {s} {p} {least} {old} {mid} {new} {h} {m} {m'} b o room =
     let S : Segments = old.words in
     let d : ℕ = least.data_words in
@@ -233,7 +234,7 @@ ends_in_zeros {i} {s} {p} {least} {old} {mid} {new} {h} {m} {m'} b o room =
     ap (λ xs. get_or xs j 0) (here ∙ shape) ∙ get_or-append_right (segment P s) ws H j 0 refl (omega (arith, less)) ∙ ap (λ k. get_or ws k 0) next ∙ get_or-zeros (i * w) (j - (H + 1))) in
     record { ends = omega (arith, first, width, ap length here); zero = zero }
 
-pub structs_tight : {r : Reading} {sizes : ElementSizes} {i s p : ℕ} {old mid new : View} {h : Start} {m m' : Meter} (b : Bool) → length mid.words ≤ length new.words → r.at + i * (sizes.source.data_words + sizes.source.pointers) ≤ length (row r) → KeepsWidths b r sizes.source i sizes.kept → StructsMade i s p sizes.kept old mid h →
+pub structs_tight : {r : Reading} {sizes : ElementSizes} {i s p : ℕ} {old mid new : View} {h : Start} {m m' : Meter} (b : Form) → length mid.words ≤ length new.words → r.at + i * (sizes.source.data_words + sizes.source.pointers) ≤ length (row r) → KeepsWidths b r sizes.source i sizes.kept → StructsMade i s p sizes.kept old mid h →
     (elements : CopiesElements r sizes i (change b h.segment (h.at + 1) mid new m m')) → StandsWhereItFits (change b s p old new m m') (Structs sizes.source.data_words sizes.source.pointers elements.elements)
 structs_tight {r} {sizes} {i} {s} {p} {old} {mid} {new} {h} {m} {m'} b longer inside widths o elements fits =
     let S : Segments = old.words in

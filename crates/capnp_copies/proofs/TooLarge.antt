@@ -1,6 +1,6 @@
 -- Where a part of a copy is too large for the segment that it goes to, or the arena has no room for an object of it,
 -- the whole is too large for the segment of its pointer.
-use Rattle.std.proofs.Common.{◌≡◌, inl, ℕ, pred, ◌+◌, ◌-◌, ◌*◌, ◌<◌, ◌≤◌, Bool, List, length, refl, ap, subst, sym, ◌∙◌, arith}
+use Rattle.std.proofs.Common.{◌≡◌, inl, ℕ, pred, ◌+◌, ◌-◌, ◌*◌, ◌<◌, ◌≤◌, List, length, refl, ap, subst, sym, ◌∙◌, arith}
 use Rattle.capnp_words.specs.Meter.{Meter}
 use Rattle.capnp_pointers.specs.declared.wire_pointer.StructSize.{StructSize}
 use Rattle.capnp_format.specs.Segments.{segment, IsPlace}
@@ -37,7 +37,7 @@ use Rattle.capnp_copies.proofs.RoomLemmas.{next_words}
 use Rattle.capnp_copies.proofs.TightChildren.{room_kept}
 
 -- a child
-pub child_too_large : {r : Reading} {s p i n : ℕ} {old mid : View} {m m' : Meter} (b : Bool) → IsPlace old.words s (p + i) → i < n → (first : CopiesChildren r i (change b s p old mid m m')) →
+pub child_too_large : {r : Reading} {s p i n : ℕ} {old mid : View} {m m' : Meter} (b : Form) → IsPlace old.words s (p + i) → i < n → (first : CopiesChildren r i (change b s p old mid m m')) →
     IsTooLarge b (behind r i) (length (segment mid.words s)) (mid.room s) → AreTooLarge b r n (length (segment old.words s)) (old.room s)
 child_too_large {r} {s} {p} {i} {n} {old} {mid} {m} {m'} b place less first large = λ us c len all.
     (let ts : Trees = first.children in
@@ -52,7 +52,7 @@ child_too_large {r} {s} {p} {i} {n} {old} {mid} {m} {m'} b place less first larg
     omega (arith, no))
 
 -- an element
-pub row_too_large : {r : Reading} {sizes : ElementSizes} {i n s p : ℕ} {old mid new : View} {m m' m'' : Meter} (b : Bool) → SourceKept b r sizes n → 0 < sizes.kept.data_words + sizes.kept.pointers → i < n →
+pub row_too_large : {r : Reading} {sizes : ElementSizes} {i n s p : ℕ} {old mid new : View} {m m' m'' : Meter} (b : Form) → SourceKept b r sizes n → 0 < sizes.kept.data_words + sizes.kept.pointers → i < n →
     (first : CopiesRows r sizes i (n - i) (change b s p old mid m m')) → AreTooLarge b (pointers_of r sizes.source i) sizes.kept.pointers (length (segment mid.words s)) (mid.room s) →
     EndsInZeros (change b s p old new m m'') (n * (sizes.kept.data_words + sizes.kept.pointers)) → AreTooLargeElements b r sizes n (length (segment old.words s)) (old.room s)
 row_too_large {r} {sizes} {i} {n} {s} {p} {old} {mid} {new} {m} {m'} {m''} b fit wide more first large last = λ us c len all.
@@ -84,7 +84,7 @@ pub record ObjectMade (s p n : ℕ) (old made : View) (h : Start) : Type 0 where
   pub taken : TakesWords old made s n
   pub behind : StandsBehind old s n h
 
-pub sections_too_large : {s p used room all : ℕ} {old made : View} {h : Start} (b : Bool) (least : StructSize) (ts : Trees) → ObjectMade s p (least.data_words + least.pointers) old made h → used ≡ length (segment made.words h.segment) → room ≡ made.room h.segment → used ≤ room → count ts ≡ least.pointers →
+pub sections_too_large : {s p used room all : ℕ} {old made : View} {h : Start} (b : Form) (least : StructSize) (ts : Trees) → ObjectMade s p (least.data_words + least.pointers) old made h → used ≡ length (segment made.words h.segment) → room ≡ made.room h.segment → used ≤ room → count ts ≡ least.pointers →
     room < used + word_count_all (kept_each b ts) → all ≡ least.data_words + least.pointers + word_count_all (kept_each b ts) → old.room s < length (segment old.words s) + all
 sections_too_large {s} {p} {used} {room} {all} {old} {made} {h} b least ts o long same within counts beyond words =
     let w : ℕ = least.data_words + least.pointers in
@@ -105,7 +105,7 @@ sections_too_large {s} {p} {used} {room} {all} {old} {made} {h} b least ts o lon
     no_words no_trees f = ap word_count_all (kept_none b)
     no_words (tree t ts) f = absurd (omega (arith, f))
 
-pub struct_too_large : (r : Reading) (size least : StructSize) {s p used room : ℕ} {old made : View} {h : Start} (b : Bool) → ObjectMade s p (least.data_words + least.pointers) old made h → r.at + (size.data_words + size.pointers) ≤ length (row r) → KeepsSections b r size least →
+pub struct_too_large : (r : Reading) (size least : StructSize) {s p used room : ℕ} {old made : View} {h : Start} (b : Form) → ObjectMade s p (least.data_words + least.pointers) old made h → r.at + (size.data_words + size.pointers) ≤ length (row r) → KeepsSections b r size least →
     used ≡ length (segment made.words h.segment) → room ≡ made.room h.segment → used ≤ room → AreTooLarge b (behind r size.data_words) least.pointers used room → IsTooLargeStruct b r size (length (segment old.words s)) (old.room s)
 struct_too_large r size least b o in_row sections long same within large = λ us c len all.
     (let k = sections_meant b us c (sections_cut b r size least in_row sections) len all in
@@ -113,10 +113,10 @@ struct_too_large r size least b o in_row sections long same within large = λ us
 
 -- the children of a list of pointers
 
-pointers_words : (b : Bool) (i : ℕ) (us : Trees) → count us ≡ i → word_count (kept b (Pointers us)) ≡ i + word_count_all (kept_each b us)
+pointers_words : (b : Form) (i : ℕ) (us : Trees) → count us ≡ i → word_count (kept b (Pointers us)) ≡ i + word_count_all (kept_each b us)
 pointers_words b i us len = ap word_count (kept_pointers b us) ∙ ap (λ j. j + word_count_all (kept_each b us)) (kept_each-count b us ∙ len)
 
-pub pointers_too_large : (b : Bool) (r : Reading) {i s p : ℕ} {old made : View} {h : Start} → ObjectMade s p i old made h → (HasOwnRoom old s i → StartsBehind old.words s h) → AreTooLarge b r i (length (segment made.words h.segment)) (made.room h.segment) →
+pub pointers_too_large : (b : Form) (r : Reading) {i s p : ℕ} {old made : View} {h : Start} → ObjectMade s p i old made h → (HasOwnRoom old s i → StartsBehind old.words s h) → AreTooLarge b r i (length (segment made.words h.segment)) (made.room h.segment) →
     IsTooLargePointers b r i (length (segment old.words s)) (old.room s)
 pointers_too_large b r {i} {s} {p} {old} {made} {h} o at_end large = λ us c len all.
     (let beyond = large us c len all in
@@ -131,7 +131,7 @@ pointers_too_large b r {i} {s} {p} {old} {made} {h} o at_end large = λ us c len
 
 -- the elements of a list of structs
 pub structs_too_large : (r : Reading) (sizes : ElementSizes) {i s p : ℕ} {old made : View} {h : Start} → ObjectMade s p (1 + i * (sizes.kept.data_words + sizes.kept.pointers)) old made h → r.at + i * (sizes.source.data_words + sizes.source.pointers) ≤ length (row r) →
-    (b : Bool) → KeepsWidths b r sizes.source i sizes.kept → (HasOwnRoom old s (1 + i * (sizes.kept.data_words + sizes.kept.pointers)) → AreTooLargeElements b r sizes i (length (segment made.words h.segment)) (made.room h.segment)) →
+    (b : Form) → KeepsWidths b r sizes.source i sizes.kept → (HasOwnRoom old s (1 + i * (sizes.kept.data_words + sizes.kept.pointers)) → AreTooLargeElements b r sizes i (length (segment made.words h.segment)) (made.room h.segment)) →
     IsTooLargeList b r sizes.source i (length (segment old.words s)) (old.room s)
 structs_too_large r sizes {i} {s} {p} {old} {made} {h} o in_row b widths large = λ es c len all.
     (let words = words_of_kept_list b r sizes.source sizes.kept i es c in_row widths len all in
@@ -146,22 +146,22 @@ structs_too_large r sizes {i} {s} {p} {old} {made} {h} o in_row b widths large =
 
 -- where the arena has no room for the object itself
 
-pub no_sections_room : {ws : List ℕ} {r : Reading} {q : ℕ} {least : StructSize} (s : ℕ) (old : View) (b : Bool) → SectionsCut b ws r q least → (HasRoom old s (least.data_words + least.pointers) → ⊥) → (us : Trees) (c : ℕ) → count us ≡ q → MeanThere r us c →
+pub no_sections_room : {ws : List ℕ} {r : Reading} {q : ℕ} {least : StructSize} (s : ℕ) (old : View) (b : Form) → SectionsCut b ws r q least → (HasRoom old s (least.data_words + least.pointers) → ⊥) → (us : Trees) (c : ℕ) → count us ≡ q → MeanThere r us c →
     old.room s < length (segment old.words s) + word_count (kept b (Struct ws us))
 no_sections_room {least = least} s old b cut full us c len all =
     let none : (HasOwnRoom old s (least.data_words + least.pointers)) → ⊥ = λ room. full (inl room) in
     omega (arith, none, (sections_meant b us c cut len all).words)
 
-pub no_struct_room : (r : Reading) (size least : StructSize) (s : ℕ) (old : View) (b : Bool) → r.at + (size.data_words + size.pointers) ≤ length (row r) → KeepsSections b r size least → (HasRoom old s (least.data_words + least.pointers) → ⊥) →
+pub no_struct_room : (r : Reading) (size least : StructSize) (s : ℕ) (old : View) (b : Form) → r.at + (size.data_words + size.pointers) ≤ length (row r) → KeepsSections b r size least → (HasRoom old s (least.data_words + least.pointers) → ⊥) →
     IsTooLargeStruct b r size (length (segment old.words s)) (old.room s)
 no_struct_room r size least s old b in_row sections full = λ us c len all. no_sections_room s old b (sections_cut b r size least in_row sections) full us c len all
 
-pub no_pointers_room : (b : Bool) (r : Reading) (i s : ℕ) (old : View) → (HasRoom old s i → ⊥) → IsTooLargePointers b r i (length (segment old.words s)) (old.room s)
+pub no_pointers_room : (b : Form) (r : Reading) (i s : ℕ) (old : View) → (HasRoom old s i → ⊥) → IsTooLargePointers b r i (length (segment old.words s)) (old.room s)
 no_pointers_room b r i s old full = λ us c len all.
     (let none : (HasOwnRoom old s i) → ⊥ = λ room. full (inl room) in
     omega (arith, none, pointers_words b i us len))
 
-pub no_structs_room : (r : Reading) (size least : StructSize) (i s : ℕ) (old : View) (b : Bool) → r.at + i * (size.data_words + size.pointers) ≤ length (row r) → KeepsWidths b r size i least → (HasRoom old s (1 + i * (least.data_words + least.pointers)) → ⊥) →
+pub no_structs_room : (r : Reading) (size least : StructSize) (i s : ℕ) (old : View) (b : Form) → r.at + i * (size.data_words + size.pointers) ≤ length (row r) → KeepsWidths b r size i least → (HasRoom old s (1 + i * (least.data_words + least.pointers)) → ⊥) →
     IsTooLargeList b r size i (length (segment old.words s)) (old.room s)
 no_structs_room r size least i s old b in_row widths full = λ es c len all.
     (let none : (HasOwnRoom old s (1 + i * (least.data_words + least.pointers))) → ⊥ = λ room. full (inl room) in
@@ -169,7 +169,7 @@ no_structs_room r size least i s old b in_row widths full = λ es c len all.
 
 -- what a place means is known by its object
 
-pub struct_value_too_large : {r : Reading} {levels : ℕ} (b : Bool) (used room : ℕ) {m m' : Meter} {size : StructSize} (start : Place) → (0 < r.levels → levels ≡ pred r.levels) → IsObject r m m' (ObjectStruct start size) →
+pub struct_value_too_large : {r : Reading} {levels : ℕ} (b : Form) (used room : ℕ) {m m' : Meter} {size : StructSize} (start : Place) → (0 < r.levels → levels ≡ pred r.levels) → IsObject r m m' (ObjectStruct start size) →
     IsTooLargeStruct b (inside r levels start) size used room → IsTooLarge b r used room
 struct_value_too_large {r} {levels} b used room {size = size} start less (a, o, z, (held, es, eb), ed, eq) large = λ t c h.
     (let en = less o.meets.levels in
@@ -178,7 +178,7 @@ struct_value_too_large {r} {levels} b used room {size = size} start less (a, o, 
     let x = means_struct r t a (c, h) o.leads_to z in
     rw (x.4) (l x.0 x.1 x.2 x.3))
 
-pub pointers_value_too_large : {r : Reading} {levels i : ℕ} (b : Bool) (used room : ℕ) {m m' : Meter} (start : Place) → (0 < r.levels → levels ≡ pred r.levels) → IsObject r m m' (ObjectPointers start i) →
+pub pointers_value_too_large : {r : Reading} {levels i : ℕ} (b : Form) (used room : ℕ) {m m' : Meter} (start : Place) → (0 < r.levels → levels ≡ pred r.levels) → IsObject r m m' (ObjectPointers start i) →
     IsTooLargePointers b (inside r levels start) i used room → IsTooLarge b r used room
 pointers_value_too_large {r} {levels} {i} b used room start less (a, o, z, six, (held, es, eb), ei) large = λ t c h.
     (let en = less o.meets.levels in
@@ -187,7 +187,7 @@ pointers_value_too_large {r} {levels} {i} b used room start less (a, o, z, six, 
     let x = means_pointers r t a (c, h) o.leads_to (z, six) in
     rw (x.4) (l x.0 x.1 x.2 x.3))
 
-pub structs_value_too_large : {r : Reading} {levels i : ℕ} (b : Bool) (used room : ℕ) {m m' : Meter} {size : StructSize} (start : Place) → (0 < r.levels → levels ≡ pred r.levels) → IsObject r m m' (ObjectStructs start size i) →
+pub structs_value_too_large : {r : Reading} {levels i : ℕ} (b : Form) (used room : ℕ) {m m' : Meter} {size : StructSize} (start : Place) → (0 < r.levels → levels ≡ pred r.levels) → IsObject r m m' (ObjectStructs start size i) →
     IsTooLargeList b (inside r levels start) size i used room → IsTooLarge b r used room
 structs_value_too_large {r} {levels} {i} b used room {size = size} start less (a, o, z, seven, (held, eu, eb), ei, ed, eq) large = λ t c h.
     (let en = less o.meets.levels in
@@ -197,7 +197,7 @@ structs_value_too_large {r} {levels} {i} b used room {size = size} start less (a
     rw (x.4) (l x.0 x.1 x.2 x.3))
 
 -- a list of numbers, of which so many words find no room
-pub flat_too_large : {r : Reading} {m m' : Meter} {form : Form} {u : Tree} (b : Bool) (used room : ℕ) → Reads form r m m' u → (used + word_count (kept b u) ≤ room → ⊥) → IsTooLarge b r used room
+pub flat_too_large : {r : Reading} {m m' : Meter} {form : Form} {u : Tree} (b : Form) (used room : ℕ) → Reads form r m m' u → (used + word_count (kept b u) ≤ room → ⊥) → IsTooLarge b r used room
 flat_too_large {r} {u = u} b used room one none = λ t c h.
     (let is = ap (λ x. word_count (kept b x)) (one_value r.segments r.levels r.levels r.segment r.at t u c one.cost h one.means).0 in
     omega (arith, is, none))

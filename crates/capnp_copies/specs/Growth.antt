@@ -16,7 +16,6 @@ use Rattle.capnp_readers.specs.declared.readers.list_reader.ListReader.{ListRead
 use Rattle.capnp_readers.specs.declared.readers.struct_reader.StructReader.{StructReader}
 use Rattle.capnp_copies.specs.Changes.{Change}
 use Rattle.capnp_copies.specs.Costs.{cost_until, cost_among, cost_among_elements}
-use Rattle.capnp_copies.specs.Forms.{form_of}
 use Rattle.capnp_copies.specs.ListValues.{ListElements, elements_read}
 use Rattle.capnp_copies.specs.declared.widths.ElementSizes.{ElementSizes}
 
@@ -32,12 +31,12 @@ Gains c n = message_words c.new.words ≤ message_words c.old.words + n
 -- followed.
 pub record TakesForValue (r : Reading) (c : Change) : Type 0 where
   pub value : Tree
-  pub is_read : Reads (form_of c.canonicalize) r c.before c.after value
+  pub is_read : Reads c.form r c.before c.after value
   pub words : Gains c (is_read.cost + pointers_in value)
 
 -- Where reading is broken off: at most as many as it cost for what was read before the object where it stops.
 pub record TakesUntilStop (r : Reading) (c : Change) : Type 0 where
-  pub off : BreaksOff (form_of c.canonicalize) r c.before c.after
+  pub off : BreaksOff c.form r c.before c.after
   pub words : Gains c (cost_until off)
 
 abbrev pub TakesAtMost : {A E : Type 0} → Result A E → Reading → Change → Type 0
@@ -47,11 +46,11 @@ TakesAtMost result r c = MatchResult result (λ _. TakesForValue r c) (λ _. Tak
 pub record TakesForAll (r : Reading) (i n : ℕ) (c : Change) : Type 0 where
   pub children : Trees
   pub counts : count children ≡ i
-  pub are_read : ReadsAll (form_of c.canonicalize) r c.before c.after children
+  pub are_read : ReadsAll c.form r c.before c.after children
   pub words : Gains c (n + (are_read.cost + pointers_in_all children))
 
 pub record TakesAmong (r : Reading) (i n : ℕ) (c : Change) : Type 0 where
-  pub off : BreaksOffAmong (form_of c.canonicalize) r i c.before c.after
+  pub off : BreaksOffAmong c.form r i c.before c.after
   pub words : Gains c (n + cost_among off)
 
 abbrev pub TakesForPointers : {A E : Type 0} → Result A E → Reading → ℕ → Change → Type 0
@@ -65,11 +64,11 @@ TakesForElement result r sizes c = TakesForPointers result (behind r sizes.sourc
 pub record TakesForElements (r : Reading) (size : StructSize) (i n : ℕ) (c : Change) : Type 0 where
   pub elements : Elements
   pub counts : element_count elements ≡ i
-  pub are_read : ReadsElements (form_of c.canonicalize) r size c.before c.after elements
+  pub are_read : ReadsElements c.form r size c.before c.after elements
   pub words : Gains c (n + (are_read.cost + pointers_in_elements elements))
 
 pub record TakesAmongElements (r : Reading) (size : StructSize) (i n : ℕ) (c : Change) : Type 0 where
-  pub off : BreaksOffAmongElements (form_of c.canonicalize) r size i c.before c.after
+  pub off : BreaksOffAmongElements c.form r size i c.before c.after
   pub words : Gains c (n + cost_among_elements off)
 
 abbrev pub TakesForRows : {A E : Type 0} → Result A E → Reading → StructSize → ℕ → Change → Type 0

@@ -1,5 +1,5 @@
 -- The copy of a list that is read: its elements' words are at hand, and its first element is read at its place.
-use Rattle.std.specs.Prelude.{◌≡◌, ◌⊎◌, ℕ, Bool, ◌-◌, ◌*◌, ◌+◌, ◌^◌, ◌<◌, ◌≤◌}
+use Rattle.std.specs.Prelude.{◌≡◌, ◌⊎◌, ℕ, ◌-◌, ◌*◌, ◌+◌, ◌^◌, ◌<◌, ◌≤◌}
 use Rattle.capnp_words.specs.declared.error.ErrorKind.{ErrorKind}
 use Rattle.capnp_words.specs.declared.error.ErrorKind.TheVariants.{MessageTooLarge}
 use Rattle.capnp_words.specs.Meter.{Meter}
@@ -20,7 +20,7 @@ use Rattle.capnp_objects.specs.Reading.{Reading, reading_at, words_from}
 use Rattle.capnp_objects.specs.Wanted.{Form}
 use Rattle.capnp_readers.specs.declared.readers.list_reader.ListReader.{ListReader}
 use Rattle.capnp_copies.specs.Changes.{Change, KeepsWidths, WantedAmong, WantedAmongElements, PutsAtNull, Leaves, StandsWhereItFits, Exceeds}
-use Rattle.capnp_copies.specs.Forms.{form_of, kept}
+use Rattle.capnp_copies.specs.Forms.{kept}
 
 -- So many elements of a size, with these sections where they are structs, of which the first is read at a place.
 pub record ListElements : Type 0 where
@@ -60,30 +60,30 @@ BreaksOffList form list m m' =
     ⊎ ((list.size ≡ InlineComposite) × BreaksOffAmongElements form list.first list.sections list.count m m')
 
 -- So many words are made of the list itself: its elements, or its tag and theirs, cut to the sections that are kept.
-abbrev pub IsMadeOfList : Bool → ListElements → ℕ → Type 0
-IsMadeOfList canonicalize list n =
+abbrev pub IsMadeOfList : Form → ListElements → ℕ → Type 0
+IsMadeOfList form list n =
     ((size_number list.size ≤ 5) × (n ≡ words_for (size_number list.size) list.count)) ⊎ ((list.size ≡ Pointer) × (n ≡ list.count))
     ⊎ (
-    (list.size ≡ InlineComposite) × (least : StructSize) × KeepsWidths canonicalize list.first list.sections list.count least
+    (list.size ≡ InlineComposite) × (least : StructSize) × KeepsWidths form list.first list.sections list.count least
     × (n ≡ 1 + list.count * (least.data_words + least.pointers))
     )
 
 -- n words are wanted for the list itself, or for an object that its elements lead to.
 abbrev pub WantedInList : ListElements → Change → ℕ → Type 0
 WantedInList list c n =
-    ((c.after ≡ c.before) × IsMadeOfList c.canonicalize list n) ⊎ ((list.size ≡ Pointer) × WantedAmong list.first list.count c n)
+    ((c.after ≡ c.before) × IsMadeOfList c.form list n) ⊎ ((list.size ≡ Pointer) × WantedAmong list.first list.count c n)
     ⊎ ((list.size ≡ InlineComposite) × WantedAmongElements list.first list.sections list.count c n)
 
 -- Whatever is read of it, what is kept of that is too large for its segment.
 abbrev pub ListExceeds : ListElements → Change → Type 0
-ListExceeds list c = (t : Tree) (m : Meter) → ReadsList (form_of c.canonicalize) list c.before m t → Exceeds c (word_count (kept c.canonicalize t))
+ListExceeds list c = (t : Tree) (m : Meter) → ReadsList c.form list c.before m t → Exceeds c (word_count (kept c.form t))
 
 -- It can be read, has no more elements than a pointer can say, and what is kept of it fits behind the words of its pointer's
 -- segment.
 abbrev pub ListFits : ListElements → Change → Type 0
 ListFits list c =
-    FitsListPointer list.size list.count (list.sections.data_words + list.sections.pointers) × (t : Tree) × (m : Meter) × ReadsList (form_of c.canonicalize) list c.before m t
-    × HasOwnRoom c.old c.segment (word_count (kept c.canonicalize t))
+    FitsListPointer list.size list.count (list.sections.data_words + list.sections.pointers) × (t : Tree) × (m : Meter) × ReadsList c.form list c.before m t
+    × HasOwnRoom c.old c.segment (word_count (kept c.form t))
 
 -- The arena has no room for them, by the name k; then all of it is too large for its segment.
 abbrev pub LacksListRoom : ListElements → Change → ErrorKind → Type 0
@@ -91,22 +91,22 @@ LacksListRoom list c k = (n : ℕ) × RefusesWords c.old c.new n k × WantedInLi
 
 -- Why its copy is refused by the name k.
 abbrev pub RefusesElements : ListElements → Change → ErrorKind → Type 0
-RefusesElements list c k = LacksListRoom list c k ⊎ RefusedList (form_of c.canonicalize) list c.before c.after k ⊎ (IsTooLong list × (k ≡ MessageTooLarge (2 ^ 64 - 1)))
+RefusesElements list c k = LacksListRoom list c k ⊎ RefusedList c.form list c.before c.after k ⊎ (IsTooLong list × (k ≡ MessageTooLarge (2 ^ 64 - 1)))
 
 -- The list is read and copied; or it is refused by the name k.
 pub record CopiesList (list : ListElements) (c : Change) : Type 0 where
   pub value : Tree
-  pub is_read : ReadsList (form_of c.canonicalize) list c.before c.after value
-  pub made : PutsAtNull c (kept c.canonicalize value)
+  pub is_read : ReadsList c.form list c.before c.after value
+  pub made : PutsAtNull c (kept c.form value)
   pub stands : StandsWhereItFits c value
 
 -- Whatever its value is, the words of what is kept of it stand behind those of its pointer's segment, in place, where they fit there.
 abbrev pub ListStands : ListElements → Change → Type 0
-ListStands list c = (t : Tree) → ReadsList (form_of c.canonicalize) list c.before c.after t → StandsWhereItFits c t
+ListStands list c = (t : Tree) → ReadsList c.form list c.before c.after t → StandsWhereItFits c t
 
 pub record StopsAtList (list : ListElements) (c : Change) (k : ErrorKind) : Type 0 where
   pub why : RefusesElements list c k
-  pub off : (c.after ≡ c.before) ⊎ BreaksOffList (form_of c.canonicalize) list c.before c.after
+  pub off : (c.after ≡ c.before) ⊎ BreaksOffList c.form list c.before c.after
   pub left : Leaves c k
 
 module _ {A : Type 0} (g : Ghosts A) where
@@ -117,8 +117,8 @@ module _ {A : Type 0} (g : Ghosts A) where
   -- The list is read, and what of it is kept stands at the place that was null.
   abbrev pub IsListCopy : ListReader A g → Change → Type 0
   IsListCopy value c =
-      (t : Tree) × ReadsList (form_of c.canonicalize) (elements_read value) c.before c.after t
-      × IsReplaced c.old.words c.new.words c.segment c.at Null (kept c.canonicalize t)
+      (t : Tree) × ReadsList c.form (elements_read value) c.before c.after t
+      × IsReplaced c.old.words c.new.words c.segment c.at Null (kept c.form t)
 
   -- Why its copy is refused by the name k.
   abbrev pub RefusesList : ListReader A g → Change → ErrorKind → Type 0

@@ -12,7 +12,7 @@ ghost use Rattle.capnp_objects.specs.Refusals.{BreaksOff};
 ghost use Rattle.capnp_readers.specs.Readers.{reading};
 ghost use Rattle.capnp_copies.specs.Growth.{TakesAtMost};
 ghost use Rattle.capnp_copies.specs.Changes.{IsCopyOf, RefusesValue, change, StandsAsRead, CopiesValue, StopsAtValue};
-ghost use Rattle.capnp_copies.specs.Forms.{form_of};
+ghost use Rattle.capnp_copies.specs.Forms.{form_of, form_in};
 ghost use Rattle.capnp_copies.specs.Copies.{CanBeCopied};
 
 mod children;
@@ -24,6 +24,7 @@ mod lists;
 mod struct_value;
 mod structs;
 
+use crate::form::CopyForm;
 use capnp_arena::arena::{BuilderArena, ReaderArena};
 use capnp_making::making::clear;
 use capnp_objects::object::Object;
@@ -36,7 +37,33 @@ pub use each::copy_each;
 pub use list_value::copy_list;
 pub use struct_value::copy_struct_value;
 
-/// Copies what a pointer means to the null pointer at a place, as it stands or in canonical form.
+/// Copies what a pointer means to the null pointer at a place, as it stands or in canonical form, as
+/// `copy_in_form` does.
+pub fn copy_value<A: BuilderArena, B: ReaderArena>(
+    arena: &mut A,
+    id: u32,
+    at: u32,
+    from: PointerReader<'_, B>,
+    lim: &mut ReadLimiter,
+    canonicalize: bool,
+) -> Result<(), ErrorKind>
+    requires place { IsPlace (A.view arena.old).words id at }
+    requires null { word_at (A.view arena.old).words id at ≡ 0 }
+    ensures copied { IfOk result (λ _. IsCopyOf (reading B.ReaderArena from.entry) (change (form_of canonicalize) id at (A.view arena.old) (A.view arena.new) lim.old lim.new)) }
+    ensures stands { OnOk result (StandsAsRead (reading B.ReaderArena from.entry) (change (form_of canonicalize) id at (A.view arena.old) (A.view arena.new) lim.old lim.new)) }
+    ensures fits { CanBeCopied (form_of canonicalize) (reading B.ReaderArena from.entry) lim.old (length (segment (A.view arena.old).words id)) ((A.view arena.old).room id) → IsOk result }
+    ensures refused { IfErr result (RefusesValue (reading B.ReaderArena from.entry) (change (form_of canonicalize) id at (A.view arena.old) (A.view arena.new) lim.old lim.new)) }
+    ensures cleared { OnErr result (IsReplaced (A.view arena.old).words (A.view arena.new).words id at Null Null) }
+    ensures spent { OnErr result (BreaksOff (form_of canonicalize) (reading B.ReaderArena from.entry) lim.old lim.new) }
+    ensures taken { TakesAtMost result (reading B.ReaderArena from.entry) (change (form_of canonicalize) id at (A.view arena.old) (A.view arena.new) lim.old lim.new) }
+    ensures granted { OnOk result (KeepsMemory (A.view arena.old) (A.view arena.new)) }
+    ensures memory { IfErr result (SpendsMemory (A.view arena.old) (A.view arena.new)) }
+{
+    copy_in_form(arena, id, at, from, lim, CopyForm::of(canonicalize))
+}
+
+/// Copies what a pointer means to the null pointer at a place, in a form: as it stands or in canonical
+/// form.
 ///
 /// Its words stand behind those of the pointer's segment, in the canonical order of objects, where they
 /// all fit its room, or where the message has but one segment afterwards; then no other word changes but
@@ -48,31 +75,31 @@ pub use struct_value::copy_struct_value;
 /// a budget too, and where nothing is charged.
 ///
 /// A refusal of the arena is `AllocationFailed` or `MessageTooLarge`, and comes only where the words
-/// don't fit behind those of the pointer's segment; a capability is
-/// `CannotCreateACanonicalMessageWithACapability` in canonical form; a refusal to read keeps its name.
+/// don't fit behind those of the pointer's segment; a capability that the form doesn't take is refused
+/// by the name that `CopyForm` says; a refusal to read keeps its name.
 /// Then the pointer is null and the words that were allocated are zero; the limiter keeps what was
 /// charged.
-pub fn copy_value<A: BuilderArena, B: ReaderArena>(
+pub fn copy_in_form<A: BuilderArena, B: ReaderArena>(
     arena: &mut A,
     id: u32,
     at: u32,
     from: PointerReader<'_, B>,
     lim: &mut ReadLimiter,
-    canonicalize: bool,
+    form: CopyForm,
 ) -> Result<(), ErrorKind>
     requires place { IsPlace (A.view arena.old).words id at }
     requires null { word_at (A.view arena.old).words id at ≡ 0 }
-    ensures copied { IfOk result (λ _. IsCopyOf (reading B.ReaderArena from.entry) (change canonicalize id at (A.view arena.old) (A.view arena.new) lim.old lim.new)) }
-    ensures stands { OnOk result (StandsAsRead (reading B.ReaderArena from.entry) (change canonicalize id at (A.view arena.old) (A.view arena.new) lim.old lim.new)) }
-    ensures fits { CanBeCopied canonicalize (reading B.ReaderArena from.entry) lim.old (length (segment (A.view arena.old).words id)) ((A.view arena.old).room id) → IsOk result }
-    ensures refused { IfErr result (RefusesValue (reading B.ReaderArena from.entry) (change canonicalize id at (A.view arena.old) (A.view arena.new) lim.old lim.new)) }
+    ensures copied { IfOk result (λ _. IsCopyOf (reading B.ReaderArena from.entry) (change (form_in form) id at (A.view arena.old) (A.view arena.new) lim.old lim.new)) }
+    ensures stands { OnOk result (StandsAsRead (reading B.ReaderArena from.entry) (change (form_in form) id at (A.view arena.old) (A.view arena.new) lim.old lim.new)) }
+    ensures fits { CanBeCopied (form_in form) (reading B.ReaderArena from.entry) lim.old (length (segment (A.view arena.old).words id)) ((A.view arena.old).room id) → IsOk result }
+    ensures refused { IfErr result (RefusesValue (reading B.ReaderArena from.entry) (change (form_in form) id at (A.view arena.old) (A.view arena.new) lim.old lim.new)) }
     ensures cleared { OnErr result (IsReplaced (A.view arena.old).words (A.view arena.new).words id at Null Null) }
-    ensures spent { OnErr result (BreaksOff (form_of canonicalize) (reading B.ReaderArena from.entry) lim.old lim.new) }
-    ensures taken { TakesAtMost result (reading B.ReaderArena from.entry) (change canonicalize id at (A.view arena.old) (A.view arena.new) lim.old lim.new) }
+    ensures spent { OnErr result (BreaksOff (form_in form) (reading B.ReaderArena from.entry) lim.old lim.new) }
+    ensures taken { TakesAtMost result (reading B.ReaderArena from.entry) (change (form_in form) id at (A.view arena.old) (A.view arena.new) lim.old lim.new) }
     ensures granted { OnOk result (KeepsMemory (A.view arena.old) (A.view arena.new)) }
     ensures memory { IfErr result (SpendsMemory (A.view arena.old) (A.view arena.new)) }
 {
-    match copy_object(arena, id, at, from, lim, canonicalize) {
+    match copy_object(arena, id, at, from, lim, form) {
         Ok(()) => Ok(()),
         Err(k) => {
             clear(arena, id, at);
@@ -81,7 +108,7 @@ pub fn copy_value<A: BuilderArena, B: ReaderArena>(
     }
 }
 
-/// Does what `copy_value` does, but leaves what it made where it is refused.
+/// Does what `copy_in_form` does, but leaves what it made where it is refused.
 #[cycle(copies)]
 fn copy_object<A: BuilderArena, B: ReaderArena>(
     arena: &mut A,
@@ -89,13 +116,13 @@ fn copy_object<A: BuilderArena, B: ReaderArena>(
     at: u32,
     from: PointerReader<'_, B>,
     lim: &mut ReadLimiter,
-    canonicalize: bool,
+    form: CopyForm,
 ) -> Result<(), ErrorKind>
     requires place { IsPlace (A.view arena.old).words id at }
     requires null { word_at (A.view arena.old).words id at ≡ 0 }
-    ensures copied { IfOk result (λ _. CopiesValue (reading B.ReaderArena from.entry) (change canonicalize id at (A.view arena.old) (A.view arena.new) lim.old lim.new)) }
-    ensures refused { IfErr result (StopsAtValue (reading B.ReaderArena from.entry) (change canonicalize id at (A.view arena.old) (A.view arena.new) lim.old lim.new)) }
-    ensures taken { TakesAtMost result (reading B.ReaderArena from.entry) (change canonicalize id at (A.view arena.old) (A.view arena.new) lim.old lim.new) }
+    ensures copied { IfOk result (λ _. CopiesValue (reading B.ReaderArena from.entry) (change (form_in form) id at (A.view arena.old) (A.view arena.new) lim.old lim.new)) }
+    ensures refused { IfErr result (StopsAtValue (reading B.ReaderArena from.entry) (change (form_in form) id at (A.view arena.old) (A.view arena.new) lim.old lim.new)) }
+    ensures taken { TakesAtMost result (reading B.ReaderArena from.entry) (change (form_in form) id at (A.view arena.old) (A.view arena.new) lim.old lim.new) }
 {
     let object = match from.source.read_object(from.place, from.nesting_limit, lim) {
         Ok(object) => object,
@@ -103,20 +130,21 @@ fn copy_object<A: BuilderArena, B: ReaderArena>(
     };
     match object {
         Object::Null => Ok(()),
-        Object::Capability(index) => {
-            if canonicalize {
-                return Err(ErrorKind::CannotCreateACanonicalMessageWithACapability);
+        Object::Capability(index) => match form {
+            CopyForm::Plain => {
+                arena.set_word(id, at, WirePointer::new_capability(index).0);
+                Ok(())
             }
-            arena.set_word(id, at, WirePointer::new_capability(index).0);
-            Ok(())
-        }
+            CopyForm::Canonical => Err(ErrorKind::CannotCreateACanonicalMessageWithACapability),
+            CopyForm::OfDefault => Err(ErrorKind::UnknownPointerType),
+        },
         Object::Struct { start, size } => {
             let inner = PointerReader {
                 source: from.source,
                 place: start,
                 nesting_limit: from.nesting_limit - 1,
             };
-            structs::copy_struct(arena, id, at, inner, size, lim, canonicalize)
+            structs::copy_struct(arena, id, at, inner, size, lim, form)
         }
         Object::Flat { start, size, count } => {
             let words = flat::flat_words(size, count);
@@ -129,7 +157,7 @@ fn copy_object<A: BuilderArena, B: ReaderArena>(
                 place: start,
                 nesting_limit: from.nesting_limit - 1,
             };
-            lists::copy_pointers(arena, id, at, inner, count, lim, canonicalize)
+            lists::copy_pointers(arena, id, at, inner, count, lim, form)
         }
         Object::Structs { start, size, count } => {
             let inner = PointerReader {
@@ -137,7 +165,7 @@ fn copy_object<A: BuilderArena, B: ReaderArena>(
                 place: start,
                 nesting_limit: from.nesting_limit - 1,
             };
-            lists::copy_structs(arena, id, at, inner, size, count, lim, canonicalize)
+            lists::copy_structs(arena, id, at, inner, size, count, lim, form)
         }
     }
 }

@@ -2,6 +2,7 @@
 #![tactic(auto)]
 
 pub mod copy;
+pub mod form;
 pub mod laws;
 pub(crate) mod section;
 pub(crate) mod widths;

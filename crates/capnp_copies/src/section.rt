@@ -5,6 +5,7 @@ ghost use Rattle.capnp_format.specs.Numbers.{from_digits};
 ghost use Rattle.capnp_format.specs.Segments.{segment};
 ghost use Rattle.capnp_arena.specs.Written.{with_words};
 ghost use Rattle.capnp_readers.specs.Sections.{bytes_for};
+ghost use Rattle.capnp_copies.specs.Forms.{form_of};
 ghost use Rattle.capnp_copies.specs.StructValues.{section_words, kept_count};
 
 use crate::copy::elements::put_words;
@@ -15,7 +16,7 @@ use capnp_words::words::{part, used_part};
 /// zero.
 pub(crate) fn kept_words(bytes: &[u8], bits: u32, canonicalize: bool) -> usize
     requires long { length bytes.now ≡ bytes_for bits }
-    ensures { result ≡ kept_count canonicalize (section_words bits bytes.now) }
+    ensures { result ≡ kept_count (form_of canonicalize) (section_words bits bytes.now) }
 {
     if !canonicalize {
         return (bits as usize + 63) / 64;

@@ -7,8 +7,10 @@ ghost use Rattle.capnp_objects.specs.Reading.{row};
 ghost use Rattle.capnp_readers.specs.Readers.{reading};
 ghost use Rattle.capnp_copies.specs.Growth.{message_words, TakesForElement, TakesForRows};
 ghost use Rattle.capnp_copies.specs.Changes.{change, CopiesElement, StopsAtElement, CopiesElements, StopsAtElements, KeepsPointers};
+ghost use Rattle.capnp_copies.specs.Forms.{form_in};
 
 use super::children::copy_children;
+use crate::form::CopyForm;
 use crate::widths::ElementSizes;
 use capnp_arena::arena::{BuilderArena, ReaderArena};
 use capnp_making::making::Start;
@@ -28,17 +30,17 @@ pub(crate) fn copy_elements<A: BuilderArena, B: ReaderArena>(
     sizes: ElementSizes,
     count: u32,
     lim: &mut ReadLimiter,
-    canonicalize: bool,
+    form: CopyForm,
 ) -> Result<(), ErrorKind>
     requires room { to.at + count * (sizes.kept.data_words + sizes.kept.pointers) ≤ length (segment (A.view arena.old).words to.segment) }
     requires zero { (i : ℕ) → i < count * (sizes.kept.data_words + sizes.kept.pointers) → word_at (A.view arena.old).words to.segment (to.at + i) ≡ 0 }
     requires inside { from.place.at + count * (sizes.source.data_words + sizes.source.pointers) ≤ length (row (reading B.ReaderArena from)) }
     requires less_data { sizes.kept.data_words ≤ sizes.source.data_words }
     requires less_pointers { sizes.kept.pointers ≤ sizes.source.pointers }
-    requires pointers { KeepsPointers canonicalize (reading B.ReaderArena from) sizes count }
-    ensures copied { IfOk result (λ _. CopiesElements (reading B.ReaderArena from.entry) sizes count (change canonicalize to.segment to.at (A.view arena.old) (A.view arena.new) lim.old lim.new)) }
-    ensures refused { IfErr result (StopsAtElements (reading B.ReaderArena from.entry) sizes count (change canonicalize to.segment to.at (A.view arena.old) (A.view arena.new) lim.old lim.new)) }
-    ensures taken { TakesForRows result (reading B.ReaderArena from.entry) sizes.source count (change canonicalize to.segment to.at (A.view arena.old) (A.view arena.new) lim.old lim.new) }
+    requires pointers { KeepsPointers (form_in form) (reading B.ReaderArena from) sizes count }
+    ensures copied { IfOk result (λ _. CopiesElements (reading B.ReaderArena from.entry) sizes count (change (form_in form) to.segment to.at (A.view arena.old) (A.view arena.new) lim.old lim.new)) }
+    ensures refused { IfErr result (StopsAtElements (reading B.ReaderArena from.entry) sizes count (change (form_in form) to.segment to.at (A.view arena.old) (A.view arena.new) lim.old lim.new)) }
+    ensures taken { TakesForRows result (reading B.ReaderArena from.entry) sizes.source count (change (form_in form) to.segment to.at (A.view arena.old) (A.view arena.new) lim.old lim.new) }
 {
     let source_words = sizes.source.total();
     let kept_words = sizes.kept.total();
@@ -59,7 +61,7 @@ pub(crate) fn copy_elements<A: BuilderArena, B: ReaderArena>(
             segment: to.segment,
             at: to.at + i * kept_words,
         };
-        match copy_element(arena, row, element, sizes, lim, canonicalize) {
+        match copy_element(arena, row, element, sizes, lim, form) {
             Ok(()) => {}
             Err(k) => return Err(k),
         }
@@ -75,16 +77,16 @@ fn copy_element<A: BuilderArena, B: ReaderArena>(
     from: PointerReader<'_, B>,
     sizes: ElementSizes,
     lim: &mut ReadLimiter,
-    canonicalize: bool,
+    form: CopyForm,
 ) -> Result<(), ErrorKind>
     requires room { to.at + (sizes.kept.data_words + sizes.kept.pointers) ≤ length (segment (A.view arena.old).words to.segment) }
     requires null { (i : ℕ) → i < sizes.kept.pointers → word_at (A.view arena.old).words to.segment (to.at + sizes.kept.data_words + i) ≡ 0 }
     requires inside { from.place.at + (sizes.source.data_words + sizes.source.pointers) ≤ length (row (reading B.ReaderArena from)) }
     requires less_data { sizes.kept.data_words ≤ sizes.source.data_words }
     requires less_pointers { sizes.kept.pointers ≤ sizes.source.pointers }
-    ensures copied { IfOk result (λ _. CopiesElement (reading B.ReaderArena from.entry) sizes (change canonicalize to.segment to.at (A.view arena.old) (A.view arena.new) lim.old lim.new)) }
-    ensures refused { IfErr result (StopsAtElement (reading B.ReaderArena from.entry) sizes (change canonicalize to.segment to.at (A.view arena.old) (A.view arena.new) lim.old lim.new)) }
-    ensures taken { TakesForElement result (reading B.ReaderArena from.entry) sizes (change canonicalize to.segment to.at (A.view arena.old) (A.view arena.new) lim.old lim.new) }
+    ensures copied { IfOk result (λ _. CopiesElement (reading B.ReaderArena from.entry) sizes (change (form_in form) to.segment to.at (A.view arena.old) (A.view arena.new) lim.old lim.new)) }
+    ensures refused { IfErr result (StopsAtElement (reading B.ReaderArena from.entry) sizes (change (form_in form) to.segment to.at (A.view arena.old) (A.view arena.new) lim.old lim.new)) }
+    ensures taken { TakesForElement result (reading B.ReaderArena from.entry) sizes (change (form_in form) to.segment to.at (A.view arena.old) (A.view arena.new) lim.old lim.new) }
 {
     let data_words = usize::from(sizes.kept.data_words);
     let data = part(from.place.bytes, from.place.at as usize, data_words);
@@ -100,15 +102,7 @@ fn copy_element<A: BuilderArena, B: ReaderArena>(
     };
     let first = to.at + u32::from(sizes.kept.data_words);
     let pointers = u32::from(sizes.kept.pointers);
-    copy_children(
-        arena,
-        to.segment,
-        first,
-        children,
-        pointers,
-        lim,
-        canonicalize,
-    )
+    copy_children(arena, to.segment, first, children, pointers, lim, form)
 }
 
 /// Writes words over others, if there are any to write.

@@ -5,9 +5,11 @@ ghost use Rattle.capnp_objects.specs.Reading.{row};
 ghost use Rattle.capnp_readers.specs.Readers.{reading};
 ghost use Rattle.capnp_copies.specs.Growth.{TakesForObject, TakesForStructs};
 ghost use Rattle.capnp_copies.specs.Changes.{change, CopiesPointers, StopsAtPointers, CopiesStructs, StopsAtStructs, KeepsWidths};
+ghost use Rattle.capnp_copies.specs.Forms.{form_in};
 
 use super::children::copy_children;
 use super::elements::copy_elements;
+use crate::form::CopyForm;
 use crate::widths::{ElementSizes, least_widths};
 use capnp_arena::arena::{BuilderArena, ReaderArena};
 use capnp_making::making::{Start, make_list, make_struct_list};
@@ -25,26 +27,18 @@ pub(crate) fn copy_pointers<A: BuilderArena, B: ReaderArena>(
     from: PointerReader<'_, B>,
     count: u32,
     lim: &mut ReadLimiter,
-    canonicalize: bool,
+    form: CopyForm,
 ) -> Result<(), ErrorKind>
     requires place { IsPlace (A.view arena.old).words id at }
     requires null { word_at (A.view arena.old).words id at ≡ 0 }
     requires few { count < 2 ^ 29 }
     requires inside { from.place.at + count ≤ length (row (reading B.ReaderArena from)) }
-    ensures copied { IfOk result (λ _. CopiesPointers (reading B.ReaderArena from.entry) count (change canonicalize id at (A.view arena.old) (A.view arena.new) lim.old lim.new)) }
-    ensures refused { IfErr result (StopsAtPointers (reading B.ReaderArena from.entry) count (change canonicalize id at (A.view arena.old) (A.view arena.new) lim.old lim.new)) }
-    ensures taken { TakesForObject result (reading B.ReaderArena from.entry) count (count + 1) (change canonicalize id at (A.view arena.old) (A.view arena.new) lim.old lim.new) }
+    ensures copied { IfOk result (λ _. CopiesPointers (reading B.ReaderArena from.entry) count (change (form_in form) id at (A.view arena.old) (A.view arena.new) lim.old lim.new)) }
+    ensures refused { IfErr result (StopsAtPointers (reading B.ReaderArena from.entry) count (change (form_in form) id at (A.view arena.old) (A.view arena.new) lim.old lim.new)) }
+    ensures taken { TakesForObject result (reading B.ReaderArena from.entry) count (count + 1) (change (form_in form) id at (A.view arena.old) (A.view arena.new) lim.old lim.new) }
 {
     match make_list(arena, id, at, ElementSize::Pointer, count) {
-        Ok(start) => copy_children(
-            arena,
-            start.segment,
-            start.at,
-            from,
-            count,
-            lim,
-            canonicalize,
-        ),
+        Ok(start) => copy_children(arena, start.segment, start.at, from, count, lim, form),
         Err(k) => Err(k),
     }
 }
@@ -60,18 +54,18 @@ pub(crate) fn copy_structs<A: BuilderArena, B: ReaderArena>(
     size: StructSize,
     count: u32,
     lim: &mut ReadLimiter,
-    canonicalize: bool,
+    form: CopyForm,
 ) -> Result<(), ErrorKind>
     requires place { IsPlace (A.view arena.old).words id at }
     requires null { word_at (A.view arena.old).words id at ≡ 0 }
     requires few { count < 2 ^ 30 }
     requires words { count * (size.data_words + size.pointers) < 2 ^ 29 }
     requires inside { from.place.at + count * (size.data_words + size.pointers) ≤ length (row (reading B.ReaderArena from)) }
-    ensures copied { IfOk result (λ _. CopiesStructs (reading B.ReaderArena from.entry) size count (change canonicalize id at (A.view arena.old) (A.view arena.new) lim.old lim.new)) }
-    ensures refused { IfErr result (StopsAtStructs (reading B.ReaderArena from.entry) size count (change canonicalize id at (A.view arena.old) (A.view arena.new) lim.old lim.new)) }
-    ensures taken { TakesForStructs result (reading B.ReaderArena from.entry) size count (change canonicalize id at (A.view arena.old) (A.view arena.new) lim.old lim.new) }
+    ensures copied { IfOk result (λ _. CopiesStructs (reading B.ReaderArena from.entry) size count (change (form_in form) id at (A.view arena.old) (A.view arena.new) lim.old lim.new)) }
+    ensures refused { IfErr result (StopsAtStructs (reading B.ReaderArena from.entry) size count (change (form_in form) id at (A.view arena.old) (A.view arena.new) lim.old lim.new)) }
+    ensures taken { TakesForStructs result (reading B.ReaderArena from.entry) size count (change (form_in form) id at (A.view arena.old) (A.view arena.new) lim.old lim.new) }
 {
-    let kept = kept_widths(from, size, count, canonicalize);
+    let kept = kept_widths(from, size, count, form);
     let sizes = ElementSizes { source: size, kept };
     match make_struct_list(arena, id, at, count, kept) {
         Ok(list) => {
@@ -79,7 +73,7 @@ pub(crate) fn copy_structs<A: BuilderArena, B: ReaderArena>(
                 segment: list.segment,
                 at: list.at + 1,
             };
-            copy_elements(arena, first, from, sizes, count, lim, canonicalize)
+            copy_elements(arena, first, from, sizes, count, lim, form)
         }
         Err(k) => Err(k),
     }
@@ -91,16 +85,15 @@ fn kept_widths<B: ReaderArena>(
     from: PointerReader<'_, B>,
     size: StructSize,
     count: u32,
-    canonicalize: bool,
+    form: CopyForm,
 ) -> StructSize
     requires inside { from.place.at + count * (size.data_words + size.pointers) ≤ length (row (reading B.ReaderArena from)) }
-    ensures kept { KeepsWidths canonicalize (reading B.ReaderArena from.entry) size count result }
+    ensures kept { KeepsWidths (form_in form) (reading B.ReaderArena from.entry) size count result }
     ensures less_data { result.data_words ≤ size.data_words }
     ensures less_pointers { result.pointers ≤ size.pointers }
 {
-    if canonicalize {
-        least_widths(from.place.bytes, from.place.at, count, size)
-    } else {
-        size
+    match form {
+        CopyForm::Canonical => least_widths(from.place.bytes, from.place.at, count, size),
+        CopyForm::Plain | CopyForm::OfDefault => size,
     }
 }

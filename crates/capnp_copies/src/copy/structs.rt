@@ -5,10 +5,12 @@ ghost use Rattle.capnp_objects.specs.Reading.{row};
 ghost use Rattle.capnp_readers.specs.Readers.{reading};
 ghost use Rattle.capnp_copies.specs.Growth.{TakesForSections};
 ghost use Rattle.capnp_copies.specs.Changes.{change, CopiesStruct, StopsAtStruct, KeepsSections};
+ghost use Rattle.capnp_copies.specs.Forms.{form_in};
 ghost use Rattle.capnp_copies.specs.Widths.{Uses};
 
 use super::children::copy_children;
 use super::elements::put_words;
+use crate::form::CopyForm;
 use capnp_arena::arena::{BuilderArena, ReaderArena};
 use capnp_making::making::make_struct;
 use capnp_objects::object::Place;
@@ -28,16 +30,16 @@ pub(crate) fn copy_struct<A: BuilderArena, B: ReaderArena>(
     from: PointerReader<'_, B>,
     size: StructSize,
     lim: &mut ReadLimiter,
-    canonicalize: bool,
+    form: CopyForm,
 ) -> Result<(), ErrorKind>
     requires place { IsPlace (A.view arena.old).words id at }
     requires inside { from.place.at + (size.data_words + size.pointers) ≤ length (row (reading B.ReaderArena from)) }
     requires null { word_at (A.view arena.old).words id at ≡ 0 }
-    ensures copied { IfOk result (λ _. CopiesStruct (reading B.ReaderArena from.entry) size (change canonicalize id at (A.view arena.old) (A.view arena.new) lim.old lim.new)) }
-    ensures refused { IfErr result (StopsAtStruct (reading B.ReaderArena from.entry) size (change canonicalize id at (A.view arena.old) (A.view arena.new) lim.old lim.new)) }
-    ensures taken { TakesForSections result (reading B.ReaderArena from.entry) size (change canonicalize id at (A.view arena.old) (A.view arena.new) lim.old lim.new) }
+    ensures copied { IfOk result (λ _. CopiesStruct (reading B.ReaderArena from.entry) size (change (form_in form) id at (A.view arena.old) (A.view arena.new) lim.old lim.new)) }
+    ensures refused { IfErr result (StopsAtStruct (reading B.ReaderArena from.entry) size (change (form_in form) id at (A.view arena.old) (A.view arena.new) lim.old lim.new)) }
+    ensures taken { TakesForSections result (reading B.ReaderArena from.entry) size (change (form_in form) id at (A.view arena.old) (A.view arena.new) lim.old lim.new) }
 {
-    let kept = kept_sections(from, size, canonicalize);
+    let kept = kept_sections(from, size, form);
     let start = match make_struct(arena, id, at, kept) {
         Ok(start) => start,
         Err(k) => return Err(k),
@@ -56,15 +58,7 @@ pub(crate) fn copy_struct<A: BuilderArena, B: ReaderArena>(
     };
     let first = start.at + u32::from(kept.data_words);
     let pointers = u32::from(kept.pointers);
-    copy_children(
-        arena,
-        start.segment,
-        first,
-        children,
-        pointers,
-        lim,
-        canonicalize,
-    )
+    copy_children(arena, start.segment, first, children, pointers, lim, form)
 }
 
 /// The sections that a copy of a struct keeps, of which `from` is the first word: in canonical form
@@ -72,17 +66,16 @@ pub(crate) fn copy_struct<A: BuilderArena, B: ReaderArena>(
 fn kept_sections<B: ReaderArena>(
     from: PointerReader<'_, B>,
     size: StructSize,
-    canonicalize: bool,
+    form: CopyForm,
 ) -> StructSize
     requires inside { from.place.at + (size.data_words + size.pointers) ≤ length (row (reading B.ReaderArena from)) }
-    ensures kept { KeepsSections canonicalize (reading B.ReaderArena from.entry) size result }
+    ensures kept { KeepsSections (form_in form) (reading B.ReaderArena from.entry) size result }
     ensures less_data { result.data_words ≤ size.data_words }
     ensures less_pointers { result.pointers ≤ size.pointers }
 {
-    if canonicalize {
-        used_sections(from, size)
-    } else {
-        size
+    match form {
+        CopyForm::Canonical => used_sections(from, size),
+        CopyForm::Plain | CopyForm::OfDefault => size,
     }
 }
 

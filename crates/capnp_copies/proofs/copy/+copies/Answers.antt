@@ -15,12 +15,13 @@ use Rattle.capnp_arena.specs.View.{View}
 use Rattle.capnp_readers.specs.Readers.{reading}
 use Rattle.capnp_copies.specs.Growth.{message_words}
 use Rattle.capnp_copies.specs.Changes.{KeepsPointers}
+use Rattle.capnp_copies.specs.Forms.{form_in}
 use Rattle.capnp_copies.proofs.FlatRead.{ok_so, err_so, one_level_in, flat_words}
 use Rattle.capnp_copies.proofs.FilledChildren.{no_child, children_grow, child_ahead, child_copied, child_stops}
 use Rattle.capnp_copies.proofs.FilledElements.{DataWritten, element_copied, element_stops, no_row, no_width, AtRow, row_end, next_room, next_null, next_inside, row_copied, row_stops}
 use Rattle.capnp_copies.proofs.FilledObjects.{nothing_made, StructBegun, struct_fits, struct_null, struct_copied, struct_stops, ObjectBegun, pointers_copied, pointers_stop, widths_keep, structs_copied, structs_stop}
-use Rattle.capnp_copies.proofs.FilledValues.{read_stops, null_copied, capability_copied, capability_stops, struct_value, struct_value_stops, pointers_value, pointers_value_stops, structs_value, structs_value_stops, FlatOutcome, flat_value, flat_stops}
-use Rattle.capnp_copies.proofs.Growth.{taken_so, taken_as, none_taken, one_taken, stop_taken, all_taken, no_row_taken, blank_taken, row_taken, row_stop_taken, rows_taken, for_all, among, for_elements, among_elements, nothing_taken, sections_taken, takes_words, word_over, no_wider, read_stop_taken, null_takes, capability_takes, capability_stop_takes, struct_takes, struct_stop_takes, flat_takes, flat_stop_takes, pointers_take, pointers_stop_take, structs_take, structs_stop_take}
+use Rattle.capnp_copies.proofs.FilledValues.{read_stops, null_copied, capability_copied, capability_stops, default_stops, struct_value, struct_value_stops, pointers_value, pointers_value_stops, structs_value, structs_value_stops, FlatOutcome, flat_value, flat_stops}
+use Rattle.capnp_copies.proofs.Growth.{taken_so, taken_as, none_taken, one_taken, stop_taken, all_taken, no_row_taken, blank_taken, row_taken, row_stop_taken, rows_taken, for_all, among, for_elements, among_elements, nothing_taken, sections_taken, takes_words, word_over, no_wider, read_stop_taken, null_takes, capability_takes, capability_stop_takes, default_stop_takes, struct_takes, struct_stop_takes, flat_takes, flat_stop_takes, pointers_take, pointers_stop_take, structs_take, structs_stop_take}
 use Rattle.capnp_copies.proofs.KeptForms.{SourceKept}
 use Rattle.capnp_copies.proofs.TightElements.{all_rows}
 use Rattle.capnp_copies.proofs.TooLarge.{no_struct_room, no_pointers_room, no_structs_room}
@@ -30,7 +31,7 @@ use Rattle.capnp_copies.proofs.copy.+copies.Goals as goal
 
 pub children::copy_children-loop-i-init : goal.children::copy_children-loop-i-init
 children::copy_children-loop-i-init g t c =
-    (no_child (reading g.B.ReaderArena c.args.from) c.args.canonicalize c.args.id c.args.at (g.A.BuilderArena.view c.args.arena.now) c.args.lim.now, none_taken (reading g.B.ReaderArena c.args.from) c.args.canonicalize c.args.id c.args.at (g.A.BuilderArena.view c.args.arena.now) c.args.lim.now)
+    (no_child (reading g.B.ReaderArena c.args.from) (form_in c.args.form) c.args.id c.args.at (g.A.BuilderArena.view c.args.arena.now) c.args.lim.now, none_taken (reading g.B.ReaderArena c.args.from) (form_in c.args.form) c.args.id c.args.at (g.A.BuilderArena.view c.args.arena.now) c.args.lim.now)
 
 pub children::copy_children-copy_object-requires : goal.children::copy_children-copy_object-requires
 children::copy_children-copy_object-requires g t c κs within =
@@ -73,15 +74,25 @@ copy_object-returns-in-Err-clause-taken g t c =
     let nl = to_z-of_z w32 c.args.from.nesting_limit (search rules) in
     read_stop_taken (rw nl at c.in-Err.ensures.refused)
 
-pub copy_object-returns-then-canonicalize-clause-refused : goal.copy_object-returns-then-canonicalize-clause-refused
-copy_object-returns-then-canonicalize-clause-refused g t c =
+pub copy_object-returns-in-Canonical-clause-refused : goal.copy_object-returns-in-Canonical-clause-refused
+copy_object-returns-in-Canonical-clause-refused g t c =
     let object = rw c.in-Capability.is at c.in-Ok.ensures.object in
-    rw c.if-canonicalize.true (capability_stops object c.requires.place c.requires.null)
+    rw c.in-Canonical.is (capability_stops object c.requires.place c.requires.null)
 
-pub copy_object-returns-then-canonicalize-clause-taken : goal.copy_object-returns-then-canonicalize-clause-taken
-copy_object-returns-then-canonicalize-clause-taken g t c =
+pub copy_object-returns-in-Canonical-clause-taken : goal.copy_object-returns-in-Canonical-clause-taken
+copy_object-returns-in-Canonical-clause-taken g t c =
     let object = rw c.in-Capability.is at c.in-Ok.ensures.object in
-    rw c.if-canonicalize.true (capability_stop_takes object)
+    rw c.in-Canonical.is (capability_stop_takes object)
+
+pub copy_object-returns-in-OfDefault-clause-refused : goal.copy_object-returns-in-OfDefault-clause-refused
+copy_object-returns-in-OfDefault-clause-refused g t c =
+    let object = rw c.in-Capability.is at c.in-Ok.ensures.object in
+    rw c.in-OfDefault.is (default_stops object c.requires.place c.requires.null)
+
+pub copy_object-returns-in-OfDefault-clause-taken : goal.copy_object-returns-in-OfDefault-clause-taken
+copy_object-returns-in-OfDefault-clause-taken g t c =
+    let object = rw c.in-Capability.is at c.in-Ok.ensures.object in
+    rw c.in-OfDefault.is (default_stop_takes object)
 
 pub copy_object-copy_pointers-requires : goal.copy_object-copy_pointers-requires
 copy_object-copy_pointers-requires g t c κs within =
@@ -102,16 +113,16 @@ copy_object-returns-in-Null-clause-copied g t c =
 pub copy_object-returns-in-Null-clause-taken : goal.copy_object-returns-in-Null-clause-taken
 copy_object-returns-in-Null-clause-taken g t c = null_takes (rw c.in-Null.is at c.in-Ok.ensures.object)
 
-pub copy_object-returns-else-canonicalize-clause-copied : goal.copy_object-returns-else-canonicalize-clause-copied
-copy_object-returns-else-canonicalize-clause-copied g t c =
+pub copy_object-returns-in-Plain-clause-copied : goal.copy_object-returns-in-Plain-clause-copied
+copy_object-returns-in-Plain-clause-copied g t c =
     let object = rw c.in-Capability.is at c.in-Ok.ensures.object in
-    rw c.if-canonicalize.false (capability_copied object c.requires.place (rw c.new_capability.ensures.word at c.set_word.ensures))
+    rw c.in-Plain.is (capability_copied object c.requires.place (rw c.new_capability.ensures.word at c.set_word.ensures))
 
-pub copy_object-returns-else-canonicalize-clause-taken : goal.copy_object-returns-else-canonicalize-clause-taken
-copy_object-returns-else-canonicalize-clause-taken g t c =
+pub copy_object-returns-in-Plain-clause-taken : goal.copy_object-returns-in-Plain-clause-taken
+copy_object-returns-in-Plain-clause-taken g t c =
     let words : message_words (g.A.BuilderArena.view c.set_word.new.self).words ≤ message_words (g.A.BuilderArena.view c.args.arena.now).words = omega (arith, ap (λ (v : View). message_words v.words) c.set_word.ensures, word_over (g.A.BuilderArena.view c.args.arena.now).words c.args.id c.args.at c.new_capability.result.0) in
     let object = rw c.in-Capability.is at c.in-Ok.ensures.object in
-    rw c.if-canonicalize.false (capability_takes object words)
+    rw c.in-Plain.is (capability_takes object words)
 
 pub copy_object-returns-in-Struct-clause-copied : goal.copy_object-returns-in-Struct-clause-copied
 copy_object-returns-in-Struct-clause-copied g t c =
@@ -140,7 +151,7 @@ copy_object-returns-in-Flat-clause-copied g t c =
     let object = rw (c.in-Flat.is, nl) at c.in-Ok.ensures.object in
     let outcome : FlatOutcome c.copy_flat.result c.args.id c.args.at (words_for (size_number c.in-Flat.size) c.in-Flat.count) (g.A.BuilderArena.view c.args.arena.now) (g.A.BuilderArena.view c.copy_flat.new.arena) (Flat (size_number c.in-Flat.size) (unpacked (size_number c.in-Flat.size) c.in-Flat.count (words_of c.part-elements.result.now))) =
     record { copied = c.copy_flat.ensures.copied; granted = c.copy_flat.ensures.granted; refused = c.copy_flat.ensures.refused; kept = c.copy_flat.ensures.kept; memory = c.copy_flat.ensures.memory; stands = c.copy_flat.ensures.stands; fits = λ room. c.copy_flat.ensures.fits (omega (arith, room, flat_words (size_number c.in-Flat.size) c.in-Flat.count (words_of c.part-elements.result.now))) } in
-    flat_value c.args.canonicalize c.copy_flat.result c.in-Flat.start c.in-Flat.size object c.flat_words-words.ensures c.part-elements.ensures.words outcome
+    flat_value (form_in c.args.form) c.copy_flat.result c.in-Flat.start c.in-Flat.size object c.flat_words-words.ensures c.part-elements.ensures.words outcome
 
 pub copy_object-returns-in-Flat-clause-refused : goal.copy_object-returns-in-Flat-clause-refused
 copy_object-returns-in-Flat-clause-refused g t c =
@@ -148,7 +159,7 @@ copy_object-returns-in-Flat-clause-refused g t c =
     let object = rw (c.in-Flat.is, nl) at c.in-Ok.ensures.object in
     let outcome : FlatOutcome c.copy_flat.result c.args.id c.args.at (words_for (size_number c.in-Flat.size) c.in-Flat.count) (g.A.BuilderArena.view c.args.arena.now) (g.A.BuilderArena.view c.copy_flat.new.arena) (Flat (size_number c.in-Flat.size) (unpacked (size_number c.in-Flat.size) c.in-Flat.count (words_of c.part-elements.result.now))) =
     record { copied = c.copy_flat.ensures.copied; granted = c.copy_flat.ensures.granted; refused = c.copy_flat.ensures.refused; kept = c.copy_flat.ensures.kept; memory = c.copy_flat.ensures.memory; stands = c.copy_flat.ensures.stands; fits = λ room. c.copy_flat.ensures.fits (omega (arith, room, flat_words (size_number c.in-Flat.size) c.in-Flat.count (words_of c.part-elements.result.now))) } in
-    flat_stops c.args.canonicalize c.copy_flat.result c.in-Flat.start c.in-Flat.size object c.flat_words-words.ensures c.part-elements.ensures.words (c.requires.place, c.requires.null) outcome
+    flat_stops (form_in c.args.form) c.copy_flat.result c.in-Flat.start c.in-Flat.size object c.flat_words-words.ensures c.part-elements.ensures.words (c.requires.place, c.requires.null) outcome
 
 pub copy_object-returns-in-Flat-clause-taken : goal.copy_object-returns-in-Flat-clause-taken
 copy_object-returns-in-Flat-clause-taken g t c =
@@ -229,18 +240,18 @@ elements::copy_element-returns-clause-taken g t c =
 pub elements::copy_elements-returns-then-kept_words-eq0-clause-copied : goal.elements::copy_elements-returns-then-kept_words-eq0-clause-copied
 elements::copy_elements-returns-then-kept_words-eq0-clause-copied g t c =
     let from : Reading = reading g.B.ReaderArena c.args.from in
-    let fits : SourceKept c.args.canonicalize from c.args.sizes c.args.count = record { inside = c.requires.inside; less_data = c.requires.less_data; less_pointers = c.requires.less_pointers; used = c.requires.pointers } in
-    no_width from c.args.sizes c.args.count c.args.canonicalize c.args.to.segment c.args.to.at (g.A.BuilderArena.view c.args.arena.now) c.args.lim.now fits (omega (arith, c.total-kept_words.ensures, c.if-kept_words-eq0.true))
+    let fits : SourceKept (form_in c.args.form) from c.args.sizes c.args.count = record { inside = c.requires.inside; less_data = c.requires.less_data; less_pointers = c.requires.less_pointers; used = c.requires.pointers } in
+    no_width from c.args.sizes c.args.count (form_in c.args.form) c.args.to.segment c.args.to.at (g.A.BuilderArena.view c.args.arena.now) c.args.lim.now fits (omega (arith, c.total-kept_words.ensures, c.if-kept_words-eq0.true))
 
 pub elements::copy_elements-returns-then-kept_words-eq0-clause-taken : goal.elements::copy_elements-returns-then-kept_words-eq0-clause-taken
 elements::copy_elements-returns-then-kept_words-eq0-clause-taken g t c =
     let from : Reading = reading g.B.ReaderArena c.args.from in
-    let fits : SourceKept c.args.canonicalize from c.args.sizes c.args.count = record { inside = c.requires.inside; less_data = c.requires.less_data; less_pointers = c.requires.less_pointers; used = c.requires.pointers } in
-    blank_taken from c.args.sizes c.args.count c.args.canonicalize c.args.to.segment c.args.to.at (g.A.BuilderArena.view c.args.arena.now) c.args.lim.now fits (omega (arith, c.total-kept_words.ensures, c.if-kept_words-eq0.true))
+    let fits : SourceKept (form_in c.args.form) from c.args.sizes c.args.count = record { inside = c.requires.inside; less_data = c.requires.less_data; less_pointers = c.requires.less_pointers; used = c.requires.pointers } in
+    blank_taken from c.args.sizes c.args.count (form_in c.args.form) c.args.to.segment c.args.to.at (g.A.BuilderArena.view c.args.arena.now) c.args.lim.now fits (omega (arith, c.total-kept_words.ensures, c.if-kept_words-eq0.true))
 
 pub elements::copy_elements-loop-i-init : goal.elements::copy_elements-loop-i-init
 elements::copy_elements-loop-i-init g t c =
-    (no_row (reading g.B.ReaderArena c.args.from) c.args.sizes _ c.args.canonicalize c.args.to.segment c.args.to.at (g.A.BuilderArena.view c.args.arena.now) c.args.lim.now, no_row_taken (reading g.B.ReaderArena c.args.from) c.args.sizes.source c.args.canonicalize c.args.to.segment c.args.to.at (g.A.BuilderArena.view c.args.arena.now) c.args.lim.now)
+    (no_row (reading g.B.ReaderArena c.args.from) c.args.sizes _ (form_in c.args.form) c.args.to.segment c.args.to.at (g.A.BuilderArena.view c.args.arena.now) c.args.lim.now, no_row_taken (reading g.B.ReaderArena c.args.from) c.args.sizes.source (form_in c.args.form) c.args.to.segment c.args.to.at (g.A.BuilderArena.view c.args.arena.now) c.args.lim.now)
 
 pub elements::copy_elements-overflow_mul-element : goal.elements::copy_elements-overflow_mul-element
 elements::copy_elements-overflow_mul-element g t c =
@@ -257,7 +268,7 @@ elements::copy_elements-overflow_mul-row g t c =
 pub elements::copy_elements-copy_element-requires : goal.elements::copy_elements-copy_element-requires
 elements::copy_elements-copy_element-requires g t c κs within =
     let from : Reading = reading g.B.ReaderArena c.args.from in
-    let here : AtRow from c.args.sizes c.args.count c.loop-i.i c.args.canonicalize c.args.to.segment c.args.to.at (g.A.BuilderArena.view c.args.arena.now) (g.A.BuilderArena.view c.loop-i.arena) c.args.lim.now c.loop-i.lim = record {
+    let here : AtRow from c.args.sizes c.args.count c.loop-i.i (form_in c.args.form) c.args.to.segment c.args.to.at (g.A.BuilderArena.view c.args.arena.now) (g.A.BuilderArena.view c.loop-i.arena) c.args.lim.now c.loop-i.lim = record {
       fits = record { inside = c.requires.inside; less_data = c.requires.less_data; less_pointers = c.requires.less_pointers; used = c.requires.pointers };
       room = c.requires.room;
       zero = c.requires.zero;
@@ -274,7 +285,7 @@ pub elements::copy_elements-returns-in-Err-clause-refused : goal.elements::copy_
 elements::copy_elements-returns-in-Err-clause-refused g t c =
     let nl = to_z-of_z w32 c.args.from.nesting_limit (search rules) in
     let from : Reading = reading g.B.ReaderArena c.args.from in
-    let here : AtRow from c.args.sizes c.args.count c.loop-i.i c.args.canonicalize c.args.to.segment c.args.to.at (g.A.BuilderArena.view c.args.arena.now) (g.A.BuilderArena.view c.loop-i.arena) c.args.lim.now c.loop-i.lim = record {
+    let here : AtRow from c.args.sizes c.args.count c.loop-i.i (form_in c.args.form) c.args.to.segment c.args.to.at (g.A.BuilderArena.view c.args.arena.now) (g.A.BuilderArena.view c.loop-i.arena) c.args.lim.now c.loop-i.lim = record {
       fits = record { inside = c.requires.inside; less_data = c.requires.less_data; less_pointers = c.requires.less_pointers; used = c.requires.pointers };
       room = c.requires.room;
       zero = c.requires.zero;
@@ -288,7 +299,7 @@ pub elements::copy_elements-loop-i-preserved : goal.elements::copy_elements-loop
 elements::copy_elements-loop-i-preserved g t c =
     let nl = to_z-of_z w32 c.args.from.nesting_limit (search rules) in
     let from : Reading = reading g.B.ReaderArena c.args.from in
-    let here : AtRow from c.args.sizes c.args.count c.loop-i.i c.args.canonicalize c.args.to.segment c.args.to.at (g.A.BuilderArena.view c.args.arena.now) (g.A.BuilderArena.view c.loop-i.arena) c.args.lim.now c.loop-i.lim = record {
+    let here : AtRow from c.args.sizes c.args.count c.loop-i.i (form_in c.args.form) c.args.to.segment c.args.to.at (g.A.BuilderArena.view c.args.arena.now) (g.A.BuilderArena.view c.loop-i.arena) c.args.lim.now c.loop-i.lim = record {
       fits = record { inside = c.requires.inside; less_data = c.requires.less_data; less_pointers = c.requires.less_pointers; used = c.requires.pointers };
       room = c.requires.room;
       zero = c.requires.zero;
@@ -304,7 +315,7 @@ pub elements::copy_elements-returns-in-Err-clause-taken : goal.elements::copy_el
 elements::copy_elements-returns-in-Err-clause-taken g t c =
     let nl = to_z-of_z w32 c.args.from.nesting_limit (search rules) in
     let from : Reading = reading g.B.ReaderArena c.args.from in
-    let fits : SourceKept c.args.canonicalize from c.args.sizes c.args.count = record { inside = c.requires.inside; less_data = c.requires.less_data; less_pointers = c.requires.less_pointers; used = c.requires.pointers } in
+    let fits : SourceKept (form_in c.args.form) from c.args.sizes c.args.count = record { inside = c.requires.inside; less_data = c.requires.less_data; less_pointers = c.requires.less_pointers; used = c.requires.pointers } in
     row_stop_taken fits c.loop-i-test.true c.loop-i.invariant.1 (rw (c.total-source_words.ensures, c.total-kept_words.ensures, nl) at c.in-Err.ensures.taken)
 
 pub elements::copy_elements-returns-clause-copied : goal.elements::copy_elements-returns-clause-copied
@@ -350,9 +361,9 @@ lists::copy_pointers-returns-in-Ok-clause-taken g t c =
 pub lists::copy_pointers-returns-in-Err-clause-refused : goal.lists::copy_pointers-returns-in-Err-clause-refused
 lists::copy_pointers-returns-in-Err-clause-refused g t c =
     let full : HasRoom (g.A.BuilderArena.view c.args.arena.now) c.args.id c.args.count → ⊥ = λ room. absurd (false≢true (c.in-Err.ensures.fits room)) in
-    let none = nothing_made c.args.canonicalize c.args.id c.args.at c.args.count (g.A.BuilderArena.view c.args.arena.now) (g.A.BuilderArena.view c.make_list.new.arena) c.args.lim.now c.args.lim.now c.in-Err.k c.requires.place c.requires.null
+    let none = nothing_made (form_in c.args.form) c.args.id c.args.at c.args.count (g.A.BuilderArena.view c.args.arena.now) (g.A.BuilderArena.view c.make_list.new.arena) c.args.lim.now c.args.lim.now c.in-Err.k c.requires.place c.requires.null
     c.in-Err.ensures.named c.in-Err.ensures.refused full in
-    record { why = inl (c.args.count, none.0, inl (refl, refl), no_pointers_room c.args.canonicalize (reading g.B.ReaderArena c.args.from) c.args.count c.args.id (g.A.BuilderArena.view c.args.arena.now) full); off = inl refl; left = none.1 }
+    record { why = inl (c.args.count, none.0, inl (refl, refl), no_pointers_room (form_in c.args.form) (reading g.B.ReaderArena c.args.from) c.args.count c.args.id (g.A.BuilderArena.view c.args.arena.now) full); off = inl refl; left = none.1 }
 
 -- Lists of structs.
 
@@ -369,7 +380,7 @@ lists::copy_structs-copy_elements-requires g t c κs within =
     let begun : IsBegun S M c.args.id c.args.at (1 + c.args.count * (least.data_words + least.pointers)) c.in-Ok.list (zero_structs c.args.count least) = record { made = c.in-Ok.ensures.made; start = c.in-Ok.ensures.start; inside = c.in-Ok.ensures.inside } in
     let ROOM : c.in-Ok.list.at + 1 + c.args.count * (least.data_words + least.pointers) ≤ length (segment M c.in-Ok.list.segment) = omega (arith, begun.inside.1) in
     let ZERO : (i : ℕ) → i < c.args.count * (least.data_words + least.pointers) → word_at M c.in-Ok.list.segment (c.in-Ok.list.at + 1 + i) ≡ 0 = structs_ready S M c.args.id c.args.at least.data_words least.pointers c.args.count c.in-Ok.list begun in
-    let POINTERS : KeepsPointers c.args.canonicalize from (record { source = c.args.size; kept = least }) c.args.count = widths_keep c.args.canonicalize from (record { source = c.args.size; kept = least }) c.args.count c.kept_widths-kept.ensures.kept in
+    let POINTERS : KeepsPointers (form_in c.args.form) from (record { source = c.args.size; kept = least }) c.args.count = widths_keep (form_in c.args.form) from (record { source = c.args.size; kept = least }) c.args.count c.kept_widths-kept.ensures.kept in
     search rules
 
 pub lists::copy_structs-returns-in-Ok-clause-copied : goal.lists::copy_structs-returns-in-Ok-clause-copied
@@ -397,9 +408,9 @@ pub lists::copy_structs-returns-in-Err-clause-refused : goal.lists::copy_structs
 lists::copy_structs-returns-in-Err-clause-refused g t c =
     let least = c.kept_widths-kept.result in
     let full : HasRoom (g.A.BuilderArena.view c.args.arena.now) c.args.id (1 + c.args.count * (least.data_words + least.pointers)) → ⊥ = λ room. absurd (false≢true (c.in-Err.ensures.fits room)) in
-    let none = nothing_made c.args.canonicalize c.args.id c.args.at (1 + c.args.count * (least.data_words + least.pointers)) (g.A.BuilderArena.view c.args.arena.now) (g.A.BuilderArena.view c.make_struct_list.new.arena) c.args.lim.now c.args.lim.now c.in-Err.k c.requires.place c.requires.null
+    let none = nothing_made (form_in c.args.form) c.args.id c.args.at (1 + c.args.count * (least.data_words + least.pointers)) (g.A.BuilderArena.view c.args.arena.now) (g.A.BuilderArena.view c.make_struct_list.new.arena) c.args.lim.now c.args.lim.now c.in-Err.k c.requires.place c.requires.null
     c.in-Err.ensures.named c.in-Err.ensures.refused full in
-    record { why = inl (1 + c.args.count * (least.data_words + least.pointers), none.0, inl (refl, least, c.kept_widths-kept.ensures.kept, refl), no_structs_room (reading g.B.ReaderArena c.args.from) c.args.size least c.args.count c.args.id (g.A.BuilderArena.view c.args.arena.now) c.args.canonicalize c.requires.inside c.kept_widths-kept.ensures.kept full); off = inl refl; left = none.1 }
+    record { why = inl (1 + c.args.count * (least.data_words + least.pointers), none.0, inl (refl, least, c.kept_widths-kept.ensures.kept, refl), no_structs_room (reading g.B.ReaderArena c.args.from) c.args.size least c.args.count c.args.id (g.A.BuilderArena.view c.args.arena.now) (form_in c.args.form) c.requires.inside c.kept_widths-kept.ensures.kept full); off = inl refl; left = none.1 }
 
 -- Structs.
 
@@ -411,9 +422,9 @@ pub structs::copy_struct-returns-in-Err-clause-refused : goal.structs::copy_stru
 structs::copy_struct-returns-in-Err-clause-refused g t c =
     let least = c.kept_sections-kept.result in
     let full : HasRoom (g.A.BuilderArena.view c.args.arena.now) c.args.id (least.data_words + least.pointers) → ⊥ = λ room. absurd (false≢true (c.in-Err.ensures.fits room)) in
-    let none = nothing_made c.args.canonicalize c.args.id c.args.at (least.data_words + least.pointers) (g.A.BuilderArena.view c.args.arena.now) (g.A.BuilderArena.view c.make_struct.new.arena) c.args.lim.now c.args.lim.now c.in-Err.k c.requires.place c.requires.null
+    let none = nothing_made (form_in c.args.form) c.args.id c.args.at (least.data_words + least.pointers) (g.A.BuilderArena.view c.args.arena.now) (g.A.BuilderArena.view c.make_struct.new.arena) c.args.lim.now c.args.lim.now c.in-Err.k c.requires.place c.requires.null
     c.in-Err.ensures.named c.in-Err.ensures.refused full in
-    record { why = inl (least.data_words + least.pointers, none.0, inl (refl, least, c.kept_sections-kept.ensures.kept, refl), no_struct_room (reading g.B.ReaderArena c.args.from) c.args.size least c.args.id (g.A.BuilderArena.view c.args.arena.now) c.args.canonicalize c.requires.inside c.kept_sections-kept.ensures.kept full); off = inl refl; left = none.1 }
+    record { why = inl (least.data_words + least.pointers, none.0, inl (refl, least, c.kept_sections-kept.ensures.kept, refl), no_struct_room (reading g.B.ReaderArena c.args.from) c.args.size least c.args.id (g.A.BuilderArena.view c.args.arena.now) (form_in c.args.form) c.requires.inside c.kept_sections-kept.ensures.kept full); off = inl refl; left = none.1 }
 
 pub structs::copy_struct-returns-in-Err-clause-taken : goal.structs::copy_struct-returns-in-Err-clause-taken
 structs::copy_struct-returns-in-Err-clause-taken g t c =
@@ -425,7 +436,7 @@ structs::copy_struct-returns-clause-copied g t c =
     let from : Reading = reading g.B.ReaderArena c.args.from in
     let held : words_of c.args.from.place.bytes.now ≡ row from = c.args.from.held.0 in
     let section : words_of c.part-data.result.now ≡ words_from from c.kept_sections-kept.result.data_words = rw (c.from-data_words.ensures, held) at c.part-data.ensures.words in
-    let begun : StructBegun c.args.canonicalize from c.args.size c.kept_sections-kept.result c.args.id c.args.at (g.A.BuilderArena.view c.args.arena.now) (g.A.BuilderArena.view c.make_struct.new.arena) (g.A.BuilderArena.view c.put_words.new.arena) c.in-Ok.start = record {
+    let begun : StructBegun (form_in c.args.form) from c.args.size c.kept_sections-kept.result c.args.id c.args.at (g.A.BuilderArena.view c.args.arena.now) (g.A.BuilderArena.view c.make_struct.new.arena) (g.A.BuilderArena.view c.put_words.new.arena) c.in-Ok.start = record {
       inside = c.requires.inside;
       sections = c.kept_sections-kept.ensures.kept;
       less_data = c.kept_sections-kept.ensures.less_data;
@@ -448,7 +459,7 @@ structs::copy_struct-returns-clause-refused g t c =
     let from : Reading = reading g.B.ReaderArena c.args.from in
     let held : words_of c.args.from.place.bytes.now ≡ row from = c.args.from.held.0 in
     let section : words_of c.part-data.result.now ≡ words_from from c.kept_sections-kept.result.data_words = rw (c.from-data_words.ensures, held) at c.part-data.ensures.words in
-    let begun : StructBegun c.args.canonicalize from c.args.size c.kept_sections-kept.result c.args.id c.args.at (g.A.BuilderArena.view c.args.arena.now) (g.A.BuilderArena.view c.make_struct.new.arena) (g.A.BuilderArena.view c.put_words.new.arena) c.in-Ok.start = record {
+    let begun : StructBegun (form_in c.args.form) from c.args.size c.kept_sections-kept.result c.args.id c.args.at (g.A.BuilderArena.view c.args.arena.now) (g.A.BuilderArena.view c.make_struct.new.arena) (g.A.BuilderArena.view c.put_words.new.arena) c.in-Ok.start = record {
       inside = c.requires.inside;
       sections = c.kept_sections-kept.ensures.kept;
       less_data = c.kept_sections-kept.ensures.less_data;
@@ -482,7 +493,7 @@ structs::copy_struct-copy_children-requires g t c κs within =
     let least = c.kept_sections-kept.result in
     let N : Segments = (g.A.BuilderArena.view c.put_words.new.arena).words in
     let section : words_of c.part-data.result.now ≡ words_from from c.kept_sections-kept.result.data_words = rw (c.from-data_words.ensures, held) at c.part-data.ensures.words in
-    let begun : StructBegun c.args.canonicalize from c.args.size c.kept_sections-kept.result c.args.id c.args.at (g.A.BuilderArena.view c.args.arena.now) (g.A.BuilderArena.view c.make_struct.new.arena) (g.A.BuilderArena.view c.put_words.new.arena) c.in-Ok.start = record {
+    let begun : StructBegun (form_in c.args.form) from c.args.size c.kept_sections-kept.result c.args.id c.args.at (g.A.BuilderArena.view c.args.arena.now) (g.A.BuilderArena.view c.make_struct.new.arena) (g.A.BuilderArena.view c.put_words.new.arena) c.in-Ok.start = record {
       inside = c.requires.inside;
       sections = c.kept_sections-kept.ensures.kept;
       less_data = c.kept_sections-kept.ensures.less_data;

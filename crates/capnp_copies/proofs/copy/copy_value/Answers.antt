@@ -1,22 +1,21 @@
-use Rattle.std.proofs.Common.{inl, inr, arith}
-use Rattle.capnp_making.proofs.Memory.{words_refused_before}
-use Rattle.capnp_copies.proofs.Growth.{until_within, words_pruned}
-use Rattle.capnp_copies.proofs.FilledValues.{stands_as_read, stops_rightly}
 use Rattle.capnp_copies.proofs.copy.copy_value.Goals as goal
 
-pub returns-in-Err-clause-refused : goal.returns-in-Err-clause-refused
-returns-in-Err-clause-refused g c = elim c.in-Err.ensures.refused.why [
-  | inl x ↦ inl (x.0, words_refused_before (g.A.BuilderArena.view c.args.arena.now) (g.A.BuilderArena.view c.copy_object.new.arena) (g.A.BuilderArena.view c.clear.new.arena) x.0 c.in-Err.k x.1 c.clear.ensures.limits c.clear.ensures.only, x.2, x.3)
-  | inr x ↦ inr x
-]
+-- The form of the copy is the one that is asked for.
 
-pub returns-in-Err-clause-taken : goal.returns-in-Err-clause-taken
-returns-in-Err-clause-taken g c =
-    until_within (omega arith) (words_pruned (g.A.BuilderArena.view c.copy_object.new.arena) (g.A.BuilderArena.view c.clear.new.arena) c.clear.ensures.only) c.in-Err.ensures.taken
+pub returns-clause-copied : goal.returns-clause-copied
+returns-clause-copied g c = rw c.of.ensures at c.copy_in_form.ensures.copied
 
-pub returns-in-Err-clause-fits : goal.returns-in-Err-clause-fits
-returns-in-Err-clause-fits g c = λ can. absurd (stops_rightly c.in-Err.ensures.refused can)
+pub returns-clause-stands : goal.returns-clause-stands
+returns-clause-stands g c = rw c.of.ensures at c.copy_in_form.ensures.stands
 
--- A reading gives one value.
-pub returns-in-Ok-clause-stands : goal.returns-in-Ok-clause-stands
-returns-in-Ok-clause-stands g c = λ t is_read. stands_as_read c.in-Ok.ensures.copied t is_read
+pub returns-clause-fits : goal.returns-clause-fits
+returns-clause-fits g c = rw c.of.ensures at c.copy_in_form.ensures.fits
+
+pub returns-clause-refused : goal.returns-clause-refused
+returns-clause-refused g c = rw c.of.ensures at c.copy_in_form.ensures.refused
+
+pub returns-clause-spent : goal.returns-clause-spent
+returns-clause-spent g c = rw c.of.ensures at c.copy_in_form.ensures.spent
+
+pub returns-clause-taken : goal.returns-clause-taken
+returns-clause-taken g c = rw c.of.ensures at c.copy_in_form.ensures.taken

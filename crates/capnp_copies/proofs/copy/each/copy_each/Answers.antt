@@ -1,7 +1,8 @@
-use Rattle.std.proofs.Common.{◌≡◌, ◌+◌, ◌^◌, ◌<◌, false, length, ◌∙◌, arith, rules}
+use Rattle.std.proofs.Common.{◌≡◌, ◌+◌, ◌^◌, ◌<◌, length, ◌∙◌, arith, rules}
 use Rattle.std.proofs.lemmas.Int.{to_z-of_z}
 use mir.Syntax.{w32}
 use Rattle.capnp_format.specs.Segments.{segment, word_at, IsPlace}
+use Rattle.capnp_objects.specs.Wanted.{plain}
 use Rattle.capnp_readers.specs.Readers.{reading}
 use Rattle.capnp_copies.proofs.FilledChildren.{no_child, children_grow, child_ahead}
 use Rattle.capnp_copies.proofs.Growth.{none_taken, one_taken, stop_taken, all_taken}
@@ -9,7 +10,7 @@ use Rattle.capnp_copies.proofs.EachCopied.{each_copied, each_stops, each_refused
 use Rattle.capnp_copies.proofs.copy.each.copy_each.Goals as goal
 
 pub loop-i-init : goal.loop-i-init
-loop-i-init g c = (no_child (reading g.B.ReaderArena c.args.from) false c.args.id c.args.at (g.A.BuilderArena.view c.args.arena.now) c.args.lim.now, none_taken (reading g.B.ReaderArena c.args.from) false c.args.id c.args.at (g.A.BuilderArena.view c.args.arena.now) c.args.lim.now)
+loop-i-init g c = (no_child (reading g.B.ReaderArena c.args.from) plain c.args.id c.args.at (g.A.BuilderArena.view c.args.arena.now) c.args.lim.now, none_taken (reading g.B.ReaderArena c.args.from) plain c.args.id c.args.at (g.A.BuilderArena.view c.args.arena.now) c.args.lim.now)
 
 pub copy_value-requires : goal.copy_value-requires
 copy_value-requires g c =

@@ -1,4 +1,4 @@
-use Rattle.std.proofs.Common.{false}
+use Rattle.capnp_objects.specs.Wanted.{plain}
 use Rattle.capnp_readers.specs.Readers.{reading}
 use Rattle.capnp_copies.specs.Changes.{change, CopiesChildren}
 use Rattle.capnp_copies.specs.Growth.{TakesForAll}
@@ -6,5 +6,5 @@ use Rattle.capnp_copies.proofs.copy.each.copy_each.Given as goal
 
 abbrev pub invariant-loop-i : goal.invariant-loop-i
 invariant-loop-i g l =
-    CopiesChildren (reading g.B.ReaderArena l.from) l.i (change false l.id l.at (g.A.BuilderArena.view l.fn.arena) (g.A.BuilderArena.view l.arena) l.fn.lim l.lim)
-    × TakesForAll (reading g.B.ReaderArena l.from) l.i 0 (change false l.id l.at (g.A.BuilderArena.view l.fn.arena) (g.A.BuilderArena.view l.arena) l.fn.lim l.lim)
+    CopiesChildren (reading g.B.ReaderArena l.from) l.i (change plain l.id l.at (g.A.BuilderArena.view l.fn.arena) (g.A.BuilderArena.view l.arena) l.fn.lim l.lim)
+    × TakesForAll (reading g.B.ReaderArena l.from) l.i 0 (change plain l.id l.at (g.A.BuilderArena.view l.fn.arena) (g.A.BuilderArena.view l.arena) l.fn.lim l.lim)

@@ -7,6 +7,7 @@ use Rattle.capnp_format.specs.Tree.{Flat}
 use Rattle.capnp_objects.specs.Source.{source_segments}
 use Rattle.capnp_pointers.specs.Sizes.{size_number}
 use Rattle.capnp_copies.specs.Changes.{Change, change}
+use Rattle.capnp_copies.specs.Forms.{form_of}
 use Rattle.capnp_copies.specs.Growth.{of_numbers, of_pointers, of_structs}
 use Rattle.capnp_copies.specs.ListValues.{ListElements, FitsListPointer, elements_read}
 use Rattle.capnp_copies.proofs.FilledValues.{FlatOutcome}
@@ -39,11 +40,11 @@ returns-in_default g c =
     let held = numbers_held (source_segments g.B.ReaderArena.segments value.source) value.start value.element_size value.count width value.content.now flat value.held value.content_is value.inside in
     let outcome : FlatOutcome c.copy_flat.result c.args.id c.args.at (words_for size value.count) (g.A.BuilderArena.view c.args.arena.now) (g.A.BuilderArena.view c.copy_flat.new.arena) (Flat size (unpacked size value.count (words_of value.content.now))) =
     record { copied = c.copy_flat.ensures.copied; granted = c.copy_flat.ensures.granted; refused = c.copy_flat.ensures.refused; kept = c.copy_flat.ensures.kept; memory = c.copy_flat.ensures.memory; stands = c.copy_flat.ensures.stands; fits = λ room. c.copy_flat.ensures.fits (omega (arith, room, flat_words size value.count (words_of value.content.now))) } in
-    let call : Change = change c.args.canonicalize c.args.id c.args.at (g.A.BuilderArena.view c.args.arena.now) (g.A.BuilderArena.view c.copy_flat.new.arena) c.args.lim.now c.args.lim.now in
+    let call : Change = change (form_of c.args.canonicalize) c.args.id c.args.at (g.A.BuilderArena.view c.args.arena.now) (g.A.BuilderArena.view c.copy_flat.new.arena) c.args.lim.now c.args.lim.now in
     let list : ListElements = elements_read g.B.ReaderArena value in
     record {
       long = λ long. absurd (long (c.fits_list_pointer.ensures.0 (search rules)));
-      taken = of_numbers flat (numbers_take c.copy_flat.result list.first (words_for size value.count + 1) c.args.canonicalize c.args.id c.args.at (g.A.BuilderArena.view c.args.arena.now) (g.A.BuilderArena.view c.copy_flat.new.arena) c.args.lim.now c.copy_flat.ensures.taken c.copy_flat.ensures.kept);
+      taken = of_numbers flat (numbers_take c.copy_flat.result list.first (words_for size value.count + 1) (form_of c.args.canonicalize) c.args.id c.args.at (g.A.BuilderArena.view c.args.arena.now) (g.A.BuilderArena.view c.copy_flat.new.arena) c.args.lim.now c.copy_flat.ensures.taken c.copy_flat.ensures.kept);
       copied = numbers_copied list call value.content.now c.copy_flat.result flat held.stand refl outcome;
       refused = numbers_stop list call value.content.now c.copy_flat.result flat held.stand (c.requires.place, c.requires.null) refl outcome;
     }
@@ -53,17 +54,17 @@ returns-in_default g c =
 pub returns-in-Pointer-clause-copied : goal.returns-in-Pointer-clause-copied
 returns-in-Pointer-clause-copied g c =
     let nl = to_z-of_z w32 c.args.value.nesting_limit (search rules) in
-    ok_so c.copy_pointers.result _ _ c.copy_pointers.ensures.copied (λ x copies. pointers_list_copied c.in-Pointer.is (rw nl at copies))
+    ok_so c.copy_pointers.result _ _ c.copy_pointers.ensures.copied (λ x copies. pointers_list_copied c.in-Pointer.is (rw (nl, c.of-form.ensures) at copies))
 
 pub returns-in-InlineComposite-clause-copied : goal.returns-in-InlineComposite-clause-copied
 returns-in-InlineComposite-clause-copied g c =
     let nl = to_z-of_z w32 c.args.value.nesting_limit (search rules) in
-    ok_so c.copy_structs.result _ _ c.copy_structs.ensures.copied (λ x copies. structs_list_copied c.in-InlineComposite.is (rw nl at copies))
+    ok_so c.copy_structs.result _ _ c.copy_structs.ensures.copied (λ x copies. structs_list_copied c.in-InlineComposite.is (rw (nl, c.of-form.ensures) at copies))
 
 pub returns-in-Pointer-clause-refused : goal.returns-in-Pointer-clause-refused
 returns-in-Pointer-clause-refused g c =
     let nl = to_z-of_z w32 c.args.value.nesting_limit (search rules) in
-    err_so c.copy_pointers.result _ _ c.copy_pointers.ensures.refused (λ k stop. pointers_list_stops c.in-Pointer.is (rw nl at stop))
+    err_so c.copy_pointers.result _ _ c.copy_pointers.ensures.refused (λ k stop. pointers_list_stops c.in-Pointer.is (rw (nl, c.of-form.ensures) at stop))
 
 pub returns-then-not-fits_list_pointer-clause-taken : goal.returns-then-not-fits_list_pointer-clause-taken
 returns-then-not-fits_list_pointer-clause-taken g c = nothing_for_list refl (nothing_taken refl)
@@ -71,14 +72,14 @@ returns-then-not-fits_list_pointer-clause-taken g c = nothing_for_list refl (not
 pub returns-in-Pointer-clause-taken : goal.returns-in-Pointer-clause-taken
 returns-in-Pointer-clause-taken g c =
     let nl = to_z-of_z w32 c.args.value.nesting_limit (search rules) in
-    of_pointers c.in-Pointer.is (rw nl at c.copy_pointers.ensures.taken)
+    of_pointers c.in-Pointer.is (rw (nl, c.of-form.ensures) at c.copy_pointers.ensures.taken)
 
 pub returns-in-InlineComposite-clause-taken : goal.returns-in-InlineComposite-clause-taken
 returns-in-InlineComposite-clause-taken g c =
     let nl = to_z-of_z w32 c.args.value.nesting_limit (search rules) in
-    of_structs c.in-InlineComposite.is (rw nl at c.copy_structs.ensures.taken)
+    of_structs c.in-InlineComposite.is (rw (nl, c.of-form.ensures) at c.copy_structs.ensures.taken)
 
 pub returns-in-InlineComposite-clause-refused : goal.returns-in-InlineComposite-clause-refused
 returns-in-InlineComposite-clause-refused g c =
     let nl = to_z-of_z w32 c.args.value.nesting_limit (search rules) in
-    err_so c.copy_structs.result _ _ c.copy_structs.ensures.refused (λ k stop. structs_list_stops c.in-InlineComposite.is (rw nl at stop))
+    err_so c.copy_structs.result _ _ c.copy_structs.ensures.refused (λ k stop. structs_list_stops c.in-InlineComposite.is (rw (nl, c.of-form.ensures) at stop))

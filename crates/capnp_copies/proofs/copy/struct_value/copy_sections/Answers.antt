@@ -6,6 +6,7 @@ use Rattle.capnp_format.proofs.Slices.{length_words}
 use Rattle.capnp_arena.specs.View.{View}
 use Rattle.capnp_objects.specs.Reading.{Reading, words_from}
 use Rattle.capnp_readers.specs.Sizes.{pointers_read}
+use Rattle.capnp_copies.specs.Forms.{form_of}
 use Rattle.capnp_copies.specs.Growth.{message_words}
 use Rattle.capnp_copies.specs.StructValues.{data_of}
 use Rattle.capnp_copies.proofs.DataSections.{kept_count-le, section_long}
@@ -35,15 +36,15 @@ pub returns-in-Err-make_struct-clause-refused : goal.returns-in-Err-make_struct-
 returns-in-Err-make_struct-clause-refused g c =
     let least = c.in-Ok.kept in
     let full : HasRoom (g.A.BuilderArena.view c.args.arena.now) c.args.id (least.data_words + least.pointers) → ⊥ = λ room. absurd (false≢true (c.in-Err-make_struct.ensures.fits room)) in
-    let none = nothing_made c.args.canonicalize c.args.id c.args.at (least.data_words + least.pointers) (g.A.BuilderArena.view c.args.arena.now) (g.A.BuilderArena.view c.make_struct.new.arena) c.args.lim.now c.args.lim.now c.in-Err-make_struct.k c.requires.place c.requires.null
+    let none = nothing_made (form_of c.args.canonicalize) c.args.id c.args.at (least.data_words + least.pointers) (g.A.BuilderArena.view c.args.arena.now) (g.A.BuilderArena.view c.make_struct.new.arena) c.args.lim.now c.args.lim.now c.in-Err-make_struct.k c.requires.place c.requires.null
     c.in-Err-make_struct.ensures.named c.in-Err-make_struct.ensures.refused full in
-    let cut : SectionsCut c.args.canonicalize (data_of g.B.ReaderArena c.args.value) (pointers_read g.B.ReaderArena c.args.value) c.args.value.pointer_count least = record { inside = c.args.value.inside; of_data = c.in-Ok.ensures.data; of_pointers = c.in-Ok.ensures.pointers } in
+    let cut : SectionsCut (form_of c.args.canonicalize) (data_of g.B.ReaderArena c.args.value) (pointers_read g.B.ReaderArena c.args.value) c.args.value.pointer_count least = record { inside = c.args.value.inside; of_data = c.in-Ok.ensures.data; of_pointers = c.in-Ok.ensures.pointers } in
     record {
       why = inl (
         least.data_words + least.pointers,
         none.0,
         inl (refl, ap₂ (λ i j. i + j) c.in-Ok.ensures.data c.in-Ok.ensures.pointers),
-        λ ts m counts are_read. no_sections_room c.args.id (g.A.BuilderArena.view c.args.arena.now) c.args.canonicalize cut full ts are_read.cost counts are_read.means,
+        λ ts m counts are_read. no_sections_room c.args.id (g.A.BuilderArena.view c.args.arena.now) (form_of c.args.canonicalize) cut full ts are_read.cost counts are_read.means,
       );
       off = inl refl;
       left = none.1;
@@ -52,7 +53,7 @@ returns-in-Err-make_struct-clause-refused g c =
 -- The struct is made, and its data words are written.
 
 pub put_section-requires-clause-few : goal.put_section-requires-clause-few
-put_section-requires-clause-few g c = omega (arith, c.in-Ok.ensures.data, kept_count-le c.args.canonicalize (data_of g.B.ReaderArena c.args.value))
+put_section-requires-clause-few g c = omega (arith, c.in-Ok.ensures.data, kept_count-le (form_of c.args.canonicalize) (data_of g.B.ReaderArena c.args.value))
 
 pub overflow_add-first : goal.overflow_add-first
 overflow_add-first g c =
@@ -60,7 +61,7 @@ overflow_add-first g c =
 
 pub copy_children-requires : goal.copy_children-requires
 copy_children-requires g c =
-    let begun : SectionsBegun c.args.canonicalize (data_of g.B.ReaderArena c.args.value) (pointers_read g.B.ReaderArena c.args.value) c.args.value.pointer_count c.in-Ok.kept c.args.id c.args.at (g.A.BuilderArena.view c.args.arena.now) (g.A.BuilderArena.view c.make_struct.new.arena)
+    let begun : SectionsBegun (form_of c.args.canonicalize) (data_of g.B.ReaderArena c.args.value) (pointers_read g.B.ReaderArena c.args.value) c.args.value.pointer_count c.in-Ok.kept c.args.id c.args.at (g.A.BuilderArena.view c.args.arena.now) (g.A.BuilderArena.view c.make_struct.new.arena)
     (g.A.BuilderArena.view c.put_section.new.arena) c.in-Ok-make_struct.start = record {
       cut = record { inside = c.args.value.inside; of_data = c.in-Ok.ensures.data; of_pointers = c.in-Ok.ensures.pointers };
       begun = record { made = c.in-Ok-make_struct.ensures.made; start = c.in-Ok-make_struct.ensures.start; inside = c.in-Ok-make_struct.ensures.inside };
@@ -98,15 +99,15 @@ returns g c =
     let put : View = g.A.BuilderArena.view c.put_section.new.arena in
     let ws : List ℕ = data_of g.B.ReaderArena value in
     let size = c.in-Ok.kept in
-    let words_kept : size.data_words ≤ length ws = omega (arith, c.in-Ok.ensures.data, kept_count-le c.args.canonicalize ws) in
+    let words_kept : size.data_words ≤ length ws = omega (arith, c.in-Ok.ensures.data, kept_count-le (form_of c.args.canonicalize) ws) in
     let pointers_kept : size.pointers ≤ value.pointer_count =
-    omega (arith, c.in-Ok.ensures.pointers, kept_count-le c.args.canonicalize (words_from r value.pointer_count), length_words r.segments r.segment r.at value.pointer_count value.inside) in
+    omega (arith, c.in-Ok.ensures.pointers, kept_count-le (form_of c.args.canonicalize) (words_from r value.pointer_count), length_words r.segments r.segment r.at value.pointer_count value.inside) in
     let long = section_long value.bits value.content.now (search rules) in
     let words = takes_words (g.A.BuilderArena.view c.args.arena.now) made c.args.id (size.data_words + size.pointers) c.in-Ok-make_struct.ensures.taken in
     let over = words_over made put c.in-Ok-make_struct.start.segment c.in-Ok-make_struct.start.at (take size.data_words ws) (omega (arith, c.in-Ok-make_struct.ensures.inside.1, length-take size.data_words ws)) (ap (λ (v : View). v.words) c.put_section.ensures) in
     let nl = to_z-of_z w32 value.nesting_limit (search rules) in
     let made : message_words put.words ≤ message_words (g.A.BuilderArena.view c.args.arena.now).words + ((value.bits + 63) / 64 + value.pointer_count + 1) = omega (arith, words, over, words_kept, pointers_kept, long) in
-    let begun : SectionsBegun c.args.canonicalize (data_of g.B.ReaderArena c.args.value) (pointers_read g.B.ReaderArena c.args.value) c.args.value.pointer_count c.in-Ok.kept c.args.id c.args.at (g.A.BuilderArena.view c.args.arena.now) (g.A.BuilderArena.view c.make_struct.new.arena)
+    let begun : SectionsBegun (form_of c.args.canonicalize) (data_of g.B.ReaderArena c.args.value) (pointers_read g.B.ReaderArena c.args.value) c.args.value.pointer_count c.in-Ok.kept c.args.id c.args.at (g.A.BuilderArena.view c.args.arena.now) (g.A.BuilderArena.view c.make_struct.new.arena)
     (g.A.BuilderArena.view c.put_section.new.arena) c.in-Ok-make_struct.start = record {
       cut = record { inside = c.args.value.inside; of_data = c.in-Ok.ensures.data; of_pointers = c.in-Ok.ensures.pointers };
       begun = record { made = c.in-Ok-make_struct.ensures.made; start = c.in-Ok-make_struct.ensures.start; inside = c.in-Ok-make_struct.ensures.inside };
@@ -120,7 +121,7 @@ returns g c =
       empty = c.in-Ok-make_struct.ensures.empty;
     } in
     record {
-      copied = ok_so c.copy_children.result _ _ c.copy_children.ensures.copied (λ x made. sections_copied begun (rw (c.from.ensures, c.from-pointers.ensures, nl) at made));
-      refused = err_so c.copy_children.result _ _ c.copy_children.ensures.refused (λ k stop. sections_stop begun (rw (c.from.ensures, c.from-pointers.ensures, nl) at stop));
-      taken = taken_so c.copy_children.result _ _ _ _ (λ x. cut_taken value.inside c.in-Ok.ensures.pointers (omega (arith, made)) x) (λ x. inr (among pointers_kept (omega (arith, made)) (omega arith) x)) (rw (c.from.ensures, c.from-pointers.ensures, nl) at c.copy_children.ensures.taken);
+      copied = ok_so c.copy_children.result _ _ c.copy_children.ensures.copied (λ x made. sections_copied begun (rw (c.from.ensures, c.from-pointers.ensures, nl, c.of-form.ensures) at made));
+      refused = err_so c.copy_children.result _ _ c.copy_children.ensures.refused (λ k stop. sections_stop begun (rw (c.from.ensures, c.from-pointers.ensures, nl, c.of-form.ensures) at stop));
+      taken = taken_so c.copy_children.result _ _ _ _ (λ x. cut_taken value.inside c.in-Ok.ensures.pointers (omega (arith, made)) x) (λ x. inr (among pointers_kept (omega (arith, made)) (omega arith) x)) (rw (c.from.ensures, c.from-pointers.ensures, nl, c.of-form.ensures) at c.copy_children.ensures.taken);
     }
