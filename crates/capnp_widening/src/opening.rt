@@ -1,14 +1,15 @@
 //! Structs and lists of structs opened for writing, at least as large as asked for ("Structs", "Lists").
-ghost use Rattle.std.specs.Prelude.{◌≡◌, ◌↔◌, ◌+◌, ◌*◌, ◌^◌, ◌≤◌, max, IsTrue, Some, Ok, Err, IsOk, IfOk, OnOk, IfErr};
+ghost use Rattle.std.specs.Prelude.{◌≡◌, ◌↔◌, ◌+◌, ◌*◌, ◌^◌, ◌≤◌, max, IsTrue, Some, IfSome, IfOk, OnOk, IfErr};
 ghost use Rattle.capnp_format.specs.Forest.{target};
 ghost use Rattle.capnp_format.specs.Segments.{IsPlace, word_at};
 ghost use Rattle.capnp_format.specs.Tree.{Tree, Null};
-ghost use Rattle.capnp_making.specs.Existing.{struct_in, LiesIn};
+ghost use Rattle.capnp_making.specs.Existing.{struct_in};
 ghost use Rattle.capnp_making.specs.Memory.{KeepsMemory, SpendsMemory};
 ghost use Rattle.capnp_making.specs.Stored.{IsStored};
-ghost use Rattle.capnp_widening.specs.Opening.{call_at, HasSections, IsWideList, LeadsToAll, Opens, OpensStruct, OpensList, refusal_of_elements, refusal_of_words};
+ghost use Rattle.capnp_widening.specs.Opening.{call_at, IsWideList, OpensStruct, OpensList, refusal_of_elements};
 ghost use Rattle.capnp_widening.specs.RowsRemade.{RefusesWider};
-ghost use Rattle.capnp_widening.specs.Widened.{IsAtLeast, IsNoWider, list_widened};
+ghost use Rattle.capnp_widening.specs.Widened.{IsAtLeast, IsNoWider};
+ghost use Rattle.capnp_words.specs.declared.error.ErrorKind.TheVariants.{AllocationFailed};
 
 use crate::lists::get_struct_list;
 use crate::widening::{get_struct, greater};
@@ -140,6 +141,7 @@ pub fn open_struct_list<A: BuilderArena>(
     requires place { IsPlace (A.view arena.old).words id at }
     ensures opened { (t : Tree) → IsStored (A.view arena.old).words id at t → OpensList size result (call_at id at (A.view arena.old) (A.view arena.new)) t }
     ensures granted { OnOk result (KeepsMemory (A.view arena.old) (A.view arena.new)) }
+    ensures memory { IfErr result (SpendsMemory (A.view arena.old) (A.view arena.new)) }
     ensures named { IfErr result (RefusesWider (A.view arena.old) (A.view arena.new) id at size) }
 {
     match existing::get_list(arena, id, at, ElementSize::Void) {
@@ -166,7 +168,8 @@ fn is_wide_list(list: ExistingList, wanted: StructSize) -> bool
 
 /// Why the elements of a list make no structs of at least a size, if they don't.
 fn refusal_of_list(list: ExistingList, wanted: StructSize) -> Option<ErrorKind>
-    ensures { result ≡ refusal_of_elements wanted list.size list.struct_size list.count }
+    ensures found { result ≡ refusal_of_elements wanted list.size list.struct_size list.count }
+    ensures named { IfSome result (λ k. k ≡ AllocationFailed → ⊥) }
 {
     let mut size = wanted;
     match list.size {
