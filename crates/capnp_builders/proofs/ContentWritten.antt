@@ -59,7 +59,7 @@ bit_is x = ap (λ y. cond (nat_eq y 1) 1 0) (and_mask x 1) ∙ lowest (x % 2) (o
 
 -- the segments, once pointers are copied or one is refused
 pub each_grows : (r : Reading) (n : ℕ) (c : Change) (result : Result (Unit {0}) ErrorKind) → IfOk result (λ _. CopiesChildren r n c) → IfErr result (CopiesFirst r n c) → Grows c.old.words c.new.words
-each_grows r n c (Ok x) copied refused = filled_grows c.old.words c.new.words c.segment c.at (kept_each c.canonicalize copied.children) copied.made
+each_grows r n c (Ok x) copied refused = filled_grows c.old.words c.new.words c.segment c.at (kept_each c.form copied.children) copied.made
 each_grows r n c (Err k) copied refused =
     let first = filled_grows c.old.words refused.filled c.segment c.at refused.first refused.made in
     record { segments = le_trans first.segments refused.cleared.segments; words = λ v. le_trans (first.words v) (refused.cleared.words v) }

@@ -1,5 +1,5 @@
 -- What a place holds once a value was copied to it: one that was null, or was cleared first.
-use Rattle.std.proofs.Common.{◌≡◌, inl, inr, ℕ, ◌+◌, ◌<◌, Bool, zero, suc, List, length, refl, ◌∙◌, Result, Ok, Err, IfOk, OnOk, OnErr, [], ◌∷◌, ap, sym, subst, arith}
+use Rattle.std.proofs.Common.{◌≡◌, inl, inr, ℕ, ◌+◌, ◌<◌, zero, suc, List, length, refl, ◌∙◌, Result, Ok, Err, IfOk, OnOk, OnErr, [], ◌∷◌, ap, sym, subst, arith}
 use Rattle.capnp_words.specs.declared.error.ErrorKind.{ErrorKind}
 use Rattle.capnp_format.specs.Canonical.{encoding}
 use Rattle.capnp_format.specs.Segments.{Segments, segment, word_at, IsPlace}
@@ -13,8 +13,9 @@ use Rattle.capnp_making.specs.Zeroed.{IsPruned}
 use Rattle.capnp_making.proofs.FillingMade.{null_stored}
 use Rattle.capnp_objects.specs.Outcomes.{Reads}
 use Rattle.capnp_objects.specs.Reading.{Reading}
+use Rattle.capnp_objects.specs.Wanted.{Form}
 use Rattle.capnp_copies.specs.Changes.{Change, StandsAsRead}
-use Rattle.capnp_copies.specs.Forms.{form_of, kept}
+use Rattle.capnp_copies.specs.Forms.{kept}
 use Rattle.capnp_copies.specs.Rooms.{IsTooLarge}
 use Rattle.capnp_builders.specs.Kept.{OnceCleared, FillsSegment, FillsMessage}
 use Rattle.capnp_copies.proofs.Copying.{fresh_made}
@@ -32,8 +33,8 @@ null_cleared (Err k) S R s p place null made = null_replaced S R s p Null place 
 
 -- a segment whose one word was null is the words of the copy
 pub fresh_copied : {X : Type 0} (o : Result X ErrorKind) (r : Reading) (c : Change) (Q : Tree → Type 0) → IsPlace c.old.words c.segment c.at → segment c.old.words c.segment ≡ 0 ∷ [] →
-    IfOk o (λ _. (t : Tree) × Reads (form_of c.canonicalize) r c.before c.after t × Q t) → OnOk o (StandsAsRead r c) → IfOk o (λ _. FillsSegment r c)
-fresh_copied (Ok x) r c Q place one (t, is_read, held) stands = (t, is_read, λ fits. fresh_made c.old.words c.segment c.at (kept c.canonicalize t) (place, one) (stands t is_read fits))
+    IfOk o (λ _. (t : Tree) × Reads c.form r c.before c.after t × Q t) → OnOk o (StandsAsRead r c) → IfOk o (λ _. FillsSegment r c)
+fresh_copied (Ok x) r c Q place one (t, is_read, held) stands = (t, is_read, λ fits. fresh_made c.old.words c.segment c.at (kept c.form t) (place, one) (stands t is_read fits))
 fresh_copied (Err k) r c Q place one copied stands = tt
 
 -- a message of one segment is that segment
@@ -48,12 +49,12 @@ first_segment (suc s) p place = absurd (omega (arith, place))
 
 -- a message of one word that was null, and has one segment still, is the words of the copy
 pub alone_copied : {X : Type 0} (o : Result X ErrorKind) (r : Reading) (c : Change) (Q : Tree → Type 0) → IsPlace c.old.words c.segment c.at → c.old.words ≡ (0 ∷ []) ∷ [] →
-    IfOk o (λ _. (t : Tree) × Reads (form_of c.canonicalize) r c.before c.after t × Q t) → OnOk o (StandsAsRead r c) → IfOk o (λ _. FillsMessage r c)
+    IfOk o (λ _. (t : Tree) × Reads c.form r c.before c.after t × Q t) → OnOk o (StandsAsRead r c) → IfOk o (λ _. FillsMessage r c)
 alone_copied (Ok x) r c Q place fresh copied stands =
     let first : c.segment ≡ 0 = first_segment c.segment c.at (subst (λ (S : Segments). IsPlace S c.segment c.at) fresh place) in
     let only : segment c.old.words c.segment ≡ 0 ∷ [] = ap (λ i. segment c.old.words i) first ∙ ap (λ (S : Segments). segment S 0) fresh in
     let made = fresh_copied (Ok x) r c Q place only copied stands in
-    (made.0, made.1, λ one. only_segment c.new.words (encoding (kept c.canonicalize made.0)) one (subst (λ i. segment c.new.words i ≡ encoding (kept c.canonicalize made.0)) first (made.2 (inr one))))
+    (made.0, made.1, λ one. only_segment c.new.words (encoding (kept c.form made.0)) one (subst (λ i. segment c.new.words i ≡ encoding (kept c.form made.0)) first (made.2 (inr one))))
 alone_copied (Err k) r c Q place fresh copied stands = tt
 
 -- the words of the copy stand behind what was cleared, or was null
@@ -80,6 +81,6 @@ exceeds_before n a b s limits pruned beyond = omega (arith, beyond, ap (λ (v : 
 pub room_later : (n : ℕ) (a b : View) (s : ℕ) → KeepsLimits a b → IsPruned a.words b.words → HasOwnRoom a s n → HasOwnRoom b s n
 room_later n a b s limits pruned room = omega (arith, room, ap (λ (v : View). v.room s) limits, pruned.words s)
 
-pub beyond_before : (canonicalize : Bool) (r : Reading) (a b : View) (s : ℕ) → KeepsLimits a b → IsPruned a.words b.words → IsTooLarge canonicalize r (length (segment b.words s)) (b.room s) → IsTooLarge canonicalize r (length (segment a.words s)) (a.room s)
-beyond_before canonicalize r a b s limits pruned large =
+pub beyond_before : (form : Form) (r : Reading) (a b : View) (s : ℕ) → KeepsLimits a b → IsPruned a.words b.words → IsTooLarge form r (length (segment b.words s)) (b.room s) → IsTooLarge form r (length (segment a.words s)) (a.room s)
+beyond_before form r a b s limits pruned large =
     λ t c means. exceeds_before _ a b s limits pruned (large t c means)

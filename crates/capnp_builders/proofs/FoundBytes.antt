@@ -1,17 +1,19 @@
 -- Texts and data that are found in a message lie in it.
-use Rattle.std.proofs.Common.{◌≡◌, ℕ, ◌+◌, ◌-◌, ◌<◌, ◌≤◌, Bool, true, false, cond, nat_eq, length, Option, Some, None, IfSome, IsNone, Result, Ok, Err, refl, ap, subst, arith}
+use Rattle.std.proofs.Common.{◌≡◌, ℕ, ◌+◌, ◌-◌, ◌<◌, ◌≤◌, Bool, true, false, cond, nat_eq, length, Option, Some, None, IfSome, IsNone, Result, Ok, Err, refl, sym, ap, ◌∙◌, subst, arith}
 use Rattle.std.proofs.lemmas.Bool.{eqb-true}
 use Rattle.capnp_words.specs.declared.error.ErrorKind.{ErrorKind}
-use Rattle.capnp_words.specs.declared.error.ErrorKind.TheVariants.{ExistingListPointerIsNotByteSized, TextBlobMissingNULTerminator}
+use Rattle.capnp_words.specs.declared.error.ErrorKind.TheVariants.{AllocationFailed, ExistingListPointerIsNotByteSized, TextBlobMissingNULTerminator}
 use Rattle.capnp_format.specs.Numbers.{words_for}
 use Rattle.capnp_format.specs.Segments.{Segments, segment, Target}
 use Rattle.capnp_format.specs.Tree.{Tree, Null, Capability, Struct, Flat, Pointers, Structs}
 use Rattle.capnp_format.specs.Means.{Means}
 use Rattle.capnp_format.specs.Forest.{target, target_in}
 use Rattle.capnp_making.specs.declared.existing.ExistingBytes.{ExistingBytes}
-use Rattle.capnp_making.specs.Existing.{LieIn, bytes_at, data_in, text_in, text_of, ends_in_zero}
+use Rattle.capnp_making.specs.Existing.{LieIn, is_unfound, bytes_at, data_in, text_in, text_of, ends_in_zero}
 use Rattle.capnp_making.specs.Stored.{IsStored}
+use Rattle.capnp_making.specs.Memory.{refusals_for}
 use Rattle.capnp_making.proofs.Leading.{leads_segment}
+use Rattle.capnp_builders.specs.Found.{bytes_given, no_bytes}
 
 abbrev pub Found : Type 0
 Found = Result (Option ExistingBytes) ErrorKind
@@ -61,20 +63,12 @@ text_inside S s p t b there stored e = let m = stored.means in meant m.0 m.1 t m
     meant n c (Structs d q es) m e = cc
 
 -- bytes that were found are what the call gives
-pub found_then : (found : Option ExistingBytes) (b : ExistingBytes) (r : Result ExistingBytes ErrorKind) (L : ExistingBytes → Type 0) → ◌≡◌ {A = Found} (Ok found) (Ok (Some b)) → IfSome found (λ x. L x → r ≡ Ok x) → L b → r ≡ Ok b
-found_then (Some x) b r L e h lie = let same : x ≡ b = cc in subst (λ y. L y → r ≡ Ok y) same h lie
-found_then None b r L e h lie = cc
+pub bytes_found : (S : Segments) (s : ℕ) (q : Found) (found : Option ExistingBytes) (r : Result ExistingBytes ErrorKind) → q ≡ Ok found → ((b : ExistingBytes) → q ≡ Ok (Some b) → LieIn S b) → IfSome found (λ b. LieIn S b → r ≡ Ok b) →
+    (IsNone found → r ≡ Ok (no_bytes s)) → r ≡ bytes_given s q
+bytes_found S s q (Some b) r e inside some none = some (inside b e) ∙ sym (ap (bytes_given s) e)
+bytes_found S s q None r e inside some none = none refl ∙ sym (ap (bytes_given s) e)
 
-pub none_found : (found : Option ExistingBytes) → ◌≡◌ {A = Found} (Ok found) (Ok None) → IsNone found
-none_found (Some x) e = cc
-none_found None e = refl
-
--- a refusal is no absence of bytes
-pub refused_or_none : (k : ErrorKind) → ◌≡◌ {A = Found} (Err k) (Ok None) → ⊥
-refused_or_none k e = cc
-
-pub same_refusal : (k l : ErrorKind) → ◌≡◌ {A = Result ExistingBytes ErrorKind} (Err k) (Err l) → k ≡ l
-same_refusal k l e = cc
-
-pub same_bytes : (b d : ExistingBytes) → ◌≡◌ {A = Result ExistingBytes ErrorKind} (Ok b) (Ok d) → b ≡ d
-same_bytes b d e = cc
+-- what isn't found spends nothing
+pub unfound_spends : (k : ErrorKind) → is_unfound k ≡ true → (n : ℕ) → refusals_for k n ≡ n
+unfound_spends AllocationFailed e n = absurd (cc)
+unfound_spends k e n = refl

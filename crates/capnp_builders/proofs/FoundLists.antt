@@ -1,7 +1,6 @@
 -- Lists that are found in a message lie in it.
-use Rattle.std.proofs.Common.{◌≡◌, ℕ, true, zero, suc, ◌+◌, ◌<◌, ◌≤◌, length, Option, Some, None, Result, Ok, Err, IfOk, refl, sym, ap, subst, arith}
+use Rattle.std.proofs.Common.{◌≡◌, ℕ, zero, suc, ◌+◌, ◌<◌, ◌≤◌, length, Option, Some, None, Result, Ok, refl, ap, subst, arith}
 use Rattle.capnp_words.specs.declared.error.ErrorKind.{ErrorKind}
-use Rattle.capnp_words.specs.declared.error.ErrorKind.TheVariants.{UnknownPointerType}
 use Rattle.capnp_format.specs.Numbers.{words_for}
 use Rattle.capnp_format.specs.Segments.{Segments, segment, Target}
 use Rattle.capnp_format.specs.Tree.{Tree, Null, Capability, Struct, Flat, Pointers, Structs, count, element_count}
@@ -10,14 +9,14 @@ use Rattle.capnp_format.specs.Forest.{target, target_in}
 use Rattle.capnp_pointers.specs.declared.wire_pointer.ElementSize.{ElementSize}
 use Rattle.capnp_pointers.specs.declared.wire_pointer.ElementSize.TheVariants.{Pointer}
 use Rattle.capnp_making.specs.declared.existing.ExistingList.{ExistingList}
-use Rattle.capnp_making.specs.Existing.{is_unfound, size_of, plain_misfit, structs_misfit, plain_list, struct_list, unless, list_in}
+use Rattle.capnp_making.specs.Existing.{size_of, plain_misfit, structs_misfit, plain_list, struct_list, unless, list_in}
 use Rattle.capnp_making.specs.Stored.{IsStored}
 use Rattle.capnp_making.proofs.Leading.{leads_segment}
 use Rattle.capnp_making.proofs.Zeros.{there}
 use Rattle.capnp_readers.specs.Readers.{IsListPlace}
 use Rattle.capnp_readers.specs.Sections.{list_words}
 use Rattle.capnp_readers.specs.declared.readers.list_reader.ListPlace.{ListPlace}
-use Rattle.capnp_builders.specs.Found.{place_of, void_list, is_missed}
+use Rattle.capnp_builders.specs.Found.{place_of, void_list, list_given}
 
 -- n words from where a pointer leads are there, at the list l
 record IsAt (S : Segments) (a : Target) (n : ℕ) (l : ExistingList) : Type 0 where
@@ -65,22 +64,11 @@ meant S n s p c expected (Structs d q es) l there (a, m, k, some, o, claim, tag,
 pub found_inside : (S : Segments) (s p : ℕ) (expected : ElementSize) (t : Tree) (l : ExistingList) → s < length S → IsStored S s p t → list_in (target S s p) expected t ≡ Ok (Some l) → IsListPlace S (place_of l)
 found_inside S s p expected t l there stored e = let m = stored.means in meant S m.0 s p m.1 expected t l there m.2 e
 
--- and so does the list of none
-pub void_inside : {E : Type 0} (S : Segments) (s p : ℕ) (r : Result ListPlace E) → p < length (segment S s) → IfOk r (λ l. l ≡ void_list s) → IfOk r (IsListPlace S)
-void_inside S s p (Ok l) place e = subst (IsListPlace S) (sym e) (there S s p place, refl, omega arith)
-void_inside S s p (Err k) place e = tt
+-- what is given of what is found
+same_list : {E : Type 0} (x y : ListPlace) → ◌≡◌ {A = Result ListPlace E} (Ok x) (Ok y) → x ≡ y
+same_list x y e = cc
 
--- a list is no absence of one, and no refusal
-pub some_or_none : (l : ExistingList) → ◌≡◌ {A = Result (Option ExistingList) ErrorKind} (Ok (Some l)) (Ok None) → ⊥
-some_or_none l e = cc
-
-pub ok_or_err : (k : ErrorKind) → ◌≡◌ {A = Result (Option ExistingList) ErrorKind} (Err k) (Ok None) → ⊥
-ok_or_err k e = cc
-
--- what isn't found is missed
-pub missed : (k : ErrorKind) → is_unfound k ≡ true → is_missed k ≡ true
-missed UnknownPointerType e = refl
-missed k e = e
-
-pub same_error : (k l : ErrorKind) → ◌≡◌ {A = Result ListPlace ErrorKind} (Err k) (Err l) → k ≡ l
-same_error k l e = cc
+pub given_inside : (S : Segments) (s p : ℕ) (expected : ElementSize) (t : Tree) (found : Option ExistingList) (place : ListPlace) → p < length (segment S s) → IsStored S s p t → list_in (target S s p) expected t ≡ Ok found →
+    list_given s (Ok found) ≡ Ok place → IsListPlace S place
+given_inside S s p expected t (Some l) place there_is stored e given = subst (IsListPlace S) (same_list (place_of l) place given) (found_inside S s p expected t l (there S s p there_is) stored e)
+given_inside S s p expected t None place there_is stored e given = subst (IsListPlace S) (same_list (void_list s) place given) (there S s p there_is, refl, omega arith)

@@ -7,4 +7,7 @@ pub mod FoundLists
 pub mod CopiesHeld
 pub mod ContentWritten
 pub mod ContentTaken
+pub mod DefaultCopies
 pub mod ElementContent
+pub mod DefaultUses
+pub mod Openings

@@ -1,18 +1,15 @@
 -- A pointer of a message that is built.
-use Rattle.std.specs.Prelude.{◌≡◌, ℕ, Bool, Option, Result, Some, Ok, [], ◌∷◌, length}
+use Rattle.std.specs.Prelude.{◌≡◌, ℕ, Bool, Result, Ok, Err, [], ◌∷◌, length}
 use Rattle.capnp_words.specs.Meter.{Meter}
 use Rattle.capnp_words.specs.declared.error.ErrorKind.{ErrorKind}
 use Rattle.capnp_format.specs.Segments.{Segments, segment, word_at, IsPlace}
-use Rattle.capnp_format.specs.Forest.{target}
 use Rattle.capnp_format.specs.Tree.{Tree}
 use Rattle.capnp_arena.specs.View.{View}
-use Rattle.capnp_making.specs.declared.existing.ExistingBytes.{ExistingBytes}
-use Rattle.capnp_making.specs.declared.existing.ExistingList.{ExistingList}
-use Rattle.capnp_making.specs.Existing.{list_in, data_in, text_in}
 use Rattle.capnp_making.specs.Stored.{IsStored, Puts}
-use Rattle.capnp_pointers.specs.declared.wire_pointer.ElementSize.{ElementSize}
 use Rattle.capnp_objects.specs.Reading.{Reading}
 use Rattle.capnp_copies.specs.Copies.{CanBeCopied}
+use Rattle.capnp_copies.specs.Forms.{form_of}
+use Rattle.capnp_widening.specs.Opening.{CallAt, call_at}
 use Rattle.capnp_builders.specs.declared.builders.PointerBuilder.{PointerBuilder}
 
 -- A place that is written: the message, where in it, and how many words its segment can hold.
@@ -33,24 +30,6 @@ built_at view b now = record { segments = (view now).words; segment = b.segment;
 -- The value t is stored at the place.
 abbrev pub Stores : Building → Tree → Type 0
 Stores b t = IsStored b.segments b.segment b.at t
-
--- The list that the value t there is, where its elements are to be as wide as expected ones.
-abbrev pub listed_in : Building → ElementSize → Tree → Result (Option ExistingList) ErrorKind
-listed_in b expected t = list_in (target b.segments b.segment b.at) expected t
-
--- The bytes of the data, or of the text, that the value t there is.
-abbrev pub data_at : Building → Tree → Result (Option ExistingBytes) ErrorKind
-data_at b t = data_in (target b.segments b.segment b.at) t
-
-abbrev pub text_at : Building → Tree → Result (Option ExistingBytes) ErrorKind
-text_at b t = text_in (target b.segments b.segment b.at) t
-
--- P holds of the bytes, wherever the value there is data, or text.
-abbrev pub WhereData : Building → (ExistingBytes → Type 0) → Type 0
-WhereData b P = (t : Tree) (bytes : ExistingBytes) → Stores b t → data_at b t ≡ Ok (Some bytes) → P bytes
-
-abbrev pub WhereText : Building → (ExistingBytes → Type 0) → Type 0
-WhereText b P = (t : Tree) (bytes : ExistingBytes) → Stores b t → text_at b t ≡ Ok (Some bytes) → P bytes
 
 -- Whatever value the place had, it has t in its stead.
 abbrev pub Becomes : Building → Building → Tree → Type 0
@@ -75,4 +54,20 @@ IsFresh b = b.segments ≡ (0 ∷ []) ∷ []
 -- What is read has a value, in canonical form one without capabilities, at a cost that m covers, and the words to be kept of it
 -- fit.
 abbrev pub CopyFits : Bool → Reading → Meter → Building → Type 0
-CopyFits canonicalize r m b = CanBeCopied canonicalize r m (length (segment b.segments b.segment)) b.room
+CopyFits canonicalize r m b = CanBeCopied (form_of canonicalize) r m (length (segment b.segments b.segment)) b.room
+
+-- A call on a builder; and one that is done with it, with the message that is left.
+abbrev pub calling : {A : Type 0} → (A → View) → PointerBuilder A → PointerBuilder A → CallAt
+calling view b b' = call_at b.segment b.at (view b.arena.now) (view b'.arena.now)
+
+abbrev pub calling_last : {A : Type 0} → (A → View) → PointerBuilder A → View → CallAt
+calling_last view b new = call_at b.segment b.at (view b.arena.now) new
+
+-- P holds of the value that is stored at the place, whatever it is.
+abbrev pub OfStored : Building → (Tree → Type 0) → Type 0
+OfStored b P = (t : Tree) → Stores b t → P t
+
+-- A call that is done with its builder gives a value by which Q holds of the message that is left; or it is refused, and so it is with some message.
+abbrev pub Leaves : {B C : Type 0} → (B → View) → (B → C) → (View → Result C ErrorKind → Type 0) → Result B ErrorKind → Type 0
+Leaves view_in value_in Q (Ok b) = Q (view_in b) (Ok (value_in b))
+Leaves view_in value_in Q (Err k) = (new : View) × Q new (Err k)

@@ -1,5 +1,5 @@
 -- What a struct of a message that is built has of another struct's content ("Structs").
-use Rattle.std.specs.Prelude.{◌≡◌, ℕ, zero, suc, ◌+◌, ◌-◌, ◌*◌, ◌/◌, ◌%◌, ◌^◌, ◌<◌, List, Result, slice_index, min, false}
+use Rattle.std.specs.Prelude.{◌≡◌, ℕ, zero, suc, ◌+◌, ◌-◌, ◌*◌, ◌/◌, ◌%◌, ◌^◌, ◌<◌, List, Result, slice_index, min}
 use Rattle.capnp_words.specs.Meter.{Meter}
 use Rattle.capnp_format.specs.Segments.{Segments, word_at}
 use Rattle.capnp_format.specs.Tree.{Null}
@@ -10,6 +10,7 @@ use Rattle.capnp_making.specs.Stored.{Puts}
 use Rattle.capnp_readers.specs.declared.readers.struct_reader.StructPlace.{StructPlace}
 use Rattle.capnp_readers.specs.declared.readers.struct_reader.StructReader.{StructReader}
 use Rattle.capnp_words.specs.declared.error.ErrorKind.{ErrorKind}
+use Rattle.capnp_objects.specs.Wanted.{plain}
 use Rattle.capnp_readers.specs.Sizes.{pointers_read}
 use Rattle.capnp_copies.specs.Changes.{Change, CopiesChildren, change}
 use Rattle.capnp_copies.specs.Growth.{TakesForPointers}
@@ -39,7 +40,7 @@ AreCleared S R s p (suc n) = (M : Segments) × AreCleared S M s p n × Puts M R 
 
 -- Pointers are copied, as they stand, from the first pointer of a struct on.
 abbrev pub pointers_copied : StructPlace → View → View → Meter → Meter → Change
-pointers_copied place old new before after = change false place.segment place.pointers_at old new before after
+pointers_copied place old new before after = change plain place.segment place.pointers_at old new before after
 
 module _ {A : Type 0} (g : Ghosts A) where
   -- The data of a struct that is read stands in the data section of a struct, as much as both have, and zeros behind it; and

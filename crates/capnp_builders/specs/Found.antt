@@ -1,12 +1,18 @@
 -- What a builder call gives that looks for a list, a text or data ("Lists").
-use Rattle.std.specs.Prelude.{◌≡◌, ℕ, ◌*◌, Bool, true, List, [], ◌∷◌, cond, nat_eq, Result, Ok, Err, IsOkAnd}
+use Rattle.std.specs.Prelude.{◌≡◌, ℕ, ◌*◌, List, Option, Some, None, Result, Ok, Err}
+use Rattle.std.specs.Borrow.{Bor}
+use Rattle.capnp_format.specs.Forest.{target}
+use Rattle.capnp_format.specs.Tree.{Tree}
+use Rattle.capnp_pointers.specs.declared.wire_pointer.ElementSize.{ElementSize}
 use Rattle.capnp_pointers.specs.declared.wire_pointer.ElementSize.TheVariants.{Void}
 use Rattle.capnp_words.specs.declared.error.ErrorKind.{ErrorKind}
-use Rattle.capnp_words.specs.declared.error.ErrorKind.TheVariants.{ExistingPointerIsNotAList, MessageContainsOutOfBoundsPointer, UnknownPointerType}
-use Rattle.capnp_making.specs.Existing.{is_unfound}
+use Rattle.capnp_making.specs.Existing.{list_in, data_in, text_in}
+use Rattle.capnp_making.specs.InPlace.{bytes_of}
 use Rattle.capnp_making.specs.declared.existing.ExistingBytes.{ExistingBytes}
 use Rattle.capnp_making.specs.declared.existing.ExistingList.{ExistingList}
 use Rattle.capnp_readers.specs.declared.readers.list_reader.ListPlace.{ListPlace}
+use Rattle.capnp_widening.specs.Opening.{CallAt}
+use Rattle.capnp_builders.specs.Defaults.{object_default, blob_default, WithDefault}
 
 -- The place of a list that is found.
 abbrev pub place_of : ExistingList → ListPlace
@@ -16,27 +22,43 @@ place_of l = record { segment = l.segment; byte = 8 * l.start; size = l.size; st
 abbrev pub void_list : ℕ → ListPlace
 void_list id = record { segment = id; byte = 0; size = Void; struct_size = record { data_words = 0; pointers = 0 }; count = 0 }
 
--- What stands in place of null in segment id, by the words of a default: one whose first word is null is as none, and any other is
--- not copied yet.
-abbrev pub in_place_of_null : ℕ → List ℕ → Result ListPlace ErrorKind
-in_place_of_null id [] = Err MessageContainsOutOfBoundsPointer
-in_place_of_null id (x ∷ xs) = cond (nat_eq x 0) (Ok (void_list id)) (Err UnknownPointerType)
-
--- A call gives the list at this place, or is refused, as what stands in place of null.
-abbrev pub GivesInstead : {B : Type 0} → (B → ListPlace) → Result ListPlace ErrorKind → Result B ErrorKind → Type 0
-GivesInstead place_in (Ok l) r = IsOkAnd r (λ b. place_in b ≡ l)
-GivesInstead place_in (Err k) r = r ≡ Err k
-
 -- No bytes, in segment id.
 abbrev pub no_bytes : ℕ → ExistingBytes
 no_bytes id = record { segment = id; start = 0; length = 0 }
 
--- Why a default, by its words, gives no bytes: it has no first word, its first word is null, or it isn't copied yet.
-abbrev pub refusal_of_default : List ℕ → ErrorKind
-refusal_of_default [] = MessageContainsOutOfBoundsPointer
-refusal_of_default (x ∷ xs) = cond (nat_eq x 0) ExistingPointerIsNotAList UnknownPointerType
+-- What a call gives at a pointer of segment id, by what is found: a list of none, or no bytes, where that is null.
+abbrev pub list_given : ℕ → Result (Option ExistingList) ErrorKind → Result ListPlace ErrorKind
+list_given id (Ok (Some l)) = Ok (place_of l)
+list_given id (Ok None) = Ok (void_list id)
+list_given id (Err k) = Err k
 
--- The names by which a call is refused that looks for a list, data or a text: it isn't found, or a default isn't copied yet.
-abbrev pub is_missed : ErrorKind → Bool
-is_missed UnknownPointerType = true
-is_missed k = is_unfound k
+abbrev pub bytes_given : ℕ → Result (Option ExistingBytes) ErrorKind → Result ExistingBytes ErrorKind
+bytes_given id (Ok (Some b)) = Ok b
+bytes_given id (Ok None) = Ok (no_bytes id)
+bytes_given id (Err k) = Err k
+
+-- A call gives what is found where t stands, and nothing is changed.
+abbrev pub GivesList : ElementSize → Result ListPlace ErrorKind → CallAt → Tree → Type 0
+GivesList size result c t = (result ≡ list_given c.segment (list_in (target c.old.words c.segment c.at) size t)) × (c.new ≡ c.old)
+
+abbrev pub GivesData : Result ExistingBytes ErrorKind → CallAt → Tree → Type 0
+GivesData result c t = (result ≡ bytes_given c.segment (data_in (target c.old.words c.segment c.at) t)) × (c.new ≡ c.old)
+
+abbrev pub GivesText : Result ExistingBytes ErrorKind → CallAt → Tree → Type 0
+GivesText result c t = (result ≡ bytes_given c.segment (text_in (target c.old.words c.segment c.at) t)) × (c.new ≡ c.old)
+
+-- So it does with what stands once its default is put in place of null.
+abbrev pub FindsList : ElementSize → Option (Bor (List ℕ)) → Result ListPlace ErrorKind → CallAt → Tree → Type 0
+FindsList size default result c t = WithDefault (object_default default t) c t (GivesList size result) result
+
+abbrev pub FindsData : Option (Bor (List ℕ)) → Result ExistingBytes ErrorKind → CallAt → Tree → Type 0
+FindsData default result c t = WithDefault (blob_default default t) c t (GivesData result) result
+
+abbrev pub FindsText : Option (Bor (List ℕ)) → Result ExistingBytes ErrorKind → CallAt → Tree → Type 0
+FindsText default result c t = WithDefault (blob_default default t) c t (GivesText result) result
+
+-- What is found is lent for writing; or the call is refused by the same name.
+abbrev pub IsLent : {B : Type 0} → (B → List ℕ) → List (List ℕ) → Result ExistingBytes ErrorKind → Result B ErrorKind → Type 0
+IsLent now segments (Ok b) (Ok s) = now s ≡ bytes_of segments b
+IsLent now segments (Err k) (Err l) = l ≡ k
+IsLent now segments found result = ⊥

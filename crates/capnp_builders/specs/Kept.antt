@@ -21,15 +21,15 @@ use Rattle.capnp_builders.specs.declared.builders.PointerBuilder.{PointerBuilder
 
 -- A copy to the place of a builder: the builder and the read limiter, before it and after it.
 abbrev pub copying : {A : Type 0} → (A → View) → Bool → PointerBuilder A → PointerBuilder A → Meter → Meter → Change
-copying view canonicalize b b' m m' = change canonicalize b.segment b.at (view b.arena.now) (view b'.arena.now) m m'
+copying view canonicalize b b' m m' = change (form_of canonicalize) b.segment b.at (view b.arena.now) (view b'.arena.now) m m'
 
 -- Whatever value the place of a copy had, it has in its stead what is kept of t.
 abbrev pub IsKept : Change → Tree → Type 0
-IsKept c t = Puts c.old.words c.new.words c.segment c.at (kept c.canonicalize t)
+IsKept c t = Puts c.old.words c.new.words c.segment c.at (kept c.form t)
 
 -- What a place means is read and so kept.
 abbrev pub PutsCopy : Reading → Change → Type 0
-PutsCopy r c = (t : Tree) × Reads (form_of c.canonicalize) r c.before c.after t × IsKept c t
+PutsCopy r c = (t : Tree) × Reads c.form r c.before c.after t × IsKept c t
 
 -- What the place held becomes zero first, and its words stay allocated. Then P says where the words of what is kept stand.
 pub record OnceCleared (P : Change → Type 0) (c : Change) : Type 0 where
@@ -42,21 +42,21 @@ pub record OnceCleared (P : Change → Type 0) (c : Change) : Type 0 where
 -- It is read, and a copy that stays in the segment is all of the segment.
 abbrev pub FillsSegment : Reading → Change → Type 0
 FillsSegment r c =
-    (t : Tree) × Reads (form_of c.canonicalize) r c.before c.after t
-    × (Fits c (word_count (kept c.canonicalize t)) → segment c.new.words c.segment ≡ encoding (kept c.canonicalize t))
+    (t : Tree) × Reads c.form r c.before c.after t
+    × (Fits c (word_count (kept c.form t)) → segment c.new.words c.segment ≡ encoding (kept c.form t))
 
 -- It is read, and its copy is all of the message, where that has one segment.
 abbrev pub FillsMessage : Reading → Change → Type 0
 FillsMessage r c =
-    (t : Tree) × Reads (form_of c.canonicalize) r c.before c.after t × (length c.new.words ≡ 1 → c.new.words ≡ encoding (kept c.canonicalize t) ∷ [])
+    (t : Tree) × Reads c.form r c.before c.after t × (length c.new.words ≡ 1 → c.new.words ≡ encoding (kept c.form t) ∷ [])
 
 module _ {A : Type 0} (g : Ghosts A) where
   -- What the pointers of a struct mean is read, and the struct is so kept.
   abbrev pub PutsStruct : StructReader A g → Change → Type 0
   PutsStruct value c =
-      (ts : Trees) × (count ts ≡ value.pointer_count) × ReadsAll (form_of c.canonicalize) (pointers_read g value) c.before c.after ts
+      (ts : Trees) × (count ts ≡ value.pointer_count) × ReadsAll c.form (pointers_read g value) c.before c.after ts
       × IsKept c (Struct (data_of g value) ts)
 
   -- What the elements of a list mean is read, and the list is so kept.
   abbrev pub PutsList : ListReader A g → Change → Type 0
-  PutsList value c = (t : Tree) × ReadsList (form_of c.canonicalize) (elements_read g value) c.before c.after t × IsKept c t
+  PutsList value c = (t : Tree) × ReadsList c.form (elements_read g value) c.before c.after t × IsKept c t

@@ -5,5 +5,7 @@ pub mod Lent
 pub mod Places
 pub mod Reads
 pub mod Content
+pub mod Defaults
 pub mod Kept
 pub mod Laws
+pub mod Opening

@@ -1,26 +1,20 @@
 //! Builders: places of a message that is built, each with the message borrowed for writing.
-ghost use Rattle.std.specs.Prelude.{◌≡◌, ◌≢◌, ℕ, List, ◌⊎◌, ◌↔◌, ◌∷◌, ◌++◌, [], ◌+◌, ◌-◌, ◌*◌, ◌^◌, ◌<◌, ◌≤◌, IsTrue, false, true, length, pos, Option, Some, IsNone, IfSome, Ok, Err, IsOk, IsOkAnd, IfOk, IfErr, OnOk, OnErr};
+ghost use Rattle.std.specs.Prelude.{◌≡◌, ◌≢◌, ℕ, List, ◌⊎◌, ◌↔◌, ◌∷◌, ◌++◌, [], ◌+◌, ◌-◌, ◌*◌, ◌^◌, ◌<◌, ◌≤◌, IsTrue, length, Ok, Err, IsOk, IfOk, IfErr, OnOk, OnErr};
 ghost use Rattle.capnp_format.specs.Bytes.{message, words_of};
 ghost use Rattle.capnp_format.specs.Segments.{segment, word_at, IsPlace};
-ghost use Rattle.capnp_format.specs.Tree.{Tree, Null, Capability, Flat, count};
+ghost use Rattle.capnp_format.specs.Tree.{Null, Capability, Flat, count};
 ghost use Rattle.capnp_format.specs.Numbers.{words_for};
-ghost use Rattle.capnp_making.specs.declared.existing.ExistingBytes.{ExistingBytes};
-ghost use Rattle.capnp_making.specs.declared.existing.ExistingList.{ExistingList};
-ghost use Rattle.capnp_making.specs.Existing.{AreInside, LieIn, capability_of};
+ghost use Rattle.capnp_making.specs.Existing.{AreInside, capability_of};
 ghost use Rattle.capnp_making.specs.InPlace.{bytes_of, rewritten, AreBytes, AreZeroOnce, Overwrites};
-ghost use Rattle.capnp_readers.specs.Readers.{IsListPlace};
-ghost use Rattle.capnp_builders.specs.Found.{place_of, void_list, in_place_of_null, GivesInstead, no_bytes, refusal_of_default, is_missed};
-ghost use Rattle.capnp_words.specs.declared.error.ErrorKind.{ErrorKind};
 ghost use Rattle.capnp_pointers.specs.Sizes.{size_number};
 ghost use Rattle.capnp_making.specs.Made.{zero_struct, zero_structs, zero_list, list_words};
 ghost use Rattle.capnp_making.specs.Memory.{HasRoom, KeepsMemory, TakesWords, SpendsMemory, IsRefusedFor, CanRefuse};
 ghost use Rattle.capnp_making.specs.Stored.{ZeroesOld};
 ghost use Rattle.capnp_making.specs.Zeroed.{IsPruned};
 ghost use Rattle.capnp_builders.specs.Places.{IsAligned, IsStructOf, IsListOf, IsStructListOf};
-ghost use Rattle.capnp_words.specs.declared.error.ErrorKind.TheVariants.{MessageTooLarge, UnknownPointerType};
+ghost use Rattle.capnp_words.specs.declared.error.ErrorKind.TheVariants.{MessageTooLarge};
 ghost use Rattle.capnp_builders.specs.Reads.{IsArenaOf};
-ghost use Rattle.capnp_objects.specs.Outcomes.{Reads};
-ghost use Rattle.capnp_objects.specs.Refusals.{BreaksOff, BreaksOffAmong, Refused};
+ghost use Rattle.capnp_objects.specs.Refusals.{BreaksOff, BreaksOffAmong};
 ghost use Rattle.capnp_objects.specs.Wanted.{canonical, plain};
 ghost use Rattle.capnp_copies.specs.Changes.{RefusesValue, StandsAsRead};
 ghost use Rattle.capnp_copies.specs.Forms.{form_of};
@@ -31,12 +25,13 @@ ghost use Rattle.capnp_readers.specs.Sizes.{pointers_read};
 ghost use Rattle.capnp_readers.specs.Readers.{reading};
 
 mod content;
+pub mod defaults;
+mod finding;
 mod found;
 mod list_builder;
 mod primitive_element;
 mod struct_builder;
 
-use self::found::{found_bytes, list_of_null};
 use capnp_arena::arena::{BuilderArena, ReaderArena};
 use capnp_copies::copy;
 use capnp_making::existing::ExistingBytes;
@@ -72,7 +67,7 @@ pub struct PointerBuilder<'a, A> {
 impl<'a, A: BuilderArena> PointerBuilder<'a, A> {
     ghost use Rattle.std.specs.Borrow.{sem, follows, Array, u8 as byte};
     ghost use Rattle.capnp_arena.specs.View.{KeepsLimits};
-    ghost use Rattle.capnp_builders.specs.Building.{Becomes, IsFresh, Stores, WhereData, WhereText, listed_in, data_at, text_at, CopyFits, HasOnlyNull, IsNull, IsThere, built, built_at};
+    ghost use Rattle.capnp_builders.specs.Building.{Becomes, IsFresh, CopyFits, HasOnlyNull, IsNull, IsThere, built, built_at};
     ghost use Rattle.capnp_builders.specs.Kept.{PutsCopy, PutsStruct, PutsList, OnceCleared, FillsSegment, FillsMessage, copying};
     ghost use Rattle.capnp_builders.specs.Lent.{with_arena};
     ghost use Rattle.capnp_builders.specs.contracts.builders.PointerBuilder.{the_row};
@@ -469,152 +464,6 @@ impl<'a, A: BuilderArena> PointerBuilder<'a, A> {
         ensures { result ≡ capability_of (word_at (A.view self.now.arena.now).words self.now.segment self.now.at) }
     {
         existing::get_capability(&*self.arena, self.segment, self.at)
-    }
-
-    /// Where the list is that the pointer leads to, of elements of the expected size or wider, as
-    /// `get_list` looks for it; nothing is changed.
-    pub fn find_list(
-        &self,
-        size: ElementSize,
-        default: Option<&[u8]>,
-    ) -> Result<ListPlace, ErrorKind>
-        requires there { IsThere (built A.view self.now) }
-        requires plain { size_number size ≤ 6 }
-        ensures found { (t : Tree) (l : ExistingList) → Stores (built A.view self.now) t → listed_in (built A.view self.now) size t ≡ Ok (Some l) → result ≡ Ok (place_of l) }
-        ensures refused { (t : Tree) (k : ErrorKind) → Stores (built A.view self.now) t → listed_in (built A.view self.now) size t ≡ Err k → result ≡ Err k }
-        ensures null { Stores (built A.view self.now) Null → IsNone default.entry → result ≡ Ok (void_list self.now.segment) }
-        ensures of_default { Stores (built A.view self.now) Null → IfSome default.entry (λ d. result ≡ in_place_of_null self.now.segment (words_of d.now)) }
-        ensures inside { (t : Tree) → Stores (built A.view self.now) t → IfOk result (IsListPlace (A.view self.now.arena.now).words) }
-        ensures named { IfErr result (λ k. is_missed k ≡ true) }
-    {
-        match existing::get_list(&*self.arena, self.segment, self.at, size) {
-            Ok(Some(list)) => Ok(ListPlace {
-                segment: list.segment,
-                byte: 8 * u64::from(list.start),
-                size: list.size,
-                struct_size: list.struct_size,
-                count: list.count,
-            }),
-            Ok(None) => list_of_null(self.segment, default),
-            Err(k) => Err(k),
-        }
-    }
-
-    /// The list that the pointer leads to, of elements of the expected size or wider; nothing is
-    /// changed. A null pointer gives a void list of none, unless there is a default.
-    ///
-    /// What isn't a list is `ExistingPointerIsNotAList`. A list of structs where bits are expected is
-    /// `FoundStructListWhereBitListWasExpected`; elements with fewer bits of data or fewer pointers than
-    /// expected, structs without data words where data is expected, or without pointers where pointers
-    /// are, are `ExistingListValueIsIncompatibleWithExpectedType`.
-    ///
-    /// For now no default is copied: one whose first word isn't null is `UnknownPointerType`, and one
-    /// without a whole word `MessageContainsOutOfBoundsPointer`.
-    pub fn get_list(
-        self,
-        size: ElementSize,
-        default: Option<&[u8]>,
-    ) -> Result<ListBuilder<'a, A>, ErrorKind>
-        requires there { IsThere (built A.view self) }
-        requires plain { size_number size ≤ 6 }
-        ensures same { IfOk result (λ b. b.arena.ghost_name ≡ self.entry.arena.ghost_name) }
-        ensures now { IfOk result (λ b. b.arena.now ≡ self.entry.arena.now) }
-        ensures found { (t : Tree) (l : ExistingList) → Stores (built A.view self.entry) t → listed_in (built A.view self.entry) size t ≡ Ok (Some l) → IsOkAnd result (λ b. b.place ≡ place_of l) }
-        ensures refused { (t : Tree) (k : ErrorKind) → Stores (built A.view self.entry) t → listed_in (built A.view self.entry) size t ≡ Err k → result ≡ Err k }
-        ensures null { Stores (built A.view self.entry) Null → IsNone default.entry → IsOkAnd result (λ b. b.place ≡ void_list self.entry.segment) }
-        ensures of_default { Stores (built A.view self.entry) Null → IfSome default.entry (λ d. GivesInstead (λ b. b.place) (in_place_of_null self.entry.segment (words_of d.now)) result) }
-        ensures inside { (t : Tree) → Stores (built A.view self.entry) t → IfOk result (λ b. IsListPlace (A.view b.arena.now).words b.place) }
-    {
-        match self.find_list(size, default) {
-            Ok(place) => Ok(self.into_list(place)),
-            Err(k) => Err(k),
-        }
-    }
-
-    /// Where the data is that the pointer leads to, as `get_data` looks for it; nothing is changed.
-    pub fn find_data(&self, default: Option<&[u8]>) -> Result<ExistingBytes, ErrorKind>
-        requires { IsThere (built A.view self.now) }
-        ensures found { WhereData (built A.view self.now) (λ b. result ≡ Ok b) }
-        ensures refused { (t : Tree) (k : ErrorKind) → Stores (built A.view self.now) t → data_at (built A.view self.now) t ≡ Err k → result ≡ Err k }
-        ensures null { Stores (built A.view self.now) Null → IsNone default.entry → result ≡ Ok (no_bytes self.now.segment) }
-        ensures of_default { Stores (built A.view self.now) Null → IfSome default.entry (λ d. result ≡ Err (refusal_of_default (words_of d.now))) }
-        ensures inside { IfOk result (LieIn (A.view self.now.arena.now).words) }
-        ensures named { IfErr result (λ k. is_missed k ≡ true) }
-    {
-        match existing::get_data(&*self.arena, self.segment, self.at) {
-            Ok(found) => found_bytes(&*self.arena, self.segment, found, default),
-            Err(k) => Err(k),
-        }
-    }
-
-    /// The data that the pointer leads to, lent to be written in place ("Lists"). A null pointer gives no
-    /// bytes, unless there is a default.
-    ///
-    /// What isn't a list is `ExistingPointerIsNotAList`, and so is a default whose first word is null; a
-    /// list of other elements than bytes is `ExistingListPointerIsNotByteSized`. For now no default is
-    /// copied: any other is `UnknownPointerType`, and one without a whole word
-    /// `MessageContainsOutOfBoundsPointer`. What the message is once the bytes are written is said by
-    /// `find_data` and `bytes_mut`, which do the same in two steps.
-    pub fn get_data(self, default: Option<&[u8]>) -> Result<&'a mut [u8], ErrorKind>
-        requires { IsThere (built A.view self) }
-        ensures found { WhereData (built A.view self.entry) (λ b. IsOkAnd result (λ s. s.now ≡ bytes_of (A.segments self.entry.arena.now) b)) }
-        ensures refused { (t : Tree) (k : ErrorKind) → Stores (built A.view self.entry) t → data_at (built A.view self.entry) t ≡ Err k → result ≡ Err k }
-        ensures null { Stores (built A.view self.entry) Null → IsNone default.entry → IsOkAnd result (λ s. s.now ≡ []) }
-        ensures of_default { Stores (built A.view self.entry) Null → IfSome default.entry (λ d. result ≡ Err (refusal_of_default (words_of d.now))) }
-    {
-        match self.find_data(default) {
-            Ok(bytes) => {
-                let PointerBuilder {
-                    arena,
-                    segment: _,
-                    at: _,
-                } = self;
-                Ok(lent::bytes_mut(arena, bytes))
-            }
-            Err(k) => Err(k),
-        }
-    }
-
-    /// Where the text is that the pointer leads to, as `get_text` looks for it; nothing is changed.
-    pub fn find_text(&self, default: Option<&[u8]>) -> Result<ExistingBytes, ErrorKind>
-        requires { IsThere (built A.view self.now) }
-        ensures found { WhereText (built A.view self.now) (λ b. result ≡ Ok b) }
-        ensures refused { (t : Tree) (k : ErrorKind) → Stores (built A.view self.now) t → text_at (built A.view self.now) t ≡ Err k → result ≡ Err k }
-        ensures null { Stores (built A.view self.now) Null → IsNone default.entry → result ≡ Ok (no_bytes self.now.segment) }
-        ensures of_default { Stores (built A.view self.now) Null → IfSome default.entry (λ d. result ≡ Err (refusal_of_default (words_of d.now))) }
-        ensures inside { IfOk result (LieIn (A.view self.now.arena.now).words) }
-        ensures named { IfErr result (λ k. is_missed k ≡ true) }
-    {
-        match existing::get_text(&*self.arena, self.segment, self.at) {
-            Ok(found) => found_bytes(&*self.arena, self.segment, found, default),
-            Err(k) => Err(k),
-        }
-    }
-
-    /// The text that the pointer leads to, without the zero byte behind it, lent to be written in place
-    /// ("Lists"). A null pointer gives no bytes, unless there is a default.
-    ///
-    /// What isn't data is refused as by `get_data`; bytes that don't end in a zero byte are
-    /// `TextBlobMissingNULTerminator`. What the message is once the bytes are written is said by
-    /// `find_text` and `bytes_mut`, which do the same in two steps.
-    pub fn get_text(self, default: Option<&[u8]>) -> Result<&'a mut [u8], ErrorKind>
-        requires { IsThere (built A.view self) }
-        ensures found { WhereText (built A.view self.entry) (λ b. IsOkAnd result (λ s. s.now ≡ bytes_of (A.segments self.entry.arena.now) b)) }
-        ensures refused { (t : Tree) (k : ErrorKind) → Stores (built A.view self.entry) t → text_at (built A.view self.entry) t ≡ Err k → result ≡ Err k }
-        ensures null { Stores (built A.view self.entry) Null → IsNone default.entry → IsOkAnd result (λ s. s.now ≡ []) }
-        ensures of_default { Stores (built A.view self.entry) Null → IfSome default.entry (λ d. result ≡ Err (refusal_of_default (words_of d.now))) }
-    {
-        match self.find_text(default) {
-            Ok(bytes) => {
-                let PointerBuilder {
-                    arena,
-                    segment: _,
-                    at: _,
-                } = self;
-                Ok(lent::bytes_mut(arena, bytes))
-            }
-            Err(k) => Err(k),
-        }
     }
 
     /// Makes the pointer what another one means: a copy of the whole value, as it stands, or in canonical

@@ -1,86 +1,124 @@
-//! What is found where a list, a text or data is looked for, and what stands for a null pointer
-//! ("Lists").
-ghost use Rattle.std.specs.Prelude.{◌≡◌, ◌<◌, true, length, IsNone, IfSome, Ok, Err, IfOk, IfErr};
-ghost use Rattle.capnp_format.specs.Bytes.{words_of};
-ghost use Rattle.capnp_making.specs.Existing.{LieIn};
-ghost use Rattle.capnp_builders.specs.Found.{void_list, in_place_of_null, no_bytes, refusal_of_default, is_missed};
+//! What is found where a list, a text or data is looked for ("Lists").
+ghost use Rattle.std.specs.Prelude.{◌≡◌, ◌<◌, ◌≤◌, true, length, Ok, IsNone, IfSome, IfOk, IfErr};
+ghost use Rattle.capnp_format.specs.Forest.{target};
+ghost use Rattle.capnp_format.specs.Segments.{IsPlace};
+ghost use Rattle.capnp_format.specs.Tree.{Tree};
+ghost use Rattle.capnp_making.specs.Existing.{LieIn, is_unfound, list_in, data_in, text_in};
+ghost use Rattle.capnp_making.specs.Stored.{IsStored};
+ghost use Rattle.capnp_pointers.specs.Sizes.{size_number};
+ghost use Rattle.capnp_readers.specs.Readers.{IsListPlace};
+ghost use Rattle.capnp_builders.specs.Found.{list_given, bytes_given, no_bytes};
 
 use super::NO_SECTIONS;
 use capnp_arena::arena::BuilderArena;
-use capnp_making::existing::{ExistingBytes, are_inside};
+use capnp_making::existing::{self, ExistingBytes, ExistingList, are_inside};
 use capnp_readers::readers::ListPlace;
 use capnp_words::error::ErrorKind;
 use capnp_words::wire_pointer::ElementSize;
-use capnp_words::words;
 
-/// What stands for a null pointer of a segment where a list is looked for.
-pub(crate) fn list_of_null(segment: u32, default: Option<&[u8]>) -> Result<ListPlace, ErrorKind>
-    ensures none { IsNone default.entry → result ≡ Ok (void_list segment) }
-    ensures some { IfSome default.entry (λ d. result ≡ in_place_of_null segment (words_of d.now)) }
-    ensures void { IfOk result (λ l. l ≡ void_list segment) }
-    ensures named { IfErr result (λ k. is_missed k ≡ true) }
+/// The place of a list that was found, or a void list of none for a null pointer of a segment.
+pub(crate) fn found_list(segment: u32, found: Option<ExistingList>) -> ListPlace
+    ensures { list_given segment (Ok found) ≡ Ok result }
 {
-    if let Some(bytes) = default {
-        if bytes.len() < 8 {
-            return Err(ErrorKind::MessageContainsOutOfBoundsPointer);
-        }
-        if words::word_at(bytes, 0) != 0 {
-            return Err(ErrorKind::UnknownPointerType);
-        }
+    match found {
+        Some(list) => ListPlace {
+            segment: list.segment,
+            byte: 8 * u64::from(list.start),
+            size: list.size,
+            struct_size: list.struct_size,
+            count: list.count,
+        },
+        None => ListPlace {
+            segment,
+            byte: 0,
+            size: ElementSize::Void,
+            struct_size: NO_SECTIONS,
+            count: 0,
+        },
     }
-    Ok(ListPlace {
-        segment,
-        byte: 0,
-        size: ElementSize::Void,
-        struct_size: NO_SECTIONS,
-        count: 0,
-    })
 }
 
-/// The bytes that were found, or none for a null pointer of a segment without default.
+/// The list that the pointer at a place leads to, of elements of the expected size or wider; nothing is
+/// changed.
+pub(crate) fn look_for_list<A: BuilderArena>(
+    arena: &A,
+    id: u32,
+    at: u32,
+    size: ElementSize,
+) -> Result<ListPlace, ErrorKind>
+    requires place { IsPlace (A.view arena.now).words id at }
+    requires plain { size_number size ≤ 6 }
+    ensures found { (t : Tree) → IsStored (A.view arena.now).words id at t → result ≡ list_given id (list_in (target (A.view arena.now).words id at) size t) }
+    ensures inside { (t : Tree) → IsStored (A.view arena.now).words id at t → IfOk result (IsListPlace (A.view arena.now).words) }
+    ensures named { IfErr result (λ k. is_unfound k ≡ true) }
+{
+    match existing::get_list(arena, id, at, size) {
+        Ok(found) => Ok(found_list(id, found)),
+        Err(k) => Err(k),
+    }
+}
+
+/// The data that the pointer at a place leads to; nothing is changed.
+pub(crate) fn look_for_data<A: BuilderArena>(
+    arena: &A,
+    id: u32,
+    at: u32,
+) -> Result<ExistingBytes, ErrorKind>
+    requires { IsPlace (A.view arena.now).words id at }
+    ensures found { (t : Tree) → IsStored (A.view arena.now).words id at t → result ≡ bytes_given id (data_in (target (A.view arena.now).words id at) t) }
+    ensures inside { IfOk result (LieIn (A.view arena.now).words) }
+    ensures named { IfErr result (λ k. is_unfound k ≡ true) }
+{
+    match existing::get_data(arena, id, at) {
+        Ok(found) => found_bytes(arena, id, found),
+        Err(k) => Err(k),
+    }
+}
+
+/// The text that the pointer at a place leads to; nothing is changed.
+pub(crate) fn look_for_text<A: BuilderArena>(
+    arena: &A,
+    id: u32,
+    at: u32,
+) -> Result<ExistingBytes, ErrorKind>
+    requires { IsPlace (A.view arena.now).words id at }
+    ensures found { (t : Tree) → IsStored (A.view arena.now).words id at t → result ≡ bytes_given id (text_in (target (A.view arena.now).words id at) t) }
+    ensures inside { IfOk result (LieIn (A.view arena.now).words) }
+    ensures named { IfErr result (λ k. is_unfound k ≡ true) }
+{
+    match existing::get_text(arena, id, at) {
+        Ok(found) => found_bytes(arena, id, found),
+        Err(k) => Err(k),
+    }
+}
+
+/// The bytes that were found, or none for a null pointer of a segment.
 ///
 /// Bytes that don't lie in the message, which no stored value has, are
 /// `MessageContainsOutOfBoundsPointer`.
-pub(crate) fn found_bytes<A: BuilderArena>(
+fn found_bytes<A: BuilderArena>(
     arena: &A,
     segment: u32,
     found: Option<ExistingBytes>,
-    default: Option<&[u8]>,
 ) -> Result<ExistingBytes, ErrorKind>
     requires { segment < length (A.view arena.now).words }
     ensures some { IfSome found (λ b. LieIn (A.view arena.now).words b → result ≡ Ok b) }
-    ensures none { IsNone found → IsNone default.entry → result ≡ Ok (no_bytes segment) }
-    ensures of_default { IsNone found → IfSome default.entry (λ d. result ≡ Err (refusal_of_default (words_of d.now))) }
+    ensures none { IsNone found → result ≡ Ok (no_bytes segment) }
     ensures inside { IfOk result (LieIn (A.view arena.now).words) }
-    ensures named { IfErr result (λ k. is_missed k ≡ true) }
+    ensures named { IfErr result (λ k. is_unfound k ≡ true) }
 {
-    match (found, default) {
-        (Some(bytes), _) => {
+    match found {
+        Some(bytes) => {
             if are_inside(arena, bytes) {
                 Ok(bytes)
             } else {
                 Err(ErrorKind::MessageContainsOutOfBoundsPointer)
             }
         }
-        (None, None) => Ok(ExistingBytes {
+        None => Ok(ExistingBytes {
             segment,
             start: 0,
             length: 0,
         }),
-        (None, Some(default)) => Err(refusal_of_default(default)),
     }
-}
-
-/// Why a default gives no bytes: it has no whole word, its first word is null, or it isn't copied yet.
-fn refusal_of_default(default: &[u8]) -> ErrorKind
-    ensures found { result ≡ refusal_of_default (words_of default.now) }
-    ensures named { is_missed result ≡ true }
-{
-    if default.len() < 8 {
-        return ErrorKind::MessageContainsOutOfBoundsPointer;
-    }
-    if words::word_at(default, 0) == 0 {
-        return ErrorKind::ExistingPointerIsNotAList;
-    }
-    ErrorKind::UnknownPointerType
 }

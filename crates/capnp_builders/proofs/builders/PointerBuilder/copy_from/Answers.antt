@@ -7,7 +7,7 @@ use Rattle.capnp_making.proofs.FillingMade.{null_stored}
 use Rattle.capnp_making.proofs.Replaced.{replaced_again}
 use Rattle.capnp_readers.specs.Readers.{reading}
 use Rattle.capnp_copies.specs.Changes.{change, StandsAsRead}
-use Rattle.capnp_copies.specs.Forms.{kept}
+use Rattle.capnp_copies.specs.Forms.{form_of, kept}
 use Rattle.capnp_making.specs.Stored.{IsReplaced}
 use Rattle.capnp_copies.proofs.Growth.{taken_so, value_within, until_within, words_pruned}
 use Rattle.capnp_copies.proofs.FlatRead.{ok_so, err_so}
@@ -27,7 +27,7 @@ returns-then-is_null-clause-stands g c =
     let s = c.args.self.now.segment in
     let p = c.args.self.now.at in
     let null : word_at old.words s p ≡ 0 = c.is_null.ensures.0 (search rules) in
-    stands_once c.copy_value.result (StandsAsRead (reading g.B.ReaderArena c.args.from)) (change c.args.canonicalize s p old (g.A.BuilderArena.view c.copy_value.new.arena) c.args.lim.now c.copy_value.new.lim) old
+    stands_once c.copy_value.result (StandsAsRead (reading g.B.ReaderArena c.args.from)) (change (form_of c.args.canonicalize) s p old (g.A.BuilderArena.view c.copy_value.new.arena) c.args.lim.now c.copy_value.new.lim) old
     (nothing_zeroed old.words) refl (null_replaced old.words old.words s p Null c.requires.place null (unchanged old.words s p Null (null_stored old.words s p c.requires.place null))) c.copy_value.ensures.stands
 
 pub returns-then-is_null-clause-fresh : goal.returns-then-is_null-clause-fresh
@@ -36,8 +36,8 @@ returns-then-is_null-clause-fresh g c = λ only.
     let new : View = g.A.BuilderArena.view c.copy_value.new.arena in
     let s = c.args.self.now.segment in
     let p = c.args.self.now.at in
-    fresh_copied c.copy_value.result (reading g.B.ReaderArena c.args.from) (change c.args.canonicalize s p old new c.args.lim.now c.copy_value.new.lim)
-    (λ (t : Tree). IsReplaced old.words new.words s p Null (kept c.args.canonicalize t)) c.requires.place only c.copy_value.ensures.copied c.copy_value.ensures.stands)
+    fresh_copied c.copy_value.result (reading g.B.ReaderArena c.args.from) (change (form_of c.args.canonicalize) s p old new c.args.lim.now c.copy_value.new.lim)
+    (λ (t : Tree). IsReplaced old.words new.words s p Null (kept (form_of c.args.canonicalize) t)) c.requires.place only c.copy_value.ensures.copied c.copy_value.ensures.stands)
 
 pub returns-then-is_null-clause-alone : goal.returns-then-is_null-clause-alone
 returns-then-is_null-clause-alone g c = λ fresh.
@@ -45,8 +45,8 @@ returns-then-is_null-clause-alone g c = λ fresh.
     let new : View = g.A.BuilderArena.view c.copy_value.new.arena in
     let s = c.args.self.now.segment in
     let p = c.args.self.now.at in
-    alone_copied c.copy_value.result (reading g.B.ReaderArena c.args.from) (change c.args.canonicalize s p old new c.args.lim.now c.copy_value.new.lim)
-    (λ (t : Tree). IsReplaced old.words new.words s p Null (kept c.args.canonicalize t)) c.requires.place fresh c.copy_value.ensures.copied c.copy_value.ensures.stands)
+    alone_copied c.copy_value.result (reading g.B.ReaderArena c.args.from) (change (form_of c.args.canonicalize) s p old new c.args.lim.now c.copy_value.new.lim)
+    (λ (t : Tree). IsReplaced old.words new.words s p Null (kept (form_of c.args.canonicalize) t)) c.requires.place fresh c.copy_value.ensures.copied c.copy_value.ensures.stands)
 
 pub returns-then-is_null-clause-cleared : goal.returns-then-is_null-clause-cleared
 returns-then-is_null-clause-cleared g c =
@@ -67,7 +67,7 @@ returns-clause-copied g c =
 pub returns-clause-stands : goal.returns-clause-stands
 returns-clause-stands g c =
     stands_once c.copy_value-2.result (StandsAsRead (reading g.B.ReaderArena c.args.from))
-    (change c.args.canonicalize c.args.self.now.segment c.args.self.now.at (g.A.BuilderArena.view c.args.self.now.arena.now) (g.A.BuilderArena.view c.copy_value-2.new.arena) c.args.lim.now c.copy_value-2.new.lim)
+    (change (form_of c.args.canonicalize) c.args.self.now.segment c.args.self.now.at (g.A.BuilderArena.view c.args.self.now.arena.now) (g.A.BuilderArena.view c.copy_value-2.new.arena) c.args.lim.now c.copy_value-2.new.lim)
     (g.A.BuilderArena.view c.clear.new.arena) c.clear.ensures.only c.clear.ensures.limits c.clear.ensures.cleared c.copy_value-2.ensures.stands
 
 pub returns-clause-refused : goal.returns-clause-refused
@@ -80,7 +80,7 @@ returns-clause-refused g c =
         x.0,
         words_refused_later old mid (g.A.BuilderArena.view c.copy_value-2.new.arena) x.0 k c.clear.ensures.limits x.1,
         x.2,
-        beyond_before c.args.canonicalize (reading g.B.ReaderArena c.args.from) old mid c.args.self.now.segment c.clear.ensures.limits c.clear.ensures.only x.3,
+        beyond_before (form_of c.args.canonicalize) (reading g.B.ReaderArena c.args.from) old mid c.args.self.now.segment c.clear.ensures.limits c.clear.ensures.only x.3,
       )
       | inr x ↦ inr x
     ])

@@ -1,31 +1,14 @@
-use Rattle.std.proofs.Common.{◌∙◌}
-use Rattle.capnp_format.specs.Segments.{Segments}
-use Rattle.capnp_format.specs.Tree.{Null}
-use Rattle.capnp_making.specs.Existing.{LieIn}
-use Rattle.capnp_making.proofs.Zeros.{there}
-use Rattle.capnp_builders.proofs.FoundBytes.{data_inside, found_then, none_found, refused_or_none}
-use Rattle.capnp_builders.proofs.FoundLists.{missed}
+use Rattle.std.proofs.Common.{refl}
+use Rattle.capnp_arena.specs.View.{View}
+use Rattle.capnp_builders.specs.Defaults.{blob_default}
+use Rattle.capnp_builders.specs.Found.{GivesData}
+use Rattle.capnp_builders.proofs.DefaultUses.{then_does}
 use Rattle.capnp_builders.proofs.builders.PointerBuilder.find_data.Goals as goal
 
--- What a stored value is lies in the message.
+-- What stands once the default is put.
 pub returns-in-Ok-clause-found : goal.returns-in-Ok-clause-found
-returns-in-Ok-clause-found g c = λ t b stored e.
-    (let S : Segments = (g.A.BuilderArena.view c.args.self.now.arena.now).words in
-    found_then c.in-Ok.found b c.found_bytes.result (LieIn S) (c.in-Ok.ensures.found t stored ∙ e) c.found_bytes.ensures.some
-    (data_inside S c.args.self.now.segment c.args.self.now.at t b (there S c.args.self.now.segment c.args.self.now.at c.requires) stored e))
-
--- A null pointer has no bytes.
-pub returns-in-Ok-clause-null : goal.returns-in-Ok-clause-null
-returns-in-Ok-clause-null g c = λ stored. c.found_bytes.ensures.none (none_found c.in-Ok.found (c.in-Ok.ensures.found Null stored))
-
-pub returns-in-Ok-clause-of_default : goal.returns-in-Ok-clause-of_default
-returns-in-Ok-clause-of_default g c = λ stored. c.found_bytes.ensures.of_default (none_found c.in-Ok.found (c.in-Ok.ensures.found Null stored))
-
-pub returns-in-Err-clause-null : goal.returns-in-Err-clause-null
-returns-in-Err-clause-null g c = λ stored none. absurd (refused_or_none c.in-Err.k (c.in-Err.ensures.found Null stored))
-
-pub returns-in-Err-clause-of_default : goal.returns-in-Err-clause-of_default
-returns-in-Err-clause-of_default g c = λ stored. absurd (refused_or_none c.in-Err.k (c.in-Err.ensures.found Null stored))
-
-pub returns-in-Err-clause-named : goal.returns-in-Err-clause-named
-returns-in-Err-clause-named g c = missed c.in-Err.k c.in-Err.ensures.named
+returns-in-Ok-clause-found g c = λ t stored.
+    (let a : View = g.A.BuilderArena.view c.args.self.now.arena.now in
+    let m : View = g.A.BuilderArena.view c.put_blob_default.new.arena in
+    then_does (blob_default c.args.default t) c.args.self.now.segment c.args.self.now.at a m m t c.in-Ok.field-0 c.look_for_data.result (GivesData c.look_for_data.result) stored (c.in-Ok.ensures.put t stored)
+    (λ u stands. (c.look_for_data.ensures.found u stands, refl)))

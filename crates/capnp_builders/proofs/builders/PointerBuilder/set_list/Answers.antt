@@ -3,6 +3,7 @@ use Rattle.capnp_arena.specs.View.{View}
 use Rattle.capnp_making.proofs.Memory.{keeps_written, keeps_then_spends}
 use Rattle.capnp_making.proofs.Replaced.{replaced_again}
 use Rattle.capnp_copies.specs.Changes.{change}
+use Rattle.capnp_copies.specs.Forms.{form_of}
 use Rattle.capnp_copies.specs.ListValues.{ListStands, elements_read}
 use Rattle.capnp_copies.proofs.Growth.{list_within, words_pruned}
 use Rattle.capnp_copies.proofs.FlatRead.{ok_so, err_so}
@@ -41,7 +42,7 @@ returns-clause-there g c =
 pub returns-clause-stands : goal.returns-clause-stands
 returns-clause-stands g c =
     stands_once c.copy_list.result (ListStands (elements_read g.B.ReaderArena c.args.value.now))
-    (change c.args.canonicalize c.args.self.now.segment c.args.self.now.at (g.A.BuilderArena.view c.args.self.now.arena.now) (g.A.BuilderArena.view c.copy_list.new.arena) c.args.lim.now c.copy_list.new.lim)
+    (change (form_of c.args.canonicalize) c.args.self.now.segment c.args.self.now.at (g.A.BuilderArena.view c.args.self.now.arena.now) (g.A.BuilderArena.view c.copy_list.new.arena) c.args.lim.now c.copy_list.new.lim)
     (g.A.BuilderArena.view c.clear.new.arena) c.clear.ensures.only c.clear.ensures.limits c.clear.ensures.cleared c.copy_list.ensures.stands
 
 pub returns-clause-fits : goal.returns-clause-fits

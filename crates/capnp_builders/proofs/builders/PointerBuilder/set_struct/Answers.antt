@@ -2,6 +2,7 @@ use Rattle.std.proofs.Common.{inl, inr, arith}
 use Rattle.capnp_arena.specs.View.{View}
 use Rattle.capnp_making.proofs.Replaced.{replaced_again}
 use Rattle.capnp_copies.specs.Changes.{change}
+use Rattle.capnp_copies.specs.Forms.{form_of}
 use Rattle.capnp_copies.specs.StructValues.{StructStands}
 use Rattle.capnp_copies.proofs.Growth.{taken_so, for_all, either_within, words_pruned}
 use Rattle.capnp_copies.proofs.FlatRead.{ok_so, err_so}
@@ -38,7 +39,7 @@ returns-clause-there g c =
 pub returns-clause-stands : goal.returns-clause-stands
 returns-clause-stands g c =
     stands_once c.copy_struct_value.result (StructStands g.B.ReaderArena c.args.value.now)
-    (change c.args.canonicalize c.args.self.now.segment c.args.self.now.at (g.A.BuilderArena.view c.args.self.now.arena.now) (g.A.BuilderArena.view c.copy_struct_value.new.arena) c.args.lim.now c.copy_struct_value.new.lim)
+    (change (form_of c.args.canonicalize) c.args.self.now.segment c.args.self.now.at (g.A.BuilderArena.view c.args.self.now.arena.now) (g.A.BuilderArena.view c.copy_struct_value.new.arena) c.args.lim.now c.copy_struct_value.new.lim)
     (g.A.BuilderArena.view c.clear.new.arena) c.clear.ensures.only c.clear.ensures.limits c.clear.ensures.cleared c.copy_struct_value.ensures.stands
 
 pub returns-clause-fits : goal.returns-clause-fits

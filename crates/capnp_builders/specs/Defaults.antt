@@ -1,0 +1,112 @@
+-- Defaults: what stands for a null pointer ("Default Values").
+use Rattle.std.specs.Prelude.{◌≡◌, ◌⊎◌, ℕ, ◌-◌, ◌/◌, ◌^◌, ◌<◌, ◌≤◌, List, [], ◌∷◌, cond, nat_eq, length, true, false, Option, Some, None, IfSome, Result, Err, IsOk, IsErrAnd}
+use Rattle.std.specs.Borrow.{Bor}
+use Rattle.capnp_words.specs.declared.error.ErrorKind.{ErrorKind}
+use Rattle.capnp_words.specs.declared.error.ErrorKind.TheVariants.{ExistingPointerIsNotAList, MessageContainsOutOfBoundsPointer}
+use Rattle.capnp_words.specs.Meter.{unused}
+use Rattle.capnp_format.specs.Bytes.{words_of}
+use Rattle.capnp_format.specs.Segments.{Segments, segment}
+use Rattle.capnp_format.specs.Tree.{Tree, Null, capabilities}
+use Rattle.capnp_arena.specs.View.{View}
+use Rattle.capnp_making.specs.Memory.{KeepsMemory, SpendsMemory}
+use Rattle.capnp_making.specs.Stored.{IsReplaced}
+use Rattle.capnp_objects.specs.Faults.{HasFault}
+use Rattle.capnp_objects.specs.Outcomes.{MeansThere}
+use Rattle.capnp_objects.specs.Reading.{Reading}
+use Rattle.capnp_objects.specs.Source.{default_segment, default_segments}
+use Rattle.capnp_objects.specs.Wanted.{of_default}
+use Rattle.capnp_copies.specs.Changes.{Change, change, FindsNoRoom, StandsAsRead}
+use Rattle.capnp_copies.specs.Copies.{CanBeCopied}
+use Rattle.capnp_copies.specs.Growth.{TakesForValue, TakesUntilStop}
+use Rattle.capnp_widening.specs.Opening.{CallAt}
+
+-- The first word of a default, whose bytes are one segment. Nothing is charged there, and as many levels may be entered as a nesting limit can say.
+abbrev pub default_root : List ℕ → Reading
+default_root bytes = record { segments = default_segments bytes; charging = false; of_default = true; levels = 2 ^ 31 - 1; segment = default_segment; at = 0 }
+
+-- The copy of a default to position at of segment id.
+abbrev pub default_copy : ℕ → ℕ → View → View → Change
+default_copy id at old new = change of_default id at old new (unused None) (unused None)
+
+-- A default means a value without capabilities, which stands at the place that was null.
+abbrev pub StandsForNull : List ℕ → Segments → Segments → ℕ → ℕ → Type 0
+StandsForNull bytes S R id at = (t : Tree) × (c : ℕ) × MeansThere (default_root bytes) t c × (capabilities t ≡ 0) × IsReplaced S R id at Null t
+
+-- Why a default isn't copied, by the name k: what its first word leads to has this fault, of which a capability is one; or there is no room for an object
+-- of it.
+abbrev pub RefusesDefault : List ℕ → Change → ErrorKind → Type 0
+RefusesDefault bytes c k = HasFault of_default (default_root bytes) k ⊎ FindsNoRoom (default_root bytes) c k
+
+-- A default is of fewer than 2^32 words.
+abbrev pub IsFew : Option (Bor (List ℕ)) → Type 0
+IsFew default = IfSome default (λ d. length d.now / 8 < 2 ^ 32)
+
+-- What a call does with its default: nothing; or it is refused by a name; or the value of these bytes is copied in place of null.
+pub data DefaultUse : Type 0 where
+  ignored : DefaultUse
+  denied : ErrorKind → DefaultUse
+  copied : List ℕ → DefaultUse
+
+-- So where null stands, by the words of the default; and where its first word is null.
+abbrev pub use_of_words : DefaultUse → List ℕ → List ℕ → DefaultUse
+use_of_words of_null bytes [] = denied MessageContainsOutOfBoundsPointer
+use_of_words of_null bytes (x ∷ xs) = cond (nat_eq x 0) of_null (copied bytes)
+
+-- A default is for null alone.
+abbrev pub default_use : DefaultUse → Option (Bor (List ℕ)) → Tree → DefaultUse
+default_use of_null (Some d) Null = use_of_words of_null d.now (words_of d.now)
+default_use of_null default t = ignored
+
+-- A default whose first word is null is as none to a struct and a list, and no list to a text and data.
+abbrev pub object_default : Option (Bor (List ℕ)) → Tree → DefaultUse
+object_default default t = default_use ignored default t
+
+abbrev pub blob_default : Option (Bor (List ℕ)) → Tree → DefaultUse
+blob_default default t = default_use (denied ExistingPointerIsNotAList) default t
+
+-- The value u of a default, which has no capabilities, is stored in place of null, and no more words are taken than reading it costs.
+pub record PutsDefault (bytes : List ℕ) (c : CallAt) (u : Tree) : Type 0 where
+  pub meant : (n : ℕ) × MeansThere (default_root bytes) u n
+  pub plain : capabilities u ≡ 0
+  pub replaced : IsReplaced c.old.words c.new.words c.segment c.at Null u
+  pub stands : StandsAsRead (default_root bytes) (default_copy c.segment c.at c.old c.new)
+  pub memory : KeepsMemory c.old c.new
+  pub taken : TakesForValue (default_root bytes) (default_copy c.segment c.at c.old c.new)
+
+-- The copy of a default is refused by the name k: null stands, and new words are zero.
+pub record DropsDefault (bytes : List ℕ) (c : CallAt) (k : ErrorKind) : Type 0 where
+  pub named : RefusesDefault bytes (default_copy c.segment c.at c.old c.new) k
+  pub replaced : IsReplaced c.old.words c.new.words c.segment c.at Null Null
+  pub memory : SpendsMemory c.old c.new k
+  pub taken : TakesUntilStop (default_root bytes) (default_copy c.segment c.at c.old c.new)
+
+-- A default's value is put in place of null, and from there on the call does what P says of a value that stands.
+pub record OnDefault (bytes : List ℕ) (c : CallAt) (P : CallAt → Tree → Type 0) : Type 0 where
+  pub mid : View
+  pub value : Tree
+  pub put : PutsDefault bytes (record c { new = mid }) value
+  pub does : P (record c { old = mid }) value
+
+-- What a call does where t stands, by its use of a default: as P says of t; or it is refused, and nothing is changed; or as P says of the default's value,
+-- or its copy is refused.
+abbrev pub WithDefault : {B : Type 0} → DefaultUse → CallAt → Tree → (CallAt → Tree → Type 0) → Result B ErrorKind → Type 0
+WithDefault ignored c t P result = P c t
+WithDefault (denied k) c t P result = (result ≡ Err k) × (c.new ≡ c.old)
+WithDefault (copied bytes) c t P result = OnDefault bytes c P ⊎ IsErrAnd result (DropsDefault bytes c)
+
+-- A default's value has no fault, and its words fit behind those of segment id.
+abbrev pub DefaultFits : Option (Bor (List ℕ)) → View → ℕ → Type 0
+DefaultFits default v id = IfSome default (λ d. (8 ≤ length d.now) × CanBeCopied of_default (default_root d.now) (unused None) (length (segment v.words id)) (v.room id))
+
+-- A default is put where the call uses one, and nothing else is done.
+abbrev pub PutsDefaultOver : DefaultUse → CallAt → Tree → Result (Unit {0}) ErrorKind → Type 0
+PutsDefaultOver w c t result = WithDefault w c t (λ d u. IsOk result × (d.new ≡ d.old)) result
+
+-- There is a default with a first word, which is null.
+abbrev pub HasNullWord : List ℕ → Type 0
+HasNullWord [] = ⊥
+HasNullWord (x ∷ xs) = x ≡ 0
+
+abbrev pub IsNullDefault : Option (Bor (List ℕ)) → Type 0
+IsNullDefault (Some d) = HasNullWord (words_of d.now)
+IsNullDefault None = ⊥

@@ -1,0 +1,46 @@
+-- Structs and lists of structs of a message that is built, opened for writing ("Structs", "Lists").
+use Rattle.std.specs.Prelude.{◌≡◌, ℕ, ◌*◌, ◌≤◌, Option, Result, List, Ok, length}
+use Rattle.std.specs.Borrow.{Bor}
+use Rattle.capnp_words.specs.declared.error.ErrorKind.{ErrorKind}
+use Rattle.capnp_format.specs.Forest.{target}
+use Rattle.capnp_format.specs.Segments.{Segments}
+use Rattle.capnp_format.specs.Tree.{Tree, Null, Struct, count}
+use Rattle.capnp_pointers.specs.declared.wire_pointer.ElementSize.TheVariants.{Void}
+use Rattle.capnp_pointers.specs.declared.wire_pointer.StructSize.{StructSize}
+use Rattle.capnp_making.specs.Existing.{list_in}
+use Rattle.capnp_readers.specs.Readers.{IsListPlace}
+use Rattle.capnp_readers.specs.declared.readers.list_reader.ListPlace.{ListPlace}
+use Rattle.capnp_readers.specs.declared.readers.struct_reader.StructPlace.{StructPlace}
+use Rattle.capnp_widening.specs.Opening.{CallAt, Opens, struct_opened}
+use Rattle.capnp_widening.specs.Widened.{list_widened}
+use Rattle.capnp_builders.specs.Defaults.{object_default, WithDefault}
+use Rattle.capnp_builders.specs.Found.{list_given, void_list}
+use Rattle.capnp_builders.specs.Places.{IsStructOf}
+
+-- The pointer at a place leads to the struct u, which a call gives; or to the list u.
+abbrev pub IsStructGiven : Segments → ℕ → ℕ → Tree → StructPlace → Type 0
+IsStructGiven S s p (Struct ws ts) place = IsStructOf S s p (record { data_words = length ws; pointers = count ts }) place
+IsStructGiven S s p u place = ⊥
+
+abbrev pub IsListGiven : Segments → ℕ → ℕ → Tree → ListPlace → Type 0
+IsListGiven S s p u place = (list_given s (list_in (target S s p) Void u) ≡ Ok place) × IsListPlace S place
+
+-- A call opens the struct that stands, or a new one in place of null.
+abbrev pub OpensStruct : StructSize → Result StructPlace ErrorKind → CallAt → Tree → Type 0
+OpensStruct size result c t = Opens size IsStructGiven c t (struct_opened size t) result
+
+-- A call opens the list of structs that stands, made one of any other list. Null is a list of none, and nothing is changed.
+abbrev pub OpensList : StructSize → Result ListPlace ErrorKind → CallAt → Tree → Type 0
+OpensList size result c Null = (result ≡ Ok (void_list c.segment)) × (c.new ≡ c.old)
+OpensList size result c t = Opens size IsListGiven c t (list_widened size.data_words size.pointers t) result
+
+-- So it does with what stands once its default is put in place of null.
+abbrev pub FindsStruct : StructSize → Option (Bor (List ℕ)) → Result StructPlace ErrorKind → CallAt → Tree → Type 0
+FindsStruct size default result c t = WithDefault (object_default default t) c t (OpensStruct size result) result
+
+abbrev pub FindsStructs : StructSize → Option (Bor (List ℕ)) → Result ListPlace ErrorKind → CallAt → Tree → Type 0
+FindsStructs size default result c t = WithDefault (object_default default t) c t (OpensList size result) result
+
+-- A struct is at least as large as asked for.
+abbrev pub IsStructAtLeast : StructSize → StructPlace → Type 0
+IsStructAtLeast size place = (64 * size.data_words ≤ place.bits) × (size.pointers ≤ place.pointers)

@@ -1,0 +1,123 @@
+//! Defaults, which are copied in place of null pointers ("Default Values").
+ghost use Rattle.std.specs.Prelude.{◌≡◌, ◌↔◌, ◌/◌, ◌^◌, ◌<◌, ◌≤◌, None, length, IsTrue, IsOk, IfErr, OnOk, OnErr};
+ghost use Rattle.capnp_format.specs.Segments.{segment, word_at, Grows, IsPlace};
+ghost use Rattle.capnp_format.specs.Tree.{Tree, Null};
+ghost use Rattle.capnp_making.specs.Memory.{KeepsMemory, SpendsMemory};
+ghost use Rattle.capnp_making.specs.Stored.{IsStored, IsReplaced};
+ghost use Rattle.capnp_objects.specs.Wanted.{of_default};
+ghost use Rattle.capnp_words.specs.Meter.{unused};
+ghost use Rattle.capnp_copies.specs.Changes.{StandsAsRead};
+ghost use Rattle.capnp_copies.specs.Copies.{CanBeCopied};
+ghost use Rattle.capnp_copies.specs.Growth.{TakesAtMost};
+ghost use Rattle.capnp_widening.specs.Opening.{call_at};
+ghost use Rattle.capnp_builders.specs.Defaults.{default_root, default_copy, StandsForNull, RefusesDefault, IsFew, IsNullDefault, object_default, blob_default, PutsDefaultOver, DefaultFits};
+
+use capnp_arena::arena::BuilderArena;
+use capnp_copies::copy;
+use capnp_copies::form::CopyForm;
+use capnp_making::landing::word_of;
+use capnp_readers::readers::PointerReader;
+use capnp_words::error::ErrorKind;
+use capnp_words::read_limiter::ReadLimiter;
+use capnp_words::words;
+
+/// Copies the value of a default to the null pointer at a place, as it stands ("Default Values"). The
+/// default has a first word, and fewer than 2^32 words.
+///
+/// Nothing is charged, and `i32::MAX` levels may be entered. A capability is `UnknownPointerType`, a far
+/// pointer `TriedToReadFromNullArena`; any other fault keeps its name. A refusal of the arena is
+/// `AllocationFailed` or `MessageTooLarge`, and comes only where the words don't fit behind those of the
+/// pointer's segment. Then the pointer is null and the words that were allocated are zero.
+pub fn copy_default<A: BuilderArena>(
+    arena: &mut A,
+    id: u32,
+    at: u32,
+    default: &[u8],
+) -> Result<(), ErrorKind>
+    requires place { IsPlace (A.view arena.old).words id at }
+    requires null { word_at (A.view arena.old).words id at ≡ 0 }
+    requires some { 8 ≤ length default.now }
+    requires few { length default.now / 8 < 2 ^ 32 }
+    ensures copied { OnOk result (StandsForNull default.now (A.view arena.old).words (A.view arena.new).words id at) }
+    ensures stands { OnOk result (StandsAsRead (default_root default.now) (default_copy id at (A.view arena.old) (A.view arena.new))) }
+    ensures fits { CanBeCopied of_default (default_root default.now) (unused None) (length (segment (A.view arena.old).words id)) ((A.view arena.old).room id) → IsOk result }
+    ensures refused { OnErr result (IsReplaced (A.view arena.old).words (A.view arena.new).words id at Null Null) }
+    ensures named { IfErr result (RefusesDefault default.now (default_copy id at (A.view arena.old) (A.view arena.new))) }
+    ensures taken { TakesAtMost result (default_root default.now) (default_copy id at (A.view arena.old) (A.view arena.new)) }
+    ensures granted { OnOk result (KeepsMemory (A.view arena.old) (A.view arena.new)) }
+    ensures memory { IfErr result (SpendsMemory (A.view arena.old) (A.view arena.new)) }
+{
+    let from: PointerReader<'_, A> = match PointerReader::from_default(default) {
+        Ok(from) => from,
+        Err(k) => return Err(k),
+    };
+    let mut lim = ReadLimiter::new(None);
+    copy::copy_in_form(arena, id, at, from, &mut lim, CopyForm::OfDefault)
+}
+
+/// Puts the value of a default in place of the null pointer at a place, as `copy_default` does. What isn't
+/// null stays, and so does null where there is no default, or one whose first word is null.
+///
+/// A default without a whole word is `MessageContainsOutOfBoundsPointer`, and nothing is changed. Any other
+/// refusal is one of `copy_default`.
+pub(crate) fn put_default<A: BuilderArena>(
+    arena: &mut A,
+    id: u32,
+    at: u32,
+    default: Option<&[u8]>,
+) -> Result<(), ErrorKind>
+    requires place { IsPlace (A.view arena.old).words id at }
+    requires few { IsFew default }
+    ensures put { (t : Tree) → IsStored (A.view arena.old).words id at t → PutsDefaultOver (object_default default.entry t) (call_at id at (A.view arena.old) (A.view arena.new)) t result }
+    ensures stays { (word_at (A.view arena.old).words id at ≡ 0 → ⊥) → IsOk result × (A.view arena.new ≡ A.view arena.old) }
+    ensures fits { DefaultFits default.entry (A.view arena.old) id → IsOk result }
+    ensures longer { Grows (A.view arena.old).words (A.view arena.new).words }
+    ensures granted { OnOk result (KeepsMemory (A.view arena.old) (A.view arena.new)) }
+    ensures memory { IfErr result (SpendsMemory (A.view arena.old) (A.view arena.new)) }
+{
+    let Some(bytes) = default else {
+        return Ok(());
+    };
+    if !word_of(arena, id, at).is_null() {
+        return Ok(());
+    }
+    if bytes.len() < 8 {
+        return Err(ErrorKind::MessageContainsOutOfBoundsPointer);
+    }
+    if words::word_at(bytes, 0) == 0 {
+        return Ok(());
+    }
+    copy_default(arena, id, at, bytes)
+}
+
+/// Does so for a text or data, of which none is null: where the pointer is null, a default whose first word
+/// is null is `ExistingPointerIsNotAList`.
+pub(crate) fn put_blob_default<A: BuilderArena>(
+    arena: &mut A,
+    id: u32,
+    at: u32,
+    default: Option<&[u8]>,
+) -> Result<(), ErrorKind>
+    requires place { IsPlace (A.view arena.old).words id at }
+    requires few { IsFew default }
+    ensures put { (t : Tree) → IsStored (A.view arena.old).words id at t → PutsDefaultOver (blob_default default.entry t) (call_at id at (A.view arena.old) (A.view arena.new)) t result }
+    ensures stays { (word_at (A.view arena.old).words id at ≡ 0 → ⊥) → IsOk result × (A.view arena.new ≡ A.view arena.old) }
+    ensures longer { Grows (A.view arena.old).words (A.view arena.new).words }
+    ensures granted { OnOk result (KeepsMemory (A.view arena.old) (A.view arena.new)) }
+    ensures memory { IfErr result (SpendsMemory (A.view arena.old) (A.view arena.new)) }
+{
+    if has_null_word(default) && word_of(arena, id, at).is_null() {
+        return Err(ErrorKind::ExistingPointerIsNotAList);
+    }
+    put_default(arena, id, at, default)
+}
+
+/// Whether there is a default with a first word that is null.
+fn has_null_word(default: Option<&[u8]>) -> bool
+    ensures { IsTrue result ↔ IsNullDefault default.entry }
+{
+    match default {
+        Some(bytes) => bytes.len() >= 8 && words::word_at(bytes, 0) == 0,
+        None => false,
+    }
+}

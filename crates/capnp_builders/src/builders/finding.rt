@@ -1,0 +1,326 @@
+//! What a pointer leads to, found for writing: a default is put in place of null first, and a struct or
+//! list of structs that is too small is made wider ("Structs", "Lists", "Default Values").
+ghost use Rattle.std.specs.Prelude.{◌≡◌, ◌+◌, ◌*◌, ◌^◌, ◌<◌, ◌≤◌, true, IsOk, IfOk, IfErr, OnOk, Result};
+ghost use Rattle.capnp_making.specs.declared.existing.ExistingBytes.{ExistingBytes};
+ghost use Rattle.capnp_making.specs.Existing.{LieIn, is_unfound};
+ghost use Rattle.capnp_making.specs.Memory.{KeepsMemory, SpendsMemory};
+ghost use Rattle.capnp_pointers.specs.Sizes.{size_number};
+ghost use Rattle.capnp_readers.specs.Readers.{IsListPlace};
+ghost use Rattle.capnp_widening.specs.RowsRemade.{RefusesWider};
+ghost use Rattle.capnp_widening.specs.Widened.{IsNoWider};
+ghost use Rattle.capnp_words.specs.declared.error.ErrorKind.{ErrorKind};
+ghost use Rattle.capnp_builders.specs.Defaults.{IsFew, DefaultFits, object_default, PutsDefaultOver};
+ghost use Rattle.capnp_builders.specs.Found.{FindsList, FindsData, FindsText, IsLent};
+ghost use Rattle.capnp_builders.specs.Opening.{FindsStruct, FindsStructs, IsStructAtLeast};
+ghost use Rattle.capnp_builders.specs.Places.{StartsAt, IsAligned};
+
+use super::PointerBuilder;
+use super::defaults::{put_blob_default, put_default};
+use super::found::{found_list, look_for_data, look_for_list, look_for_text};
+use super::list_builder::ListBuilder;
+use super::struct_builder::StructBuilder;
+use capnp_arena::arena::BuilderArena;
+use capnp_making::existing::{ExistingBytes, ExistingStruct};
+use capnp_making::lent;
+use capnp_readers::readers::{ListPlace, StructPlace};
+use capnp_widening::opening::{open_struct, open_struct_list};
+use capnp_words::error::ErrorKind;
+use capnp_words::wire_pointer::{ElementSize, StructSize};
+
+impl<'a, A: BuilderArena> PointerBuilder<'a, A> {
+    ghost use Rattle.capnp_builders.specs.Building.{IsNull, IsThere, OfStored, Leaves, built, calling, calling_last};
+
+    /// Puts the value of a default in place of a null pointer, as it stands ("Default Values"). What isn't
+    /// null stays, and so does null where there is no default, or one whose first word is null.
+    ///
+    /// Nothing is charged, and `i32::MAX` levels may be entered. A default without a whole word, or with a
+    /// place outside, is `MessageContainsOutOfBoundsPointer`, a capability in it `UnknownPointerType`, and a
+    /// far pointer `TriedToReadFromNullArena`; any other fault has its name. Where it finds no room, that is
+    /// `AllocationFailed`, or `MessageTooLarge` of an object's words and one more. After a refusal the
+    /// pointer is null, and the words that were taken are zero.
+    pub fn put_default(&mut self, default: Option<&[u8]>) -> Result<(), ErrorKind>
+        requires there { IsThere (built A.view self.old) }
+        requires few { IsFew default }
+        ensures put { OfStored (built A.view self.old) (λ t. PutsDefaultOver (object_default default.entry t) (calling A.view self.old self.new) t result) }
+        ensures stays { (IsNull (built A.view self.old) → ⊥) → IsOk result × (A.view self.new.arena.now ≡ A.view self.old.arena.now) }
+        ensures fits { DefaultFits default.entry (A.view self.old.arena.now) self.old.segment → IsOk result }
+        ensures granted { OnOk result (KeepsMemory (A.view self.old.arena.now) (A.view self.new.arena.now)) }
+        ensures memory { IfErr result (SpendsMemory (A.view self.old.arena.now) (A.view self.new.arena.now)) }
+        ensures there { IsThere (built A.view self.new) }
+        ensures same { self.new.arena.ghost_name ≡ self.old.arena.ghost_name }
+        ensures builder { (self.new.segment ≡ self.old.segment) × (self.new.at ≡ self.old.at) }
+    {
+        put_default(&mut *self.arena, self.segment, self.at, default)
+    }
+
+    /// Where the struct is that the pointer leads to, as `get_struct` looks for it; `into_struct` is its
+    /// builder. With both outcomes, it is what `get_struct` is made of.
+    pub fn find_struct(
+        &mut self,
+        size: StructSize,
+        default: Option<&[u8]>,
+    ) -> Result<StructPlace, ErrorKind>
+        requires there { IsThere (built A.view self.old) }
+        requires few { IsFew default }
+        ensures found { OfStored (built A.view self.old) (FindsStruct size default.entry result (calling A.view self.old self.new)) }
+        ensures wide { IfOk result (IsStructAtLeast size) }
+        ensures aligned { IfOk result IsAligned }
+        ensures set { (IsNull (built A.view self.old) → ⊥) → IfErr result (IsNoWider (A.view self.old.arena.now) (A.view self.new.arena.now) self.old.segment self.old.at) }
+        ensures granted { OnOk result (KeepsMemory (A.view self.old.arena.now) (A.view self.new.arena.now)) }
+        ensures memory { IfErr result (SpendsMemory (A.view self.old.arena.now) (A.view self.new.arena.now)) }
+        ensures there { OfStored (built A.view self.old) (λ t. IsThere (built A.view self.new)) }
+        ensures same { self.new.arena.ghost_name ≡ self.old.arena.ghost_name }
+        ensures builder { (self.new.segment ≡ self.old.segment) × (self.new.at ≡ self.old.at) }
+    {
+        match put_default(&mut *self.arena, self.segment, self.at, default) {
+            Ok(()) => match open_struct(&mut *self.arena, self.segment, self.at, size) {
+                Ok(opened) => Ok(struct_place(opened)),
+                Err(k) => Err(k),
+            },
+            Err(k) => Err(k),
+        }
+    }
+
+    /// The struct that the pointer leads to, to be written, with sections at least as large as asked for
+    /// ("Structs"). One that is large enough is given as it stands, and nothing is changed. Where a section
+    /// is too small, the struct stands anew with each section as large as the greater of old and wanted:
+    /// its data and its children are the same, with zeros and nulls behind them. A null pointer becomes the
+    /// default's value, as by `put_default`, or a struct of just that size, all zero.
+    ///
+    /// What is no struct is `MessageContainsNonStructPointerWhereStructPointerWasExpected`. Any other
+    /// refusal is one of `put_default`, or `AllocationFailed` or `MessageTooLarge` of the words of a struct
+    /// or of landing pads, and then what stood stands. A default that was put stays also where the call is
+    /// refused then.
+    pub fn get_struct(
+        mut self,
+        size: StructSize,
+        default: Option<&[u8]>,
+    ) -> Result<StructBuilder<'a, A>, ErrorKind>
+        requires there { IsThere (built A.view self) }
+        requires few { IsFew default }
+        ensures same { IfOk result (λ b. b.arena.ghost_name ≡ self.entry.arena.ghost_name) }
+        ensures found { OfStored (built A.view self.entry) (λ t. Leaves (λ b. A.view b.arena.now) (λ b. b.place) (λ new r. FindsStruct size default.entry r (calling_last A.view self.entry new) t) result) }
+        ensures wide { IfOk result (λ b. IsStructAtLeast size b.place) }
+        ensures granted { IfOk result (λ b. KeepsMemory (A.view self.entry.arena.now) (A.view b.arena.now)) }
+    {
+        match self.find_struct(size, default) {
+            Ok(place) => Ok(self.into_struct(place)),
+            Err(k) => Err(k),
+        }
+    }
+
+    /// Where the list is that the pointer leads to, as `get_struct_list` looks for it; `into_list` is its
+    /// builder. With both outcomes, it is what `get_struct_list` is made of.
+    pub fn find_struct_list(
+        &mut self,
+        size: StructSize,
+        default: Option<&[u8]>,
+    ) -> Result<ListPlace, ErrorKind>
+        requires there { IsThere (built A.view self.old) }
+        requires few { IsFew default }
+        ensures found { OfStored (built A.view self.old) (FindsStructs size default.entry result (calling A.view self.old self.new)) }
+        ensures set { (IsNull (built A.view self.old) → ⊥) → IfErr result (RefusesWider (A.view self.old.arena.now) (A.view self.new.arena.now) self.old.segment self.old.at size) }
+        ensures granted { OnOk result (KeepsMemory (A.view self.old.arena.now) (A.view self.new.arena.now)) }
+        ensures memory { IfErr result (SpendsMemory (A.view self.old.arena.now) (A.view self.new.arena.now)) }
+        ensures there { OfStored (built A.view self.old) (λ t. IsThere (built A.view self.new)) }
+        ensures same { self.new.arena.ghost_name ≡ self.old.arena.ghost_name }
+        ensures builder { (self.new.segment ≡ self.old.segment) × (self.new.at ≡ self.old.at) }
+    {
+        match put_default(&mut *self.arena, self.segment, self.at, default) {
+            Ok(()) => match open_struct_list(&mut *self.arena, self.segment, self.at, size) {
+                Ok(opened) => Ok(found_list(self.segment, opened)),
+                Err(k) => Err(k),
+            },
+            Err(k) => Err(k),
+        }
+    }
+
+    /// The list that the pointer leads to, as a list of structs to be written, with sections at least as
+    /// large as asked for ("Lists"). One that is large enough is given as it stands, and nothing is changed.
+    /// Any other list stands anew as one of structs: with sections as large as the greater of old and
+    /// wanted; of just the wanted size from void; a number as the lowest bits of a first data word; a
+    /// pointer as a first pointer. A null pointer becomes the default's value, as by `put_default`, or
+    /// gives a void list of none, and then nothing is changed.
+    ///
+    /// What isn't a list is `ExistingPointerIsNotAList`, a list of bits
+    /// `FoundBitListWhereStructListWasExpected`, and elements that would take 2^29 words or more are
+    /// `MessageTooLarge` of these words. Any other refusal is one of `put_default`, or `AllocationFailed` or
+    /// `MessageTooLarge` of the words of a list or of landing pads, and then what stood stands. A default
+    /// that was put stays also where the call is refused then.
+    pub fn get_struct_list(
+        mut self,
+        size: StructSize,
+        default: Option<&[u8]>,
+    ) -> Result<ListBuilder<'a, A>, ErrorKind>
+        requires there { IsThere (built A.view self) }
+        requires few { IsFew default }
+        ensures same { IfOk result (λ b. b.arena.ghost_name ≡ self.entry.arena.ghost_name) }
+        ensures found { OfStored (built A.view self.entry) (λ t. Leaves (λ b. A.view b.arena.now) (λ b. b.place) (λ new r. FindsStructs size default.entry r (calling_last A.view self.entry new) t) result) }
+        ensures granted { IfOk result (λ b. KeepsMemory (A.view self.entry.arena.now) (A.view b.arena.now)) }
+    {
+        match self.find_struct_list(size, default) {
+            Ok(place) => Ok(self.into_list(place)),
+            Err(k) => Err(k),
+        }
+    }
+
+    /// Where the list is that the pointer leads to, of elements of the expected size or wider, as
+    /// `get_list` looks for it; `into_list` is its builder. With both outcomes, it is what `get_list` is
+    /// made of.
+    pub fn find_list(
+        &mut self,
+        size: ElementSize,
+        default: Option<&[u8]>,
+    ) -> Result<ListPlace, ErrorKind>
+        requires there { IsThere (built A.view self.old) }
+        requires few { IsFew default }
+        requires plain { size_number size ≤ 6 }
+        ensures found { OfStored (built A.view self.old) (FindsList size default.entry result (calling A.view self.old self.new)) }
+        ensures inside { OfStored (built A.view self.old) (λ t. IfOk result (IsListPlace (A.view self.new.arena.now).words)) }
+        ensures set { (IsNull (built A.view self.old) → ⊥) → (A.view self.new.arena.now ≡ A.view self.old.arena.now) × IfErr result (λ k. is_unfound k ≡ true) }
+        ensures granted { OnOk result (KeepsMemory (A.view self.old.arena.now) (A.view self.new.arena.now)) }
+        ensures memory { IfErr result (SpendsMemory (A.view self.old.arena.now) (A.view self.new.arena.now)) }
+        ensures there { IsThere (built A.view self.new) }
+        ensures same { self.new.arena.ghost_name ≡ self.old.arena.ghost_name }
+        ensures builder { (self.new.segment ≡ self.old.segment) × (self.new.at ≡ self.old.at) }
+    {
+        match put_default(&mut *self.arena, self.segment, self.at, default) {
+            Ok(()) => look_for_list(&*self.arena, self.segment, self.at, size),
+            Err(k) => Err(k),
+        }
+    }
+
+    /// The list that the pointer leads to, of elements of the expected size or wider; it is never changed.
+    /// A null pointer becomes the default's value, as by `put_default`, or gives a void list of none.
+    ///
+    /// What isn't a list is `ExistingPointerIsNotAList`. A list of structs where bits are expected is
+    /// `FoundStructListWhereBitListWasExpected`; elements with fewer bits of data or fewer pointers than
+    /// expected, structs without data words where data is expected, or without pointers where pointers
+    /// are, are `ExistingListValueIsIncompatibleWithExpectedType`. Any other refusal is one of
+    /// `put_default`. A default that was put stays also where its kind is refused.
+    pub fn get_list(
+        mut self,
+        size: ElementSize,
+        default: Option<&[u8]>,
+    ) -> Result<ListBuilder<'a, A>, ErrorKind>
+        requires there { IsThere (built A.view self) }
+        requires few { IsFew default }
+        requires plain { size_number size ≤ 6 }
+        ensures same { IfOk result (λ b. b.arena.ghost_name ≡ self.entry.arena.ghost_name) }
+        ensures found { OfStored (built A.view self.entry) (λ t. Leaves (λ b. A.view b.arena.now) (λ b. b.place) (λ new r. FindsList size default.entry r (calling_last A.view self.entry new) t) result) }
+        ensures inside { OfStored (built A.view self.entry) (λ t. IfOk result (λ b. IsListPlace (A.view b.arena.now).words b.place)) }
+        ensures granted { IfOk result (λ b. KeepsMemory (A.view self.entry.arena.now) (A.view b.arena.now)) }
+    {
+        match self.find_list(size, default) {
+            Ok(place) => Ok(self.into_list(place)),
+            Err(k) => Err(k),
+        }
+    }
+
+    /// Where the data is that the pointer leads to, as `get_data` looks for it. With both outcomes, it is
+    /// what `get_data` is made of.
+    pub fn find_data(&mut self, default: Option<&[u8]>) -> Result<ExistingBytes, ErrorKind>
+        requires there { IsThere (built A.view self.old) }
+        requires few { IsFew default }
+        ensures found { OfStored (built A.view self.old) (FindsData default.entry result (calling A.view self.old self.new)) }
+        ensures inside { IfOk result (LieIn (A.view self.new.arena.now).words) }
+        ensures set { (IsNull (built A.view self.old) → ⊥) → (A.view self.new.arena.now ≡ A.view self.old.arena.now) × IfErr result (λ k. is_unfound k ≡ true) }
+        ensures granted { OnOk result (KeepsMemory (A.view self.old.arena.now) (A.view self.new.arena.now)) }
+        ensures memory { IfErr result (SpendsMemory (A.view self.old.arena.now) (A.view self.new.arena.now)) }
+        ensures there { IsThere (built A.view self.new) }
+        ensures same { self.new.arena.ghost_name ≡ self.old.arena.ghost_name }
+        ensures builder { (self.new.segment ≡ self.old.segment) × (self.new.at ≡ self.old.at) }
+    {
+        match put_blob_default(&mut *self.arena, self.segment, self.at, default) {
+            Ok(()) => look_for_data(&*self.arena, self.segment, self.at),
+            Err(k) => Err(k),
+        }
+    }
+
+    /// The data that the pointer leads to, lent to be written in place ("Lists"). A null pointer becomes the
+    /// default's value, as by `put_default`, or gives no bytes where there is no default.
+    ///
+    /// What isn't a list is `ExistingPointerIsNotAList`, and so is a default whose first word is null; a
+    /// list of other elements than bytes is `ExistingListPointerIsNotByteSized`. Any other refusal is one of
+    /// `put_default`. A default that was put stays also where its kind is refused. What the message is once
+    /// the bytes are written is said by `find_data` and `bytes_mut`, which do the same in two steps.
+    pub fn get_data(mut self, default: Option<&[u8]>) -> Result<&'a mut [u8], ErrorKind>
+        requires there { IsThere (built A.view self) }
+        requires few { IsFew default }
+        ensures found { OfStored (built A.view self.entry) (λ t. (now : A) × (r : Result ExistingBytes ErrorKind) × FindsData default.entry r (calling_last A.view self.entry (A.view now)) t × IsLent (λ s. s.now) (A.segments now) r result) }
+    {
+        match self.find_data(default) {
+            Ok(bytes) => {
+                let PointerBuilder {
+                    arena,
+                    segment: _,
+                    at: _,
+                } = self;
+                Ok(lent::bytes_mut(arena, bytes))
+            }
+            Err(k) => Err(k),
+        }
+    }
+
+    /// Where the text is that the pointer leads to, as `get_text` looks for it. With both outcomes, it is
+    /// what `get_text` is made of.
+    pub fn find_text(&mut self, default: Option<&[u8]>) -> Result<ExistingBytes, ErrorKind>
+        requires there { IsThere (built A.view self.old) }
+        requires few { IsFew default }
+        ensures found { OfStored (built A.view self.old) (FindsText default.entry result (calling A.view self.old self.new)) }
+        ensures inside { IfOk result (LieIn (A.view self.new.arena.now).words) }
+        ensures set { (IsNull (built A.view self.old) → ⊥) → (A.view self.new.arena.now ≡ A.view self.old.arena.now) × IfErr result (λ k. is_unfound k ≡ true) }
+        ensures granted { OnOk result (KeepsMemory (A.view self.old.arena.now) (A.view self.new.arena.now)) }
+        ensures memory { IfErr result (SpendsMemory (A.view self.old.arena.now) (A.view self.new.arena.now)) }
+        ensures there { IsThere (built A.view self.new) }
+        ensures same { self.new.arena.ghost_name ≡ self.old.arena.ghost_name }
+        ensures builder { (self.new.segment ≡ self.old.segment) × (self.new.at ≡ self.old.at) }
+    {
+        match put_blob_default(&mut *self.arena, self.segment, self.at, default) {
+            Ok(()) => look_for_text(&*self.arena, self.segment, self.at),
+            Err(k) => Err(k),
+        }
+    }
+
+    /// The text that the pointer leads to, without the zero byte behind it, lent to be written in place
+    /// ("Lists"). A null pointer becomes the default's value, as by `put_default`, or gives no bytes where
+    /// there is no default.
+    ///
+    /// What isn't data is refused as by `get_data`; bytes that don't end in a zero byte are
+    /// `TextBlobMissingNULTerminator`. What the message is once the bytes are written is said by
+    /// `find_text` and `bytes_mut`, which do the same in two steps.
+    pub fn get_text(mut self, default: Option<&[u8]>) -> Result<&'a mut [u8], ErrorKind>
+        requires there { IsThere (built A.view self) }
+        requires few { IsFew default }
+        ensures found { OfStored (built A.view self.entry) (λ t. (now : A) × (r : Result ExistingBytes ErrorKind) × FindsText default.entry r (calling_last A.view self.entry (A.view now)) t × IsLent (λ s. s.now) (A.segments now) r result) }
+    {
+        match self.find_text(default) {
+            Ok(bytes) => {
+                let PointerBuilder {
+                    arena,
+                    segment: _,
+                    at: _,
+                } = self;
+                Ok(lent::bytes_mut(arena, bytes))
+            }
+            Err(k) => Err(k),
+        }
+    }
+}
+
+/// The place of a struct that was opened.
+fn struct_place(opened: ExistingStruct) -> StructPlace
+    ensures starts { opened.start + opened.size.data_words < 2 ^ 32 → StartsAt result opened.segment opened.start opened.size.data_words opened.size.pointers }
+    ensures bits { result.bits ≡ 64 * opened.size.data_words }
+    ensures pointers { result.pointers ≡ opened.size.pointers }
+    ensures aligned { IsAligned result }
+{
+    let data_words = u32::from(opened.size.data_words);
+    StructPlace {
+        segment: opened.segment,
+        byte: 8 * u64::from(opened.start),
+        bits: 64 * data_words,
+        pointers_at: opened.start.saturating_add(data_words),
+        pointers: opened.size.pointers,
+    }
+}
