@@ -48,9 +48,7 @@ pub fn open_struct<A: BuilderArena>(
         }
         None => {
             if !word_of(arena, id, at).is_null() {
-                return Err(
-                    ErrorKind::MessageContainsNonStructPointerWhereStructPointerWasExpected,
-                );
+                return Err(ErrorKind::MessageContainsNonStructPointerWhereStructPointerWasExpected);
             }
             new_struct(arena, id, at, size)
         }
