@@ -5,11 +5,11 @@ use Rattle.capnp_format.specs.Tree.{Tree, Null, Struct, Pointers, Structs, Trees
 use Rattle.capnp_format.specs.Segments.{Segments}
 use Rattle.capnp_format.specs.Forest.{target}
 use Rattle.capnp_making.specs.Path.{Step, Child, Element, tree_at, put_tree, struct_at, put_struct, next, put, update, PathLeads}
-use Rattle.capnp_format.specs.Value.{AreElements}
 use Rattle.capnp_format.specs.Canonical.{used_from, used_words, is_null, used_trees, take_trees, data_width, pointer_width, cut_to, cut_struct, cut_structs, trim, trim_each, trim_elements}
 use Rattle.capnp_making.specs.Made.{zeros, nulls}
+use Rattle.capnp_widening.specs.Laws.{HaveSize}
 use Rattle.capnp_widening.specs.Widened.{fill_words, fill_trees, fill_elements}
-use Rattle.capnp_format.proofs.Trimming.{used_words-le, used_trees-le, trim_each-count, widths-le}
+use Rattle.capnp_format.proofs.Trimming.{used_words-le, used_trees-le, trim_each-count}
 
 used_words-zeros : (n : ℕ) → used_words (zeros n) ≡ 0
 used_words-zeros zero = refl
@@ -66,16 +66,21 @@ pointer_width-fill : (d q : ℕ) (es : Elements) → pointer_width (fill_element
 pointer_width-fill d q no_elements = refl
 pointer_width-fill d q (element ws ts es) = ap₂ (λ m n. max m n) (used_trees-fill q ts) (pointer_width-fill d q es)
 
-cut_to-fill : (m n d q e k : ℕ) (es : Elements) → AreElements e k es → m ≤ e → n ≤ k → cut_to m n (fill_elements d q (trim_elements es)) ≡ cut_to m n (trim_elements es)
+cut_to-fill : (m n d q e k : ℕ) (es : Elements) → HaveSize e k es → m ≤ e → n ≤ k → cut_to m n (fill_elements d q (trim_elements es)) ≡ cut_to m n (trim_elements es)
 cut_to-fill m n d q e k no_elements v l f = refl
 cut_to-fill m n d q e k (element ws ts es) v l f =
     ap₂ (λ x y. element x y (cut_to m n (fill_elements d q (trim_elements es)))) (take-fill m (d - length ws) ws (omega (arith, v.0))) (take_trees-fill n q (trim_each ts) (omega (arith, v.1, trim_each-count ts)))
-    ∙ ap (element (take m ws) (take_trees n (trim_each ts))) (cut_to-fill m n d q e k es v.4 l f)
+    ∙ ap (element (take m ws) (take_trees n (trim_each ts))) (cut_to-fill m n d q e k es v.2 l f)
 
-pub trim-filled_list : (d q e k : ℕ) (es : Elements) → AreElements e k es → trim (Structs (max e d) (max k q) (fill_elements d q es)) ≡ trim (Structs e k es)
+widths_within : (d q : ℕ) (es : Elements) → HaveSize d q es → (data_width (trim_elements es) ≤ d) × (pointer_width (trim_elements es) ≤ q)
+widths_within d q no_elements h = (omega arith, omega arith)
+widths_within d q (element ws ts es) h =
+    (omega (arith, used_words-le ws, (widths_within d q es h.2).0), omega (arith, used_trees-le (trim_each ts), trim_each-count ts, (widths_within d q es h.2).1))
+
+pub trim-filled_list : (d q e k : ℕ) (es : Elements) → HaveSize e k es → trim (Structs (max e d) (max k q) (fill_elements d q es)) ≡ trim (Structs e k es)
 trim-filled_list d q e k es v =
     let fs = trim_elements es in
-    let widths = widths-le e k es v in
+    let widths = widths_within e k es v in
     ap (λ x. Structs (data_width x) (pointer_width x) (cut_to (data_width x) (pointer_width x) x)) (trim_elements-fill d q es)
     ∙ ap₂ (λ m n. Structs m n (cut_to m n (fill_elements d q fs))) (data_width-fill d q fs) (pointer_width-fill d q fs)
     ∙ ap (Structs (data_width fs) (pointer_width fs)) (cut_to-fill (data_width fs) (pointer_width fs) d q e k es v widths.0 widths.1)

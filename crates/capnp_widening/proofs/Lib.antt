@@ -1,6 +1,7 @@
 pub mod AnyList
 pub mod AnyRows
 pub mod Basics
+pub mod CanonicalWords
 pub mod Copying
 pub mod Described
 pub mod Filled

@@ -1,4 +1,5 @@
 pub mod Housed
+pub mod Laws
 pub mod Moved
 pub mod Opening
 pub mod Pointed

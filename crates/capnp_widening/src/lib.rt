@@ -2,6 +2,7 @@
 //! whose elements are, moved into new words with all that their pointers lead to.
 #![tactic(auto)]
 
+pub mod laws;
 pub mod lists;
 pub mod moving;
 pub mod numbers;

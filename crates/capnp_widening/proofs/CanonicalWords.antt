@@ -1,0 +1,96 @@
+-- Values that are made wider, at a place or below it, keep their canonical words.
+use Rattle.std.proofs.Common.{◌≡◌, ℕ, zero, suc, ◌+◌, ◌*◌, max, Bool, true, false, cond, nat_le, ◌&&◌, Ok, Err, List, [], ◌∷◌, length, refl, sym, ap, ◌∙◌}
+use Rattle.capnp_format.specs.Segments.{Segments}
+use Rattle.capnp_format.specs.Tree.{Tree, Struct, Pointers, Structs, Trees, no_trees, tree, Elements, no_elements, element, element_count}
+use Rattle.capnp_format.specs.Means.{Means, MeansElements}
+use Rattle.capnp_format.specs.Canonical.{trim, encoding}
+use Rattle.capnp_format.specs.Forest.{target}
+use Rattle.capnp_words.specs.declared.error.ErrorKind.{ErrorKind}
+use Rattle.capnp_making.specs.Path.{Step, Child, Element, tree_at, put_tree, struct_at, put_struct, next, put, update, PathLeads}
+use Rattle.capnp_making.proofs.Replaced.{stored_within, replaced_within, forest_stored, forest_updated}
+use Rattle.capnp_widening.specs.Laws.{SameWords, HaveSize, WiderStruct, WiderList, StructWithin, ListWithin, StructOfMessage, ListOfMessage}
+use Rattle.capnp_widening.specs.Widened.{fill_words, fill_trees, fill_elements, limited}
+use Rattle.capnp_widening.proofs.Filling.{trim-filled, trim-filled_list, trim-update}
+
+same_words : (t u : Tree) → trim u ≡ trim t → SameWords t u
+same_words t u e = (e, ap encoding e)
+
+pub wider_struct : WiderStruct
+wider_struct d q ws ts = same_words (Struct ws ts) (Struct (fill_words d ws) (fill_trees q ts)) (trim-filled d q ws ts)
+
+granted : (b : Bool) (t u : Tree) (k : ErrorKind) → cond b (Ok t) (Err k) ≡ Ok u → t ≡ u
+granted true t u k e = cc
+granted false t u k e = absurd cc
+
+-- a list of structs that is wide enough, or is made wider
+one_or_other : (b : Bool) (d q e k n : ℕ) (es : Elements) (u : Tree) → HaveSize e k es → cond b (Ok (Structs e k es)) (limited n (Structs (max e d) (max k q) (fill_elements d q es))) ≡ Ok u → trim u ≡ trim (Structs e k es)
+one_or_other true d q e k n es u v w = let same : Structs e k es ≡ u = cc in ap trim (sym same)
+one_or_other false d q e k n es u v w = ap trim (sym (granted _ (Structs (max e d) (max k q) (fill_elements d q es)) u _ w)) ∙ trim-filled_list d q e k es v
+
+pub wider_list : WiderList
+wider_list d q e k es u v w = same_words (Structs e k es) u (one_or_other (nat_le d e && nat_le q k) d q e k (element_count es * (max e d + max k q)) es u v w)
+
+-- the elements of a list that a place means
+sizes_there : (S : Segments) (n s p d q : ℕ) (es : Elements) (c : ℕ) → MeansElements S n s p d q es c → HaveSize d q es
+sizes_there S n s p d q no_elements c m = tt
+sizes_there S n s p d q (element ws ts es) c (k, l, long, many, words, all, others, sum) = (long, many, sizes_there S n s (p + d + q) d q es l others)
+
+list_sizes : (S : Segments) (n s p d q : ℕ) (es : Elements) (c : ℕ) → Means S n s p (Structs d q es) c → HaveSize d q es
+list_sizes S n s p d q es c (a, m, k, some, o, claim, tag, fits, all, g) = sizes_there S _ a.segment (a.start + 1) d q es k all
+
+-- what stands at the end of a path, put there again
+put_tree_same : (ts : Trees) (i : ℕ) → put_tree ts i (tree_at ts i) ≡ ts
+put_tree_same no_trees i = refl
+put_tree_same (tree t ts) zero = refl
+put_tree_same (tree t ts) (suc i) = ap (tree t) (put_tree_same ts i)
+
+put_child_same : (es : Elements) (i j : ℕ) → put_struct es i (put (struct_at es i) (Child j) (next (struct_at es i) (Child j))) ≡ es
+put_child_same no_elements i j = refl
+put_child_same (element ws ts es) zero j = ap (λ us. element ws us es) (put_tree_same ts j)
+put_child_same (element ws ts es) (suc i) j = ap (element ws ts) (put_child_same es i j)
+
+update_same : (S : Segments) (s p : ℕ) (t : Tree) (path : List Step) (u q : ℕ) (x : Tree) → PathLeads S s p t path u q x → update t path x ≡ t
+update_same S s p t [] u q x h = sym h.2
+update_same S s p (Struct ws ts) (Child i ∷ path) u q x h =
+    ap (λ y. Struct ws (put_tree ts i y)) (update_same S (target S s p).segment ((target S s p).start + length ws + i) (tree_at ts i) path u q x h.1) ∙ ap (Struct ws) (put_tree_same ts i)
+update_same S s p (Pointers ts) (Element i ∷ path) u q x h =
+    ap (λ y. Pointers (put_tree ts i y)) (update_same S (target S s p).segment ((target S s p).start + i) (tree_at ts i) path u q x h.1) ∙ ap Pointers (put_tree_same ts i)
+update_same S s p (Structs d w es) (Element i ∷ Child j ∷ path) u q x h =
+    let old = struct_at es i in
+    ap (λ y. Structs d w (put_struct es i (put old (Child j) y))) (update_same S (target S s p).segment ((target S s p).start + 1 + i * (d + w) + d + j) (next old (Child j)) path u q x h.2)
+    ∙ ap (Structs d w) (put_child_same es i j)
+update_same S s p t (step ∷ path) u q x h = absurd h
+
+-- another value of the same canonical form there
+same_at : (S : Segments) (s p : ℕ) (t : Tree) (path : List Step) (u q : ℕ) (x y : Tree) → PathLeads S s p t path u q x → trim y ≡ trim x → SameWords t (update t path y)
+same_at S s p t path u q x y h e = same_words t (update t path y) (trim-update S s p t path u q x y x h e ∙ ap trim (update_same S s p t path u q x h))
+
+pub struct_within : StructWithin
+struct_within S R s p t path u q ws ts size a h w =
+    let x = Struct ws ts in
+    let y = Struct (fill_words size.data_words ws) (fill_trees size.pointers ts) in
+    let b = w ws ts (stored_within S s p t path u q x h a) in
+    (update t path y, replaced_within S R s p t path u q x y h a b, same_at S s p t path u q x y h (trim-filled size.data_words size.pointers ws ts))
+
+pub list_within : ListWithin
+list_within S R s p t path u q d k es size a h w =
+    let x = Structs d k es in
+    let stored = stored_within S s p t path u q x h a in
+    let (y, made, b) = w x stored in
+    let same = wider_list size.data_words size.pointers d k es y (list_sizes S stored.means.0 u q d k es stored.means.1 stored.means.2) made in
+    (update t path y, replaced_within S R s p t path u q x y h a b, same_at S s p t path u q x y h same.0)
+
+pub struct_of_message : StructOfMessage
+struct_of_message S R t path u q ws ts size a h w =
+    let x = Struct ws ts in
+    let y = Struct (fill_words size.data_words ws) (fill_trees size.pointers ts) in
+    let b = w ws ts (stored_within S 0 0 t path u q x h (forest_stored S t a)) in
+    (update t path y, forest_updated S R t path u q x y a h b, same_at S 0 0 t path u q x y h (trim-filled size.data_words size.pointers ws ts))
+
+pub list_of_message : ListOfMessage
+list_of_message S R t path u q d k es size a h w =
+    let x = Structs d k es in
+    let stored = stored_within S 0 0 t path u q x h (forest_stored S t a) in
+    let (y, made, b) = w x stored in
+    let same = wider_list size.data_words size.pointers d k es y (list_sizes S stored.means.0 u q d k es stored.means.1 stored.means.2) made in
+    (update t path y, forest_updated S R t path u q x y a h b, same_at S 0 0 t path u q x y h same.0)
