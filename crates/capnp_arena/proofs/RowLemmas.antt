@@ -1,5 +1,5 @@
 -- A row's allocated words: written over, and more of them taken.
-use Rattle.std.proofs.Common.{◌≡◌, ℕ, ◌+◌, ◌-◌, ◌*◌, ◌≤◌, List, ◌++◌, length, take, drop, replicate, sym, ap, ◌∙◌, arith, take-add, take_at, drop-drop, length-take, subst}
+use Rattle.std.proofs.Common.{◌≡◌, ℕ, ◌+◌, ◌-◌, ◌*◌, ◌≤◌, List, ◌++◌, length, take, drop, replicate, sym, ap, ◌∙◌, arith, take-add, take_at, drop-drop, length-take, length-drop, subst}
 use Rattle.std.proofs.Math.Bridge.{le_prop}
 use Rattle.std.proofs.Math.Nat.{ℕ_set}
 use mathlib.Core.List.{is_set}
@@ -9,7 +9,7 @@ use borrow.Rule.Slice.PartMut.{put_mid}
 use Rattle.capnp_format.specs.Bytes.{words_of}
 use Rattle.capnp_format.proofs.WordsOf.{words_of-append, words_of-zeros}
 use Rattle.capnp_arena.specs.Allocations.{IsRow}
-use Rattle.capnp_arena.specs.Written.{overwritten}
+use Rattle.capnp_arena.specs.Written.{overwritten, with_copied}
 use Rattle.capnp_arena.specs.declared.arena.allocator.Segment.{Ghosts}
 
 -- the first words with others of that length in their place
@@ -18,6 +18,13 @@ kept_part used bytes new e = take_at new (drop (8 * used) bytes) (8 * used) e
 
 pub zeros_over : (xs : List ℕ) (at n : ℕ) → put_mid at n xs (replicate n 0) ≡ overwritten xs at (replicate n 0)
 zeros_over xs at n = ap (λ k. take at xs ++ (replicate n 0 ++ drop k (drop at xs))) (sym (length-replicate n 0))
+
+pub length_part : (xs : List ℕ) (from n : ℕ) → from + n ≤ length xs → length (take n (drop from xs)) ≡ n
+length_part xs from n l = omega (arith, length-take n (drop from xs), length-drop from xs)
+
+-- words copied over others of the same
+pub moved_over : (xs : List ℕ) (from to n : ℕ) → from + n ≤ length xs → put_mid to n xs (take n (drop from xs)) ≡ with_copied xs to xs from n
+moved_over xs from to n l = ap (λ k. take to xs ++ (take n (drop from xs) ++ drop k (drop to xs))) (sym (length_part xs from n l))
 
 pub same_row : (used : ℕ) (bytes new : List ℕ) → IsRow used bytes → length new ≡ length bytes → drop (8 * used) new ≡ drop (8 * used) bytes → IsRow used new
 same_row used bytes new row l e = (omega (arith, row.0, l), omega (arith, row.1, l), e ∙ row.2 ∙ ap (λ n. replicate (n - 8 * used) 0) (sym l))

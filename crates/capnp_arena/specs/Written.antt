@@ -11,6 +11,10 @@ with_segment S s ws = slice_set S s ws
 abbrev pub overwritten : List ℕ → ℕ → List ℕ → List ℕ
 overwritten xs p ws = take p xs ++ (ws ++ drop (length ws) (drop p xs))
 
+-- the n words of ys from position q on over those of xs from position p on
+abbrev pub with_copied : List ℕ → ℕ → List ℕ → ℕ → ℕ → List ℕ
+with_copied xs p ys q n = overwritten xs p (take n (drop q ys))
+
 -- the word x at a place
 abbrev pub with_word : Segments → ℕ → ℕ → ℕ → Segments
 with_word S s p x = with_segment S s (slice_set (segment S s) p x)

@@ -1,7 +1,7 @@
 //! Arenas that are written.
 ghost use Rattle.std.specs.Prelude.{◌≡◌, ◌⊎◌, ◌<◌, ◌≤◌, ◌+◌, ◌-◌, ◌*◌, ◌/◌, ◌^◌, ◌↔◌, ◌++◌, ◌∷◌, [], ℕ, Bool, List, length, replicate, slice_get, slice_set, Some, IsTrue, IsNone, IsSome, IfSome, IsOk, IfOk, IsOkAnd, OnOk, OnErr, IfErr};
 ghost use Rattle.std.specs.Borrow.{sem, Lends, Array, u8 as byte};
-ghost use Rattle.capnp_format.specs.Segments.{segment, IsPlace};
+ghost use Rattle.capnp_format.specs.Segments.{segment, words_at, IsPlace};
 ghost use Rattle.capnp_format.specs.Bytes.{words_of, message};
 ghost use Rattle.capnp_words.specs.declared.error.ErrorKind.TheVariants.{InvalidSegmentId, MessageTooLarge};
 ghost use Rattle.capnp_arena.specs.Allocations.{max_segments, max_segment_words};
@@ -45,6 +45,12 @@ pub trait BuilderArena: ReaderArena + sealed::Closed {
         requires whole { length from.now ≡ 8 * length (words_of from.now) }
         requires inside { at + length (words_of from.now) ≤ length (segment (view self.old).words id) }
         ensures { view self.new ≡ record (view self.old) { words = with_words (view self.old).words id at (words_of from.now) } };
+
+    /// Copies `n` words over others of the same segment or of another one, as they were before. Where `n` is 0, nothing changes.
+    fn move_words(&mut self, from: u32, from_at: u32, to: u32, to_at: u32, n: u32)
+        requires there { from_at + n ≤ length (segment (view self.old).words from) }
+        requires inside { to_at + n ≤ length (segment (view self.old).words to) }
+        ensures { view self.new ≡ record (view self.old) { words = with_words (view self.old).words to to_at (words_at (view self.old).words from from_at n) } };
 
     /// Writes `n` words of zero over others. Where `n` is 0, nothing changes.
     fn zero_words(&mut self, id: u32, at: u32, n: u32)

@@ -1,8 +1,8 @@
 //! The arena of a message that is built.
 ghost use Rattle.std.below.core.specs.declared.int.i32.TheConstants.{MAX};
-ghost use Rattle.std.specs.Prelude.{◌≡◌, ◌⊎◌, ◌<◌, ◌≤◌, ◌+◌, ◌*◌, ◌/◌, ◌^◌, ◌↔◌, ◌++◌, ◌∷◌, [], ℕ, ℤ, pos, false, refl, length, map, replicate, Some, None, IsTrue, IsSome, IsNone, IfSome, IsOk, IfOk, OnOk, OnErr, IfErr, slice_get};
+ghost use Rattle.std.specs.Prelude.{◌≡◌, ◌≢◌, ◌⊎◌, ◌<◌, ◌≤◌, ◌+◌, ◌*◌, ◌/◌, ◌^◌, ◌↔◌, ◌++◌, ◌∷◌, [], ℕ, ℤ, pos, false, refl, length, map, replicate, Some, None, IsTrue, IsSome, IsNone, IfSome, IsOk, IfOk, OnOk, OnErr, IfErr, slice_get};
 ghost use Rattle.capnp_format.specs.Bytes.{message};
-ghost use Rattle.capnp_format.specs.Segments.{segment};
+ghost use Rattle.capnp_format.specs.Segments.{segment, words_at};
 ghost use Rattle.capnp_words.specs.declared.error.ErrorKind.TheVariants.{AllocationFailed, InvalidSegmentId, MessageTooLarge};
 ghost use Rattle.capnp_arena.specs.Allocations.{IsFresh, max_segments, max_segment_words, one_more};
 ghost use Rattle.capnp_arena.specs.View.{view_of, same_room};
@@ -12,7 +12,7 @@ ghost use Rattle.capnp_arena.specs.Room.{rows_within, rows_small};
 ghost use Rattle.capnp_arena.specs.Row.{GainsRow, shown, capacity_at, with_row, few_with_row};
 ghost use Rattle.capnp_arena.specs.Lent.{with_row_shown, with_row_capacity};
 ghost use Rattle.capnp_arena.specs.Taking.{IsFull, IsFirstFit, IsAllocationRefusal, SameRoomBelow, with_another};
-ghost use Rattle.capnp_arena.specs.Written.{with_more};
+ghost use Rattle.capnp_arena.specs.Written.{with_more, with_words};
 
 use crate::arena::builder_arena::sealed::Closed;
 use crate::arena::row::Row;
@@ -67,6 +67,33 @@ fn put_behind<A: Allocator>(
             allocator.deallocate_segment(segment, used);
             Err(ErrorKind::AllocationFailed)
         }
+    }
+}
+
+/// A row, and a position in it.
+#[derive(Clone, Copy)]
+struct Place {
+    row: usize,
+    at: u32,
+}
+
+/// Copies `n` words of one row over those of another.
+fn copy_across<S: Segment>(rows: &mut [Row<S>], from: Place, to: Place, n: u32)
+    requires rows { (from.row < length rows.old) × (to.row < length rows.old) }
+    requires apart { from.row ≢ to.row }
+    requires there { from.at + n ≤ length (segment (message (shown S.Segment rows.old)) from.row) }
+    requires inside { to.at + n ≤ length (segment (message (shown S.Segment rows.old)) to.row) }
+    ensures words { message (shown S.Segment rows.new) ≡ with_words (message (shown S.Segment rows.old)) to.row to.at (words_at (message (shown S.Segment rows.old)) from.row from.at n) }
+    ensures room { capacity_at S.Segment rows.new ≡ capacity_at S.Segment rows.old }
+{
+    if from.row < to.row {
+        let (front, back) = rows.split_at_mut(to.row);
+        let row = &mut back[0];
+        row.copy_from(to.at, &front[from.row], from.at, n);
+    } else {
+        let (front, back) = rows.split_at_mut(from.row);
+        let row = &mut front[to.row];
+        row.copy_from(to.at, &back[0], from.at, n);
     }
 }
 
@@ -366,6 +393,27 @@ impl<A: Allocator> BuilderArena for BuilderArenaImpl<A> {
         if !from.is_empty() {
             let row = &mut self.rows[id as usize];
             row.copy_words(at, from);
+        }
+    }
+
+    #[tactic(auto, using(crate::proofs::RowsLemmas::rows_written))]
+    fn move_words(&mut self, from: u32, from_at: u32, to: u32, to_at: u32, n: u32) {
+        if n == 0 {
+            return;
+        }
+        if from == to {
+            let row = &mut self.rows[to as usize];
+            row.move_words(from_at, to_at, n);
+        } else {
+            let old = Place {
+                row: from as usize,
+                at: from_at,
+            };
+            let new = Place {
+                row: to as usize,
+                at: to_at,
+            };
+            copy_across(&mut self.rows, old, new, n);
         }
     }
 

@@ -2,7 +2,7 @@
 ghost use Rattle.std.specs.Prelude.{◌≡◌, ◌<◌, ◌≤◌, ◌+◌, ◌-◌, ◌*◌, ◌/◌, ◌↔◌, ◌++◌, [], ℕ, List, length, take, drop, replicate, slice_set, IsTrue};
 ghost use Rattle.capnp_format.specs.Bytes.{words_of};
 ghost use Rattle.capnp_arena.specs.Allocations.{IsRow, max_segment_words, zeros};
-ghost use Rattle.capnp_arena.specs.Written.{overwritten, with_front};
+ghost use Rattle.capnp_arena.specs.Written.{overwritten, with_copied, with_front};
 ghost use Rattle.std.specs.Borrow.{sem, Lends, Array, u8 as byte};
 
 use crate::arena::Segment;
@@ -40,6 +40,18 @@ fn zero_below(bytes: &mut [u8], end: usize, at: usize, n: usize)
     ensures rest { drop (8 * end) bytes.new ≡ drop (8 * end) bytes.old }
 {
     words::zero_words(&mut bytes[..8 * end], at, n);
+}
+
+/// Copies `n` words below the first `end` words over others there, as they were before.
+#[tactic(auto, using(crate::proofs::RowLemmas::kept))]
+fn move_below(bytes: &mut [u8], end: usize, from: usize, to: usize, n: usize)
+    requires there { from + n ≤ end }
+    requires inside { to + n ≤ end }
+    requires room { 8 * end ≤ length bytes.old }
+    ensures words { words_of (take (8 * end) bytes.new) ≡ with_copied (words_of (take (8 * end) bytes.old)) to (words_of (take (8 * end) bytes.old)) from n }
+    ensures rest { drop (8 * end) bytes.new ≡ drop (8 * end) bytes.old }
+{
+    words::move_words(&mut bytes[..8 * end], from, to, n);
 }
 
 /// Lends the first `n` bytes of a segment; the others stay.
@@ -130,6 +142,37 @@ impl<S: Segment> Row<S> {
     {
         let end = self.used as usize;
         copy_below(self.segment.bytes_mut(), end, at as usize, from);
+    }
+
+    #[tactic(auto, using(crate::proofs::RowLemmas::written))]
+    pub(crate) fn move_words(&mut self, from: u32, to: u32, n: u32)
+        requires there { from + n ≤ self.old.used }
+        requires inside { to + n ≤ self.old.used }
+        ensures words { words_of (allocated S.Segment self.new) ≡ with_copied (words_of (allocated S.Segment self.old)) to (words_of (allocated S.Segment self.old)) from n }
+        ensures used { self.new.used ≡ self.old.used }
+        ensures capacity { capacity S.Segment self.new ≡ capacity S.Segment self.old }
+    {
+        let end = self.used as usize;
+        move_below(
+            self.segment.bytes_mut(),
+            end,
+            from as usize,
+            to as usize,
+            n as usize,
+        );
+    }
+
+    /// Copies `n` words of another row from a position on.
+    #[tactic(auto, using(crate::proofs::RowsLemmas::reading))]
+    pub(crate) fn copy_from(&mut self, at: u32, row: &Row<S>, from: u32, n: u32)
+        requires there { from + n ≤ row.now.used }
+        requires inside { at + n ≤ self.old.used }
+        ensures words { words_of (allocated S.Segment self.new) ≡ with_copied (words_of (allocated S.Segment self.old)) at (words_of (allocated S.Segment row.now)) from n }
+        ensures used { self.new.used ≡ self.old.used }
+        ensures capacity { capacity S.Segment self.new ≡ capacity S.Segment self.old }
+    {
+        let words = words::part(row.allocated(), from as usize, n as usize);
+        self.copy_words(at, words);
     }
 
     #[tactic(auto, using(crate::proofs::RowLemmas::written))]
