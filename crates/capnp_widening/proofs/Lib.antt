@@ -22,6 +22,7 @@ pub mod PointerSteps
 pub mod Refusing
 pub mod Rehoused
 pub mod Remade
+pub mod Rooms
 pub mod Rows
 pub mod RowsCopied
 pub mod SameObjects
@@ -29,6 +30,7 @@ pub mod Settled
 pub mod Single
 pub mod StructLists
 pub mod StructRemade
+pub mod StructRooms
 pub mod StructSteps
 pub mod Unmoving
 pub mod Unspent

@@ -4,7 +4,7 @@
 //! a landing pad behind the words of the object's segment where that has room, and else to two words
 //! where the arena finds room. A far pointer and a capability are copied as they are. The old pointer
 //! stays as it was, so for a while two pointers lead to one object.
-ghost use Rattle.std.specs.Prelude.{◌*◌, ◌≡◌, ◌≢◌, ◌<◌, ◌≤◌, ◌+◌, ◌-◌, ◌^◌, ◌∷◌, [], length, true, false, OnOk, IfErr, OnErr};
+ghost use Rattle.std.specs.Prelude.{◌*◌, ◌≡◌, ◌≢◌, ◌<◌, ◌≤◌, ◌+◌, ◌-◌, ◌^◌, ◌∷◌, [], length, true, false, IsOk, OnOk, IfErr, OnErr};
 ghost use Rattle.capnp_arena.specs.View.{KeepsLimits};
 ghost use Rattle.capnp_format.specs.Canonical.{Reaches};
 ghost use Rattle.capnp_format.specs.Segments.{segment, IsPlace, Grows};
@@ -14,6 +14,7 @@ ghost use Rattle.capnp_making.specs.Memory.{KeepsMemory, SpendsMemory, RefusesWo
 ghost use Rattle.capnp_making.specs.Zeroed.{IsPruned};
 ghost use Rattle.capnp_widening.specs.Moved.{a_move, row_of_moves, Moves, MovesSome, Unmoves, rows_of_moves};
 ghost use Rattle.capnp_widening.specs.Pointed.{PointsTo, IsNearWord, WritesOnly};
+ghost use Rattle.capnp_widening.specs.Rooms.{TakesAtMost, HasSomeRoom};
 
 use capnp_arena::arena::BuilderArena;
 use capnp_making::landing::{length_of, word_of};
@@ -35,6 +36,9 @@ pub fn move_pointer<A: BuilderArena>(arena: &mut A, from: Start, to: Start) -> R
     ensures memory { IfErr result (SpendsMemory (A.view arena.old) (A.view arena.new)) }
     ensures full { IfErr result (RefusesWords (A.view arena.old) (A.view arena.new) 1) }
     ensures refused { OnErr result ((A.view arena.new).words ≡ (A.view arena.old).words) }
+    ensures few { TakesAtMost (A.view arena.old).words (A.view arena.new).words 2 }
+    ensures fits { HasSomeRoom (A.view arena.old) 2 → IsOk result }
+    ensures near { from.segment ≡ to.segment → IsOk result }
 {
     let word = word_of(arena, from.segment, from.at);
     if word.is_null() {
@@ -85,6 +89,9 @@ fn point_to<A: BuilderArena>(
     ensures memory { IfErr result (SpendsMemory (A.view arena.old) (A.view arena.new)) }
     ensures full { IfErr result (RefusesWords (A.view arena.old) (A.view arena.new) 1) }
     ensures refused { OnErr result ((A.view arena.new).words ≡ (A.view arena.old).words) }
+    ensures few { TakesAtMost (A.view arena.old).words (A.view arena.new).words 2 }
+    ensures fits { HasSomeRoom (A.view arena.old) 2 → IsOk result }
+    ensures near { object.segment ≡ to.segment → IsOk result }
 {
     if object.segment == to.segment {
         let word = near_word(shape, to.at, object.at);
@@ -168,6 +175,9 @@ pub fn move_row<A: BuilderArena>(
     ensures granted { OnOk result (KeepsMemory (A.view arena.old) (A.view arena.new)) }
     ensures memory { IfErr result (SpendsMemory (A.view arena.old) (A.view arena.new)) }
     ensures full { IfErr result (RefusesGrowth (A.view arena.old) (A.view arena.new)) }
+    ensures few { TakesAtMost (A.view arena.old).words (A.view arena.new).words (2 * count) }
+    ensures fits { HasSomeRoom (A.view arena.old) (2 * count) → IsOk result }
+    ensures near { from.segment ≡ to.segment → IsOk result }
 {
     for i in 0..count {
         let source = Start {
@@ -242,6 +252,9 @@ pub fn move_rows<A: BuilderArena>(
     ensures granted { OnOk result (KeepsMemory (A.view arena.old) (A.view arena.new)) }
     ensures memory { IfErr result (SpendsMemory (A.view arena.old) (A.view arena.new)) }
     ensures full { IfErr result (RefusesGrowth (A.view arena.old) (A.view arena.new)) }
+    ensures few { TakesAtMost (A.view arena.old).words (A.view arena.new).words (2 * (count * pointers)) }
+    ensures fits { HasSomeRoom (A.view arena.old) (2 * (count * pointers)) → IsOk result }
+    ensures near { from.segment ≡ to.segment → IsOk result }
 {
     let mut source = from.at;
     let mut place = to.at;

@@ -1,14 +1,16 @@
 //! Structs and lists made wider where they are too small: the object stands anew in more words, its
 //! pointers are moved there, and at last its pointer is overwritten. Until then the old object stands
 //! as it was, and a refusal leaves nothing but zeros.
-ghost use Rattle.std.specs.Prelude.{◌≡◌, ◌<◌, ◌≤◌, ◌+◌, ◌*◌, ◌^◌, max, length, IfOk, OnOk, IfErr, OnErr};
+ghost use Rattle.std.specs.Prelude.{ℕ, ◌≡◌, ◌<◌, ◌≤◌, ◌+◌, ◌*◌, ◌^◌, max, length, IsOk, IfOk, OnOk, IfErr, OnErr};
 ghost use Rattle.capnp_arena.specs.View.{KeepsLimits};
 ghost use Rattle.capnp_format.specs.Segments.{segment, word_at, IsPlace, Grows};
 ghost use Rattle.capnp_making.specs.Existing.{LiesIn};
 ghost use Rattle.capnp_making.specs.Made.{IsFew, AsksWords};
-ghost use Rattle.capnp_making.specs.Memory.{KeepsMemory, SpendsMemory, RefusesWords, RefusesGrowth};
+ghost use Rattle.capnp_making.specs.Memory.{HasRoom, KeepsMemory, SpendsMemory, RefusesWords, RefusesGrowth};
+ghost use Rattle.capnp_making.specs.Near.{HasOwnRoom};
 ghost use Rattle.capnp_making.specs.Zeroed.{IsPruned};
 ghost use Rattle.capnp_widening.specs.Housed.{IsRoom, AreCopied, Settles};
+ghost use Rattle.capnp_widening.specs.Rooms.{TakesAtMost, HasSomeRoom, IsWideStruct, StructFits, TakesForStruct};
 ghost use Rattle.capnp_widening.specs.Widened.{HousesAt, IsAtLeast, IsNoWider, LeadsToStruct, LeavesAll, LeavesStruct, Rehouses, WidensStruct};
 
 use crate::moving::{move_row, unmove_row};
@@ -42,6 +44,9 @@ pub(crate) fn take<A: BuilderArena>(arena: &mut A, id: u32, amount: u32) -> Resu
     ensures memory { IfErr result (SpendsMemory (A.view arena.old) (A.view arena.new)) }
     ensures full { IfErr result (RefusesWords (A.view arena.old) (A.view arena.new) amount) }
     ensures refused { OnErr result ((A.view arena.new).words ≡ (A.view arena.old).words) }
+    ensures few { TakesAtMost (A.view arena.old).words (A.view arena.new).words (amount + 1) }
+    ensures fits { (n : ℕ) → HasRoom (A.view arena.old) id (amount + n) → IsOk result × HasSomeRoom (A.view arena.new) n }
+    ensures near { HasOwnRoom (A.view arena.old) id amount → IsOk result × IfOk result (λ r. r.segment ≡ id) }
 {
     match arena.allocate(id, amount) {
         Some(at) => Ok(Room {
@@ -115,6 +120,9 @@ pub fn get_struct<A: BuilderArena>(
     ensures granted { OnOk result (KeepsMemory (A.view arena.old) (A.view arena.new)) }
     ensures refused { OnErr result (LeavesAll (A.view arena.old).words (A.view arena.new).words id at) }
     ensures named { IfErr result (IsNoWider (A.view arena.old) (A.view arena.new) id at) }
+    ensures stays { IsWideStruct (A.view arena.old).words id at size → IsOk result × (A.view arena.new ≡ A.view arena.old) }
+    ensures fits { StructFits (A.view arena.old) id at size → IsOk result }
+    ensures few { TakesForStruct (A.view arena.old).words (A.view arena.new).words id at size }
 {
     match existing::get_struct(arena, id, at) {
         None => Err(ErrorKind::MessageContainsNonStructPointerWhereStructPointerWasExpected),
@@ -158,6 +166,9 @@ fn widen_struct<A: BuilderArena>(
     ensures refused { OnErr result (LeavesStruct (A.view arena.old).words (A.view arena.new).words id at old) }
     ensures memory { IfErr result (SpendsMemory (A.view arena.old) (A.view arena.new)) }
     ensures full { IfErr result (RefusesGrowth (A.view arena.old) (A.view arena.new)) }
+    ensures few { TakesAtMost (A.view arena.old).words (A.view arena.new).words (size.data_words + size.pointers + 1 + 2 * old.size.pointers) }
+    ensures fits { HasRoom (A.view arena.old) id (size.data_words + size.pointers + 2 * old.size.pointers) → IsOk result }
+    ensures near { old.segment ≡ id → HasOwnRoom (A.view arena.old) id (size.data_words + size.pointers) → IsOk result }
 {
     let pointer = word_of(arena, id, at);
     match take(arena, id, size.total()) {

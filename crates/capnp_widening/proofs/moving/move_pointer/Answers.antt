@@ -8,6 +8,7 @@ use Rattle.capnp_making.specs.Made.{IsShape}
 use Rattle.capnp_making.proofs.Outcomes.{on_made_so}
 use Rattle.capnp_making.proofs.MadeWords.{word_put}
 use Rattle.capnp_making.proofs.Memory.{words_in}
+use Rattle.capnp_widening.proofs.Rooms.{words_put}
 use Rattle.capnp_widening.proofs.Single.{copied_moves, near_moves, nowhere_moves}
 use Rattle.capnp_widening.proofs.moving.move_pointer.Goals as goal
 
@@ -57,3 +58,7 @@ returns-then-not-is_positional-clause-only g c = λ x y e l.
 
 pub returns-in-Some-clause-only : goal.returns-in-Some-clause-only
 returns-in-Some-clause-only g c = on_made_so c.point_to.result _ _ c.point_to.ensures.points (λ w. λ x y e l. (let (a, p, shaped, lies) = w in p.kept x y e l))
+
+pub returns-then-not-is_positional-clause-few : goal.returns-then-not-is_positional-clause-few
+returns-then-not-is_positional-clause-few g c =
+    omega (arith, words_put (g.A.BuilderArena.view c.args.arena.now).words (g.A.BuilderArena.view c.set_word.new.self).words c.args.to.segment c.args.to.at c.word_of-word.result.0 (ap words_in c.set_word.ensures))

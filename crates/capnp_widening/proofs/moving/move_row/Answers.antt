@@ -1,14 +1,16 @@
-use Rattle.std.proofs.Common.{sym, subst, le_trans, arith}
+use Rattle.std.proofs.Common.{◌*◌, sym, ap, subst, le_trans, arith}
 use Rattle.capnp_format.specs.Segments.{Segments}
 use Rattle.capnp_making.proofs.Memory.{keeps_both, keeps_itself, words_refused_after}
 use Rattle.capnp_widening.specs.Moved.{row_of_moves, Moves}
+use Rattle.capnp_widening.specs.Rooms.{all_words}
 use Rattle.capnp_widening.proofs.Movings.{none_moved, moves_next, moves_some}
+use Rattle.capnp_widening.proofs.Rooms.{room_left, less_room}
 use Rattle.capnp_widening.proofs.moving.move_row.Goals as goal
 
 pub loop-i-init : goal.loop-i-init
 loop-i-init g c =
     let S : Segments = (g.A.BuilderArena.view c.args.arena.now).words in
-    record { moves = none_moved S; longer = record { segments = omega arith; words = λ x. omega arith }; memory = keeps_itself (g.A.BuilderArena.view c.args.arena.now) }
+    record { moves = none_moved S; longer = record { segments = omega arith; words = λ x. omega arith }; few = omega arith; memory = keeps_itself (g.A.BuilderArena.view c.args.arena.now) }
 
 -- One pointer more.
 pub loop-i-preserved : goal.loop-i-preserved
@@ -20,6 +22,7 @@ loop-i-preserved g c =
     record {
       moves = moves_next S M R c.args.from.segment c.args.from.at c.args.to.segment c.args.to.at c.loop-i.i c.loop-i.invariant.moves c.in-Ok.ensures.moved;
       longer = record { segments = le_trans c.loop-i.invariant.longer.segments longer.segments; words = λ x. le_trans (c.loop-i.invariant.longer.words x) (longer.words x) };
+      few = omega (arith, c.loop-i.invariant.few, c.in-Ok.ensures.few);
       memory = keeps_both _ _ _ c.loop-i.invariant.longer.segments c.loop-i.invariant.memory c.in-Ok.ensures.granted;
     }
 
@@ -33,3 +36,13 @@ returns-in-Err-clause-some g c =
 
 pub returns-in-Err-clause-full : goal.returns-in-Err-clause-full
 returns-in-Err-clause-full g c = (1, words_refused_after (g.A.BuilderArena.view c.args.arena.now) (g.A.BuilderArena.view c.loop-i.arena) (g.A.BuilderArena.view c.move_pointer.new.arena) 1 c.in-Err.k c.loop-i.invariant.memory c.in-Err.ensures.full)
+
+pub returns-in-Err-clause-few : goal.returns-in-Err-clause-few
+returns-in-Err-clause-few g c = omega (arith, c.loop-i.invariant.few, c.loop-i-test.true, ap all_words c.in-Err.ensures.refused)
+
+-- Each pointer before has taken two words at most.
+pub returns-in-Err-clause-fits : goal.returns-in-Err-clause-fits
+returns-in-Err-clause-fits g c = λ h.
+    (let a = g.A.BuilderArena.view c.args.arena.now in
+    let b = g.A.BuilderArena.view c.loop-i.arena in
+    c.in-Err.ensures.fits (room_left a b (2 * c.loop-i.i) 2 c.loop-i.invariant.longer c.loop-i.invariant.few c.loop-i.invariant.memory.1 (less_room a (2 * c.args.count) _ (omega (arith, c.loop-i-test.true)) h)))

@@ -19,6 +19,7 @@ loop-i-preserved g c =
       source_at = omega (arith, c.loop-i.invariant.source_at, next_place c.args.from.step c.loop-i.i);
       place_at = omega (arith, c.loop-i.invariant.place_at, next_place c.args.to.step c.loop-i.i);
       longer = record { segments = le_trans c.loop-i.invariant.longer.segments longer.segments; words = λ x. le_trans (c.loop-i.invariant.longer.words x) (longer.words x) };
+      few = omega (arith, c.loop-i.invariant.few, c.in-Ok.ensures.few, next_place c.args.pointers c.loop-i.i);
       memory = keeps_both _ _ _ c.loop-i.invariant.longer.segments c.loop-i.invariant.memory c.in-Ok.ensures.granted;
     }
 

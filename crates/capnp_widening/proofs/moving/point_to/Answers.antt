@@ -1,4 +1,4 @@
-use Rattle.std.proofs.Common.{◌≡◌, ◌≢◌, inl, inr, ℕ, ◌+◌, ◌^◌, ◌<◌, ◌≤◌, length, refl, sym, ap, subst, arith, rules}
+use Rattle.std.proofs.Common.{◌≡◌, ◌≢◌, inl, inr, ℕ, ◌+◌, ◌^◌, ◌<◌, ◌≤◌, length, replicate, refl, sym, ap, subst, arith, rules}
 use Rattle.capnp_format.specs.Segments.{Segments, segment}
 use Rattle.capnp_format.specs.Word.{kind, offset_bits}
 use Rattle.capnp_format.proofs.Lies.{reaches_offset}
@@ -8,7 +8,10 @@ use Rattle.capnp_making.proofs.MadeWords.{word_put, taken_grown, extended_grown}
 use Rattle.std.proofs.Common.{◌∙◌}
 use Rattle.capnp_arena.specs.View.{View}
 use Rattle.capnp_making.specs.Memory.{RefusesWords}
+use Rattle.capnp_arena.specs.Written.{extended}
+use Rattle.capnp_widening.specs.Rooms.{all_words}
 use Rattle.capnp_widening.proofs.Refusing.{words_refused}
+use Rattle.capnp_widening.proofs.Rooms.{words_put, words_extended, words_taken, room_still, none_refused}
 use Rattle.capnp_making.proofs.Memory.{words_in}
 use Rattle.capnp_making.proofs.Shapes.{shape_near}
 use Rattle.capnp_widening.proofs.Pointed.{pointed_near, pointed_single, pointed_double}
@@ -133,3 +136,51 @@ returns-in-Err-clause-full g c =
     let e = c.in-Err.ensures.refused in
     let all : b ≡ record mid { words = b.words; refusals = b.refusals } = e ∙ ap (λ (S : Segments). record mid { words = S; refusals = b.refusals }) (sym (ap words_in e)) in
     subst (λ v. RefusesWords v b 1 c.in-Err.k) (c.in-None.ensures.none refl) (words_refused mid b 1 c.in-Err.k (c.in-Err.ensures.named, all) (ap words_in e) (λ j fit. c.in-Err.ensures.first j fit)).0
+
+-- No words are taken for a near pointer, one for a pad, or two.
+pub returns-then-object-to-clause-few : goal.returns-then-object-to-clause-few
+returns-then-object-to-clause-few g c =
+    let S : Segments = (g.A.BuilderArena.view c.args.arena.now).words in
+    omega (arith, words_put S (g.A.BuilderArena.view c.set_word.new.self).words c.args.to.segment c.args.to.at c.near_word-word.result.0 (ap words_in c.set_word.ensures))
+
+pub returns-in-Some-clause-few : goal.returns-in-Some-clause-few
+returns-in-Some-clause-few g c =
+    let S : Segments = (g.A.BuilderArena.view c.args.arena.now).words in
+    let T : Segments = (g.A.BuilderArena.view c.allocate.new.self).words in
+    let U : Segments = (g.A.BuilderArena.view c.set_word-in-Some.new.self).words in
+    let R : Segments = (g.A.BuilderArena.view c.set_word-in-Some-2.new.self).words in
+    let v : ℕ = c.args.object.segment in
+    let (at, made) = c.in-Some.ensures.taken in
+    let taken : T ≡ extended S v (replicate 1 0) = ap words_in made in
+    let one = words_extended S v (replicate 1 0) c.requires.there in
+    let first = words_put T U v c.in-Some.pad c.pointer_to-word.result.0 (ap words_in c.set_word-in-Some.ensures) in
+    let second = words_put U R c.args.to.segment c.args.to.at c.new_far-far.result.0 (ap words_in c.set_word-in-Some-2.ensures) in
+    omega (arith, ap all_words taken, one, first, second)
+
+pub returns-in-Ok-clause-few : goal.returns-in-Ok-clause-few
+returns-in-Ok-clause-few g c =
+    let S : Segments = (g.A.BuilderArena.view c.args.arena.now).words in
+    let T : Segments = (g.A.BuilderArena.view c.allocate_anywhere.new.self).words in
+    let U : Segments = (g.A.BuilderArena.view c.set_word-in-Ok.new.self).words in
+    let V : Segments = (g.A.BuilderArena.view c.set_word-in-Ok-2.new.self).words in
+    let R : Segments = (g.A.BuilderArena.view c.set_word-in-Ok-3.new.self).words in
+    let k : ℕ = c.in-Ok.segment in
+    let q : ℕ = c.in-Ok.pad in
+    let same : (g.A.BuilderArena.view c.allocate.new.self).words ≡ S = ap words_in (c.in-None.ensures.none refl) in
+    let two = words_taken S T 2 k q (rw same at c.in-Ok.ensures.taken) in
+    let first = words_put T U k q c.new_far-start.result.0 (ap words_in c.set_word-in-Ok.ensures) in
+    let second = words_put U V k (q + 1) c.tag_of-tag.result.0 (ap words_in c.set_word-in-Ok-2.ensures) in
+    let third = words_put V R c.args.to.segment c.args.to.at c.new_double_far-far.result.0 (ap words_in c.set_word-in-Ok-3.ensures) in
+    omega (arith, two, first, second, third)
+
+pub returns-in-Err-clause-few : goal.returns-in-Err-clause-few
+returns-in-Err-clause-few g c = omega (arith, ap all_words (ap words_in c.in-Err.ensures.refused ∙ ap words_in (c.in-None.ensures.none refl)))
+
+-- Where words are refused, no segment has room for two.
+pub returns-in-Err-clause-fits : goal.returns-in-Err-clause-fits
+returns-in-Err-clause-fits g c = λ h.
+    (let a : View = g.A.BuilderArena.view c.args.arena.now in
+    let b : View = g.A.BuilderArena.view c.allocate_anywhere.new.self in
+    let words : b.words ≡ a.words = ap words_in c.in-Err.ensures.refused ∙ ap words_in (c.in-None.ensures.none refl) in
+    let room : b.room ≡ a.room = ap (λ (v : View). v.room) c.in-Err.ensures.refused ∙ ap (λ (v : View). v.room) (c.in-None.ensures.none refl) in
+    absurd (none_refused a b 1 c.in-Err.k (returns-in-Err-clause-full g c) (room_still a b 2 words room h)))

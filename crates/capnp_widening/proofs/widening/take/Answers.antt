@@ -1,11 +1,15 @@
-use Rattle.std.proofs.Common.{◌≡◌, ℕ, ◌+◌, inr, refl, ap, subst, arith}
-use Rattle.capnp_format.specs.Segments.{Segments}
+use Rattle.std.proofs.Common.{◌≡◌, ℕ, ◌+◌, ◌<◌, ◌≤◌, inr, length, replicate, refl, ap, subst, arith}
+use Rattle.capnp_format.specs.Segments.{Segments, segment}
 use Rattle.capnp_making.specs.Made.{IsGrown}
-use Rattle.capnp_making.proofs.MadeWords.{taken_grown}
+use Rattle.capnp_making.proofs.MadeWords.{taken_grown, extended_grown}
 use Rattle.std.proofs.Common.{◌∙◌, sym}
+use Rattle.std.proofs.lemmas.List.{length-replicate}
 use Rattle.capnp_arena.specs.View.{View}
+use Rattle.capnp_arena.specs.Written.{extended}
 use Rattle.capnp_making.specs.Memory.{RefusesWords}
+use Rattle.capnp_widening.specs.Rooms.{all_words, TakesAtMost}
 use Rattle.capnp_widening.proofs.Refusing.{words_refused}
+use Rattle.capnp_widening.proofs.Rooms.{words_extended, words_taken, room_some, room_elsewhere, room_left, room_still, less_room, not_true, not_within, none_refused}
 use Rattle.capnp_making.proofs.Memory.{words_in}
 use Rattle.capnp_widening.proofs.widening.take.Goals as goal
 
@@ -27,3 +31,53 @@ returns-in-Err-clause-full g c =
     let e = c.in-Err.ensures.refused in
     let all : b ≡ record mid { words = b.words; refusals = b.refusals } = e ∙ ap (λ (S : Segments). record mid { words = S; refusals = b.refusals }) (sym (ap words_in e)) in
     subst (λ v. RefusesWords v b c.args.amount c.in-Err.k) (c.in-None.ensures.none refl) (words_refused mid b c.args.amount c.in-Err.k (c.in-Err.ensures.named, all) (ap words_in e) (λ j fit. c.in-Err.ensures.first j fit)).0
+
+-- Words are taken in the segment of the pointer.
+pub returns-in-Some-clause-few : goal.returns-in-Some-clause-few
+returns-in-Some-clause-few g c =
+    let S : Segments = (g.A.BuilderArena.view c.args.arena.now).words in
+    let taken : (g.A.BuilderArena.view c.allocate.new.self).words ≡ extended S c.args.id (replicate c.args.amount 0) = ap words_in c.in-Some.ensures.taken.1 in
+    omega (arith, ap all_words taken, words_extended S c.args.id (replicate c.args.amount 0) c.requires.there, length-replicate {A = ℕ} c.args.amount 0)
+
+pub returns-in-Some-clause-fits : goal.returns-in-Some-clause-fits
+returns-in-Some-clause-fits g c = λ n h.
+    (let a : View = g.A.BuilderArena.view c.args.arena.now in
+    let b : View = g.A.BuilderArena.view c.allocate.new.self in
+    let m : ℕ = c.args.amount in
+    let taken : b.words ≡ extended a.words c.args.id (replicate m 0) = ap words_in c.in-Some.ensures.taken.1 in
+    let grown : IsGrown a.words b.words c.args.id (length (segment a.words c.args.id)) m = rw taken (extended_grown a.words c.args.id m c.requires.there) in
+    let few : TakesAtMost a.words b.words m = omega (arith, ap all_words taken, words_extended a.words c.args.id (replicate m 0) c.requires.there, length-replicate {A = ℕ} m 0) in
+    let room = ap (λ (v : View). v.room) c.in-Some.ensures.taken.1 in
+    (refl, room_left a b m n grown.grows few (λ k l. ap (λ (f : ℕ → ℕ). f k) room) (room_some a c.args.id (m + n) c.requires.there h)))
+
+-- Words and a pad are taken elsewhere.
+pub returns-in-Ok-clause-few : goal.returns-in-Ok-clause-few
+returns-in-Ok-clause-few g c =
+    let S : Segments = (g.A.BuilderArena.view c.args.arena.now).words in
+    let T : Segments = (g.A.BuilderArena.view c.allocate_anywhere.new.self).words in
+    let same : (g.A.BuilderArena.view c.allocate.new.self).words ≡ S = ap words_in (c.in-None.ensures.none refl) in
+    omega (arith, words_taken S T (c.args.amount + 1) c.in-Ok.segment c.in-Ok.at (rw same at c.in-Ok.ensures.taken))
+
+pub returns-in-Ok-clause-fits : goal.returns-in-Ok-clause-fits
+returns-in-Ok-clause-fits g c = λ n h.
+    (let a : View = g.A.BuilderArena.view c.args.arena.now in
+    let b : View = g.A.BuilderArena.view c.allocate_anywhere.new.self in
+    let m : ℕ = c.args.amount in
+    let before : g.A.BuilderArena.view c.allocate.new.self ≡ a = c.in-None.ensures.none refl in
+    let grown : IsGrown a.words b.words c.in-Ok.segment c.in-Ok.at (m + 1) = taken_grown a.words b.words (m + 1) c.in-Ok.segment c.in-Ok.at (rw before at c.in-Ok.ensures.taken) in
+    (refl, room_left a b (m + 1) n grown.grows (returns-in-Ok-clause-few g c) (rw before at c.in-Ok.ensures.room) (room_elsewhere a c.args.id m n (not_within _ _ (λ l. not_true (c.in-None.ensures.exactly.1 l))) h)))
+
+-- No segment has room for them.
+pub returns-in-Err-clause-few : goal.returns-in-Err-clause-few
+returns-in-Err-clause-few g c = omega (arith, ap all_words (ap words_in c.in-Err.ensures.refused ∙ ap words_in (c.in-None.ensures.none refl)))
+
+pub returns-in-Err-clause-fits : goal.returns-in-Err-clause-fits
+returns-in-Err-clause-fits g c = λ n h.
+    (let a : View = g.A.BuilderArena.view c.args.arena.now in
+    let b : View = g.A.BuilderArena.view c.allocate_anywhere.new.self in
+    let m : ℕ = c.args.amount in
+    let before : g.A.BuilderArena.view c.allocate.new.self ≡ a = c.in-None.ensures.none refl in
+    let words : b.words ≡ a.words = ap words_in c.in-Err.ensures.refused ∙ ap words_in before in
+    let room : b.room ≡ a.room = ap (λ (v : View). v.room) c.in-Err.ensures.refused ∙ ap (λ (v : View). v.room) before in
+    let some = room_elsewhere a c.args.id m n (not_within _ _ (λ l. not_true (c.in-None.ensures.exactly.1 l))) h in
+    absurd (none_refused a b m c.in-Err.k (returns-in-Err-clause-full g c) (room_still a b (m + 1) words room (less_room a (m + 1 + n) (m + 1) (omega arith) some))))

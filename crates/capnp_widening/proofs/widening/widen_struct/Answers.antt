@@ -1,8 +1,11 @@
-use Rattle.std.proofs.Common.{◌∙◌}
+use Rattle.std.proofs.Common.{◌≡◌, ◌+◌, ◌*◌, ◌≤◌, ℕ, sym, subst, ◌∙◌, arith}
 use Rattle.capnp_arena.specs.View.{View}
 use Rattle.capnp_format.specs.Segments.{Segments}
-use Rattle.capnp_making.specs.Memory.{RefusesGrowth}
+use Rattle.capnp_making.specs.Memory.{HasRoom, RefusesGrowth}
+use Rattle.capnp_making.specs.Near.{HasOwnRoom}
 use Rattle.capnp_making.proofs.Memory.{keeps_both, keeps_written, words_refused_after, refused_before}
+use Rattle.capnp_widening.specs.Rooms.{TakesAtMost, HasSomeRoom}
+use Rattle.capnp_widening.proofs.Rooms.{same_words, room_written}
 use Rattle.capnp_widening.proofs.StructSteps.{StructSteps, struct_rehoused, struct_leads, StructUndone, struct_left, nothing_grown}
 use Rattle.capnp_widening.proofs.widening.widen_struct.Goals as goal
 
@@ -85,3 +88,61 @@ returns-in-Err-move_row-clause-full g c =
     let keeps = keeps_both old T D grown.grows.segments c.in-Ok.ensures.granted (keeps_written T D D.words c.copy_words.ensures.limits) in
     let first : RefusesGrowth old P c.in-Err-move_row.k = (n, words_refused_after old D P n c.in-Err-move_row.k keeps r) in
     refused_before old U Z c.in-Err-move_row.k (refused_before old P U c.in-Err-move_row.k first c.unmove_row.ensures.limits c.unmove_row.ensures.pruned) c.zero_part-in-Err-move_row.ensures.limits c.zero_part-in-Err-move_row.ensures.pruned
+
+-- Words are taken for the struct, and then two for a pointer at most.
+pub returns-in-Ok-move_row-clause-few : goal.returns-in-Ok-move_row-clause-few
+returns-in-Ok-move_row-clause-few g c =
+    let T : Segments = (g.A.BuilderArena.view c.take.new.arena).words in
+    let D : Segments = (g.A.BuilderArena.view c.copy_words.new.arena).words in
+    let P : Segments = (g.A.BuilderArena.view c.move_row.new.arena).words in
+    let R : Segments = (g.A.BuilderArena.view c.settle.new.arena).words in
+    let Z : Segments = (g.A.BuilderArena.view c.zero_part.new.arena).words in
+    let Q : Segments = (g.A.BuilderArena.view c.zero_pads.new.arena).words in
+    let (b, settled, shaped, segment_of, start_of) = c.settle.ensures.settled in
+    let taken = rw c.total.ensures at c.take.ensures.few in
+    let moved = rw c.from-count.ensures at c.move_row.ensures.few in
+    let copied = same_words T D c.copy_words.ensures.copied.segments c.copy_words.ensures.copied.words in
+    let set = same_words P R settled.segments settled.words in
+    let zeroed = same_words R Z c.zero_part.ensures.pruned.segments c.zero_part.ensures.pruned.words in
+    let cleared = same_words Z Q c.zero_pads.ensures.pruned.segments c.zero_pads.ensures.pruned.words in
+    omega (arith, taken, copied, moved, set, zeroed, cleared)
+
+pub returns-in-Err-move_row-clause-few : goal.returns-in-Err-move_row-clause-few
+returns-in-Err-move_row-clause-few g c =
+    let T : Segments = (g.A.BuilderArena.view c.take.new.arena).words in
+    let D : Segments = (g.A.BuilderArena.view c.copy_words.new.arena).words in
+    let P : Segments = (g.A.BuilderArena.view c.move_row.new.arena).words in
+    let U : Segments = (g.A.BuilderArena.view c.unmove_row.new.arena).words in
+    let Z : Segments = (g.A.BuilderArena.view c.zero_part-in-Err-move_row.new.arena).words in
+    let taken = rw c.total.ensures at c.take.ensures.few in
+    let moved = rw c.from-count.ensures at c.move_row.ensures.few in
+    let copied = same_words T D c.copy_words.ensures.copied.segments c.copy_words.ensures.copied.words in
+    let undone = same_words P U c.unmove_row.ensures.pruned.segments c.unmove_row.ensures.pruned.words in
+    let zeroed = same_words U Z c.zero_part-in-Err-move_row.ensures.pruned.segments c.zero_part-in-Err-move_row.ensures.pruned.words in
+    omega (arith, taken, copied, moved, undone, zeroed)
+
+pub returns-in-Err-clause-few : goal.returns-in-Err-clause-few
+returns-in-Err-clause-few g c = let taken = rw c.total.ensures at c.take.ensures.few in omega (arith, taken)
+
+-- Where there is room for the struct and for all that its pointers can take, neither is refused.
+pub returns-in-Err-clause-fits : goal.returns-in-Err-clause-fits
+returns-in-Err-clause-fits g c = λ h.
+    (let n : ℕ = 2 * c.args.old.size.pointers in
+    (c.in-Err.ensures.fits n (subst (λ m. HasRoom (g.A.BuilderArena.view c.args.arena.now) c.args.id (m + n)) (sym c.total.ensures) h)).0)
+
+pub returns-in-Err-move_row-clause-fits : goal.returns-in-Err-move_row-clause-fits
+returns-in-Err-move_row-clause-fits g c = λ h.
+    (let n : ℕ = 2 * c.args.old.size.pointers in
+    let T : View = g.A.BuilderArena.view c.take.new.arena in
+    let D : View = g.A.BuilderArena.view c.copy_words.new.arena in
+    let left = (c.in-Ok.ensures.fits n (subst (λ m. HasRoom (g.A.BuilderArena.view c.args.arena.now) c.args.id (m + n)) (sym c.total.ensures) h)).1 in
+    c.in-Err-move_row.ensures.fits (subst (λ m. HasSomeRoom D (2 * m)) (sym c.from-count.ensures) (room_written T D n c.copy_words.ensures.limits c.copy_words.ensures.copied.segments c.copy_words.ensures.copied.words left)))
+
+-- In the segment of the old struct no pointer takes any.
+pub returns-in-Err-clause-near : goal.returns-in-Err-clause-near
+returns-in-Err-clause-near g c = λ here h. (c.in-Err.ensures.near (subst (λ m. HasOwnRoom (g.A.BuilderArena.view c.args.arena.now) c.args.id m) (sym c.total.ensures) h)).0
+
+pub returns-in-Err-move_row-clause-near : goal.returns-in-Err-move_row-clause-near
+returns-in-Err-move_row-clause-near g c = λ here h.
+    (let there = (c.in-Ok.ensures.near (subst (λ m. HasOwnRoom (g.A.BuilderArena.view c.args.arena.now) c.args.id m) (sym c.total.ensures) h)).1 in
+    c.in-Err-move_row.ensures.near (here ∙ sym there))

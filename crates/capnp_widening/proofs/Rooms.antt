@@ -1,0 +1,122 @@
+-- How many words are taken, and what room is left.
+use Rattle.std.proofs.Common.{◌≡◌, ◌⊎◌, true, false, inl, inr, ℕ, zero, suc, ◌+◌, ◌*◌, ◌<◌, ◌≤◌, List, [], ◌∷◌, ◌++◌, length, replicate, set, refl, sym, ap, ◌∙◌, subst, arith}
+use Rattle.std.proofs.lemmas.List.{length-append, length-replicate, length-set, get_or_past}
+use Rattle.std.proofs.lemmas.Bool.{cases_lt, cases_eq}
+use Rattle.capnp_words.specs.declared.error.ErrorKind.{ErrorKind}
+use Rattle.capnp_format.specs.Segments.{Segments, Grows, segment}
+use Rattle.capnp_arena.specs.Taking.{IsFirstFit, IsFull, IsTaken, SameRoomBelow, with_another}
+use Rattle.capnp_arena.specs.View.{View, KeepsLimits}
+use Rattle.capnp_arena.specs.Written.{extended, with_word}
+use Rattle.capnp_making.specs.Memory.{HasRoom, RefusesWords}
+use Rattle.capnp_making.specs.Near.{HasOwnRoom}
+use Rattle.capnp_widening.specs.Rooms.{all_words, TakesAtMost, HasSomeRoom}
+
+-- all words, where none is taken
+pub same_words : (S R : Segments) → length R ≡ length S → ((x : ℕ) → length (segment R x) ≡ length (segment S x)) → all_words R ≡ all_words S
+same_words [] [] e f = refl
+same_words [] (r ∷ R) e f = absurd (omega arith)
+same_words (s ∷ S) [] e f = absurd (omega arith)
+same_words (s ∷ S) (r ∷ R) e f = omega (arith, f 0, same_words S R (omega arith) (λ x. f (suc x)))
+
+words_with : (S : Segments) (s p x : ℕ) → all_words (with_word S s p x) ≡ all_words S
+words_with [] zero p x = refl
+words_with [] (suc s) p x = refl
+words_with (ws ∷ S) zero p x = omega (arith, length-set ws p x)
+words_with (ws ∷ S) (suc s) p x = omega (arith, words_with S s p x)
+
+pub words_put : (S R : Segments) (s p x : ℕ) → R ≡ with_word S s p x → all_words R ≡ all_words S
+words_put S R s p x e = ap all_words e ∙ words_with S s p x
+
+-- and where some are
+
+pub words_extended : (S : Segments) (s : ℕ) (ws : List ℕ) → s < length S → all_words (extended S s ws) ≡ all_words S + length ws
+words_extended [] s ws l = absurd (omega arith)
+words_extended (xs ∷ S) zero ws l = omega (arith, length-append xs ws)
+words_extended (xs ∷ S) (suc s) ws l = omega (arith, words_extended S s ws (omega arith))
+
+words_another : (S : Segments) (n : ℕ) → all_words (with_another S n) ≡ all_words S + n
+words_another [] n = omega (arith, length-replicate {A = ℕ} n 0)
+words_another (xs ∷ S) n = omega (arith, words_another S n)
+
+pub words_taken : (S T : Segments) (n s p : ℕ) → IsTaken S T n s p → all_words T ≡ all_words S + n
+words_taken S T n s p (inl (l, e, f)) = ap all_words f ∙ words_extended S s (replicate n 0) l ∙ ap (λ k. all_words S + k) (length-replicate n 0)
+words_taken S T n s p (inr (l, e, f)) = ap all_words f ∙ words_another S n
+
+-- no segment has gained more than were taken
+
+behind : (s r : List ℕ) (S R : Segments) → Grows (s ∷ S) (r ∷ R) → Grows S R
+behind s r S R g = record { segments = omega (arith, g.segments); words = λ x. g.words (suc x) }
+
+none_fewer : (S R : Segments) → Grows S R → all_words S ≤ all_words R
+none_fewer [] R g = omega arith
+none_fewer (s ∷ S) [] g = absurd (omega (arith, g.segments))
+none_fewer (s ∷ S) (r ∷ R) g = omega (arith, g.words 0, none_fewer S R (behind s r S R g))
+
+none_there : (k : ℕ) → length (segment [] k) ≡ 0
+none_there zero = refl
+none_there (suc k) = refl
+
+one_of_all : (R : Segments) (k : ℕ) → length (segment R k) ≤ all_words R
+one_of_all [] k = omega (arith, none_there k)
+one_of_all (r ∷ R) zero = omega arith
+one_of_all (r ∷ R) (suc k) = omega (arith, one_of_all R k)
+
+gained : (S R : Segments) (n k : ℕ) → Grows S R → TakesAtMost S R n → length (segment R k) ≤ length (segment S k) + n
+gained [] R n k g t = omega (arith, one_of_all R k)
+gained (s ∷ S) [] n k g t = absurd (omega (arith, g.segments))
+gained (s ∷ S) (r ∷ R) n zero g t = omega (arith, none_fewer S R (behind s r S R g))
+gained (s ∷ S) (r ∷ R) n (suc k) g t = gained S R n k (behind s r S R g) (omega (arith, g.words 0))
+
+-- the room that is left
+
+pub room_left : (a b : View) (m n : ℕ) → Grows a.words b.words → TakesAtMost a.words b.words m → SameRoomBelow (length a.words) a.room b.room → HasSomeRoom a (m + n) → HasSomeRoom b n
+room_left a b m n g t same (k, l, fits) = (k, omega (arith, g.segments), omega (arith, fits, same k l, gained a.words b.words m k g t))
+
+pub less_room : (v : View) (m n : ℕ) → n ≤ m → HasSomeRoom v m → HasSomeRoom v n
+less_room v m n l (k, there, fits) = (k, there, omega (arith, fits))
+
+pub room_still : (a b : View) (n : ℕ) → b.words ≡ a.words → b.room ≡ a.room → HasSomeRoom a n → HasSomeRoom b n
+room_still a b n words room (k, l, fits) = (k, omega (arith, ap length words), omega (arith, fits, ap (λ S. length (segment S k)) words, ap (λ (f : ℕ → ℕ). f k) room))
+
+pub room_written : (a b : View) (n : ℕ) → KeepsLimits a b → length b.words ≡ length a.words → ((x : ℕ) → length (segment b.words x) ≡ length (segment a.words x)) → HasSomeRoom a n → HasSomeRoom b n
+room_written a b n limits segments words (k, l, fits) = (k, omega (arith, segments), omega (arith, fits, words k, ap (λ (v : View). v.room k) limits))
+
+-- the room that an object's segment has, or any other
+pub room_some : (v : View) (id n : ℕ) → id < length v.words → HasRoom v id n → HasSomeRoom v n
+room_some v id n l (inl fits) = (id, l, fits)
+room_some v id n l (inr (k, fit)) = (k, fit.0, omega (arith, fit.1))
+
+-- where the object's segment has none
+pub room_elsewhere : (v : View) (id n m : ℕ) → v.room id < length (segment v.words id) + n → HasRoom v id (n + m) → HasSomeRoom v (n + 1 + m)
+room_elsewhere v id n m full (inl fits) = absurd (omega (arith, fits))
+room_elsewhere v id n m full (inr (k, fit)) = (k, fit.0, omega (arith, fit.1))
+
+pub not_true : false ≡ true → ⊥
+not_true e = cc
+
+pub not_within : (a n : ℕ) → (n ≤ a → ⊥) → a < n
+not_within a n h = elim (cases_lt a n) [ inl l ↦ l | inr l ↦ absurd (h l) ]
+
+-- the first segment with room, or none has it
+first_below : (v : View) (n m : ℕ) → m ≤ length v.words → ((k : ℕ) × IsFirstFit v n k) ⊎ ((k : ℕ) → k < m → v.room k < length (segment v.words k) + n)
+first_below v n zero l = inr (λ k less. absurd (omega arith))
+first_below v n (suc m) l = elim (first_below v n m (omega arith)) [
+  | inl found ↦ inl found
+  | inr none ↦ elim (cases_lt (v.room m) (length (segment v.words m) + n)) [
+    | inl full ↦ inr (λ k less. elim (cases_eq k m) [
+      | inl e ↦ subst (λ j. v.room j < length (segment v.words j) + n) (sym e) full
+      | inr e ↦ none k (omega (arith, e))
+    ])
+    | inr fits ↦ inl (m, (omega arith, omega arith, none))
+  ]
+]
+
+first_or_full : (v : View) (n : ℕ) → ((k : ℕ) × IsFirstFit v n k) ⊎ IsFull v n
+first_or_full v n = first_below v n (length v.words) (omega arith)
+
+-- where words are refused, none has it
+pub none_refused : (a b : View) (n : ℕ) (k : ErrorKind) → RefusesWords a b n k → HasSomeRoom b (n + 1) → ⊥
+none_refused a b n k (r, none) (j, l, fits) = elim (first_or_full b (n + 1)) [
+  | inl (i, fit) ↦ none i fit
+  | inr full ↦ omega (arith, full j l, fits)
+]

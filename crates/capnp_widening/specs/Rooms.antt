@@ -1,0 +1,92 @@
+-- The words that making an object wider takes, and the room for them.
+use Rattle.std.specs.Prelude.{◌≡◌, ◌⊎◌, ℕ, ◌+◌, ◌*◌, ◌<◌, ◌≤◌, Ok, List, [], ◌∷◌, length}
+use Rattle.capnp_format.specs.Segments.{Segments}
+use Rattle.capnp_format.specs.Tree.{Tree, Null, Struct, Pointers, Structs, Trees, Elements, count, element_count}
+use Rattle.capnp_format.specs.Forest.{target}
+use Rattle.capnp_pointers.specs.declared.wire_pointer.StructSize.{StructSize}
+use Rattle.capnp_arena.specs.View.{View}
+use Rattle.capnp_making.specs.Memory.{HasRoom}
+use Rattle.capnp_making.specs.Near.{HasOwnRoom}
+use Rattle.capnp_making.specs.Stored.{IsStored}
+use Rattle.capnp_making.specs.declared.existing.ExistingList.{ExistingList}
+use Rattle.capnp_widening.specs.declared.remaking.ElementRows.{ElementRows}
+use Rattle.capnp_widening.specs.RowsRemade.{IsList}
+use Rattle.capnp_widening.specs.Widened.{fill_words, fill_trees, list_widened}
+
+-- How many words the segments have together.
+abbrev pub all_words : Segments → ℕ
+all_words [] = 0
+all_words (ws ∷ S) = length ws + all_words S
+
+-- From S to R at most n words are taken.
+abbrev pub TakesAtMost : Segments → Segments → ℕ → Type 0
+TakesAtMost S R n = all_words R ≤ all_words S + n
+
+-- Some segment has room for n words more.
+abbrev pub HasSomeRoom : View → ℕ → Type 0
+HasSomeRoom v n = (k : ℕ) × (k < length v.words) × HasOwnRoom v k n
+
+-- The words of a struct and of a list of structs, and how many pointers a struct and the elements of a list have.
+abbrev pub object_words : Tree → ℕ
+object_words (Struct ws ts) = length ws + count ts
+object_words (Structs d q es) = 1 + element_count es * (d + q)
+object_words t = 0
+
+abbrev pub pointers_in : Tree → ℕ
+pointers_in (Struct ws ts) = count ts
+pointers_in (Pointers ts) = count ts
+pointers_in (Structs d q es) = element_count es * q
+pointers_in t = 0
+
+-- There is room for u, which t becomes at a place, and for two words for each pointer of t; or t stands in the segment of the place, and that has
+-- room for u.
+abbrev pub HasRoomFor : View → ℕ → ℕ → Tree → Tree → Type 0
+HasRoomFor v s p t u = HasRoom v s (object_words u + 2 * pointers_in t) ⊎ (((target v.words s p).segment ≡ s) × HasOwnRoom v s (object_words u))
+
+-- The place stores a struct with both sections at least as large as asked for.
+abbrev pub IsWideStruct : Segments → ℕ → ℕ → StructSize → Type 0
+IsWideStruct S s p size = (ws : List ℕ) × (ts : Trees) × IsStored S s p (Struct ws ts) × (size.data_words ≤ length ws) × (size.pointers ≤ count ts)
+
+-- The struct that a struct becomes where sections of a size are wanted.
+abbrev pub widened : StructSize → List ℕ → Trees → Tree
+widened size ws ts = Struct (fill_words size.data_words ws) (fill_trees size.pointers ts)
+
+-- The place stores a struct, and there is room for what it becomes.
+abbrev pub StructFits : View → ℕ → ℕ → StructSize → Type 0
+StructFits v s p size = (ws : List ℕ) × (ts : Trees) × IsStored v.words s p (Struct ws ts) × HasRoomFor v s p (Struct ws ts) (widened size ws ts)
+
+-- From S to R no more words are taken than what a struct at the place becomes, a pad, and two words for each of its pointers.
+abbrev pub TakesForStruct : Segments → Segments → ℕ → ℕ → StructSize → Type 0
+TakesForStruct S R s p size = (ws : List ℕ) (ts : Trees) → IsStored S s p (Struct ws ts) → TakesAtMost S R (object_words (widened size ws ts) + 1 + 2 * count ts)
+
+-- The place stores null, or a list of structs with both sections at least as large as asked for.
+abbrev pub IsWideList : Segments → ℕ → ℕ → StructSize → Type 0
+IsWideList S s p size = IsStored S s p Null ⊎ ((d : ℕ) × (q : ℕ) × (es : Elements) × IsStored S s p (Structs d q es) × (size.data_words ≤ d) × (size.pointers ≤ q))
+
+-- The place stores a value that becomes a list of structs where these are wanted, and there is room for what it becomes.
+abbrev pub ListFits : View → ℕ → ℕ → StructSize → Type 0
+ListFits v s p size = (t : Tree) × (u : Tree) × IsStored v.words s p t × (list_widened size.data_words size.pointers t ≡ Ok u) × HasRoomFor v s p t u
+
+-- From S to R no more words are taken than what a list at the place becomes, a pad, and two words for each of its pointers.
+abbrev pub TakesForList : Segments → Segments → ℕ → ℕ → StructSize → Type 0
+TakesForList S R s p size =
+    (t u : Tree) → IsStored S s p t → list_widened size.data_words size.pointers t ≡ Ok u → TakesAtMost S R (object_words u + 1 + 2 * pointers_in t)
+
+-- So for the list l that the place stores.
+abbrev pub ThisListFits : View → ℕ → ℕ → ExistingList → StructSize → Type 0
+ThisListFits v s p l size = (t : Tree) × (u : Tree) × IsList v.words s p t l × (list_widened size.data_words size.pointers t ≡ Ok u) × HasRoomFor v s p t u
+
+abbrev pub TakesForThisList : Segments → Segments → ℕ → ℕ → ExistingList → StructSize → Type 0
+TakesForThisList S R s p l size =
+    (t u : Tree) → IsList S s p t l → list_widened size.data_words size.pointers t ≡ Ok u → TakesAtMost S R (object_words u + 1 + 2 * pointers_in t)
+
+-- There is room for a list of structs of a size made of these elements, and for two words for each of their pointers; or they stand in segment s, and
+-- that has room for the list.
+abbrev pub RowsFit : View → ℕ → ElementRows → StructSize → Type 0
+RowsFit v s rows size =
+    HasRoom v s (1 + rows.count * (size.data_words + size.pointers) + 2 * (rows.count * rows.size.pointers))
+    ⊎ ((rows.segment ≡ s) × HasOwnRoom v s (1 + rows.count * (size.data_words + size.pointers)))
+
+-- No more words are taken than that.
+abbrev pub TakesForRows : Segments → Segments → ElementRows → StructSize → Type 0
+TakesForRows S R rows size = TakesAtMost S R (1 + rows.count * (size.data_words + size.pointers) + 1 + 2 * (rows.count * rows.size.pointers))
