@@ -36,7 +36,7 @@ use Rattle.capnp_objects.specs.Objects.{IsObject, EntersStruct}
 use Rattle.capnp_pointers.specs.declared.wire_pointer.ElementSize.{ElementSize}
 use Rattle.capnp_pointers.specs.Sizes.{size_number}
 use Rattle.capnp_readers.specs.Standing.{AllStand, ElementsStand, ElementsAccept, EndsUsed, IsPadded}
-use Rattle.capnp_readers.specs.Checking.{Progress, progress, Finds, FindsAll, FindsElements, IsFound, AreFound, AreFoundRows, IsCanonicalAt, AreCanonicalAt, TestStops, below, in_struct, in_pointers, in_element, TestsStop, RowTestsStop, IsTested, StartsRight, Tells, TellsAll, TellsFlat, TellsStruct, TellsClaimed}
+use Rattle.capnp_readers.specs.Checking.{Progress, progress, Finds, FindsAll, FindsElements, IsFound, AreFound, AreFoundRows, IsCanonicalAt, AreCanonicalAt, TestEnds, below, in_struct, in_pointers, in_element, TestsEnd, RowTestsEnd, IsTested, StartsRight, Tells, TellsAll, TellsFlat, TellsStruct, TellsClaimed}
 use Rattle.capnp_readers.proofs.Accepts.{IsNear, near_to, null_stands, empty_stands, struct_stands, pointers_stand, flat_stands, structs_stand, used_where_standing, blanks_stand, data_width-blank, pointer_width-blank, words-blank}
 use Rattle.capnp_readers.proofs.Found.{struct_found, pointers_found, flat_found, structs_found, empty_found}
 use Rattle.capnp_readers.proofs.Exactly.{structs_of_tag, element_fails, widths_fail, widths_within, reached}
@@ -65,7 +65,7 @@ tested r bytes e small at near = record {
 pub all_at : {s u p q h i : ℕ} (S : Segments) (ts : Trees) → s ≡ u → p ≡ q → h ≡ i → AllStand S s p h ts → AllStand S u q i ts
 all_at {s} {u} {p} {q} {h} {i} S ts e f g a = subst (λ x. AllStand S x q i ts) e (subst (λ x. AllStand S s x i ts) f (subst (λ x. AllStand S s p x ts) g a))
 
-used_at : {s u p q n m : ℕ} (S : Segments) → s ≡ u → p ≡ q → n ≡ m → EndsUsed S s p n → EndsUsed S u q m
+pub used_at : {s u p q n m : ℕ} (S : Segments) → s ≡ u → p ≡ q → n ≡ m → EndsUsed S s p n → EndsUsed S u q m
 used_at {s} {u} {p} {q} {n} {m} S e f g a = subst (λ x. EndsUsed S x q m) e (subst (λ x. EndsUsed S s x m) f (subst (λ x. EndsUsed S s p x) g a))
 
 -- children one behind the other
@@ -369,7 +369,7 @@ pub empty_tells : {r : Reading} {m' : Meter} (from : Progress) (start : Place) (
 empty_tells {r} from start size ready (a, o, z, (held, seg, at), wide, many) none right =
     empty_found_at ready o z (omega (arith, none, wide, many)) (let e : start.at ≡ r.at = right ∙ ap (λ n. cond (nat_eq n 0) r.at from.head) none in omega (arith, e, at))
 
-some_starts : (n p h x : ℕ) → 0 < n → x ≡ cond (nat_eq n 0) p h → x ≡ h
+pub some_starts : (n p h x : ℕ) → 0 < n → x ≡ cond (nat_eq n 0) p h → x ≡ h
 some_starts zero p h x some e = absurd (omega arith)
 some_starts (suc n) p h x some e = grind (arith, nat_tests)
 
@@ -410,7 +410,7 @@ pointers_tell {r} {m'} from m'' start n None ready (a, o, z, six, (held, seg, at
     (subst (λ q. AreCanonicalAt (beginning r start) q (a.start + list_count a.word)) (sym many)
     (subst (λ x. AreCanonicalAt x (list_count a.word) (a.start + list_count a.word)) there all))))
 
-padded_at : {s u p q i j n m : ℕ} (S : Segments) → s ≡ u → p ≡ q → i ≡ j → n ≡ m → IsPadded S s p i n → IsPadded S u q j m
+pub padded_at : {s u p q i j n m : ℕ} (S : Segments) → s ≡ u → p ≡ q → i ≡ j → n ≡ m → IsPadded S s p i n → IsPadded S u q j m
 padded_at {s} {u} {p} {q} {i} {j} {n} {m} S e f g k a = subst (λ x. IsPadded S x q j m) e (subst (λ x. IsPadded S s x j m) f (subst (λ x. IsPadded S s p x m) g (subst (λ x. IsPadded S s p i x) k a)))
 
 pub flat_tells : {r : Reading} {m' : Meter} (from : Progress) (start : Place) (size : ElementSize) (n : ℕ) (o : Option ℕ) → IsTested r → IsObject r from.meter m' (ObjectFlat start size n) →
@@ -427,7 +427,7 @@ flat_tells {r} {m'} from start size n None ready (a, o, z, small, (held, seg, at
 abbrev pub first_element : Reading → Place → Reading
 first_element r start = record r { levels = pred r.levels; segment = start.segment; at = start.at }
 
-same_elements : {s t p q : ℕ} (r : Reading) → s ≡ t → p ≡ q → record r { levels = pred r.levels; segment = s; at = p } ≡ record r { levels = pred r.levels; segment = t; at = q }
+pub same_elements : {s t p q : ℕ} (r : Reading) → s ≡ t → p ≡ q → record r { levels = pred r.levels; segment = s; at = p } ≡ record r { levels = pred r.levels; segment = t; at = q }
 same_elements r e f = ap₂ (λ s p. record r { levels = pred r.levels; segment = s; at = p }) e f
 
 pub structs_tell : {r : Reading} {m' : Meter} (from : Progress) (m'' : Meter) (start : Place) (size : StructSize) (n : ℕ) (o : Option ℕ) → IsTested r → IsObject r from.meter m' (ObjectStructs start size n) →
@@ -554,78 +554,87 @@ row_never {r} {size} {i} {mid} from n seen lt fails =
     (subst (λ j. AreCanonicalAt (pointers_of r size j) size.pointers mid.head) seen.counts
     (subst (λ h. AreCanonicalAt (pointers_of r size (element_count es)) size.pointers h) (sym seen.found.head_is) stand)))
 
--- the next element stops the test
-pub row_stops : {r : Reading} {size : StructSize} {i : ℕ} {from mid : Progress} {b c : Bool} {m' : Meter} {k : ErrorKind} (n : ℕ) → AreSeen r size i from mid b c → i < n → TestsStop (pointers_of r size i) size.pointers mid m' k → RowTestsStop r size n from m' k
-row_stops {r} {size} {i} {from} {mid} {m' = m'} {k = k} n seen lt stops = record {
+-- the test ends at the next pointer; at the next element
+pub pointer_ends : {P : Reading → Progress → Meter → Type 0} {r : Reading} {i : ℕ} {from mid : Progress} {m' : Meter} (n : ℕ) → AreFound r i from mid → i < n → TestEnds P (behind r i) mid m' → TestsEnd P r n from m'
+pointer_ends {P} {r} {i} {from} {mid} {m'} n (ts, len, all) lt ends = record {
+  first = ts;
+  fewer = omega (arith, len, lt);
+  mid = mid;
+  are_found = all;
+  ends = subst (λ j. TestEnds P (behind r j) mid m') (sym len) ends;
+}
+
+pub row_ends : {P : Reading → Progress → Meter → Type 0} {r : Reading} {size : StructSize} {i : ℕ} {from mid : Progress} {b c : Bool} {m' : Meter} (n : ℕ) → AreSeen r size i from mid b c → i < n → TestsEnd P (pointers_of r size i) size.pointers mid m' → RowTestsEnd P r size n from m'
+row_ends {P} {r} {size} {i} {from} {mid} {m' = m'} n seen lt ends = record {
   first = seen.elements;
   fewer = omega (arith, seen.counts, lt);
   mid = mid;
   are_found = seen.found;
-  stops = subst (λ j. TestsStop (pointers_of r size j) size.pointers mid m' k) (sym seen.counts) stops;
+  ends = subst (λ j. TestsEnd P (pointers_of r size j) size.pointers mid m') (sym seen.counts) ends;
 }
 
 pub rows_unused : {r : Reading} {size : StructSize} {n : ℕ} {to : Progress} {b c : Bool} (from : Progress) → AreSeen r size n from to b c → (IsTrue b × IsTrue c → ⊥) → ElementsAccept r.segments r.segment r.at size.data_words size.pointers from.head n → ⊥
 rows_unused {r} {size} {n} from seen fails =
     widths_fail r.segments r.segment r.at size.data_words size.pointers from.head n seen.elements seen.found.stand seen.counts (λ e. fails (seen.data_is.1 e.0, seen.pointers_are.1 e.1))
 
--- objects: where the test stops at one of their pointers
+-- objects: where the test ends at one of their pointers
 
-struct_stops_at : {r : Reading} {from : Progress} {m' m'' : Meter} {a : Target} {k : ErrorKind} → kind (word_of r) < 2 → Entered r from.meter m' a → kind a.word ≡ 0 → a.start ≡ from.head →
-    TestsStop (struct_pointers r a) (pointer_count a.word) (progress (a.start + data_words a.word + pointer_count a.word) m') m'' k → TestStops k r from m''
-struct_stops_at {r} {from} {m'} {a = a} near o z start h =
+struct_ends_at : {P : Reading → Progress → Meter → Type 0} {r : Reading} {from : Progress} {m' m'' : Meter} {a : Target} → kind (word_of r) < 2 → Entered r from.meter m' a → kind a.word ≡ 0 → a.start ≡ from.head →
+    TestsEnd P (struct_pointers r a) (pointer_count a.word) (progress (a.start + data_words a.word + pointer_count a.word) m') m'' → TestEnds P r from m''
+struct_ends_at {P} {r} {from} {m'} {a = a} near o z start h =
     let goes : a.start + data_words a.word + pointer_count a.word ≡ a.start + claim a.word = omega (arith, claim_struct a.word z) in
-    below a near o start (in_struct h.first z h.fewer refl (subst (λ p. FindsAll (struct_pointers r a) (progress p m') h.mid h.first) goes h.are_found)) h.stops
+    below a near o start (in_struct h.first z h.fewer refl (subst (λ p. FindsAll (struct_pointers r a) (progress p m') h.mid h.first) goes h.are_found)) h.ends
 
-pointers_stop_at : {r : Reading} {from : Progress} {m' m'' : Meter} {a : Target} {k : ErrorKind} → kind (word_of r) < 2 → Entered r from.meter m' a → kind a.word ≡ 1 → element_size a.word ≡ 6 → a.start ≡ from.head →
-    TestsStop (list_pointers r a) (list_count a.word) (progress (a.start + list_count a.word) m') m'' k → TestStops k r from m''
-pointers_stop_at {r} {from} {m'} {a = a} near o z six start h =
+pointers_end_at : {P : Reading → Progress → Meter → Type 0} {r : Reading} {from : Progress} {m' m'' : Meter} {a : Target} → kind (word_of r) < 2 → Entered r from.meter m' a → kind a.word ≡ 1 → element_size a.word ≡ 6 → a.start ≡ from.head →
+    TestsEnd P (list_pointers r a) (list_count a.word) (progress (a.start + list_count a.word) m') m'' → TestEnds P r from m''
+pointers_end_at {P} {r} {from} {m'} {a = a} near o z six start h =
     let goes : a.start + list_count a.word ≡ a.start + claim a.word = ap (λ n. a.start + n) (sym (claim_list a.word 6 z six)) in
-    below a near o start (in_pointers h.first z six h.fewer refl (subst (λ p. FindsAll (list_pointers r a) (progress p m') h.mid h.first) goes h.are_found)) h.stops
+    below a near o start (in_pointers h.first z six h.fewer refl (subst (λ p. FindsAll (list_pointers r a) (progress p m') h.mid h.first) goes h.are_found)) h.ends
 
-structs_stop_at : {r : Reading} {from : Progress} {m' m'' : Meter} {a : Target} {k : ErrorKind} → kind (word_of r) < 2 → Entered r from.meter m' a → kind a.word ≡ 1 → element_size a.word ≡ 7 → a.start ≡ from.head →
-    element_words (tag r.segments a) ≡ list_count a.word → RowTestsStop (list_elements r a) (tag_size r.segments a) (offset_bits (tag r.segments a)) (progress (a.start + 1 + list_count a.word) m') m'' k → TestStops k r from m''
-structs_stop_at {r} {from} {m'} {a = a} near o z seven start exact h =
+structs_end_at : {P : Reading → Progress → Meter → Type 0} {r : Reading} {from : Progress} {m' m'' : Meter} {a : Target} → kind (word_of r) < 2 → Entered r from.meter m' a → kind a.word ≡ 1 → element_size a.word ≡ 7 → a.start ≡ from.head →
+    element_words (tag r.segments a) ≡ list_count a.word → RowTestsEnd P (list_elements r a) (tag_size r.segments a) (offset_bits (tag r.segments a)) (progress (a.start + 1 + list_count a.word) m') m'' → TestEnds P r from m''
+structs_end_at {P} {r} {from} {m'} {a = a} near o z seven start exact h =
     let goes : a.start + 1 + list_count a.word ≡ a.start + claim a.word = omega (arith, claim_list a.word 7 z seven) in
     below a near o start
-    (in_element h.first h.stops.first h.mid (z, seven) exact h.fewer h.stops.fewer refl
-    (subst (λ p. FindsElements (list_elements r a) (tag_size r.segments a) (progress p m') h.mid h.first) goes h.are_found) h.stops.are_found) h.stops.stops
+    (in_element h.first h.ends.first h.mid (z, seven) exact h.fewer h.ends.fewer refl
+    (subst (λ p. FindsElements (list_elements r a) (tag_size r.segments a) (progress p m') h.mid h.first) goes h.are_found) h.ends.are_found) h.ends.ends
 
-pub struct_stops : {r : Reading} {from : Progress} {m' m'' : Meter} {k : ErrorKind} (start : Place) (size : StructSize) → IsTested r → IsObject r from.meter m' (ObjectStruct start size) → 0 < size.data_words + size.pointers →
-    StartsRight (ObjectStruct start size) r.at from.head → TestsStop (behind (beginning r start) size.data_words) size.pointers (progress (start.at + size.data_words + size.pointers) m') m'' k → TestStops k r from m''
-struct_stops {r} {from} {m'} {m''} {k} start size ready (a, o, z, (held, seg, at), wide, many) some right stops =
+pub struct_ends : {P : Reading → Progress → Meter → Type 0} {r : Reading} {from : Progress} {m' m'' : Meter} (start : Place) (size : StructSize) → IsTested r → IsObject r from.meter m' (ObjectStruct start size) → 0 < size.data_words + size.pointers →
+    StartsRight (ObjectStruct start size) r.at from.head → TestsEnd P (behind (beginning r start) size.data_words) size.pointers (progress (start.at + size.data_words + size.pointers) m') m'' → TestEnds P r from m''
+struct_ends {P} {r} {from} {m'} {m''} start size ready (a, o, z, (held, seg, at), wide, many) some right ends =
     let begins : start.at ≡ from.head = some_starts (size.data_words + size.pointers) r.at from.head start.at some right in
     let there : behind (beginning r start) size.data_words ≡ struct_pointers r a = same_place r seg (omega (arith, at, wide)) in
     let goes : start.at + size.data_words + size.pointers ≡ a.start + data_words a.word + pointer_count a.word = omega (arith, at, wide, many) in
-    struct_stops_at ready.near o z (omega (arith, begins, at))
-    (subst (λ h. TestsStop (struct_pointers r a) (pointer_count a.word) (progress h m') m'' k) goes
-    (subst (λ q. TestsStop (struct_pointers r a) q (progress (start.at + size.data_words + size.pointers) m') m'' k) many
-    (subst (λ x. TestsStop x size.pointers (progress (start.at + size.data_words + size.pointers) m') m'' k) there stops)))
+    struct_ends_at ready.near o z (omega (arith, begins, at))
+    (subst (λ h. TestsEnd P (struct_pointers r a) (pointer_count a.word) (progress h m') m'') goes
+    (subst (λ q. TestsEnd P (struct_pointers r a) q (progress (start.at + size.data_words + size.pointers) m') m'') many
+    (subst (λ x. TestsEnd P x size.pointers (progress (start.at + size.data_words + size.pointers) m') m'') there ends)))
 
-pub pointers_stop : {r : Reading} {from : Progress} {m' m'' : Meter} {k : ErrorKind} (start : Place) (n : ℕ) → IsTested r → IsObject r from.meter m' (ObjectPointers start n) →
-    StartsRight (ObjectPointers start n) r.at from.head → TestsStop (beginning r start) n (progress (start.at + n) m') m'' k → TestStops k r from m''
-pointers_stop {r} {from} {m'} {m''} {k} start n ready (a, o, z, six, (held, seg, at), many) right stops =
+pub pointers_end : {P : Reading → Progress → Meter → Type 0} {r : Reading} {from : Progress} {m' m'' : Meter} (start : Place) (n : ℕ) → IsTested r → IsObject r from.meter m' (ObjectPointers start n) →
+    StartsRight (ObjectPointers start n) r.at from.head → TestsEnd P (beginning r start) n (progress (start.at + n) m') m'' → TestEnds P r from m''
+pointers_end {P} {r} {from} {m'} {m''} start n ready (a, o, z, six, (held, seg, at), many) right ends =
     let there : beginning r start ≡ list_pointers r a = same_place r seg (omega (arith, at)) in
     let goes : start.at + n ≡ a.start + list_count a.word = omega (arith, at, many) in
-    pointers_stop_at ready.near o z six (omega (arith, right, at))
-    (subst (λ h. TestsStop (list_pointers r a) (list_count a.word) (progress h m') m'' k) goes
-    (subst (λ q. TestsStop (list_pointers r a) q (progress (start.at + n) m') m'' k) many
-    (subst (λ x. TestsStop x n (progress (start.at + n) m') m'' k) there stops)))
+    pointers_end_at ready.near o z six (omega (arith, right, at))
+    (subst (λ h. TestsEnd P (list_pointers r a) (list_count a.word) (progress h m') m'') goes
+    (subst (λ q. TestsEnd P (list_pointers r a) q (progress (start.at + n) m') m'') many
+    (subst (λ x. TestsEnd P x n (progress (start.at + n) m') m'') there ends)))
 
-pub structs_stop : {r : Reading} {from : Progress} {m' m'' : Meter} {k : ErrorKind} (start : Place) (size : StructSize) (n : ℕ) → IsTested r → IsObject r from.meter m' (ObjectStructs start size n) →
+pub structs_end : {P : Reading → Progress → Meter → Type 0} {r : Reading} {from : Progress} {m' m'' : Meter} (start : Place) (size : StructSize) (n : ℕ) → IsTested r → IsObject r from.meter m' (ObjectStructs start size n) →
     StartsRight (ObjectStructs start size n) r.at from.head → n * (size.data_words + size.pointers) ≡ list_count (word_of r) →
-    RowTestsStop (first_element r start) size n (progress (start.at + list_count (word_of r)) m') m'' k → TestStops k r from m''
-structs_stop {r} {from} {m'} {m''} {k} start size n ready (a, o, z, seven, (held, seg, at), many, wide, pointers) right exact stops =
+    RowTestsEnd P (first_element r start) size n (progress (start.at + list_count (word_of r)) m') m'' → TestEnds P r from m''
+structs_end {P} {r} {from} {m'} {m''} start size n ready (a, o, z, seven, (held, seg, at), many, wide, pointers) right exact ends =
     let S : Segments = r.segments in
     let claimed : list_count (word_of r) ≡ list_count a.word = ap list_count (sym (near_object r ready.near o.leads_to).same_word) in
     let there : first_element r start ≡ list_elements r a = same_elements r seg at in
     let of_size : size ≡ tag_size S a = same_size S a wide pointers in
     let goes : start.at + list_count (word_of r) ≡ a.start + 1 + list_count a.word = omega (arith, at, claimed) in
     let words : element_words (tag S a) ≡ list_count a.word = sym (ap₂ (λ i j. i * (j.data_words + j.pointers)) many of_size) ∙ exact ∙ claimed in
-    structs_stop_at ready.near o z seven (omega (arith, right, at)) words
-    (subst (λ h. RowTestsStop (list_elements r a) (tag_size S a) (offset_bits (tag S a)) (progress h m') m'' k) goes
-    (subst (λ i. RowTestsStop (list_elements r a) (tag_size S a) i (progress (start.at + list_count (word_of r)) m') m'' k) many
-    (subst (λ y. RowTestsStop (list_elements r a) y n (progress (start.at + list_count (word_of r)) m') m'' k) of_size
-    (subst (λ x. RowTestsStop x size n (progress (start.at + list_count (word_of r)) m') m'' k) there stops))))
+    structs_end_at ready.near o z seven (omega (arith, right, at)) words
+    (subst (λ h. RowTestsEnd P (list_elements r a) (tag_size S a) (offset_bits (tag S a)) (progress h m') m'') goes
+    (subst (λ i. RowTestsEnd P (list_elements r a) (tag_size S a) i (progress (start.at + list_count (word_of r)) m') m'') many
+    (subst (λ y. RowTestsEnd P (list_elements r a) y n (progress (start.at + list_count (word_of r)) m') m'') of_size
+    (subst (λ x. RowTestsEnd P x size n (progress (start.at + list_count (word_of r)) m') m'') there ends))))
 
 -- A list of any kind.
 abbrev pub IsList : Object → Type 0

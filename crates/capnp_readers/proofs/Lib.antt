@@ -12,5 +12,7 @@ pub mod Found
 pub mod Exactly
 pub mod Takes
 pub mod Checks
+pub mod Fails
+pub mod Charged
 pub mod NeverStops
 pub mod Same

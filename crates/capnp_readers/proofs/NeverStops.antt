@@ -166,4 +166,4 @@ stops_never {r = r} {from = from} (below {mid = mid} a near o start (in_element 
 pub row_stops_never : {k : ErrorKind} {r : Reading} {i : ℕ} {from : Progress} {m' : Meter} → TestsStop r i from m' k → from.head ≤ length (row r) → CanAllBeFound r i from → ⊥
 row_stops_never {r = r} {from = from} h inside (us, len, stand, levels, covers) =
     let rest : Rest r from from.meter us = record { stand = stand; within = inside; levels = levels; before = 0; pointers = 0; whole = charge_all us; paid = paid_none r from.meter; fits = omega arith; covers = covers } in
-    stops_never h.stops (next_can h.first rest h.are_found (omega (arith, h.fewer, len)))
+    stops_never h.ends (next_can h.first rest h.are_found (omega (arith, h.fewer, len)))

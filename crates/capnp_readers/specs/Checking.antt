@@ -1,6 +1,6 @@
 -- What the test for canonical form finds, how far it has come, and where it stops ("Canonicalization"). It goes over the pointers
 -- in order with a head, the word at which the next object has to start, and takes a level for each struct and list.
-use Rattle.std.specs.Prelude.{◌≡◌, ℕ, pred, ◌+◌, ◌*◌, ◌-◌, ◌/◌, ◌%◌, ◌^◌, min, ◌<◌, ◌≤◌, List, [], ◌∷◌, Option, Some, None, cond, nat_eq, length}
+use Rattle.std.specs.Prelude.{◌≡◌, ◌≢◌, ◌⊎◌, ℕ, pred, ◌+◌, ◌*◌, ◌-◌, ◌/◌, ◌%◌, ◌^◌, min, ◌<◌, ◌≤◌, List, [], ◌∷◌, Option, Some, None, cond, nat_eq, length}
 use Rattle.capnp_words.specs.declared.error.ErrorKind.{ErrorKind}
 use Rattle.capnp_words.specs.declared.error.ErrorKind.TheVariants.{MessageIsTooDeeplyNestedOrContainsCycles, NestingLimitExceeded}
 use Rattle.capnp_words.specs.Meter.{Meter, Affords}
@@ -17,12 +17,13 @@ use Rattle.capnp_objects.specs.declared.object.Object.TheVariants.{Null as Objec
 use Rattle.capnp_objects.specs.Demands.{claim, tag, element_words, IsStructList}
 use Rattle.capnp_objects.specs.Faults.{child_at}
 use Rattle.capnp_objects.specs.Outcomes.{Entered}
-use Rattle.capnp_objects.specs.Reading.{Reading, word_of, row, behind, pointers_of, tag_size}
+use Rattle.capnp_objects.specs.Reading.{Reading, word_of, row, behind, pointers_of, sized, tag_size}
 use Rattle.capnp_objects.specs.Refusals.{Stopped}
 use Rattle.capnp_objects.specs.Spending.{Paid, pointers_in, pointers_in_all, pointers_in_elements}
 use Rattle.capnp_objects.specs.Wanted.{plain}
 use Rattle.capnp_arena.specs.declared.arena.reader_arena.ReaderArena.{Ghosts}
 use Rattle.capnp_objects.specs.Source.{source_segments}
+use Rattle.capnp_objects.specs.declared.source.Source.TheVariants.{Nothing}
 use Rattle.capnp_readers.specs.Sizes.{own_words, pointers_read}
 use Rattle.capnp_readers.specs.declared.readers.struct_reader.StructReader.{StructReader}
 use Rattle.capnp_readers.specs.Standing.{AllStand, ElementsStand, Accepts, AllAccept, ElementsAccept, EndsUsed, IsPadded}
@@ -180,43 +181,133 @@ pub data FindsBefore (r : Reading) (a : Target) (child : Reading) (from to : Pro
       FindsAll (pointers_of (child_at r a (pred r.levels) (a.start + 1)) (tag_size r.segments a) (element_count es)) mid to ts →
       FindsBefore r a child from to
 
--- The test of a place stops by the name k: its object can't be read; or it can, starts at the head, and the test of one of its
--- pointers stops, those before that one being canonical.
-pub data TestStops (k : ErrorKind) : Reading → Progress → Meter → Type 0 where
-  here : {r : Reading} {from : Progress} {m' : Meter} → Unread r from.meter m' k → TestStops k r from m'
+-- The test of a place ends where P says so: at the place itself; or its object is read and starts at the head, and the test of
+-- one of its pointers ends, those before that one being canonical.
+pub data TestEnds (P : Reading → Progress → Meter → Type 0) : Reading → Progress → Meter → Type 0 where
+  here : {r : Reading} {from : Progress} {m' : Meter} → P r from m' → TestEnds P r from m'
   below :
       {r child : Reading} {from mid : Progress} {first m' : Meter} (a : Target) →
       kind (word_of r) < 2 →
       Entered r from.meter first a →
       a.start ≡ from.head →
       FindsBefore r a child (behind_object a first) mid →
-      TestStops k child mid m' →
-      TestStops k r from m'
+      TestEnds P child mid m' →
+      TestEnds P r from m'
 
 -- So does that of one of i pointers from a place on.
-pub record TestsStop (r : Reading) (i : ℕ) (from : Progress) (m' : Meter) (k : ErrorKind) : Type 0 where
+pub record TestsEnd (P : Reading → Progress → Meter → Type 0) (r : Reading) (i : ℕ) (from : Progress) (m' : Meter) : Type 0 where
   pub first : Trees
   pub fewer : count first < i
   pub mid : Progress
   pub are_found : FindsAll r from mid first
-  pub stops : TestStops k (behind r (count first)) mid m'
+  pub ends : TestEnds P (behind r (count first)) mid m'
 
 -- So does that of a pointer of one of i elements.
-pub record RowTestsStop (r : Reading) (size : StructSize) (i : ℕ) (from : Progress) (m' : Meter) (k : ErrorKind) : Type 0 where
+pub record RowTestsEnd (P : Reading → Progress → Meter → Type 0) (r : Reading) (size : StructSize) (i : ℕ) (from : Progress) (m' : Meter) : Type 0 where
   pub first : Elements
   pub fewer : element_count first < i
   pub mid : Progress
   pub are_found : FindsElements r size from mid first
-  pub stops : TestsStop (pointers_of r size (element_count first)) size.pointers mid m' k
+  pub ends : TestsEnd P (pointers_of r size (element_count first)) size.pointers mid m'
+
+-- The test of a place stops by the name k: an object can't be read. So does that of one of i pointers from a place on, and
+-- that of a pointer of one of i elements.
+abbrev pub TestStops : ErrorKind → Reading → Progress → Meter → Type 0
+TestStops k r from m' = TestEnds (λ s at m. Unread s at.meter m k) r from m'
+
+abbrev pub TestsStop : Reading → ℕ → Progress → Meter → ErrorKind → Type 0
+TestsStop r i from m' k = TestsEnd (λ s at m. Unread s at.meter m k) r i from m'
+
+abbrev pub RowTestsStop : Reading → StructSize → ℕ → Progress → Meter → ErrorKind → Type 0
+RowTestsStop r size i from m' k = RowTestsEnd (λ s at m. Unread s at.meter m k) r size i from m'
 
 -- So does that of a pointer of a struct of this size that starts at a place, the first object behind the struct.
 abbrev pub StructTestStops : Reading → StructSize → Meter → Meter → ErrorKind → Type 0
 StructTestStops r size m m' k = TestsStop (behind r size.data_words) size.pointers (progress (r.at + size.data_words + size.pointers) m) m' k
 
+-- A struct without words, which stands at its pointer in canonical form.
+abbrev pub IsEmptyStruct : Target → Type 0
+IsEmptyStruct a = (kind a.word ≡ 0) × (data_words a.word + pointer_count a.word ≡ 0)
+
+-- The pointers of n elements of a size are canonical, and a smaller size of elements would do.
+abbrev pub AreFoundTooWide : Reading → StructSize → ℕ → Progress → Progress → Type 0
+AreFoundTooWide r size n from to =
+    (es : Elements) × (element_count es ≡ n) × FindsElements r size from to es × ((data_width es ≡ size.data_words) × (pointer_width es ≡ size.pointers) → ⊥)
+
+-- A place isn't canonical by itself, and the limiter is left as m'. No near pointer is there, and nothing is counted or charged;
+-- or its object is read and charged, and starts elsewhere than in canonical form, or has other bits than zeros behind its
+-- numbers, or claims other words than its elements take; or all its pointers are canonical and charged as well, and smaller
+-- sections or elements would do.
+pub data IsUnfit (r : Reading) (from : Progress) (m' : Meter) : Type 0 where
+  no_near_pointer : (IsPlace r.segments r.segment r.at × (kind (word_of r) < 2) → ⊥) → m' ≡ from.meter → IsUnfit r from m'
+  empty_elsewhere : (a : Target) → kind (word_of r) < 2 → Entered r from.meter m' a → IsEmptyStruct a → a.start ≢ r.at → IsUnfit r from m'
+  elsewhere : (a : Target) → kind (word_of r) < 2 → Entered r from.meter m' a → (IsEmptyStruct a → ⊥) → a.start ≢ from.head → IsUnfit r from m'
+  not_padded :
+      (a : Target) →
+      kind (word_of r) < 2 →
+      Entered r from.meter m' a →
+      a.start ≡ from.head →
+      kind a.word ≡ 1 →
+      element_size a.word ≤ 5 →
+      (IsPadded r.segments a.segment a.start (element_size a.word) (list_count a.word) → ⊥) →
+      IsUnfit r from m'
+  other_claim :
+      (a : Target) →
+      kind (word_of r) < 2 →
+      Entered r from.meter m' a →
+      a.start ≡ from.head →
+      IsStructList a.word →
+      element_words (tag r.segments a) ≢ list_count a.word →
+      IsUnfit r from m'
+  wide_sections :
+      {first : Meter} (a : Target) (e : ℕ) →
+      kind (word_of r) < 2 →
+      Entered r from.meter first a →
+      a.start ≡ from.head →
+      kind a.word ≡ 0 →
+      AreFound (child_at r a (pred r.levels) (a.start + data_words a.word)) (pointer_count a.word) (behind_object a first) (progress e m') →
+      (AreUsed (child_at r a (pred r.levels) a.start) (sized (data_words a.word) (pointer_count a.word)) → ⊥) →
+      IsUnfit r from m'
+  wide_elements :
+      {first : Meter} (a : Target) (e : ℕ) →
+      kind (word_of r) < 2 →
+      Entered r from.meter first a →
+      a.start ≡ from.head →
+      IsStructList a.word →
+      element_words (tag r.segments a) ≡ list_count a.word →
+      AreFoundTooWide (child_at r a (pred r.levels) (a.start + 1)) (tag_size r.segments a) (offset_bits (tag r.segments a)) (behind_object a first) (progress e m') →
+      IsUnfit r from m'
+
+-- The test of a place fails, which is a no: a place is unfit, those before it being canonical. So does that of one of i
+-- pointers from a place on.
+abbrev pub TestFails : Reading → Progress → Meter → Type 0
+TestFails r from m' = TestEnds IsUnfit r from m'
+
+abbrev pub TestsFail : Reading → ℕ → Progress → Meter → Type 0
+TestsFail r i from m' = TestsEnd IsUnfit r i from m'
+
+-- So does that of a struct of this size that starts at a place: that of one of its pointers; or smaller sections would do.
+abbrev pub SectionsFail : Reading → StructSize → Meter → Meter → Type 0
+SectionsFail r size m m' =
+    let pointers = behind r size.data_words in
+    let from = progress (r.at + size.data_words + size.pointers) m in
+    TestsFail pointers size.pointers from m'
+    ⊎ ((e : ℕ) × AreFound pointers size.pointers from (progress e m') × (AreUsed r size → ⊥))
+
+-- So does that of n elements: that of a pointer of one of them; or a smaller size of elements would do.
+abbrev pub RowsFail : Reading → StructSize → ℕ → Progress → Meter → Type 0
+RowsFail r size n from m' = RowTestsEnd IsUnfit r size n from m' ⊎ ((e : ℕ) × AreFoundTooWide r size n from (progress e m'))
+
+-- So does that of the list that claims so many words: its elements take others, and nothing more is charged; or theirs does.
+abbrev pub ClaimedFails : Reading → StructSize → ℕ → ℕ → Meter → Meter → Type 0
+ClaimedFails r size n claimed m m' =
+    ((n * (size.data_words + size.pointers) ≢ claimed) × (m' ≡ m))
+    ⊎ ((n * (size.data_words + size.pointers) ≡ claimed) × RowsFail r size n (progress (r.at + claimed) m) m')
+
 module _ {A : Type 0} (g : Ghosts A) where
-  -- A struct has whole words of data, and starts at the head.
+  -- A struct has whole words of data, and starts at the head. That from nothing starts nowhere.
   abbrev pub StartsWhole : StructReader A g → ℕ → Type 0
-  StartsWhole r h = (r.bits % 64 ≡ 0) × (r.byte ≡ 8 * h)
+  StartsWhole r h = (r.source ≢ Nothing) × (r.bits % 64 ≡ 0) × (r.byte ≡ 8 * h)
 
   -- A struct starts at a head, and its pointers are canonical from another head on.
   abbrev pub IsCanonicalStruct : StructReader A g → ℕ → ℕ → Type 0
@@ -228,6 +319,12 @@ module _ {A : Type 0} (g : Ghosts A) where
 
   abbrev pub PointerTestsStop : StructReader A g → Progress → Meter → ErrorKind → Type 0
   PointerTestsStop r from m' k = TestsStop (pointers_read g r) r.pointer_count from m' k
+
+  -- The test of a struct at a head fails: the struct doesn't start there, and nothing is counted or charged; or that of one of
+  -- its pointers fails.
+  abbrev pub StructTestFails : StructReader A g → ℕ → Progress → Meter → Type 0
+  StructTestFails r h from m' =
+      ((StartsWhole r h → ⊥) × (m' ≡ from.meter)) ⊎ (StartsWhole r h × TestsFail (pointers_read g r) r.pointer_count from m')
 
   -- The data section is empty or ends in a word that is not zero; so does the pointer section.
   abbrev pub IsDataUsed : StructReader A g → Type 0

@@ -6,9 +6,10 @@ use Rattle.capnp_format.specs.Tree.{Tree}
 use Rattle.capnp_format.specs.Canonical.{Stands, charge, trim}
 use Rattle.capnp_format.specs.Segments.{words_at, AreWords}
 use Rattle.capnp_objects.specs.Outcomes.{MeansThere, Reads}
+use Rattle.capnp_objects.specs.Spending.{Paid}
 use Rattle.capnp_objects.specs.Reading.{Reading, word_of, row}
 use Rattle.capnp_objects.specs.Wanted.{canonical}
-use Rattle.capnp_readers.specs.Checking.{Progress, progress, Finds, CanBeFound, CanAllBeFound, TestStops, TestsStop}
+use Rattle.capnp_readers.specs.Checking.{Progress, progress, Finds, CanBeFound, CanAllBeFound, TestStops, TestsStop, TestFails, TestsFail}
 
 -- The test of a place is not refused where canonical words stand that the limits cover; nor is that of i pointers, the head of
 -- which lies in the segment.
@@ -43,3 +44,16 @@ words_tested r from to = word_of r ∷ words_at r.segments r.segment from.head (
 abbrev pub SameWords : Type 0
 SameWords =
     (r q : Reading) (from to start end : Progress) (t u : Tree) → Finds r from to t → Finds q start end u → r.at ≡ q.at → from.head ≡ start.head → words_tested r from to ≡ words_tested q start end ↔ t ≡ u
+
+-- From m to m' some words were granted and some pointers counted, and nothing else has changed; nothing at all where nothing is
+-- charged.
+abbrev pub IsCharged : Reading → Meter → Meter → Type 0
+IsCharged r m m' = (g : ℕ) × (i : ℕ) × Paid r.charging m m' g i
+
+-- A test that fails or stops has charged as reading does; so has that of i pointers.
+abbrev pub EndIsCharged : Type 0
+EndIsCharged = (r : Reading) (from : Progress) (m' : Meter) → (TestFails r from m' → IsCharged r from.meter m') × ((k : ErrorKind) → TestStops k r from m' → IsCharged r from.meter m')
+
+abbrev pub PointersEndIsCharged : Type 0
+PointersEndIsCharged =
+    (r : Reading) (i : ℕ) (from : Progress) (m' : Meter) → (TestsFail r i from m' → IsCharged r from.meter m') × ((k : ErrorKind) → TestsStop r i from m' k → IsCharged r from.meter m')

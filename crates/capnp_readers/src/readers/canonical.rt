@@ -1,5 +1,5 @@
 //! The test for canonical form, in place.
-ghost use Rattle.std.specs.Prelude.{ℕ, ◌≡◌, ◌≢◌, ◌<◌, ◌≤◌, ◌+◌, ◌*◌, ◌-◌, ◌⊎◌, ◌↔◌, pred, ◌^◌, None, IsTrue, Ok, true, IfOk, IfErr, OnErr, length, slice_index};
+ghost use Rattle.std.specs.Prelude.{ℕ, ◌≡◌, ◌≢◌, ◌<◌, ◌≤◌, ◌+◌, ◌*◌, ◌-◌, ◌⊎◌, ◌↔◌, pred, ◌^◌, None, IsTrue, Ok, true, false, IfOk, IfErr, IfNone, OnErr, length, slice_index};
 ghost use Rattle.capnp_format.specs.Bytes.{words_of};
 ghost use Rattle.capnp_format.specs.Word.{kind};
 ghost use Rattle.capnp_format.specs.Numbers.{words_for};
@@ -8,11 +8,12 @@ ghost use Rattle.capnp_objects.specs.Reading.{row, word_of};
 ghost use Rattle.capnp_objects.specs.Source.{levels};
 ghost use Rattle.capnp_readers.specs.Readers.{reading};
 ghost use Rattle.capnp_readers.specs.Sizes.{reading_on};
-ghost use Rattle.capnp_readers.specs.Checking.{progress, refusal_name, IsFound, ArePointersFound, IsCanonicalAt, IsTested, StartsRight, Tells, TellsAll, TellsFlat, TellsStruct, TellsRows, TellsClaimed, TestStops, TestsStop, StructTestStops, RowTestsStop, PointerTestsStop, StartsWhole, IsCanonicalStruct, IsDataUsed, ArePointersUsed, head_behind};
+ghost use Rattle.capnp_readers.specs.Checking.{progress, refusal_name, IsFound, ArePointersFound, IsCanonicalAt, IsTested, StartsRight, Tells, TellsAll, TellsFlat, TellsStruct, TellsRows, TellsClaimed, TestStops, TestsStop, StructTestStops, RowTestsStop, PointerTestsStop, TestFails, TestsFail, SectionsFail, RowsFail, ClaimedFails, StructTestFails, StartsWhole, IsCanonicalStruct, IsDataUsed, ArePointersUsed, head_behind};
 
 use crate::readers::{PointerReader, StructReader};
 use capnp_arena::arena::ReaderArena;
 use capnp_objects::object::{Object, Place};
+use capnp_objects::source::Source;
 use capnp_words::error::ErrorKind;
 use capnp_words::read_limiter::ReadLimiter;
 use capnp_words::wire_pointer::{
@@ -44,6 +45,7 @@ impl<'a, A: ReaderArena> PointerReader<'a, A> {
         ensures exactly { IfOk result (λ b. IsTrue b ↔ IsCanonicalAt (reading A.ReaderArena self.now) head.old) }
         ensures found { IfOk result (λ b. IsTrue b → IsFound (reading A.ReaderArena self.now) (progress head.old lim.old) (progress head.new lim.new)) }
         ensures refused { IfErr result (λ k. TestStops k (reading A.ReaderArena self.now) (progress head.old lim.old) lim.new) }
+        ensures failed { result ≡ Ok false → TestFails (reading A.ReaderArena self.now) (progress head.old lim.old) lim.new }
         ensures kept { (result ≡ Ok true → ⊥) → head.new ≡ head.old }
     {
         match test_place(self, self.place.at, self.nesting_limit, *head, lim) {
@@ -83,18 +85,21 @@ impl<'a, A: ReaderArena> StructReader<'a, A> {
         ensures pointers { IfOk result (λ b. IsTrue b → IsTrue ptr_trunc.new ↔ ArePointersUsed A.ReaderArena self.now) }
         ensures started { IfErr result (λ k. StartsWhole A.ReaderArena self.now read_head.old) }
         ensures refused { IfErr result (PointerTestsStop A.ReaderArena self.now (progress ptr_head.old lim.old) lim.new) }
+        ensures failed { result ≡ Ok false → StructTestFails A.ReaderArena self.now read_head.old (progress ptr_head.old lim.old) lim.new }
         ensures kept { (result ≡ Ok true → ⊥) → (read_head.new ≡ read_head.old) × (ptr_head.new ≡ ptr_head.old) }
         ensures flags { (result ≡ Ok true → ⊥) → (data_trunc.new ≡ data_trunc.old) × (ptr_trunc.new ≡ ptr_trunc.old) }
     {
-        if self.bits % 64 != 0 || self.byte != 8 * u64::from(*read_head) {
+        if !self.starts_whole(*read_head) {
             return Ok(false);
         }
+        let data_words = self.bits / 64;
+        let count = u32::from(self.pointer_count);
+        let behind = read_head.saturating_add(data_words + count);
         let first = PointerReader {
             source: self.source,
             place: self.pointers,
             nesting_limit: self.nesting_limit,
         };
-        let count = u32::from(self.pointer_count);
         let end = match test_children(
             &first,
             self.pointers.at,
@@ -107,10 +112,9 @@ impl<'a, A: ReaderArena> StructReader<'a, A> {
             Ok(None) => return Ok(false),
             Err(kind) => return Err(kind),
         };
-        let data_words = self.bits / 64;
         *data_trunc = ends_used(self.pointers, *read_head, data_words);
         *ptr_trunc = ends_used(self.pointers, self.pointers.at, count);
-        *read_head = read_head.saturating_add(data_words + count);
+        *read_head = behind;
         *ptr_head = end;
         Ok(true)
     }
@@ -130,10 +134,11 @@ impl<'a, A: ReaderArena> StructReader<'a, A> {
         ensures pointers { IfOk result (λ b. IsTrue b → IsTrue ptr_trunc.new ↔ ArePointersUsed A.ReaderArena self.now) }
         ensures started { IfErr result (λ k. StartsWhole A.ReaderArena self.now head.old) }
         ensures refused { IfErr result (PointerTestsStop A.ReaderArena self.now (progress (head_behind A.ReaderArena self.now head.old) lim.old) lim.new) }
+        ensures failed { result ≡ Ok false → StructTestFails A.ReaderArena self.now head.old (progress (head_behind A.ReaderArena self.now head.old) lim.old) lim.new }
         ensures kept { (result ≡ Ok true → ⊥) → head.new ≡ head.old }
         ensures flags { (result ≡ Ok true → ⊥) → (data_trunc.new ≡ data_trunc.old) × (ptr_trunc.new ≡ ptr_trunc.old) }
     {
-        if self.bits % 64 != 0 || self.byte != 8 * u64::from(*head) {
+        if !self.starts_whole(*head) {
             return Ok(false);
         }
         let mut read_head = *head;
@@ -145,6 +150,19 @@ impl<'a, A: ReaderArena> StructReader<'a, A> {
                 Ok(true)
             }
             other => other,
+        }
+    }
+
+    // Whether the struct has whole words of data and starts at a position in words. That from nothing
+    // starts nowhere.
+    fn starts_whole(&self, head: u32) -> bool
+        ensures { IsTrue result ↔ StartsWhole A.ReaderArena self.now head }
+    {
+        match self.source {
+            Source::Nothing => false,
+            Source::Arena(_) | Source::Default(_) => {
+                self.bits % 64 == 0 && self.byte == 8 * u64::from(head)
+            }
         }
     }
 }
@@ -162,9 +180,13 @@ fn test_place<A: ReaderArena>(
 ) -> Result<Option<u32>, ErrorKind>
     ensures tells { IfOk result (Tells (reading_on A.ReaderArena from.now at nesting_limit) (progress head lim.old) lim.new) }
     ensures refused { IfErr result (λ k. TestStops k (reading_on A.ReaderArena from.now at nesting_limit) (progress head lim.old) lim.new) }
+    ensures failed { IfOk result (λ o. IfNone o (TestFails (reading_on A.ReaderArena from.now at nesting_limit) (progress head lim.old) lim.new)) }
 {
     let word = Place { at, ..from.place }.word();
-    if at as usize >= whole_words(from.place.bytes) || !word.is_positional() {
+    if at as usize >= whole_words(from.place.bytes) {
+        return Ok(None);
+    }
+    if !word.is_positional() {
         return Ok(None);
     }
     if word.is_null() {
@@ -190,6 +212,7 @@ fn test_children<A: ReaderArena>(
     requires inside { at + count ≤ length (row (reading A.ReaderArena from.now)) }
     ensures tells { IfOk result (TellsAll (reading_on A.ReaderArena from.now at nesting_limit) count (progress first lim.old) lim.new) }
     ensures refused { IfErr result (TestsStop (reading_on A.ReaderArena from.now at nesting_limit) count (progress first lim.old) lim.new) }
+    ensures failed { IfOk result (λ o. IfNone o (TestsFail (reading_on A.ReaderArena from.now at nesting_limit) count (progress first lim.old) lim.new)) }
 {
     let mut head = first;
     for i in 0..count {
@@ -219,6 +242,7 @@ fn test_struct<A: ReaderArena>(
     requires is_struct { kind word.0 ≡ 0 }
     ensures tells { IfOk result (Tells (reading_on A.ReaderArena from.now at nesting_limit) (progress head lim.old) lim.new) }
     ensures refused { IfErr result (λ k. TestStops k (reading_on A.ReaderArena from.now at nesting_limit) (progress head lim.old) lim.new) }
+    ensures failed { IfOk result (λ o. IfNone o (TestFails (reading_on A.ReaderArena from.now at nesting_limit) (progress head lim.old) lim.new)) }
 {
     let place = Place { at, ..from.place };
     let start = match from
@@ -251,6 +275,7 @@ fn test_sections<A: ReaderArena>(
     requires inside { start + (size.data_words + size.pointers) ≤ length (row (reading A.ReaderArena from.now)) }
     ensures tells { IfOk result (TellsStruct (reading_on A.ReaderArena from.now start nesting_limit) size lim.old lim.new) }
     ensures refused { IfErr result (StructTestStops (reading_on A.ReaderArena from.now start nesting_limit) size lim.old lim.new) }
+    ensures failed { IfOk result (λ o. IfNone o (SectionsFail (reading_on A.ReaderArena from.now start nesting_limit) size lim.old lim.new)) }
 {
     let data_words = u32::from(size.data_words);
     let pointers = u32::from(size.pointers);
@@ -282,6 +307,7 @@ fn test_list<A: ReaderArena>(
     requires is_list { kind word.0 ≡ 1 }
     ensures tells { IfOk result (Tells (reading_on A.ReaderArena from.now at nesting_limit) (progress head lim.old) lim.new) }
     ensures refused { IfErr result (λ k. TestStops k (reading_on A.ReaderArena from.now at nesting_limit) (progress head lim.old) lim.new) }
+    ensures failed { IfOk result (λ o. IfNone o (TestFails (reading_on A.ReaderArena from.now at nesting_limit) (progress head lim.old) lim.new)) }
 {
     let place = Place { at, ..from.place };
     let object = match from.source.read_object(place, nesting_limit, lim) {
@@ -321,6 +347,7 @@ fn test_structs<A: ReaderArena>(
     ensures tells { IfOk result (TellsClaimed (reading_on A.ReaderArena from.now start nesting_limit) size count claimed lim.old lim.new) }
     ensures exact { OnErr result (count * (size.data_words + size.pointers) ≡ claimed) }
     ensures refused { IfErr result (RowTestsStop (reading_on A.ReaderArena from.now start nesting_limit) size count (progress (start + claimed) lim.old) lim.new) }
+    ensures failed { IfOk result (λ o. IfNone o (ClaimedFails (reading_on A.ReaderArena from.now start nesting_limit) size count claimed lim.old lim.new)) }
 {
     if u64::from(count) * u64::from(size.total()) != u64::from(claimed) {
         return Ok(None);
@@ -345,6 +372,7 @@ fn test_rows<A: ReaderArena>(
     requires inside { start + count * (size.data_words + size.pointers) ≤ length (row (reading A.ReaderArena from.now)) }
     ensures tells { IfOk result (TellsRows (reading_on A.ReaderArena from.now start nesting_limit) size count (progress (start + count * (size.data_words + size.pointers)) lim.old) lim.new) }
     ensures refused { IfErr result (RowTestsStop (reading_on A.ReaderArena from.now start nesting_limit) size count (progress (start + count * (size.data_words + size.pointers)) lim.old) lim.new) }
+    ensures failed { IfOk result (λ o. IfNone o (RowsFail (reading_on A.ReaderArena from.now start nesting_limit) size count (progress (start + count * (size.data_words + size.pointers)) lim.old) lim.new)) }
 {
     let data_words = u32::from(size.data_words);
     let pointers = u32::from(size.pointers);

@@ -1,8 +1,8 @@
-use Rattle.std.proofs.Common.{◌≡◌, ℕ, slice_index, nat_eq, cond, pred, ◌+◌, ◌*◌, ◌<◌, ◌≤◌, ◌↔◌, ◌⊎◌, IsTrue, length, refl, sym, ap, ap₂, ◌∙◌, subst, arith, rules}
+use Rattle.std.proofs.Common.{◌≡◌, ℕ, slice_index, nat_eq, cond, pred, ◌+◌, ◌*◌, ◌<◌, ◌≤◌, ◌↔◌, ◌⊎◌, IsTrue, length, inl, inr, refl, sym, ap, ap₂, ◌∙◌, subst, arith, rules}
 use Rattle.std.proofs.lemmas.Bool.{false≢true}
 use Rattle.std.proofs.lemmas.Int.{to_z-of_z}
 use mir.Syntax.{w32}
-use Rattle.capnp_format.specs.Word.{data_words, pointer_count, list_count}
+use Rattle.capnp_format.specs.Word.{kind, data_words, pointer_count, list_count}
 use Rattle.capnp_format.specs.Segments.{segment}
 use Rattle.capnp_format.specs.Tree.{no_trees}
 use Rattle.capnp_objects.specs.declared.object.Object.TheVariants.{Struct as ObjectStruct, Flat as ObjectFlat, Pointers as ObjectPointers, Structs as ObjectStructs}
@@ -11,9 +11,10 @@ use Rattle.capnp_objects.specs.Objects.{IsObject}
 use Rattle.capnp_objects.specs.Reading.{Reading, row, behind, word_of}
 use Rattle.capnp_objects.proofs.Walked.{row_within}
 use Rattle.capnp_readers.specs.Sizes.{reading_on}
-use Rattle.capnp_readers.specs.Checking.{IsTested, Progress, progress, StartsRight, TellsStruct, TellsAll, TellsClaimed, TestsStop, RowTestsStop, AreFoundRows, here}
+use Rattle.capnp_readers.specs.Checking.{IsTested, Progress, progress, StartsRight, TellsStruct, TellsAll, TellsClaimed, TestsStop, RowTestsStop, TestsFail, SectionsFail, ClaimedFails, AreFoundRows, here, no_near_pointer}
 use Rattle.capnp_readers.proofs.Walking.{ok_so, err_so, err_with}
-use Rattle.capnp_readers.proofs.Checks.{tested, finds_none, pointer_found, pointer_never, unplaced_never, null_found_at, empty_tells, flat_tells, struct_tells, pointers_tell, structs_tell, struct_stops, pointers_stop, structs_stop, pointers_room, structs_room, some_right, level_falls, place_begins, elements_begin, pointers_here, structs_here, struct_object, none_seen, row_seen, row_never, rows_unused, empties_found, still_seen, seen_now, RowDataUsed, RowPointersUsed}
+use Rattle.capnp_readers.proofs.Checks.{tested, finds_none, pointer_found, pointer_never, unplaced_never, null_found_at, empty_tells, flat_tells, struct_tells, pointers_tell, structs_tell, pointer_ends, row_ends, struct_ends, pointers_end, structs_end, pointers_room, structs_room, some_right, level_falls, place_begins, elements_begin, pointers_here, structs_here, struct_object, none_seen, row_seen, row_never, rows_unused, empties_found, still_seen, seen_now, RowDataUsed, RowPointersUsed}
+use Rattle.capnp_readers.proofs.Fails.{none_so, empty_fails, struct_fails, unplaced_fails, flat_fails, sections_fail, claimed_fails, rows_too_wide}
 use Rattle.capnp_readers.proofs.readers.canonical.+tests.Goals.{test_rows-then-is_data_used, test_rows-else-is_data_used, test_rows-then-are_pointers_used, test_rows-else-are_pointers_used, test_rows-else-is_data_used-2-via-then-is_data_used-2+else-are_pointers_used-2, test_rows-else-is_data_used-2-via-else-is_data_used-2}
 use Rattle.capnp_readers.proofs.readers.canonical.+tests.Goals as goal
 
@@ -91,7 +92,7 @@ test_list-returns-in-Pointers-clause-refused g t c =
     let right : StartsRight (ObjectPointers c.in-Pointers.start c.in-Pointers.count) c.args.at c.args.head = rw c.in-Pointers.is at (c.starts_right.ensures.0 c.if-not-starts_right.false) in
     let nm = to_z-of_z w32 c.less.result (search rules) in
     let there = place_begins r c.in-Pointers.start (rw nl at c.less.ensures) (pointers_here {r = r} c.in-Pointers.start c.in-Pointers.count ready object) in
-    err_so c.test_children.result c.test_children.ensures.refused (λ k h. pointers_stop {r = r} {from = progress c.args.head c.args.lim.now} c.in-Pointers.start c.in-Pointers.count ready object right
+    err_so c.test_children.result c.test_children.ensures.refused (λ k h. pointers_end {r = r} {from = progress c.args.head c.args.lim.now} c.in-Pointers.start c.in-Pointers.count ready object right
     (subst (λ x. TestsStop x c.in-Pointers.count (progress (c.in-Pointers.start.at + c.in-Pointers.count) c.read_object.new.lim) c.test_children.new.lim k) there (rw nm at h)))
 
 pub test_list-returns-in-Structs-clause-tells : goal.test_list-returns-in-Structs-clause-tells
@@ -117,7 +118,7 @@ test_list-returns-in-Structs-clause-refused g t c =
     let nk = to_z-of_z w32 c.less-inner.result (search rules) in
     let there = elements_begin r c.in-Structs.start (rw nl at c.less-inner.ensures) (structs_here {r = r} c.in-Structs.start c.in-Structs.size c.in-Structs.count ready object) in
     let claimed : c.list_inline_composite_word_count-claimed.result ≡ list_count (word_of r) = c.list_inline_composite_word_count-claimed.ensures.value ∙ ap list_count c.requires.there in
-    err_with c.test_structs.result c.test_structs.ensures.exact c.test_structs.ensures.refused (λ exact k h. structs_stop {r = r} {from = progress c.args.head c.args.lim.now} c.in-Structs.start c.in-Structs.size c.in-Structs.count ready object right (exact ∙ claimed)
+    err_with c.test_structs.result c.test_structs.ensures.exact c.test_structs.ensures.refused (λ exact k h. structs_end {r = r} {from = progress c.args.head c.args.lim.now} c.in-Structs.start c.in-Structs.size c.in-Structs.count ready object right (exact ∙ claimed)
     (subst (λ x. RowTestsStop x c.in-Structs.size c.in-Structs.count (progress (x.at + list_count (word_of r)) c.read_object.new.lim) c.test_structs.new.lim k) there (rw (nk, claimed) at h)))
 
 pub test_rows-loop-i-init : goal.test_rows-loop-i-init
@@ -210,7 +211,7 @@ test_struct-returns-clause-refused g t c =
     let some : 0 < size.data_words + size.pointers = omega (arith, c.total.ensures, c.if-total-eq0.false) in
     let nm = to_z-of_z w32 c.less.result (search rules) in
     let there = place_begins r start (rw nl at c.less.ensures) refl in
-    err_so c.test_sections.result c.test_sections.ensures.refused (λ k h. struct_stops {r = r} {from = progress c.args.head c.args.lim.now} start size ready object some (some_right c.args.at some c.if-start-head.false)
+    err_so c.test_sections.result c.test_sections.ensures.refused (λ k h. struct_ends {r = r} {from = progress c.args.head c.args.lim.now} start size ready object some (some_right c.args.at some c.if-start-head.false)
     (subst (λ x. TestsStop (behind x size.data_words) size.pointers (progress (c.in-Ok.start + size.data_words + size.pointers) c.read_near_struct.new.lim) c.test_sections.new.lim k) there (rw nm at h)))
 
 pub test_list-test_children-requires : goal.test_list-test_children-requires
@@ -234,3 +235,115 @@ test_list-test_structs-requires g t c κs within =
     let claimed : list_count (word_of r) ≡ c.list_inline_composite_word_count-claimed.result = sym (c.list_inline_composite_word_count-claimed.ensures.value ∙ ap list_count c.requires.there) in
     let room = rw claimed at (subst (λ i. c.in-Structs.start.at + list_count (word_of r) ≤ length (segment r.segments i)) (sym (structs_here {r = r} c.in-Structs.start c.in-Structs.size c.in-Structs.count ready object)) (structs_room {r = r} c.in-Structs.start c.in-Structs.size c.in-Structs.count ready.near object)) in
     (search (rules, nk, nl, inner, falls), (search rules, room))
+
+pub test_children-returns-in-Ok-None-clause-failed : goal.test_children-returns-in-Ok-None-clause-failed
+test_children-returns-in-Ok-None-clause-failed g t c =
+    let nl = to_z-of_z w32 c.args.nesting_limit (search rules) in
+    pointer_ends c.args.count (rw nl at c.loop-i.invariant) c.loop-i-test.true (rw nl at (rw c.in-Ok-None.field-0-is at c.in-Ok-None.ensures.failed))
+
+pub test_struct-returns-else-start-at-clause-failed : goal.test_struct-returns-else-start-at-clause-failed
+test_struct-returns-else-start-at-clause-failed g t c =
+    let r : Reading = reading_on g.A.ReaderArena c.args.from.now c.args.at c.args.nesting_limit in
+    let ready : IsTested r = c.requires.tested in
+    let nl = to_z-of_z w32 c.args.nesting_limit (search rules) in
+    let start = record c.args.from.now.place { at = c.in-Ok.start } in
+    let size = c.struct_size-size.result in
+    let object : IsObject r c.args.lim.now c.read_near_struct.new.lim (ObjectStruct start size) =
+    struct_object {r = r} start size ready (rw nl at c.in-Ok.ensures.object) (c.struct_size-size.ensures.data_of ∙ ap data_words c.requires.there) (c.struct_size-size.ensures.pointers_of ∙ ap pointer_count c.requires.there) in
+    let none : size.data_words + size.pointers ≡ 0 = sym c.total.ensures ∙ c.if-total-eq0.true in
+    empty_fails {r = r} {from = progress c.args.head c.args.lim.now} start size ready object none c.if-start-at.false
+
+pub test_struct-returns-then-start-head-clause-failed : goal.test_struct-returns-then-start-head-clause-failed
+test_struct-returns-then-start-head-clause-failed g t c =
+    let r : Reading = reading_on g.A.ReaderArena c.args.from.now c.args.at c.args.nesting_limit in
+    let ready : IsTested r = c.requires.tested in
+    let nl = to_z-of_z w32 c.args.nesting_limit (search rules) in
+    let start = record c.args.from.now.place { at = c.in-Ok.start } in
+    let size = c.struct_size-size.result in
+    let object : IsObject r c.args.lim.now c.read_near_struct.new.lim (ObjectStruct start size) =
+    struct_object {r = r} start size ready (rw nl at c.in-Ok.ensures.object) (c.struct_size-size.ensures.data_of ∙ ap data_words c.requires.there) (c.struct_size-size.ensures.pointers_of ∙ ap pointer_count c.requires.there) in
+    let some : 0 < size.data_words + size.pointers = omega (arith, c.total.ensures, c.if-total-eq0.false) in
+    struct_fails {r = r} {from = progress c.args.head c.args.lim.now} start size ready object some c.if-start-head.true
+
+pub test_struct-returns-clause-failed : goal.test_struct-returns-clause-failed
+test_struct-returns-clause-failed g t c =
+    let r : Reading = reading_on g.A.ReaderArena c.args.from.now c.args.at c.args.nesting_limit in
+    let ready : IsTested r = c.requires.tested in
+    let nl = to_z-of_z w32 c.args.nesting_limit (search rules) in
+    let start = record c.args.from.now.place { at = c.in-Ok.start } in
+    let size = c.struct_size-size.result in
+    let object : IsObject r c.args.lim.now c.read_near_struct.new.lim (ObjectStruct start size) =
+    struct_object {r = r} start size ready (rw nl at c.in-Ok.ensures.object) (c.struct_size-size.ensures.data_of ∙ ap data_words c.requires.there) (c.struct_size-size.ensures.pointers_of ∙ ap pointer_count c.requires.there) in
+    let some : 0 < size.data_words + size.pointers = omega (arith, c.total.ensures, c.if-total-eq0.false) in
+    let nm = to_z-of_z w32 c.less.result (search rules) in
+    let there = place_begins r start (rw nl at c.less.ensures) refl in
+    ok_so c.test_sections.result c.test_sections.ensures.failed (λ o h. none_so o h (λ fails. sections_fail {r = r} {from = progress c.args.head c.args.lim.now} start size ready object some (some_right c.args.at some c.if-start-head.false)
+    (subst (λ x. SectionsFail x size c.read_near_struct.new.lim c.test_sections.new.lim) there (rw nm at fails))))
+
+pub test_list-returns-then-not-starts_right-clause-failed : goal.test_list-returns-then-not-starts_right-clause-failed
+test_list-returns-then-not-starts_right-clause-failed g t c =
+    let r : Reading = reading_on g.A.ReaderArena c.args.from.now c.args.at c.args.nesting_limit in
+    let ready : IsTested r = c.requires.tested in
+    let nl = to_z-of_z w32 c.args.nesting_limit (search rules) in
+    let object : IsObject r c.args.lim.now c.read_object.new.lim c.in-Ok.object = rw nl at c.in-Ok.ensures.object in
+    unplaced_fails {r = r} {from = progress c.args.head c.args.lim.now} c.in-Ok.object ready (rw c.requires.there at c.requires.is_list) object (λ right. false≢true (sym c.if-not-starts_right.true ∙ c.starts_right.ensures.1 right))
+
+pub test_list-returns-in-Flat-clause-failed : goal.test_list-returns-in-Flat-clause-failed
+test_list-returns-in-Flat-clause-failed g t c =
+    let r : Reading = reading_on g.A.ReaderArena c.args.from.now c.args.at c.args.nesting_limit in
+    let ready : IsTested r = c.requires.tested in
+    let nl = to_z-of_z w32 c.args.nesting_limit (search rules) in
+    let object : IsObject r c.args.lim.now c.read_object.new.lim (ObjectFlat c.in-Flat.start c.in-Flat.size c.in-Flat.count) = rw nl at (rw c.in-Flat.is at c.in-Ok.ensures.object) in
+    let right : StartsRight (ObjectFlat c.in-Flat.start c.in-Flat.size c.in-Flat.count) c.args.at c.args.head = rw c.in-Flat.is at (c.starts_right.ensures.0 c.if-not-starts_right.false) in
+    flat_fails {r = r} {from = progress c.args.head c.args.lim.now} c.in-Flat.start c.in-Flat.size c.in-Flat.count c.test_flat.result ready object right c.test_flat.ensures
+
+pub test_list-returns-in-Pointers-clause-failed : goal.test_list-returns-in-Pointers-clause-failed
+test_list-returns-in-Pointers-clause-failed g t c =
+    let r : Reading = reading_on g.A.ReaderArena c.args.from.now c.args.at c.args.nesting_limit in
+    let ready : IsTested r = c.requires.tested in
+    let nl = to_z-of_z w32 c.args.nesting_limit (search rules) in
+    let object : IsObject r c.args.lim.now c.read_object.new.lim (ObjectPointers c.in-Pointers.start c.in-Pointers.count) = rw nl at (rw c.in-Pointers.is at c.in-Ok.ensures.object) in
+    let right : StartsRight (ObjectPointers c.in-Pointers.start c.in-Pointers.count) c.args.at c.args.head = rw c.in-Pointers.is at (c.starts_right.ensures.0 c.if-not-starts_right.false) in
+    let nm = to_z-of_z w32 c.less.result (search rules) in
+    let there = place_begins r c.in-Pointers.start (rw nl at c.less.ensures) (pointers_here {r = r} c.in-Pointers.start c.in-Pointers.count ready object) in
+    ok_so c.test_children.result c.test_children.ensures.failed (λ o h. none_so o h (λ fails. pointers_end {r = r} {from = progress c.args.head c.args.lim.now} c.in-Pointers.start c.in-Pointers.count ready object right
+    (subst (λ x. TestsFail x c.in-Pointers.count (progress (c.in-Pointers.start.at + c.in-Pointers.count) c.read_object.new.lim) c.test_children.new.lim) there (rw nm at fails))))
+
+pub test_list-returns-in-Structs-clause-failed : goal.test_list-returns-in-Structs-clause-failed
+test_list-returns-in-Structs-clause-failed g t c =
+    let r : Reading = reading_on g.A.ReaderArena c.args.from.now c.args.at c.args.nesting_limit in
+    let ready : IsTested r = c.requires.tested in
+    let nl = to_z-of_z w32 c.args.nesting_limit (search rules) in
+    let object : IsObject r c.args.lim.now c.read_object.new.lim (ObjectStructs c.in-Structs.start c.in-Structs.size c.in-Structs.count) = rw nl at (rw c.in-Structs.is at c.in-Ok.ensures.object) in
+    let right : StartsRight (ObjectStructs c.in-Structs.start c.in-Structs.size c.in-Structs.count) c.args.at c.args.head = rw c.in-Structs.is at (c.starts_right.ensures.0 c.if-not-starts_right.false) in
+    let nk = to_z-of_z w32 c.less-inner.result (search rules) in
+    let there = elements_begin r c.in-Structs.start (rw nl at c.less-inner.ensures) (structs_here {r = r} c.in-Structs.start c.in-Structs.size c.in-Structs.count ready object) in
+    let claimed : c.list_inline_composite_word_count-claimed.result ≡ list_count (word_of r) = c.list_inline_composite_word_count-claimed.ensures.value ∙ ap list_count c.requires.there in
+    ok_so c.test_structs.result c.test_structs.ensures.failed (λ o h. none_so o h (λ fails. claimed_fails {r = r} {from = progress c.args.head c.args.lim.now} c.in-Structs.start c.in-Structs.size c.in-Structs.count ready object right
+    (subst (λ x. ClaimedFails x c.in-Structs.size c.in-Structs.count (list_count (word_of r)) c.read_object.new.lim c.test_structs.new.lim) there (rw (nk, claimed) at fails))))
+
+pub test_rows-returns-in-Ok-None-clause-failed : goal.test_rows-returns-in-Ok-None-clause-failed
+test_rows-returns-in-Ok-None-clause-failed g t c =
+    let nl = to_z-of_z w32 c.args.nesting_limit (search rules) in
+    inl (row_ends c.args.count (rw nl at c.loop-i.invariant) c.loop-i-test.true
+    (rw (nl, c.from-data_words.ensures, c.from-pointers.ensures) at (rw c.in-Ok-None.field-0-is at c.in-Ok-None.ensures.failed)))
+
+pub test_rows-returns-else-is_data_used-2-clause-failed : goal.test_rows-returns-else-is_data_used-2-clause-failed
+test_rows-returns-else-is_data_used-2-clause-failed g t c =
+    let nl = to_z-of_z w32 c.args.nesting_limit (search rules) in
+    let all : c.loop-i.i ≡ c.args.count = omega (arith, c.loop-i.auto.i-end, c.loop-i-test.false) in
+    let seen = rw all at (rw nl at c.loop-i.invariant) in
+    elim c.else-is_data_used-2.branch [
+      | test_rows-else-is_data_used-2-via-then-is_data_used-2+else-are_pointers_used-2 w ↦ inr (c.loop-i.head, rows_too_wide seen (λ both. false≢true (sym w.if-are_pointers_used-2.false ∙ both.1)))
+      | test_rows-else-is_data_used-2-via-else-is_data_used-2 w ↦ inr (c.loop-i.head, rows_too_wide seen (λ both. false≢true (sym w.if-is_data_used-2.false ∙ both.0)))
+    ]
+
+pub test_place-returns-then-at-whole_words-clause-failed : goal.test_place-returns-then-at-whole_words-clause-failed
+test_place-returns-then-at-whole_words-clause-failed g t c =
+    here (no_near_pointer (λ both. let there = both.0 in omega (arith, there, c.whole_words.ensures.count, c.if-at-whole_words.true, ap length c.args.from.now.held.0)) refl)
+
+pub test_place-returns-then-not-is_positional-clause-failed : goal.test_place-returns-then-not-is_positional-clause-failed
+test_place-returns-then-not-is_positional-clause-failed g t c =
+    let r : Reading = reading_on g.A.ReaderArena c.args.from.now c.args.at c.args.nesting_limit in
+    let word : c.word-word.result.0 ≡ word_of r = c.word-word.ensures.value ∙ ap (λ ws. slice_index ws c.args.at) c.args.from.now.held.0 in
+    here (no_near_pointer (λ both. false≢true (sym c.if-not-is_positional.true ∙ c.is_positional.ensures.1 (subst (λ w. kind w < 2) (sym word) both.1))) refl)

@@ -1,0 +1,53 @@
+-- What a test for canonical form has charged that ends in a no or a refusal.
+use Rattle.std.proofs.Common.{◌≡◌, ℕ, sym, ap, subst}
+use Rattle.capnp_words.specs.Meter.{Meter}
+use Rattle.capnp_words.specs.declared.error.ErrorKind.{ErrorKind}
+use Rattle.capnp_format.specs.Segments.{Target}
+use Rattle.capnp_objects.specs.Reading.{Reading}
+use Rattle.capnp_objects.specs.Refusals.{Stopped, pads_exceed, nowhere, broken, claim_exceeds, count_exceeds}
+use Rattle.capnp_objects.specs.Spending.{Paid}
+use Rattle.capnp_objects.specs.Wanted.{plain}
+use Rattle.capnp_objects.proofs.Budgets.{paid_both, paid_own}
+use Rattle.capnp_objects.proofs.Walked.{paid_none}
+use Rattle.capnp_readers.specs.Checking.{Progress, FindsBefore, in_struct, in_pointers, in_element, TestEnds, here, below, TestsEnd, Unread, IsUnfit, no_near_pointer, empty_elsewhere, elsewhere, not_padded, other_claim, wide_sections, wide_elements}
+use Rattle.capnp_readers.specs.Laws.{IsCharged}
+
+-- The pointers before one of an object's are charged, and that one is charged as the object is.
+before_charged : {r : Reading} {a : Target} {child : Reading} {from to : Progress} → FindsBefore r a child from to → (child.charging ≡ r.charging) × IsCharged r from.meter to.meter
+before_charged (in_struct ts z less e all) = (ap (λ x. x.charging) e, (_, _, all.paid))
+before_charged (in_pointers ts z six less e all) = (ap (λ x. x.charging) e, (_, _, all.paid))
+before_charged (in_element es ts between list exact fewer less e rows all) = (ap (λ x. x.charging) e, (_, _, paid_both rows.paid all.paid))
+
+-- If what P says of a place is charged, so is a test that ends there.
+pub ends_charged : {P : Reading → Progress → Meter → Type 0} {r : Reading} {from : Progress} {m' : Meter} → ((s : Reading) (at : Progress) (m : Meter) → P s at m → IsCharged s at.meter m) → TestEnds P r from m' → IsCharged r from.meter m'
+ends_charged {r = r} {from = from} {m' = m'} f (here p) = f r from m' p
+ends_charged {m' = m'} f (below {mid = mid} a near o start before ends) =
+    let (same, (g, i, first)) = before_charged before in
+    let (h, j, rest) = ends_charged f ends in
+    (_, _, paid_both (paid_both (paid_own o) first) (subst (λ c. Paid c mid.meter m' h j) same rest))
+
+pub pointers_charged : {P : Reading → Progress → Meter → Type 0} {r : Reading} {i : ℕ} {from : Progress} {m' : Meter} → ((s : Reading) (at : Progress) (m : Meter) → P s at m → IsCharged s at.meter m) → TestsEnd P r i from m' → IsCharged r from.meter m'
+pointers_charged f h =
+    let (g, i, rest) = ends_charged f h.ends in
+    (_, _, paid_both h.are_found.paid rest)
+
+-- A place that isn't canonical by itself is charged.
+pub unfit_charged : (r : Reading) (from : Progress) (m' : Meter) → IsUnfit r from m' → IsCharged r from.meter m'
+unfit_charged r from m' (no_near_pointer none same) = subst (λ m. IsCharged r from.meter m) (sym same) (0, 0, paid_none r from.meter)
+unfit_charged r from m' (empty_elsewhere a near o empty other) = (_, _, paid_own o)
+unfit_charged r from m' (elsewhere a near o some other) = (_, _, paid_own o)
+unfit_charged r from m' (not_padded a near o start list small other) = (_, _, paid_own o)
+unfit_charged r from m' (other_claim a near o start list other) = (_, _, paid_own o)
+unfit_charged r from m' (wide_sections a e near o start z (ts, len, all) unused) = (_, _, paid_both (paid_own o) all.paid)
+unfit_charged r from m' (wide_elements a e near o start list exact (es, len, all, unused)) = (_, _, paid_both (paid_own o) all.paid)
+
+-- So is an object that can't be read.
+stopped_charged : (r : Reading) (m m' : Meter) (k : ErrorKind) → Stopped plain r m m' k → IsCharged r m m'
+stopped_charged r m m' k (pads_exceed some over paid named) = (_, _, paid)
+stopped_charged r m m' k (nowhere some leads paid) = (_, _, paid)
+stopped_charged r m m' k (broken a follows breaks paid) = (_, _, paid)
+stopped_charged r m m' k (claim_exceeds a follows level less there over paid named) = (_, _, paid)
+stopped_charged r m m' k (count_exceeds a follows meets over paid named) = (_, _, paid)
+
+pub unread_charged : (k : ErrorKind) (r : Reading) (from : Progress) (m' : Meter) → Unread r from.meter m' k → IsCharged r from.meter m'
+unread_charged k r from m' u = stopped_charged r from.meter m' u.name u.stopped
