@@ -40,7 +40,8 @@ impl<'a, A: ReaderArena> PointerReader<'a, A> {
     /// and `NestingLimitExceeded` for a list that have no level,
     /// `InlineCompositeListsOfNonStructTypeAreNotSupported`,
     /// `InlineCompositeListsElementsOverrunItsWordCount`, or `ReadLimitExceeded`. What was charged
-    /// before it stays charged.
+    /// before it stays charged. So it is with a no: it is said at the first place that isn't
+    /// canonical, and what was charged until then stays charged.
     pub fn is_canonical(&self, lim: &mut ReadLimiter, head: &mut u32) -> Result<bool, ErrorKind>
         ensures exactly { IfOk result (λ b. IsTrue b ↔ IsCanonicalAt (reading A.ReaderArena self.now) head.old) }
         ensures found { IfOk result (λ b. IsTrue b → IsFound (reading A.ReaderArena self.now) (progress head.old lim.old) (progress head.new lim.new)) }
@@ -67,9 +68,10 @@ impl<'a, A: ReaderArena> StructReader<'a, A> {
     /// On a yes `read_head` is moved behind the struct (to `u32::MAX` where the struct ends beyond it,
     /// which needs a segment of that many words) and `ptr_head` behind the last of these words;
     /// `data_trunc` and `ptr_trunc` tell whether the data section and the pointer section are empty
-    /// or end in a word that isn't zero. Else all four stay. The pointers are tested, charged and
-    /// refused as by `PointerReader::is_canonical`, under the struct's own nesting limit; the struct's
-    /// own words aren't charged.
+    /// or end in a word that isn't zero. Else all four stay. The struct from nothing begins nowhere, so
+    /// it is a no; nothing is charged for it, nor for a struct that starts elsewhere or has part words
+    /// of data. The pointers are tested, charged and refused as by `PointerReader::is_canonical`, under
+    /// the struct's own nesting limit; the struct's own words aren't charged.
     pub fn is_canonical(
         &self,
         lim: &mut ReadLimiter,
@@ -89,17 +91,18 @@ impl<'a, A: ReaderArena> StructReader<'a, A> {
         ensures kept { (result ≡ Ok true → ⊥) → (read_head.new ≡ read_head.old) × (ptr_head.new ≡ ptr_head.old) }
         ensures flags { (result ≡ Ok true → ⊥) → (data_trunc.new ≡ data_trunc.old) × (ptr_trunc.new ≡ ptr_trunc.old) }
     {
-        if !self.starts_whole(*read_head) {
+        if !self.begins_somewhere() {
             return Ok(false);
         }
-        let data_words = self.bits / 64;
-        let count = u32::from(self.pointer_count);
-        let behind = read_head.saturating_add(data_words + count);
+        if self.bits % 64 != 0 || self.byte != 8 * u64::from(*read_head) {
+            return Ok(false);
+        }
         let first = PointerReader {
             source: self.source,
             place: self.pointers,
             nesting_limit: self.nesting_limit,
         };
+        let count = u32::from(self.pointer_count);
         let end = match test_children(
             &first,
             self.pointers.at,
@@ -112,9 +115,10 @@ impl<'a, A: ReaderArena> StructReader<'a, A> {
             Ok(None) => return Ok(false),
             Err(kind) => return Err(kind),
         };
+        let data_words = self.bits / 64;
         *data_trunc = ends_used(self.pointers, *read_head, data_words);
         *ptr_trunc = ends_used(self.pointers, self.pointers.at, count);
-        *read_head = behind;
+        *read_head = read_head.saturating_add(data_words + count);
         *ptr_head = end;
         Ok(true)
     }
@@ -138,7 +142,10 @@ impl<'a, A: ReaderArena> StructReader<'a, A> {
         ensures kept { (result ≡ Ok true → ⊥) → head.new ≡ head.old }
         ensures flags { (result ≡ Ok true → ⊥) → (data_trunc.new ≡ data_trunc.old) × (ptr_trunc.new ≡ ptr_trunc.old) }
     {
-        if !self.starts_whole(*head) {
+        if !self.begins_somewhere() {
+            return Ok(false);
+        }
+        if self.bits % 64 != 0 || self.byte != 8 * u64::from(*head) {
             return Ok(false);
         }
         let mut read_head = *head;
@@ -153,16 +160,13 @@ impl<'a, A: ReaderArena> StructReader<'a, A> {
         }
     }
 
-    // Whether the struct has whole words of data and starts at a position in words. That from nothing
-    // starts nowhere.
-    fn starts_whole(&self, head: u32) -> bool
-        ensures { IsTrue result ↔ StartsWhole A.ReaderArena self.now head }
+    // Whether the struct begins somewhere: that from nothing doesn't.
+    fn begins_somewhere(&self) -> bool
+        ensures { IsTrue result ↔ self.now.source ≢ Source.Nothing }
     {
         match self.source {
             Source::Nothing => false,
-            Source::Arena(_) | Source::Default(_) => {
-                self.bits % 64 == 0 && self.byte == 8 * u64::from(head)
-            }
+            Source::Arena(_) | Source::Default(_) => true,
         }
     }
 }
