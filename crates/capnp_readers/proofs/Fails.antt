@@ -17,7 +17,7 @@ use Rattle.capnp_objects.specs.Reading.{Reading, word_of, behind, tag_size}
 use Rattle.capnp_objects.proofs.Parts.{claim_struct, claim_list}
 use Rattle.capnp_objects.proofs.Walked.{beginning, same_place, same_size}
 use Rattle.capnp_readers.specs.Standing.{IsPadded}
-use Rattle.capnp_readers.specs.Checking.{Progress, progress, AreFound, AreFoundTooWide, IsTested, StartsRight, TellsFlat, here, IsUnfit, empty_elsewhere, elsewhere, not_padded, other_claim, wide_sections, wide_elements, TestFails, SectionsFail, ClaimedFails}
+use Rattle.capnp_readers.specs.Checking.{Progress, progress, AreFound, AreFoundTooWide, IsTested, StartsRight, TellsFlat, RowTestsEnd, here, IsUnfit, empty_elsewhere, elsewhere, not_padded, other_claim, wide_sections, wide_elements, TestFails, SectionsFail, ClaimedFails}
 use Rattle.capnp_readers.proofs.Checks.{near_object, struct_pointers, list_elements, used_at, padded_at, some_starts, first_element, same_elements, lists_alone, AreSeen, struct_ends, structs_end}
 
 -- what is so of no value is so of it in other words
@@ -77,19 +77,21 @@ claimed_fails {r} {from} {m'} {m''} start size n ready (a, o, z, seven, (held, s
     let of_size : size ≡ tag_size S a = same_size S a wide pointers in
     let words : n * (size.data_words + size.pointers) ≡ element_words (tag S a) = ap₂ (λ i j. i * (j.data_words + j.pointers)) many of_size in
     subst (λ m. TestFails r from m) (sym same) (here (other_claim a ready.near o (omega (arith, right, at)) (z, seven) (λ e. other (words ∙ e ∙ sym claimed))))
-claimed_fails {r} {from} {m'} {m''} start size n ready object right (inr (exact, inl ends)) = structs_end {r = r} {from = from} {m' = m'} {m'' = m''} start size n ready object right exact ends
+claimed_fails {r} {from} {m'} {m''} start size n ready object right (inr (exact, inl ends)) =
+    structs_end {r = r} {from = from} {m' = m'} {m'' = m''} start size n ready object right exact (subst (λ w. RowTestsEnd IsUnfit (first_element r start) size n (progress (start.at + w) m') m'') exact ends)
 claimed_fails {r} {from} {m'} {m''} start size n ready (a, o, z, seven, (held, seg, at), many, wide, pointers) right (inr (exact, inr (e, found))) =
     let S : Segments = r.segments in
     let claimed : list_count (word_of r) ≡ list_count a.word = ap list_count (sym (near_object r ready.near o.leads_to).same_word) in
     let there : first_element r start ≡ list_elements r a = same_elements r seg at in
     let of_size : size ≡ tag_size S a = same_size S a wide pointers in
-    let goes : start.at + list_count (word_of r) ≡ a.start + claim a.word = omega (arith, at, claimed, claim_list a.word 7 z seven) in
+    let last : start.at + list_count (word_of r) ≡ a.start + claim a.word = omega (arith, at, claimed, claim_list a.word 7 z seven) in
+    let goes : start.at + n * (size.data_words + size.pointers) ≡ a.start + claim a.word = ap (λ w. start.at + w) exact ∙ last in
     let words : element_words (tag S a) ≡ list_count a.word = sym (ap₂ (λ i j. i * (j.data_words + j.pointers)) many of_size) ∙ exact ∙ claimed in
     here (wide_elements a e ready.near o (omega (arith, right, at)) (z, seven) words
     (subst (λ h. AreFoundTooWide (list_elements r a) (tag_size S a) (offset_bits (tag S a)) (progress h m') (progress e m'')) goes
-    (subst (λ i. AreFoundTooWide (list_elements r a) (tag_size S a) i (progress (start.at + list_count (word_of r)) m') (progress e m'')) many
-    (subst (λ y. AreFoundTooWide (list_elements r a) y n (progress (start.at + list_count (word_of r)) m') (progress e m'')) of_size
-    (subst (λ x. AreFoundTooWide x size n (progress (start.at + list_count (word_of r)) m') (progress e m'')) there found)))))
+    (subst (λ i. AreFoundTooWide (list_elements r a) (tag_size S a) i (progress (start.at + n * (size.data_words + size.pointers)) m') (progress e m'')) many
+    (subst (λ y. AreFoundTooWide (list_elements r a) y n (progress (start.at + n * (size.data_words + size.pointers)) m') (progress e m'')) of_size
+    (subst (λ x. AreFoundTooWide x size n (progress (start.at + n * (size.data_words + size.pointers)) m') (progress e m'')) there found)))))
 
 -- Elements none of which uses the last word of one of its sections.
 pub rows_too_wide : {r : Reading} {size : StructSize} {n : ℕ} {from to : Progress} {b c : Bool} → AreSeen r size n from to b c → (IsTrue b × IsTrue c → ⊥) → AreFoundTooWide r size n from to

@@ -294,15 +294,17 @@ SectionsFail r size m m' =
     TestsFail pointers size.pointers from m'
     ⊎ ((e : ℕ) × AreFound pointers size.pointers from (progress e m') × (AreUsed r size → ⊥))
 
--- So does that of n elements: that of a pointer of one of them; or a smaller size of elements would do.
-abbrev pub RowsFail : Reading → StructSize → ℕ → Progress → Meter → Type 0
-RowsFail r size n from m' = RowTestsEnd IsUnfit r size n from m' ⊎ ((e : ℕ) × AreFoundTooWide r size n from (progress e m'))
+-- So does that of n elements, the first object behind them: that of a pointer of one of them; or a smaller size would do.
+abbrev pub RowsFail : Reading → StructSize → ℕ → Meter → Meter → Type 0
+RowsFail r size n m m' =
+    let from = progress (r.at + n * (size.data_words + size.pointers)) m in
+    RowTestsEnd IsUnfit r size n from m' ⊎ ((e : ℕ) × AreFoundTooWide r size n from (progress e m'))
 
 -- So does that of the list that claims so many words: its elements take others, and nothing more is charged; or theirs does.
 abbrev pub ClaimedFails : Reading → StructSize → ℕ → ℕ → Meter → Meter → Type 0
 ClaimedFails r size n claimed m m' =
     ((n * (size.data_words + size.pointers) ≢ claimed) × (m' ≡ m))
-    ⊎ ((n * (size.data_words + size.pointers) ≡ claimed) × RowsFail r size n (progress (r.at + claimed) m) m')
+    ⊎ ((n * (size.data_words + size.pointers) ≡ claimed) × RowsFail r size n m m')
 
 module _ {A : Type 0} (g : Ghosts A) where
   -- A struct has whole words of data, and starts at the head. That from nothing starts nowhere.

@@ -376,7 +376,7 @@ fn test_rows<A: ReaderArena>(
     requires inside { start + count * (size.data_words + size.pointers) ≤ length (row (reading A.ReaderArena from.now)) }
     ensures tells { IfOk result (TellsRows (reading_on A.ReaderArena from.now start nesting_limit) size count (progress (start + count * (size.data_words + size.pointers)) lim.old) lim.new) }
     ensures refused { IfErr result (RowTestsStop (reading_on A.ReaderArena from.now start nesting_limit) size count (progress (start + count * (size.data_words + size.pointers)) lim.old) lim.new) }
-    ensures failed { IfOk result (λ o. IfNone o (RowsFail (reading_on A.ReaderArena from.now start nesting_limit) size count (progress (start + count * (size.data_words + size.pointers)) lim.old) lim.new)) }
+    ensures failed { IfOk result (λ o. IfNone o (RowsFail (reading_on A.ReaderArena from.now start nesting_limit) size count lim.old lim.new)) }
 {
     let data_words = u32::from(size.data_words);
     let pointers = u32::from(size.pointers);
