@@ -142,9 +142,6 @@ impl<'a, A: ReaderArena> StructReader<'a, A> {
         ensures kept { (result ≡ Ok true → ⊥) → head.new ≡ head.old }
         ensures flags { (result ≡ Ok true → ⊥) → (data_trunc.new ≡ data_trunc.old) × (ptr_trunc.new ≡ ptr_trunc.old) }
     {
-        if !self.begins_somewhere() {
-            return Ok(false);
-        }
         if self.bits % 64 != 0 || self.byte != 8 * u64::from(*head) {
             return Ok(false);
         }
