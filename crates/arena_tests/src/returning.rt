@@ -1,10 +1,16 @@
-//! Each segment goes back to its allocator once, in order of number.
+//! Each segment goes back to its allocator once, in order of number, with how many of its words were used.
 use capnp_arena::arena::{Allocator, BuilderArena, BuilderArenaImpl, HeapAllocator};
 use capnp_words::error::ErrorKind;
 use std::alloc::Global;
 use std::cell::Cell;
 use std::process::Abort;
 use test_support::{Granted, TestAllocator};
+
+// What comes back, each segment's words and then those that were used: with four rows all segments, fully
+// used; with three at once the fourth, unused, and then the others; with none each at once, unused.
+const ALL_USED: u64 = 3_03_05_05_07_07_11_11;
+const LAST_AT_ONCE: u64 = 11_00_03_03_05_05_07_07;
+const NONE_USED: u64 = 3_00_05_00_07_00_11_00;
 
 /// Takes words in three segments, and in a fourth that there may be no row for. Gives the arena and
 /// the number of segments.
@@ -29,7 +35,7 @@ fn filled<'a>(
 
 #[test]
 fn dropped(rt: HostRuntime) {
-    for (rows, made, want) in [(4, 4, 3_050_711), (3, 3, 11_030_507), (0, 0, 3_050_711)] {
+    for (rows, made, want) in [(4, 4, ALL_USED), (3, 3, LAST_AT_ONCE), (0, 0, NONE_USED)] {
         let returned = Cell::new(0);
         let (arena, segments) = filled(&rt, rt.alloc(), rows, &returned);
         assert!(rt; segments == made, "{rows} rows");
@@ -41,7 +47,7 @@ fn dropped(rt: HostRuntime) {
 
 #[test]
 fn taken_apart(rt: HostRuntime) {
-    for (rows, made, want) in [(4, 4, 3_050_711), (3, 3, 11_030_507), (0, 0, 3_050_711)] {
+    for (rows, made, want) in [(4, 4, ALL_USED), (3, 3, LAST_AT_ONCE), (0, 0, NONE_USED)] {
         let returned = Cell::new(0);
         let (arena, _segments) = filled(&rt, rt.alloc(), rows, &returned);
         let allocator = arena.into_allocator();
@@ -68,7 +74,7 @@ fn allocator_taken_out(rt: HostRuntime) {
     assert!(rt; arena.refused() == 0);
     assert!(rt; arena.allocate_anywhere(1) == Ok((4, 0)));
     drop(arena);
-    assert!(rt; returned.get() == 305_071_101);
+    assert!(rt; returned.get() == 3_03_05_05_07_07_11_11_01_01);
 }
 
 #[test]

@@ -95,6 +95,23 @@ fn check(
     assert!(rt; returned.get() == segments, "{words}");
 }
 
+// The segments that come back as the second, its row, the third or its row is refused, or nothing is: the
+// words of each, and then those that were used.
+const OF_STRUCT: [u64; 5] = [
+    1_01,
+    3_00_01_01,
+    1_01_03_03,
+    2_00_01_01_03_03,
+    1_01_03_03_02_02,
+];
+const OF_LIST: [u64; 5] = [
+    1_01,
+    4_00_01_01,
+    1_01_04_04,
+    2_00_01_01_04_04,
+    1_01_04_04_02_02,
+];
+
 /// The memory for the first object, for its row, for the text and for its row is refused in turn. Then
 /// what was copied is null and the words that were taken are zero; but a struct that was built stays, with a
 /// null pointer. What was read is paid. Each segment comes back once, one without a row at once; those of
@@ -107,9 +124,9 @@ fn each_request_in_turn(rt: HostRuntime) {
     let four =
         "0000000000000000, 0000000000000000 0000000000000000 0000000000000000 0000000000000000";
     let kept = "0200000001000000, 0000000001000100 0700000000000000 0000000000000000";
-    let built = ([10, 10], [1, 301, 103, 20_103, 10_302]);
-    let of_struct = ([7, 6], [1, 301, 103, 20_103, 10_302]);
-    let of_list = ([6, 5], [1, 401, 104, 20_104, 10_402]);
+    let built = ([10, 10], OF_STRUCT);
+    let of_struct = ([7, 6], OF_STRUCT);
+    let of_list = ([6, 5], OF_LIST);
     for (call, stays, want, (left, segments)) in [
         (None, kept, STRUCT_APART, built),
         (Some(Call::Value(false)), three, STRUCT_APART, of_struct),

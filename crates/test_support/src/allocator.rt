@@ -25,7 +25,8 @@ pub struct TestAllocator<'a> {
 
 impl<'a> TestAllocator<'a> {
     /// An allocator that has refused nothing yet. `returned` is to hold the words of each segment
-    /// that comes back, as two decimal digits behind those of the earlier ones.
+    /// that comes back and how many of them were used, each as two decimal digits behind those of
+    /// the earlier ones.
     pub fn new(heap: HeapAllocator, granted: Granted, returned: &'a Cell<u64>) -> Self
         ensures { result.refused ≡ 0 }
     {
@@ -91,11 +92,13 @@ impl Allocator for TestAllocator<'_> {
         Err(ErrorKind::AllocationFailed)
     }
 
-    fn deallocate_segment(&mut self, segment: HeapSegment, _used_words: u32) {
+    fn deallocate_segment(&mut self, segment: HeapSegment, used_words: u32) {
         let words = (segment.bytes().len() / 8) as u64;
-        let returned = self.returned.get();
-        self.returned
-            .set(returned.wrapping_mul(100).wrapping_add(words));
+        for number in [words, u64::from(used_words)] {
+            let returned = self.returned.get();
+            self.returned
+                .set(returned.wrapping_mul(100).wrapping_add(number));
+        }
         drop(segment);
     }
 

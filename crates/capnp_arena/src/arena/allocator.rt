@@ -46,9 +46,11 @@ pub trait Allocator: Drop {
         ensures refused { min_words ≤ max_segment_words → IfErr result (λ e. (e ≡ AllocationFailed) × (refusals self.new ≡ one_more (refusals self.old))) }
         ensures offers { offers self.new ≡ offers self.old };
 
-    /// Gives a segment back. All its words behind the first `used_words` are zero.
+    /// Gives a segment back, of which the first `used_words` words were allocated. All words behind
+    /// these are zero.
     fn deallocate_segment(&mut self, segment: Self::Segment, used_words: u32)
-        requires { IsClearFrom used_words (Self.Segment.content segment) }
+        requires within { 8 * used_words ≤ length (Self.Segment.content segment) }
+        requires clear { IsClearFrom used_words (Self.Segment.content segment) }
         ensures refusals { refusals self.new ≡ refusals self.old }
         ensures offers { offers self.new ≡ offers self.old };
 
