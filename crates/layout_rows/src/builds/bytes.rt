@@ -1,4 +1,6 @@
 //! Calls on a text or on data that a pointer leads to.
+ghost use Rattle.std.specs.Prelude.{IfOk};
+ghost use Rattle.capnp_builders.specs.Defaults.{IsFew};
 
 use super::call::{Blob, BlobCall};
 use super::place::{Place, pointer, put_numbers, put_outcome, refuse};
@@ -20,8 +22,8 @@ pub fn call<A: BuilderArena>(
 ) -> Result<Option<Place>, Fault> {
     match call {
         BlobCall::Init(count, first) => {
-            let first = optional(alloc, first)?;
-            init(arena, place, (blob, count), slice(&first), out)
+            let first = parse::bytes(alloc, first.unwrap_or("-"))?;
+            init(arena, place, (blob, count), first.as_slice(), out)
         }
         BlobCall::Set(text) => {
             let bytes = parse::bytes(alloc, text)?;
@@ -29,11 +31,11 @@ pub fn call<A: BuilderArena>(
         }
         BlobCall::Find(default) => {
             let default = optional(alloc, default)?;
-            find(arena, place, blob, slice(&default), out)
+            find(arena, place, blob, default_of(&default)?, out)
         }
         BlobCall::Get(default) => {
             let default = optional(alloc, default)?;
-            get(arena, place, blob, slice(&default), out)
+            get(arena, place, blob, default_of(&default)?, out)
         }
         BlobCall::Write(index, byte) => write(arena, place, blob, (index, byte), out),
     }
@@ -47,11 +49,14 @@ pub fn optional(alloc: Global, text: Option<&str>) -> Result<Option<Vec<u8>>, Fa
     }
 }
 
-/// The same bytes as a slice.
-pub fn slice(bytes: &Option<Vec<u8>>) -> Option<&[u8]> {
+/// The same bytes as a default, `Unfit` where they are too many.
+pub fn default_of(bytes: &Option<Vec<u8>>) -> Result<Option<&[u8]>, Fault>
+    ensures { IfOk result IsFew }
+{
     match bytes {
-        Some(bytes) => Some(bytes.as_slice()),
-        None => None,
+        Some(bytes) if bytes.len() / 8 <= u32::MAX as usize => Ok(Some(bytes.as_slice())),
+        Some(_) => Err(Fault::Unfit),
+        None => Ok(None),
     }
 }
 
@@ -60,11 +65,10 @@ fn init<A: BuilderArena>(
     arena: &mut A,
     place: PointerPlace,
     (blob, count): (Blob, u32),
-    first: Option<&[u8]>,
+    first: &[u8],
     out: &mut Output,
 ) -> Result<Option<Place>, Fault> {
     let pointer = pointer(arena, place)?;
-    let first = first.unwrap_or(&[]);
     if first.len() > count as usize {
         return Err(Fault::Unfit);
     }
@@ -110,8 +114,10 @@ fn find<A: BuilderArena>(
     blob: Blob,
     default: Option<&[u8]>,
     out: &mut Output,
-) -> Result<Option<Place>, Fault> {
-    let pointer = pointer(arena, place)?;
+) -> Result<Option<Place>, Fault>
+    requires { IsFew default }
+{
+    let mut pointer = pointer(arena, place)?;
     let found = match blob {
         Blob::Text => pointer.find_text(default),
         Blob::Data => pointer.find_data(default),
@@ -133,7 +139,9 @@ fn get<A: BuilderArena>(
     blob: Blob,
     default: Option<&[u8]>,
     out: &mut Output,
-) -> Result<Option<Place>, Fault> {
+) -> Result<Option<Place>, Fault>
+    requires { IsFew default }
+{
     match lent(arena, place, blob, default)? {
         Ok(bytes) => {
             out.hex_or_dash(bytes)?;
@@ -170,7 +178,9 @@ fn lent<'a, A: BuilderArena>(
     place: PointerPlace,
     blob: Blob,
     default: Option<&[u8]>,
-) -> Result<Result<&'a mut [u8], ErrorKind>, Fault> {
+) -> Result<Result<&'a mut [u8], ErrorKind>, Fault>
+    requires { IsFew default }
+{
     let pointer = pointer(arena, place)?;
     Ok(match blob {
         Blob::Text => pointer.get_text(default),

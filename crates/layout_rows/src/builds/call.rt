@@ -42,19 +42,19 @@ pub enum PointerCall<'a> {
     SetCapability(u32),
     GetCapability,
     Make(Form, Object),
-    FindList(ElementSize, Option<&'a str>),
-    GetList(ElementSize, Option<&'a str>),
+    PutDefault(Option<&'a str>),
+    Seek(Form, Sought, Option<&'a str>),
     Bytes(Blob, BlobCall<'a>),
     Copy(Copying, SourceText<'a>, bool),
 }
 
-/// In which form a call is made that makes an object.
+/// In which form a call is made.
 #[derive(Clone, Copy)]
 pub enum Form {
-    /// `put_` and so on: the place is given.
-    Put,
-    /// `init_` and so on: the builder is given.
-    Init,
+    /// `put_` and `find_`: the place is given.
+    Place,
+    /// `init_` and `get_`: the builder is given.
+    Builder,
 }
 
 /// An object that is made.
@@ -63,6 +63,14 @@ pub enum Object {
     Struct(StructSize),
     List(ElementSize, u32),
     StructList(u32, StructSize),
+}
+
+/// An object that is looked for, of at least these sizes.
+#[derive(Clone, Copy)]
+pub enum Sought {
+    Struct(StructSize),
+    List(ElementSize),
+    StructList(StructSize),
 }
 
 /// What the bytes of a list are.
@@ -156,28 +164,28 @@ fn message_call<'a>(name: &str, arguments: &[&str]) -> Result<Option<Call<'a>>, 
 
 /// A call of a pointer.
 fn pointer_call<'a>(name: &str, arguments: &[&'a str]) -> Result<Option<PointerCall<'a>>, Fault> {
-    if let Some(object) = name.strip_prefix("put_") {
-        return making(Form::Put, object, arguments);
-    }
     if let Some(blob) = blob_of(name) {
         return blob_call(blob, name, arguments);
-    }
-    if let Some(object) = name.strip_prefix("init_") {
-        return making(Form::Init, object, arguments);
     }
     Ok(Some(match (name, arguments) {
         ("is_null", []) => PointerCall::IsNull,
         ("clear", []) => PointerCall::Clear,
         ("set_capability", [index]) => PointerCall::SetCapability(parse::number(index)?),
         ("get_capability", []) => PointerCall::GetCapability,
-        ("find_list", [size, default @ ..]) => {
-            PointerCall::FindList(plain_size(size)?, hex_if_any(default)?)
-        }
-        ("get_list", [size, default @ ..]) => {
-            PointerCall::GetList(plain_size(size)?, hex_if_any(default)?)
-        }
-        _ => return copy_call(name, arguments),
+        ("put_default", default) => PointerCall::PutDefault(hex_if_any(default)?),
+        _ => return object_call(name, arguments),
     }))
+}
+
+/// A call that makes an object, looks for one, or copies one.
+fn object_call<'a>(name: &str, arguments: &[&'a str]) -> Result<Option<PointerCall<'a>>, Fault> {
+    match name.split_once('_') {
+        Some(("put", object)) => making(Form::Place, object, arguments),
+        Some(("init", object)) => making(Form::Builder, object, arguments),
+        Some(("find", object)) => seeking(Form::Place, object, arguments),
+        Some(("get", object)) => seeking(Form::Builder, object, arguments),
+        _ => copy_call(name, arguments),
+    }
 }
 
 /// A call that makes an object.
@@ -196,6 +204,28 @@ fn making<'a>(
         _ => return Ok(None),
     };
     Ok(Some(PointerCall::Make(form, object)))
+}
+
+/// A call that looks for an object.
+fn seeking<'a>(
+    form: Form,
+    object: &str,
+    arguments: &[&'a str],
+) -> Result<Option<PointerCall<'a>>, Fault> {
+    let (sought, default) = match (object, arguments) {
+        ("struct", [data, pointers, default @ ..]) => {
+            (Sought::Struct(parse::struct_size(data, pointers)?), default)
+        }
+        ("list", [size, default @ ..]) => (Sought::List(plain_size(size)?), default),
+        ("struct_list", [data, pointers, default @ ..]) => {
+            (
+                Sought::StructList(parse::struct_size(data, pointers)?),
+                default,
+            )
+        }
+        _ => return Ok(None),
+    };
+    Ok(Some(PointerCall::Seek(form, sought, hex_if_any(default)?)))
 }
 
 /// Whether a call is one on a text, or on data.

@@ -1,11 +1,16 @@
 //! Calls of a pointer.
+ghost use Rattle.std.specs.Prelude.{◌≤◌};
+ghost use Rattle.capnp_pointers.specs.Sizes.{size_number};
+ghost use Rattle.capnp_builders.specs.Building.{built, IsThere};
+ghost use Rattle.capnp_builders.specs.Defaults.{IsFew};
 
-use super::call::{Form, Object, PointerCall};
-use super::place::{self, Place, pointer, refuse};
+use super::call::{Form, Object, PointerCall, Sought};
+use super::place::{Place, pointer, put_outcome, refuse};
 use super::{bytes, copies};
 use crate::output::Output;
 use crate::parse::{self, Fault};
 use capnp_arena::arena::BuilderArena;
+use capnp_builders::builders::PointerBuilder;
 use capnp_readers::readers::PointerPlace;
 use capnp_words::error::ErrorKind;
 use capnp_words::wire_pointer::{ElementSize, StructSize};
@@ -28,15 +33,15 @@ pub fn call<A: BuilderArena>(
         PointerCall::Copy(copying, source, canonical) => {
             copies::copy(alloc, arena, place, (copying, source, canonical), out)
         }
-        PointerCall::FindList(size, default) => {
+        PointerCall::Seek(form, sought, default) => {
             let default = bytes::optional(alloc, default)?;
-            let found = find_list(arena, place, size, bytes::slice(&default))?;
+            let found = seek(arena, place, form, sought, bytes::default_of(&default)?)?;
             give(found, out)
         }
-        PointerCall::GetList(size, default) => {
+        PointerCall::PutDefault(default) => {
             let default = bytes::optional(alloc, default)?;
-            let found = get_list(arena, place, size, bytes::slice(&default))?;
-            give(found, out)
+            let mut pointer = pointer(arena, place)?;
+            put_outcome(pointer.put_default(bytes::default_of(&default)?), out)
         }
         _ => word(arena, place, call, out),
     }
@@ -100,11 +105,11 @@ fn make_struct<A: BuilderArena>(
 ) -> Result<Result<Place, ErrorKind>, Fault> {
     let mut pointer = pointer(arena, place)?;
     match form {
-        Form::Put => match pointer.put_struct(size) {
+        Form::Place => match pointer.put_struct(size) {
             Ok(place) => Ok(Ok(Place::Struct(place))),
             Err(kind) => Ok(Err(kind)),
         },
-        Form::Init => match pointer.init_struct(size) {
+        Form::Builder => match pointer.init_struct(size) {
             Ok(builder) => Ok(Ok(Place::Struct(builder.place))),
             Err(kind) => Ok(Err(kind)),
         },
@@ -122,11 +127,11 @@ fn make_list<A: BuilderArena>(
         return Err(Fault::Unfit);
     }
     match form {
-        Form::Put => match pointer.put_list(size, count) {
+        Form::Place => match pointer.put_list(size, count) {
             Ok(place) => Ok(Ok(Place::List(place))),
             Err(kind) => Ok(Err(kind)),
         },
-        Form::Init => match pointer.init_list(size, count) {
+        Form::Builder => match pointer.init_list(size, count) {
             Ok(builder) => Ok(Ok(Place::List(builder.place))),
             Err(kind) => Ok(Err(kind)),
         },
@@ -145,45 +150,85 @@ fn make_struct_list<A: BuilderArena>(
         return Err(Fault::Unfit);
     }
     match form {
-        Form::Put => match pointer.put_struct_list(count, size) {
+        Form::Place => match pointer.put_struct_list(count, size) {
             Ok(place) => Ok(Ok(Place::List(place))),
             Err(kind) => Ok(Err(kind)),
         },
-        Form::Init => match pointer.init_struct_list(count, size) {
+        Form::Builder => match pointer.init_struct_list(count, size) {
             Ok(builder) => Ok(Ok(Place::List(builder.place))),
             Err(kind) => Ok(Err(kind)),
         },
     }
 }
 
-fn find_list<A: BuilderArena>(
+/// Looks for an object where a pointer leads.
+fn seek<A: BuilderArena>(
     arena: &mut A,
     place: PointerPlace,
-    size: ElementSize,
+    form: Form,
+    sought: Sought,
     default: Option<&[u8]>,
-) -> Result<Result<Place, ErrorKind>, Fault> {
+) -> Result<Result<Place, ErrorKind>, Fault>
+    requires { IsFew default }
+{
     let pointer = pointer(arena, place)?;
-    if size == ElementSize::InlineComposite {
-        return Err(Fault::Unfit);
-    }
-    match pointer.find_list(size, default) {
-        Ok(place) => Ok(Ok(Place::List(place))),
-        Err(kind) => Ok(Err(kind)),
+    match sought {
+        Sought::Struct(size) => Ok(seek_struct(pointer, form, size, default)),
+        Sought::List(size) => {
+            if size == ElementSize::InlineComposite {
+                return Err(Fault::Unfit);
+            }
+            Ok(seek_list(pointer, form, size, default))
+        }
+        Sought::StructList(size) => Ok(seek_struct_list(pointer, form, size, default)),
     }
 }
 
-fn get_list<A: BuilderArena>(
-    arena: &mut A,
-    place: PointerPlace,
+fn seek_struct<A: BuilderArena>(
+    mut pointer: PointerBuilder<'_, A>,
+    form: Form,
+    size: StructSize,
+    default: Option<&[u8]>,
+) -> Result<Place, ErrorKind>
+    requires there { IsThere (built A.view pointer) }
+    requires few { IsFew default }
+{
+    let place = match form {
+        Form::Place => pointer.find_struct(size, default)?,
+        Form::Builder => pointer.get_struct(size, default)?.place,
+    };
+    Ok(Place::Struct(place))
+}
+
+fn seek_list<A: BuilderArena>(
+    mut pointer: PointerBuilder<'_, A>,
+    form: Form,
     size: ElementSize,
     default: Option<&[u8]>,
-) -> Result<Result<Place, ErrorKind>, Fault> {
-    let pointer = pointer(arena, place)?;
-    if size == ElementSize::InlineComposite {
-        return Err(Fault::Unfit);
-    }
-    match pointer.get_list(size, default) {
-        Ok(builder) => Ok(Ok(Place::List(builder.place))),
-        Err(kind) => Ok(Err(kind)),
-    }
+) -> Result<Place, ErrorKind>
+    requires there { IsThere (built A.view pointer) }
+    requires few { IsFew default }
+    requires plain { size_number size ≤ 6 }
+{
+    let place = match form {
+        Form::Place => pointer.find_list(size, default)?,
+        Form::Builder => pointer.get_list(size, default)?.place,
+    };
+    Ok(Place::List(place))
+}
+
+fn seek_struct_list<A: BuilderArena>(
+    mut pointer: PointerBuilder<'_, A>,
+    form: Form,
+    size: StructSize,
+    default: Option<&[u8]>,
+) -> Result<Place, ErrorKind>
+    requires there { IsThere (built A.view pointer) }
+    requires few { IsFew default }
+{
+    let place = match form {
+        Form::Place => pointer.find_struct_list(size, default)?,
+        Form::Builder => pointer.get_struct_list(size, default)?.place,
+    };
+    Ok(Place::List(place))
 }
