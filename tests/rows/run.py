@@ -15,9 +15,6 @@ import re
 import subprocess
 import sys
 
-# What a row may need that no call has yet.
-NOT_THERE = {'widening'}
-
 
 def answers(binary, command, rows, limit):
     """The lines that the program prints for these rows, and what is wrong with the run itself, if something is."""
@@ -33,9 +30,8 @@ def answers(binary, command, rows, limit):
 
 
 def tried(binary, path, options):
-    """How many rows of a file passed, how many failed, and how many are not run yet; shows the first that failed."""
-    every = [(number, json.loads(line)) for number, line in enumerate(path.open(encoding='utf-8'), 1)]
-    rows = [(number, row) for number, row in every if row.get('needs') not in NOT_THERE]
+    """How many rows of a file passed, and how many failed; shows the first that failed."""
+    rows = [(number, json.loads(line)) for number, line in enumerate(path.open(encoding='utf-8'), 1)]
     lines, wrong = answers(binary, re.split('[_.]', path.name)[0], [row for _, row in rows], options.limit)
     failed = 0
     for (number, row), line in itertools.zip_longest(rows, lines[:len(rows)], fillvalue='(no line)'):
@@ -46,7 +42,7 @@ def tried(binary, path, options):
     if wrong or not rows:
         print(f"{path.name}: {wrong or 'no row was run'}")
         failed = max(failed, 1)
-    return max(len(rows) - failed, 0), failed, len(every) - len(rows)
+    return max(len(rows) - failed, 0), failed
 
 
 def main():
@@ -57,10 +53,8 @@ def main():
     parser.add_argument('--show', type=int, default=5)
     options = parser.parse_args()
     paths = options.files or sorted(pathlib.Path(__file__).resolve().parent.glob('*.jsonl'))
-    counts = [tried(options.binary, path, options) for path in paths] or [(0, 1, 0)]
-    passed, failed, waiting = (sum(it) for it in zip(*counts))
-    if waiting:
-        print(f'{waiting} not run yet')
+    counts = [tried(options.binary, path, options) for path in paths] or [(0, 1)]
+    passed, failed = (sum(it) for it in zip(*counts))
     print(f'{passed} passed, {failed} failed')
     return 1 if failed else 0
 
