@@ -7,6 +7,7 @@ pub mod Described
 pub mod Filled
 pub mod Filling
 pub mod ListRemade
+pub mod ListRooms
 pub mod ListSteps
 pub mod Listed
 pub mod ListsWidened

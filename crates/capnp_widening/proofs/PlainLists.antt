@@ -43,7 +43,7 @@ are_pointers S s p t l is (x, e) = go t x e
 abbrev pub pointers_of : ExistingList → ElementRows
 pointers_of l = record { segment = l.segment; at = l.start; tag = 0; size = record { data_words = 0; pointers = 1 }; count = l.count }
 
-has_pointers : (S : Segments) (s p : ℕ) (t : Tree) (l : ExistingList) → ArePointers S s p t l → IsStored S s p t → HasRows S s p t (pointers_of l)
+pub has_pointers : (S : Segments) (s p : ℕ) (t : Tree) (l : ExistingList) → ArePointers S s p t l → IsStored S s p t → HasRows S s p t (pointers_of l)
 has_pointers S s p t l k x = (x, ap (rows_in (target S s p)) k.tree_of ∙ ap Some (sym (ap pointers_of k.list)))
 
 first_pointers : (d k : ℕ) (ts : Trees) → struct_for_each_tree d (max 1 k) ts ≡ struct_for_each_tree d k ts
@@ -108,13 +108,13 @@ abbrev pub void_of : ExistingList → ℕ → ElementRows
 void_of l n = record { segment = l.segment; at = l.start; tag = 0; size = record { data_words = 0; pointers = 0 }; count = n }
 
 -- a list of void, by its numbers
-record AreVoid (S : Segments) (s p : ℕ) (t : Tree) (l : ExistingList) (n : ℕ) : Type 0 where
-  numbers : List ℕ
-  tree_of : t ≡ Flat 0 numbers
-  counts : n ≡ length numbers
-  has : HasRows S s p t (void_of l n)
+pub record AreVoid (S : Segments) (s p : ℕ) (t : Tree) (l : ExistingList) (n : ℕ) : Type 0 where
+  pub numbers : List ℕ
+  pub tree_of : t ≡ Flat 0 numbers
+  pub counts : n ≡ length numbers
+  pub has : HasRows S s p t (void_of l n)
 
-are_void : (S : Segments) (s p n : ℕ) (t : Tree) (l : ExistingList) → size_number l.size ≡ 0 → ((a : Target) → leads S s p ≡ Some a → n ≡ list_count a.word) → IsList S s p t l → AreVoid S s p t l n
+pub are_void : (S : Segments) (s p n : ℕ) (t : Tree) (l : ExistingList) → size_number l.size ≡ 0 → ((a : Target) → leads S s p ≡ Some a → n ≡ list_count a.word) → IsList S s p t l → AreVoid S s p t l n
 are_void S s p n t l is count i =
     let k = are_numbers S s p t l (omega (arith, is)) i in
     let is_tree : t ≡ Flat 0 k.numbers = k.tree_of ∙ ap (λ w. Flat w k.numbers) is in
@@ -153,7 +153,7 @@ first_numbers d k [] = refl
 first_numbers d k (x ∷ xs) = ap₂ (λ ws es. element ws (nulls k) es) (greater_words d (x ∷ [])) (first_numbers d k xs)
 
 -- numbers as wide as bytes or wider
-numbers_limited : (d q w : ℕ) (ns : List ℕ) → 2 ≤ w → list_widened d q (Flat w ns) ≡ limited (length ns * (max 1 d + q)) (Structs (max 1 d) q (struct_for_each d q ns))
+pub numbers_limited : (d q w : ℕ) (ns : List ℕ) → 2 ≤ w → list_widened d q (Flat w ns) ≡ limited (length ns * (max 1 d + q)) (Structs (max 1 d) q (struct_for_each d q ns))
 numbers_limited d q zero ns l = absurd (omega arith)
 numbers_limited d q (suc zero) ns l = absurd (omega arith)
 numbers_limited d q (suc (suc w)) ns l = refl

@@ -1,6 +1,6 @@
 -- How many words are taken, and what room is left.
-use Rattle.std.proofs.Common.{◌≡◌, ◌⊎◌, true, false, inl, inr, ℕ, zero, suc, ◌+◌, ◌*◌, ◌<◌, ◌≤◌, List, [], ◌∷◌, ◌++◌, length, replicate, set, refl, sym, ap, ◌∙◌, subst, arith}
-use Rattle.std.proofs.lemmas.List.{length-append, length-replicate, length-set, get_or_past}
+use Rattle.std.proofs.Common.{◌≡◌, ◌⊎◌, true, false, inl, inr, ℕ, zero, suc, ◌+◌, ◌<◌, ◌≤◌, List, [], ◌∷◌, length, replicate, refl, sym, ap, ◌∙◌, subst, arith}
+use Rattle.std.proofs.lemmas.List.{length-append, length-replicate, length-set}
 use Rattle.std.proofs.lemmas.Bool.{cases_lt, cases_eq}
 use Rattle.capnp_words.specs.declared.error.ErrorKind.{ErrorKind}
 use Rattle.capnp_format.specs.Segments.{Segments, Grows, segment}
@@ -8,7 +8,6 @@ use Rattle.capnp_arena.specs.Taking.{IsFirstFit, IsFull, IsTaken, SameRoomBelow,
 use Rattle.capnp_arena.specs.View.{View, KeepsLimits}
 use Rattle.capnp_arena.specs.Written.{extended, with_word}
 use Rattle.capnp_making.specs.Memory.{HasRoom, RefusesWords}
-use Rattle.capnp_making.specs.Near.{HasOwnRoom}
 use Rattle.capnp_widening.specs.Rooms.{all_words, TakesAtMost, HasSomeRoom}
 
 -- all words, where none is taken

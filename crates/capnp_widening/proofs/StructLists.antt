@@ -48,7 +48,7 @@ structs_kept S s p l size is wide many = λ t i.
 abbrev pub rows_of : ExistingList → ElementRows
 rows_of l = record { segment = l.segment; at = l.start - 1; tag = 1; size = l.struct_size; count = l.count }
 
-has_rows : (S : Segments) (s p : ℕ) (t : Tree) (l : ExistingList) → AreStructs S s p t l → IsStored S s p t → HasRows S s p t (rows_of l)
+pub has_rows : (S : Segments) (s p : ℕ) (t : Tree) (l : ExistingList) → AreStructs S s p t l → IsStored S s p t → HasRows S s p t (rows_of l)
 has_rows S s p t l k x =
     let a = target S s p in
     let first : a.start + 1 - 1 ≡ a.start = omega arith in

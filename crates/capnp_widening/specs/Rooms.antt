@@ -80,13 +80,16 @@ abbrev pub TakesForThisList : Segments → Segments → ℕ → ℕ → Existing
 TakesForThisList S R s p l size =
     (t u : Tree) → IsList S s p t l → list_widened size.data_words size.pointers t ≡ Ok u → TakesAtMost S R (object_words u + 1 + 2 * pointers_in t)
 
+-- The words of a list of n structs of a size, its tag included.
+abbrev pub structs_words : ℕ → StructSize → ℕ
+structs_words n size = 1 + n * (size.data_words + size.pointers)
+
 -- There is room for a list of structs of a size made of these elements, and for two words for each of their pointers; or they stand in segment s, and
 -- that has room for the list.
 abbrev pub RowsFit : View → ℕ → ElementRows → StructSize → Type 0
 RowsFit v s rows size =
-    HasRoom v s (1 + rows.count * (size.data_words + size.pointers) + 2 * (rows.count * rows.size.pointers))
-    ⊎ ((rows.segment ≡ s) × HasOwnRoom v s (1 + rows.count * (size.data_words + size.pointers)))
+    HasRoom v s (structs_words rows.count size + 2 * (rows.count * rows.size.pointers)) ⊎ ((rows.segment ≡ s) × HasOwnRoom v s (structs_words rows.count size))
 
 -- No more words are taken than that.
 abbrev pub TakesForRows : Segments → Segments → ElementRows → StructSize → Type 0
-TakesForRows S R rows size = TakesAtMost S R (1 + rows.count * (size.data_words + size.pointers) + 1 + 2 * (rows.count * rows.size.pointers))
+TakesForRows S R rows size = TakesAtMost S R (structs_words rows.count size + 1 + 2 * (rows.count * rows.size.pointers))

@@ -1,11 +1,12 @@
 //! Lists of numbers made lists of structs: each number becomes the low bytes of a first data word.
-ghost use Rattle.std.specs.Prelude.{◌≡◌, ◌↔◌, ◌<◌, ◌≤◌, ◌+◌, ◌*◌, ◌^◌, IsTrue, length, IfOk, OnOk, IfErr, OnErr};
+ghost use Rattle.std.specs.Prelude.{◌≡◌, ◌↔◌, ◌<◌, ◌≤◌, ◌+◌, ◌*◌, ◌^◌, IsTrue, length, IsOk, IfOk, OnOk, IfErr, OnErr};
 ghost use Rattle.capnp_arena.specs.View.{KeepsLimits};
 ghost use Rattle.capnp_format.specs.Numbers.{element_bits, words_for};
 ghost use Rattle.capnp_format.specs.Segments.{segment, IsPlace};
 ghost use Rattle.capnp_pointers.specs.Sizes.{size_number};
 ghost use Rattle.capnp_making.specs.Fields.{field_in};
-ghost use Rattle.capnp_making.specs.Memory.{KeepsMemory, SpendsMemory, RefusesGrowth};
+ghost use Rattle.capnp_making.specs.Memory.{HasRoom, KeepsMemory, SpendsMemory, RefusesGrowth};
+ghost use Rattle.capnp_widening.specs.Rooms.{TakesAtMost, structs_words, ThisListFits, TakesForThisList};
 ghost use Rattle.capnp_widening.specs.RowsRemade.{AreNumbersCopied, NumbersInside, RemakesList, WidensTo, LeavesList, RefusesList};
 
 use crate::remaking::begin_list;
@@ -34,6 +35,8 @@ pub(crate) fn widen_numbers<A: BuilderArena>(
     ensures memory { IfErr result (SpendsMemory (A.view arena.old) (A.view arena.new)) }
     ensures refused { OnErr result (LeavesList (A.view arena.old).words (A.view arena.new).words id at old) }
     ensures named { IfErr result (RefusesList (A.view arena.old) (A.view arena.new) id at old size) }
+    ensures fits { ThisListFits (A.view arena.old) id at old size → IsOk result }
+    ensures few { TakesForThisList (A.view arena.old).words (A.view arena.new).words id at old size }
 {
     let wide = StructSize {
         data_words: greater(1, size.data_words),
@@ -83,6 +86,8 @@ fn remake_numbers<A: BuilderArena>(
     ensures refused { OnErr result ((A.view arena.new).words ≡ (A.view arena.old).words) }
     ensures memory { IfErr result (SpendsMemory (A.view arena.old) (A.view arena.new)) }
     ensures full { IfErr result (RefusesGrowth (A.view arena.old) (A.view arena.new)) }
+    ensures few { TakesAtMost (A.view arena.old).words (A.view arena.new).words (structs_words old.count size + 1) }
+    ensures fits { HasRoom (A.view arena.old) id (structs_words old.count size) → IsOk result }
 {
     let pointer = word_of(arena, id, at);
     match begin_list(arena, id, old.count, size) {

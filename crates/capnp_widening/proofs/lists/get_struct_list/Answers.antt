@@ -1,7 +1,14 @@
-use Rattle.std.proofs.Common.{inl, inr, refl, sym, ap, ◌∙◌, Ok}
+use Rattle.std.proofs.Common.{◌≡◌, inl, inr, refl, sym, ap, ◌∙◌, Ok, arith}
+use Rattle.capnp_format.specs.Tree.{Null, Structs, element_count}
+use Rattle.capnp_pointers.specs.Sizes.{size_number}
+use Rattle.capnp_making.specs.declared.existing.ExistingList.{ExistingList}
+use Rattle.capnp_making.specs.Existing.{struct_list}
 use Rattle.capnp_format.specs.Segments.{Segments}
 use Rattle.capnp_format.specs.Forest.{target}
 use Rattle.capnp_widening.proofs.AnyList.{null_stays, null_leads, list_widens, list_leads, unfound_refused}
+use Rattle.capnp_widening.proofs.Listed.{same_list}
+use Rattle.capnp_widening.proofs.Rooms.{not_true}
+use Rattle.capnp_widening.proofs.ListRooms.{not_refused, null_found, structs_found, found_none}
 use Rattle.capnp_widening.proofs.StructSteps.{nothing_grown}
 use Rattle.capnp_widening.proofs.Unspent.{unfound_spent}
 use Rattle.capnp_widening.proofs.lists.get_struct_list.Goals as goal
@@ -42,3 +49,53 @@ returns-in-Err-widen_list-clause-named g c = elim c.in-Err-widen_list.ensures.na
 
 pub returns-in-Err-clause-memory : goal.returns-in-Err-clause-memory
 returns-in-Err-clause-memory g c = unfound_spent (g.A.BuilderArena.view c.args.arena.now) c.in-Err.k c.in-Err.ensures.named
+
+-- Null and structs are found.
+pub returns-in-Err-clause-stays : goal.returns-in-Err-clause-stays
+returns-in-Err-clause-stays g c = λ h. absurd (elim h [
+  | inl x ↦ null_found _ (c.in-Err.ensures.found Null x)
+  | inr (d, q, es, x, l, m) ↦ structs_found _ _ (c.in-Err.ensures.found (Structs d q es) x)
+])
+
+pub returns-in-Err-clause-fits : goal.returns-in-Err-clause-fits
+returns-in-Err-clause-fits g c = λ h.
+    (let (t, u, x, e, fits) = h in
+    let S : Segments = (g.A.BuilderArena.view c.args.arena.now).words in
+    absurd (not_refused _ _ u (unfound_refused (target S c.args.id c.args.at) t c.args.size.data_words c.args.size.pointers c.in-Err.k (sym (c.in-Err.ensures.found t x))) e))
+
+-- Those that are large enough are given as they stand.
+pub returns-in-Ok-clause-stays : goal.returns-in-Ok-clause-stays
+returns-in-Ok-clause-stays g c = λ h.
+    (let S : Segments = (g.A.BuilderArena.view c.args.arena.now).words in
+    elim h [
+      | inl x ↦ absurd (found_none _ (sym (ap Ok c.in-Ok-Some.field-0-is) ∙ c.in-Ok-Some.ensures.found Null x))
+      | inr (d, q, es, x, l, m) ↦ (
+          let same : struct_list (target S c.args.id c.args.at) d q (element_count es) ≡ c.in-Ok-Some.old = same_list _ _ (sym (sym (ap Ok c.in-Ok-Some.field-0-is) ∙ c.in-Ok-Some.ensures.found (Structs d q es) x)) in
+          let data_of = ap (λ (o : ExistingList). o.struct_size.data_words) same in
+          let pointers_of = ap (λ (o : ExistingList). o.struct_size.pointers) same in
+          (refl, (c.widen_list.ensures.stays (sym (ap (λ (o : ExistingList). size_number o.size) same)) (omega (arith, l, data_of)) (omega (arith, m, pointers_of))).1)
+          )
+    ])
+
+pub returns-in-Err-widen_list-clause-stays : goal.returns-in-Err-widen_list-clause-stays
+returns-in-Err-widen_list-clause-stays g c = λ h.
+    (let S : Segments = (g.A.BuilderArena.view c.args.arena.now).words in
+    absurd (elim h [
+      | inl x ↦ found_none _ (sym (ap Ok c.in-Ok-Some.field-0-is) ∙ c.in-Ok-Some.ensures.found Null x)
+      | inr (d, q, es, x, l, m) ↦ (
+          let same : struct_list (target S c.args.id c.args.at) d q (element_count es) ≡ c.in-Ok-Some.old = same_list _ _ (sym (sym (ap Ok c.in-Ok-Some.field-0-is) ∙ c.in-Ok-Some.ensures.found (Structs d q es) x)) in
+          let data_of = ap (λ (o : ExistingList). o.struct_size.data_words) same in
+          let pointers_of = ap (λ (o : ExistingList). o.struct_size.pointers) same in
+          not_true (c.in-Err-widen_list.ensures.stays (sym (ap (λ (o : ExistingList). size_number o.size) same)) (omega (arith, l, data_of)) (omega (arith, m, pointers_of))).0
+          )
+    ]))
+
+pub returns-in-Ok-clause-few : goal.returns-in-Ok-clause-few
+returns-in-Ok-clause-few g c = λ t u x e. c.widen_list.ensures.few t u (x, sym (sym (ap Ok c.in-Ok-Some.field-0-is) ∙ c.in-Ok-Some.ensures.found t x)) e
+
+pub returns-in-Err-widen_list-clause-few : goal.returns-in-Err-widen_list-clause-few
+returns-in-Err-widen_list-clause-few g c = λ t u x e. c.widen_list.ensures.few t u (x, sym (sym (ap Ok c.in-Ok-Some.field-0-is) ∙ c.in-Ok-Some.ensures.found t x)) e
+
+pub returns-in-Err-widen_list-clause-fits : goal.returns-in-Err-widen_list-clause-fits
+returns-in-Err-widen_list-clause-fits g c = λ h.
+    (let (t, u, x, e, fits) = h in c.in-Err-widen_list.ensures.fits (t, u, (x, sym (sym (ap Ok c.in-Ok-Some.field-0-is) ∙ c.in-Ok-Some.ensures.found t x)), e, fits))

@@ -1,7 +1,10 @@
 use Rattle.std.proofs.Common.{inl, inr, refl}
 use Rattle.capnp_format.specs.Segments.{Segments}
+use Rattle.capnp_arena.specs.View.{View}
 use Rattle.capnp_making.proofs.Outcomes.{on_err_so}
 use Rattle.capnp_widening.proofs.Listed.{if_ok_both, if_err_so}
+use Rattle.capnp_widening.proofs.AnyRows.{rows_inside}
+use Rattle.capnp_widening.proofs.ListRooms.{pointers_are, rows_fit, rows_few}
 use Rattle.capnp_widening.proofs.PlainLists.{pointers_widened_to, pointers_left_as, pointers_refused}
 use Rattle.capnp_widening.proofs.lists.widen_pointers.Goals as goal
 
@@ -24,3 +27,17 @@ returns-clause-named g c =
       | inl (same, refused) ↦ inl (same, pointers_refused S c.args.id c.args.at c.args.old c.args.size _ k c.requires.kind refl c.greater.ensures refused)
       | inr growth ↦ inr growth
     ])
+
+pub returns-clause-fits : goal.returns-clause-fits
+returns-clause-fits g c = λ h.
+    (let (t, u, i, e, fits) = h in
+    let v : View = g.A.BuilderArena.view c.args.arena.now in
+    let rows = pointers_are v.words c.args.id c.args.at t u c.args.old c.args.size (record { data_words = c.args.size.data_words; pointers = c.greater.result }) c.requires.kind refl c.greater.ensures i e in
+    c.widen_rows.ensures.fits (rows_inside v.words c.args.id c.args.at t _ rows.has) (rows_fit v c.args.id c.args.at t u _ _ rows fits))
+
+pub returns-clause-few : goal.returns-clause-few
+returns-clause-few g c = λ t u i e.
+    (let S : Segments = (g.A.BuilderArena.view c.args.arena.now).words in
+    let R : Segments = (g.A.BuilderArena.view c.widen_rows.new.arena).words in
+    let rows = pointers_are S c.args.id c.args.at t u c.args.old c.args.size (record { data_words = c.args.size.data_words; pointers = c.greater.result }) c.requires.kind refl c.greater.ensures i e in
+    rows_few S R c.args.id c.args.at t u _ _ rows c.widen_rows.ensures.few)

@@ -1,7 +1,10 @@
 use Rattle.std.proofs.Common.{◌≤◌, inl, inr, arith, rules}
 use Rattle.capnp_format.specs.Segments.{Segments}
+use Rattle.capnp_arena.specs.View.{View}
 use Rattle.capnp_making.proofs.Outcomes.{on_err_so}
 use Rattle.capnp_widening.proofs.Listed.{if_ok_both, if_err_so}
+use Rattle.capnp_widening.proofs.AnyRows.{rows_inside}
+use Rattle.capnp_widening.proofs.ListRooms.{structs_are, rows_fit, rows_few}
 use Rattle.capnp_widening.proofs.StructLists.{structs_kept, structs_widened_to, structs_left_as, structs_refused}
 use Rattle.capnp_widening.proofs.lists.widen_structs.Goals.{else-size-had-via-then-size-had+else-size-had-2, else-size-had-via-else-size-had}
 use Rattle.capnp_widening.proofs.lists.widen_structs.Goals as goal
@@ -39,3 +42,25 @@ returns-clause-named g c =
       | inl (same, refused) ↦ inl (same, structs_refused S c.args.id c.args.at c.args.old c.args.size _ k c.requires.kind narrow c.greater.ensures c.greater-2.ensures (rw c.saturating_sub.ensures at refused))
       | inr growth ↦ inr growth
     ])
+
+pub returns-clause-stays : goal.returns-clause-stays
+returns-clause-stays g c = λ l m. absurd (elim c.else-size-had.branch [ else-size-had-via-then-size-had+else-size-had-2 w ↦ omega arith | else-size-had-via-else-size-had w ↦ omega arith ])
+
+pub returns-clause-fits : goal.returns-clause-fits
+returns-clause-fits g c = λ h.
+    (let (t, u, i, e, fits) = h in
+    let v : View = g.A.BuilderArena.view c.args.arena.now in
+    let narrow : c.args.size.data_words ≤ c.args.old.struct_size.data_words → c.args.size.pointers ≤ c.args.old.struct_size.pointers → ⊥ =
+    λ l m. elim c.else-size-had.branch [ else-size-had-via-then-size-had+else-size-had-2 w ↦ omega arith | else-size-had-via-else-size-had w ↦ omega arith ] in
+    let rows = structs_are v.words c.args.id c.args.at t u c.args.old c.args.size (record { data_words = c.greater.result; pointers = c.greater-2.result }) c.requires.kind narrow c.greater.ensures c.greater-2.ensures i e in
+    let goes = rw c.saturating_sub.ensures at c.widen_rows.ensures.fits in
+    goes (rows_inside v.words c.args.id c.args.at t _ rows.has) (rows_fit v c.args.id c.args.at t u _ _ rows fits))
+
+pub returns-clause-few : goal.returns-clause-few
+returns-clause-few g c = λ t u i e.
+    (let S : Segments = (g.A.BuilderArena.view c.args.arena.now).words in
+    let R : Segments = (g.A.BuilderArena.view c.widen_rows.new.arena).words in
+    let narrow : c.args.size.data_words ≤ c.args.old.struct_size.data_words → c.args.size.pointers ≤ c.args.old.struct_size.pointers → ⊥ =
+    λ l m. elim c.else-size-had.branch [ else-size-had-via-then-size-had+else-size-had-2 w ↦ omega arith | else-size-had-via-else-size-had w ↦ omega arith ] in
+    let rows = structs_are S c.args.id c.args.at t u c.args.old c.args.size (record { data_words = c.greater.result; pointers = c.greater-2.result }) c.requires.kind narrow c.greater.ensures c.greater-2.ensures i e in
+    rows_few S R c.args.id c.args.at t u _ _ rows c.widen_rows.ensures.few)

@@ -1,8 +1,11 @@
 use Rattle.std.proofs.Common.{inl, inr, ap, sym, ◌∙◌}
 use Rattle.capnp_format.specs.Word.{list_count}
 use Rattle.capnp_format.specs.Segments.{Segments}
+use Rattle.capnp_arena.specs.View.{View}
 use Rattle.capnp_making.proofs.Outcomes.{on_err_so}
 use Rattle.capnp_widening.proofs.Listed.{if_ok_both, if_err_so}
+use Rattle.capnp_widening.proofs.AnyRows.{rows_inside}
+use Rattle.capnp_widening.proofs.ListRooms.{void_are, rows_fit, rows_few}
 use Rattle.capnp_widening.proofs.PlainLists.{void_widened_to, void_left_as, void_refused}
 use Rattle.capnp_widening.proofs.lists.widen_void.Goals as goal
 
@@ -28,3 +31,17 @@ returns-clause-named g c =
       )
       | inr growth ↦ inr growth
     ])
+
+pub returns-clause-fits : goal.returns-clause-fits
+returns-clause-fits g c = λ h.
+    (let (t, u, i, e, fits) = h in
+    let v : View = g.A.BuilderArena.view c.args.arena.now in
+    let rows = void_are v.words c.args.id c.args.at c.list_element_count.result t u c.args.old c.args.size c.requires.kind (λ a l. c.list_element_count.ensures.value ∙ ap list_count (sym (c.description.ensures a l))) i e in
+    c.widen_rows.ensures.fits (rows_inside v.words c.args.id c.args.at t _ rows.has) (rows_fit v c.args.id c.args.at t u _ c.args.size rows fits))
+
+pub returns-clause-few : goal.returns-clause-few
+returns-clause-few g c = λ t u i e.
+    (let S : Segments = (g.A.BuilderArena.view c.args.arena.now).words in
+    let R : Segments = (g.A.BuilderArena.view c.widen_rows.new.arena).words in
+    let rows = void_are S c.args.id c.args.at c.list_element_count.result t u c.args.old c.args.size c.requires.kind (λ a l. c.list_element_count.ensures.value ∙ ap list_count (sym (c.description.ensures a l))) i e in
+    rows_few S R c.args.id c.args.at t u _ c.args.size rows c.widen_rows.ensures.few)

@@ -1,8 +1,11 @@
-use Rattle.std.proofs.Common.{◌≡◌, le_trans, subst, arith}
+use Rattle.std.proofs.Common.{◌≡◌, ◌+◌, ◌*◌, ◌≤◌, ℕ, le_trans, subst, arith}
+use Rattle.capnp_arena.specs.View.{View}
 use Rattle.capnp_format.specs.Segments.{Segments}
-use Rattle.capnp_making.proofs.BelowElements.{next_place}
+use Rattle.capnp_making.proofs.BelowElements.{element_within, next_place}
 use Rattle.capnp_making.proofs.Memory.{keeps_both}
 use Rattle.capnp_widening.specs.Moved.{rows_of_moves, Moves}
+use Rattle.capnp_widening.specs.Rooms.{TakesAtMost}
+use Rattle.capnp_widening.proofs.Rooms.{room_left, less_room}
 use Rattle.capnp_widening.proofs.Rows.{rows_moves_next, rows_some}
 use Rattle.capnp_widening.proofs.moving.move_rows.Goals as goal
 
@@ -34,3 +37,21 @@ returns-clause-moved g c =
     subst
     (λ n. Moves (g.A.BuilderArena.view c.args.arena.now).words (g.A.BuilderArena.view c.loop-i.arena).words (rows_of_moves c.args.from.segment c.args.from.at c.args.from.step c.args.to.segment c.args.to.at c.args.to.step c.args.pointers n)) all
     c.loop-i.invariant.moves
+
+pub returns-clause-few : goal.returns-clause-few
+returns-clause-few g c =
+    let all : c.loop-i.i ≡ c.args.count = omega arith in
+    subst (λ n. TakesAtMost (g.A.BuilderArena.view c.args.arena.now).words (g.A.BuilderArena.view c.loop-i.arena).words (2 * (n * c.args.pointers))) all c.loop-i.invariant.few
+
+pub returns-in-Err-clause-few : goal.returns-in-Err-clause-few
+returns-in-Err-clause-few g c = omega (arith, c.loop-i.invariant.few, c.in-Err.ensures.few, element_within c.args.pointers c.args.count c.loop-i.i c.loop-i-test.true)
+
+-- Each row before has taken two words for a pointer at most.
+pub returns-in-Err-clause-fits : goal.returns-in-Err-clause-fits
+returns-in-Err-clause-fits g c = λ h.
+    (let a : View = g.A.BuilderArena.view c.args.arena.now in
+    let b : View = g.A.BuilderArena.view c.loop-i.arena in
+    let m : ℕ = 2 * (c.loop-i.i * c.args.pointers) in
+    let n : ℕ = 2 * c.args.pointers in
+    let within : m + n ≤ 2 * (c.args.count * c.args.pointers) = omega (arith, element_within c.args.pointers c.args.count c.loop-i.i c.loop-i-test.true) in
+    c.in-Err.ensures.fits (room_left a b m n c.loop-i.invariant.longer c.loop-i.invariant.few c.loop-i.invariant.memory.1 (less_room a (2 * (c.args.count * c.args.pointers)) (m + n) within h)))

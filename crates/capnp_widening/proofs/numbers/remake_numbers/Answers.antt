@@ -1,8 +1,10 @@
-use Rattle.std.proofs.Common.{◌∙◌, ◌≤◌, ℕ, length, ap, arith}
+use Rattle.std.proofs.Common.{◌≡◌, ◌∙◌, ◌≤◌, ◌+◌, ◌*◌, ℕ, length, ap, subst, arith}
 use Rattle.capnp_arena.specs.View.{View, KeepsLimits}
 use Rattle.capnp_format.specs.Segments.{Segments}
 use Rattle.capnp_making.proofs.Memory.{keeps_both, keeps_written}
 use Rattle.capnp_widening.proofs.NumberLists.{NumbersMade, numbers_made}
+use Rattle.capnp_making.specs.Memory.{HasRoom}
+use Rattle.capnp_widening.proofs.Rooms.{same_words}
 use Rattle.capnp_widening.proofs.numbers.remake_numbers.Goals as goal
 
 -- The room lies in its segment, which has fewer than 2^29 words.
@@ -54,3 +56,23 @@ returns-in-Ok-clause-remade g c =
       pads_zeroed = rw c.word_of-pointer.ensures at c.zero_pads.ensures.zeroed;
     } in
     numbers_made S T B D R Z Q c.args.id c.args.at c.args.old c.args.size c.in-Ok.room c.requires.kind.0 c.requires.kind.1 c.requires.data steps
+
+-- The words of the list are taken, and a pad at most.
+pub returns-in-Ok-clause-few : goal.returns-in-Ok-clause-few
+returns-in-Ok-clause-few g c =
+    let B : Segments = (g.A.BuilderArena.view c.begin_list.new.arena).words in
+    let D : Segments = (g.A.BuilderArena.view c.copy_numbers.new.arena).words in
+    let R : Segments = (g.A.BuilderArena.view c.settle.new.arena).words in
+    let Z : Segments = (g.A.BuilderArena.view c.zero_part.new.arena).words in
+    let Q : Segments = (g.A.BuilderArena.view c.zero_pads.new.arena).words in
+    let (b, settled, shaped, segment_of, start_of) = c.settle.ensures.settled in
+    let copied = same_words B D c.copy_numbers.ensures.copied.segments c.copy_numbers.ensures.copied.words in
+    let set = same_words D R settled.segments settled.words in
+    let zeroed = same_words R Z c.zero_part.ensures.pruned.segments c.zero_part.ensures.pruned.words in
+    let cleared = same_words Z Q c.zero_pads.ensures.pruned.segments c.zero_pads.ensures.pruned.words in
+    omega (arith, c.begin_list.ensures.few, copied, set, zeroed, cleared)
+
+pub returns-in-Err-clause-fits : goal.returns-in-Err-clause-fits
+returns-in-Err-clause-fits g c = λ h.
+    (let n : ℕ = 1 + c.args.old.count * (c.args.size.data_words + c.args.size.pointers) in
+    (c.in-Err.ensures.fits 0 (subst (λ m. HasRoom (g.A.BuilderArena.view c.args.arena.now) c.args.id m) (let e : n ≡ n + 0 = omega arith in e) h)).0)

@@ -1,9 +1,11 @@
 use Rattle.std.proofs.Common.{◌≡◌, ◌∙◌, ◌≤◌, ◌<◌, ◌+◌, ◌*◌, ◌^◌, ℕ, Err, inl, refl, sym, ap₂, subst, arith, rules}
 use Rattle.capnp_words.specs.declared.error.ErrorKind.TheVariants.{MessageTooLarge}
 use Rattle.capnp_format.specs.Segments.{Segments}
+use Rattle.capnp_arena.specs.View.{View}
 use Rattle.capnp_making.proofs.Outcomes.{if_ok_so, on_err_so}
 use Rattle.capnp_widening.specs.Widened.{limited}
 use Rattle.capnp_widening.proofs.Listed.{too_many}
+use Rattle.capnp_widening.proofs.ListRooms.{numbers_take, numbers_fit, numbers_small}
 use Rattle.capnp_widening.proofs.NumberLists.{numbers_inside}
 use Rattle.capnp_widening.proofs.PlainLists.{numbers_widened_to, numbers_refused}
 use Rattle.capnp_widening.proofs.StructSteps.{nothing_grown}
@@ -48,3 +50,31 @@ returns-then-words-ge536870912-clause-memory g c = too_large_spent (g.A.BuilderA
 
 pub returns-then-not-are_numbers_inside-clause-memory : goal.returns-then-not-are_numbers_inside-clause-memory
 returns-then-not-are_numbers_inside-clause-memory g c = outside_spent (g.A.BuilderArena.view c.args.arena.now)
+
+-- Words for which there is room are few enough.
+pub returns-then-words-ge536870912-clause-fits : goal.returns-then-words-ge536870912-clause-fits
+returns-then-words-ge536870912-clause-fits g c = λ h.
+    (let (t, u, i, e, fits) = h in
+    let v : View = g.A.BuilderArena.view c.args.arena.now in
+    let n : ℕ = c.args.old.count * (c.greater.result + c.args.size.pointers) in
+    let same : c.from.result * c.from-2.result ≡ n = ap₂ (λ x y. x * y) c.from.ensures (c.from-2.ensures ∙ c.total.ensures) in
+    let many : 2 ^ 29 ≤ n = subst (λ x. 2 ^ 29 ≤ x) same (omega arith) in
+    let words = numbers_take v.words c.args.id c.args.at t u c.args.old c.args.size (record { data_words = c.greater.result; pointers = c.args.size.pointers }) c.requires.kind.0 c.requires.kind.1 c.greater.ensures refl i e in
+    let few = numbers_small v c.args.id n (λ k. g.met.A.BuilderArena.small c.args.arena.now k) (numbers_fit v c.args.id c.args.at (1 + n) t u words fits) in
+    absurd (omega (arith, many, few)))
+
+pub returns-then-not-are_numbers_inside-clause-fits : goal.returns-then-not-are_numbers_inside-clause-fits
+returns-then-not-are_numbers_inside-clause-fits g c = λ h. (let (t, u, i, e, fits) = h in absurd (search (rules, numbers_inside _ c.args.id c.args.at t c.args.old c.requires.kind.1 i)))
+
+pub returns-clause-fits : goal.returns-clause-fits
+returns-clause-fits g c = λ h.
+    (let (t, u, i, e, fits) = h in
+    let v : View = g.A.BuilderArena.view c.args.arena.now in
+    let words = numbers_take v.words c.args.id c.args.at t u c.args.old c.args.size (record { data_words = c.greater.result; pointers = c.args.size.pointers }) c.requires.kind.0 c.requires.kind.1 c.greater.ensures refl i e in
+    c.remake_numbers.ensures.fits (numbers_fit v c.args.id c.args.at _ t u words fits))
+
+pub returns-clause-few : goal.returns-clause-few
+returns-clause-few g c = λ t u i e.
+    (let v : View = g.A.BuilderArena.view c.args.arena.now in
+    let words = numbers_take v.words c.args.id c.args.at t u c.args.old c.args.size (record { data_words = c.greater.result; pointers = c.args.size.pointers }) c.requires.kind.0 c.requires.kind.1 c.greater.ensures refl i e in
+    omega (arith, c.remake_numbers.ensures.few, words.0))

@@ -1,8 +1,12 @@
-use Rattle.std.proofs.Common.{ℕ, ◌+◌, ◌*◌, ◌<◌, length, sym, ap, subst, arith}
+use Rattle.std.proofs.Common.{ℕ, ◌+◌, ◌*◌, ◌<◌, length, refl, sym, ap, ◌∙◌, subst, arith}
+use Rattle.capnp_arena.specs.View.{View, KeepsLimits}
 use Rattle.capnp_format.specs.Segments.{Segments, segment}
 use Rattle.capnp_format.specs.Means.{IsTag}
 use Rattle.capnp_making.proofs.MadeWords.{word_put}
 use Rattle.capnp_making.proofs.Memory.{words_in}
+use Rattle.capnp_making.specs.Memory.{HasRoom}
+use Rattle.capnp_making.specs.Near.{HasOwnRoom}
+use Rattle.capnp_widening.proofs.Rooms.{words_put, room_written, not_true}
 use Rattle.capnp_widening.proofs.remaking.begin_list.Goals as goal
 
 pub returns-in-Ok-clause-begun : goal.returns-in-Ok-clause-begun
@@ -21,3 +25,38 @@ returns-in-Ok-clause-begun g c =
 
 pub returns-in-Err-clause-full : goal.returns-in-Err-clause-full
 returns-in-Err-clause-full g c = (1 + c.args.count * c.total.result, c.in-Err.ensures.full)
+
+-- The words of the list are taken, and a pad at most.
+pub returns-in-Ok-clause-few : goal.returns-in-Ok-clause-few
+returns-in-Ok-clause-few g c =
+    let T : Segments = (g.A.BuilderArena.view c.take.new.arena).words in
+    let R : Segments = (g.A.BuilderArena.view c.set_word.new.self).words in
+    let taken = rw c.total.ensures at c.take.ensures.few in
+    omega (arith, taken, words_put T R c.in-Ok.room.segment (c.in-Ok.room.at + c.in-Ok.room.pads) c.new_tag-tag.result.0 (ap words_in c.set_word.ensures))
+
+pub returns-in-Err-clause-few : goal.returns-in-Err-clause-few
+returns-in-Err-clause-few g c = let taken = rw c.total.ensures at c.take.ensures.few in omega (arith, taken)
+
+pub returns-in-Ok-clause-fits : goal.returns-in-Ok-clause-fits
+returns-in-Ok-clause-fits g c = λ n h.
+    (let T : View = g.A.BuilderArena.view c.take.new.arena in
+    let R : View = g.A.BuilderArena.view c.set_word.new.self in
+    let x : ℕ = c.new_tag-tag.result.0 in
+    let room = rw c.total.ensures at c.in-Ok.ensures.taken in
+    let inside : c.in-Ok.room.at + c.in-Ok.room.pads < length (segment T.words c.in-Ok.room.segment) = omega (arith, room.0.room) in
+    let put = word_put T.words R.words c.in-Ok.room.segment (c.in-Ok.room.at + c.in-Ok.room.pads) x inside (ap words_in c.set_word.ensures) in
+    let limits : KeepsLimits T R = c.set_word.ensures ∙ ap (λ (S : Segments). record T { words = S }) (sym (ap words_in c.set_word.ensures)) in
+    let left = (c.in-Ok.ensures.fits n (subst (λ m. HasRoom (g.A.BuilderArena.view c.args.arena.now) c.args.id (1 + c.args.count * m + n)) (sym c.total.ensures) h)).1 in
+    (refl, room_written T R n limits put.segments put.words left))
+
+pub returns-in-Err-clause-fits : goal.returns-in-Err-clause-fits
+returns-in-Err-clause-fits g c = λ n h.
+    absurd (not_true (c.in-Err.ensures.fits n (subst (λ m. HasRoom (g.A.BuilderArena.view c.args.arena.now) c.args.id (1 + c.args.count * m + n)) (sym c.total.ensures) h)).0)
+
+pub returns-in-Ok-clause-near : goal.returns-in-Ok-clause-near
+returns-in-Ok-clause-near g c = λ h.
+    (refl, (c.in-Ok.ensures.near (subst (λ m. HasOwnRoom (g.A.BuilderArena.view c.args.arena.now) c.args.id (1 + c.args.count * m)) (sym c.total.ensures) h)).1)
+
+pub returns-in-Err-clause-near : goal.returns-in-Err-clause-near
+returns-in-Err-clause-near g c = λ h.
+    absurd (not_true (c.in-Err.ensures.near (subst (λ m. HasOwnRoom (g.A.BuilderArena.view c.args.arena.now) c.args.id (1 + c.args.count * m)) (sym c.total.ensures) h)).0)

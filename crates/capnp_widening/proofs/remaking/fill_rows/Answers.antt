@@ -1,9 +1,11 @@
-use Rattle.std.proofs.Common.{◌≡◌, rules}
+use Rattle.std.proofs.Common.{◌≡◌, ◌*◌, sym, subst, arith, rules}
 use Rattle.capnp_arena.specs.View.{View}
 use Rattle.capnp_format.specs.Segments.{Segments}
 use Rattle.capnp_making.specs.Memory.{RefusesGrowth}
 use Rattle.capnp_making.proofs.Memory.{keeps_written, words_refused_after, refused_before}
 use Rattle.capnp_widening.proofs.Movings.{none_moved}
+use Rattle.capnp_widening.specs.Rooms.{HasSomeRoom}
+use Rattle.capnp_widening.proofs.Rooms.{same_words, room_written}
 use Rattle.capnp_widening.proofs.Rows.{no_moves}
 use Rattle.capnp_widening.proofs.remaking.fill_rows.Goals as goal
 
@@ -39,3 +41,28 @@ returns-in-Err-clause-full g c =
     let (n, r) = c.in-Err.ensures.full in
     let first : RefusesGrowth S P c.in-Err.k = (n, words_refused_after S D P n c.in-Err.k (keeps_written S D D.words c.copy_rows.ensures.limits) r) in
     refused_before S P R c.in-Err.k first c.unmove_rows.ensures.limits c.unmove_rows.ensures.pruned
+
+-- Two words for a pointer are taken at most.
+pub returns-then-pointers-eq0-clause-few : goal.returns-then-pointers-eq0-clause-few
+returns-then-pointers-eq0-clause-few g c =
+    omega (arith, same_words (g.A.BuilderArena.view c.args.arena.now).words (g.A.BuilderArena.view c.copy_rows.new.arena).words c.copy_rows.ensures.copied.segments c.copy_rows.ensures.copied.words)
+
+pub returns-in-Ok-clause-few : goal.returns-in-Ok-clause-few
+returns-in-Ok-clause-few g c =
+    let copied = same_words (g.A.BuilderArena.view c.args.arena.now).words (g.A.BuilderArena.view c.copy_rows.new.arena).words c.copy_rows.ensures.copied.segments c.copy_rows.ensures.copied.words in
+    let moved = rw c.from-pointers.ensures at c.move_rows.ensures.few in
+    omega (arith, copied, moved)
+
+pub returns-in-Err-clause-few : goal.returns-in-Err-clause-few
+returns-in-Err-clause-few g c =
+    let copied = same_words (g.A.BuilderArena.view c.args.arena.now).words (g.A.BuilderArena.view c.copy_rows.new.arena).words c.copy_rows.ensures.copied.segments c.copy_rows.ensures.copied.words in
+    let moved = rw c.from-pointers.ensures at c.move_rows.ensures.few in
+    let undone = same_words (g.A.BuilderArena.view c.move_rows.new.arena).words (g.A.BuilderArena.view c.unmove_rows.new.arena).words c.unmove_rows.ensures.pruned.segments c.unmove_rows.ensures.pruned.words in
+    omega (arith, copied, moved, undone)
+
+pub returns-in-Err-clause-fits : goal.returns-in-Err-clause-fits
+returns-in-Err-clause-fits g c = λ h.
+    (let S : View = g.A.BuilderArena.view c.args.arena.now in
+    let D : View = g.A.BuilderArena.view c.copy_rows.new.arena in
+    let left = room_written S D (2 * (c.args.old.count * c.args.old.size.pointers)) c.copy_rows.ensures.limits c.copy_rows.ensures.copied.segments c.copy_rows.ensures.copied.words h in
+    c.in-Err.ensures.fits (subst (λ m. HasSomeRoom D (2 * (c.args.old.count * m))) (sym c.from-pointers.ensures) left))

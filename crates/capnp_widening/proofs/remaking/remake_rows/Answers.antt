@@ -1,10 +1,11 @@
-use Rattle.std.proofs.Common.{◌∙◌, ◌≤◌, ℕ, length, ap, arith}
+use Rattle.std.proofs.Common.{◌∙◌, ◌≤◌, ◌*◌, inl, inr, ℕ, length, sym, ap, arith}
 use Rattle.capnp_arena.specs.View.{View, KeepsLimits}
 use Rattle.capnp_format.specs.Segments.{Segments}
 use Rattle.capnp_making.specs.Memory.{RefusesGrowth}
 use Rattle.capnp_making.proofs.Memory.{keeps_both, keeps_written, keeps_then_spends, spends_then_limits, words_refused_after, refused_before}
 use Rattle.capnp_widening.proofs.AnyRows.{rows_remade, rows_left}
 use Rattle.capnp_widening.proofs.ListSteps.{ListSteps, ListUndone}
+use Rattle.capnp_widening.proofs.Rooms.{same_words}
 use Rattle.capnp_widening.proofs.StructSteps.{nothing_grown}
 use Rattle.capnp_widening.proofs.remaking.remake_rows.Goals as goal
 
@@ -103,3 +104,38 @@ returns-in-Err-fill_rows-clause-full g c =
     let (n, r) = c.in-Err-fill_rows.ensures.full in
     let first : RefusesGrowth S U c.in-Err-fill_rows.k = (n, words_refused_after S B U n c.in-Err-fill_rows.k c.in-Ok.ensures.granted r) in
     refused_before S U Z c.in-Err-fill_rows.k first c.zero_part-in-Err-fill_rows.ensures.limits c.zero_part-in-Err-fill_rows.ensures.pruned
+
+-- The words of the list are taken, a pad at most, and two words for a pointer at most.
+pub returns-in-Ok-fill_rows-clause-few : goal.returns-in-Ok-fill_rows-clause-few
+returns-in-Ok-fill_rows-clause-few g c =
+    let P : Segments = (g.A.BuilderArena.view c.fill_rows.new.arena).words in
+    let R : Segments = (g.A.BuilderArena.view c.settle.new.arena).words in
+    let Z : Segments = (g.A.BuilderArena.view c.zero_part.new.arena).words in
+    let Q : Segments = (g.A.BuilderArena.view c.zero_pads.new.arena).words in
+    let (b, settled, shaped, segment_of, start_of) = c.settle.ensures.settled in
+    let set = same_words P R settled.segments settled.words in
+    let zeroed = same_words R Z c.zero_part.ensures.pruned.segments c.zero_part.ensures.pruned.words in
+    let cleared = same_words Z Q c.zero_pads.ensures.pruned.segments c.zero_pads.ensures.pruned.words in
+    omega (arith, c.begin_list.ensures.few, c.fill_rows.ensures.few, set, zeroed, cleared)
+
+pub returns-in-Err-fill_rows-clause-few : goal.returns-in-Err-fill_rows-clause-few
+returns-in-Err-fill_rows-clause-few g c =
+    let U : Segments = (g.A.BuilderArena.view c.fill_rows.new.arena).words in
+    let Z : Segments = (g.A.BuilderArena.view c.zero_part-in-Err-fill_rows.new.arena).words in
+    omega (arith, c.begin_list.ensures.few, c.fill_rows.ensures.few, same_words U Z c.zero_part-in-Err-fill_rows.ensures.pruned.segments c.zero_part-in-Err-fill_rows.ensures.pruned.words)
+
+pub returns-in-Err-clause-few : goal.returns-in-Err-clause-few
+returns-in-Err-clause-few g c = omega (arith, c.begin_list.ensures.few)
+
+-- Where there is room for all of that, nothing is refused.
+pub returns-in-Err-clause-fits : goal.returns-in-Err-clause-fits
+returns-in-Err-clause-fits g c = λ h. elim h [
+  | inl fits ↦ (c.in-Err.ensures.fits (2 * (c.args.old.count * c.args.old.size.pointers)) fits).0
+  | inr (here, fits) ↦ (c.in-Err.ensures.near fits).0
+]
+
+pub returns-in-Err-fill_rows-clause-fits : goal.returns-in-Err-fill_rows-clause-fits
+returns-in-Err-fill_rows-clause-fits g c = λ h. elim h [
+  | inl fits ↦ c.in-Err-fill_rows.ensures.fits (c.in-Ok.ensures.fits (2 * (c.args.old.count * c.args.old.size.pointers)) fits).1
+  | inr (here, fits) ↦ c.in-Err-fill_rows.ensures.near (here ∙ sym (c.in-Ok.ensures.near fits).1)
+]

@@ -5,6 +5,7 @@ use Rattle.capnp_widening.specs.Widened.{limited}
 use Rattle.capnp_widening.proofs.AnyRows.{rows_inside}
 use Rattle.capnp_widening.proofs.Listed.{too_many}
 use Rattle.capnp_widening.proofs.Unspent.{too_large_spent, outside_spent}
+use Rattle.capnp_widening.proofs.ListRooms.{rows_small}
 use Rattle.capnp_widening.proofs.remaking.widen_rows.Goals as goal
 
 -- Too many words.
@@ -25,3 +26,16 @@ returns-then-words-ge536870912-clause-memory g c = too_large_spent (g.A.BuilderA
 
 pub returns-then-not-are_inside-clause-memory : goal.returns-then-not-are_inside-clause-memory
 returns-then-not-are_inside-clause-memory g c = outside_spent (g.A.BuilderArena.view c.args.arena.now)
+
+-- Words for which there is room are few enough.
+pub returns-then-words-ge536870912-clause-fits : goal.returns-then-words-ge536870912-clause-fits
+returns-then-words-ge536870912-clause-fits g c = λ inside h.
+    (let size = c.args.size in
+    let n : ℕ = c.args.old.count * (size.data_words + size.pointers) in
+    let same : c.from.result * c.from-2.result ≡ n = ap₂ (λ x y. x * y) c.from.ensures (c.from-2.ensures ∙ c.total.ensures) in
+    let many : 2 ^ 29 ≤ n = subst (λ x. 2 ^ 29 ≤ x) same (omega arith) in
+    let few = rows_small (g.A.BuilderArena.view c.args.arena.now) c.args.id c.args.old size (λ k. g.met.A.BuilderArena.small c.args.arena.now k) h in
+    absurd (omega (arith, many, few)))
+
+pub returns-then-not-are_inside-clause-fits : goal.returns-then-not-are_inside-clause-fits
+returns-then-not-are_inside-clause-fits g c = λ inside h. absurd (search (rules, inside))

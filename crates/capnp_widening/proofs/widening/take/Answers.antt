@@ -1,4 +1,4 @@
-use Rattle.std.proofs.Common.{◌≡◌, ℕ, ◌+◌, ◌<◌, ◌≤◌, inr, length, replicate, refl, ap, subst, arith}
+use Rattle.std.proofs.Common.{◌≡◌, ℕ, ◌+◌, inr, length, replicate, refl, ap, subst, arith}
 use Rattle.capnp_format.specs.Segments.{Segments, segment}
 use Rattle.capnp_making.specs.Made.{IsGrown}
 use Rattle.capnp_making.proofs.MadeWords.{taken_grown, extended_grown}

@@ -1,10 +1,10 @@
-use Rattle.std.proofs.Common.{◌≡◌, ◌+◌, ◌*◌, ◌≤◌, ℕ, sym, subst, ◌∙◌, arith}
+use Rattle.std.proofs.Common.{◌+◌, ◌*◌, ℕ, sym, subst, ◌∙◌, arith}
 use Rattle.capnp_arena.specs.View.{View}
 use Rattle.capnp_format.specs.Segments.{Segments}
 use Rattle.capnp_making.specs.Memory.{HasRoom, RefusesGrowth}
 use Rattle.capnp_making.specs.Near.{HasOwnRoom}
 use Rattle.capnp_making.proofs.Memory.{keeps_both, keeps_written, words_refused_after, refused_before}
-use Rattle.capnp_widening.specs.Rooms.{TakesAtMost, HasSomeRoom}
+use Rattle.capnp_widening.specs.Rooms.{HasSomeRoom}
 use Rattle.capnp_widening.proofs.Rooms.{same_words, room_written}
 use Rattle.capnp_widening.proofs.StructSteps.{StructSteps, struct_rehoused, struct_leads, StructUndone, struct_left, nothing_grown}
 use Rattle.capnp_widening.proofs.widening.widen_struct.Goals as goal
