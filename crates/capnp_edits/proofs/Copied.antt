@@ -57,38 +57,38 @@ use Rattle.capnp_edits.proofs.Steps.{same_some}
 abbrev IsDone : Copying → Meter → Segments → Segments → PointerPlace → Type 0
 IsDone c after S R place =
     (t : Tree) × (w : Tree) × Reads (form_of c.canonicalize) (root_of c.source) (once_at_root c.source) after t × (as_wanted c.wanted t ≡ Some w)
-    × Puts S R place.segment place.word (kept c.canonicalize w)
+    × Puts S R place.segment place.word (kept (form_of c.canonicalize) w)
 
 abbrev KeepsSections : Sections → Change → Type 0
-KeepsSections s c = (ts : Trees) × (count ts ≡ s.pointers) × ReadsAll (form_of c.canonicalize) s.first c.before c.after ts × IsKept c (Struct s.words ts)
+KeepsSections s c = (ts : Trees) × (count ts ≡ s.pointers) × ReadsAll c.form s.first c.before c.after ts × IsKept c (Struct s.words ts)
 
 abbrev KeepsList : ListElements → Change → Type 0
-KeepsList l c = (t : Tree) × ReadsList (form_of c.canonicalize) l c.before c.after t × IsKept c t
+KeepsList l c = (t : Tree) × ReadsList c.form l c.before c.after t × IsKept c t
 
 -- A copy is refused for want of memory, or its value can't be read; and never for a place.
 
-value_refused : (b : Bool) (id at : ℕ) (old new : View) (r : Reading) (m m' : Meter) (k : ErrorKind) → RefusesValue r (change b id at old new m m') k → IsOfMemory k ⊎ Refused (form_of b) r m m' k
+value_refused : (b : Bool) (id at : ℕ) (old new : View) (r : Reading) (m m' : Meter) (k : ErrorKind) → RefusesValue r (change (form_of b) id at old new m m') k → IsOfMemory k ⊎ Refused (form_of b) r m m' k
 value_refused b id at old new r m m' k (inl (n, (refuses, none), wanted, large)) = inl (of_allocation old new (length new.words) (n + 1) k refuses)
 value_refused b id at old new r m m' k (inr refused) = inr refused
 
-copy_refused_as : (w : Wanted) (b : Bool) (id at : ℕ) (old new : View) (r : Reading) (m m' : Meter) (k : ErrorKind) → is_whole w ≡ true → RefusesAs w r (change b id at old new m m') k →
+copy_refused_as : (w : Wanted) (b : Bool) (id at : ℕ) (old new : View) (r : Reading) (m m' : Meter) (k : ErrorKind) → is_whole w ≡ true → RefusesAs w r (change (form_of b) id at old new m m') k →
     IsOfMemory k ⊎ Refused (form_of b) r m m' k
 copy_refused_as Value b id at old new r m m' k whole refuses = value_refused b id at old new r m m' k refuses
 copy_refused_as AStruct b id at old new r m m' k whole (s, leads, refuses) = struct_refused b id at old new r m m' s k leads refuses
 copy_refused_as AList b id at old new r m m' k whole (l, n, leads, refuses) = list_refused b id at old new r m n m' l k leads refuses
 copy_refused_as Content b id at old new r m m' k whole refuses = absurd (cc)
 
-content_nowhere : (b : Bool) (id at : ℕ) (old new : View) (m m' : Meter) (s : Sections) (i : ℕ) (k : ErrorKind) → RefusesNext s i (change b id at old new m m') k → k ≡ NoSuchPlace → ⊥
+content_nowhere : (b : Bool) (id at : ℕ) (old new : View) (m m' : Meter) (s : Sections) (i : ℕ) (k : ErrorKind) → RefusesNext s i (change (form_of b) id at old new m m') k → k ≡ NoSuchPlace → ⊥
 content_nowhere b id at old new m m' s i k (between, inl (taken, n, limits, (refuses, none))) e = of_no_place k (of_allocation taken new (length new.words) (n + 1) k refuses) e
 content_nowhere b id at old new m m' s i k (between, inr refused) e = not_for_place (subst (λ y. Refused plain (behind s.first i) between m' y) e refused)
 
-whole_nowhere : (w : Wanted) (b : Bool) (id at : ℕ) (old new : View) (r : Reading) (m m' : Meter) (k : ErrorKind) → is_whole w ≡ true → RefusesAs w r (change b id at old new m m') k → k ≡ NoSuchPlace → ⊥
+whole_nowhere : (w : Wanted) (b : Bool) (id at : ℕ) (old new : View) (r : Reading) (m m' : Meter) (k : ErrorKind) → is_whole w ≡ true → RefusesAs w r (change (form_of b) id at old new m m') k → k ≡ NoSuchPlace → ⊥
 whole_nowhere w b id at old new r m m' k whole refuses e = elim (copy_refused_as w b id at old new r m m' k whole refuses) [
   | inl memory ↦ of_no_place k memory e
   | inr refused ↦ not_for_place (subst (λ y. Refused (form_of b) r m m' y) e refused)
 ]
 
-copy_nowhere_as : (w : Wanted) (b : Bool) (id at : ℕ) (old new : View) (r : Reading) (m m' : Meter) (k : ErrorKind) → RefusesAs w r (change b id at old new m m') k → k ≡ NoSuchPlace → ⊥
+copy_nowhere_as : (w : Wanted) (b : Bool) (id at : ℕ) (old new : View) (r : Reading) (m m' : Meter) (k : ErrorKind) → RefusesAs w r (change (form_of b) id at old new m m') k → k ≡ NoSuchPlace → ⊥
 copy_nowhere_as Content b id at old new r m m' k (s, i, leads, refuses) e = content_nowhere b id at old new m m' s i k refuses e
 copy_nowhere_as Value b id at old new r m m' k refuses e = whole_nowhere Value b id at old new r m m' k refl refuses e
 copy_nowhere_as AStruct b id at old new r m m' k refuses e = whole_nowhere AStruct b id at old new r m m' k refl refuses e
@@ -99,10 +99,10 @@ none_wanted : (t u : Tree) → as_wanted Content t ≡ Some u → ⊥
 none_wanted t u e = absurd (cc)
 
 copy_fits_as : (w : Wanted) (c : Copying) (id at : ℕ) (old new : View) (r : Reading) (m m' : Meter) (k : ErrorKind) → c.wanted ≡ w → (c.wanted ≡ AList → AreWords r.segments) →
-    CanBeCopiedAs c r m (length (segment old.words id)) (old.room id) → RefusesAs w r (change c.canonicalize id at old new m m') k → ⊥
+    CanBeCopiedAs c r m (length (segment old.words id)) (old.room id) → RefusesAs w r (change (form_of c.canonicalize) id at old new m m') k → ⊥
 copy_fits_as Value c id at old new r m m' k is small can (inl (n, why, wanted, large)) =
     let same : can.value ≡ can.copied = same_some can.value can.copied (subst (λ w. as_wanted w can.value ≡ Some can.copied) is can.is_wanted) in
-    omega (arith, can.fits, large can.value can.cost can.means, ap (λ t. word_count (kept c.canonicalize t)) same)
+    omega (arith, can.fits, large can.value can.cost can.means, ap (λ t. word_count (kept (form_of c.canonicalize) t)) same)
 copy_fits_as Value c id at old new r m m' k is small can (inr refused) = (unreadable refused).only can.value can.cost can.means can.takes can.covers
 copy_fits_as AStruct c id at old new r m m' k is small can (s, leads, refuses) = struct_fits c r m m' s id at old new k is leads can refuses
 copy_fits_as AList c id at old new r m m' k is small can (l, n, leads, refuses) = list_fits c r m n m' l id at old new k is leads (list_small r m n l (small is) leads) can refuses
@@ -113,13 +113,13 @@ pub record Tried {A : Type 0} (result : Result A ErrorKind) (c : Copying) (old n
   pub root : HasRoot c.source
   pub after : Meter
   pub done : IfOk result (λ x. IsDone c after old.words new.words place)
-  pub refused : IfErr result (RefusesAs c.wanted (root_of c.source) (change c.canonicalize place.segment place.word old new (once_at_root c.source) after))
+  pub refused : IfErr result (RefusesAs c.wanted (root_of c.source) (change (form_of c.canonicalize) place.segment place.word old new (once_at_root c.source) after))
 
 pub tried_done : {A : Type 0} (result : Result A ErrorKind) (c : Copying) (old new : View) (place : PointerPlace) → is_whole c.wanted ≡ true → Tried result c old new place → OnErr result (Puts old.words new.words place.segment place.word Null) →
     CopiesRoot old.words new.words place c (refusal_of result)
 tried_done (Ok x) c old new place whole tried cleared =
     let (t, w, reads, is, puts) = tried.done in
-    root_copied (kept c.canonicalize w) (record { root = tried.root; value = t; after = tried.after; is_read = reads; copied = w; is_wanted = is; is_kept = refl }) refl puts
+    root_copied (kept (form_of c.canonicalize) w) (record { root = tried.root; value = t; after = tried.after; is_read = reads; copied = w; is_wanted = is; is_kept = refl }) refl puts
 tried_done (Err k) c old new place whole tried cleared =
     root_not_copied k (elim (copy_refused_as c.wanted c.canonicalize place.segment place.word old new (root_of c.source) (once_at_root c.source) tried.after k whole tried.refused) [
       | inl memory ↦ inl memory
@@ -140,54 +140,54 @@ tried_fits (Err k) c old new place tried fits = absurd (copy_fits_as c.wanted c 
 
 -- of what the root means
 pub value_tried : {A : Type 0} (result : Result A ErrorKind) (c : Copying) (r : Reading) (m m' : Meter) (old new : View) (place : PointerPlace) → c.wanted ≡ Value → r ≡ root_of c.source → m ≡ once_at_root c.source → HasRoot c.source →
-    IfOk result (λ x. PutsCopy r (change c.canonicalize place.segment place.word old new m m')) → IfErr result (RefusesValue r (change c.canonicalize place.segment place.word old new m m')) → Tried result c old new place
+    IfOk result (λ x. PutsCopy r (change (form_of c.canonicalize) place.segment place.word old new m m')) → IfErr result (RefusesValue r (change (form_of c.canonicalize) place.segment place.word old new m m')) → Tried result c old new place
 value_tried result c r m m' old new place is is_r is_m has done refused = record { root = has; after = m'; done = good result done; refused = bad result refused }
   where
-    good : {A : Type 0} (q : Result A ErrorKind) → IfOk q (λ x. PutsCopy r (change c.canonicalize place.segment place.word old new m m')) → IfOk q (λ x. IsDone c m' old.words new.words place)
+    good : {A : Type 0} (q : Result A ErrorKind) → IfOk q (λ x. PutsCopy r (change (form_of c.canonicalize) place.segment place.word old new m m')) → IfOk q (λ x. IsDone c m' old.words new.words place)
     good (Ok x) (t, reads, puts) =
         (t, t, subst (λ y. Reads (form_of c.canonicalize) (root_of c.source) y m' t) is_m (subst (λ y. Reads (form_of c.canonicalize) y m m' t) is_r reads), ap (λ w. as_wanted w t) is, puts)
     good (Err k) h = tt
 
-    bad : {A : Type 0} (q : Result A ErrorKind) → IfErr q (RefusesValue r (change c.canonicalize place.segment place.word old new m m')) →
-        IfErr q (RefusesAs c.wanted (root_of c.source) (change c.canonicalize place.segment place.word old new (once_at_root c.source) m'))
+    bad : {A : Type 0} (q : Result A ErrorKind) → IfErr q (RefusesValue r (change (form_of c.canonicalize) place.segment place.word old new m m')) →
+        IfErr q (RefusesAs c.wanted (root_of c.source) (change (form_of c.canonicalize) place.segment place.word old new (once_at_root c.source) m'))
     bad (Ok x) h = tt
     bad (Err k) h =
-        subst (λ w. RefusesAs w (root_of c.source) (change c.canonicalize place.segment place.word old new (once_at_root c.source) m') k) (sym is)
-        (subst (λ y. RefusesValue (root_of c.source) (change c.canonicalize place.segment place.word old new y m') k) is_m (subst (λ y. RefusesValue y (change c.canonicalize place.segment place.word old new m m') k) is_r h))
+        subst (λ w. RefusesAs w (root_of c.source) (change (form_of c.canonicalize) place.segment place.word old new (once_at_root c.source) m') k) (sym is)
+        (subst (λ y. RefusesValue (root_of c.source) (change (form_of c.canonicalize) place.segment place.word old new y m') k) is_m (subst (λ y. RefusesValue y (change (form_of c.canonicalize) place.segment place.word old new m m') k) is_r h))
 
 -- of the struct that it leads to
 struct_tried : {A : Type 0} (result : Result A ErrorKind) (c : Copying) (s : Sections) (m' : Meter) (old new : View) (place : PointerPlace) → c.wanted ≡ AStruct → HasRoot c.source → LeadsToStruct (root_of c.source) (once_at_root c.source) s →
-    IfOk result (λ x. KeepsSections s (change c.canonicalize place.segment place.word old new s.limiter m')) →
-    IfErr result (RefusesSections s.words s.first s.pointers (change c.canonicalize place.segment place.word old new s.limiter m')) → Tried result c old new place
+    IfOk result (λ x. KeepsSections s (change (form_of c.canonicalize) place.segment place.word old new s.limiter m')) →
+    IfErr result (RefusesSections s.words s.first s.pointers (change (form_of c.canonicalize) place.segment place.word old new s.limiter m')) → Tried result c old new place
 struct_tried result c s m' old new place is has leads done refused = record { root = has; after = m'; done = good result done; refused = bad result refused }
   where
-    good : {A : Type 0} (q : Result A ErrorKind) → IfOk q (λ x. KeepsSections s (change c.canonicalize place.segment place.word old new s.limiter m')) → IfOk q (λ x. IsDone c m' old.words new.words place)
+    good : {A : Type 0} (q : Result A ErrorKind) → IfOk q (λ x. KeepsSections s (change (form_of c.canonicalize) place.segment place.word old new s.limiter m')) → IfOk q (λ x. IsDone c m' old.words new.words place)
     good (Ok x) (ts, counts, all, puts) =
         let (t, reads, wanted) = struct_reads (form_of c.canonicalize) (root_of c.source) (once_at_root c.source) m' s ts leads counts all in
         (t, Struct s.words ts, reads, ap (λ w. as_wanted w t) is ∙ wanted, puts)
     good (Err k) h = tt
 
-    bad : {A : Type 0} (q : Result A ErrorKind) → IfErr q (RefusesSections s.words s.first s.pointers (change c.canonicalize place.segment place.word old new s.limiter m')) →
-        IfErr q (RefusesAs c.wanted (root_of c.source) (change c.canonicalize place.segment place.word old new (once_at_root c.source) m'))
+    bad : {A : Type 0} (q : Result A ErrorKind) → IfErr q (RefusesSections s.words s.first s.pointers (change (form_of c.canonicalize) place.segment place.word old new s.limiter m')) →
+        IfErr q (RefusesAs c.wanted (root_of c.source) (change (form_of c.canonicalize) place.segment place.word old new (once_at_root c.source) m'))
     bad (Ok x) h = tt
-    bad (Err k) h = subst (λ w. RefusesAs w (root_of c.source) (change c.canonicalize place.segment place.word old new (once_at_root c.source) m') k) (sym is) (s, leads, h)
+    bad (Err k) h = subst (λ w. RefusesAs w (root_of c.source) (change (form_of c.canonicalize) place.segment place.word old new (once_at_root c.source) m') k) (sym is) (s, leads, h)
 
 -- of the list
 list_tried : {A : Type 0} (result : Result A ErrorKind) (c : Copying) (l : ListElements) (m m' : Meter) (old new : View) (place : PointerPlace) → c.wanted ≡ AList → HasRoot c.source →
-    LeadsToList (root_of c.source) (once_at_root c.source) m l → IfOk result (λ x. KeepsList l (change c.canonicalize place.segment place.word old new m m')) →
-    IfErr result (RefusesElements l (change c.canonicalize place.segment place.word old new m m')) → Tried result c old new place
+    LeadsToList (root_of c.source) (once_at_root c.source) m l → IfOk result (λ x. KeepsList l (change (form_of c.canonicalize) place.segment place.word old new m m')) →
+    IfErr result (RefusesElements l (change (form_of c.canonicalize) place.segment place.word old new m m')) → Tried result c old new place
 list_tried result c l m m' old new place is has leads done refused = record { root = has; after = m'; done = good result done; refused = bad result refused }
   where
-    good : {A : Type 0} (q : Result A ErrorKind) → IfOk q (λ x. KeepsList l (change c.canonicalize place.segment place.word old new m m')) → IfOk q (λ x. IsDone c m' old.words new.words place)
+    good : {A : Type 0} (q : Result A ErrorKind) → IfOk q (λ x. KeepsList l (change (form_of c.canonicalize) place.segment place.word old new m m')) → IfOk q (λ x. IsDone c m' old.words new.words place)
     good (Ok x) (t, all, puts) =
         let (u, reads, wanted) = list_reads (form_of c.canonicalize) (root_of c.source) (once_at_root c.source) m m' l t leads all in
         (u, t, reads, ap (λ w. as_wanted w u) is ∙ wanted, puts)
     good (Err k) h = tt
 
-    bad : {A : Type 0} (q : Result A ErrorKind) → IfErr q (RefusesElements l (change c.canonicalize place.segment place.word old new m m')) →
-        IfErr q (RefusesAs c.wanted (root_of c.source) (change c.canonicalize place.segment place.word old new (once_at_root c.source) m'))
+    bad : {A : Type 0} (q : Result A ErrorKind) → IfErr q (RefusesElements l (change (form_of c.canonicalize) place.segment place.word old new m m')) →
+        IfErr q (RefusesAs c.wanted (root_of c.source) (change (form_of c.canonicalize) place.segment place.word old new (once_at_root c.source) m'))
     bad (Ok x) h = tt
-    bad (Err k) h = subst (λ w. RefusesAs w (root_of c.source) (change c.canonicalize place.segment place.word old new (once_at_root c.source) m') k) (sym is) (l, m, leads, h)
+    bad (Err k) h = subst (λ w. RefusesAs w (root_of c.source) (change (form_of c.canonicalize) place.segment place.word old new (once_at_root c.source) m') k) (sym is) (l, m, leads, h)
 
 -- A call without a default reads the pointer itself.
 own_pointer : {A : Type 0} (g : Ghosts A) (expected : Expected) (from p : PointerReader A g) → IsRead g expected from p None → p ≡ from
@@ -205,16 +205,16 @@ withheld_at g expected from m m' k (inr h) = where_read g expected from (λ p. W
 
 -- The calls on a root's reader.
 pub struct_copied : {A B : Type 0} (result : Result B ErrorKind) (c : Copying) (g : Ghosts A) (from : PointerReader A g) (v : StructReader A g) (m n m' : Meter) (old new : View) (place : PointerPlace) → c.wanted ≡ AStruct → IsOpened g c.source from m →
-    length v.content.now ≡ bytes_for v.bits → WhereRead g (call g from ExpectedStruct None) (λ p. IsStructRead g p m n v) → IfOk result (λ x. PutsStruct g v (change c.canonicalize place.segment place.word old new n m')) →
-    IfErr result (RefusesStruct g v (change c.canonicalize place.segment place.word old new n m')) → Tried result c old new place
+    length v.content.now ≡ bytes_for v.bits → WhereRead g (call g from ExpectedStruct None) (λ p. IsStructRead g p m n v) → IfOk result (λ x. PutsStruct g v (change (form_of c.canonicalize) place.segment place.word old new n m')) →
+    IfErr result (RefusesStruct g v (change (form_of c.canonicalize) place.segment place.word old new n m')) → Tried result c old new place
 struct_copied result c g from v m n m' old new place is here long read done refused =
     let s : Sections = record { words = data_of g v; first = pointers_read g v; pointers = v.pointer_count; limiter = n } in
     let leads : LeadsToStruct (reading g from) m s = struct_at g from m n v long (where_read g ExpectedStruct from (λ p. IsStructRead g p m n v) read) in
     struct_tried result c s m' old new place is here.root (subst (λ y. LeadsToStruct (root_of c.source) y s) here.once (subst (λ r. LeadsToStruct r m s) here.reads leads)) done refused
 
 pub list_copied : {A B : Type 0} (result : Result B ErrorKind) (c : Copying) (g : Ghosts A) (from : PointerReader A g) (v : ListReader A g) (m n m' : Meter) (old new : View) (place : PointerPlace) → c.wanted ≡ AList → IsOpened g c.source from m →
-    GivesList g Void (call g from (ExpectedList Void) None) m n v → IfOk result (λ x. PutsList g v (change c.canonicalize place.segment place.word old new n m')) →
-    IfErr result (RefusesList g v (change c.canonicalize place.segment place.word old new n m')) → Tried result c old new place
+    GivesList g Void (call g from (ExpectedList Void) None) m n v → IfOk result (λ x. PutsList g v (change (form_of c.canonicalize) place.segment place.word old new n m')) →
+    IfErr result (RefusesList g v (change (form_of c.canonicalize) place.segment place.word old new n m')) → Tried result c old new place
 list_copied result c g from v m n m' old new place is here read done refused =
     let l : ListElements = elements_read g v in
     let leads : LeadsToList (reading g from) m n l = list_at g from m n v (where_read g (ExpectedList Void) from (λ p. IsListRead g Void p m n v) read) in
@@ -313,7 +313,7 @@ pub copied_or_refused : CopiedOrRefused
 copied_or_refused c u k good (inl (inl rootless)) = rootless.0 good.root
 copied_or_refused c u k good (inl (inr (has, (m, withheld)))) =
     let x = good.is_read in
-    let n : ℕ = word_count (kept c.canonicalize good.copied) in
+    let n : ℕ = word_count (kept (form_of c.canonicalize) good.copied) in
     let can : CanBeCopiedAs c (root_of c.source) (once_at_root c.source) 0 n = record {
       value = good.value;
       cost = x.cost;

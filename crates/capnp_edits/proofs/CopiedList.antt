@@ -132,7 +132,7 @@ list_stops form r m n m' l k (a_struct_list a o z s sections first counts) (inr 
 
 -- or there is no room
 pub list_refused : (b : Bool) (id at : ℕ) (old new : View) (r : Reading) (m n m' : Meter) (l : ListElements) (k : ErrorKind) → LeadsToList r m n l →
-    RefusesElements l (change b id at old new n m') k → IsOfMemory k ⊎ Refused (form_of b) r m m' k
+    RefusesElements l (change (form_of b) id at old new n m') k → IsOfMemory k ⊎ Refused (form_of b) r m m' k
 list_refused b id at old new r m n m' l k leads (inl (i, (refuses, none), wanted, exceeds)) = inl (of_allocation old new (length new.words) (i + 1) k refuses)
 list_refused b id at old new r m n m' l k leads (inr (inl refused)) = inr (list_stops (form_of b) r m n m' l k leads refused)
 list_refused b id at old new r m n m' l k leads (inr (inr (long, named))) = inl (inr (_, named))
@@ -371,7 +371,7 @@ list_small r m n l words (a_struct_list a o z s sections first counts) =
 -- so it isn't refused
 pub list_fits : (c : Copying) (r : Reading) (m n m' : Meter) (l : ListElements) (id at : ℕ) (old new : View) (k : ErrorKind) → c.wanted ≡ AList → LeadsToList r m n l →
     FitsListPointer l.size l.count (l.sections.data_words + l.sections.pointers) → CanBeCopiedAs c r m (length (segment old.words id)) (old.room id) →
-    RefusesElements l (change c.canonicalize id at old new n m') k → ⊥
+    RefusesElements l (change (form_of c.canonicalize) id at old new n m') k → ⊥
 list_fits c r m n m' l id at old new k is leads small can refuses =
     let x = list_matches (form_of c.canonicalize) r m n l can.value can.cost can.copied leads can.means can.takes can.covers (subst (λ w. as_wanted w can.value ≡ Some can.copied) is can.is_wanted) in
     elim refuses [

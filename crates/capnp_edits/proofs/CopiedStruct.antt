@@ -86,7 +86,7 @@ struct_stops form r m m' s k (a_struct a o z ws first q) refused =
     stops_struct o z (subst (λ i. RefusedAll form (child_at r a (pred r.levels) (a.start + data_words a.word)) i s.limiter m' k) q (subst (λ x. RefusedAll form x s.pointers s.limiter m' k) first refused))
 
 -- or there is no room
-pub struct_refused : (b : Bool) (id at : ℕ) (old new : View) (r : Reading) (m m' : Meter) (s : Sections) (k : ErrorKind) → LeadsToStruct r m s → RefusesSections s.words s.first s.pointers (change b id at old new s.limiter m') k →
+pub struct_refused : (b : Bool) (id at : ℕ) (old new : View) (r : Reading) (m m' : Meter) (s : Sections) (k : ErrorKind) → LeadsToStruct r m s → RefusesSections s.words s.first s.pointers (change (form_of b) id at old new s.limiter m') k →
     IsOfMemory k ⊎ Refused (form_of b) r m m' k
 struct_refused b id at old new r m m' s k leads (inl (n, (refuses, none), wanted, exceeds)) = inl (of_allocation old new (length new.words) (n + 1) k refuses)
 struct_refused b id at old new r m m' s k leads (inr (inl refused)) = inr (struct_stops (form_of b) r m m' s k leads refused)
@@ -170,11 +170,11 @@ struct_matches form r m s (Structs d q es) c copied leads means takes covers e =
 
 -- so it isn't refused
 pub struct_fits : (c : Copying) (r : Reading) (m m' : Meter) (s : Sections) (id at : ℕ) (old new : View) (k : ErrorKind) → c.wanted ≡ AStruct → LeadsToStruct r m s → CanBeCopiedAs c r m (length (segment old.words id)) (old.room id) →
-    RefusesSections s.words s.first s.pointers (change c.canonicalize id at old new s.limiter m') k → ⊥
+    RefusesSections s.words s.first s.pointers (change (form_of c.canonicalize) id at old new s.limiter m') k → ⊥
 struct_fits c r m m' s id at old new k is leads can refuses =
     let x = struct_matches (form_of c.canonicalize) r m s can.value can.cost can.copied leads can.means can.takes can.covers (subst (λ w. as_wanted w can.value ≡ Some can.copied) is can.is_wanted) in
     elim refuses [
-      | inl (n, why, wanted, exceeds) ↦ omega (arith, can.fits, exceeds x.children x.end x.counts x.are_read, ap (λ t. word_count (kept c.canonicalize t)) x.is_struct)
+      | inl (n, why, wanted, exceeds) ↦ omega (arith, can.fits, exceeds x.children x.end x.counts x.are_read, ap (λ t. word_count (kept (form_of c.canonicalize) t)) x.is_struct)
       | inr (inl refused) ↦ (unreadable (struct_stops (form_of c.canonicalize) r m m' s k leads refused)).only can.value can.cost can.means can.takes can.covers
-      | inr (inr (wide, named)) ↦ omega (arith, wide, kept_count-le c.canonicalize s.words, x.narrow)
+      | inr (inr (wide, named)) ↦ omega (arith, wide, kept_count-le (form_of c.canonicalize) s.words, x.narrow)
     ]

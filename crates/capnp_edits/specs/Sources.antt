@@ -107,7 +107,7 @@ pub record Copies (c : Copying) (u : Tree) : Type 0 where
   pub is_read : Reads (form_of c.canonicalize) (root_of c.source) (once_at_root c.source) after value
   pub copied : Tree
   pub is_wanted : as_wanted c.wanted value ≡ Some copied
-  pub is_kept : u ≡ kept c.canonicalize copied
+  pub is_kept : u ≡ kept (form_of c.canonicalize) copied
 
 -- A place means a value that is as wanted, in canonical form one without capabilities, at a cost that the limiter covers, and the words to be kept of it fit
 -- behind so many words of a segment with this room.
@@ -119,7 +119,7 @@ pub record CanBeCopiedAs (c : Copying) (r : Reading) (m : Meter) (used room : �
   pub covers : Affords r.charging m cost
   pub copied : Tree
   pub is_wanted : as_wanted c.wanted value ≡ Some copied
-  pub fits : used + word_count (kept c.canonicalize copied) ≤ room
+  pub fits : used + word_count (kept (form_of c.canonicalize) copied) ≤ room
 
 -- The root means such a value, and the words that a copy keeps of it fit behind those of segment id. Of a list, the words of the source are below 2^64, as
 -- the words of bytes are.
@@ -221,7 +221,7 @@ RefusesAs Content r c k = (s : Sections) × (i : ℕ) × LeadsToStruct r c.befor
 abbrev pub IsCopyRefused : View → View → Copying → ErrorKind → Type 0
 IsCopyRefused old new c k =
     (place : PointerPlace) × (m : Meter)
-    × RefusesAs c.wanted (root_of c.source) (change c.canonicalize place.segment place.word old new (once_at_root c.source) m) k
+    × RefusesAs c.wanted (root_of c.source) (change (form_of c.canonicalize) place.segment place.word old new (once_at_root c.source) m) k
 
 -- Where there is a value to be copied, reading isn't refused.
 abbrev pub CopiedOrRefused : Type 0
