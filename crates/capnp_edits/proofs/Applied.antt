@@ -20,14 +20,13 @@ use Rattle.capnp_making.proofs.Extents.{once_held, times-first}
 use Rattle.capnp_making.proofs.FieldsWritten.{data_field_written, element_has_words, element_field_written}
 use Rattle.capnp_making.proofs.Replaced.{forest_stored, forest_updated, stored_within}
 use Rattle.capnp_readers.specs.declared.readers.PointerPlace.{PointerPlace}
-use Rattle.capnp_builders.specs.Found.{is_missed}
 use Rattle.capnp_builders.specs.Places.{Field}
 use Rattle.capnp_edits.specs.declared.edit.Edit.{Edit}
 use Rattle.capnp_edits.specs.Paths.{Spot, PointerTo, ElementOf, path_of, found, IsPointerFound, IsElementFound, IsFound}
 use Rattle.capnp_edits.specs.declared.edit.Op.{Op}
 use Rattle.capnp_edits.specs.declared.edit.Source.{Source}
 use Rattle.capnp_edits.specs.declared.edit.Op.TheVariants.{InitStruct, InitList, InitStructList, InitText, InitData, SetText, SetData, SetCapability, Clear, SetField, SetBool, SetElement, WriteText, WriteData, GetStruct, GetList, GetStructList, GetText, GetData, CopyFrom, SetStruct, SetList, CopyContent}
-use Rattle.capnp_edits.specs.Edits.{refusal_of, field_of, is_field, is_in_range, Making, becomes, denied, with_written, made_at, made, IsOfMemory, takes_memory, words_taken, is_of_place, copied_by, IsCallRefused, IsRefusedAs, GivesAt, IsPut, Does, DoesAt, Yields, is_done, lacks_memory, is_denied, IsReplacedIf, leads_to, are_written, are_outside, WritesAt, is_put, is_out_of_range, has_none, Takes, leads_nowhere, IsApplied, refusals_after}
+use Rattle.capnp_edits.specs.Edits.{refusal_of, field_of, is_field, is_in_range, is_search, search_of, Making, becomes, denied, with_written, made_at, made, IsOfMemory, takes_memory, words_taken, is_of_place, copied_by, IsWordsRefused, IsCallRefused, IsRefusedAs, WordsFit, GivesAt, IsPut, Does, DoesAt, Leaves, as_it_stands, is_done, lacks_memory, is_denied, IsReplacedIf, leads_to, are_written, are_outside, WritesAt, is_put, is_out_of_range, has_none, Takes, leads_nowhere, IsApplied, refusals_after}
 use Rattle.capnp_edits.proofs.Steps.{first, same_some, struct_of}
 use Rattle.capnp_edits.proofs.Walks.{found-append, update-append}
 
@@ -51,23 +50,40 @@ pub never_nowhere : {A : Type 0} (result : Result A ErrorKind) (old new : View) 
 never_nowhere (Ok x) old new n why e = absurd (cc)
 never_nowhere (Err k) old new n why e = absurd (of_no_place k (of_memory old new n k why) (same_some k NoSuchPlace e))
 
+-- any other operation has no default, and fits where its words do
+no_search : (op : Op) → is_search op ≡ false → search_of op ≡ None
+no_search (GetStruct size default) e = absurd (cc)
+no_search (GetList size default) e = absurd (cc)
+no_search (GetStructList size default) e = absurd (cc)
+no_search (GetText default) e = absurd (cc)
+no_search (GetData default) e = absurd (cc)
+no_search op e = refl
+
+pub room_for : (old : View) (id : ℕ) (op : Op) → is_search op ≡ false → WordsFit old id op → HasRoom old id (words_taken op)
+room_for old id (GetStruct size default) e fits = absurd (cc)
+room_for old id (GetList size default) e fits = absurd (cc)
+room_for old id (GetStructList size default) e fits = absurd (cc)
+room_for old id (GetText default) e fits = absurd (cc)
+room_for old id (GetData default) e fits = absurd (cc)
+room_for old id op e fits = fits
+
 -- an operation is refused as its call is, which copies nothing
-pub refused_as : {A : Type 0} (result : Result A ErrorKind) (old new : View) (op : Op) → copied_by op ≡ None → IfErr result (IsRefusedFor old new (words_taken op)) → IfErr result (IsRefusedAs old new op)
-refused_as (Ok x) old new op none why = tt
-refused_as (Err k) old new op none why = inr (subst (λ c. IsCallRefused old new (words_taken op) c k) (sym none) why)
+pub refused_as : {A : Type 0} (result : Result A ErrorKind) (old new : View) (op : Op) → copied_by op ≡ None → is_search op ≡ false → IfErr result (IsRefusedFor old new (words_taken op)) → IfErr result (IsRefusedAs old new op)
+refused_as (Ok x) old new op none other why = tt
+refused_as (Err k) old new op none other why = inr (subst (λ c. IsCallRefused old new op c k) (sym none) (subst (λ d. IsWordsRefused old new d (words_taken op) k) (sym (no_search op other)) why))
 
 pub refused_there : {A : Type 0} (result : Result A ErrorKind) (old new : View) (op : Op) → IfErr result (λ k. is_of_place k ≡ true) → OnErr result (new ≡ old) → IfErr result (IsRefusedAs old new op)
 refused_there (Ok x) old new op named kept = tt
 refused_there (Err k) old new op named kept = inl (named, kept)
 
+pub refused_same : {A : Type 0} (result : Result A ErrorKind) (old new : View) (op : Op) → IfErr result (λ k. is_of_place k ≡ true) → new ≡ old → IfErr result (IsRefusedAs old new op)
+refused_same (Ok x) old new op named same = tt
+refused_same (Err k) old new op named same = inl (named, same)
+
 -- by a name of what a path leads to
 pub of_place : {A : Type 0} (result : Result A ErrorKind) → IfErr result (λ k. k ≡ NoSuchPlace) → IfErr result (λ k. is_of_place k ≡ true)
 of_place (Ok x) named = tt
 of_place (Err k) named = ap is_of_place named
-
-pub missed_place : (k : ErrorKind) → is_missed k ≡ true → is_of_place k ≡ true
-missed_place NoSuchPlace e = refl
-missed_place k e = e
 
 not_counted : (k : ErrorKind) (n : ℕ) → is_of_place k ≡ true → refusals_after (Some k) n ≡ n
 not_counted AllocationFailed n e = absurd (cc)
@@ -152,14 +168,14 @@ never_makes op spot none = either (is_in_range op) (made_at op spot) none
 
 -- what an operation yields stands at its place
 pub done_at : {S R : Segments} {place : PointerPlace} {op : Op} {t : Tree} {r : Option ErrorKind} (u : Tree) → made op (PointerTo t) ≡ becomes u → r ≡ None → IsReplaced S R place.segment place.word t u → DoesAt S R place op t r
-done_at u makes done stands = record { left = Some u; yields = is_done u makes done refl; stands = stands }
+done_at u makes done stands = record { left = Some u; leaves = as_it_stands (is_done u makes done refl); stands = stands }
 
 lacking_at : {S R : Segments} {place : PointerPlace} {op : Op} {t : Tree} {r : Option ErrorKind} (u : Tree) (k : ErrorKind) → made op (PointerTo t) ≡ becomes u → takes_memory op ≡ true → IsOfMemory k → r ≡ Some k →
     IsReplaced S R place.segment place.word t Null → DoesAt S R place op t r
-lacking_at u k makes takes names named stands = record { left = Some Null; yields = lacks_memory u k makes takes names named refl; stands = stands }
+lacking_at u k makes takes names named stands = record { left = Some Null; leaves = as_it_stands (lacks_memory u k makes takes names named refl); stands = stands }
 
 pub denied_at : {S R : Segments} {place : PointerPlace} {op : Op} {t : Tree} {r : Option ErrorKind} (k : ErrorKind) → made op (PointerTo t) ≡ denied k → r ≡ Some k → R ≡ S → DoesAt S R place op t r
-denied_at k denies named same = record { left = None; yields = is_denied k denies named refl; stands = same }
+denied_at k denies named same = record { left = None; leaves = as_it_stands (is_denied k denies named refl); stands = same }
 
 pub given_at : (S R : Segments) (place : PointerPlace) (op : Op) (r : Option ErrorKind) → is_in_range op ≡ true → GivesAt S R place op r → Does S R place op r
 given_at S R place op None range gives t stored = let (u, makes, replaced) = gives t stored in done_at u (in_range_makes op (PointerTo t) range ∙ makes) refl replaced
@@ -285,11 +301,11 @@ no_struct_at S place op some is_none t stored = no_struct_fits S place op t (is_
 
 at_pointer : (S R : Segments) (e : Edit) (place : PointerPlace) (r : Option ErrorKind) (t x : Tree) → PathLeads S 0 0 t (path_of e.path.now) place.segment place.word x → found t (path_of e.path.now) ≡ Some (PointerTo x) → IsForest S t →
     DoesAt S R place e.op x r → (u : Tree) × IsForest R u × Takes e t r u
-at_pointer S R e place r t x leads spot forest does = stands does.left does.yields does.stands
+at_pointer S R e place r t x leads spot forest does = stands does.left does.leaves does.stands
   where
-    stands : (o : Option Tree) → Yields e.op (made e.op (PointerTo x)) r o → IsReplacedIf S R place x o → (u : Tree) × IsForest R u × Takes e t r u
-    stands (Some y) yields replaced = (update t (path_of e.path.now) y, forest_updated S R t (path_of e.path.now) place.segment place.word x y forest leads replaced, leads_to (PointerTo x) (Some y) spot yields refl)
-    stands None yields same = (t, subst (λ Q. IsForest Q t) (sym same) forest, leads_to (PointerTo x) None spot yields refl)
+    stands : (o : Option Tree) → Leaves e.op (made e.op (PointerTo x)) r o → IsReplacedIf S R place x o → (u : Tree) × IsForest R u × Takes e t r u
+    stands (Some y) left replaced = (update t (path_of e.path.now) y, forest_updated S R t (path_of e.path.now) place.segment place.word x y forest leads replaced, leads_to (PointerTo x) (Some y) spot left refl)
+    stands None left same = (t, subst (λ Q. IsForest Q t) (sym same) forest, leads_to (PointerTo x) None spot left refl)
 
 -- at a pointer
 pub applied_pointer : (S R : Segments) (e : Edit) (place : PointerPlace) (r : Option ErrorKind) → ((t : Tree) → IsStored S 0 0 t → IsPointerFound S 0 0 t (path_of e.path.now) place.segment place.word) → Does S R place e.op r → IsApplied S R e r
@@ -327,15 +343,15 @@ at_element S R e s r t f ws ts is wide stored spot forest other (is_put g is_g r
     ap (λ p. update t p y) f.path_is ∙ update-append t f.front (Element f.index ∷ []) list y f.spot in (
       update t f.front (Structs d q (put_struct f.elements f.index y)),
       forest_updated S R t f.front f.list_segment f.list_at list (Structs d q (put_struct f.elements f.index y)) forest f.leads replaced,
-      leads_to (ElementOf (Struct ws ts)) (Some y) spot (is_done y (in_range_makes e.op (ElementOf (Struct ws ts)) range ∙ (made_written e.op g (Struct ws ts) is_g).1 ∙ field_there g ws ts within) done refl) (sym same),
+      leads_to (ElementOf (Struct ws ts)) (Some y) spot (as_it_stands (is_done y (in_range_makes e.op (ElementOf (Struct ws ts)) range ∙ (made_written e.op g (Struct ws ts) is_g).1 ∙ field_there g ws ts within) done refl)) (sym same),
     )
 at_element S R e s r t f ws ts is wide stored spot forest other (is_put g is_g range (are_outside far named same)) =
     let past : 64 * length ws < g.start + g.bits = rw wide far in
-    (t, subst (λ Q. IsForest Q t) (sym same) forest, leads_to (ElementOf (Struct ws ts)) None spot (is_denied NoSuchPlace (in_range_makes e.op (ElementOf (Struct ws ts)) range ∙ (made_written e.op g (Struct ws ts) is_g).1 ∙ field_past g ws ts past) named refl) refl)
+    (t, subst (λ Q. IsForest Q t) (sym same) forest, leads_to (ElementOf (Struct ws ts)) None spot (as_it_stands (is_denied NoSuchPlace (in_range_makes e.op (ElementOf (Struct ws ts)) range ∙ (made_written e.op g (Struct ws ts) is_g).1 ∙ field_past g ws ts past) named refl)) refl)
 at_element S R e s r t f ws ts is wide stored spot forest other (is_out_of_range out named same) =
-    (t, subst (λ Q. IsForest Q t) (sym same) forest, leads_to (ElementOf (Struct ws ts)) None spot (is_denied NoSuchPlace (out_makes e.op (ElementOf (Struct ws ts)) out) named refl) refl)
+    (t, subst (λ Q. IsForest Q t) (sym same) forest, leads_to (ElementOf (Struct ws ts)) None spot (as_it_stands (is_denied NoSuchPlace (out_makes e.op (ElementOf (Struct ws ts)) out) named refl)) refl)
 at_element S R e s r t f ws ts is wide stored spot forest other (has_none none named same) =
-    (t, subst (λ Q. IsForest Q t) (sym same) forest, leads_to (ElementOf (Struct ws ts)) None spot (is_denied NoSuchPlace (never_makes e.op (ElementOf (Struct ws ts)) (none_made e.op (Struct ws ts) none other)) named refl) refl)
+    (t, subst (λ Q. IsForest Q t) (sym same) forest, leads_to (ElementOf (Struct ws ts)) None spot (as_it_stands (is_denied NoSuchPlace (never_makes e.op (ElementOf (Struct ws ts)) (none_made e.op (Struct ws ts) none other)) named refl)) refl)
 
 -- at an element
 pub applied_element : (S R : Segments) (e : Edit) (s : ExistingStruct) (r : Option ErrorKind) → ((t : Tree) → IsStored S 0 0 t → IsElementFound S 0 0 t (path_of e.path.now) s) → ((source : Source) → e.op ≡ CopyContent source → ⊥) → WritesAt S R s e.op r →

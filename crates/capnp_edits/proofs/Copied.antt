@@ -47,8 +47,8 @@ use Rattle.capnp_edits.specs.declared.edit.copying.Wanted.{Wanted}
 use Rattle.capnp_edits.specs.declared.edit.copying.Wanted.TheVariants.{Value, Struct as AStruct, List as AList, Content}
 use Rattle.capnp_edits.specs.Paths.{PointerTo}
 use Rattle.capnp_edits.specs.Sources.{is_whole, RefusesNext, words_in, root_of, once_at_root, as_wanted, HasRoot, IsOpened, CanBeCopiedAs, IsRootless, IsWithheld, IsUnread, FitsBehind, Sections, LeadsToStruct, LeadsToList, RefusesAs, CopiedOrRefused}
-use Rattle.capnp_edits.specs.Edits.{refusal_of, made, copies, copied_by, IsOfMemory, IsSourceRefused, IsCallRefused, CopyFits, CallFits, OpFits, words_taken, is_of_place, IsRefusedAs, refusals_after, CopiesRoot, root_copied, root_not_copied, root_unread, Does, is_copied, is_not_copied, is_unread}
-use Rattle.capnp_edits.proofs.Applied.{of_allocation, of_no_place, never_refused}
+use Rattle.capnp_edits.specs.Edits.{as_it_stands, refusal_of, made, copies, copied_by, IsOfMemory, IsSourceRefused, IsCallRefused, CopyFits, CallFits, OpFits, is_search, words_taken, is_of_place, IsRefusedAs, refusals_after, CopiesRoot, root_copied, root_not_copied, root_unread, Does, is_copied, is_not_copied, is_unread}
+use Rattle.capnp_edits.proofs.Applied.{room_for, of_allocation, of_no_place, never_refused}
 use Rattle.capnp_edits.proofs.CopiedStruct.{struct_at, struct_reads, struct_refused, struct_given, struct_fits}
 use Rattle.capnp_edits.proofs.CopiedList.{list_at, list_reads, list_refused, list_given, list_small, list_fits}
 use Rattle.capnp_edits.proofs.Steps.{same_some}
@@ -380,21 +380,21 @@ whole_copy (CopyContent source) c other e = absurd (other source refl)
 whole_copy op c other e = absurd (cc)
 
 pub copied_at : (S R : Segments) (place : PointerPlace) (op : Op) (c : Copying) (r : Option ErrorKind) → is_whole c.wanted ≡ true → copied_by op ≡ Some c → CopiesRoot S R place c r → Does S R place op r
-copied_at S R place op c r whole is (root_copied u copied done puts) t stored = record { left = Some u; yields = is_copied c u (made_copied op c t whole is) copied done refl; stands = puts t stored }
-copied_at S R place op c r whole is (root_not_copied k why named puts) t stored = record { left = Some Null; yields = is_not_copied c k (made_copied op c t whole is) why named refl; stands = puts t stored }
-copied_at S R place op c r whole is (root_unread k why named same) t stored = record { left = None; yields = is_unread c k (made_copied op c t whole is) why named refl; stands = same }
+copied_at S R place op c r whole is (root_copied u copied done puts) t stored = record { left = Some u; leaves = as_it_stands (is_copied c u (made_copied op c t whole is) copied done refl); stands = puts t stored }
+copied_at S R place op c r whole is (root_not_copied k why named puts) t stored = record { left = Some Null; leaves = as_it_stands (is_not_copied c k (made_copied op c t whole is) why named refl); stands = puts t stored }
+copied_at S R place op c r whole is (root_unread k why named same) t stored = record { left = None; leaves = as_it_stands (is_unread c k (made_copied op c t whole is) why named refl); stands = same }
 
 pub copy_refused : {A : Type 0} (result : Result A ErrorKind) (old new : View) (op : Op) (c : Copying) → copied_by op ≡ Some c → IfErr result (IsSourceRefused old new c) → IfErr result (IsRefusedAs old new op)
 copy_refused (Ok x) old new op c is why = tt
-copy_refused (Err k) old new op c is why = inr (subst (λ o. IsCallRefused old new (words_taken op) o k) (sym is) why)
+copy_refused (Err k) old new op c is why = inr (subst (λ o. IsCallRefused old new op o k) (sym is) why)
 
 -- a call that copies nothing fits where its words do
-pub words_fit : {A : Type 0} (result : Result A ErrorKind) (old : View) (id : ℕ) (op : Op) → copied_by op ≡ None → (HasRoom old id (words_taken op) → IsOk result) → OpFits old id op → IfErr result (λ k. is_of_place k ≡ true)
-words_fit result old id op none fits room = never_refused result (fits (subst (λ c. CallFits old id (words_taken op) c) none room))
+pub words_fit : {A : Type 0} (result : Result A ErrorKind) (old : View) (id : ℕ) (op : Op) → copied_by op ≡ None → is_search op ≡ false → (HasRoom old id (words_taken op) → IsOk result) → OpFits old id op → IfErr result (λ k. is_of_place k ≡ true)
+words_fit result old id op none other fits room = never_refused result (fits (room_for old id op other (subst (λ c. CallFits old id op c) none room)))
 
 -- and a copy where what it keeps does
 pub copy_fits : {A : Type 0} (result : Result A ErrorKind) (old : View) (id : ℕ) (op : Op) (c : Copying) → copied_by op ≡ Some c → (CopyFits old id c.wanted c → IsOk result) → OpFits old id op → IfErr result (λ k. is_of_place k ≡ true)
-copy_fits result old id op c is fits room = never_refused result (fits (subst (λ o. CallFits old id (words_taken op) o) is room))
+copy_fits result old id op c is fits room = never_refused result (fits (subst (λ o. CallFits old id op o) is room))
 
 pub whole_fits : (w : Wanted) (old : View) (id : ℕ) (c : Copying) → is_whole w ≡ true → CopyFits old id w c → FitsBehind old id c
 whole_fits Value old id c whole fits = fits

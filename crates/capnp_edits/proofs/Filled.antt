@@ -51,7 +51,7 @@ use Rattle.capnp_edits.specs.declared.edit.Source.{Source}
 use Rattle.capnp_edits.specs.declared.edit.copying.Wanted.TheVariants.{Content}
 use Rattle.capnp_edits.specs.Paths.{path_of, found, IsElementFound, PointerTo, ElementOf}
 use Rattle.capnp_edits.specs.Sources.{copying, root_of, once_at_root, HasRoot, IsOpened, Sections, LeadsToStruct, no_struct, a_struct, ContentRead, ContentFitsBehind, IsUnread, FilledOrRefused}
-use Rattle.capnp_edits.specs.Edits.{refusal_of, made, fills, sections, FillsAt, FillsOrWrites, WritesAt, all_filled, first_filled, none_filled, refusals_after, IsSourceRefused, IsApplied, Takes, leads_to, is_filled, is_half_filled, is_not_filled, Does, DoesAt}
+use Rattle.capnp_edits.specs.Edits.{as_it_stands, refusal_of, made, fills, sections, FillsAt, FillsOrWrites, WritesAt, all_filled, first_filled, none_filled, refusals_after, IsSourceRefused, IsApplied, Takes, leads_to, is_filled, is_half_filled, is_not_filled, Does, DoesAt}
 use Rattle.capnp_edits.proofs.Applied.{of_allocation, denied_at, element_struct, applied_element}
 use Rattle.capnp_edits.proofs.Copied.{where_read}
 use Rattle.capnp_edits.proofs.CopiedStruct.{struct_at as source_at, struct_suits}
@@ -181,9 +181,9 @@ filled_struct S R place op source r ws ts is stored (all_filled f counts same do
     let u : Tree = Struct vs (up_to (count ts) f.content.children) in
     record {
       left = Some u;
-      yields =
-          is_filled source (length ws) (count ts) u (ap (λ o. made o (PointerTo (Struct ws ts))) is)
-          (f.content, record { section = vs; holds = holds; is_filled = refl }, counts) done refl;
+      leaves =
+          as_it_stands (is_filled source (length ws) (count ts) u (ap (λ o. made o (PointerTo (Struct ws ts))) is)
+          (f.content, record { section = vs; holds = holds; is_filled = refl }, counts) done refl);
       stands = subst (λ Q. IsReplaced S Q place.segment place.word (Struct ws ts) u) (sym same) replaced;
     }
 filled_struct S R place op source r ws ts is stored (first_filled f k fewer null why named) =
@@ -192,13 +192,13 @@ filled_struct S R place op source r ws ts is stored (first_filled f k fewer null
     let u : Tree = Struct vs (up_to (count ts) f.content.children) in
     record {
       left = Some u;
-      yields =
-          is_half_filled source (length ws) (count ts) k u (ap (λ o. made o (PointerTo (Struct ws ts))) is)
-          (f.content, record { section = vs; holds = holds; is_filled = refl }, fewer, why) named refl;
+      leaves =
+          as_it_stands (is_half_filled source (length ws) (count ts) k u (ap (λ o. made o (PointerTo (Struct ws ts))) is)
+          (f.content, record { section = vs; holds = holds; is_filled = refl }, fewer, why) named refl);
       stands = replaced;
     }
 filled_struct S R place op source r ws ts is stored (none_filled k unread same named) =
-    record { left = None; yields = is_not_filled source (length ws) (count ts) k (ap (λ o. made o (PointerTo (Struct ws ts))) is) unread named refl; stands = same }
+    record { left = None; leaves = as_it_stands (is_not_filled source (length ws) (count ts) k (ap (λ o. made o (PointerTo (Struct ws ts))) is) unread named refl); stands = same }
 
 filled_value : (S R : Segments) (place : PointerPlace) (op : Op) (source : Source) (r : Option ErrorKind) (e : ExistingStruct) (t : Tree) → op ≡ CopyContent source → Some e ≡ struct_in (target S place.segment place.word) t → FillsAt S R (sections e) source r →
     IsStored S place.segment place.word t → DoesAt S R place op t r
@@ -262,8 +262,8 @@ filled_element S R e s source r is leads h t forest =
           update t f.front (Structs d q (put_struct f.elements f.index y)),
           forest_updated S R t f.front f.list_segment f.list_at list (Structs d q (put_struct f.elements f.index y)) forest f.leads now,
           leads_to (ElementOf (Struct ws ts)) (Some y) spot
-              (is_filled source d q y makes
-              (h.content, record { section = vs; holds = holds; is_filled = refl }, counts) done refl) (sym path),
+              (as_it_stands (is_filled source d q y makes
+              (h.content, record { section = vs; holds = holds; is_filled = refl }, counts) done refl)) (sym path),
         )
     done_there stored f ws ts at there spot makes (first_filled h k fewer null why named) =
         let d : ℕ = s.size.data_words in
@@ -278,11 +278,11 @@ filled_element S R e s source r is leads h t forest =
           update t f.front (Structs d q (put_struct f.elements f.index y)),
           forest_updated S R t f.front f.list_segment f.list_at list (Structs d q (put_struct f.elements f.index y)) forest f.leads replaced,
           leads_to (ElementOf (Struct ws ts)) (Some y) spot
-              (is_half_filled source d q k y makes
-              (h.content, record { section = vs; holds = holds; is_filled = refl }, fewer, why) named refl) (sym path),
+              (as_it_stands (is_half_filled source d q k y makes
+              (h.content, record { section = vs; holds = holds; is_filled = refl }, fewer, why) named refl)) (sym path),
         )
     done_there stored f ws ts at there spot makes (none_filled k unread same named) =
-        (t, subst (λ Q. IsForest Q t) (sym same) forest, leads_to (ElementOf (Struct ws ts)) None spot (is_not_filled source s.size.data_words s.size.pointers k makes unread named refl) refl)
+        (t, subst (λ Q. IsForest Q t) (sym same) forest, leads_to (ElementOf (Struct ws ts)) None spot (as_it_stands (is_not_filled source s.size.data_words s.size.pointers k makes unread named refl)) refl)
 
 -- any other operation at an element writes a field
 pub writes_there : (S R : Segments) (s : ExistingStruct) (op : Op) (r : Option ErrorKind) → ((source : Source) → op ≡ CopyContent source → ⊥) → WritesAt S R s op r → FillsOrWrites S R s op r

@@ -4,7 +4,8 @@ pub mod Applied
 pub mod Fields
 pub mod Folded
 pub mod Contents
-pub mod Searches
+pub mod Names
+pub mod Sought
 pub mod CopiedStruct
 pub mod CopiedList
 pub mod Copied

@@ -1,34 +1,40 @@
 -- What edits make of the value of a message.
-use Rattle.std.specs.Prelude.{◌≡◌, ◌⊎◌, ℕ, min, ◌+◌, ◌*◌, ◌^◌, ◌<◌, ◌≤◌, Bool, true, false, cond, ◌&&◌, nat_le, nat_lt, List, ◌++◌, [], ◌∷◌, length, get_or, slice_set, Option, Some, None, Result, Ok, Err}
+use Rattle.std.specs.Prelude.{◌≡◌, ◌⊎◌, ℕ, min, ◌+◌, ◌*◌, ◌/◌, ◌^◌, ◌<◌, ◌≤◌, Bool, true, false, cond, ◌&&◌, nat_le, nat_lt, List, ◌++◌, [], ◌∷◌, length, get_or, slice_set, Option, Some, None, unwrap_or, Result, Ok, Err}
 use Rattle.std.specs.Borrow.{Bor}
 use Rattle.capnp_words.specs.declared.error.ErrorKind.{ErrorKind}
-use Rattle.capnp_words.specs.declared.error.ErrorKind.TheVariants.{AllocationFailed, MessageTooLarge, NoSuchPlace}
+use Rattle.capnp_words.specs.declared.error.ErrorKind.TheVariants.{AllocationFailed, FoundBitListWhereStructListWasExpected, MessageContainsNonStructPointerWhereStructPointerWasExpected, MessageTooLarge, NoSuchPlace, UnknownPointerType}
 use Rattle.capnp_pointers.specs.declared.wire_pointer.ElementSize.{ElementSize}
 use Rattle.capnp_pointers.specs.Sizes.{size_number}
-use Rattle.capnp_format.specs.Bytes.{words_of}
 use Rattle.capnp_format.specs.Numbers.{element_bits, words_for}
 use Rattle.capnp_format.specs.Segments.{Segments, Target}
-use Rattle.capnp_format.specs.Tree.{Tree, Null, Capability, Struct, Flat, Structs, count}
+use Rattle.capnp_format.specs.Tree.{Tree, Null, Capability, Struct, Flat, Structs, count, capabilities}
 use Rattle.capnp_format.specs.Forest.{IsForest}
 use Rattle.capnp_arena.specs.View.{View}
-use Rattle.capnp_making.specs.Existing.{list_in, data_in, text_in, LieIn}
+use Rattle.capnp_making.specs.Existing.{is_unfound, list_in, data_in, text_in, LieIn}
 use Rattle.capnp_making.specs.Fields.{with_bits, put_field, with_field}
 use Rattle.capnp_making.specs.Filled.{AreFilled}
-use Rattle.capnp_making.specs.Memory.{HasRoom, IsRefusedFor, refusals_for}
+use Rattle.capnp_making.specs.Memory.{HasRoom, IsRefusedFor, KeepsMemory, SpendsMemory, RefusesGrowth, refusals_for}
 use Rattle.capnp_making.specs.Made.{list_words, zero_struct, zero_structs, zero_list}
 use Rattle.capnp_making.specs.Path.{Step, struct_at, put_struct, update}
 use Rattle.capnp_making.specs.Stored.{IsStored, IsReplaced, Puts}
 use Rattle.capnp_making.specs.declared.existing.ExistingBytes.{ExistingBytes}
 use Rattle.capnp_making.specs.declared.existing.ExistingList.{ExistingList}
 use Rattle.capnp_making.specs.declared.existing.ExistingStruct.{ExistingStruct}
+use Rattle.capnp_pointers.specs.declared.wire_pointer.StructSize.{StructSize}
+use Rattle.capnp_objects.specs.Faults.{HasFault}
+use Rattle.capnp_objects.specs.Outcomes.{MeansThere}
+use Rattle.capnp_objects.specs.Wanted.{of_default}
 use Rattle.capnp_readers.specs.Readers.{IsListPlace}
 use Rattle.capnp_readers.specs.declared.readers.struct_reader.StructPlace.{StructPlace}
+use Rattle.capnp_widening.specs.Widened.{list_widened}
+use Rattle.capnp_builders.specs.Defaults.{DefaultUse, ignored, denied as is_denied_by, copied as is_copied_from, object_default, blob_default, default_root, default_copy, RefusesDefault, DefaultFits}
+use Rattle.capnp_widening.specs.Opening.{struct_opened}
 use Rattle.capnp_builders.specs.Laws.{TakesBytes}
 use Rattle.capnp_edits.specs.declared.edit.Source.{Source}
 use Rattle.capnp_readers.specs.Sections.{step_bits, data_bits}
 use Rattle.capnp_readers.specs.declared.readers.PointerPlace.{PointerPlace}
 use Rattle.capnp_builders.specs.declared.builders.PointerBuilder.{PointerBuilder}
-use Rattle.capnp_builders.specs.Found.{place_of as list_place, in_place_of_null, refusal_of_default, is_missed}
+use Rattle.capnp_builders.specs.Found.{place_of as list_place}
 use Rattle.capnp_builders.specs.Places.{Field, field}
 use Rattle.capnp_edits.specs.declared.edit.Edit.{Edit}
 use Rattle.capnp_edits.specs.declared.edit.Op.{Op}
@@ -77,18 +83,34 @@ is_content (WriteText i b) = true
 is_content (WriteData i b) = true
 is_content op = false
 
--- An operation looks for a list, a text or data.
+-- An operation looks for a struct, a list, a text or data.
 abbrev pub is_search : Op → Bool
+is_search (GetStruct size default) = true
 is_search (GetList size default) = true
+is_search (GetStructList size default) = true
 is_search (GetText default) = true
 is_search (GetData default) = true
 is_search op = false
+
+-- The default of a search.
+abbrev pub search_of : Op → Option (Option (Bor (List ℕ)))
+search_of (GetStruct size default) = Some default
+search_of (GetList size default) = Some default
+search_of (GetStructList size default) = Some default
+search_of (GetText default) = Some default
+search_of (GetData default) = Some default
+search_of op = None
 
 -- A number has no more bits than its element size, which is one from the least number of a size on, up to 8 bytes.
 abbrev pub is_number_from : ℕ → ElementSize → ℕ → Bool
 is_number_from least size v = nat_le least (size_number size) && nat_le (size_number size) 5 && nat_lt v (2 ^ element_bits (size_number size))
 
--- The numbers of an operation are those of something that a pointer can lead to, or a field or an element hold. No structs are looked for yet.
+-- A default has fewer than 2^32 words.
+abbrev pub is_small_default : Option (Bor (List ℕ)) → Bool
+is_small_default (Some default) = nat_lt (length default.now / 8) (2 ^ 32)
+is_small_default None = true
+
+-- The numbers of an operation are those of something that a pointer can lead to, or a field or an element hold; and its default is small.
 abbrev pub is_in_range : Op → Bool
 is_in_range (InitList size n) = nat_le (size_number size) 6 && nat_lt n (2 ^ 29)
 is_in_range (InitStructList n size) = nat_lt n (2 ^ 30) && nat_lt (n * (size.data_words + size.pointers)) (2 ^ 29)
@@ -98,16 +120,21 @@ is_in_range (SetText bytes) = nat_lt (length bytes.now + 1) (2 ^ 29)
 is_in_range (SetData bytes) = nat_lt (length bytes.now) (2 ^ 29)
 is_in_range (SetField size i v) = is_number_from 2 size v
 is_in_range (SetElement size i v) = is_number_from 1 size v
-is_in_range (GetStruct size default) = false
-is_in_range (GetList size default) = nat_le (size_number size) 6
-is_in_range (GetStructList size default) = false
+is_in_range (GetStruct size default) = is_small_default default
+is_in_range (GetList size default) = nat_le (size_number size) 6 && is_small_default default
+is_in_range (GetStructList size default) = is_small_default default
+is_in_range (GetText default) = is_small_default default
+is_in_range (GetData default) = is_small_default default
 is_in_range op = true
 
--- What an operation makes where a path leads: a value; or it is refused by a name, and nothing is changed; or what is copied from another message; or a
--- struct of so many data words and pointers gets the content of that message's.
+-- What an operation makes where a path leads: a value; or it is refused by a name, and nothing is changed; or a value of the one that stands, which stays
+-- where memory is refused; or what is made of a default's value, which is put in place of null first; or what is copied from another message; or a struct of so
+-- many data words and pointers gets the content of that message's.
 pub data Making : Type 0 where
   becomes : Tree → Making
   denied : ErrorKind → Making
+  widens : Tree → Tree → Making
+  defaults : List ℕ → (Tree → Making) → Making
   copies : Copying → Making
   fills : Source → ℕ → ℕ → Making
 
@@ -152,22 +179,34 @@ abbrev pub unchanged : {A : Type 0} → Tree → Result A ErrorKind → Making
 unchanged t (Ok x) = becomes t
 unchanged t (Err k) = denied k
 
--- What a search gives in place of null, with a default by its bytes.
-abbrev pub in_place_of : (List ℕ → Making) → Option (Bor (List ℕ)) → Making
-in_place_of by_words (Some default) = by_words (words_of default.now)
-in_place_of by_words None = becomes Null
+-- What is made of t where it is opened: what it becomes then; or it is refused.
+abbrev pub opened : Tree → Result Tree ErrorKind → Making
+opened t (Ok u) = widens t u
+opened t (Err k) = denied k
 
-abbrev pub list_of_default : List ℕ → Making
-list_of_default ws = unchanged Null (in_place_of_null 0 ws)
+-- A struct, or a list of structs, at least as large as asked for: a new one in place of null, or none.
+abbrev pub struct_made : StructSize → Tree → Making
+struct_made size t = opened t (struct_opened size t)
 
-abbrev pub bytes_of_default : List ℕ → Making
-bytes_of_default ws = denied (refusal_of_default ws)
+abbrev pub structs_made : StructSize → Tree → Making
+structs_made size Null = becomes Null
+structs_made size t = opened t (list_widened size.data_words size.pointers t)
 
--- What a search makes of t: t, where something is found; what stands in place of null; or its refusal.
-abbrev pub as_found : {A : Type 0} → Tree → Making → Result (Option A) ErrorKind → Making
-as_found t instead (Ok (Some x)) = becomes t
-as_found t instead (Ok None) = instead
-as_found t instead (Err k) = denied k
+-- A list, a text or data is looked for, which leaves t.
+abbrev pub list_looked : ElementSize → Tree → Making
+list_looked size t = unchanged t (list_in nowhere size t)
+
+abbrev pub text_looked : Tree → Making
+text_looked t = unchanged t (text_in nowhere t)
+
+abbrev pub data_looked : Tree → Making
+data_looked t = unchanged t (data_in nowhere t)
+
+-- What is made where a default is so used.
+abbrev pub with_default : DefaultUse → (Tree → Making) → Tree → Making
+with_default ignored made_of t = made_of t
+with_default (is_denied_by k) made_of t = denied k
+with_default (is_copied_from bytes) made_of t = defaults bytes made_of
 
 -- Content is copied over a struct.
 abbrev pub content_over : Source → Tree → Making
@@ -198,11 +237,11 @@ made_at (SetList source canonicalize) (PointerTo t) = copies (copying source ALi
 made_at (SetElement size i v) (PointerTo t) = if_reached i (count_of (list_in nowhere size t)) (with_lowest i (element_bits (size_number size)) v t)
 made_at (WriteText i b) (PointerTo t) = if_reached i (length_of (text_in nowhere t)) (with_lowest i 8 b t)
 made_at (WriteData i b) (PointerTo t) = if_reached i (length_of (data_in nowhere t)) (with_lowest i 8 b t)
-made_at (GetStruct size default) (PointerTo t) = denied NoSuchPlace
-made_at (GetList size default) (PointerTo t) = as_found t (in_place_of list_of_default default) (list_in nowhere size t)
-made_at (GetStructList size default) (PointerTo t) = denied NoSuchPlace
-made_at (GetText default) (PointerTo t) = as_found t (in_place_of bytes_of_default default) (text_in nowhere t)
-made_at (GetData default) (PointerTo t) = as_found t (in_place_of bytes_of_default default) (data_in nowhere t)
+made_at (GetStruct size default) (PointerTo t) = with_default (object_default default t) (struct_made size) t
+made_at (GetList size default) (PointerTo t) = with_default (object_default default t) (list_looked size) t
+made_at (GetStructList size default) (PointerTo t) = with_default (object_default default t) (structs_made size) t
+made_at (GetText default) (PointerTo t) = with_default (blob_default default t) text_looked t
+made_at (GetData default) (PointerTo t) = with_default (blob_default default t) data_looked t
 
 abbrev pub made : Op → Spot → Making
 made op spot = cond (is_in_range op) (made_at op spot) (denied NoSuchPlace)
@@ -244,8 +283,11 @@ words_taken op = 0
 
 -- The names by which an operation is refused for what a path leads to, or doesn't.
 abbrev pub is_of_place : ErrorKind → Bool
+is_of_place FoundBitListWhereStructListWasExpected = true
+is_of_place MessageContainsNonStructPointerWhereStructPointerWasExpected = true
 is_of_place NoSuchPlace = true
-is_of_place k = is_missed k
+is_of_place UnknownPointerType = true
+is_of_place k = is_unfound k
 
 -- What an operation copies from another message, if it does.
 abbrev pub copied_by : Op → Option Copying
@@ -259,14 +301,31 @@ copied_by op = None
 abbrev pub IsSourceRefused : View → View → Copying → ErrorKind → Type 0
 IsSourceRefused old new c k = (IsUnread c k × (new ≡ old)) ⊎ IsCopyRefused old new c k
 
--- So is a copy; any other call only for want of memory or room for its n words, and truly.
-abbrev pub IsCallRefused : View → View → ℕ → Option Copying → ErrorKind → Type 0
-IsCallRefused old new n (Some c) k = IsSourceRefused old new c k
-IsCallRefused old new n None k = IsRefusedFor old new n k
+-- What is looked for isn't opened: all is as it was; or memory is refused, and truly.
+abbrev pub IsOpeningRefused : View → View → ErrorKind → Type 0
+IsOpeningRefused old new k = (new ≡ old) ⊎ (SpendsMemory old new k × RefusesGrowth old new k)
+
+-- A default's copy is refused.
+abbrev pub IsDefaultRefused : View → View → List ℕ → ErrorKind → Type 0
+IsDefaultRefused old new bytes k = SpendsMemory old new k × ((id : ℕ) × (at : ℕ) × RefusesDefault bytes (default_copy id at old new) k)
+
+-- A search is refused: where a default's value is put in place of null first, from there on; or its copy is.
+abbrev pub IsSearchRefused : View → View → Option (Bor (List ℕ)) → ErrorKind → Type 0
+IsSearchRefused old new None k = IsOpeningRefused old new k
+IsSearchRefused old new (Some default) k = ((mid : View) × KeepsMemory old mid × IsOpeningRefused mid new k) ⊎ IsDefaultRefused old new default.now k
+
+-- Any other operation that copies nothing is refused only for want of memory or room for its n words, and truly.
+abbrev pub IsWordsRefused : View → View → Option (Option (Bor (List ℕ))) → ℕ → ErrorKind → Type 0
+IsWordsRefused old new (Some default) n k = IsSearchRefused old new default k
+IsWordsRefused old new None n k = IsRefusedFor old new n k
+
+abbrev pub IsCallRefused : View → View → Op → Option Copying → ErrorKind → Type 0
+IsCallRefused old new op (Some c) k = IsSourceRefused old new c k
+IsCallRefused old new op None k = IsWordsRefused old new (search_of op) (words_taken op) k
 
 -- A refusal by a name is for what a path leads to, and all is as it was; or it is that of the call.
 abbrev pub IsRefusedAs : View → View → Op → ErrorKind → Type 0
-IsRefusedAs old new op k = ((is_of_place k ≡ true) × (new ≡ old)) ⊎ IsCallRefused old new (words_taken op) (copied_by op) k
+IsRefusedAs old new op k = ((is_of_place k ≡ true) × (new ≡ old)) ⊎ IsCallRefused old new op (copied_by op) k
 
 -- What a call makes of n words, or copies, fits at a pointer of segment id.
 -- What is copied does; content, at any struct of any segment.
@@ -274,12 +333,22 @@ abbrev pub CopyFits : View → ℕ → Wanted → Copying → Type 0
 CopyFits old id Content c = (j q : ℕ) → ContentFitsBehind old j c.source q
 CopyFits old id w c = FitsBehind old id c
 
-abbrev pub CallFits : View → ℕ → ℕ → Option Copying → Type 0
-CallFits old id n (Some c) = CopyFits old id c.wanted c
-CallFits old id n None = HasRoom old id n
+-- So do the words of an object, and a default's value. How many words make what is found larger isn't said by the operation alone, so of none is it known
+-- that they fit.
+abbrev pub WordsFit : View → ℕ → Op → Type 0
+WordsFit old id (GetStruct size default) = ⊥
+WordsFit old id (GetList size default) = DefaultFits default old id
+WordsFit old id (GetStructList size default) = ⊥
+WordsFit old id (GetText default) = DefaultFits default old id
+WordsFit old id (GetData default) = DefaultFits default old id
+WordsFit old id op = HasRoom old id (words_taken op)
+
+abbrev pub CallFits : View → ℕ → Op → Option Copying → Type 0
+CallFits old id op (Some c) = CopyFits old id c.wanted c
+CallFits old id op None = WordsFit old id op
 
 abbrev pub OpFits : View → ℕ → Op → Type 0
-OpFits old id op = CallFits old id (words_taken op) (copied_by op)
+OpFits old id op = CallFits old id op (copied_by op)
 
 -- What stands after a whole operation in range where a pointer meant t: what it makes; or null, for want of memory.
 abbrev pub Gives : Op → Tree → Option ErrorKind → Tree → Type 0
@@ -317,18 +386,43 @@ FillsFirst source d q k u =
     (c : ContentRead source) × Fills source c d q u × (count c.children < min q c.from.pointers) × IsNextRefused source c k
 
 -- What an operation leaves where it makes this, with its outcome: o in the value's stead, if anything is changed. It is what is made; or null, for want
--- of memory; or all as it was; or it is what is copied; or null, where that is refused; or all as it was, where there is nothing to be copied. Of content it is
+-- of memory, or the value that is to be made larger; or all as it was; or it is what is copied; or null, where that is refused; or all as it was, where there is nothing to be copied. Of content it is
 -- all that is copied; or what is before a refusal; or all as it was.
 pub data Yields (op : Op) (making : Making) (r : Option ErrorKind) (o : Option Tree) : Type 0 where
   is_done : (u : Tree) → making ≡ becomes u → r ≡ None → o ≡ Some u → Yields op making r o
   lacks_memory : (u : Tree) (k : ErrorKind) → making ≡ becomes u → takes_memory op ≡ true → IsOfMemory k → r ≡ Some k → o ≡ Some Null → Yields op making r o
   is_denied : (k : ErrorKind) → making ≡ denied k → r ≡ Some k → o ≡ None → Yields op making r o
+  is_widened : (t u : Tree) → making ≡ widens t u → r ≡ None → o ≡ Some u → Yields op making r o
+  is_not_widened : (t u : Tree) (k : ErrorKind) → making ≡ widens t u → IsOfMemory k → r ≡ Some k → o ≡ Some t → Yields op making r o
   is_copied : (c : Copying) (u : Tree) → making ≡ copies c → Copies c u → r ≡ None → o ≡ Some u → Yields op making r o
   is_not_copied : (c : Copying) (k : ErrorKind) → making ≡ copies c → IsOfMemory k ⊎ IsUnreadable c k → r ≡ Some k → o ≡ Some Null → Yields op making r o
   is_unread : (c : Copying) (k : ErrorKind) → making ≡ copies c → IsUnread c k → r ≡ Some k → o ≡ None → Yields op making r o
   is_filled : (source : Source) (d q : ℕ) (u : Tree) → making ≡ fills source d q → FillsAll source d q u → r ≡ None → o ≡ Some u → Yields op making r o
   is_half_filled : (source : Source) (d q : ℕ) (k : ErrorKind) (u : Tree) → making ≡ fills source d q → FillsFirst source d q k u → r ≡ Some k → o ≡ Some u → Yields op making r o
   is_not_filled : (source : Source) (d q : ℕ) (k : ErrorKind) → making ≡ fills source d q → IsUnread (copying source Content false) k → r ≡ Some k → o ≡ None → Yields op making r o
+
+-- The value of a default, by its bytes, without capabilities.
+abbrev pub MeansDefault : List ℕ → Tree → Type 0
+MeansDefault bytes d = (n : ℕ) × MeansThere (default_root bytes) d n × (capabilities d ≡ 0)
+
+-- What is left where a default's value may come first: as of what stands; or a default's value, and what is left of that; or null, where its copy is refused,
+-- for memory or for what it reads.
+pub data Leaves (op : Op) (making : Making) (r : Option ErrorKind) (o : Option Tree) : Type 0 where
+  as_it_stands : Yields op making r o → Leaves op making r o
+  default_put :
+      (bytes : List ℕ) (made_of : Tree → Making) (d : Tree) (left : Option Tree) →
+      making ≡ defaults bytes made_of →
+      MeansDefault bytes d →
+      Yields op (made_of d) r left →
+      o ≡ Some (unwrap_or left d) →
+      Leaves op making r o
+  default_dropped :
+      (bytes : List ℕ) (made_of : Tree → Making) (k : ErrorKind) →
+      making ≡ defaults bytes made_of →
+      IsOfMemory k ⊎ HasFault of_default (default_root bytes) k →
+      r ≡ Some k →
+      o ≡ Some Null →
+      Leaves op making r o
 
 -- The pointer at a place means o in t's stead, if anything is changed.
 abbrev pub IsReplacedIf : Segments → Segments → PointerPlace → Tree → Option Tree → Type 0
@@ -338,11 +432,19 @@ IsReplacedIf S R place t None = R ≡ S
 -- So an operation does at a pointer that means t.
 pub record DoesAt (S R : Segments) (place : PointerPlace) (op : Op) (t : Tree) (r : Option ErrorKind) : Type 0 where
   pub left : Option Tree
-  pub yields : Yields op (made op (PointerTo t)) r left
+  pub leaves : Leaves op (made op (PointerTo t)) r left
   pub stands : IsReplacedIf S R place t left
 
 abbrev pub Does : Segments → Segments → PointerPlace → Op → Option ErrorKind → Type 0
 Does S R place op r = (t : Tree) → IsStored S place.segment place.word t → DoesAt S R place op t r
+
+-- What a call leaves that does a search at a place, with its outcome.
+pub record IsSought (old new : View) (place : PointerPlace) (op : Op) (r : Option ErrorKind) : Type 0 where
+  pub done : Does old.words new.words place op r
+  pub counted : new.refusals ≡ refusals_after r old.refusals
+  pub named : (k : ErrorKind) → r ≡ Some k → IsRefusedAs old new op k
+  pub fits : WordsFit old place.segment op → (k : ErrorKind) → r ≡ Some k → is_of_place k ≡ true
+  pub nowhere : r ≡ Some NoSuchPlace → new ≡ old
 
 -- What writing bits leaves of the data section of a struct, with its outcome: they are written, or they aren't there.
 pub data PutsBits (S R : Segments) (e : ExistingStruct) (f : Field) (r : Option ErrorKind) : Type 0 where
@@ -354,11 +456,6 @@ pub data WritesAt (S R : Segments) (e : ExistingStruct) (op : Op) (r : Option Er
   is_put : (f : Field) → field_of op ≡ Some f → is_in_range op ≡ true → PutsBits S R e f r → WritesAt S R e op r
   is_out_of_range : is_in_range op ≡ false → r ≡ Some NoSuchPlace → R ≡ S → WritesAt S R e op r
   has_none : field_of op ≡ None → r ≡ Some NoSuchPlace → R ≡ S → WritesAt S R e op r
-
--- An outcome of a search that makes this of t: what it makes is t, or the refusal.
-abbrev pub IsOutcome : Making → Tree → Option ErrorKind → Type 0
-IsOutcome made t None = made ≡ becomes t
-IsOutcome made t (Some k) = made ≡ denied k
 
 -- What a copy from another message leaves at a place, with its outcome: it is there; or null, the copy being refused; or there is nothing to be copied.
 pub data CopiesRoot (S R : Segments) (place : PointerPlace) (c : Copying) (r : Option ErrorKind) : Type 0 where
@@ -426,7 +523,7 @@ put_if t path None = t
 
 -- An edit with its outcome takes the value t of a message to u.
 pub data Takes (e : Edit) (t : Tree) (r : Option ErrorKind) (u : Tree) : Type 0 where
-  leads_to : (spot : Spot) (o : Option Tree) → found t (path_of e.path.now) ≡ Some spot → Yields e.op (made e.op spot) r o → u ≡ put_if t (path_of e.path.now) o → Takes e t r u
+  leads_to : (spot : Spot) (o : Option Tree) → found t (path_of e.path.now) ≡ Some spot → Leaves e.op (made e.op spot) r o → u ≡ put_if t (path_of e.path.now) o → Takes e t r u
   leads_nowhere : found t (path_of e.path.now) ≡ None → r ≡ Some NoSuchPlace → u ≡ t → Takes e t r u
 
 -- From S to R an edit takes a forest to a forest, with its outcome.

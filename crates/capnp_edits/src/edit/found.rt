@@ -1,39 +1,31 @@
-//! Edits that look for a list, a text or data, and change nothing.
-ghost use Rattle.std.specs.Prelude.{◌≡◌, IfErr, true};
+//! Edits that look for a struct, a list, a text or data.
+ghost use Rattle.std.specs.Prelude.{◌≡◌, IfErr, true, None, Some};
 ghost use Rattle.capnp_format.specs.Segments.{IsPlace};
-ghost use Rattle.capnp_format.specs.Tree.{Tree};
-ghost use Rattle.capnp_making.specs.Stored.{IsStored};
-ghost use Rattle.capnp_builders.specs.Building.{built, IsThere, Stores};
-ghost use Rattle.capnp_edits.specs.Paths.{PointerTo};
-ghost use Rattle.capnp_edits.specs.Edits.{refusal_of, is_search, is_in_range, made_at, is_of_place, IsOutcome, Does};
+ghost use Rattle.capnp_words.specs.declared.error.ErrorKind.TheVariants.{NoSuchPlace};
+ghost use Rattle.capnp_builders.specs.Building.{built, IsThere};
+ghost use Rattle.capnp_edits.specs.Edits.{refusal_of, is_search, is_in_range, place_of, copied_by, is_of_place, OpFits, IsRefusedAs, IsSought, Does, refusals_after};
 
 use crate::edit::Op;
+use crate::edit::pointer::done;
 use capnp_arena::arena::BuilderArena;
 use capnp_builders::builders::PointerBuilder;
 use capnp_readers::readers::PointerPlace;
 use capnp_words::error::ErrorKind;
 
 /// Looks for what an operation asks for, as a builder call does.
-fn look<A: BuilderArena>(pointer: &PointerBuilder<'_, A>, op: Op<'_>) -> Result<(), ErrorKind>
-    requires there { IsThere (built A.view pointer.now) }
+fn look<A: BuilderArena>(pointer: &mut PointerBuilder<'_, A>, op: Op<'_>) -> Result<(), ErrorKind>
+    requires there { IsThere (built A.view pointer.old) }
     requires range { is_in_range op ≡ true }
     requires search { is_search op ≡ true }
-    ensures found { (t : Tree) → Stores (built A.view pointer.now) t → IsOutcome (made_at op.entry (PointerTo t)) t (refusal_of result) }
-    ensures named { IfErr result (λ k. is_of_place k ≡ true) }
+    ensures sought { IsSought (A.view pointer.old.arena.now) (A.view pointer.new.arena.now) (place_of pointer.old) op.entry (refusal_of result) }
+    ensures same { pointer.new.arena.ghost_name ≡ pointer.old.arena.ghost_name }
 {
     match op {
-        Op::GetList(size, default) => match pointer.find_list(size, default) {
-            Ok(_) => Ok(()),
-            Err(k) => Err(k),
-        },
-        Op::GetText(default) => match pointer.find_text(default) {
-            Ok(_) => Ok(()),
-            Err(k) => Err(k),
-        },
-        Op::GetData(default) => match pointer.find_data(default) {
-            Ok(_) => Ok(()),
-            Err(k) => Err(k),
-        },
+        Op::GetStruct(size, default) => done(pointer.find_struct(size, default)),
+        Op::GetList(size, default) => done(pointer.find_list(size, default)),
+        Op::GetStructList(size, default) => done(pointer.find_struct_list(size, default)),
+        Op::GetText(default) => done(pointer.find_text(default)),
+        Op::GetData(default) => done(pointer.find_data(default)),
         _ => Err(ErrorKind::NoSuchPlace),
     }
 }
@@ -43,16 +35,14 @@ fn look_at<A: BuilderArena>(arena: &mut A, place: PointerPlace, op: Op<'_>) -> R
     requires there { IsPlace (A.view arena.old).words place.segment place.word }
     requires range { is_in_range op ≡ true }
     requires search { is_search op ≡ true }
-    ensures found { (t : Tree) → IsStored (A.view arena.old).words place.segment place.word t → IsOutcome (made_at op.entry (PointerTo t)) t (refusal_of result) }
-    ensures named { IfErr result (λ k. is_of_place k ≡ true) }
-    ensures same { A.view arena.new ≡ A.view arena.old }
+    ensures { IsSought (A.view arena.old) (A.view arena.new) place op.entry (refusal_of result) }
 {
-    let pointer = PointerBuilder {
+    let mut pointer = PointerBuilder {
         arena,
         segment: place.segment,
         at: place.word,
     };
-    look(&pointer, op)
+    look(&mut pointer, op)
 }
 
 /// Does an operation that looks for something at a pointer of a message.
@@ -64,9 +54,12 @@ pub(crate) fn edit_search<A: BuilderArena>(
     requires there { IsPlace (A.view arena.old).words place.segment place.word }
     requires range { is_in_range op ≡ true }
     requires search { is_search op ≡ true }
+    requires uncopied { copied_by op ≡ None }
     ensures done { Does (A.view arena.old).words (A.view arena.new).words place op.entry (refusal_of result) }
-    ensures named { IfErr result (λ k. is_of_place k ≡ true) }
-    ensures same { A.view arena.new ≡ A.view arena.old }
+    ensures counted { (A.view arena.new).refusals ≡ refusals_after (refusal_of result) (A.view arena.old).refusals }
+    ensures named { IfErr result (IsRefusedAs (A.view arena.old) (A.view arena.new) op.entry) }
+    ensures fits { OpFits (A.view arena.old) place.segment op.entry → IfErr result (λ k. is_of_place k ≡ true) }
+    ensures nowhere { refusal_of result ≡ Some NoSuchPlace → A.view arena.new ≡ A.view arena.old }
 {
     look_at(arena, place, op)
 }

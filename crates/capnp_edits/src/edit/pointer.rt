@@ -4,7 +4,7 @@ ghost use Rattle.capnp_format.specs.Segments.{IsPlace};
 ghost use Rattle.capnp_making.specs.Memory.{HasRoom, IsRefusedFor};
 ghost use Rattle.capnp_words.specs.declared.error.ErrorKind.TheVariants.{NoSuchPlace};
 ghost use Rattle.capnp_builders.specs.Building.{built, IsThere};
-ghost use Rattle.capnp_edits.specs.Edits.{refusal_of, field_of, is_field, is_content, is_search, is_init, is_in_range, place_of, is_of_place, copied_by, OpFits, IsRefusedAs, IsPut, Does, refusals_after};
+ghost use Rattle.capnp_edits.specs.Edits.{refusal_of, field_of, is_field, is_content, is_search, is_init, is_small_default, is_in_range, place_of, is_of_place, copied_by, OpFits, IsRefusedAs, IsPut, Does, refusals_after};
 
 use crate::edit::Op;
 use crate::edit::copying::{copying_of, edit_source};
@@ -22,7 +22,21 @@ use capnp_words::wire_pointer::ElementSize;
 // Lists have fewer elements than this, and lists of structs fewer words.
 const LIST_LIMIT: u32 = 0x2000_0000;
 
-/// Whether the numbers of an operation are those of something that a pointer can lead to.
+// Defaults have fewer words than this.
+const DEFAULT_LIMIT: usize = 0x1_0000_0000;
+
+/// Whether a default has fewer words than a segment can have.
+fn is_small_default(default: Option<&[u8]>) -> bool
+    ensures { result ≡ is_small_default default.entry }
+{
+    match default {
+        Some(bytes) => bytes.len() / 8 < DEFAULT_LIMIT,
+        None => true,
+    }
+}
+
+/// Whether the numbers of an operation are those of something that a pointer can lead to, and its default is
+/// small.
 pub(crate) fn is_in_range(op: Op<'_>) -> bool
     ensures { result ≡ is_in_range op.entry }
 {
@@ -38,10 +52,13 @@ pub(crate) fn is_in_range(op: Op<'_>) -> bool
         Op::SetData(bytes) => bytes.len() < LIST_LIMIT as usize,
         Op::SetField(size, _, value) => is_number_of(size, value),
         Op::SetElement(size, _, value) => is_element_of(size, value),
-        Op::GetList(size, _) => size != ElementSize::InlineComposite,
-        Op::GetStruct(_, _) | Op::GetStructList(_, _) => false,
+        Op::GetList(size, default) => {
+            size != ElementSize::InlineComposite && is_small_default(default)
+        }
+        Op::GetStruct(_, default) | Op::GetStructList(_, default) => is_small_default(default),
+        Op::GetText(default) | Op::GetData(default) => is_small_default(default),
         Op::InitStruct(_) | Op::SetCapability(_) | Op::Clear | Op::SetBool(_, _) => true,
-        Op::WriteText(_, _) | Op::WriteData(_, _) | Op::GetText(_) | Op::GetData(_) => true,
+        Op::WriteText(_, _) | Op::WriteData(_, _) => true,
         Op::CopyFrom(_, _) | Op::SetStruct(_, _) | Op::SetList(_, _) => true,
         Op::CopyContent(_) => true,
     }
@@ -64,15 +81,22 @@ fn is_on_content(op: Op<'_>) -> bool
     )
 }
 
-/// Whether an operation looks for a list, a text or data.
+/// Whether an operation looks for a struct, a list, a text or data.
 fn is_search(op: Op<'_>) -> bool
     ensures { result ≡ is_search op.entry }
 {
-    matches!(op, Op::GetList(_, _) | Op::GetText(_) | Op::GetData(_))
+    matches!(
+        op,
+        Op::GetStruct(_, _)
+            | Op::GetList(_, _)
+            | Op::GetStructList(_, _)
+            | Op::GetText(_)
+            | Op::GetData(_)
+    )
 }
 
 /// An outcome without what it gives.
-fn done<T: Drop>(outcome: Result<T, ErrorKind>) -> Result<(), ErrorKind>
+pub(crate) fn done<T: Drop>(outcome: Result<T, ErrorKind>) -> Result<(), ErrorKind>
     ensures { refusal_of result ≡ refusal_of outcome }
 {
     match outcome {

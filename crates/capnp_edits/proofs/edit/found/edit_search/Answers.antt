@@ -1,7 +1,21 @@
-use Rattle.std.proofs.Common.{ap}
-use Rattle.capnp_arena.specs.View.{View}
-use Rattle.capnp_edits.proofs.Searches.{search_does}
+use Rattle.std.proofs.Common.{◌≡◌, true}
+use Rattle.capnp_edits.specs.Edits.{is_of_place, IsRefusedAs}
+use Rattle.capnp_edits.proofs.Applied.{if_refused}
+use Rattle.capnp_edits.proofs.Sought.{words_fit}
 use Rattle.capnp_edits.proofs.edit.found.edit_search.Goals as goal
 
 pub returns-clause-done : goal.returns-clause-done
-returns-clause-done g c = search_does _ _ c.args.place c.args.op _ c.requires.range c.look_at.ensures.found (ap (λ (v : View). v.words) c.look_at.ensures.same)
+returns-clause-done g c = c.look_at.ensures.done
+
+pub returns-clause-counted : goal.returns-clause-counted
+returns-clause-counted g c = c.look_at.ensures.counted
+
+pub returns-clause-named : goal.returns-clause-named
+returns-clause-named g c = if_refused c.look_at.result (IsRefusedAs (g.A.BuilderArena.view c.args.arena.now) (g.A.BuilderArena.view c.look_at.new.arena) c.args.op) c.look_at.ensures.named
+
+pub returns-clause-fits : goal.returns-clause-fits
+returns-clause-fits g c = λ room.
+    if_refused c.look_at.result (λ k. is_of_place k ≡ true) (c.look_at.ensures.fits (words_fit (g.A.BuilderArena.view c.args.arena.now) c.args.place.segment c.args.op c.requires.uncopied room))
+
+pub returns-clause-nowhere : goal.returns-clause-nowhere
+returns-clause-nowhere g c = c.look_at.ensures.nowhere

@@ -27,10 +27,10 @@ pub returns-in-Some-clause-named : goal.returns-in-Some-clause-named
 returns-in-Some-clause-named g c = refused_there c.edit_struct.result _ _ c.args.op (of_place c.edit_struct.result c.edit_struct.ensures.named) c.edit_struct.ensures.kept
 
 pub returns-clause-fits : goal.returns-clause-fits
-returns-clause-fits g c = words_fit c.put_at.result _ _ c.args.op (none_copied c.args.op (λ copied e. c.in_default-copying_of.not-Some copied (c.copying_of.ensures ∙ e))) (λ room. unrefused c.put_at.result (c.put_at.ensures.fits room))
+returns-clause-fits g c = words_fit c.put_at.result _ _ c.args.op (none_copied c.args.op (λ copied e. c.in_default-copying_of.not-Some copied (c.copying_of.ensures ∙ e))) (sym c.is_search.ensures ∙ c.if-is_search.false) (λ room. unrefused c.put_at.result (c.put_at.ensures.fits room))
 
 pub returns-clause-named : goal.returns-clause-named
-returns-clause-named g c = refused_as c.put_at.result _ _ c.args.op (none_copied c.args.op (λ copied e. c.in_default-copying_of.not-Some copied (c.copying_of.ensures ∙ e))) (if_refused c.put_at.result (IsRefusedFor _ _ _) c.put_at.ensures.named)
+returns-clause-named g c = refused_as c.put_at.result _ _ c.args.op (none_copied c.args.op (λ copied e. c.in_default-copying_of.not-Some copied (c.copying_of.ensures ∙ e))) (sym c.is_search.ensures ∙ c.if-is_search.false) (if_refused c.put_at.result (IsRefusedFor _ _ _) c.put_at.ensures.named)
 
 pub returns-in-None-clause-done : goal.returns-in-None-clause-done
 returns-in-None-clause-done g c = no_struct_at _ c.args.place c.args.op (sym c.is_on_field.ensures ∙ c.if-is_on_field.true) c.in-None.ensures.found

@@ -1,0 +1,442 @@
+-- Searches: what they leave, with a default or without one.
+use Rattle.std.proofs.Common.{◌≡◌, ◌⊎◌, inl, inr, ℕ, ◌+◌, ◌/◌, ◌^◌, ◌<◌, ◌≤◌, Bool, true, false, cond, ◌&&◌, nat_eq, nat_le, nat_lt, List, [], ◌∷◌, length, Option, Some, None, unwrap_or, Result, Ok, Err, IfErr, OnOk, refl, sym, ap, ◌∙◌, subst, arith}
+use Rattle.std.proofs.lemmas.Bool.{cases_lt}
+use Rattle.std.proofs.lemmas.Bool.Decides.{nat_tests}
+use Rattle.std.specs.Borrow.{Bor}
+use Rattle.capnp_words.specs.declared.error.ErrorKind.{ErrorKind}
+use Rattle.capnp_words.specs.declared.error.ErrorKind.TheVariants.{ExistingPointerIsNotAList, FoundBitListWhereStructListWasExpected, MessageContainsNonStructPointerWhereStructPointerWasExpected, MessageContainsOutOfBoundsPointer, NoSuchPlace, UnknownPointerType}
+use Rattle.capnp_words.specs.Meter.{unused}
+use Rattle.capnp_pointers.specs.Sizes.{size_number}
+use Rattle.capnp_pointers.specs.declared.wire_pointer.ElementSize.{ElementSize}
+use Rattle.capnp_pointers.specs.declared.wire_pointer.StructSize.{StructSize}
+use Rattle.capnp_format.specs.Bytes.{words_of}
+use Rattle.capnp_format.specs.Forest.{target}
+use Rattle.capnp_format.specs.Segments.{Segments, Target, segment, word_at, IsPlace}
+use Rattle.capnp_format.specs.Tree.{Tree, Null, capabilities}
+use Rattle.capnp_arena.specs.View.{View}
+use Rattle.capnp_making.specs.declared.existing.ExistingBytes.{ExistingBytes}
+use Rattle.capnp_making.specs.declared.existing.ExistingList.{ExistingList}
+use Rattle.capnp_making.specs.Existing.{is_unfound, list_in, data_in, text_in}
+use Rattle.capnp_making.specs.Memory.{KeepsMemory, SpendsMemory, RefusesGrowth}
+use Rattle.capnp_making.specs.Stored.{IsStored, IsReplaced}
+use Rattle.capnp_making.proofs.Filling.{unchanged as stays}
+use Rattle.capnp_making.proofs.FillingMade.{null_stored}
+use Rattle.capnp_making.proofs.Memory.{keeps_itself}
+use Rattle.capnp_making.proofs.Replaced.{replaced_again}
+use Rattle.capnp_objects.specs.Faults.{HasFault}
+use Rattle.capnp_objects.specs.Wanted.{of_default}
+use Rattle.capnp_objects.proofs.Faultless.{no_fault}
+use Rattle.capnp_copies.specs.Copies.{CanBeCopied}
+use Rattle.capnp_readers.specs.declared.readers.PointerPlace.{PointerPlace}
+use Rattle.capnp_readers.specs.declared.readers.list_reader.ListPlace.{ListPlace}
+use Rattle.capnp_readers.specs.declared.readers.struct_reader.StructPlace.{StructPlace}
+use Rattle.capnp_widening.specs.Opening.{CallAt, Opens, struct_opened}
+use Rattle.capnp_widening.specs.RowsRemade.{RefusesWider}
+use Rattle.capnp_widening.specs.Widened.{list_widened, IsNoWider}
+use Rattle.capnp_builders.specs.Defaults.{IsFew, DefaultUse, ignored, denied as is_denied_by, copied as is_copied_from, use_of_words, default_use, default_root, default_copy, RefusesDefault, WithDefault, DefaultFits}
+use Rattle.capnp_builders.specs.Found.{list_given, bytes_given, GivesList, GivesData, GivesText, FindsList, FindsData, FindsText}
+use Rattle.capnp_builders.specs.Opening.{IsStructGiven, IsListGiven, OpensStruct, OpensList, FindsStruct, FindsStructs}
+use Rattle.capnp_edits.specs.declared.edit.Op.{Op}
+use Rattle.capnp_edits.specs.declared.edit.Op.TheVariants.{GetStruct, GetList, GetStructList, GetText, GetData}
+use Rattle.capnp_edits.specs.Paths.{PointerTo}
+use Rattle.capnp_edits.specs.Edits.{refusal_of, is_small_default, is_in_range, Making, becomes, denied, widens, defaults, nowhere, unchanged, opened, struct_made, structs_made, list_looked, text_looked, data_looked, with_default, made_at, made, is_of_place, copied_by, IsOfMemory, IsOpeningRefused, IsDefaultRefused, IsSearchRefused, IsRefusedAs, WordsFit, CallFits, OpFits, Yields, is_done, is_denied, is_widened, is_not_widened, as_it_stands, default_put, default_dropped, IsReplacedIf, DoesAt, Does, IsSought, refusals_after}
+use Rattle.capnp_edits.proofs.Applied.{of_allocation, of_no_place, denied_at, in_range_makes}
+use Rattle.capnp_edits.proofs.Contents.{list_anywhere, data_anywhere, text_anywhere}
+use Rattle.capnp_edits.proofs.Names.{elsewhere, struct_elsewhere, structs_elsewhere, list_elsewhere, data_elsewhere, text_elsewhere, fault_elsewhere, unfound_name, list_unfound, data_unfound, text_unfound}
+use Rattle.capnp_edits.proofs.Steps.{same_some}
+
+-- a small default has few words
+pub few_words : (default : Option (Bor (List ℕ))) → is_small_default default ≡ true → IsFew default
+few_words None e = tt
+few_words (Some d) e = few (length d.now / 8) e
+  where
+    few : (n : ℕ) → nat_lt n (2 ^ 32) ≡ true → n < 2 ^ 32
+    few n e = grind (arith, nat_tests)
+
+-- where a call is made
+abbrev pub place_in : CallAt → PointerPlace
+place_in c = record { segment = c.segment; word = c.at }
+
+same_words : {a b : View} → a ≡ b → a.words ≡ b.words
+same_words e = ap (λ (v : View). v.words) e
+
+-- so an operation does, where it makes this of a value that stands
+record DoesAs (S R : Segments) (place : PointerPlace) (op : Op) (making : Making) (t : Tree) (r : Option ErrorKind) : Type 0 where
+  left : Option Tree
+  yields : Yields op making r left
+  stands : IsReplacedIf S R place t left
+
+-- by what a call does with a value
+abbrev DoesSo : {B : Type 0} → (CallAt → Tree → Type 0) → Op → (Tree → Making) → Result B ErrorKind → Type 0
+DoesSo P op made_of result = (c : CallAt) (t : Tree) → IsStored c.old.words c.segment c.at t → P c t → DoesAs c.old.words c.new.words (place_in c) op (made_of t) t (refusal_of result)
+
+-- what is opened stands in the stead of what stood, or that stays
+opened_so : {B : Type 0} (result : Result B ErrorKind) (size : StructSize) (Given : Segments → ℕ → ℕ → Tree → B → Type 0) (op : Op) (c : CallAt) (t : Tree) (q : Result Tree ErrorKind) → Opens size Given c t q result →
+    DoesAs c.old.words c.new.words (place_in c) op (opened t q) t (refusal_of result)
+opened_so (Ok b) size Given op c t (Ok u) h = record { left = Some u; yields = is_widened t u refl refl refl; stands = h.replaced }
+opened_so (Err k) size Given op c t (Ok u) h =
+    let (n, (why, none)) = h.full in
+    record { left = Some t; yields = is_not_widened t u k refl (of_allocation c.old c.new (length c.new.words) (n + 1) k why) refl refl; stands = h.stands }
+opened_so result size Given op c t (Err k) h = record { left = None; yields = is_denied k refl (ap refusal_of h.0) refl; stands = same_words h.1 }
+
+struct_so : (result : Result StructPlace ErrorKind) (size : StructSize) (op : Op) → DoesSo (OpensStruct size result) op (struct_made size) result
+struct_so result size op c t stored h = opened_so result size IsStructGiven op c t (struct_opened size t) h
+
+-- what is looked for stays
+kept_so : {A B : Type 0} (q : Result (Option A) ErrorKind) (result : Result B ErrorKind) (op : Op) (c : CallAt) (t : Tree) → IsStored c.old.words c.segment c.at t → refusal_of result ≡ refusal_of q → c.new ≡ c.old →
+    DoesAs c.old.words c.new.words (place_in c) op (unchanged t q) t (refusal_of result)
+kept_so (Ok x) result op c t stored e same =
+    record { left = Some t; yields = is_done t refl e refl; stands = subst (λ Q. IsReplaced c.old.words Q c.segment c.at t t) (sym (same_words same)) (stays c.old.words c.segment c.at t stored) }
+kept_so (Err k) result op c t stored e same = record { left = None; yields = is_denied k refl e refl; stands = same_words same }
+
+null_so : (result : Result ListPlace ErrorKind) (op : Op) (c : CallAt) → IsStored c.old.words c.segment c.at Null → refusal_of result ≡ None → c.new ≡ c.old → DoesAs c.old.words c.new.words (place_in c) op (becomes Null) Null (refusal_of result)
+null_so result op c stored e same =
+    record { left = Some Null; yields = is_done Null refl e refl; stands = subst (λ Q. IsReplaced c.old.words Q c.segment c.at Null Null) (sym (same_words same)) (stays c.old.words c.segment c.at Null stored) }
+
+structs_so : (result : Result ListPlace ErrorKind) (size : StructSize) (op : Op) → DoesSo (OpensList size result) op (structs_made size) result
+structs_so result size op c Null stored h = null_so result op c stored (ap refusal_of h.0) h.1
+structs_so result size op c t stored h = opened_so result size IsListGiven op c t (list_widened size.data_words size.pointers t) h
+
+list_refusal : (id : ℕ) (q : Result (Option ExistingList) ErrorKind) → refusal_of (list_given id q) ≡ refusal_of q
+list_refusal id (Ok (Some l)) = refl
+list_refusal id (Ok None) = refl
+list_refusal id (Err k) = refl
+
+bytes_refusal : (id : ℕ) (q : Result (Option ExistingBytes) ErrorKind) → refusal_of (bytes_given id q) ≡ refusal_of q
+bytes_refusal id (Ok (Some b)) = refl
+bytes_refusal id (Ok None) = refl
+bytes_refusal id (Err k) = refl
+
+list_so : (result : Result ListPlace ErrorKind) (size : ElementSize) (op : Op) → DoesSo (GivesList size result) op (list_looked size) result
+list_so result size op c t stored h =
+    let a : Target = target c.old.words c.segment c.at in
+    kept_so (list_in nowhere size t) result op c t stored (ap refusal_of h.0 ∙ list_refusal c.segment (list_in a size t) ∙ list_anywhere refusal_of (λ l k e. refl) a nowhere size t) h.1
+
+data_so : (result : Result ExistingBytes ErrorKind) (op : Op) → DoesSo (GivesData result) op data_looked result
+data_so result op c t stored h =
+    let a : Target = target c.old.words c.segment c.at in
+    kept_so (data_in nowhere t) result op c t stored (ap refusal_of h.0 ∙ bytes_refusal c.segment (data_in a t) ∙ data_anywhere refusal_of (λ b d e. refl) a nowhere t) h.1
+
+text_so : (result : Result ExistingBytes ErrorKind) (op : Op) → DoesSo (GivesText result) op text_looked result
+text_so result op c t stored h =
+    let a : Target = target c.old.words c.segment c.at in
+    kept_so (text_in nowhere t) result op c t stored (ap refusal_of h.0 ∙ bytes_refusal c.segment (text_in a t) ∙ text_anywhere refusal_of (λ b d e. refl) a nowhere t) h.1
+
+-- what stands is done with as it is
+as_stands : (S R : Segments) (place : PointerPlace) (op : Op) (m : Making) (t : Tree) (r : Option ErrorKind) → made op (PointerTo t) ≡ m → DoesAs S R place op m t r → DoesAt S R place op t r
+as_stands S R place op m t r makes d = record { left = d.left; leaves = as_it_stands (subst (λ x. Yields op x r d.left) (sym makes) d.yields); stands = d.stands }
+
+-- or a default's value that is put in place of null first
+replaced_if : (S M R : Segments) (place : PointerPlace) (d : Tree) (left : Option Tree) → IsReplaced S M place.segment place.word Null d → IsReplacedIf M R place d left → IsReplaced S R place.segment place.word Null (unwrap_or left d)
+replaced_if S M R place d (Some u) put next = replaced_again S M R place.segment place.word Null d u put next
+replaced_if S M R place d None put same = subst (λ Q. IsReplaced S Q place.segment place.word Null d) (sym same) put
+
+dropped_name : (bytes : List ℕ) (id at : ℕ) (old new : View) (k : ErrorKind) → RefusesDefault bytes (default_copy id at old new) k → IsOfMemory k ⊎ HasFault of_default (default_root bytes) k
+dropped_name bytes id at old new k (inl fault) = inr fault
+dropped_name bytes id at old new k (inr (n, (why, none), wanted, large)) = inl (of_allocation old new (length new.words) (n + 1) k why)
+
+null_does : {B : Type 0} (result : Result B ErrorKind) (used : DefaultUse) (made_of : Tree → Making) (P : CallAt → Tree → Type 0) (op : Op) (c : CallAt) → IsStored c.old.words c.segment c.at Null →
+    made op (PointerTo Null) ≡ with_default used made_of Null → DoesSo P op made_of result → WithDefault used c Null P result → DoesAt c.old.words c.new.words (place_in c) op Null (refusal_of result)
+null_does result ignored made_of P op c stored makes does h = as_stands c.old.words c.new.words (place_in c) op (made_of Null) Null (refusal_of result) makes (does c Null stored h)
+null_does result (is_denied_by k) made_of P op c stored makes does h = denied_at k makes (ap refusal_of h.0) (same_words h.1)
+null_does result (is_copied_from bytes) made_of P op c stored makes does (inl on) =
+    let then = does (record c { old = on.mid }) on.value on.put.replaced.stored on.does in
+    record {
+      left = Some (unwrap_or then.left on.value);
+      leaves = default_put bytes made_of on.value then.left makes (on.put.meant.0, on.put.meant.1, on.put.plain) then.yields refl;
+      stands = replaced_if c.old.words on.mid.words c.new.words (place_in c) on.value then.left on.put.replaced then.stands;
+    }
+null_does (Err k) (is_copied_from bytes) made_of P op c stored makes does (inr drops) =
+    record { left = Some Null; leaves = default_dropped bytes made_of k makes (dropped_name bytes c.segment c.at c.old c.new k drops.named) refl refl; stands = drops.replaced }
+null_does (Ok x) (is_copied_from bytes) made_of P op c stored makes does (inr drops) = absurd drops
+
+-- a default is used for null alone
+null_or_ignored : (of_null : DefaultUse) (default : Option (Bor (List ℕ))) (t : Tree) → (t ≡ Null) ⊎ (default_use of_null default t ≡ ignored)
+null_or_ignored of_null None t = inr refl
+null_or_ignored of_null (Some d) Null = inl refl
+null_or_ignored of_null (Some d) t = inr refl
+
+with_does : {B : Type 0} (result : Result B ErrorKind) (of_null : DefaultUse) (default : Option (Bor (List ℕ))) (made_of : Tree → Making) (P : CallAt → Tree → Type 0) (op : Op) (c : CallAt) (t : Tree) → IsStored c.old.words c.segment c.at t →
+    ((t : Tree) → made op (PointerTo t) ≡ with_default (default_use of_null default t) made_of t) → DoesSo P op made_of result → WithDefault (default_use of_null default t) c t P result →
+    DoesAt c.old.words c.new.words (place_in c) op t (refusal_of result)
+with_does result of_null default made_of P op c t stored makes does h = elim (null_or_ignored of_null default t) [
+  | inl null ↦
+      subst (λ x. DoesAt c.old.words c.new.words (place_in c) op x (refusal_of result)) (sym null)
+      (null_does result (default_use of_null default Null) made_of P op c (subst (IsStored c.old.words c.segment c.at) null stored) (makes Null) does (subst (λ x. WithDefault (default_use of_null default x) c x P result) null h))
+  | inr plain ↦
+      as_stands c.old.words c.new.words (place_in c) op (made_of t) t (refusal_of result) (makes t ∙ ap (λ u. with_default u made_of t) plain)
+      (does c t stored (subst (λ u. WithDefault u c t P result) plain h))
+]
+
+-- Why a value isn't opened or found: by its name, which is no missing place, and all is as it was; or memory is refused.
+abbrev IsWhy : View → View → ErrorKind → Type 0
+IsWhy old new k = ((k ≡ NoSuchPlace → ⊥) × (new ≡ old)) ⊎ (SpendsMemory old new k × RefusesGrowth old new k)
+
+abbrev WhySo : (CallAt → Tree → Type 0) → ErrorKind → Type 0
+WhySo P k = (c : CallAt) (t : Tree) → P c t → IsWhy c.old c.new k
+
+same_err : {A : Type 0} (j k : ErrorKind) → ◌≡◌ {A = Result A ErrorKind} (Err j) (Err k) → j ≡ k
+same_err j k e = cc
+
+why_opened : {B : Type 0} (k : ErrorKind) (size : StructSize) (Given : Segments → ℕ → ℕ → Tree → B → Type 0) (c : CallAt) (t : Tree) (q : Result Tree ErrorKind) → ((j : ErrorKind) → q ≡ Err j → j ≡ NoSuchPlace → ⊥) → Opens size Given c t q (Err k) → IsWhy c.old c.new k
+why_opened k size Given c t (Ok u) names h = inr (h.memory, h.full)
+why_opened k size Given c t (Err j) names h = inl ((λ e. names j refl (sym (same_err k j h.0) ∙ e)), h.1)
+
+struct_why : (size : StructSize) (k : ErrorKind) → WhySo (OpensStruct size (Err k)) k
+struct_why size k c t h = why_opened k size IsStructGiven c t (struct_opened size t) (λ j e. elsewhere (struct_opened size t) j (struct_elsewhere size t) e) h
+
+structs_why : (size : StructSize) (k : ErrorKind) → WhySo (OpensList size (Err k)) k
+structs_why size k c Null h = absurd (let e = h.0 in cc)
+structs_why size k c t h = why_opened k size IsListGiven c t (list_widened size.data_words size.pointers t) (λ j e. elsewhere (list_widened size.data_words size.pointers t) j (structs_elsewhere size.data_words size.pointers t) e) h
+
+list_err : (id : ℕ) (q : Result (Option ExistingList) ErrorKind) (k : ErrorKind) → Err k ≡ list_given id q → q ≡ Err k
+list_err id (Ok (Some l)) k e = absurd (cc)
+list_err id (Ok None) k e = absurd (cc)
+list_err id (Err j) k e = ap Err (let same : j ≡ k = cc in same)
+
+bytes_err : (id : ℕ) (q : Result (Option ExistingBytes) ErrorKind) (k : ErrorKind) → Err k ≡ bytes_given id q → q ≡ Err k
+bytes_err id (Ok (Some b)) k e = absurd (cc)
+bytes_err id (Ok None) k e = absurd (cc)
+bytes_err id (Err j) k e = ap Err (let same : j ≡ k = cc in same)
+
+list_why : (size : ElementSize) (k : ErrorKind) → WhySo (GivesList size (Err k)) k
+list_why size k c t h = inl (elsewhere (list_in (target c.old.words c.segment c.at) size t) k (list_elsewhere (target c.old.words c.segment c.at) size t) (list_err c.segment (list_in (target c.old.words c.segment c.at) size t) k h.0), h.1)
+
+data_why : (k : ErrorKind) → WhySo (GivesData (Err k)) k
+data_why k c t h = inl (elsewhere (data_in (target c.old.words c.segment c.at) t) k (data_elsewhere (target c.old.words c.segment c.at) t) (bytes_err c.segment (data_in (target c.old.words c.segment c.at) t) k h.0), h.1)
+
+text_why : (k : ErrorKind) → WhySo (GivesText (Err k)) k
+text_why k c t h = inl (elsewhere (text_in (target c.old.words c.segment c.at) t) k (text_elsewhere (target c.old.words c.segment c.at) t) (bytes_err c.segment (text_in (target c.old.words c.segment c.at) t) k h.0), h.1)
+
+-- Why a search is refused: as what stands is; or as the value of its default is, which is put first; or as the copy of that is.
+data Why (old new : View) (default : Option (Bor (List ℕ))) (k : ErrorKind) : Type 0 where
+  as_found : IsOpeningRefused old new k → Why old new default k
+  as_default : (d : Bor (List ℕ)) (mid : View) → default ≡ Some d → KeepsMemory old mid → IsWhy mid new k → Why old new default k
+  as_copy : (d : Bor (List ℕ)) (id at : ℕ) → default ≡ Some d → SpendsMemory old new k → RefusesDefault d.now (default_copy id at old new) k → Why old new default k
+
+plainly : (old new : View) (k : ErrorKind) → IsWhy old new k → IsOpeningRefused old new k
+plainly old new k (inl h) = inl h.1
+plainly old new k (inr h) = inr h
+
+-- its words are those of its bytes
+abbrev IsOf : List ℕ → DefaultUse → Type 0
+IsOf bytes ignored = Unit {0}
+IsOf bytes (is_denied_by k) = Unit {0}
+IsOf bytes (is_copied_from other) = other ≡ bytes
+
+use_is : (of_null : DefaultUse) (bytes ws : List ℕ) → IsOf bytes of_null → IsOf bytes (use_of_words of_null bytes ws)
+use_is of_null bytes [] plain = tt
+use_is of_null bytes (x ∷ xs) plain = by_first (nat_eq x 0)
+  where
+    by_first : (b : Bool) → IsOf bytes (cond b of_null (is_copied_from bytes))
+    by_first true = plain
+    by_first false = refl
+
+why_used : (B : Type 0) (k : ErrorKind) (used : DefaultUse) (d : Bor (List ℕ)) (P : CallAt → Tree → Type 0) (c : CallAt) → IsOf d.now used → WhySo P k → WithDefault {B = B} used c Null P (Err k) → Why c.old c.new (Some d) k
+why_used B k ignored d P c only why h = as_found (plainly c.old c.new k (why c Null h))
+why_used B k (is_denied_by j) d P c only why h = as_found (inl h.1)
+why_used B k (is_copied_from bytes) d P c only why (inl on) = as_default d on.mid refl on.put.memory (why (record c { old = on.mid }) on.value on.does)
+why_used B k (is_copied_from bytes) d P c only why (inr drops) = as_copy d c.segment c.at refl drops.memory (subst (λ b. RefusesDefault b (default_copy c.segment c.at c.old c.new) k) only drops.named)
+
+why_null : (B : Type 0) (k : ErrorKind) (of_null : DefaultUse) (default : Option (Bor (List ℕ))) (P : CallAt → Tree → Type 0) (c : CallAt) → ((bytes : List ℕ) → IsOf bytes of_null) → WhySo P k →
+    WithDefault {B = B} (default_use of_null default Null) c Null P (Err k) → Why c.old c.new default k
+why_null B k of_null None P c plain why h = as_found (plainly c.old c.new k (why c Null h))
+why_null B k of_null (Some d) P c plain why h = why_used B k (use_of_words of_null d.now (words_of d.now)) d P c (use_is of_null d.now (words_of d.now) (plain d.now)) why h
+
+-- a place that is null stores null; of any other one the call says why
+why_refused : (B : Type 0) (k : ErrorKind) (of_null : DefaultUse) (default : Option (Bor (List ℕ))) (P : CallAt → Tree → Type 0) (c : CallAt) → IsPlace c.old.words c.segment c.at → ((bytes : List ℕ) → IsOf bytes of_null) → WhySo P k →
+    ((t : Tree) → IsStored c.old.words c.segment c.at t → WithDefault {B = B} (default_use of_null default t) c t P (Err k)) → ((word_at c.old.words c.segment c.at ≡ 0 → ⊥) → IsOpeningRefused c.old c.new k) → Why c.old c.new default k
+why_refused B k of_null default P c there plain why found set = elim (cases_lt 0 (word_at c.old.words c.segment c.at)) [
+  | inl some ↦ as_found (set (λ null. absurd (omega (arith, some, null))))
+  | inr none ↦ why_null B k of_null default P c plain why (found Null (null_stored c.old.words c.segment c.at there (omega (arith, none))))
+]
+
+-- so it is refused
+refused_so : (old new : View) (default : Option (Bor (List ℕ))) (k : ErrorKind) → Why old new default k → IsSearchRefused old new default k
+refused_so old new None k (as_found h) = h
+refused_so old new (Some d) k (as_found h) = inl (old, keeps_itself old, h)
+refused_so old new None k (as_default d mid is keeps h) = absurd (cc)
+refused_so old new (Some e) k (as_default d mid is keeps h) = inl (mid, keeps, plainly mid new k h)
+refused_so old new None k (as_copy d id at is spent named) = absurd (cc)
+refused_so old new (Some e) k (as_copy d id at is spent named) =
+    let same : d ≡ e = same_default d e (sym is) in
+    inr (spent, (id, at, subst (λ (x : Bor (List ℕ)). RefusesDefault x.now (default_copy id at old new) k) same named))
+  where
+    same_default : (d e : Bor (List ℕ)) → Some d ≡ Some e → d ≡ e
+    same_default d e h = cc
+
+-- for no missing place, unless all is as it was
+grown_nowhere : (old new : View) (k : ErrorKind) → RefusesGrowth old new k → k ≡ NoSuchPlace → ⊥
+grown_nowhere old new k (n, (refuses, none)) e = of_no_place k (of_allocation old new (length new.words) (n + 1) k refuses) e
+
+never_nowhere : (old new : View) (default : Option (Bor (List ℕ))) (k : ErrorKind) → Why old new default k → k ≡ NoSuchPlace → new ≡ old
+never_nowhere old new default k (as_found (inl same)) e = same
+never_nowhere old new default k (as_found (inr h)) e = absurd (grown_nowhere old new k h.1 e)
+never_nowhere old new default k (as_default d mid is keeps (inl h)) e = absurd (h.0 e)
+never_nowhere old new default k (as_default d mid is keeps (inr h)) e = absurd (grown_nowhere mid new k h.1 e)
+never_nowhere old new default k (as_copy d id at is spent named) e = absurd (elim (dropped_name d.now id at old new k named) [
+  | inl memory ↦ of_no_place k memory e
+  | inr fault ↦ fault_elsewhere of_default (subst (HasFault of_default (default_root d.now)) e fault)
+])
+
+-- what a call leaves that is refused, or isn't
+sought : {B : Type 0} (result : Result B ErrorKind) (default : Option (Bor (List ℕ))) (op : Op) (c : CallAt) → ((k : ErrorKind) → IsSearchRefused c.old c.new default k → IsRefusedAs c.old c.new op k) →
+    Does c.old.words c.new.words (place_in c) op (refusal_of result) → OnOk result (KeepsMemory c.old c.new) → IfErr result (SpendsMemory c.old c.new) → IfErr result (Why c.old c.new default) →
+    (WordsFit c.old c.segment op → IfErr result (λ k. is_of_place k ≡ true)) → IsSought c.old c.new (place_in c) op (refusal_of result)
+sought (Ok x) default op c told does granted memory why fits = record {
+  done = does;
+  counted = ap (λ (v : View). v.refusals) granted.0;
+  named = λ k e. absurd (cc);
+  fits = λ room k e. absurd (cc);
+  nowhere = λ e. absurd (cc);
+}
+sought (Err k) default op c told does granted memory why fits = record {
+  done = does;
+  counted = memory.2;
+  named = λ j e. told j (subst (IsSearchRefused c.old c.new default) (same_some k j e) (refused_so c.old c.new default k why));
+  fits = λ room j e. subst (λ x. is_of_place x ≡ true) (same_some k j e) (fits room);
+  nowhere = λ e. never_nowhere c.old c.new default k why (same_some k NoSuchPlace e);
+}
+
+-- Where a default's value has no fault and fits, only what is found is refused.
+abbrev NamedSo : (CallAt → Tree → Type 0) → ErrorKind → Type 0
+NamedSo P k = (c : CallAt) (t : Tree) → P c t → is_unfound k ≡ true
+
+list_name : (size : ElementSize) (k : ErrorKind) → NamedSo (GivesList size (Err k)) k
+list_name size k c t h = unfound_name (list_in (target c.old.words c.segment c.at) size t) k (list_unfound (target c.old.words c.segment c.at) size t) (list_err c.segment (list_in (target c.old.words c.segment c.at) size t) k h.0)
+
+data_name : (k : ErrorKind) → NamedSo (GivesData (Err k)) k
+data_name k c t h = unfound_name (data_in (target c.old.words c.segment c.at) t) k (data_unfound (target c.old.words c.segment c.at) t) (bytes_err c.segment (data_in (target c.old.words c.segment c.at) t) k h.0)
+
+text_name : (k : ErrorKind) → NamedSo (GivesText (Err k)) k
+text_name k c t h = unfound_name (text_in (target c.old.words c.segment c.at) t) k (text_unfound (target c.old.words c.segment c.at) t) (bytes_err c.segment (text_in (target c.old.words c.segment c.at) t) k h.0)
+
+unfound_place : (k : ErrorKind) → is_unfound k ≡ true → is_of_place k ≡ true
+unfound_place FoundBitListWhereStructListWasExpected e = refl
+unfound_place MessageContainsNonStructPointerWhereStructPointerWasExpected e = refl
+unfound_place NoSuchPlace e = refl
+unfound_place UnknownPointerType e = refl
+unfound_place k e = e
+
+-- its copy isn't refused
+never_dropped : (bytes : List ℕ) (id at : ℕ) (old new : View) (k : ErrorKind) → CanBeCopied of_default (default_root bytes) (unused None) (length (segment old.words id)) (old.room id) → RefusesDefault bytes (default_copy id at old new) k → ⊥
+never_dropped bytes id at old new k (t, n, means, takes, covers, fits) (inl fault) = no_fault of_default k fault (capabilities t) takes (t, n, means, omega arith)
+never_dropped bytes id at old new k (t, n, means, takes, covers, fits) (inr (m, why, wanted, large)) = let more = large t n means in omega arith
+
+abbrev IsDenied : DefaultUse → Type 0
+IsDenied ignored = Unit {0}
+IsDenied (is_denied_by k) = is_of_place k ≡ true
+IsDenied (is_copied_from bytes) = ⊥
+
+used_fits : (B : Type 0) (k : ErrorKind) (of_null : DefaultUse) (bytes ws : List ℕ) (P : CallAt → Tree → Type 0) (c : CallAt) → IsDenied of_null → NamedSo P k →
+    CanBeCopied of_default (default_root bytes) (unused None) (length (segment c.old.words c.segment)) (c.old.room c.segment) → WithDefault {B = B} (use_of_words of_null bytes ws) c Null P (Err k) → is_of_place k ≡ true
+used_fits B k of_null bytes [] P c plain name room h = ap is_of_place (same_err k MessageContainsOutOfBoundsPointer h.0)
+used_fits B k of_null bytes (x ∷ xs) P c plain name room h = by_first (nat_eq x 0) of_null plain h
+  where
+    by_first : (b : Bool) (used : DefaultUse) → IsDenied used → WithDefault {B = B} (cond b used (is_copied_from bytes)) c Null P (Err k) → is_of_place k ≡ true
+    by_first true ignored d g = unfound_place k (name c Null g)
+    by_first true (is_denied_by j) d g = ap is_of_place (same_err k j g.0) ∙ d
+    by_first true (is_copied_from other) d g = absurd d
+    by_first false used d (inl on) = unfound_place k (name (record c { old = on.mid }) on.value on.does)
+    by_first false used d (inr drops) = absurd (never_dropped bytes c.segment c.at c.old c.new k room drops.named)
+
+found_fits : {B : Type 0} (result : Result B ErrorKind) (of_null : DefaultUse) (default : Option (Bor (List ℕ))) (P : Result B ErrorKind → CallAt → Tree → Type 0) (c : CallAt) → IsPlace c.old.words c.segment c.at → ((bytes : List ℕ) → IsDenied of_null) →
+    ((k : ErrorKind) → NamedSo (P (Err k)) k) → ((t : Tree) → IsStored c.old.words c.segment c.at t → WithDefault (default_use of_null default t) c t (P result) result) →
+    ((word_at c.old.words c.segment c.at ≡ 0 → ⊥) → IfErr result (λ k. is_unfound k ≡ true)) → DefaultFits default c.old c.segment → IfErr result (λ k. is_of_place k ≡ true)
+found_fits (Ok x) of_null default P c there plain name found set room = tt
+found_fits {B} (Err k) of_null default P c there plain name found set room = elim (cases_lt 0 (word_at c.old.words c.segment c.at)) [
+  | inl some ↦ unfound_place k (set (λ null. absurd (omega (arith, some, null))))
+  | inr none ↦ at_null default room (found Null (null_stored c.old.words c.segment c.at there (omega (arith, none))))
+]
+  where
+    at_null : (default : Option (Bor (List ℕ))) → DefaultFits default c.old c.segment → WithDefault {B = B} (default_use of_null default Null) c Null (P (Err k)) (Err k) → is_of_place k ≡ true
+    at_null None fits h = unfound_place k (name k c Null h)
+    at_null (Some d) fits h = used_fits B k of_null d.now (words_of d.now) (P (Err k)) c (plain d.now) (name k) fits.1 h
+
+-- of any call
+why_if : {B : Type 0} (result : Result B ErrorKind) (of_null : DefaultUse) (default : Option (Bor (List ℕ))) (P : Result B ErrorKind → CallAt → Tree → Type 0) (c : CallAt) → IsPlace c.old.words c.segment c.at → ((bytes : List ℕ) → IsOf bytes of_null) →
+    ((k : ErrorKind) → WhySo (P (Err k)) k) → ((t : Tree) → IsStored c.old.words c.segment c.at t → WithDefault (default_use of_null default t) c t (P result) result) →
+    ((word_at c.old.words c.segment c.at ≡ 0 → ⊥) → IfErr result (IsOpeningRefused c.old c.new)) → IfErr result (Why c.old c.new default)
+why_if (Ok x) of_null default P c there plain why found set = tt
+why_if {B} (Err k) of_null default P c there plain why found set = why_refused B k of_null default (P (Err k)) c there plain (why k) found set
+
+-- of a place that isn't null
+set_struct : {B : Type 0} (result : Result B ErrorKind) (old new : View) (s p : ℕ) → IfErr result (IsNoWider old new s p) → IfErr result (IsOpeningRefused old new)
+set_struct (Ok x) old new s p h = tt
+set_struct (Err k) old new s p (inl h) = inl h.1
+set_struct (Err k) old new s p (inr h) = inr h
+
+set_structs : {B : Type 0} (result : Result B ErrorKind) (old new : View) (s p : ℕ) (size : StructSize) → IfErr result (RefusesWider old new s p size) → IfErr result (IsOpeningRefused old new)
+set_structs (Ok x) old new s p size h = tt
+set_structs (Err k) old new s p size (inl h) = inl h.0
+set_structs (Err k) old new s p size (inr h) = inr h
+
+set_same : {B : Type 0} (result : Result B ErrorKind) (old new : View) → new ≡ old → IfErr result (IsOpeningRefused old new)
+set_same (Ok x) old new same = tt
+set_same (Err k) old new same = inl same
+
+-- the calls
+pub struct_sought : (result : Result StructPlace ErrorKind) (size : StructSize) (default : Option (Bor (List ℕ))) (c : CallAt) → IsPlace c.old.words c.segment c.at → is_in_range (GetStruct size default) ≡ true →
+    ((t : Tree) → IsStored c.old.words c.segment c.at t → FindsStruct size default result c t) → ((word_at c.old.words c.segment c.at ≡ 0 → ⊥) → IfErr result (IsNoWider c.old c.new c.segment c.at)) →
+    OnOk result (KeepsMemory c.old c.new) → IfErr result (SpendsMemory c.old c.new) → IsSought c.old c.new (place_in c) (GetStruct size default) (refusal_of result)
+struct_sought result size default c there range found set granted memory =
+    let op = GetStruct size default in
+    sought result default op c (λ k h. inr h)
+    (λ t stored. with_does result ignored default (struct_made size) (OpensStruct size result) op c t stored (λ x. in_range_makes op (PointerTo x) range) (struct_so result size op) (found t stored)) granted memory
+    (why_if result ignored default (OpensStruct size) c there (λ b. tt) (struct_why size) found (λ some. set_struct result c.old c.new c.segment c.at (set some))) (λ room. absurd room)
+
+pub structs_sought : (result : Result ListPlace ErrorKind) (size : StructSize) (default : Option (Bor (List ℕ))) (c : CallAt) → IsPlace c.old.words c.segment c.at → is_in_range (GetStructList size default) ≡ true →
+    ((t : Tree) → IsStored c.old.words c.segment c.at t → FindsStructs size default result c t) → ((word_at c.old.words c.segment c.at ≡ 0 → ⊥) → IfErr result (RefusesWider c.old c.new c.segment c.at size)) →
+    OnOk result (KeepsMemory c.old c.new) → IfErr result (SpendsMemory c.old c.new) → IsSought c.old c.new (place_in c) (GetStructList size default) (refusal_of result)
+structs_sought result size default c there range found set granted memory =
+    let op = GetStructList size default in
+    sought result default op c (λ k h. inr h)
+    (λ t stored. with_does result ignored default (structs_made size) (OpensList size result) op c t stored (λ x. in_range_makes op (PointerTo x) range) (structs_so result size op) (found t stored)) granted memory
+    (why_if result ignored default (OpensList size) c there (λ b. tt) (structs_why size) found (λ some. set_structs result c.old c.new c.segment c.at size (set some))) (λ room. absurd room)
+
+pub list_sought : (result : Result ListPlace ErrorKind) (size : ElementSize) (default : Option (Bor (List ℕ))) (c : CallAt) → IsPlace c.old.words c.segment c.at → is_in_range (GetList size default) ≡ true →
+    ((t : Tree) → IsStored c.old.words c.segment c.at t → FindsList size default result c t) → ((word_at c.old.words c.segment c.at ≡ 0 → ⊥) → (c.new ≡ c.old) × IfErr result (λ k. is_unfound k ≡ true)) →
+    OnOk result (KeepsMemory c.old c.new) → IfErr result (SpendsMemory c.old c.new) → IsSought c.old c.new (place_in c) (GetList size default) (refusal_of result)
+list_sought result size default c there range found set granted memory =
+    let op = GetList size default in
+    sought result default op c (λ k h. inr h)
+    (λ t stored. with_does result ignored default (list_looked size) (GivesList size result) op c t stored (λ x. in_range_makes op (PointerTo x) range) (list_so result size op) (found t stored)) granted memory
+    (why_if result ignored default (GivesList size) c there (λ b. tt) (list_why size) found (λ some. set_same result c.old c.new (set some).0))
+    (λ room. found_fits result ignored default (GivesList size) c there (λ b. tt) (list_name size) found (λ some. (set some).1) room)
+
+pub data_sought : (result : Result ExistingBytes ErrorKind) (default : Option (Bor (List ℕ))) (c : CallAt) → IsPlace c.old.words c.segment c.at → is_in_range (GetData default) ≡ true →
+    ((t : Tree) → IsStored c.old.words c.segment c.at t → FindsData default result c t) → ((word_at c.old.words c.segment c.at ≡ 0 → ⊥) → (c.new ≡ c.old) × IfErr result (λ k. is_unfound k ≡ true)) →
+    OnOk result (KeepsMemory c.old c.new) → IfErr result (SpendsMemory c.old c.new) → IsSought c.old c.new (place_in c) (GetData default) (refusal_of result)
+data_sought result default c there range found set granted memory =
+    let op = GetData default in
+    let of_null : DefaultUse = is_denied_by ExistingPointerIsNotAList in
+    sought result default op c (λ k h. inr h)
+    (λ t stored. with_does result of_null default data_looked (GivesData result) op c t stored (λ x. in_range_makes op (PointerTo x) range) (data_so result op) (found t stored)) granted memory
+    (why_if result of_null default GivesData c there (λ b. tt) data_why found (λ some. set_same result c.old c.new (set some).0))
+    (λ room. found_fits result of_null default GivesData c there (λ b. refl) data_name found (λ some. (set some).1) room)
+
+pub text_sought : (result : Result ExistingBytes ErrorKind) (default : Option (Bor (List ℕ))) (c : CallAt) → IsPlace c.old.words c.segment c.at → is_in_range (GetText default) ≡ true →
+    ((t : Tree) → IsStored c.old.words c.segment c.at t → FindsText default result c t) → ((word_at c.old.words c.segment c.at ≡ 0 → ⊥) → (c.new ≡ c.old) × IfErr result (λ k. is_unfound k ≡ true)) →
+    OnOk result (KeepsMemory c.old c.new) → IfErr result (SpendsMemory c.old c.new) → IsSought c.old c.new (place_in c) (GetText default) (refusal_of result)
+text_sought result default c there range found set granted memory =
+    let op = GetText default in
+    let of_null : DefaultUse = is_denied_by ExistingPointerIsNotAList in
+    sought result default op c (λ k h. inr h)
+    (λ t stored. with_does result of_null default text_looked (GivesText result) op c t stored (λ x. in_range_makes op (PointerTo x) range) (text_so result op) (found t stored)) granted memory
+    (why_if result of_null default GivesText c there (λ b. tt) text_why found (λ some. set_same result c.old c.new (set some).0))
+    (λ room. found_fits result of_null default GivesText c there (λ b. refl) text_name found (λ some. (set some).1) room)
+
+-- the numbers of a list that is looked for
+pub list_range : (size : ElementSize) (default : Option (Bor (List ℕ))) → is_in_range (GetList size default) ≡ true → (size_number size ≤ 6) × (is_small_default default ≡ true)
+list_range size default e = both (nat_le (size_number size) 6) (is_small_default default) refl e
+  where
+    both : (b c : Bool) → nat_le (size_number size) 6 ≡ b → b && c ≡ true → (size_number size ≤ 6) × (c ≡ true)
+    both true c is e = (within (size_number size) is, e)
+      where
+        within : (n : ℕ) → nat_le n 6 ≡ true → n ≤ 6
+        within n e = grind (arith, nat_tests)
+    both false c is e = absurd (cc)
+
+-- an operation that copies nothing fits where its words do
+pub words_fit : (old : View) (id : ℕ) (op : Op) → copied_by op ≡ None → OpFits old id op → WordsFit old id op
+words_fit old id op none room = subst (λ c. CallFits old id op c) none room
