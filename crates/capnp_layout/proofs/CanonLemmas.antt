@@ -49,15 +49,15 @@ pub null_root : {B : Building} {room : ℕ} → IsFreshPlace B room → B.at ≡
 null_root {B} fresh start = ap (λ (ws : List ℕ). get_or ws B.at 0) (only_null fresh) ∙ ap (λ i. get_or (0 ∷ []) i 0) start
 
 -- a copy to the root of a fresh message is made, if that has one segment afterwards
-pub made_copy : {X : Type 0} (r : Reading) (left : Option ℕ) (s p : ℕ) (old made : View) (l m : Meter) (o : Result X ErrorKind) → l ≡ unused left → IfOk o (λ _. FillsMessage r (change true s p old made l m)) →
+pub made_copy : {X : Type 0} (r : Reading) (left : Option ℕ) (s p : ℕ) (old made : View) (l m : Meter) (o : Result X ErrorKind) → l ≡ unused left → IfOk o (λ _. FillsMessage r (change canonical s p old made l m)) →
     IfOk o (λ _. (t : Tree) × IsWithin r left t × IsMadeWhereAlone made t)
 made_copy r left s p old made l m (Ok x) begun (t, reads, copy) =
     (t, (reads.cost, reads.means, reads.takes tt, subst (λ (x : Meter). Affords r.charging x reads.cost) begun reads.covers), copy)
 made_copy r left s p old made l m (Err k) begun copied = tt
 
 -- where it has more, not all words fit in the first
-spread : {r : Reading} {room : ℕ} {l m : Meter} {t : Tree} (old new : View) (s p : ℕ) → IsFreshPlace (record { segments = old.words; segment = s; at = p; room = old.room s }) room → Reads canonical r l m t → StandsWhereItFits (change true s p old new l m) t →
-    (length new.words ≡ 1) ⊎ IsTooLarge true r 1 room
+spread : {r : Reading} {room : ℕ} {l m : Meter} {t : Tree} (old new : View) (s p : ℕ) → IsFreshPlace (record { segments = old.words; segment = s; at = p; room = old.room s }) room → Reads canonical r l m t → StandsWhereItFits (change canonical s p old new l m) t →
+    (length new.words ≡ 1) ⊎ IsTooLarge canonical r 1 room
 spread {r} {room} {t = t} old new s p fresh reads copy = elim (cases_lt room (1 + word_count (trim t))) [
   | inl beyond ↦ inr (λ u c means. (let same = ap (λ v. word_count (trim v)) (one_value r.segments r.levels r.levels r.segment r.at t u reads.cost c reads.means means).0 in omega (arith, same, beyond)))
   | inr fits ↦
@@ -67,7 +67,7 @@ spread {r} {room} {t = t} old new s p fresh reads copy = elim (cases_lt room (1 
 ]
 
 pub spread_copy : {X : Type 0} {room : ℕ} (r : Reading) (s p : ℕ) (old new : View) (l m : Meter) (P : Tree → Type 0) (o : Result X ErrorKind) → IsFreshPlace (record { segments = old.words; segment = s; at = p; room = old.room s }) room →
-    IfOk o (λ _. (t : Tree) × Reads canonical r l m t × P t) → OnOk o (StandsAsRead r (change true s p old new l m)) → OnOk o ((length new.words ≡ 1) ⊎ IsTooLarge true r 1 room)
+    IfOk o (λ _. (t : Tree) × Reads canonical r l m t × P t) → OnOk o (StandsAsRead r (change canonical s p old new l m)) → OnOk o ((length new.words ≡ 1) ⊎ IsTooLarge canonical r 1 room)
 spread_copy r s p old new l m P (Ok x) fresh (t, reads, _) stands = spread old new s p fresh reads (stands t reads)
 spread_copy r s p old new l m P (Err k) fresh read stands = tt
 
@@ -90,7 +90,7 @@ refused_try more room w least want (inr (m, refused)) = absurd (never_read want 
 pub last_try : {r : Reading} {left : Option ℕ} {room old new : ℕ} {k : ErrorKind} → (room ≡ max_segment_words) ⊎ (is_message_too_large k ≡ false) → LacksMemoryOr old new k (RefusesCopy r left room k) → LacksMemoryOr old new k (RefusesCopy r left max_segment_words k)
 last_try last (inl memory) = inl memory
 last_try last (inr (inr refused, same)) = inr (inr refused, same)
-last_try {r = r} (inl most) (inr (inl (w, named, large), same)) = inr (inl (w, named, subst (IsTooLarge true r 1) most large), same)
+last_try {r = r} (inl most) (inr (inl (w, named, large), same)) = inr (inl (w, named, subst (IsTooLarge canonical r 1) most large), same)
 last_try (inr other) (inr (inl (w, named, large), same)) = absurd (let wrong : true ≡ false = sym (ap is_message_too_large named) ∙ other in cc)
 
 pub moved_try : {old new old' new' : ℕ} {k : ErrorKind} {P : Type 0} → old ≡ old' → new' ≡ new → LacksMemoryOr old new k P → LacksMemoryOr old' new' k P

@@ -80,7 +80,7 @@ IsWithin r left t = (c : ℕ) × MeansThere r t c × (capabilities t ≡ 0) × A
 -- A copy of what a place means, into a fresh segment of so many words, is refused by the name k: it needs more words, or
 -- reading it is refused.
 abbrev pub RefusesCopy : Reading → Option ℕ → ℕ → ErrorKind → Type 0
-RefusesCopy r left room k = ((w : ℕ) × (k ≡ MessageTooLarge w) × IsTooLarge true r 1 room) ⊎ ((m : Meter) × Refused canonical r (unused left) m k)
+RefusesCopy r left room k = ((w : ℕ) × (k ≡ MessageTooLarge w) × IsTooLarge canonical r 1 room) ⊎ ((m : Meter) × Refused canonical r (unused left) m k)
 
 -- A refusal says that there is no room, or no memory for more.
 abbrev pub IsWantOfRoom : ErrorKind → Type 0
@@ -89,7 +89,7 @@ IsWantOfRoom k = (k ≡ AllocationFailed) ⊎ ((w : ℕ) × (k ≡ MessageTooLar
 -- A copy of what a place means, into a fresh segment with this room and into further ones where they are to be had, is refused by
 -- the name k: there is none, and it needs more words than that room; or reading it is refused.
 abbrev pub RefusesCopyAnywhere : Reading → Option ℕ → ℕ → ErrorKind → Type 0
-RefusesCopyAnywhere r left room k = (IsWantOfRoom k × IsTooLarge true r 1 room) ⊎ ((m : Meter) × Refused canonical r (unused left) m k)
+RefusesCopyAnywhere r left room k = (IsWantOfRoom k × IsTooLarge canonical r 1 room) ⊎ ((m : Meter) × Refused canonical r (unused left) m k)
 
 -- Memory was refused once more, from a count to another; or that is not so, and P holds.
 abbrev pub LacksMemoryOr : ℕ → ℕ → ErrorKind → Type 0 → Type 0

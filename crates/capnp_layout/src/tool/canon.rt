@@ -1,7 +1,7 @@
 //! The canonical words of a message ("Canonicalization"), in a segment of which the size is found by
 //! tries: each has twice the room of the one before, so that all together take no longer than
 //! twice the last. While one runs, its allocator is taken out, so that it ends where that segment does.
-ghost use Rattle.std.specs.Prelude.{◌≡◌, ◌⊎◌, ◌<◌, ◌≤◌, ◌+◌, ◌++◌, ◌↔◌, ◌∷◌, [], true, false, IsTrue, OnOk, IfOk, IfErr};
+ghost use Rattle.std.specs.Prelude.{◌≡◌, ◌⊎◌, ◌<◌, ◌≤◌, ◌+◌, ◌++◌, ◌↔◌, ◌∷◌, [], false, IsTrue, OnOk, IfOk, IfErr};
 ghost use Rattle.capnp_format.specs.Bytes.{message};
 ghost use Rattle.capnp_format.specs.Canonical.{trim, encoding};
 ghost use Rattle.capnp_format.specs.Tree.{Tree};
@@ -9,6 +9,7 @@ ghost use Rattle.capnp_words.specs.declared.error.ErrorKind.TheVariants.{Allocat
 ghost use Rattle.capnp_arena.specs.Allocations.{max_segment_words, one_more};
 ghost use Rattle.capnp_arena.specs.Limits.{IsSmall};
 ghost use Rattle.capnp_objects.specs.Source.{levels};
+ghost use Rattle.capnp_objects.specs.Wanted.{canonical};
 ghost use Rattle.capnp_readers.specs.Readers.{reading};
 ghost use Rattle.capnp_copies.specs.Rooms.{IsTooLarge};
 ghost use Rattle.capnp_layout.specs.Answers.{IsAloneOr, IsMade, IsMadeWhereAlone, IsWantOfRoom, IsWithin, LacksMemoryOr, RefusesCopy, RefusesCopyAnywhere, RefusesMessage, ValueOf, is_message_too_large};
@@ -45,7 +46,7 @@ fn copy_root<A: BuilderArena, B: ReaderArena>(
 ) -> Result<(), ErrorKind>
     requires root { (A.view arena.old).words ≡ (0 ∷ []) ∷ [] }
     ensures copied { IfOk result (λ _. (t : Tree) × IsWithin (reading B.ReaderArena from.entry) left t × IsMadeWhereAlone (A.view arena.new) t) }
-    ensures alone { OnOk result (IsAloneOr (A.view arena.new) (IsTooLarge true (reading B.ReaderArena from.entry) 1 ((A.view arena.old).room 0))) }
+    ensures alone { OnOk result (IsAloneOr (A.view arena.new) (IsTooLarge canonical (reading B.ReaderArena from.entry) 1 ((A.view arena.old).room 0))) }
     ensures refused { IfErr result (RefusesCopyAnywhere (reading B.ReaderArena from.entry) left ((A.view arena.old).room 0)) }
 {
     let mut lim = ReadLimiter::new(left);

@@ -1,5 +1,6 @@
-use Rattle.std.proofs.Common.{rules, ◌≡◌, ◌⊎◌, length, subst, true, IfOk, OnOk}
+use Rattle.std.proofs.Common.{rules, ◌≡◌, ◌⊎◌, length, subst, IfOk, OnOk}
 use Rattle.capnp_format.specs.Tree.{Tree}
+use Rattle.capnp_objects.specs.Wanted.{canonical}
 use Rattle.capnp_copies.specs.Rooms.{IsTooLarge}
 use Rattle.capnp_readers.specs.Readers.{reading}
 use Rattle.capnp_layout.specs.Answers.{IsWithin, IsMadeWhereAlone}
@@ -23,4 +24,4 @@ returns-clause-alone g c =
     let root = c.get_root-root.result in
     let spread =
     spread_copy r root.segment root.at (view root.arena.now) (view c.copy_from.new.self.arena.now) _ _ _ c.copy_from.result fresh (c.copy_from.ensures.fresh (only_null fresh)) (c.copy_from.ensures.near (null_root fresh c.get_root-root.ensures.place.1)) in
-    subst (λ (a : g.row.A.Denot). OnOk c.copy_from.result ((length (view a).words ≡ 1) ⊎ IsTooLarge true r 1 ((view c.args.arena.now).room 0))) (search rules) spread
+    subst (λ (a : g.row.A.Denot). OnOk c.copy_from.result ((length (view a).words ≡ 1) ⊎ IsTooLarge canonical r 1 ((view c.args.arena.now).room 0))) (search rules) spread
