@@ -70,11 +70,13 @@ pub enum Op<'a> {
     WriteText(u32, u8),
     /// A byte of data is written.
     WriteData(u32, u8),
-    /// A struct is looked for. For now this is `NoSuchPlace` wherever the path leads.
+    /// A struct is looked for, and made at least as large as asked for, as `PointerBuilder::get_struct` does
+    /// with this size and default. The default of a search has fewer than 2^32 words.
     GetStruct(StructSize, Option<&'a [u8]>),
     /// A list is looked for, as `PointerBuilder::get_list` does with this size and default.
     GetList(ElementSize, Option<&'a [u8]>),
-    /// A list of structs is looked for. For now this is `NoSuchPlace` wherever the path leads.
+    /// A list is looked for, and made one of structs at least as large as asked for, as
+    /// `PointerBuilder::get_struct_list` does with this size and default.
     GetStructList(StructSize, Option<&'a [u8]>),
     /// A text is looked for, as `PointerBuilder::get_text` does with this default.
     GetText(Option<&'a [u8]>),
@@ -109,12 +111,16 @@ pub struct Edit<'a> {
 /// Does what an edit says.
 ///
 /// `NoSuchPlace` is said of a path that leads nowhere, of an operation for a place of another kind and of
-/// numbers that are out of range. Where a list, a text or data is looked for, a refusal is that of
-/// `get_list`, `get_text` or `get_data` of a `PointerBuilder`; where there is nothing to be copied, it is that of
-/// `PointerReader::get_root_from_arena`, or of the root's `get_struct` or `get_list`. Nothing is changed then.
-/// `AllocationFailed` and `MessageTooLarge` are those of the arena, and the pointer is null then, as it is where
-/// the copy is refused for what it reads. Of content the data and the pointers before the refused one are copied
-/// then, and the others are null.
+/// numbers that are out of range. Where a struct, a list, a text or data is looked for, a refusal is that of
+/// `get_struct`, `get_struct_list`, `get_list`, `get_text` or `get_data` of a `PointerBuilder`; where there is
+/// nothing to be copied, it is that of `PointerReader::get_root_from_arena`, or of the root's `get_struct` or
+/// `get_list`. Nothing is changed then. `AllocationFailed` and `MessageTooLarge` are those of the arena, and the
+/// pointer is null then, as it is where the copy is refused for what it reads. Of content the data and the
+/// pointers before the refused one are copied then, and the others are null.
+///
+/// A search puts the value of its default in place of null first. Where that copy is refused, the pointer is
+/// null; where its kind is refused then, or memory for making it larger, the value stays. So does every value
+/// that was to be made larger.
 pub fn apply<A: BuilderArena>(arena: &mut A, edit: &Edit<'_>) -> Result<(), ErrorKind>
     ensures applied { IsApplied (A.view arena.old).words (A.view arena.new).words edit.now (refusal_of result) }
     ensures counted { (A.view arena.new).refusals ≡ refusals_after (refusal_of result) (A.view arena.old).refusals }

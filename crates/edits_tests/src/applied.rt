@@ -1,15 +1,21 @@
-//! Edits in an arena without a root, no edit at all, an edited message that is read where it stands, and what
-//! isn't done yet.
+//! Edits in an arena without a root, no edit at all, an edited message that is read where it stands, structs and
+//! lists of structs that are opened, and defaults.
 use crate::messages::{check_outcomes, edit, size};
 use capnp_arena::arena::{BuilderArena, BuilderArenaImpl, HeapAllocator, ReaderArena};
 use capnp_edits::edit::Op::{
-    Clear, GetData, GetList, GetStruct, GetStructList, GetText, InitStruct, InitStructList,
-    SetCapability, SetElement, SetField, SetText,
+    Clear, GetData, GetList, GetStruct, GetStructList, GetText, InitList, InitStruct,
+    InitStructList, SetCapability, SetElement, SetField, SetText,
 };
 use capnp_edits::edit::Step::{Child, Element};
 use capnp_edits::edit::{Op, Step, apply};
 use capnp_readers::readers::{MessageSize, PointerReader};
-use capnp_words::error::ErrorKind::{NoSuchPlace, UnknownPointerType};
+use capnp_words::error::ErrorKind;
+use capnp_words::error::ErrorKind::{
+    ExistingListValueIsIncompatibleWithExpectedType, ExistingPointerIsNotAList,
+    MessageContainsNonStructPointerWhereStructPointerWasExpected,
+    MessageContainsOutOfBoundsPointer, NoSuchPlace, TextBlobMissingNULTerminator,
+    UnknownPointerType,
+};
 use capnp_words::read_limiter::ReadLimiter;
 use capnp_words::wire_pointer::ElementSize::{Byte, EightBytes};
 use test_support::{arena_of_root, has_words};
@@ -63,27 +69,34 @@ fn read_in_place(rt: HostRuntime) {
     assert!(rt; root.total_size(&mut lim) == Ok(size));
 }
 
-/// Structs and lists of structs, which aren't looked for yet, and a default of an empty list of bytes, which
-/// isn't copied for now: no word changes.
+/// What is large enough is opened as it stands, and what is of another kind isn't: no word changes.
 #[test]
-fn not_yet(rt: HostRuntime) {
+fn opened_as_they_stand(rt: HostRuntime) {
     let alloc = rt.alloc();
     let null: Option<&[u8]> = Some(b"\0\0\0\0\0\0\0\0");
-    let data: Option<&[u8]> = Some(b"\x01\0\0\0\x02\0\0\0");
-    let rows: &[(&[Step], Op<'_>, _)] = &[
-        (&[], GetStruct(size(0, 2), None), NoSuchPlace),
-        (&[Child(1)], GetStruct(size(1, 1), None), NoSuchPlace),
-        (&[Child(1)], GetStruct(size(0, 0), null), NoSuchPlace),
-        (&[Child(0)], GetStructList(size(1, 1), None), NoSuchPlace),
-        (&[Child(1)], GetStructList(size(1, 1), None), NoSuchPlace),
-        (&[Child(1)], GetStructList(size(0, 0), null), NoSuchPlace),
-        (&[Child(1)], GetList(Byte, data), UnknownPointerType),
-        (&[Child(1)], GetText(data), UnknownPointerType),
+    let none: Option<&[u8]> = Some(b"");
+    let rows: &[(&[Step], Op<'_>, Option<ErrorKind>)] = &[
+        (&[], GetStruct(size(0, 2), None), None),
+        (&[], GetStruct(size(0, 1), none), None),
         (
-            &[Child(0), Element(1), Child(0)],
-            GetData(data),
-            UnknownPointerType,
+            &[Child(0)],
+            GetStruct(size(0, 0), None),
+            Some(MessageContainsNonStructPointerWhereStructPointerWasExpected),
         ),
+        (&[Child(0)], GetStructList(size(1, 1), None), None),
+        (&[Child(1)], GetStructList(size(1, 1), None), None),
+        (&[Child(1)], GetStructList(size(0, 0), null), None),
+        (
+            &[],
+            GetStructList(size(0, 0), None),
+            Some(ExistingPointerIsNotAList),
+        ),
+        (
+            &[Child(1)],
+            GetStruct(size(1, 1), none),
+            Some(MessageContainsOutOfBoundsPointer),
+        ),
+        (&[Child(1)], GetText(null), Some(ExistingPointerIsNotAList)),
     ];
     let words =
         "0000000000000200 0500000027000000 0000000000000000 0800000001000100 0000000000000000 0000000000000000 0000000000000000 0000000000000000";
@@ -94,7 +107,71 @@ fn not_yet(rt: HostRuntime) {
     ];
     check_outcomes(&rt, &mut arena, made, &[None; 2]);
     for (path, op, want) in rows {
-        assert!(rt; apply(&mut arena, &edit(path, *op)) == Err(*want));
+        check_outcomes(&rt, &mut arena, &[edit(path, *op)], &[*want]);
         assert!(rt; has_words(alloc, &arena, words));
     }
+}
+
+/// A struct of one word, and a list of two bytes, are opened as larger structs: their numbers come with them,
+/// and their old words are zero.
+#[test]
+fn opened_wider(rt: HostRuntime) {
+    let alloc = rt.alloc();
+    let mut arena = arena_of_root(alloc, HeapAllocator::new(alloc, 1024)).expect(&rt, "memory");
+    let edits = &[
+        edit(&[], GetStruct(size(1, 0), None)),
+        edit(&[], SetField(EightBytes, 0, 7)),
+        edit(&[], GetStruct(size(2, 1), None)),
+    ];
+    check_outcomes(&rt, &mut arena, edits, &[None; 3]);
+    assert!(rt;
+        has_words(
+            alloc,
+            &arena,
+            "0400000002000100 0000000000000000 0700000000000000 0000000000000000 0000000000000000",
+        )
+    );
+    let mut arena = arena_of_root(alloc, HeapAllocator::new(alloc, 1024)).expect(&rt, "memory");
+    let edits = &[
+        edit(&[], InitList(Byte, 2)),
+        edit(&[], SetElement(Byte, 0, 1)),
+        edit(&[], SetElement(Byte, 1, 2)),
+        edit(&[], GetStructList(size(0, 1), None)),
+    ];
+    check_outcomes(&rt, &mut arena, edits, &[None; 4]);
+    assert!(rt;
+        has_words(
+            alloc,
+            &arena,
+            "0500000027000000 0000000000000000 0800000001000100 0100000000000000 0000000000000000 0200000000000000 0000000000000000",
+        )
+    );
+}
+
+/// A default, an empty list of bytes, is put in place of null, and stays where the search is refused then. A
+/// capability isn't copied, and the pointer is null then.
+#[test]
+fn defaults_put(rt: HostRuntime) {
+    let alloc = rt.alloc();
+    let data: Option<&[u8]> = Some(b"\x01\0\0\0\x02\0\0\0");
+    let capability: Option<&[u8]> = Some(b"\x03\0\0\0\x01\0\0\0");
+    let mut arena = arena_of_root(alloc, HeapAllocator::new(alloc, 1024)).expect(&rt, "memory");
+    let edits = &[
+        edit(&[], GetData(capability)),
+        edit(&[], GetList(Byte, None)),
+        edit(&[], GetText(data)),
+        edit(&[], GetData(capability)),
+        edit(&[], GetList(EightBytes, None)),
+        edit(&[], GetStruct(size(0, 0), None)),
+    ];
+    let want = &[
+        Some(UnknownPointerType),
+        None,
+        Some(TextBlobMissingNULTerminator),
+        None,
+        Some(ExistingListValueIsIncompatibleWithExpectedType),
+        Some(MessageContainsNonStructPointerWhereStructPointerWasExpected),
+    ];
+    check_outcomes(&rt, &mut arena, edits, want);
+    assert!(rt; has_words(alloc, &arena, "0100000002000000"));
 }
