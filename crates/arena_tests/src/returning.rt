@@ -9,7 +9,9 @@ use test_support::{Granted, TestAllocator};
 // What comes back, each segment's words and then those that were used: with four rows all segments, fully
 // used; with three at once the fourth, unused, and then the others; with none each at once, unused.
 const ALL_USED: u64 = 3_03_05_05_07_07_11_11;
+
 const LAST_AT_ONCE: u64 = 11_00_03_03_05_05_07_07;
+
 const NONE_USED: u64 = 3_00_05_00_07_00_11_00;
 
 /// Takes words in three segments, and in a fourth that there may be no row for. Gives the arena and
