@@ -1,37 +1,26 @@
--- Words copied one by one.
-use Rattle.std.proofs.Common.{◌≡◌, inl, inr, ℕ, ◌+◌, ◌<◌, ◌≤◌, [], ◌∷◌, length, refl, ◌∙◌, arith}
-use Rattle.std.proofs.lemmas.Bool.{cases_eq}
-use Rattle.std.proofs.lemmas.Bool.Decides.{nat_tests}
-use Rattle.capnp_format.specs.Segments.{Segments, segment, word_at}
+-- Words copied over others at once.
+use Rattle.std.proofs.Common.{◌≡◌, ℕ, ◌+◌, ◌<◌, ◌≤◌, [], ◌∷◌, length, get_or, drop, sym, ap, ◌∙◌, subst, arith, get_or-take, get_or-drop}
+use Rattle.capnp_format.specs.Segments.{Segments, segment, word_at, words_at}
 use Rattle.capnp_format.specs.Forest.{times}
-use Rattle.capnp_arena.specs.Written.{with_word}
-use Rattle.capnp_making.specs.Path.{one_word}
+use Rattle.capnp_format.proofs.Slices.{length_words}
+use Rattle.capnp_arena.specs.Written.{with_words}
 use Rattle.capnp_making.specs.Zeroed.{row}
-use Rattle.capnp_making.proofs.MadeWords.{word_put, outside}
-use Rattle.capnp_making.proofs.Zeros.{in_row}
+use Rattle.capnp_making.proofs.WordsPut.{words_put}
 use Rattle.capnp_widening.specs.Housed.{AreCopied}
 
-pub none_copied : (S : Segments) (s p v r : ℕ) → AreCopied S S s p v r 0
-none_copied S s p v r = record { segments = refl; words = λ x. refl; here = λ i l. absurd (omega arith); kept = λ x y e. refl }
+-- a word of a part
+word_in_part : (S : Segments) (s p n i : ℕ) → i < n → get_or (words_at S s p n) i 0 ≡ word_at S s (p + i)
+word_in_part S s p n i l = get_or-take n (drop p (segment S s)) i 0 l ∙ get_or-drop p (segment S s) i 0
 
-row_next : (v r i x y : ℕ) → times (row v r (i + 1) ∷ []) x y ≡ times (row v r i ∷ []) x y + times (one_word v (r + i) ∷ []) x y
-row_next v r i x y = grind (arith, nat_tests)
-
-pub copied_next : (S M R : Segments) (s p v r i n x : ℕ) → AreCopied S M s p v r i → (s ≡ v → p + n ≤ r) → i < n → r + i < length (segment M v) → R ≡ with_word M v (r + i) x → x ≡ word_at M s (p + i) → AreCopied S R s p v r (i + 1)
-copied_next S M R s p v r i n x c apart l place e f =
-    let put = word_put M R v (r + i) x place e in
+pub copied_at_once : (S R : Segments) (s p v r n : ℕ) → p + n ≤ length (segment S s) → r + n ≤ length (segment S v) → R ≡ with_words S v r (words_at S s p n) → AreCopied S R s p v r n
+copied_at_once S R s p v r n there inside e =
+    let ws = words_at S s p n in
+    let long : length ws ≡ n = length_words S s p n there in
+    let put = words_put S R v r ws (omega (arith, inside, long)) e in
+    let now : words_at R v r n ≡ ws = subst (λ m. words_at R v r m ≡ ws) long put.here in
     record {
-      segments = put.segments ∙ c.segments;
-      words = λ y. put.words y ∙ c.words y;
-      here = λ j m. elim (cases_eq j i) [
-        | inl same ↦ rw same (put.here ∙ f ∙ c.kept s (p + i) beside)
-        | inr other ↦ put.kept v (r + j) (outside v (r + i) v (r + j) (λ y z. other (omega arith))) ∙ c.here j (omega (arith, other))
-      ];
-      kept = λ y z h. put.kept y z (omega (arith, h, row_next v r i y z)) ∙ c.kept y z (omega (arith, h, row_next v r i y z));
+      segments = put.long.segments;
+      words = put.long.words;
+      here = λ i l. sym (word_in_part R v r n i l) ∙ ap (λ xs. get_or xs i 0) now ∙ word_in_part S s p n i l;
+      kept = λ x y h. put.kept x y (subst (λ m. times (row v r m ∷ []) x y ≡ 0) (sym long) h);
     }
-  where
-    beside : times (row v r i ∷ []) s (p + i) ≡ 0
-    beside = elim (cases_eq (times (row v r i ∷ []) s (p + i)) 0) [
-      | inl none ↦ none
-      | inr some ↦ (let k = in_row v r i s (p + i) (omega arith) in absurd (omega (arith, apart k.0, k.1)))
-    ]

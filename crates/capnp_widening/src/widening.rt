@@ -65,7 +65,7 @@ pub(crate) fn take<A: BuilderArena>(arena: &mut A, id: u32, amount: u32) -> Resu
     }
 }
 
-/// Copies words one behind the other over others.
+/// Copies words one behind the other over others, in one copy.
 pub(crate) fn copy_words<A: BuilderArena>(arena: &mut A, from: Start, to: Start, count: u32)
     requires from { from.at + count ≤ length (segment (A.view arena.old).words from.segment) }
     requires to { to.at + count ≤ length (segment (A.view arena.old).words to.segment) }
@@ -73,10 +73,7 @@ pub(crate) fn copy_words<A: BuilderArena>(arena: &mut A, from: Start, to: Start,
     ensures copied { AreCopied (A.view arena.old).words (A.view arena.new).words from.segment from.at to.segment to.at count }
     ensures limits { KeepsLimits (A.view arena.old) (A.view arena.new) }
 {
-    for i in 0..count {
-        let word = word_of(arena, from.segment, from.at + i);
-        arena.set_word(to.segment, to.at + i, word.0);
-    }
+    arena.move_words(from.segment, from.at, to.segment, to.at, count);
 }
 
 /// Sets the pointer at a place to an object that stands in a room, and writes its landing pad, if any.
