@@ -1,5 +1,5 @@
 -- Lists of structs that are opened for writing.
-use Rattle.std.proofs.Common.{◌≡◌, inl, inr, ℕ, ◌+◌, ◌*◌, ◌^◌, ◌≤◌, max, Bool, true, false, cond, nat_lt, List, length, Option, Some, None, Result, Ok, Err, IfOk, OnOk, OnErr, IfErr, refl, sym, ap, ap₂, ◌∙◌, subst, arith}
+use Rattle.std.proofs.Common.{◌≡◌, inl, inr, ℕ, ◌+◌, ◌*◌, ◌^◌, ◌≤◌, max, Bool, true, false, cond, nat_lt, List, length, Option, Some, None, Result, Ok, Err, IfOk, OnOk, OnErr, IfErr, refl, sym, ap, ◌∙◌, subst, arith}
 use Rattle.capnp_words.specs.declared.error.ErrorKind.{ErrorKind}
 use Rattle.capnp_words.specs.declared.error.ErrorKind.TheVariants.{MessageTooLarge}
 use Rattle.capnp_format.specs.Segments.{Segments}
@@ -13,10 +13,10 @@ use Rattle.capnp_arena.specs.View.{View}
 use Rattle.capnp_making.specs.declared.existing.ExistingList.{ExistingList}
 use Rattle.capnp_making.specs.Existing.{list_in}
 use Rattle.capnp_making.specs.Memory.{KeepsMemory}
-use Rattle.capnp_making.specs.Stored.{IsStored, IsReplaced}
+use Rattle.capnp_making.specs.Stored.{IsStored}
 use Rattle.capnp_making.proofs.Filling.{unchanged}
 use Rattle.capnp_making.proofs.Memory.{keeps_itself}
-use Rattle.capnp_widening.specs.Opening.{Opened, Unopened, Opens, OpensList, HasSections, IsWideList, LeadsToAll, refusal_of_words, refusal_of_elements, call_at, CallAt}
+use Rattle.capnp_widening.specs.Opening.{Opens, OpensList, HasSections, HasWideStructs, LeadsToAll, refusal_of_words, refusal_of_elements, call_at, CallAt}
 use Rattle.capnp_widening.specs.RowsRemade.{WidensList, LeadsToList, RefusesWider}
 use Rattle.capnp_widening.specs.Widened.{fill_elements, LeavesAll, limited, list_widened}
 use Rattle.capnp_widening.proofs.AnyList.{list_inside, unfound_refused}
@@ -38,7 +38,7 @@ opens size r c (Pointers ts) some o = o
 opens size r c (Structs d q es) some o = o
 
 -- a list of structs that are large enough
-pub list_wide : (v : View) (s p : ℕ) (t : Tree) (l : ExistingList) (size : StructSize) → IsStored v.words s p t → list_in (target v.words s p) Void t ≡ Ok (Some l) → IsWideList size l → OpensList size (Ok (Some l)) (call_at s p v v) t
+pub list_wide : (v : View) (s p : ℕ) (t : Tree) (l : ExistingList) (size : StructSize) → IsStored v.words s p t → list_in (target v.words s p) Void t ≡ Ok (Some l) → HasWideStructs size l → OpensList size (Ok (Some l)) (call_at s p v v) t
 list_wide v s p t l size stored found wide =
     let k = are_structs v.words s p t l (ap size_number wide.0) (stored, found) in
     let stays : list_widened size.data_words size.pointers t ≡ Ok t =
@@ -72,7 +72,7 @@ by_number S s p t l z n d q r is e small stored found f =
     let counts : l.count ≡ length k.numbers = ap (λ (o : ExistingList). o.count) k.list in
     subst (λ x. Refuses (r l.count) (list_widened d q x)) (sym tree) (subst (λ m. Refuses (r m) (list_widened d q (Flat n k.numbers))) (sym counts) (f k.numbers))
 
-refuses : (S : Segments) (s p : ℕ) (t : Tree) (l : ExistingList) (size : StructSize) (z : ElementSize) → l.size ≡ z → IsStored S s p t → list_in (target S s p) Void t ≡ Ok (Some l) → (IsWideList size l → ⊥) →
+refuses : (S : Segments) (s p : ℕ) (t : Tree) (l : ExistingList) (size : StructSize) (z : ElementSize) → l.size ≡ z → IsStored S s p t → list_in (target S s p) Void t ≡ Ok (Some l) → (HasWideStructs size l → ⊥) →
     Refuses (refusal_of_elements size z l.struct_size l.count) (list_widened size.data_words size.pointers t)
 refuses S s p t l size Void is stored found narrow =
     by_number S s p t l Void 0 size.data_words size.pointers (λ m. refusal_of_elements size Void l.struct_size m) is refl (omega arith) stored found (λ ns. by_words (length ns * (size.data_words + size.pointers)) _)
@@ -103,11 +103,11 @@ refuses S s p t l size InlineComposite is stored found narrow =
     (subst (λ m. Refuses (refusal_of_elements size InlineComposite l.struct_size l.count) (limited (m * (max e size.data_words + max q size.pointers)) u)) counts (by_words (l.count * (max e size.data_words + max q size.pointers)) u)))
 
 -- they don't
-pub list_error : (S : Segments) (s p : ℕ) (t : Tree) (l : ExistingList) (size : StructSize) (k : ErrorKind) → IsStored S s p t → list_in (target S s p) Void t ≡ Ok (Some l) → (IsWideList size l → ⊥) →
+pub list_error : (S : Segments) (s p : ℕ) (t : Tree) (l : ExistingList) (size : StructSize) (k : ErrorKind) → IsStored S s p t → list_in (target S s p) Void t ≡ Ok (Some l) → (HasWideStructs size l → ⊥) →
     Some k ≡ refusal_of_elements size l.size l.struct_size l.count → list_widened size.data_words size.pointers t ≡ Err k
 list_error S s p t l size k stored found narrow refused = subst (λ o. Refuses o (list_widened size.data_words size.pointers t)) (sym refused) (refuses S s p t l size l.size refl stored found narrow)
 
-pub list_refused : (v : View) (s p : ℕ) (t : Tree) (l : ExistingList) (size : StructSize) (k : ErrorKind) → IsStored v.words s p t → list_in (target v.words s p) Void t ≡ Ok (Some l) → (IsWideList size l → ⊥) →
+pub list_refused : (v : View) (s p : ℕ) (t : Tree) (l : ExistingList) (size : StructSize) (k : ErrorKind) → IsStored v.words s p t → list_in (target v.words s p) Void t ≡ Ok (Some l) → (HasWideStructs size l → ⊥) →
     Some k ≡ refusal_of_elements size l.size l.struct_size l.count → OpensList size (Err k) (call_at s p v v) t
 list_refused v s p t l size k stored found narrow refused =
     let e = list_error v.words s p t l size k stored found narrow refused in
@@ -127,13 +127,13 @@ pub null_opened : (v : View) (s p : ℕ) (t : Tree) (size : StructSize) → t �
 null_opened v s p t size null = subst (λ x. OpensList size (Ok None) (call_at s p v v) x) (sym null) (refl, refl)
 
 -- a list that is made one of larger structs
-sections_wide : (S : Segments) (s p : ℕ) (t : Tree) (l : ExistingList) (size : StructSize) → list_in (target S s p) Void t ≡ Ok (Some l) → HasSections size t → IsWideList size l
+sections_wide : (S : Segments) (s p : ℕ) (t : Tree) (l : ExistingList) (size : StructSize) → list_in (target S s p) Void t ≡ Ok (Some l) → HasSections size t → HasWideStructs size l
 sections_wide S s p Null l size found h = absurd h
 sections_wide S s p (Capability i) l size found h = absurd h
 sections_wide S s p (Struct ws ts) l size found h = absurd (not_a_list _ l found)
 sections_wide S s p (Flat w ns) l size found h = absurd h
 sections_wide S s p (Pointers ts) l size found h = absurd h
-sections_wide S s p (Structs d q es) l size found h = subst (λ m. IsWideList size m) (same_list _ l found) (refl, h.0, h.1)
+sections_wide S s p (Structs d q es) l size found h = subst (λ m. HasWideStructs size m) (same_list _ l found) (refl, h.0, h.1)
 
 same_result : (k : ErrorKind) (u : Tree) → ◌≡◌ {A = Result Tree ErrorKind} (Ok u) (Err k) → ⊥
 same_result k u e = cc
@@ -146,7 +146,7 @@ pub record Widens (a b : View) (s p : ℕ) (size : StructSize) (r : Result (Opti
   pub refused : OnErr r (LeavesAll a.words b.words s p)
   pub named : IfErr r (RefusesWider a b s p size)
 
-pub list_made : (a b : View) (s p : ℕ) (t : Tree) (l : ExistingList) (size : StructSize) (r : Result (Option ExistingList) ErrorKind) → IsStored a.words s p t → list_in (target a.words s p) Void t ≡ Ok (Some l) → (IsWideList size l → ⊥) →
+pub list_made : (a b : View) (s p : ℕ) (t : Tree) (l : ExistingList) (size : StructSize) (r : Result (Option ExistingList) ErrorKind) → IsStored a.words s p t → list_in (target a.words s p) Void t ≡ Ok (Some l) → (HasWideStructs size l → ⊥) →
     None ≡ refusal_of_elements size l.size l.struct_size l.count → Widens a b s p size r → OpensList size r (call_at s p a b) t
 list_made a b s p t l size (Ok m) stored found narrow none w =
     let (u, e, made) = w.widened t stored in

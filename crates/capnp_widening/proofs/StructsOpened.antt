@@ -1,5 +1,5 @@
 -- Structs that are opened for writing.
-use Rattle.std.proofs.Common.{◌≡◌, ◌≢◌, inl, inr, Bool, true, false, ℕ, zero, suc, ◌+◌, ◌<◌, ◌≤◌, max, List, length, Option, Some, None, Ok, Err, refl, sym, ap, ap₂, ◌∙◌, subst, arith}
+use Rattle.std.proofs.Common.{◌≡◌, ◌≢◌, inl, inr, Bool, true, false, ℕ, zero, suc, ◌+◌, ◌≤◌, max, List, length, Some, None, Ok, Err, refl, sym, ap, ap₂, ◌∙◌, subst, arith}
 use Rattle.std.proofs.lemmas.Grind.{common_steps}
 use Rattle.capnp_words.specs.declared.error.ErrorKind.{ErrorKind}
 use Rattle.capnp_words.specs.declared.error.ErrorKind.TheVariants.{AllocationFailed, MessageContainsNonStructPointerWhereStructPointerWasExpected}
@@ -12,14 +12,14 @@ use Rattle.capnp_arena.specs.View.{View}
 use Rattle.capnp_making.specs.declared.existing.ExistingStruct.{ExistingStruct}
 use Rattle.capnp_making.specs.declared.making.Start.{Start}
 use Rattle.capnp_making.specs.Existing.{struct_in, LiesIn}
-use Rattle.capnp_making.specs.Made.{zero_struct, zeros, nulls, LeadsTo, LieFrom}
+use Rattle.capnp_making.specs.Made.{zero_struct, zeros, nulls, LeadsTo}
 use Rattle.capnp_making.specs.Memory.{HasRoom, KeepsMemory, SpendsMemory, IsRefusedFor}
 use Rattle.capnp_making.specs.Stored.{IsStored, IsReplaced}
 use Rattle.capnp_making.proofs.Filling.{unchanged}
 use Rattle.capnp_making.proofs.FillingMade.{null_stored}
 use Rattle.capnp_making.proofs.Memory.{keeps_itself, spends_nothing, not_the_allocator, made_refused}
 use Rattle.capnp_making.proofs.Replaced.{grown}
-use Rattle.capnp_widening.specs.Opening.{Opened, Unopened, Opens, OpensStruct, HasSections, LeadsToOne, struct_opened, call_at}
+use Rattle.capnp_widening.specs.Opening.{OpensStruct, call_at}
 use Rattle.capnp_widening.specs.Widened.{fill_words, fill_trees, GrowsByZeros, WidensStruct, LeavesAll, LeadsToStruct, IsNoWider}
 use Rattle.capnp_widening.proofs.Filled.{already_wide, wide_words, wide_trees}
 use Rattle.capnp_widening.proofs.StructSteps.{the_struct, same_struct}
@@ -141,7 +141,7 @@ struct_kept a b s p (Pointers ts) e size k stored found narrow leaves named = ab
 struct_kept a b s p (Structs d q es) e size k stored found narrow leaves named = absurd (no_struct e found)
 
 -- a value that is no struct, and not null
-some_struct : (e : ExistingStruct) → Some e ≡ None → ⊥
+pub some_struct : (e : ExistingStruct) → Some e ≡ None → ⊥
 some_struct e x = cc
 
 null_word : (S : Segments) (s p : ℕ) → IsStored S s p Null → word_at S s p ≡ 0

@@ -77,8 +77,8 @@ OpensList size result c Null = (result ≡ Ok None) × (c.new ≡ c.old)
 OpensList size result c t = Opens size LeadsToAll c t (list_widened size.data_words size.pointers t) result
 
 -- A list that is found is one of structs with sections of at least a size.
-abbrev pub IsWideList : StructSize → ExistingList → Type 0
-IsWideList size l = (l.size ≡ InlineComposite) × (size.data_words ≤ l.struct_size.data_words) × (size.pointers ≤ l.struct_size.pointers)
+abbrev pub HasWideStructs : StructSize → ExistingList → Type 0
+HasWideStructs size l = (l.size ≡ InlineComposite) × (size.data_words ≤ l.struct_size.data_words) × (size.pointers ≤ l.struct_size.pointers)
 
 -- Structs of so many words, which are 2^29 or more, are too large for a list.
 abbrev pub refusal_of_words : ℕ → Option ErrorKind

@@ -1,6 +1,6 @@
 -- The words that making an object wider takes, and the room for them.
 use Rattle.std.specs.Prelude.{◌≡◌, ◌⊎◌, ℕ, ◌+◌, ◌*◌, ◌<◌, ◌≤◌, Ok, List, [], ◌∷◌, length}
-use Rattle.capnp_format.specs.Segments.{Segments}
+use Rattle.capnp_format.specs.Segments.{Segments, word_at}
 use Rattle.capnp_format.specs.Tree.{Tree, Null, Struct, Pointers, Structs, Trees, Elements, count, element_count}
 use Rattle.capnp_format.specs.Forest.{target}
 use Rattle.capnp_pointers.specs.declared.wire_pointer.StructSize.{StructSize}
@@ -54,6 +54,10 @@ widened size ws ts = Struct (fill_words size.data_words ws) (fill_trees size.poi
 -- The place stores a struct, and there is room for what it becomes.
 abbrev pub StructFits : View → ℕ → ℕ → StructSize → Type 0
 StructFits v s p size = (ws : List ℕ) × (ts : Trees) × IsStored v.words s p (Struct ws ts) × HasRoomFor v s p (Struct ws ts) (widened size ws ts)
+
+-- A struct is opened at the place, and there is room for it: for a new one in place of null, or for what the struct that stands becomes.
+abbrev pub OpeningFits : View → ℕ → ℕ → StructSize → Type 0
+OpeningFits v s p size = ((word_at v.words s p ≡ 0) × HasRoom v s (size.data_words + size.pointers)) ⊎ StructFits v s p size
 
 -- From S to R no more words are taken than what a struct at the place becomes, a pad, and two words for each of its pointers.
 abbrev pub TakesForStruct : Segments → Segments → ℕ → ℕ → StructSize → Type 0

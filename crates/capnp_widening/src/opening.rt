@@ -1,12 +1,13 @@
 //! Structs and lists of structs opened for writing, at least as large as asked for ("Structs", "Lists").
-ghost use Rattle.std.specs.Prelude.{◌≡◌, ◌↔◌, ◌+◌, ◌*◌, ◌^◌, ◌≤◌, max, IsTrue, Some, IfSome, IfOk, OnOk, IfErr};
+ghost use Rattle.std.specs.Prelude.{◌≡◌, ◌↔◌, ◌+◌, ◌*◌, ◌^◌, ◌≤◌, max, IsTrue, IsOk, Some, IfSome, IfOk, OnOk, IfErr};
 ghost use Rattle.capnp_format.specs.Forest.{target};
 ghost use Rattle.capnp_format.specs.Segments.{IsPlace, word_at};
 ghost use Rattle.capnp_format.specs.Tree.{Tree, Null};
 ghost use Rattle.capnp_making.specs.Existing.{struct_in};
-ghost use Rattle.capnp_making.specs.Memory.{KeepsMemory, SpendsMemory};
+ghost use Rattle.capnp_making.specs.Memory.{HasRoom, KeepsMemory, SpendsMemory};
 ghost use Rattle.capnp_making.specs.Stored.{IsStored};
-ghost use Rattle.capnp_widening.specs.Opening.{call_at, IsWideList, OpensStruct, OpensList, refusal_of_elements};
+ghost use Rattle.capnp_widening.specs.Opening.{call_at, HasWideStructs, OpensStruct, OpensList, refusal_of_elements};
+ghost use Rattle.capnp_widening.specs.Rooms.{ListFits, OpeningFits, StructFits};
 ghost use Rattle.capnp_widening.specs.RowsRemade.{RefusesWider};
 ghost use Rattle.capnp_widening.specs.Widened.{IsAtLeast, IsNoWider};
 ghost use Rattle.capnp_words.specs.declared.error.ErrorKind.TheVariants.{AllocationFailed};
@@ -38,6 +39,7 @@ pub fn open_struct<A: BuilderArena>(
     ensures granted { OnOk result (KeepsMemory (A.view arena.old) (A.view arena.new)) }
     ensures memory { IfErr result (SpendsMemory (A.view arena.old) (A.view arena.new)) }
     ensures named { (word_at (A.view arena.old).words id at ≡ 0 → ⊥) → IfErr result (IsNoWider (A.view arena.old) (A.view arena.new) id at) }
+    ensures fits { OpeningFits (A.view arena.old) id at size → IsOk result }
 {
     match existing::get_struct(arena, id, at) {
         Some(old) => {
@@ -68,6 +70,7 @@ fn new_struct<A: BuilderArena>(
     ensures wide { IfOk result (IsAtLeast size) }
     ensures granted { OnOk result (KeepsMemory (A.view arena.old) (A.view arena.new)) }
     ensures memory { IfErr result (SpendsMemory (A.view arena.old) (A.view arena.new)) }
+    ensures fits { HasRoom (A.view arena.old) id (size.data_words + size.pointers) → IsOk result }
 {
     match make_struct(arena, id, at, size) {
         Ok(start) => Ok(ExistingStruct {
@@ -94,6 +97,7 @@ fn widen_struct<A: BuilderArena>(
     ensures granted { OnOk result (KeepsMemory (A.view arena.old) (A.view arena.new)) }
     ensures memory { IfErr result (SpendsMemory (A.view arena.old) (A.view arena.new)) }
     ensures named { IfErr result (IsNoWider (A.view arena.old) (A.view arena.new) id at) }
+    ensures fits { StructFits (A.view arena.old) id at size → IsOk result }
 {
     match get_struct(arena, id, at, size) {
         Ok(wide) => Ok(ExistingStruct {
@@ -141,6 +145,7 @@ pub fn open_struct_list<A: BuilderArena>(
     ensures granted { OnOk result (KeepsMemory (A.view arena.old) (A.view arena.new)) }
     ensures memory { IfErr result (SpendsMemory (A.view arena.old) (A.view arena.new)) }
     ensures named { IfErr result (RefusesWider (A.view arena.old) (A.view arena.new) id at size) }
+    ensures fits { ListFits (A.view arena.old) id at size → IsOk result }
 {
     match existing::get_list(arena, id, at, ElementSize::Void) {
         Ok(Some(old)) => {
@@ -159,7 +164,7 @@ pub fn open_struct_list<A: BuilderArena>(
 
 /// Whether a list is one of structs with sections as large as wanted.
 fn is_wide_list(list: ExistingList, wanted: StructSize) -> bool
-    ensures { IsTrue result ↔ IsWideList wanted list }
+    ensures { IsTrue result ↔ HasWideStructs wanted list }
 {
     list.size == ElementSize::InlineComposite && is_wide(list.struct_size, wanted)
 }

@@ -1,5 +1,8 @@
-use Rattle.std.proofs.Common.{◌≤◌, sym, rules}
-use Rattle.capnp_widening.proofs.StructsOpened.{struct_wide}
+use Rattle.std.proofs.Common.{◌≤◌, inl, inr, sym, ◌∙◌, rules}
+use Rattle.capnp_format.specs.Tree.{Null, Struct}
+use Rattle.capnp_making.proofs.FillingMade.{null_stored}
+use Rattle.capnp_widening.proofs.StructRooms.{no_struct}
+use Rattle.capnp_widening.proofs.StructsOpened.{struct_wide, some_struct, no_truth}
 use Rattle.capnp_widening.proofs.opening.open_struct.Goals as goal
 
 -- It is large enough.
@@ -7,3 +10,24 @@ pub returns-then-is_wide-clause-opened : goal.returns-then-is_wide-clause-opened
 returns-then-is_wide-clause-opened g c = λ t stored.
     (let wide : (c.args.size.data_words ≤ c.in-Some.old.size.data_words) × (c.args.size.pointers ≤ c.in-Some.old.size.pointers) = c.is_wide.ensures.0 (search rules) in
     struct_wide (g.A.BuilderArena.view c.args.arena.now) c.args.id c.args.at t c.in-Some.old c.args.size stored (sym (c.in-Some.ensures.found t stored)) wide.0 wide.1)
+
+-- A struct is found, so the pointer isn't null.
+pub returns-else-is_wide-clause-fits : goal.returns-else-is_wide-clause-fits
+returns-else-is_wide-clause-fits g c = λ h. elim h [
+  | inl (null, room) ↦ absurd (some_struct _ (c.in-Some.ensures.found Null (null_stored (g.A.BuilderArena.view c.args.arena.now).words c.args.id c.args.at c.requires.place null)))
+  | inr fits ↦ c.widen_struct.ensures.fits fits
+]
+
+-- None is found, and the pointer isn't null.
+pub returns-then-not-is_null-clause-fits : goal.returns-then-not-is_null-clause-fits
+returns-then-not-is_null-clause-fits g c = λ h. absurd (elim h [
+  | inl (null, room) ↦ no_truth c.is_null.result (search rules) (c.is_null.ensures.1 (c.word_of.ensures ∙ null))
+  | inr (ws, ts, x, room) ↦ no_struct _ (c.in-None.ensures.found (Struct ws ts) x)
+])
+
+-- It is null.
+pub returns-else-not-is_null-clause-fits : goal.returns-else-not-is_null-clause-fits
+returns-else-not-is_null-clause-fits g c = λ h. elim h [
+  | inl (null, room) ↦ c.new_struct.ensures.fits room
+  | inr (ws, ts, x, room) ↦ absurd (no_struct _ (c.in-None.ensures.found (Struct ws ts) x))
+]

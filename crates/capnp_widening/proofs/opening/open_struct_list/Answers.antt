@@ -1,5 +1,5 @@
 use Rattle.std.proofs.Common.{sym, ap, ◌∙◌, Ok}
-use Rattle.capnp_widening.specs.Opening.{IsWideList}
+use Rattle.capnp_widening.specs.Opening.{HasWideStructs}
 use Rattle.capnp_widening.proofs.ListsOpened.{list_made}
 use Rattle.capnp_widening.proofs.StructsOpened.{no_truth, nothing_spent}
 use Rattle.capnp_widening.proofs.Unspent.{unfound_spent}
@@ -8,7 +8,7 @@ use Rattle.capnp_widening.proofs.opening.open_struct_list.Goals as goal
 -- It is made one of larger structs.
 pub returns-in-None-clause-opened : goal.returns-in-None-clause-opened
 returns-in-None-clause-opened g c = λ t stored.
-    (let narrow : IsWideList c.args.size c.in-Ok-Some.old → ⊥ = λ wide. no_truth c.is_wide_list.result c.if-is_wide_list.false (c.is_wide_list.ensures.1 wide) in
+    (let narrow : HasWideStructs c.args.size c.in-Ok-Some.old → ⊥ = λ wide. no_truth c.is_wide_list.result c.if-is_wide_list.false (c.is_wide_list.ensures.1 wide) in
     list_made (g.A.BuilderArena.view c.args.arena.now) (g.A.BuilderArena.view c.get_struct_list.new.arena) c.args.id c.args.at t c.in-Ok-Some.old c.args.size c.get_struct_list.result stored
     (sym (c.in-Ok-Some.ensures.found t stored) ∙ ap Ok c.in-Ok-Some.field-0-is) narrow c.in-None.ensures.found
     (record {
