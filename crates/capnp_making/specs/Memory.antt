@@ -32,6 +32,10 @@ pub record StandsBehind (old : View) (id n : ℕ) (h : Start) : Type 0 where
   pub near : 0 < n → length (segment old.words id) + n ≤ old.room id → (h.segment ≡ id) × (h.at ≡ length (segment old.words id))
   pub far : old.room id < length (segment old.words id) + n → IsNextRoom old (n + 1) h.segment × (h.at ≡ length (segment old.words h.segment) + 1)
 
+-- n words are taken where the arena has room next, and what follows the first of them starts at h.
+abbrev pub TakesNext : View → View → ℕ → Start → Type 0
+TakesNext old new n h = IsNextRoom old n h.segment × Lengthens old.words new.words h.segment n × (h.at ≡ length (segment old.words h.segment) + 1)
+
 -- Nothing but words is changed, and the room of segments that are new.
 abbrev pub KeepsMemory : View → View → Type 0
 KeepsMemory old new = (new ≡ record old { words = new.words; room = new.room }) × SameRoomBelow (length old.words) old.room new.room

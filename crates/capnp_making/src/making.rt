@@ -9,9 +9,10 @@ ghost use Rattle.capnp_format.specs.Segments.{segment, word_at, IsPlace};
 ghost use Rattle.capnp_format.specs.Tree.{Null, Capability};
 ghost use Rattle.capnp_format.specs.Word.{offset_bits, struct_word};
 ghost use Rattle.capnp_pointers.specs.Sizes.{size_number};
+ghost use Rattle.capnp_arena.specs.Taking.{IsFirstFit};
 ghost use Rattle.capnp_arena.specs.View.{KeepsLimits};
 ghost use Rattle.capnp_making.specs.Made.{IsShape, IsFew, AsksWords, zero_struct, zero_structs, zero_list, list_words, IsMadeAt, LeadsTo, LieFrom};
-ghost use Rattle.capnp_making.specs.Memory.{HasRoom, KeepsMemory, TakesWords, StandsBehind, IsRefusedFor};
+ghost use Rattle.capnp_making.specs.Memory.{HasRoom, KeepsMemory, TakesNext, TakesWords, StandsBehind, IsRefusedFor};
 ghost use Rattle.capnp_making.specs.Near.{HasOwnRoom, HasStructRoom, HasStructsRoom, StartsBehind, shape_word, with_shape, with_struct, with_list, with_struct_list};
 ghost use Rattle.capnp_making.specs.Stored.{IsReplaced, Puts, ZeroesOld};
 ghost use Rattle.capnp_making.specs.Zeroed.{IsPruned};
@@ -94,18 +95,45 @@ fn put_object<A: BuilderArena>(
                 at: start,
             })
         }
-        None => match arena.allocate_anywhere(amount + 1) {
-            Ok((segment, pad)) => {
-                let word = pointer_to(shape, pad, pad + 1);
-                arena.set_word(segment, pad, word.0);
-                arena.set_word(id, at, WirePointer::new_far(pad, segment).0);
-                Ok(Start {
-                    segment,
-                    at: pad + 1,
-                })
-            }
-            Err(k) => Err(k),
-        },
+        None => put_far(arena, id, at, shape, amount),
+    }
+}
+
+/// Makes an object of so many words, all zero, behind a landing pad where the arena finds room for
+/// both, and sets the pointer at a place, which isn't looked at.
+///
+/// A refusal is that of `allocate_anywhere` for one word more than the object has, and changes
+/// nothing but `refused`.
+#[cold]
+#[inline(never)]
+fn put_far<A: BuilderArena>(
+    arena: &mut A,
+    id: u32,
+    at: u32,
+    shape: Shape,
+    amount: u32,
+) -> Result<Start, ErrorKind>
+    requires place { IsPlace (A.view arena.old).words id at }
+    requires few { IsFew shape }
+    requires small { amount < 2 ^ 31 }
+    ensures made { IfOk result (IsMadeAt (A.view arena.old).words (A.view arena.new).words id at shape amount) }
+    ensures fits { (k : ℕ) → IsFirstFit (A.view arena.old) (amount + 1) k → IsOk result }
+    ensures granted { OnOk result (KeepsMemory (A.view arena.old) (A.view arena.new)) }
+    ensures taken { IfOk result (TakesNext (A.view arena.old) (A.view arena.new) (amount + 1)) }
+    ensures named { IfErr result (IsRefusedFor (A.view arena.old) (A.view arena.new) amount) }
+    ensures refused { OnErr result ((A.view arena.new).words ≡ (A.view arena.old).words) }
+{
+    match arena.allocate_anywhere(amount + 1) {
+        Ok((segment, pad)) => {
+            let word = pointer_to(shape, pad, pad + 1);
+            arena.set_word(segment, pad, word.0);
+            arena.set_word(id, at, WirePointer::new_far(pad, segment).0);
+            Ok(Start {
+                segment,
+                at: pad + 1,
+            })
+        }
+        Err(k) => Err(k),
     }
 }
 

@@ -1,5 +1,5 @@
 //! What a pointer holds made zero: the object, all below it, and the landing pads.
-ghost use Rattle.std.specs.Prelude.{◌≡◌, ℕ, ◌<◌, ◌≤◌, ◌+◌, ◌*◌, ◌^◌, ◌∷◌, [], length};
+ghost use Rattle.std.specs.Prelude.{◌≡◌, ℕ, ◌<◌, ◌≤◌, ◌+◌, ◌*◌, ◌^◌, ◌∷◌, [], length, IsTrue, ◌↔◌};
 ghost use Rattle.capnp_arena.specs.View.{KeepsLimits};
 ghost use Rattle.capnp_format.specs.Segments.{segment, word_at, IsPlace};
 ghost use Rattle.capnp_format.specs.Tree.{Tree};
@@ -21,9 +21,17 @@ pub fn zero_part<A: BuilderArena>(arena: &mut A, id: u32, start: u32, n: u64)
     ensures pruned { IsPruned (A.view arena.old).words (A.view arena.new).words }
     ensures limits { KeepsLimits (A.view arena.old) (A.view arena.new) }
 {
-    if n > 0 && u64::from(start) + n <= u64::from(length_of(arena, id)) {
+    if holds_some(arena, id, start, n) {
         arena.zero_words(id, start, n as u32);
     }
+}
+
+/// Whether so many words lie in a segment, and are at least one.
+fn holds_some<A: BuilderArena>(arena: &A, id: u32, start: u32, n: u64) -> bool
+    requires { n < 2 ^ 63 }
+    ensures { IsTrue result ↔ ((0 < n) × (start + n ≤ length (segment (A.view arena.now).words id))) }
+{
+    n > 0 && u64::from(start) + n <= u64::from(length_of(arena, id))
 }
 
 /// Makes the landing pads of a word zero, if it is a far pointer.
