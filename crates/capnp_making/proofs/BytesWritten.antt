@@ -21,7 +21,7 @@ use Rattle.capnp_making.specs.Overwritten.{HoldsBytes, bytes_over}
 use Rattle.capnp_making.specs.Zeroed.{row}
 use Rattle.capnp_making.specs.Stored.{IsStored, IsReplaced}
 use Rattle.capnp_making.proofs.Replaced.{replaced_again}
-use Rattle.capnp_making.proofs.Written.{SameLengths, SameBut, flat_written}
+use Rattle.capnp_making.proofs.Written.{SameLengths, SameBut, flat_written, flat_target}
 use Rattle.capnp_making.proofs.Zeros.{there, segment_here, word_here, word_other, lengths_kept, length-over, over_beside, in_row, of_row}
 
 -- a segment has the bytes of its words
@@ -255,4 +255,19 @@ pub bytes_written : (Q S R : Segments) (s p n : ℕ) (t : Tree) (h : Start) (xs 
 bytes_written Q S R s p n t h xs w made lead few = elim (cases_eq (length xs) 0) [
   | inl e ↦ subst (λ y. IsReplaced Q R s p t y) (no_bytes n xs e) (subst (λ T. IsReplaced Q T s p t (Flat 2 (zeros n))) (sym (w.nothing e)) made)
   | inr some ↦ replaced_again Q S R s p t (Flat 2 (zeros n)) (Flat 2 (xs ++ zeros (n - length xs))) made (some_bytes S R s p n h xs w made.stored lead (omega arith) few)
+]
+
+-- and the pointer to the list leads where it led
+pub bytes_target : (S R : Segments) (s p n : ℕ) (h : Start) (xs : List ℕ) → WritesBytes S R h xs → IsStored S s p (Flat 2 (zeros n)) → LeadsTo S s p h → length xs ≤ n → LeadsTo R s p h
+bytes_target S R s p n h xs w x lead few = elim (cases_eq (length xs) 0) [
+  | inl e ↦ subst (λ T. LeadsTo T s p h) (sym (w.nothing e)) lead
+  | inr some ↦ (
+      let k = words_for 2 (length (zeros n)) in
+      let ln : length (zeros n) ≡ n = length-replicate {A = ℕ} n 0 in
+      let claim : h.at + k ≤ length (segment S h.segment) = omega (arith, flat_claims S s p 2 (zeros n) x, lead.1, ap (λ u. length (segment S u)) lead.0) in
+      let done = words_there S R h xs k w (omega (arith, some)) (omega (arith, few, ln)) claim in
+      let but = subst (SameBut S R) (ap₂ (λ u b. row u b k) lead.0 lead.1) done.but in
+      let same : target R s p ≡ target S s p = flat_target S R s p 2 (zeros n) done.long x but in
+      (lead.0 ∙ sym (ap (λ b. b.segment) same), lead.1 ∙ sym (ap (λ b. b.start) same))
+      )
 ]

@@ -14,7 +14,7 @@ use Rattle.capnp_arena.specs.Taking.{IsTaken, with_another}
 use Rattle.capnp_arena.specs.Written.{with_word, extended}
 use Rattle.capnp_making.specs.Path.{one_word}
 use Rattle.capnp_making.proofs.Leading.{single_far_leads}
-use Rattle.capnp_making.specs.Zeroed.{row}
+use Rattle.capnp_making.specs.Zeroed.{row, IsPruned, IsPrunedBut}
 use Rattle.capnp_making.specs.Made.{IsGrown, IsMade}
 use Rattle.capnp_making.proofs.Zeros.{there, segment_here, segment_other, word_here, word_other, lengths_kept, in_row, of_row}
 
@@ -111,6 +111,18 @@ word_put S R s p x l e =
         | inr f ↦ word_other S s v r made f
       ];
     })
+
+-- zeros over words before, one word written then
+pub pruned_but : (S M R : Segments) (s p x : ℕ) → IsPruned S M → IsPut M R s p x → IsPrunedBut S R s p x
+pruned_but S M R s p x pruned put = record {
+  segments = put.segments ∙ pruned.segments;
+  words = λ v. put.words v ∙ pruned.words v;
+  here = put.here;
+  only = λ v r other. elim (pruned.only v r) [
+    | inl same ↦ inl (put.kept v r other ∙ same)
+    | inr zeroed ↦ inr (put.kept v r other ∙ zeroed)
+  ];
+}
 
 pub not_far : (x : ℕ) → kind x ≢ 2 → pads_of x ≡ []
 not_far x n = ap (λ b. cond b (record { segment = upper_half x; start = far_position x; words = 1 + is_double x } ∷ []) []) (ne_eqb (kind x) 2 n)

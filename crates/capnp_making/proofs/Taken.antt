@@ -1,12 +1,15 @@
 -- Words that are taken for an object: how long the segments are then, and where the object stands.
-use Rattle.std.proofs.Common.{◌≡◌, ◌⊎◌, inl, inr, ℕ, zero, suc, ◌+◌, ◌-◌, ◌<◌, ◌≤◌, max, [], ◌∷◌, ◌++◌, List, length, replicate, refl, sym, ap, ◌∙◌, subst, arith}
+use Rattle.std.proofs.Common.{◌≡◌, ◌⊎◌, inl, inr, ℕ, zero, suc, ◌+◌, ◌-◌, ◌<◌, ◌≤◌, max, [], ◌∷◌, ◌++◌, List, length, replicate, refl, sym, ap, ap₂, ◌∙◌, subst, arith}
 use Rattle.std.proofs.lemmas.List.{length-set, length-append, length-replicate, get_or_append_left, get_or-append_right, get_or_past}
 use Rattle.std.proofs.lemmas.Bool.{cases_lt, cases_eq}
 use Rattle.capnp_format.specs.Segments.{Segments, segment}
 use Rattle.capnp_arena.specs.Taking.{IsFirstFit, IsFull, GrowsSegment, GainsSegment, with_another}
 use Rattle.capnp_arena.specs.View.{View, KeepsLimits}
 use Rattle.capnp_arena.specs.Written.{extended}
-use Rattle.capnp_making.specs.Memory.{Lengthens, IsNextRoom, TakesWords, StandsBehind}
+use Rattle.capnp_format.specs.Forest.{target}
+use Rattle.capnp_making.specs.Made.{LeadsTo}
+use Rattle.capnp_making.specs.Memory.{Lengthens, IsNextRoom, TakesWords, StandsBehind, LeadsBehind, start_of}
+use Rattle.capnp_making.specs.Near.{HasOwnRoom, StartsBehind, LeadsToEnd}
 use Rattle.capnp_making.specs.Zeroed.{IsPruned}
 use Rattle.capnp_making.specs.declared.making.Start.{Start}
 use Rattle.capnp_making.proofs.Zeros.{segment_here, segment_other}
@@ -124,3 +127,21 @@ stands_after old mid id n h limits pruned x =
       near = λ some fits. (let (there, start) = x.near some (omega (arith, same, pruned.words id)) in (there, start ∙ pruned.words id));
       far = λ full. (let (next, start) = x.far (omega (arith, same, pruned.words id)) in (next_room_before old mid (n + 1) h.segment limits pruned next, start ∙ ap (λ m. m + 1) (pruned.words h.segment)));
     }
+
+pub ends_after : (old mid : View) (id n : ℕ) → KeepsLimits old mid → IsPruned old.words mid.words → HasOwnRoom old id n → HasOwnRoom mid id n
+ends_after old mid id n limits pruned fits =
+    let same : mid.room id ≡ old.room id = ap (λ (v : View). v.room id) limits in
+    omega (arith, fits, same, pruned.words id)
+
+pub starts_after : (S M : Segments) (id : ℕ) (h : Start) → IsPruned S M → StartsBehind M id h → StartsBehind S id h
+starts_after S M id h pruned x = (x.0, x.1 ∙ pruned.words id)
+
+-- what starts at h starts where the pointer to it leads
+start_led : (S : Segments) (s p : ℕ) (h : Start) → LeadsTo S s p h → h ≡ start_of (target S s p)
+start_led S s p h lead = ap₂ (λ (u b : ℕ). let x : Start = record { segment = u; at = b } in x) lead.0 lead.1
+
+pub leads_behind : (old new : View) (id at n : ℕ) (h : Start) → LeadsTo new.words id at h → StandsBehind old id n h → LeadsBehind old new id at n
+leads_behind old new id at n h lead x = subst (StandsBehind old id n) (start_led new.words id at h lead) x
+
+pub leads_to_end : (old new : View) (id at n : ℕ) (h : Start) → LeadsTo new.words id at h → (HasOwnRoom old id n → StartsBehind old.words id h) → LeadsToEnd old new id at n
+leads_to_end old new id at n h lead x = λ fits. subst (StartsBehind old.words id) (start_led new.words id at h lead) (x fits)

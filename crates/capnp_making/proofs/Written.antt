@@ -146,6 +146,20 @@ flat_written S R s p size ns ms long a len small but here =
         (ap (λ z. pads_of (word_at R s p) ++ object_of (target R s p) z ∷ []) same_words ∙ same_cover (λ b. object_of b k ∷ []) (λ b. object_of b k ∷ []) (record { grows = grows; same = w.same }) o.leads_to.1 w.leads_to.1 (ap (λ is. object_of a k ∷ is) refl))
         (subst (λ b. words_at R b.segment b.start (words_for size (length ms)) ≡ packed size ms) (sym (ap target_in w.leads_to.1)) packed_here)
 
+-- the pointer to them leads where it led
+pub flat_target : (S R : Segments) (s p size : ℕ) (ns : List ℕ) → SameLengths S R → IsStored S s p (Flat size ns) → SameBut S R (object_of (target S s p) (words_for size (length ns))) → target R s p ≡ target S s p
+flat_target S R s p size ns long x but =
+    let m = x.means in
+    go m.0 m.1 m.2
+  where
+    go : (n c : ℕ) → Means S n s p (Flat size ns) c → target R s p ≡ target S s p
+    go n c (a, some, le, o, claim, e, g) =
+        let k = words_for size (length ns) in
+        let to_a = ap target_in o.leads_to.1 in
+        let but_a = subst (λ b. SameBut S R (object_of b k)) to_a but in
+        let w = stays S R s p k a (object_of a k) (λ _. []) (same_grows S R long) o.leads_to (λ v r. omega arith) but_a x.apart in
+        ap target_in w.leads_to.1 ∙ sym to_a
+
 -- the data words of one element
 record ElementWritten (S R : Segments) (n s p d q : ℕ) (es : Elements) (i : ℕ) (vs : List ℕ) : Type 0 where
   cost : ℕ

@@ -1,6 +1,7 @@
 -- The words that an object takes, in the segment of its pointer or, behind a landing pad, in another one ("Inter-Segment Pointers").
 use Rattle.std.specs.Prelude.{ℕ, ◌≡◌, ◌≢◌, ◌⊎◌, ◌+◌, ◌-◌, ◌^◌, ◌<◌, ◌≤◌, max, length}
-use Rattle.capnp_format.specs.Segments.{Segments, segment}
+use Rattle.capnp_format.specs.Forest.{target}
+use Rattle.capnp_format.specs.Segments.{Segments, segment, Target}
 use Rattle.capnp_words.specs.declared.error.ErrorKind.{ErrorKind}
 use Rattle.capnp_words.specs.declared.error.ErrorKind.TheVariants.{AllocationFailed, MessageTooLarge}
 use Rattle.capnp_arena.specs.Allocations.{max_segments, max_segment_words, one_more}
@@ -35,6 +36,14 @@ pub record StandsBehind (old : View) (id n : ℕ) (h : Start) : Type 0 where
 -- n words are taken where the arena has room next, and what follows the first of them starts at h.
 abbrev pub TakesNext : View → View → ℕ → Start → Type 0
 TakesNext old new n h = IsNextRoom old n h.segment × Lengthens old.words new.words h.segment n × (h.at ≡ length (segment old.words h.segment) + 1)
+
+-- Where a pointer leads, as a start.
+abbrev pub start_of : Target → Start
+start_of a = record { segment = a.segment; at = a.start }
+
+-- From old to new the pointer at a place got an object of n words, which stands behind all that were there.
+abbrev pub LeadsBehind : View → View → ℕ → ℕ → ℕ → Type 0
+LeadsBehind old new id at n = StandsBehind old id n (start_of (target new.words id at))
 
 -- Nothing but words is changed, and the room of segments that are new.
 abbrev pub KeepsMemory : View → View → Type 0

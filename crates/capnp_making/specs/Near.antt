@@ -1,6 +1,7 @@
 -- What stands where an object is made in the segment of its pointer.
 use Rattle.std.specs.Prelude.{◌≡◌, ℕ, ◌+◌, ◌*◌, ◌<◌, ◌≤◌, List, ◌∷◌, length}
 use Rattle.capnp_format.specs.Canonical.{offset_to}
+use Rattle.capnp_format.specs.Forest.{target}
 use Rattle.capnp_format.specs.Segments.{Segments, segment}
 use Rattle.capnp_format.specs.Word.{struct_word, list_word}
 use Rattle.capnp_arena.specs.View.{View}
@@ -8,6 +9,7 @@ use Rattle.capnp_arena.specs.Written.{with_word, extended}
 use Rattle.capnp_pointers.specs.Sizes.{size_number}
 use Rattle.capnp_pointers.specs.declared.wire_pointer.StructSize.{StructSize}
 use Rattle.capnp_making.specs.Made.{zeros, list_words}
+use Rattle.capnp_making.specs.Memory.{start_of}
 use Rattle.capnp_making.specs.declared.making.Shape.{Shape}
 use Rattle.capnp_making.specs.declared.making.Shape.TheVariants.{Struct as StructShape, List as ListShape}
 use Rattle.capnp_making.specs.declared.making.Start.{Start}
@@ -26,6 +28,11 @@ HasStructsRoom v id n size = HasOwnRoom v id (1 + n * (size.data_words + size.po
 -- An object starts behind the words of segment id.
 abbrev pub StartsBehind : Segments → ℕ → Start → Type 0
 StartsBehind S id h = (h.segment ≡ id) × (h.at ≡ length (segment S id))
+
+-- From old to new the pointer at a place got an object of n words, or of none: where its segment has room for them, it starts behind the words of
+-- that segment.
+abbrev pub LeadsToEnd : View → View → ℕ → ℕ → ℕ → Type 0
+LeadsToEnd old new id at n = HasOwnRoom old id n → StartsBehind old.words id (start_of (target new.words id at))
 
 -- the offset of a pointer at position p to what starts behind the words of segment id
 abbrev pub offset_behind : Segments → ℕ → ℕ → ℕ

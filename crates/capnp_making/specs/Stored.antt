@@ -1,10 +1,11 @@
 -- A value stored at a place, and a message in which another value is stored there, the rest as it was.
 use Rattle.std.specs.Prelude.{◌≡◌, ℕ, ◌<◌, ◌≤◌, ◌⊎◌, length}
 use Rattle.capnp_format.specs.Segments.{Segments, segment, word_at}
-use Rattle.capnp_format.specs.Tree.{Tree}
+use Rattle.capnp_format.specs.Tree.{Tree, Null}
 use Rattle.capnp_format.specs.Means.{Means}
 use Rattle.capnp_format.specs.Forest.{times, cover, IsTidy}
 use Rattle.capnp_making.specs.Path.{extent}
+use Rattle.capnp_making.specs.Zeroed.{IsPruned}
 
 -- the place means t, and holds no word twice and none outside its segment
 pub record IsStored (S : Segments) (s p : ℕ) (t : Tree) : Type 0 where
@@ -29,6 +30,10 @@ pub record IsReplaced (S R : Segments) (s p : ℕ) (t u : Tree) : Type 0 where
 -- Whatever value the place has in S, in R it has u in its stead.
 abbrev pub Puts : Segments → Segments → ℕ → ℕ → Tree → Type 0
 Puts S R s p u = (t : Tree) → IsStored S s p t → IsReplaced S R s p t u
+
+-- Whatever the place holds in S, words become zero first, and then it has u in place of null.
+abbrev pub PutsOnceZeroed : Segments → Segments → ℕ → ℕ → Tree → Type 0
+PutsOnceZeroed S R s p u = (M : Segments) × IsPruned S M × IsReplaced M R s p Null u
 
 -- The words below a place that its value in S used are zero in R: of what the place has in R no word but one of zero stands there.
 abbrev pub ZeroesOld : Segments → Segments → ℕ → ℕ → Type 0

@@ -7,15 +7,15 @@ ghost use Rattle.std.specs.Prelude.{◌≡◌, ◌≢◌, ℕ, length, ◌<◌, 
 ghost use Rattle.capnp_format.specs.Canonical.{offset_to, Reaches};
 ghost use Rattle.capnp_format.specs.Segments.{segment, word_at, IsPlace};
 ghost use Rattle.capnp_format.specs.Tree.{Null, Capability};
-ghost use Rattle.capnp_format.specs.Word.{offset_bits, struct_word};
+ghost use Rattle.capnp_format.specs.Word.{offset_bits, struct_word, capability_word};
 ghost use Rattle.capnp_pointers.specs.Sizes.{size_number};
 ghost use Rattle.capnp_arena.specs.Taking.{IsFirstFit};
 ghost use Rattle.capnp_arena.specs.View.{KeepsLimits};
 ghost use Rattle.capnp_making.specs.Made.{IsShape, IsFew, AsksWords, zero_struct, zero_structs, zero_list, list_words, IsMadeAt, LeadsTo, LieFrom};
 ghost use Rattle.capnp_making.specs.Memory.{HasRoom, KeepsMemory, TakesNext, TakesWords, StandsBehind, IsRefusedFor};
 ghost use Rattle.capnp_making.specs.Near.{HasOwnRoom, HasStructRoom, HasStructsRoom, StartsBehind, shape_word, with_shape, with_struct, with_list, with_struct_list};
-ghost use Rattle.capnp_making.specs.Stored.{IsReplaced, Puts, ZeroesOld};
-ghost use Rattle.capnp_making.specs.Zeroed.{IsPruned};
+ghost use Rattle.capnp_making.specs.Stored.{IsReplaced, Puts, PutsOnceZeroed, ZeroesOld};
+ghost use Rattle.capnp_making.specs.Zeroed.{IsPruned, IsPrunedBut};
 ghost use Rattle.capnp_arena.specs.Written.{with_word};
 
 use crate::zeroing::zero_object;
@@ -154,6 +154,7 @@ pub fn set_capability<A: BuilderArena>(arena: &mut A, id: u32, at: u32, index: u
     requires place { IsPlace (A.view arena.old).words id at }
     ensures made { Puts (A.view arena.old).words (A.view arena.new).words id at (Capability index) }
     ensures lengths { (v : ℕ) → length (segment (A.view arena.new).words v) ≡ length (segment (A.view arena.old).words v) }
+    ensures only { IsPrunedBut (A.view arena.old).words (A.view arena.new).words id at (capability_word index) }
     ensures limits { KeepsLimits (A.view arena.old) (A.view arena.new) }
 {
     zero_object(arena, id, at);
@@ -204,12 +205,14 @@ pub fn init_struct<A: BuilderArena>(
 ) -> Result<Start, ErrorKind>
     requires place { IsPlace (A.view arena.old).words id at }
     ensures made { OnOk result (Puts (A.view arena.old).words (A.view arena.new).words id at (zero_struct size)) }
+    ensures anyhow { OnOk result (PutsOnceZeroed (A.view arena.old).words (A.view arena.new).words id at (zero_struct size)) }
     ensures start { IfOk result (LeadsTo (A.view arena.new).words id at) }
     ensures inside { IfOk result (LieFrom (A.view arena.new).words (size.data_words + size.pointers)) }
     ensures fits { HasRoom (A.view arena.old) id (size.data_words + size.pointers) → IsOk result }
     ensures granted { OnOk result (KeepsMemory (A.view arena.old) (A.view arena.new)) }
     ensures taken { OnOk result (TakesWords (A.view arena.old) (A.view arena.new) id (size.data_words + size.pointers)) }
     ensures behind { IfOk result (StandsBehind (A.view arena.old) id (size.data_words + size.pointers)) }
+    ensures empty { size.data_words + size.pointers ≡ 0 → OnOk result (word_at (A.view arena.new).words id at ≡ struct_word (2 ^ 30 - 1) 0 0) }
     ensures named { IfErr result (IsRefusedFor (A.view arena.old) (A.view arena.new) (size.data_words + size.pointers)) }
     ensures zeroed { OnOk result (ZeroesOld (A.view arena.old).words (A.view arena.new).words id at) }
     ensures refused { OnErr result (Puts (A.view arena.old).words (A.view arena.new).words id at Null) }
@@ -265,12 +268,14 @@ pub fn init_list<A: BuilderArena>(
     requires few { count < 2 ^ 29 }
     requires plain { size_number size ≤ 6 }
     ensures made { OnOk result (Puts (A.view arena.old).words (A.view arena.new).words id at (zero_list (size_number size) count)) }
+    ensures anyhow { OnOk result (PutsOnceZeroed (A.view arena.old).words (A.view arena.new).words id at (zero_list (size_number size) count)) }
     ensures start { IfOk result (LeadsTo (A.view arena.new).words id at) }
     ensures inside { IfOk result (LieFrom (A.view arena.new).words (list_words (size_number size) count)) }
     ensures fits { HasRoom (A.view arena.old) id (list_words (size_number size) count) → IsOk result }
     ensures granted { OnOk result (KeepsMemory (A.view arena.old) (A.view arena.new)) }
     ensures taken { OnOk result (TakesWords (A.view arena.old) (A.view arena.new) id (list_words (size_number size) count)) }
     ensures behind { IfOk result (StandsBehind (A.view arena.old) id (list_words (size_number size) count)) }
+    ensures at_end { HasOwnRoom (A.view arena.old) id (list_words (size_number size) count) → IfOk result (StartsBehind (A.view arena.old).words id) }
     ensures named { IfErr result (IsRefusedFor (A.view arena.old) (A.view arena.new) (list_words (size_number size) count)) }
     ensures zeroed { OnOk result (ZeroesOld (A.view arena.old).words (A.view arena.new).words id at) }
     ensures refused { OnErr result (Puts (A.view arena.old).words (A.view arena.new).words id at Null) }
@@ -344,6 +349,7 @@ pub fn init_struct_list<A: BuilderArena>(
     requires few { count < 2 ^ 30 }
     requires words { count * (size.data_words + size.pointers) < 2 ^ 29 }
     ensures made { OnOk result (Puts (A.view arena.old).words (A.view arena.new).words id at (zero_structs count size)) }
+    ensures anyhow { OnOk result (PutsOnceZeroed (A.view arena.old).words (A.view arena.new).words id at (zero_structs count size)) }
     ensures start { IfOk result (LeadsTo (A.view arena.new).words id at) }
     ensures inside { IfOk result (LieFrom (A.view arena.new).words (1 + count * (size.data_words + size.pointers))) }
     ensures fits { HasRoom (A.view arena.old) id (1 + count * (size.data_words + size.pointers)) → IsOk result }

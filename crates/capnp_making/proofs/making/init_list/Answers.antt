@@ -8,7 +8,7 @@ use Rattle.capnp_making.specs.Stored.{Puts}
 use Rattle.capnp_making.proofs.Memory.{room_left}
 use Rattle.capnp_making.proofs.Replaced.{replaced_again}
 use Rattle.capnp_making.proofs.Placed.{zeroed_replaced}
-use Rattle.capnp_making.proofs.Taken.{takes_after, stands_after}
+use Rattle.capnp_making.proofs.Taken.{ends_after, starts_after, takes_after, stands_after}
 use Rattle.capnp_making.proofs.OldWords.{old_zeroed}
 use Rattle.capnp_making.proofs.Outcomes.{if_ok_so, on_made_so, on_err_so}
 use Rattle.capnp_making.proofs.making.init_list.Goals as goal
@@ -48,3 +48,15 @@ returns-clause-behind g c =
 
 pub returns-clause-zeroed : goal.returns-clause-zeroed
 returns-clause-zeroed g c = on_made_so c.make_list.result _ _ c.make_list.ensures.made (old_zeroed _ _ _ c.args.id c.args.at _ c.zero_object.ensures.zeroed)
+
+pub returns-clause-anyhow : goal.returns-clause-anyhow
+returns-clause-anyhow g c =
+    let M : Segments = (g.A.BuilderArena.view c.zero_object.new.arena).words in
+    on_made_so c.make_list.result _ _ c.make_list.ensures.made (λ made. (M, c.zero_object.ensures.pruned, made))
+
+pub returns-clause-at_end : goal.returns-clause-at_end
+returns-clause-at_end g c = λ fits.
+    (let old : View = g.A.BuilderArena.view c.args.arena.now in
+    let mid : View = g.A.BuilderArena.view c.zero_object.new.arena in
+    let pruned = c.zero_object.ensures.pruned in
+    if_ok_so c.make_list.result _ _ (c.make_list.ensures.at_end (ends_after old mid c.args.id _ c.zero_object.ensures.limits pruned fits)) (λ h. starts_after old.words mid.words c.args.id h pruned))

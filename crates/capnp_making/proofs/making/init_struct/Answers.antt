@@ -3,6 +3,7 @@ use Rattle.capnp_format.specs.Segments.{Segments}
 use Rattle.capnp_format.specs.Tree.{Null}
 use Rattle.capnp_arena.specs.View.{View}
 use Rattle.capnp_making.specs.Stored.{Puts}
+use Rattle.capnp_making.proofs.MadeWords.{word_put}
 use Rattle.capnp_making.proofs.Memory.{room_left}
 use Rattle.capnp_making.proofs.Replaced.{replaced_again}
 use Rattle.capnp_making.proofs.Placed.{zeroed_replaced}
@@ -46,3 +47,15 @@ returns-clause-behind g c =
 
 pub returns-clause-zeroed : goal.returns-clause-zeroed
 returns-clause-zeroed g c = on_made_so c.make_struct.result _ _ c.make_struct.ensures.made (old_zeroed _ _ _ c.args.id c.args.at _ c.zero_object.ensures.zeroed)
+
+pub returns-clause-anyhow : goal.returns-clause-anyhow
+returns-clause-anyhow g c =
+    let M : Segments = (g.A.BuilderArena.view c.zero_object.new.arena).words in
+    on_made_so c.make_struct.result _ _ c.make_struct.ensures.made (λ made. (M, c.zero_object.ensures.pruned, made))
+
+pub returns-clause-empty : goal.returns-clause-empty
+returns-clause-empty g c = λ none.
+    (let M : Segments = (g.A.BuilderArena.view c.zero_object.new.arena).words in
+    let R : Segments = (g.A.BuilderArena.view c.make_struct.new.arena).words in
+    let place = rw (sym (c.zero_object.ensures.pruned.words c.args.id)) at c.requires.place in
+    on_made_so c.make_struct.result _ _ (c.make_struct.ensures.empty none) (λ set. (word_put M R c.args.id c.args.at _ place set).here))

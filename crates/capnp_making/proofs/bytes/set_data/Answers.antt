@@ -1,0 +1,25 @@
+use Rattle.std.proofs.Common.{◌≡◌, ℕ, ◌-◌, List, ◌++◌, length, OnOk, subst, ap, ◌∙◌, arith}
+use Rattle.std.proofs.lemmas.List.{append-nil}
+use Rattle.capnp_format.specs.Segments.{Segments}
+use Rattle.capnp_format.specs.Tree.{Flat}
+use Rattle.capnp_making.specs.Made.{zeros}
+use Rattle.capnp_making.specs.Stored.{Puts, PutsOnceZeroed}
+use Rattle.capnp_making.proofs.bytes.set_data.Goals as goal
+
+-- No byte more.
+all_bytes : (xs : List ℕ) → xs ++ zeros (length xs - length xs) ≡ xs
+all_bytes xs =
+    let none : length xs - length xs ≡ 0 = omega arith in
+    ap (λ k. xs ++ zeros k) none ∙ append-nil xs
+
+pub returns-clause-made : goal.returns-clause-made
+returns-clause-made g c =
+    let S : Segments = (g.A.BuilderArena.view c.args.arena.now).words in
+    let R : Segments = (g.A.BuilderArena.view c.set_bytes.new.arena).words in
+    subst (λ ys. OnOk c.set_bytes.result (Puts S R c.args.id c.args.at (Flat 2 ys))) (all_bytes c.args.from.now) c.set_bytes.ensures.made
+
+pub returns-clause-anyhow : goal.returns-clause-anyhow
+returns-clause-anyhow g c =
+    let S : Segments = (g.A.BuilderArena.view c.args.arena.now).words in
+    let R : Segments = (g.A.BuilderArena.view c.set_bytes.new.arena).words in
+    subst (λ ys. OnOk c.set_bytes.result (PutsOnceZeroed S R c.args.id c.args.at (Flat 2 ys))) (all_bytes c.args.from.now) c.set_bytes.ensures.anyhow
