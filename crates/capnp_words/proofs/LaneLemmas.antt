@@ -1,5 +1,5 @@
 -- Zero bytes, part by part, and what is written part by part.
-use Rattle.std.proofs.Common.{◌≡◌, ◌↔◌, ℕ, zero, suc, ◌+◌, ◌-◌, ◌*◌, ◌≤◌, Bool, false, IsTrue, List, [], ◌∷◌, ◌++◌, length, take, drop, replicate, refl, sym, ap, ap₂, ◌∙◌, arith, length-take, length-drop, take-append-drop, take-add, take_all, append-nil, append_assoc}
+use Rattle.std.proofs.Common.{◌≡◌, ◌↔◌, ℕ, zero, suc, ◌+◌, ◌-◌, ◌*◌, ◌/◌, ◌≤◌, Bool, false, IsTrue, List, [], ◌∷◌, ◌++◌, length, take, drop, replicate, refl, sym, ap, ap₂, ◌∙◌, arith, length-take, length-drop, take-append-drop, take-add, take_all, append-nil, append_assoc}
 use Rattle.std.specs.List.{All}
 use Rattle.std.proofs.lemmas.Bool.{false≢true}
 use Rattle.std.proofs.lemmas.List.{replicate-append-replicate, length-replicate, take-take, take-replicate, drop_all}
@@ -9,7 +9,7 @@ use Rattle.std.proofs.lemmas.Simd.{take_more_put_chunk, put_chunk_is, length-chu
 use Rattle.capnp_format.specs.Bytes.{words_of}
 use Rattle.capnp_format.specs.Canonical.{used_words}
 use Rattle.capnp_format.proofs.UsedUp.{used-zero}
-use Rattle.capnp_format.proofs.WordsOf.{words_of-part, words_of-zeros}
+use Rattle.capnp_format.proofs.WordsOf.{words, words_of-part, words_of-zeros}
 use lib.Bits.{bit_or}
 use lib.Lanes.{fold_l, chunk, put_chunk}
 
@@ -69,6 +69,10 @@ used_before_block end bs some l h =
     ∙ ap used_words (take-add m 8 ws)
     ∙ ap (λ xs. used_words (take m ws ++ xs)) eight
     ∙ used-zeros 8 (take m ws)
+
+-- all words are those before their end
+pub used_all : (bs : List ℕ) → used_words (words_of bs) ≡ used_words (take (length bs / 8) (words_of bs))
+used_all bs = ap used_words (sym (take_all (length bs / 8) (words_of bs) (omega (arith, words bs))))
 
 -- bytes that are written part by part, the last part up to the end
 

@@ -1,6 +1,6 @@
 //! Zero tests, zeroing and copies of bytes by vectors: 64 bytes at a time, then what is left word by word
 //! and byte by byte. Each says what its plain loop would, for every length.
-ghost use Rattle.std.specs.Prelude.{◌≡◌, ◌↔◌, ◌<◌, ◌≤◌, ◌+◌, ◌*◌, ◌%◌, All, IsTrue, length, take, drop, replicate};
+ghost use Rattle.std.specs.Prelude.{◌≡◌, ◌↔◌, ◌<◌, ◌≤◌, ◌+◌, ◌*◌, ◌/◌, ◌%◌, All, IsTrue, length, take, drop, replicate};
 ghost use Rattle.capnp_format.specs.Bytes.{words_of};
 ghost use Rattle.capnp_format.specs.Canonical.{used_words};
 
@@ -95,21 +95,33 @@ fn end_of_blocks(bytes: &[u8]) -> usize
     end
 }
 
-/// A position in words behind which all is zero. Fewer than 16 words, and those of which the last is not
-/// zero, are left to the plain loop, which is the fastest for them.
-#[inline(always)]
-fn end_of_words(bytes: &[u8]) -> usize
-    ensures used { used_words (words_of bytes.now) ≡ used_words (take result (words_of bytes.now)) }
-    ensures within { 8 * result ≤ length bytes.now }
+/// How many of at least one word there are up to the last that is not zero: where the last one is not
+/// zero, nothing more is looked at.
+fn used_of_many(bytes: &[u8]) -> usize
+    requires { 8 ≤ length bytes.now }
+    ensures value { result ≡ used_words (words_of bytes.now) }
+    ensures within { result ≤ length bytes.now / 8 }
 {
     let words = bytes.len() / 8;
-    if words < 16 {
-        return words;
-    }
     if word_at(bytes, words - 1) != 0 {
         return words;
     }
-    end_of_blocks(bytes)
+    used_before(bytes, end_of_blocks(bytes))
+}
+
+/// How many of the words there are up to the last that is not zero. Fewer than 32 are looked at one by
+/// one, which is the fastest for them.
+#[inline(always)]
+fn used(bytes: &[u8]) -> usize
+    ensures value { result ≡ used_words (words_of bytes.now) }
+    ensures within { result ≤ length bytes.now / 8 }
+{
+    let words = bytes.len() / 8;
+    if words < 32 {
+        used_before(bytes, words)
+    } else {
+        used_of_many(bytes)
+    }
 }
 
 /// How many of the words of eight bytes at the end are zero. The bytes are whole words.
@@ -117,7 +129,7 @@ pub fn trailing_zero_words(bytes: &[u8]) -> usize
     requires { length bytes.now % 8 ≡ 0 }
     ensures { result + used_words (words_of bytes.now) ≡ length (words_of bytes.now) }
 {
-    bytes.len() / 8 - used_before(bytes, end_of_words(bytes))
+    bytes.len() / 8 - used(bytes)
 }
 
 /// Makes fewer than 64 bytes zero: by two vectors that may overlap, up to seven one by one.
@@ -143,12 +155,14 @@ fn zero_short(bytes: &mut [u8])
     }
 }
 
-/// Makes bytes zero; the standard library's way is the fastest from 64 bytes on.
+/// Makes bytes zero, one by one: the compiler's own way for that is the fastest from 64 bytes on.
 #[inline(always)]
 fn zero_long(bytes: &mut [u8])
     ensures { bytes.new ≡ replicate (length bytes.old) 0 }
 {
-    bytes.fill(0);
+    for byte in bytes.iter_mut() {
+        *byte = 0;
+    }
 }
 
 /// Makes all bytes zero.

@@ -3,4 +3,4 @@ use Rattle.capnp_format.proofs.WordsOf.{words}
 use Rattle.capnp_words.proofs.lanes.trailing_zero_words.Goals as goal
 
 pub returns : goal.returns
-returns c = omega (arith, words c.args.bytes.now, c.used_before.ensures.value, c.used_before.ensures.within, c.end_of_words.ensures.used, c.end_of_words.ensures.within)
+returns c = omega (arith, words c.args.bytes.now, c.used.ensures.value, c.used.ensures.within)
