@@ -5,6 +5,8 @@ use Rattle.capnp_words.specs.declared.error.ErrorKind.{ErrorKind}
 use Rattle.capnp_format.specs.Segments.{Segments, segment, word_at, IsPlace}
 use Rattle.capnp_format.specs.Tree.{Tree}
 use Rattle.capnp_arena.specs.View.{View}
+use Rattle.capnp_making.specs.Memory.{LeadsBehind}
+use Rattle.capnp_making.specs.Near.{LeadsToEnd}
 use Rattle.capnp_making.specs.Stored.{IsStored, Puts}
 use Rattle.capnp_objects.specs.Reading.{Reading}
 use Rattle.capnp_copies.specs.Copies.{CanBeCopied}
@@ -39,6 +41,10 @@ Becomes old new t = Puts old.segments new.segments old.segment old.at t
 abbrev pub IsThere : Building → Type 0
 IsThere b = IsPlace b.segments b.segment b.at
 
+-- its word is x
+abbrev pub HasWord : Building → ℕ → Type 0
+HasWord b x = word_at b.segments b.segment b.at ≡ x
+
 -- its word is zero
 abbrev pub IsNull : Building → Type 0
 IsNull b = word_at b.segments b.segment b.at ≡ 0
@@ -62,6 +68,14 @@ calling view b b' = call_at b.segment b.at (view b.arena.now) (view b'.arena.now
 
 abbrev pub calling_last : {A : Type 0} → (A → View) → PointerBuilder A → View → CallAt
 calling_last view b new = call_at b.segment b.at (view b.arena.now) new
+
+-- The pointer gets an object of n words, which stands behind all that were there; and one of n words, or of none, which starts behind the words of the
+-- pointer's segment where they fit there.
+abbrev pub PutsBehind : CallAt → ℕ → Type 0
+PutsBehind c n = LeadsBehind c.old c.new c.segment c.at n
+
+abbrev pub PutsAtEnd : CallAt → ℕ → Type 0
+PutsAtEnd c n = LeadsToEnd c.old c.new c.segment c.at n
 
 -- P holds of the value that is stored at the place, whatever it is.
 abbrev pub OfStored : Building → (Tree → Type 0) → Type 0

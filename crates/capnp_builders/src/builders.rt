@@ -3,14 +3,15 @@ ghost use Rattle.std.specs.Prelude.{◌≡◌, ◌≢◌, ℕ, List, ◌⊎◌, 
 ghost use Rattle.capnp_format.specs.Bytes.{message, words_of};
 ghost use Rattle.capnp_format.specs.Segments.{segment, word_at, IsPlace};
 ghost use Rattle.capnp_format.specs.Tree.{Null, Capability, Flat, count};
+ghost use Rattle.capnp_format.specs.Word.{capability_word, struct_word};
 ghost use Rattle.capnp_format.specs.Numbers.{words_for};
 ghost use Rattle.capnp_making.specs.Existing.{AreInside, capability_of};
 ghost use Rattle.capnp_making.specs.InPlace.{bytes_of, rewritten, AreBytes, AreZeroOnce, Overwrites};
 ghost use Rattle.capnp_pointers.specs.Sizes.{size_number};
 ghost use Rattle.capnp_making.specs.Made.{zero_struct, zero_structs, zero_list, list_words};
-ghost use Rattle.capnp_making.specs.Memory.{HasRoom, KeepsMemory, TakesWords, SpendsMemory, IsRefusedFor, CanRefuse};
+ghost use Rattle.capnp_making.specs.Memory.{HasRoom, KeepsMemory, TakesWords, SpendsMemory, IsRefusedFor, CanRefuse, LeavesNull};
 ghost use Rattle.capnp_making.specs.Stored.{ZeroesOld};
-ghost use Rattle.capnp_making.specs.Zeroed.{IsPruned};
+ghost use Rattle.capnp_making.specs.Zeroed.{IsPruned, IsPrunedBut};
 ghost use Rattle.capnp_builders.specs.Places.{IsAligned, IsStructOf, IsListOf, IsStructListOf};
 ghost use Rattle.capnp_words.specs.declared.error.ErrorKind.TheVariants.{MessageTooLarge};
 ghost use Rattle.capnp_builders.specs.Reads.{IsArenaOf};
@@ -67,7 +68,7 @@ pub struct PointerBuilder<'a, A> {
 impl<'a, A: BuilderArena> PointerBuilder<'a, A> {
     ghost use Rattle.std.specs.Borrow.{sem, follows, Array, u8 as byte};
     ghost use Rattle.capnp_arena.specs.View.{KeepsLimits};
-    ghost use Rattle.capnp_builders.specs.Building.{Becomes, IsFresh, CopyFits, HasOnlyNull, IsNull, IsThere, built, built_at};
+    ghost use Rattle.capnp_builders.specs.Building.{Becomes, IsFresh, CopyFits, HasOnlyNull, HasWord, IsNull, IsThere, PutsAtEnd, PutsBehind, built, built_at, calling, calling_last};
     ghost use Rattle.capnp_builders.specs.Kept.{PutsCopy, PutsStruct, PutsList, OnceCleared, FillsSegment, FillsMessage, copying};
     ghost use Rattle.capnp_builders.specs.Lent.{with_arena};
     ghost use Rattle.capnp_builders.specs.contracts.builders.PointerBuilder.{the_row};
@@ -132,6 +133,8 @@ impl<'a, A: BuilderArena> PointerBuilder<'a, A> {
     pub fn clear(&mut self)
         requires { IsThere (built A.view self.old) }
         ensures cleared { Becomes (built A.view self.old) (built A.view self.new) Null }
+        ensures null { IsNull (built A.view self.new) }
+        ensures only { IsPruned (A.view self.old.arena.now).words (A.view self.new.arena.now).words }
         ensures there { IsThere (built A.view self.new) }
         ensures limits { KeepsLimits (A.view self.old.arena.now) (A.view self.new.arena.now) }
         ensures same { self.new.arena.ghost_name ≡ self.old.arena.ghost_name }
@@ -144,6 +147,7 @@ impl<'a, A: BuilderArena> PointerBuilder<'a, A> {
     pub fn set_capability(&mut self, index: u32)
         requires { IsThere (built A.view self.old) }
         ensures made { Becomes (built A.view self.old) (built A.view self.new) (Capability index) }
+        ensures only { IsPrunedBut (A.view self.old.arena.now).words (A.view self.new.arena.now).words self.old.segment self.old.at (capability_word index) }
         ensures there { IsThere (built A.view self.new) }
         ensures limits { KeepsLimits (A.view self.old.arena.now) (A.view self.new.arena.now) }
         ensures same { self.new.arena.ghost_name ≡ self.old.arena.ghost_name }
@@ -165,6 +169,8 @@ impl<'a, A: BuilderArena> PointerBuilder<'a, A> {
         ensures fits { HasRoom (A.view self.old.arena.now) self.old.segment (size.data_words + size.pointers) → IsOk result }
         ensures granted { OnOk result (KeepsMemory (A.view self.old.arena.now) (A.view self.new.arena.now)) }
         ensures taken { OnOk result (TakesWords (A.view self.old.arena.now) (A.view self.new.arena.now) self.old.segment (size.data_words + size.pointers)) }
+        ensures behind { OnOk result (PutsBehind (calling A.view self.old self.new) (size.data_words + size.pointers)) }
+        ensures empty { size.data_words + size.pointers ≡ 0 → OnOk result (HasWord (built A.view self.new) (struct_word (2 ^ 30 - 1) 0 0)) }
         ensures named { IfErr result (IsRefusedFor (A.view self.old.arena.now) (A.view self.new.arena.now) (size.data_words + size.pointers)) }
         ensures zeroed { OnOk result (ZeroesOld (A.view self.old.arena.now).words (A.view self.new.arena.now).words self.old.segment self.old.at) }
         ensures refused { OnErr result (Becomes (built A.view self.old) (built A.view self.new) Null) }
@@ -212,8 +218,11 @@ impl<'a, A: BuilderArena> PointerBuilder<'a, A> {
         ensures fits { HasRoom (A.view self.entry.arena.now) self.entry.segment (size.data_words + size.pointers) → IsOk result }
         ensures granted { IfOk result (λ b. KeepsMemory (A.view self.entry.arena.now) (A.view b.arena.now)) }
         ensures taken { IfOk result (λ b. TakesWords (A.view self.entry.arena.now) (A.view b.arena.now) self.entry.segment (size.data_words + size.pointers)) }
+        ensures behind { IfOk result (λ b. PutsBehind (calling_last A.view self.entry (A.view b.arena.now)) (size.data_words + size.pointers)) }
+        ensures empty { size.data_words + size.pointers ≡ 0 → IfOk result (λ b. HasWord (built_at A.view self.entry b.arena.now) (struct_word (2 ^ 30 - 1) 0 0)) }
         ensures zeroed { IfOk result (λ b. ZeroesOld (A.view self.entry.arena.now).words (A.view b.arena.now).words self.entry.segment self.entry.at) }
         ensures named { IfErr result (CanRefuse (A.view self.entry.arena.now) (size.data_words + size.pointers)) }
+        ensures refused { IfErr result (LeavesNull (A.view self.entry.arena.now) self.entry.segment self.entry.at (size.data_words + size.pointers)) }
     {
         match self.put_struct(size) {
             Ok(place) => Ok(self.into_struct(place)),
@@ -237,6 +246,8 @@ impl<'a, A: BuilderArena> PointerBuilder<'a, A> {
         ensures fits { HasRoom (A.view self.old.arena.now) self.old.segment (list_words (size_number size) count) → IsOk result }
         ensures granted { OnOk result (KeepsMemory (A.view self.old.arena.now) (A.view self.new.arena.now)) }
         ensures taken { OnOk result (TakesWords (A.view self.old.arena.now) (A.view self.new.arena.now) self.old.segment (list_words (size_number size) count)) }
+        ensures behind { OnOk result (PutsBehind (calling A.view self.old self.new) (list_words (size_number size) count)) }
+        ensures at_end { OnOk result (PutsAtEnd (calling A.view self.old self.new) (list_words (size_number size) count)) }
         ensures named { IfErr result (IsRefusedFor (A.view self.old.arena.now) (A.view self.new.arena.now) (list_words (size_number size) count)) }
         ensures zeroed { OnOk result (ZeroesOld (A.view self.old.arena.now).words (A.view self.new.arena.now).words self.old.segment self.old.at) }
         ensures refused { OnErr result (Becomes (built A.view self.old) (built A.view self.new) Null) }
@@ -289,8 +300,11 @@ impl<'a, A: BuilderArena> PointerBuilder<'a, A> {
         ensures fits { HasRoom (A.view self.entry.arena.now) self.entry.segment (list_words (size_number size) count) → IsOk result }
         ensures granted { IfOk result (λ b. KeepsMemory (A.view self.entry.arena.now) (A.view b.arena.now)) }
         ensures taken { IfOk result (λ b. TakesWords (A.view self.entry.arena.now) (A.view b.arena.now) self.entry.segment (list_words (size_number size) count)) }
+        ensures behind { IfOk result (λ b. PutsBehind (calling_last A.view self.entry (A.view b.arena.now)) (list_words (size_number size) count)) }
+        ensures at_end { IfOk result (λ b. PutsAtEnd (calling_last A.view self.entry (A.view b.arena.now)) (list_words (size_number size) count)) }
         ensures zeroed { IfOk result (λ b. ZeroesOld (A.view self.entry.arena.now).words (A.view b.arena.now).words self.entry.segment self.entry.at) }
         ensures named { IfErr result (CanRefuse (A.view self.entry.arena.now) (list_words (size_number size) count)) }
+        ensures refused { IfErr result (LeavesNull (A.view self.entry.arena.now) self.entry.segment self.entry.at (list_words (size_number size) count)) }
     {
         match self.put_list(size, count) {
             Ok(place) => Ok(self.into_list(place)),
@@ -312,6 +326,7 @@ impl<'a, A: BuilderArena> PointerBuilder<'a, A> {
         ensures fits { HasRoom (A.view self.old.arena.now) self.old.segment (1 + count * (size.data_words + size.pointers)) → IsOk result }
         ensures granted { OnOk result (KeepsMemory (A.view self.old.arena.now) (A.view self.new.arena.now)) }
         ensures taken { OnOk result (TakesWords (A.view self.old.arena.now) (A.view self.new.arena.now) self.old.segment (1 + count * (size.data_words + size.pointers))) }
+        ensures behind { OnOk result (PutsBehind (calling A.view self.old self.new) (1 + count * (size.data_words + size.pointers))) }
         ensures named { IfErr result (IsRefusedFor (A.view self.old.arena.now) (A.view self.new.arena.now) (1 + count * (size.data_words + size.pointers))) }
         ensures zeroed { OnOk result (ZeroesOld (A.view self.old.arena.now).words (A.view self.new.arena.now).words self.old.segment self.old.at) }
         ensures refused { OnErr result (Becomes (built A.view self.old) (built A.view self.new) Null) }
@@ -349,8 +364,10 @@ impl<'a, A: BuilderArena> PointerBuilder<'a, A> {
         ensures fits { HasRoom (A.view self.entry.arena.now) self.entry.segment (1 + count * (size.data_words + size.pointers)) → IsOk result }
         ensures granted { IfOk result (λ b. KeepsMemory (A.view self.entry.arena.now) (A.view b.arena.now)) }
         ensures taken { IfOk result (λ b. TakesWords (A.view self.entry.arena.now) (A.view b.arena.now) self.entry.segment (1 + count * (size.data_words + size.pointers))) }
+        ensures behind { IfOk result (λ b. PutsBehind (calling_last A.view self.entry (A.view b.arena.now)) (1 + count * (size.data_words + size.pointers))) }
         ensures zeroed { IfOk result (λ b. ZeroesOld (A.view self.entry.arena.now).words (A.view b.arena.now).words self.entry.segment self.entry.at) }
         ensures named { IfErr result (CanRefuse (A.view self.entry.arena.now) (1 + count * (size.data_words + size.pointers))) }
+        ensures refused { IfErr result (LeavesNull (A.view self.entry.arena.now) self.entry.segment self.entry.at (1 + count * (size.data_words + size.pointers))) }
     {
         match self.put_struct_list(count, size) {
             Ok(place) => Ok(self.into_list(place)),
@@ -386,6 +403,7 @@ impl<'a, A: BuilderArena> PointerBuilder<'a, A> {
         ensures zero { IfOk result (λ bytes. AreZeroOnce (A.view self.entry.arena.now).words self.entry.segment self.entry.at bytes.now) }
         ensures fits { HasRoom (A.view self.entry.arena.now) self.entry.segment (words_for 2 size) → IsOk result }
         ensures named { IfErr result (CanRefuse (A.view self.entry.arena.now) (words_for 2 size)) }
+        ensures refused { IfErr result (LeavesNull (A.view self.entry.arena.now) self.entry.segment self.entry.at (words_for 2 size)) }
     {
         let PointerBuilder { arena, segment, at } = self;
         lent::init_data(arena, segment, at, size)
@@ -404,6 +422,7 @@ impl<'a, A: BuilderArena> PointerBuilder<'a, A> {
         ensures zero { IfOk result (λ bytes. AreZeroOnce (A.view self.entry.arena.now).words self.entry.segment self.entry.at bytes.now) }
         ensures fits { HasRoom (A.view self.entry.arena.now) self.entry.segment (words_for 2 (size + 1)) → IsOk result }
         ensures named { IfErr result (CanRefuse (A.view self.entry.arena.now) (words_for 2 (size + 1))) }
+        ensures refused { IfErr result (LeavesNull (A.view self.entry.arena.now) self.entry.segment self.entry.at (words_for 2 (size + 1))) }
     {
         let PointerBuilder { arena, segment, at } = self;
         lent::init_text(arena, segment, at, size)
@@ -421,6 +440,8 @@ impl<'a, A: BuilderArena> PointerBuilder<'a, A> {
         ensures fits { HasRoom (A.view self.old.arena.now) self.old.segment (words_for 2 (length bytes.now)) → IsOk result }
         ensures granted { OnOk result (KeepsMemory (A.view self.old.arena.now) (A.view self.new.arena.now)) }
         ensures taken { OnOk result (TakesWords (A.view self.old.arena.now) (A.view self.new.arena.now) self.old.segment (words_for 2 (length bytes.now))) }
+        ensures behind { OnOk result (PutsBehind (calling A.view self.old self.new) (words_for 2 (length bytes.now))) }
+        ensures at_end { OnOk result (PutsAtEnd (calling A.view self.old self.new) (words_for 2 (length bytes.now))) }
         ensures named { IfErr result (IsRefusedFor (A.view self.old.arena.now) (A.view self.new.arena.now) (words_for 2 (length bytes.now))) }
         ensures zeroed { OnOk result (ZeroesOld (A.view self.old.arena.now).words (A.view self.new.arena.now).words self.old.segment self.old.at) }
         ensures refused { OnErr result (Becomes (built A.view self.old) (built A.view self.new) Null) }
@@ -444,6 +465,7 @@ impl<'a, A: BuilderArena> PointerBuilder<'a, A> {
         ensures fits { HasRoom (A.view self.old.arena.now) self.old.segment (words_for 2 (length bytes.now + 1)) → IsOk result }
         ensures granted { OnOk result (KeepsMemory (A.view self.old.arena.now) (A.view self.new.arena.now)) }
         ensures taken { OnOk result (TakesWords (A.view self.old.arena.now) (A.view self.new.arena.now) self.old.segment (words_for 2 (length bytes.now + 1))) }
+        ensures behind { OnOk result (PutsBehind (calling A.view self.old self.new) (words_for 2 (length bytes.now + 1))) }
         ensures named { IfErr result (IsRefusedFor (A.view self.old.arena.now) (A.view self.new.arena.now) (words_for 2 (length bytes.now + 1))) }
         ensures zeroed { OnOk result (ZeroesOld (A.view self.old.arena.now).words (A.view self.new.arena.now).words self.old.segment self.old.at) }
         ensures refused { OnErr result (Becomes (built A.view self.old) (built A.view self.new) Null) }

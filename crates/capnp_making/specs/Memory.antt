@@ -2,11 +2,14 @@
 use Rattle.std.specs.Prelude.{ℕ, ◌≡◌, ◌≢◌, ◌⊎◌, ◌+◌, ◌-◌, ◌^◌, ◌<◌, ◌≤◌, max, length}
 use Rattle.capnp_format.specs.Forest.{target}
 use Rattle.capnp_format.specs.Segments.{Segments, segment, Target}
+use Rattle.capnp_format.specs.Tree.{Null}
 use Rattle.capnp_words.specs.declared.error.ErrorKind.{ErrorKind}
 use Rattle.capnp_words.specs.declared.error.ErrorKind.TheVariants.{AllocationFailed, MessageTooLarge}
 use Rattle.capnp_arena.specs.Allocations.{max_segments, max_segment_words, one_more}
 use Rattle.capnp_arena.specs.View.{View}
 use Rattle.capnp_arena.specs.Taking.{IsFirstFit, IsFull, IsAllocationRefusal, SameRoomBelow}
+use Rattle.capnp_making.specs.Stored.{Puts}
+use Rattle.capnp_making.specs.Zeroed.{IsPruned}
 use Rattle.capnp_making.specs.declared.making.Start.{Start}
 
 -- Segment id has room for n words more, or some segment has room for them and a pad.
@@ -52,6 +55,12 @@ KeepsMemory old new = (new ≡ record old { words = new.words; room = new.room }
 -- n words and a pad are refused by this name, and nothing but words is changed, and how often memory was refused.
 abbrev pub IsRefusedFor : View → View → ℕ → ErrorKind → Type 0
 IsRefusedFor old new n k = IsAllocationRefusal old new (length old.words) (n + 1) k × (new ≡ record old { words = new.words; refusals = new.refusals })
+
+-- A call that makes an object of n words at a place, and keeps no message, is refused by the name k: so it is with some message, in which the place is null
+-- and nothing but zeros is written.
+abbrev pub LeavesNull : View → ℕ → ℕ → ℕ → ErrorKind → Type 0
+LeavesNull old id at n k =
+    (new : View) × IsRefusedFor old new n k × Puts old.words new.words id at Null × IsPruned old.words new.words
 
 -- The names by which n words and a pad can be refused.
 abbrev pub CanRefuse : View → ℕ → ErrorKind → Type 0

@@ -6,7 +6,7 @@ ghost use Rattle.capnp_format.specs.Segments.{IsPlace};
 ghost use Rattle.capnp_arena.specs.Written.{overwritten};
 ghost use Rattle.capnp_making.specs.Existing.{AreInside};
 ghost use Rattle.capnp_making.specs.InPlace.{bytes_of, rewritten, segments_with, AreBytes, AreZeroOnce, Overwrites};
-ghost use Rattle.capnp_making.specs.Memory.{HasRoom, CanRefuse};
+ghost use Rattle.capnp_making.specs.Memory.{HasRoom, CanRefuse, LeavesNull};
 
 use crate::existing::ExistingBytes;
 use crate::making::init_list;
@@ -61,6 +61,7 @@ pub fn init_data<A: BuilderArena>(
     ensures zero { IfOk result (λ bytes. AreZeroOnce (A.view arena.old).words id at bytes.now) }
     ensures fits { HasRoom (A.view arena.old) id (words_for 2 size) → IsOk result }
     ensures named { IfErr result (CanRefuse (A.view arena.old) (words_for 2 size)) }
+    ensures refused { IfErr result (LeavesNull (A.view arena.old) id at (words_for 2 size)) }
 {
     init_bytes(arena, id, at, size, size)
 }
@@ -82,6 +83,7 @@ pub fn init_text<A: BuilderArena>(
     ensures zero { IfOk result (λ bytes. AreZeroOnce (A.view arena.old).words id at bytes.now) }
     ensures fits { HasRoom (A.view arena.old) id (words_for 2 (size + 1)) → IsOk result }
     ensures named { IfErr result (CanRefuse (A.view arena.old) (words_for 2 (size + 1))) }
+    ensures refused { IfErr result (LeavesNull (A.view arena.old) id at (words_for 2 (size + 1))) }
 {
     init_bytes(arena, id, at, size + 1, size)
 }
@@ -102,6 +104,7 @@ fn init_bytes<A: BuilderArena>(
     ensures zero { IfOk result (λ bytes. AreZeroOnce (A.view arena.old).words id at bytes.now) }
     ensures fits { HasRoom (A.view arena.old) id (words_for 2 count) → IsOk result }
     ensures named { IfErr result (CanRefuse (A.view arena.old) (words_for 2 count)) }
+    ensures refused { IfErr result (LeavesNull (A.view arena.old) id at (words_for 2 count)) }
 {
     match init_list(arena, id, at, ElementSize::Byte, count) {
         Ok(start) => {
