@@ -16,6 +16,7 @@ ghost use Rattle.capnp_making.specs.Zeroed.{IsPruned};
 use crate::making::{Start, init_list};
 use capnp_arena::arena::BuilderArena;
 use capnp_words::error::ErrorKind;
+use capnp_words::lanes;
 use capnp_words::wire_pointer::ElementSize;
 
 /// Makes a list of the given bytes where the pointer at a place leads ("Lists").
@@ -119,6 +120,6 @@ fn write_bytes<A: BuilderArena>(arena: &mut A, start: Start, from: &[u8])
     if !from.is_empty() {
         let first = 8 * start.at as usize;
         let end = first + from.len();
-        arena.segment_mut(start.segment)[first..end].copy_from_slice(from);
+        lanes::copy(from, &mut arena.segment_mut(start.segment)[first..end]);
     }
 }

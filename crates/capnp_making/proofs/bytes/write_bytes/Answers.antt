@@ -4,8 +4,8 @@ use Rattle.capnp_making.proofs.BytesWritten.{bytes_room, found, put_over}
 use Rattle.capnp_making.proofs.Zeros.{length-over}
 use Rattle.capnp_making.proofs.bytes.write_bytes.Goals as goal
 
-pub slice_bounds-copy_from_slice-end : goal.slice_bounds-copy_from_slice-end
-slice_bounds-copy_from_slice-end g c =
+pub slice_bounds-copy-end : goal.slice_bounds-copy-end
+slice_bounds-copy-end g c =
     omega (arith, bytes_room (g.A.BuilderArena.view c.args.arena.now).words (g.A.ReaderArena.segments c.args.arena.now) c.args.start.segment c.segment_mut.result.now (g.met.A.BuilderArena.read c.args.arena.now) c.segment_mut.ensures.bytes)
 
 pub returns-then-not-is_empty-clause-written : goal.returns-then-not-is_empty-clause-written
@@ -15,7 +15,7 @@ returns-then-not-is_empty-clause-written g c =
     let a : ℕ = 8 * c.args.start.at in
     let bs : List ℕ = c.segment_mut.result.now in
     let xs : List ℕ = c.args.from.now in
-    let over = put_over a (a + length xs - a) bs c.copy_from_slice.new.self xs c.copy_from_slice.ensures.after (omega arith) in
+    let over = put_over a (a + length xs - a) bs c.copy.new.to xs c.copy.ensures (omega arith) in
     let room = bytes_room (g.A.BuilderArena.view c.args.arena.now).words B id bs (g.met.A.BuilderArena.read c.args.arena.now) c.segment_mut.ensures.bytes in
     let long : length (overwritten bs a xs) ≡ length bs = length-over bs a xs (omega (arith, room)) in
     λ some. g.met.A.BuilderArena.with_bytes_segments c.args.arena.now id bs _ c.segment_mut.ensures.bytes (ap length over ∙ long)
