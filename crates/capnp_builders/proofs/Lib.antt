@@ -10,4 +10,5 @@ pub mod ContentTaken
 pub mod DefaultCopies
 pub mod ElementContent
 pub mod DefaultUses
+pub mod DefaultRooms
 pub mod Openings

@@ -94,9 +94,20 @@ WithDefault ignored c t P result = P c t
 WithDefault (denied k) c t P result = (result ≡ Err k) × (c.new ≡ c.old)
 WithDefault (copied bytes) c t P result = OnDefault bytes c P ⊎ IsErrAnd result (DropsDefault bytes c)
 
--- A default's value has no fault, and its words fit behind those of segment id.
+-- The value of these bytes has no fault, and its words fit behind those of segment id.
+abbrev pub DefaultCopyFits : List ℕ → View → ℕ → Type 0
+DefaultCopyFits bytes v id = CanBeCopied of_default (default_root bytes) (unused None) (length (segment v.words id)) (v.room id)
+
+-- So of a default, which has a first word.
 abbrev pub DefaultFits : Option (Bor (List ℕ)) → View → ℕ → Type 0
-DefaultFits default v id = IfSome default (λ d. (8 ≤ length d.now) × CanBeCopied of_default (default_root d.now) (unused None) (length (segment v.words id)) (v.room id))
+DefaultFits default v id = IfSome default (λ d. (8 ≤ length d.now) × DefaultCopyFits d.now v id)
+
+-- Where a call has room, by its use of a default: where Fits says so of the message; or where the default's copy fits, and Fits says so of whatever message
+-- that can leave. A default that is refused fits nowhere.
+abbrev pub FitsWithDefault : DefaultUse → CallAt → (View → Type 0) → Type 0
+FitsWithDefault ignored c Fits = Fits c.old
+FitsWithDefault (denied k) c Fits = ⊥
+FitsWithDefault (copied bytes) c Fits = DefaultCopyFits bytes c.old c.segment × ((mid : View) (u : Tree) → PutsDefault bytes (record c { new = mid }) u → Fits mid)
 
 -- A default is put where the call uses one, and nothing else is done.
 abbrev pub PutsDefaultOver : DefaultUse → CallAt → Tree → Result (Unit {0}) ErrorKind → Type 0

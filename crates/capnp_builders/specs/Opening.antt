@@ -12,8 +12,9 @@ use Rattle.capnp_readers.specs.Readers.{IsListPlace}
 use Rattle.capnp_readers.specs.declared.readers.list_reader.ListPlace.{ListPlace}
 use Rattle.capnp_readers.specs.declared.readers.struct_reader.StructPlace.{StructPlace}
 use Rattle.capnp_widening.specs.Opening.{CallAt, Opens, struct_opened}
+use Rattle.capnp_widening.specs.Rooms.{ListFits, OpeningFits}
 use Rattle.capnp_widening.specs.Widened.{list_widened}
-use Rattle.capnp_builders.specs.Defaults.{object_default, WithDefault}
+use Rattle.capnp_builders.specs.Defaults.{object_default, FitsWithDefault, WithDefault}
 use Rattle.capnp_builders.specs.Found.{list_given, void_list}
 use Rattle.capnp_builders.specs.Places.{IsStructOf}
 
@@ -40,6 +41,13 @@ FindsStruct size default result c t = WithDefault (object_default default t) c t
 
 abbrev pub FindsStructs : StructSize → Option (Bor (List ℕ)) → Result ListPlace ErrorKind → CallAt → Tree → Type 0
 FindsStructs size default result c t = WithDefault (object_default default t) c t (OpensList size result) result
+
+-- There is room for what becomes of the struct that stands then, or for a new one in place of null; or of the list that stands then.
+abbrev pub StructFindFits : StructSize → Option (Bor (List ℕ)) → CallAt → Tree → Type 0
+StructFindFits size default c t = FitsWithDefault (object_default default t) c (λ v. OpeningFits v c.segment c.at size)
+
+abbrev pub StructsFindFits : StructSize → Option (Bor (List ℕ)) → CallAt → Tree → Type 0
+StructsFindFits size default c t = FitsWithDefault (object_default default t) c (λ v. ListFits v c.segment c.at size)
 
 -- A struct is at least as large as asked for.
 abbrev pub IsStructAtLeast : StructSize → StructPlace → Type 0

@@ -1,16 +1,13 @@
 //! Defaults, which are copied in place of null pointers ("Default Values").
-ghost use Rattle.std.specs.Prelude.{◌≡◌, ◌↔◌, ◌/◌, ◌^◌, ◌<◌, ◌≤◌, None, length, IsTrue, IsOk, IfErr, OnOk, OnErr};
-ghost use Rattle.capnp_format.specs.Segments.{segment, word_at, Grows, IsPlace};
+ghost use Rattle.std.specs.Prelude.{◌≡◌, ◌↔◌, ◌/◌, ◌^◌, ◌<◌, ◌≤◌, length, IsTrue, IsNone, IsOk, IfErr, OnOk, OnErr};
+ghost use Rattle.capnp_format.specs.Segments.{word_at, Grows, IsPlace};
 ghost use Rattle.capnp_format.specs.Tree.{Tree, Null};
 ghost use Rattle.capnp_making.specs.Memory.{KeepsMemory, SpendsMemory};
 ghost use Rattle.capnp_making.specs.Stored.{IsStored, IsReplaced};
-ghost use Rattle.capnp_objects.specs.Wanted.{of_default};
-ghost use Rattle.capnp_words.specs.Meter.{unused};
 ghost use Rattle.capnp_copies.specs.Changes.{StandsAsRead};
-ghost use Rattle.capnp_copies.specs.Copies.{CanBeCopied};
 ghost use Rattle.capnp_copies.specs.Growth.{TakesAtMost};
 ghost use Rattle.capnp_widening.specs.Opening.{call_at};
-ghost use Rattle.capnp_builders.specs.Defaults.{default_root, default_copy, StandsForNull, RefusesDefault, IsFew, IsNullDefault, object_default, blob_default, PutsDefaultOver, DefaultFits};
+ghost use Rattle.capnp_builders.specs.Defaults.{default_root, default_copy, StandsForNull, RefusesDefault, IsFew, IsNullDefault, object_default, blob_default, PutsDefaultOver, DefaultCopyFits, DefaultFits};
 
 use capnp_arena::arena::BuilderArena;
 use capnp_copies::copy;
@@ -40,7 +37,7 @@ pub fn copy_default<A: BuilderArena>(
     requires few { length default.now / 8 < 2 ^ 32 }
     ensures copied { OnOk result (StandsForNull default.now (A.view arena.old).words (A.view arena.new).words id at) }
     ensures stands { OnOk result (StandsAsRead (default_root default.now) (default_copy id at (A.view arena.old) (A.view arena.new))) }
-    ensures fits { CanBeCopied of_default (default_root default.now) (unused None) (length (segment (A.view arena.old).words id)) ((A.view arena.old).room id) → IsOk result }
+    ensures fits { DefaultCopyFits default.now (A.view arena.old) id → IsOk result }
     ensures refused { OnErr result (IsReplaced (A.view arena.old).words (A.view arena.new).words id at Null Null) }
     ensures named { IfErr result (RefusesDefault default.now (default_copy id at (A.view arena.old) (A.view arena.new))) }
     ensures taken { TakesAtMost result (default_root default.now) (default_copy id at (A.view arena.old) (A.view arena.new)) }
@@ -70,6 +67,7 @@ pub(crate) fn put_default<A: BuilderArena>(
     requires few { IsFew default }
     ensures put { (t : Tree) → IsStored (A.view arena.old).words id at t → PutsDefaultOver (object_default default.entry t) (call_at id at (A.view arena.old) (A.view arena.new)) t result }
     ensures stays { (word_at (A.view arena.old).words id at ≡ 0 → ⊥) → IsOk result × (A.view arena.new ≡ A.view arena.old) }
+    ensures none { IsNone default.entry → IsOk result × (A.view arena.new ≡ A.view arena.old) }
     ensures fits { DefaultFits default.entry (A.view arena.old) id → IsOk result }
     ensures longer { Grows (A.view arena.old).words (A.view arena.new).words }
     ensures granted { OnOk result (KeepsMemory (A.view arena.old) (A.view arena.new)) }

@@ -1,10 +1,13 @@
-use Rattle.std.proofs.Common.{◌^◌, ◌<◌, Ok, Err, length, arith}
+use Rattle.std.proofs.Common.{◌≡◌, ◌^◌, ◌<◌, Ok, Err, length, subst, arith}
 use Rattle.capnp_arena.specs.View.{View}
-use Rattle.capnp_format.specs.Segments.{segment}
+use Rattle.capnp_format.specs.Segments.{segment, word_at}
 use Rattle.capnp_making.proofs.Zeros.{there}
 use Rattle.capnp_widening.specs.Opening.{LeadsToOne, struct_opened}
+use Rattle.capnp_widening.specs.Rooms.{OpeningFits}
+use Rattle.capnp_widening.specs.Widened.{IsNoWider}
 use Rattle.capnp_builders.specs.Defaults.{object_default}
 use Rattle.capnp_builders.specs.Opening.{OpensStruct}
+use Rattle.capnp_builders.proofs.DefaultRooms.{then_fits, refused_default}
 use Rattle.capnp_builders.proofs.DefaultUses.{then_does, stands_then}
 use Rattle.capnp_builders.proofs.Openings.{struct_opens, struct_refused, opens_longer, still_there}
 use Rattle.capnp_builders.proofs.builders.PointerBuilder.find_struct.Goals as goal
@@ -44,3 +47,30 @@ returns-in-Err-open_struct-clause-there g c = λ t stored.
     let p = c.args.self.now.at in
     let (u, stands) = stands_then (object_default c.args.default t) s p a m t c.in-Ok.field-0 stored (c.in-Ok.ensures.put t stored) in
     still_there a m b s p c.requires.there c.in-Ok.ensures.longer (opens_longer c.args.size LeadsToOne m b s p u (struct_opened c.args.size u) (Err c.in-Err-open_struct.k) (c.in-Err-open_struct.ensures.opened u stands)))
+
+-- It isn't refused where there is room: not for the default, and not once that is put.
+pub returns-in-Err-clause-fits : goal.returns-in-Err-clause-fits
+returns-in-Err-clause-fits g c = λ t stored fits.
+    (let a : View = g.A.BuilderArena.view c.args.self.now.arena.now in
+    let m : View = g.A.BuilderArena.view c.put_default.new.arena in
+    let s = c.args.self.now.segment in
+    let p = c.args.self.now.at in
+    c.in-Err.ensures.fits (refused_default c.args.default s p a m m t c.in-Err.k (λ v. OpeningFits v s p c.args.size) fits (c.in-Err.ensures.put t stored)))
+
+pub returns-in-Err-open_struct-clause-fits : goal.returns-in-Err-open_struct-clause-fits
+returns-in-Err-open_struct-clause-fits g c = λ t stored fits.
+    (let a : View = g.A.BuilderArena.view c.args.self.now.arena.now in
+    let m : View = g.A.BuilderArena.view c.put_default.new.arena in
+    let b : View = g.A.BuilderArena.view c.open_struct.new.arena in
+    let s = c.args.self.now.segment in
+    let p = c.args.self.now.at in
+    c.in-Err-open_struct.ensures.fits (then_fits (object_default c.args.default t) s p a m b t c.in-Ok.field-0 (λ v. OpeningFits v s p c.args.size) fits (c.in-Ok.ensures.put t stored)))
+
+-- A pointer that isn't null gets no default.
+pub returns-in-Err-open_struct-clause-set : goal.returns-in-Err-open_struct-clause-set
+returns-in-Err-open_struct-clause-set g c = λ some.
+    (let b : View = g.A.BuilderArena.view c.open_struct.new.arena in
+    let s = c.args.self.now.segment in
+    let p = c.args.self.now.at in
+    let same = (c.in-Ok.ensures.stays some).1 in
+    subst (λ (v : View). IsNoWider v b s p c.in-Err-open_struct.k) same (c.in-Err-open_struct.ensures.named (λ null. some (subst (λ (v : View). word_at v.words s p ≡ 0) same null))))
