@@ -1,5 +1,5 @@
 -- What a refused copy says of the message that was read.
-use Rattle.std.proofs.Common.{◌≡◌, ◌⊎◌, inl, inr, Some, None, ℕ, ◌+◌, ◌≤◌, List, [], ◌∷◌, length, true, false, Option, Result, Ok, Err, IfSome, IsNone, IfOk, OnOk, refl, ap, sym, ◌∙◌, subst, arith, length-set, get_or}
+use Rattle.std.proofs.Common.{◌≡◌, ◌⊎◌, inl, inr, Some, None, ℕ, ◌+◌, ◌<◌, ◌≤◌, List, [], ◌∷◌, length, true, false, Option, Result, Ok, Err, IfSome, IsNone, IfOk, OnOk, refl, ap, sym, ◌∙◌, subst, arith, length-set, get_or}
 use Rattle.capnp_words.specs.declared.error.ErrorKind.{ErrorKind}
 use Rattle.capnp_words.specs.declared.error.ErrorKind.TheVariants.{MessageTooLarge}
 use Rattle.capnp_format.specs.Segments.{Segments, segment}
@@ -14,6 +14,7 @@ use Rattle.capnp_format.specs.Tree.{Tree}
 use Rattle.capnp_format.proofs.Levels.{one_value}
 use Rattle.capnp_objects.specs.Outcomes.{Reads}
 use Rattle.std.proofs.lemmas.Bool.{cases_lt}
+use Rattle.capnp_making.specs.Memory.{KeepsMemory}
 use Rattle.capnp_copies.specs.Changes.{StandsAsRead, StandsWhereItFits, change}
 use Rattle.capnp_builders.specs.Building.{Building, HasOnlyNull, IsNull, built}
 use Rattle.capnp_builders.specs.Kept.{FillsMessage}
@@ -71,13 +72,25 @@ pub spread_copy : {X : Type 0} {room : ℕ} (r : Reading) (s p : ℕ) (old new :
 spread_copy r s p old new l m P (Ok x) fresh (t, reads, _) stands = spread old new s p fresh reads (stands t reads)
 spread_copy r s p old new l m P (Err k) fresh read stands = tt
 
+-- a copy leaves the room of the segment where it begins
+pub kept_room : {X : Type 0} {room : ℕ} (old new : View) (s p : ℕ) (o : Result X ErrorKind) → IsFreshPlace (record { segments = old.words; segment = s; at = p; room = old.room s }) room → OnOk o (KeepsMemory old new) → OnOk o (new.room 0 ≡ room)
+kept_room old new s p (Ok x) fresh kept =
+    let some : 0 < length old.words = omega (arith, ap length fresh.null) in
+    kept.1 0 some ∙ ap old.room (sym fresh.first) ∙ fresh.holds
+kept_room old new s p (Err k) fresh kept = tt
+
 -- words that are taken, if there is room for them, leave the room
 pub room_kept : (o : Option ℕ) {old new : View} (P : ℕ → Type 0) (words : Segments) → IfSome o (λ at. P at × (new ≡ record old { words = words })) → (IsNone o → new ≡ old) → new.room ≡ old.room
 room_kept (Some at) P words some none = ap (λ (v : View). v.room) some.1
 room_kept None P words some none = ap (λ (v : View). v.room) (none refl)
 
+-- and what may be offered for further ones
+pub offers_kept : (o : Option ℕ) {old new : View} (P : ℕ → Type 0) (words : Segments) → IfSome o (λ at. P at × (new ≡ record old { words = words })) → (IsNone o → new ≡ old) → new.offers ≡ old.offers
+offers_kept (Some at) P words some none = ap (λ (v : View). v.offers) some.1
+offers_kept None P words some none = ap (λ (v : View). v.offers) (none refl)
+
 -- want of room is no name of a reading that is refused
-never_read : {r : Reading} {l m : Meter} {k : ErrorKind} → IsWantOfRoom k → Refused canonical r l m k → ⊥
+pub never_read : {r : Reading} {l m : Meter} {k : ErrorKind} → IsWantOfRoom k → Refused canonical r l m k → ⊥
 never_read {r} {l} {m} (inl e) refused = not_for_memory (subst (Refused canonical r l m) e refused)
 never_read {r} {l} {m} (inr (w, e)) refused = not_for_size w (subst (Refused canonical r l m) e refused)
 

@@ -3,6 +3,7 @@ pub mod CommandLemmas
 pub mod LineLemmas
 pub mod WritingLemmas
 pub mod CanonLemmas
+pub mod TryLemmas
 pub mod RunLemmas
 pub mod NumberLemmas
 pub mod SizeLemmas

@@ -2,4 +2,5 @@ pub mod Arguments
 pub mod Lines
 pub mod Messages
 pub mod Answers
+pub mod Tries
 pub mod Runs

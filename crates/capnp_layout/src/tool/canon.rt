@@ -1,7 +1,7 @@
 //! The canonical words of a message ("Canonicalization"), in a segment of which the size is found by
-//! tries: each has twice the room of the one before, so that all together take no longer than
-//! twice the last. While one runs, its allocator is taken out, so that it ends where that segment does.
-ghost use Rattle.std.specs.Prelude.{◌≡◌, ◌⊎◌, ◌<◌, ◌≤◌, ◌+◌, ◌++◌, ◌↔◌, ◌∷◌, [], false, IsTrue, OnOk, IfOk, IfErr};
+//! tries: the first asks for the words of the input and one more, each further one for twice those of
+//! the one before, so that all together take no longer than twice the last. While one runs, its allocator is taken out, so that it ends where that segment does.
+ghost use Rattle.std.specs.Prelude.{◌≡◌, ◌⊎◌, ◌<◌, ◌≤◌, ◌+◌, ◌*◌, ◌++◌, ◌↔◌, ◌∷◌, [], false, min, IsTrue, OnOk, IfOk, IfErr};
 ghost use Rattle.capnp_format.specs.Bytes.{message};
 ghost use Rattle.capnp_format.specs.Canonical.{trim, encoding};
 ghost use Rattle.capnp_format.specs.Tree.{Tree};
@@ -12,8 +12,10 @@ ghost use Rattle.capnp_objects.specs.Source.{levels};
 ghost use Rattle.capnp_objects.specs.Wanted.{canonical};
 ghost use Rattle.capnp_readers.specs.Readers.{reading};
 ghost use Rattle.capnp_copies.specs.Rooms.{IsTooLarge};
-ghost use Rattle.capnp_layout.specs.Answers.{IsAloneOr, IsMade, IsMadeWhereAlone, IsWantOfRoom, IsWithin, LacksMemoryOr, RefusesCopy, RefusesCopyAnywhere, RefusesMessage, ValueOf, is_message_too_large};
+ghost use Rattle.capnp_layout.specs.Answers.{IsAloneOr, IsMade, IsMadeWhereAlone, IsWantOfRoom, IsWithin, LacksMemoryOr, RefusesCopy, RefusesCopyAnywhere, RefusesMessage, ValueOf, is_message_too_large, root_of};
 ghost use Rattle.capnp_layout.specs.Messages.{segments_in};
+ghost use Rattle.capnp_layout.specs.Tries.{IsMadeByFirstTry, room_of_try};
+ghost use Rattle.capnp_framing.specs.Reading.{total};
 
 use super::args::Args;
 use super::lines::Message;
@@ -46,6 +48,7 @@ fn copy_root<A: BuilderArena, B: ReaderArena>(
 ) -> Result<(), ErrorKind>
     requires root { (A.view arena.old).words ≡ (0 ∷ []) ∷ [] }
     ensures copied { IfOk result (λ _. (t : Tree) × IsWithin (reading B.ReaderArena from.entry) left t × IsMadeWhereAlone (A.view arena.new) t) }
+    ensures room { OnOk result ((A.view arena.new).room 0 ≡ (A.view arena.old).room 0) }
     ensures alone { OnOk result (IsAloneOr (A.view arena.new) (IsTooLarge canonical (reading B.ReaderArena from.entry) 1 ((A.view arena.old).room 0))) }
     ensures refused { IfErr result (RefusesCopyAnywhere (reading B.ReaderArena from.entry) left ((A.view arena.old).room 0)) }
 {
@@ -65,6 +68,7 @@ fn copy_to_segment<A: Allocator, B: ReaderArena>(
     requires root { (⟦<BuilderArenaImpl<A> as BuilderArena>⟧.view arena.old).words ≡ (0 ∷ []) ∷ [] }
     requires room { room ≤ (⟦<BuilderArenaImpl<A> as BuilderArena>⟧.view arena.old).room 0 }
     ensures copied { IfOk result (λ _. (t : Tree) × IsWithin (reading B.ReaderArena from.entry) left t × IsMade (⟦<BuilderArenaImpl<A> as BuilderArena>⟧.view arena.new) t) }
+    ensures room { OnOk result ((⟦<BuilderArenaImpl<A> as BuilderArena>⟧.view arena.new).room 0 ≡ (⟦<BuilderArenaImpl<A> as BuilderArena>⟧.view arena.old).room 0) }
     ensures refused { IfErr result (RefusesCopy (reading B.ReaderArena from.entry) left room) }
 {
     let too_large = ErrorKind::MessageTooLarge(room as usize);
@@ -97,7 +101,10 @@ fn make_message<A: Allocator>(
     requires most { room ≤ max_segment_words }
     ensures root { IfOk result (λ made. (⟦<BuilderArenaImpl<A> as BuilderArena>⟧.view made).words ≡ (0 ∷ []) ∷ []) }
     ensures room { IfOk result (λ made. room ≤ (⟦<BuilderArenaImpl<A> as BuilderArena>⟧.view made).room 0) }
+    ensures asked { IfOk result (λ made. IsTrue (A.offers allocator room ((⟦<BuilderArenaImpl<A> as BuilderArena>⟧.view made).room 0))) }
     ensures granted { IfOk result (λ made. (⟦<BuilderArenaImpl<A> as BuilderArena>⟧.view made).refusals ≡ A.refusals allocator) }
+    ensures offers { IfOk result (λ made. (⟦<BuilderArenaImpl<A> as BuilderArena>⟧.view made).offers ≡ A.offers allocator) }
+    ensures given_back { IfErr result (λ e. A.offers e.1 ≡ A.offers allocator) }
     ensures refused { IfErr result (λ e. (e.0 ≡ AllocationFailed) × (A.refusals e.1 ≡ one_more (A.refusals allocator))) }
 {
     let mut made = BuilderArenaImpl::new(alloc, allocator);
@@ -123,7 +130,9 @@ fn copy_to_message<A: Allocator, B: ReaderArena>(
     requires some { 1 ≤ room }
     requires most { room ≤ max_segment_words }
     ensures copied { IfOk result (λ made. (t : Tree) × IsWithin (reading B.ReaderArena from.entry) left t × IsMade (⟦<BuilderArenaImpl<A> as BuilderArena>⟧.view made) t) }
+    ensures asked { IfOk result (λ made. IsTrue (A.offers allocator room ((⟦<BuilderArenaImpl<A> as BuilderArena>⟧.view made).room 0))) }
     ensures granted { IfOk result (λ made. (⟦<BuilderArenaImpl<A> as BuilderArena>⟧.view made).refusals ≡ A.refusals allocator) }
+    ensures given_back { IfErr result (λ e. A.offers e.1 ≡ A.offers allocator) }
     ensures refused { IfErr result (λ e. LacksMemoryOr (A.refusals allocator) (A.refusals e.1) e.0 (RefusesCopy (reading B.ReaderArena from.entry) left room e.0)) }
 {
     let made = make_message(alloc, allocator, room)?;
@@ -143,21 +152,42 @@ fn is_too_large(kind: ErrorKind) -> bool
     matches!(kind, ErrorKind::MessageTooLarge(_))
 }
 
-/// The same with twice the room as often as there is too little, up to the greatest segment.
+/// The room of the first try: the words of the input and one more, up to the greatest segment.
+fn first_room(words: usize) -> u32
+    ensures room { result ≡ room_of_try words 0 }
+    ensures some { 1 ≤ result }
+    ensures most { result ≤ max_segment_words }
+{
+    if words < MAX_SEGMENT_WORDS as usize {
+        words as u32 + 1
+    } else {
+        MAX_SEGMENT_WORDS
+    }
+}
+
+/// The room of the try behind one with this room: twice as much, up to the greatest segment.
+fn next_room(room: u32) -> u32
+    requires { room ≤ max_segment_words }
+    ensures { result ≡ min (2 * room) max_segment_words }
+{
+    (2 * room).min(MAX_SEGMENT_WORDS)
+}
+
+/// The same in as many tries as it takes, where the input has so many words.
 fn copy_in_tries<A: Allocator, B: ReaderArena>(
     alloc: Global,
     allocator: A,
     from: PointerReader<'_, B>,
     left: Option<usize>,
-    first_room: u32,
+    words: usize,
 ) -> Result<BuilderArenaImpl<A>, (ErrorKind, A)>
-    requires some { 1 ≤ first_room }
-    requires most { first_room ≤ max_segment_words }
     ensures copied { IfOk result (λ made. (t : Tree) × IsWithin (reading B.ReaderArena from.entry) left t × IsMade (⟦<BuilderArenaImpl<A> as BuilderArena>⟧.view made) t) }
+    ensures tries { IfOk result (λ made. IsMadeByFirstTry (reading B.ReaderArena from.entry) words (A.offers allocator)
+        ((⟦<BuilderArenaImpl<A> as BuilderArena>⟧.view made).room 0)) }
     ensures granted { IfOk result (λ made. (⟦<BuilderArenaImpl<A> as BuilderArena>⟧.view made).refusals ≡ A.refusals allocator) }
     ensures refused { IfErr result (λ e. LacksMemoryOr (A.refusals allocator) (A.refusals e.1) e.0 (RefusesCopy (reading B.ReaderArena from.entry) left max_segment_words e.0)) }
 {
-    let mut room = first_room;
+    let mut room = first_room(words);
     let mut unused = allocator;
     loop {
         match copy_to_message(alloc, unused, from, left, room) {
@@ -167,21 +197,9 @@ fn copy_in_tries<A: Allocator, B: ReaderArena>(
                     return Err((kind, returned));
                 }
                 unused = returned;
-                room = (2 * room).min(MAX_SEGMENT_WORDS);
+                room = next_room(room);
             }
         }
-    }
-}
-
-/// The room of the first try: the words of the input and one more, up to the greatest segment.
-fn first_room(words: usize) -> u32
-    ensures some { 1 ≤ result }
-    ensures most { result ≤ max_segment_words }
-{
-    if words < MAX_SEGMENT_WORDS as usize {
-        words as u32 + 1
-    } else {
-        MAX_SEGMENT_WORDS
     }
 }
 
@@ -195,6 +213,9 @@ pub(crate) fn canonical<A: Allocator>(
 ) -> Result<BuilderArenaImpl<A>, (ErrorKind, A)>
     ensures small { OnOk result (IsSmall (segments_in source)) }
     ensures value { IfOk result (λ made. (t : Tree) × ValueOf (segments_in source) options t × IsMade (⟦<BuilderArenaImpl<A> as BuilderArena>⟧.view made) t) }
+    ensures tries { IfOk result (λ made.
+        IsMadeByFirstTry (root_of (message (segments_in source)) (levels options.nesting_limit)) (total (message (segments_in source)))
+        (A.offers allocator) ((⟦<BuilderArenaImpl<A> as BuilderArena>⟧.view made).room 0)) }
     ensures granted { IfOk result (λ made. (⟦<BuilderArenaImpl<A> as BuilderArena>⟧.view made).refusals ≡ A.refusals allocator) }
     ensures refused { IfErr result (λ e. LacksMemoryOr (A.refusals allocator) (A.refusals e.1) e.0 (RefusesMessage (segments_in source) (Args.Canon options) e.0)) }
 {
@@ -204,8 +225,8 @@ pub(crate) fn canonical<A: Allocator>(
     };
     match read_root(&arena, options.traversal_limit_in_words) {
         Ok((root, lim)) => {
-            let room = first_room(arena.size_in_words());
-            copy_in_tries(alloc, allocator, root, lim.left(), room)
+            let words = arena.size_in_words();
+            copy_in_tries(alloc, allocator, root, lim.left(), words)
         }
         Err(kind) => Err((kind, allocator)),
     }

@@ -1,5 +1,5 @@
 use Rattle.std.proofs.Common.{rules, ◌≡◌, ◌∙◌, ◌^◌, ◌-◌, inr, refl, IsOk, ap, subst}
-use Rattle.std.proofs.lemmas.Result.{IfErr-weaker}
+use Rattle.std.proofs.lemmas.Result.{IfErr-weaker, IfOk-weaker}
 use Rattle.capnp_words.specs.Meter.{Meter, less}
 use Rattle.capnp_format.specs.Bytes.{message}
 use Rattle.capnp_format.specs.Segments.{Segments}
@@ -8,6 +8,8 @@ use Rattle.capnp_layout.specs.Answers.{CoversRoot, RefusesRoot, root_of}
 use Rattle.capnp_layout.specs.Answers.RefusesMessage.{at_root, beyond_limits}
 use Rattle.capnp_layout.specs.Messages.{segments_in}
 use Rattle.capnp_layout.proofs.CanonLemmas.{copy_refused}
+use Rattle.capnp_framing.specs.Reading.{total}
+use Rattle.capnp_layout.proofs.TryLemmas.{moved_tries, total-message}
 use Rattle.capnp_layout.proofs.tool.canon.canonical.Goals as goal
 
 pub returns-in-Err-clause-refused : goal.returns-in-Err-clause-refused
@@ -26,3 +28,10 @@ returns-in-Ok-read_root-clause-refused g c =
 
 pub returns-clause-refused : goal.returns-clause-refused
 returns-clause-refused g c = inr (at_root (subst (λ (S : Segments). RefusesRoot S c.args.options.traversal_limit_in_words c.in-Err-read_root.kind) c.in-Ok.ensures.words c.in-Err-read_root.ensures.refused), refl)
+
+pub returns-in-Ok-read_root-clause-tries : goal.returns-in-Ok-read_root-clause-tries
+returns-in-Ok-read_root-clause-tries g c =
+    let same = c.in-Ok.ensures.words in
+    let place = c.in-Ok-read_root.ensures.place ∙ ap (λ (S : Segments). root_of S (levels c.in-Ok.arena.nesting_limit)) same ∙ ap (λ n. root_of (message (segments_in c.args.source)) (levels n)) c.in-Ok.ensures.nesting in
+    let words = c.size_in_words-words.ensures ∙ total-message _ ∙ ap total same in
+    IfOk-weaker c.copy_in_tries.result _ _ (λ made. moved_tries (g.A.Allocator.offers c.args.allocator) _ place words) c.copy_in_tries.ensures.tries

@@ -1,0 +1,19 @@
+-- In how much room the canonical words of a message are tried to be made.
+use Rattle.std.specs.Prelude.{◌≡◌, ℕ, ◌+◌, ◌*◌, ◌<◌, zero, suc, min, Bool, IsTrue}
+use Rattle.capnp_arena.specs.Allocations.{max_segment_words}
+use Rattle.capnp_copies.specs.Rooms.{IsTooLarge}
+use Rattle.capnp_objects.specs.Reading.{Reading}
+use Rattle.capnp_objects.specs.Wanted.{canonical}
+
+-- The words that try k asks for, counted from 0, where the input has so many: one more than these, and at each further try twice those
+-- of the one before; but never more than a segment can have.
+abbrev pub room_of_try : ℕ → ℕ → ℕ
+room_of_try words zero = min (words + 1) max_segment_words
+room_of_try words (suc k) = min (2 * room_of_try words k) max_segment_words
+
+-- A try made the canonical words of what a place means, where the input has so many words: its segment, of this room, was offered
+-- for what that try asks for, and what each try before it asks for is too little.
+pub record IsMadeByFirstTry (r : Reading) (words : ℕ) (offers : ℕ → ℕ → Bool) (room : ℕ) : Type 0 where
+  pub try : ℕ
+  pub asked : IsTrue (offers (room_of_try words try) room)
+  pub before : (j : ℕ) → j < try → IsTooLarge canonical r 1 (room_of_try words j)
