@@ -1,9 +1,11 @@
-//! What the crates of tests share: messages written as hex digits, and an allocator that refuses
-//! memory where a test wants it and notes what comes back.
+//! What the crates of tests share: messages written as hex digits, an allocator that refuses memory where
+//! a test wants it and notes what comes back, and one that notes what it is asked for.
 #![tactic(auto)]
 
 mod allocator;
 mod message;
+mod noting;
 
 pub use allocator::{Granted, TestAllocator};
 pub use message::{Message, arena_of, arena_of_root, bytes_of, has_words};
+pub use noting::{NotingAllocator, Request};
