@@ -1,5 +1,5 @@
 //! The test for canonical form, in place.
-ghost use Rattle.std.specs.Prelude.{ℕ, ◌≡◌, ◌≢◌, ◌<◌, ◌≤◌, ◌+◌, ◌*◌, ◌-◌, ◌⊎◌, ◌↔◌, pred, ◌^◌, None, IsTrue, Ok, true, false, IfOk, IfErr, IfNone, OnErr, length, slice_index};
+ghost use Rattle.std.specs.Prelude.{ℕ, ◌≡◌, ◌≢◌, ◌<◌, ◌≤◌, ◌+◌, ◌*◌, ◌/◌, ◌-◌, ◌⊎◌, ◌↔◌, pred, ◌^◌, None, IsTrue, Ok, true, false, IfOk, IfErr, IfNone, OnErr, length, slice_index};
 ghost use Rattle.capnp_format.specs.Bytes.{words_of};
 ghost use Rattle.capnp_format.specs.Word.{kind};
 ghost use Rattle.capnp_format.specs.Numbers.{words_for};
@@ -15,6 +15,7 @@ use capnp_arena::arena::ReaderArena;
 use capnp_objects::object::{Object, Place};
 use capnp_objects::source::Source;
 use capnp_words::error::ErrorKind;
+use capnp_words::lanes;
 use capnp_words::read_limiter::ReadLimiter;
 use capnp_words::wire_pointer::{
     ElementSize, StructSize, WirePointer, WirePointerKind, data_bits_per_element,
@@ -411,11 +412,20 @@ fn test_flat(bytes: &[u8], start: u32, size: ElementSize, count: u32) -> Option<
     let rest = bits % 64;
     if rest == 0 {
         Some(end)
-    } else if word_at(bytes, end as usize) >> rest == 0 {
+    } else if is_zero_from(word_at(bytes, end as usize), rest) {
         Some(end + 1)
     } else {
         None
     }
+}
+
+/// Whether the bits of a word from a position on are zero.
+#[inline(always)]
+fn is_zero_from(word: u64, position: u64) -> bool
+    requires { position < 64 }
+    ensures { IsTrue result ↔ (word / 2 ^ position ≡ 0) }
+{
+    lanes::is_zero((word >> position).to_le_bytes().as_slice())
 }
 
 /// How many whole words bytes have, each of which is one of 64 bits.

@@ -1,4 +1,5 @@
 use Rattle.std.proofs.Common.{◌≡◌, ◌+◌, ◌*◌, ◌/◌, ℕ, [], ◌∷◌, sym, ap, ap₂, ◌∙◌, mul_comm, arith}
+use Rattle.std.proofs.lemmas.Bool.{false≢true}
 use Rattle.capnp_format.specs.Bytes.{words_of}
 use Rattle.capnp_format.specs.Numbers.{element_bits}
 use Rattle.capnp_pointers.specs.Sizes.{size_number}
@@ -20,16 +21,16 @@ returns-then-rest-eq0 c =
     let told = no_rest (words_of c.args.bytes.now ∷ []) 0 c.args.start sz c.args.count (small_word c.args.bytes.now (λ i. omega (arith, c.type_inv.bytes i))) c.requires.inside (rw bits at c.if-rest-eq0.true) in
     (told.0, ap (λ b. c.args.start + b / 64) bits ∙ ap (λ w. c.args.start + w) (sym told.1))
 
-pub returns-then-word_at-rest-eq0 : goal.returns-then-word_at-rest-eq0
-returns-then-word_at-rest-eq0 c =
+pub returns-then-is_zero_from : goal.returns-then-is_zero_from
+returns-then-is_zero_from c =
     let sz : ℕ = size_number c.args.size in
     let bits : c.from.result * c.from-2.result ≡ element_bits sz * c.args.count = ap₂ (λ x y. x * y) c.from.ensures (c.from-2.ensures ∙ c.data_bits_per_element.ensures) ∙ mul_comm c.args.count (element_bits sz) in
     let told = some_rest (words_of c.args.bytes.now ∷ []) 0 c.args.start sz c.args.count (small_word c.args.bytes.now (λ i. omega (arith, c.type_inv.bytes i))) c.requires.inside (rw bits at c.if-rest-eq0.false) in
-    (told.1.1 (rw (c.word_at.ensures, bits) at c.if-word_at-rest-eq0.true), omega (arith, told.0, bits))
+    (told.1.1 (rw (c.word_at.ensures, bits) at (c.is_zero_from.ensures.0 c.if-is_zero_from.true)), omega (arith, told.0, bits))
 
-pub returns-else-word_at-rest-eq0 : goal.returns-else-word_at-rest-eq0
-returns-else-word_at-rest-eq0 c =
+pub returns-else-is_zero_from : goal.returns-else-is_zero_from
+returns-else-is_zero_from c =
     let sz : ℕ = size_number c.args.size in
     let bits : c.from.result * c.from-2.result ≡ element_bits sz * c.args.count = ap₂ (λ x y. x * y) c.from.ensures (c.from-2.ensures ∙ c.data_bits_per_element.ensures) ∙ mul_comm c.args.count (element_bits sz) in
     let told = some_rest (words_of c.args.bytes.now ∷ []) 0 c.args.start sz c.args.count (small_word c.args.bytes.now (λ i. omega (arith, c.type_inv.bytes i))) c.requires.inside (rw bits at c.if-rest-eq0.false) in
-    λ padded. (rw (c.word_at.ensures, bits) at c.if-word_at-rest-eq0.false) (told.1.0 padded)
+    λ padded. false≢true (sym c.if-is_zero_from.false ∙ c.is_zero_from.ensures.1 (rw (c.word_at.ensures, bits) (told.1.0 padded)))
