@@ -56,6 +56,20 @@ fn one_bit(rt: HostRuntime) {
 }
 
 #[test]
+fn one_bit_of_many_words(rt: HostRuntime) {
+    for words in 31..43usize {
+        let mut bytes = [0u8; 344];
+        let whole = 8 * words;
+        assert!(rt; trailing_zero_words(&bytes[..whole]) == words);
+        for i in 0..whole {
+            bytes[i] = 128;
+            assert!(rt; trailing_zero_words(&bytes[..whole]) == words - 1 - i / 8);
+            bytes[i] = 0;
+        }
+    }
+}
+
+#[test]
 fn zeroed(rt: HostRuntime) {
     for length in 0..LENGTH + 1 {
         let mut bytes = numbers();
