@@ -1,5 +1,5 @@
 -- The room that a call with a default has: the copy of the default fits, and then what the call does with a value that stands.
-use Rattle.std.proofs.Common.{◌≡◌, inl, inr, ℕ, ◌+◌, ◌*◌, ◌<◌, ◌≤◌, Bool, true, false, cond, List, [], ◌∷◌, length, nat_eq, Option, Some, None, Ok, Err, IsOk, refl, sym, subst, arith}
+use Rattle.std.proofs.Common.{◌≡◌, inl, inr, ℕ, ◌+◌, ◌*◌, ◌<◌, ◌≤◌, Bool, true, false, cond, List, [], ◌∷◌, length, nat_eq, Option, Some, None, Result, Ok, Err, IsOk, refl, sym, subst, arith}
 use Rattle.std.specs.Borrow.{Bor}
 use Rattle.std.proofs.lemmas.Bool.{cases_lt}
 use Rattle.capnp_words.specs.declared.error.ErrorKind.{ErrorKind}
@@ -8,18 +8,22 @@ use Rattle.capnp_format.specs.Bytes.{words_of}
 use Rattle.capnp_format.specs.Tree.{Tree, Null, Capability, Struct, Flat, Pointers, Structs}
 use Rattle.capnp_format.proofs.WordsOf.{length-words_of}
 use Rattle.capnp_arena.specs.View.{View}
-use Rattle.capnp_widening.specs.Opening.{CallAt, call_at}
+use Rattle.capnp_widening.specs.Opening.{call_at}
 use Rattle.capnp_builders.specs.Defaults.{DefaultUse, ignored, denied, copied, object_default, use_of_words, DefaultCopyFits, DefaultFits, FitsWithDefault, PutsDefaultOver}
 
 no_truth : false ≡ true → ⊥
 no_truth e = cc
 
+-- nothing is put where the default leaves null
+pub null_left : (w : DefaultUse) (s p : ℕ) (a m : View) (o : Result (Unit {0}) ErrorKind) → w ≡ ignored → PutsDefaultOver w (call_at s p a m) Null o → m ≡ a
+null_left w s p a m o e put = (let P : DefaultUse → Type 0 = λ u. PutsDefaultOver u (call_at s p a m) Null o in subst P e put).1
+
 -- the call has room in the message that stands once its default is put
-pub then_fits : (w : DefaultUse) (s p : ℕ) (a m b : View) (t : Tree) (x : Unit {0}) (Fits : View → Type 0) → FitsWithDefault w (call_at s p a b) Fits → PutsDefaultOver w (call_at s p a m) t (Ok x) → Fits m
-then_fits ignored s p a m b t x Fits fits (ok, same) = subst Fits (sym same) fits
-then_fits (denied k) s p a m b t x Fits fits o = absurd fits
-then_fits (copied bytes) s p a m b t x Fits fits (inl d) = subst Fits (sym d.does.1) (fits.1 d.mid d.value d.put)
-then_fits (copied bytes) s p a m b t x Fits fits (inr e) = absurd e
+pub then_fits : (w : DefaultUse) (s p : ℕ) (a m : View) (t : Tree) (x : Unit {0}) (Fits : View → Type 0) → FitsWithDefault w a s p Fits → PutsDefaultOver w (call_at s p a m) t (Ok x) → Fits m
+then_fits ignored s p a m t x Fits fits (ok, same) = subst Fits (sym same) fits
+then_fits (denied k) s p a m t x Fits fits o = absurd fits
+then_fits (copied bytes) s p a m t x Fits fits (inl d) = subst Fits (sym d.does.1) (fits.1 d.mid d.value d.put)
+then_fits (copied bytes) s p a m t x Fits fits (inr e) = absurd e
 
 -- the bytes that are copied are those of the default, which has a first word
 not_copied : (bytes : List ℕ) → ignored ≡ copied bytes → ⊥
@@ -54,14 +58,14 @@ copy_fits (Some d) (Pointers ts) bytes v id e fits = absurd (not_copied bytes e)
 copy_fits (Some d) (Structs n q es) bytes v id e fits = absurd (not_copied bytes e)
 
 -- so where the default is refused, its copy didn't fit
-refused_copy : (w : DefaultUse) (s p : ℕ) (a m b : View) (t : Tree) (k : ErrorKind) (Fits : View → Type 0) → FitsWithDefault w (call_at s p a b) Fits → PutsDefaultOver w (call_at s p a m) t (Err k) →
+refused_copy : (w : DefaultUse) (s p : ℕ) (a m : View) (t : Tree) (k : ErrorKind) (Fits : View → Type 0) → FitsWithDefault w a s p Fits → PutsDefaultOver w (call_at s p a m) t (Err k) →
     (bytes : List ℕ) × (w ≡ copied bytes) × DefaultCopyFits bytes a s
-refused_copy ignored s p a m b t k Fits fits (ok, same) = absurd (no_truth ok)
-refused_copy (denied l) s p a m b t k Fits fits o = absurd fits
-refused_copy (copied bytes) s p a m b t k Fits fits o = (bytes, refl, fits.0)
+refused_copy ignored s p a m t k Fits fits (ok, same) = absurd (no_truth ok)
+refused_copy (denied l) s p a m t k Fits fits o = absurd fits
+refused_copy (copied bytes) s p a m t k Fits fits o = (bytes, refl, fits.0)
 
-pub refused_default : (default : Option (Bor (List ℕ))) (s p : ℕ) (a m b : View) (t : Tree) (k : ErrorKind) (Fits : View → Type 0) → FitsWithDefault (object_default default t) (call_at s p a b) Fits →
+pub refused_default : (default : Option (Bor (List ℕ))) (s p : ℕ) (a m : View) (t : Tree) (k : ErrorKind) (Fits : View → Type 0) → FitsWithDefault (object_default default t) a s p Fits →
     PutsDefaultOver (object_default default t) (call_at s p a m) t (Err k) → DefaultFits default a s
-refused_default default s p a m b t k Fits fits put =
-    let (bytes, is, copy) = refused_copy (object_default default t) s p a m b t k Fits fits put in
+refused_default default s p a m t k Fits fits put =
+    let (bytes, is, copy) = refused_copy (object_default default t) s p a m t k Fits fits put in
     copy_fits default t bytes a s is copy

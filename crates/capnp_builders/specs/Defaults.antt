@@ -18,7 +18,7 @@ use Rattle.capnp_objects.specs.Wanted.{of_default}
 use Rattle.capnp_copies.specs.Changes.{Change, change, FindsNoRoom, StandsAsRead}
 use Rattle.capnp_copies.specs.Copies.{CanBeCopied}
 use Rattle.capnp_copies.specs.Growth.{TakesForValue, TakesUntilStop}
-use Rattle.capnp_widening.specs.Opening.{CallAt}
+use Rattle.capnp_widening.specs.Opening.{CallAt, call_at}
 
 -- The first word of a default, whose bytes are one segment. Nothing is charged there, and as many levels may be entered as a nesting limit can say.
 abbrev pub default_root : List ℕ → Reading
@@ -61,6 +61,10 @@ default_use of_null default t = ignored
 abbrev pub object_default : Option (Bor (List ℕ)) → Tree → DefaultUse
 object_default default t = default_use ignored default t
 
+-- There is no default, or one whose first word is null: an object isn't put in place of null.
+abbrev pub LeavesNull : Option (Bor (List ℕ)) → Type 0
+LeavesNull default = object_default default Null ≡ ignored
+
 abbrev pub blob_default : Option (Bor (List ℕ)) → Tree → DefaultUse
 blob_default default t = default_use (denied ExistingPointerIsNotAList) default t
 
@@ -102,12 +106,12 @@ DefaultCopyFits bytes v id = CanBeCopied of_default (default_root bytes) (unused
 abbrev pub DefaultFits : Option (Bor (List ℕ)) → View → ℕ → Type 0
 DefaultFits default v id = IfSome default (λ d. (8 ≤ length d.now) × DefaultCopyFits d.now v id)
 
--- Where a call has room, by its use of a default: where Fits says so of the message; or where the default's copy fits, and Fits says so of whatever message
--- that can leave. A default that is refused fits nowhere.
-abbrev pub FitsWithDefault : DefaultUse → CallAt → (View → Type 0) → Type 0
-FitsWithDefault ignored c Fits = Fits c.old
-FitsWithDefault (denied k) c Fits = ⊥
-FitsWithDefault (copied bytes) c Fits = DefaultCopyFits bytes c.old c.segment × ((mid : View) (u : Tree) → PutsDefault bytes (record c { new = mid }) u → Fits mid)
+-- A call at a place has room, by its use of a default: where Fits says so of the message v; or where the default's copy fits, and Fits says so of whatever
+-- message that can leave. A default that is refused fits nowhere.
+abbrev pub FitsWithDefault : DefaultUse → View → ℕ → ℕ → (View → Type 0) → Type 0
+FitsWithDefault ignored v s p Fits = Fits v
+FitsWithDefault (denied k) v s p Fits = ⊥
+FitsWithDefault (copied bytes) v s p Fits = DefaultCopyFits bytes v s × ((m : View) (u : Tree) → PutsDefault bytes (call_at s p v m) u → Fits m)
 
 -- A default is put where the call uses one, and nothing else is done.
 abbrev pub PutsDefaultOver : DefaultUse → CallAt → Tree → Result (Unit {0}) ErrorKind → Type 0

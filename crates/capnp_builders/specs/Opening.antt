@@ -1,5 +1,5 @@
 -- Structs and lists of structs of a message that is built, opened for writing ("Structs", "Lists").
-use Rattle.std.specs.Prelude.{◌≡◌, ℕ, ◌*◌, ◌≤◌, Option, Result, List, Ok, length}
+use Rattle.std.specs.Prelude.{◌≡◌, ℕ, ◌+◌, ◌*◌, ◌≤◌, Option, Result, List, Ok, length}
 use Rattle.std.specs.Borrow.{Bor}
 use Rattle.capnp_words.specs.declared.error.ErrorKind.{ErrorKind}
 use Rattle.capnp_format.specs.Forest.{target}
@@ -8,6 +8,9 @@ use Rattle.capnp_format.specs.Tree.{Tree, Null, Struct, count}
 use Rattle.capnp_pointers.specs.declared.wire_pointer.ElementSize.TheVariants.{Void}
 use Rattle.capnp_pointers.specs.declared.wire_pointer.StructSize.{StructSize}
 use Rattle.capnp_making.specs.Existing.{list_in}
+use Rattle.capnp_making.specs.Memory.{TakesWords}
+use Rattle.capnp_making.specs.Stored.{IsStored}
+use Rattle.capnp_arena.specs.View.{View}
 use Rattle.capnp_readers.specs.Readers.{IsListPlace}
 use Rattle.capnp_readers.specs.declared.readers.list_reader.ListPlace.{ListPlace}
 use Rattle.capnp_readers.specs.declared.readers.struct_reader.StructPlace.{StructPlace}
@@ -42,12 +45,17 @@ FindsStruct size default result c t = WithDefault (object_default default t) c t
 abbrev pub FindsStructs : StructSize → Option (Bor (List ℕ)) → Result ListPlace ErrorKind → CallAt → Tree → Type 0
 FindsStructs size default result c t = WithDefault (object_default default t) c t (OpensList size result) result
 
--- There is room for what becomes of the struct that stands then, or for a new one in place of null; or of the list that stands then.
-abbrev pub StructFindFits : StructSize → Option (Bor (List ℕ)) → CallAt → Tree → Type 0
-StructFindFits size default c t = FitsWithDefault (object_default default t) c (λ v. OpeningFits v c.segment c.at size)
+-- The place stores some value, and there is room for what becomes of the struct that stands once the default is put, or for a new one in place of null; or
+-- for what becomes of the list that stands then.
+abbrev pub StructFindFits : StructSize → Option (Bor (List ℕ)) → View → ℕ → ℕ → Type 0
+StructFindFits size default v s p = (t : Tree) × IsStored v.words s p t × FitsWithDefault (object_default default t) v s p (λ m. OpeningFits m s p size)
 
-abbrev pub StructsFindFits : StructSize → Option (Bor (List ℕ)) → CallAt → Tree → Type 0
-StructsFindFits size default c t = FitsWithDefault (object_default default t) c (λ v. ListFits v c.segment c.at size)
+abbrev pub StructsFindFits : StructSize → Option (Bor (List ℕ)) → View → ℕ → ℕ → Type 0
+StructsFindFits size default v s p = (t : Tree) × IsStored v.words s p t × FitsWithDefault (object_default default t) v s p (λ m. ListFits m s p size)
+
+-- A call takes the words of a new struct of a size, and a landing pad's where it needs one.
+abbrev pub TakesForNewStruct : StructSize → CallAt → Type 0
+TakesForNewStruct size c = TakesWords c.old c.new c.segment (size.data_words + size.pointers)
 
 -- A struct is at least as large as asked for.
 abbrev pub IsStructAtLeast : StructSize → StructPlace → Type 0

@@ -17,6 +17,7 @@ use Rattle.capnp_making.specs.Stored.{IsStored}
 use Rattle.capnp_making.proofs.Filling.{unchanged}
 use Rattle.capnp_making.proofs.Memory.{keeps_itself}
 use Rattle.capnp_widening.specs.Opening.{Opens, OpensList, HasSections, HasWideStructs, LeadsToAll, refusal_of_words, refusal_of_elements, call_at, CallAt}
+use Rattle.capnp_widening.specs.Rooms.{TakesForList}
 use Rattle.capnp_widening.specs.RowsRemade.{WidensList, LeadsToList, RefusesWider}
 use Rattle.capnp_widening.specs.Widened.{fill_elements, LeavesAll, limited, list_widened}
 use Rattle.capnp_widening.proofs.AnyList.{list_inside, unfound_refused}
@@ -48,6 +49,7 @@ list_wide v s p t l size stored found wide =
       replaced = unchanged v.words s p t stored;
       leads = (found, list_inside v.words s p t l stored found);
       memory = keeps_itself v;
+      taken = omega arith;
       unchanged = λ h. refl;
     }))
 
@@ -145,6 +147,7 @@ pub record Widens (a b : View) (s p : ℕ) (size : StructSize) (r : Result (Opti
   pub granted : OnOk r (KeepsMemory a b)
   pub refused : OnErr r (LeavesAll a.words b.words s p)
   pub named : IfErr r (RefusesWider a b s p size)
+  pub few : TakesForList a.words b.words s p size
 
 pub list_made : (a b : View) (s p : ℕ) (t : Tree) (l : ExistingList) (size : StructSize) (r : Result (Option ExistingList) ErrorKind) → IsStored a.words s p t → list_in (target a.words s p) Void t ≡ Ok (Some l) → (HasWideStructs size l → ⊥) →
     None ≡ refusal_of_elements size l.size l.struct_size l.count → Widens a b s p size r → OpensList size r (call_at s p a b) t
@@ -155,6 +158,7 @@ list_made a b s p t l size (Ok m) stored found narrow none w =
       replaced = made;
       leads = w.leads t u stored e;
       memory = w.granted;
+      taken = w.few t u stored e;
       unchanged = λ h. absurd (narrow (sections_wide a.words s p t l size found h));
     }))
 list_made a b s p t l size (Err k) stored found narrow none w =
@@ -167,6 +171,7 @@ list_made a b s p t l size (Err k) stored found narrow none w =
         stands = stands_grown a.words b.words s p t stored (w.refused t stored);
         narrow = λ h. narrow (sections_wide a.words s p t l size found h);
         memory = memory;
+        taken = w.few t u stored e;
         full = full;
       }
     ]))

@@ -20,6 +20,7 @@ use Rattle.capnp_making.proofs.FillingMade.{null_stored}
 use Rattle.capnp_making.proofs.Memory.{keeps_itself, spends_nothing, not_the_allocator, made_refused}
 use Rattle.capnp_making.proofs.Replaced.{grown}
 use Rattle.capnp_widening.specs.Opening.{OpensStruct, call_at}
+use Rattle.capnp_widening.specs.Rooms.{all_words, TakesAtMost, TakesForStruct}
 use Rattle.capnp_widening.specs.Widened.{fill_words, fill_trees, GrowsByZeros, WidensStruct, LeavesAll, LeadsToStruct, IsNoWider}
 use Rattle.capnp_widening.proofs.Filled.{already_wide, wide_words, wide_trees}
 use Rattle.capnp_widening.proofs.StructSteps.{the_struct, same_struct}
@@ -61,6 +62,7 @@ struct_wide_at v s p ws ts e size stored is l m =
       replaced = already_wide v.words s p size.data_words size.pointers ws ts stored wide many;
       leads = (found, subst (LiesIn v.words) is (struct_lies v.words s p ws ts stored));
       memory = keeps_itself v;
+      taken = omega arith;
       unchanged = λ h. refl;
     }
 
@@ -85,6 +87,7 @@ pub record Wider (a b : View) (s p : ℕ) (e f : ExistingStruct) (size : StructS
   pub widened : WidensStruct a.words b.words s p size
   pub leads : LeadsToStruct a.words b.words s p f
   pub memory : KeepsMemory a b
+  pub taken : TakesForStruct a.words b.words s p size
   pub narrow : size.data_words ≤ e.size.data_words → size.pointers ≤ e.size.pointers → ⊥
 
 struct_wider_at : (a b : View) (s p : ℕ) (ws : List ℕ) (ts : Trees) (e f : ExistingStruct) (size greater : StructSize) → IsStored a.words s p (Struct ws ts) → the_struct a.words s p ws ts ≡ e → Wider a b s p e f size →
@@ -105,6 +108,7 @@ struct_wider_at a b s p ws ts e f size greater stored is w l m =
       replaced = made;
       leads = (ap (λ x. Some x) same, subst (LiesIn b.words) same (struct_lies b.words s p vs us made.stored));
       memory = w.memory;
+      taken = w.taken ws ts stored;
       unchanged = λ h. absurd (w.narrow (omega (arith, h.0, d)) (omega (arith, h.1, q)));
     }
 
@@ -120,10 +124,10 @@ struct_wider a b s p (Structs d q es) e f size greater stored found w l m = absu
 
 -- or for which there is no memory
 pub struct_kept : (a b : View) (s p : ℕ) (t : Tree) (e : ExistingStruct) (size : StructSize) (k : ErrorKind) → IsStored a.words s p t → struct_in (target a.words s p) t ≡ Some e →
-    (size.data_words ≤ e.size.data_words → size.pointers ≤ e.size.pointers → ⊥) → LeavesAll a.words b.words s p → IsNoWider a b s p k → OpensStruct size (Err k) (call_at s p a b) t
-struct_kept a b s p Null e size k stored found narrow leaves named = absurd (no_struct e found)
-struct_kept a b s p (Capability i) e size k stored found narrow leaves named = absurd (no_struct e found)
-struct_kept a b s p (Struct ws ts) e size k stored found narrow leaves named =
+    (size.data_words ≤ e.size.data_words → size.pointers ≤ e.size.pointers → ⊥) → LeavesAll a.words b.words s p → IsNoWider a b s p k → TakesForStruct a.words b.words s p size → OpensStruct size (Err k) (call_at s p a b) t
+struct_kept a b s p Null e size k stored found narrow leaves named few = absurd (no_struct e found)
+struct_kept a b s p (Capability i) e size k stored found narrow leaves named few = absurd (no_struct e found)
+struct_kept a b s p (Struct ws ts) e size k stored found narrow leaves named few =
     let is = same_struct (the_struct a.words s p ws ts) e found in
     let d : length ws ≡ e.size.data_words = ap (λ (x : ExistingStruct). x.size.data_words) is in
     let q : count ts ≡ e.size.pointers = ap (λ (x : ExistingStruct). x.size.pointers) is in
@@ -133,12 +137,13 @@ struct_kept a b s p (Struct ws ts) e size k stored found narrow leaves named =
         stands = stands_grown a.words b.words s p (Struct ws ts) stored (leaves (Struct ws ts) stored);
         narrow = λ h. narrow (omega (arith, h.0, d)) (omega (arith, h.1, q));
         memory = memory;
+        taken = few ws ts stored;
         full = full;
       }
     ]
-struct_kept a b s p (Flat n ns) e size k stored found narrow leaves named = absurd (no_struct e found)
-struct_kept a b s p (Pointers ts) e size k stored found narrow leaves named = absurd (no_struct e found)
-struct_kept a b s p (Structs d q es) e size k stored found narrow leaves named = absurd (no_struct e found)
+struct_kept a b s p (Flat n ns) e size k stored found narrow leaves named few = absurd (no_struct e found)
+struct_kept a b s p (Pointers ts) e size k stored found narrow leaves named few = absurd (no_struct e found)
+struct_kept a b s p (Structs d q es) e size k stored found narrow leaves named few = absurd (no_struct e found)
 
 -- a value that is no struct, and not null
 pub some_struct : (e : ExistingStruct) → Some e ≡ None → ⊥
@@ -164,9 +169,9 @@ null_count : (n : ℕ) → count (nulls n) ≡ n
 null_count zero = refl
 null_count (suc n) = ap (λ k. suc k) (null_count n)
 
-pub struct_made : (a b : View) (s p : ℕ) (size : StructSize) (h : Start) → IsReplaced a.words b.words s p Null (zero_struct size) → KeepsMemory a b → LeadsTo b.words s p h →
+pub struct_made : (a b : View) (s p : ℕ) (size : StructSize) (h : Start) → IsReplaced a.words b.words s p Null (zero_struct size) → KeepsMemory a b → TakesAtMost a.words b.words (size.data_words + size.pointers + 1) → LeadsTo b.words s p h →
     OpensStruct size (Ok (struct_at h.segment h.at size.data_words size.pointers)) (call_at s p a b) Null
-struct_made a b s p size h made memory leads =
+struct_made a b s p size h made memory few leads =
     let vs : List ℕ = zeros size.data_words in
     let us : Trees = nulls size.pointers in
     let same : the_struct b.words s p vs us ≡ struct_at h.segment h.at size.data_words size.pointers =
@@ -175,6 +180,7 @@ struct_made a b s p size h made memory leads =
       replaced = made;
       leads = (ap (λ x. Some x) same, subst (LiesIn b.words) same (struct_lies b.words s p vs us made.stored));
       memory = memory;
+      taken = omega (arith, few, zero_count size.data_words, null_count size.pointers);
       unchanged = λ h. absurd h;
     }
 
@@ -186,5 +192,6 @@ struct_unmade a b s p n size k place null same named full =
       stands = subst (λ R. IsReplaced a.words R s p Null Null) (sym same) (unchanged a.words s p Null (null_stored a.words s p place null));
       narrow = λ h. h;
       memory = refused.1;
+      taken = omega (arith, ap all_words same);
       full = (n, refused.0);
     }

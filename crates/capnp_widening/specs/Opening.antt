@@ -15,6 +15,7 @@ use Rattle.capnp_making.specs.Existing.{list_in, struct_in, LiesIn}
 use Rattle.capnp_making.specs.Made.{zero_struct}
 use Rattle.capnp_making.specs.Memory.{KeepsMemory, SpendsMemory, RefusesGrowth}
 use Rattle.capnp_making.specs.Stored.{IsReplaced}
+use Rattle.capnp_widening.specs.Rooms.{TakesAtMost, object_words, pointers_in}
 use Rattle.capnp_widening.specs.RowsRemade.{ListLiesIn}
 use Rattle.capnp_widening.specs.Widened.{fill_words, fill_trees, list_widened}
 
@@ -40,24 +41,30 @@ HasSections size (Struct ws ts) = (size.data_words ≤ length ws) × (size.point
 HasSections size (Structs d q es) = (size.data_words ≤ d) × (size.pointers ≤ q)
 HasSections size t = ⊥
 
+-- No more words are taken than u has, which t becomes, with a landing pad and two words for each pointer of t.
+abbrev pub TakesFor : CallAt → Tree → Tree → Type 0
+TakesFor c t u = TakesAtMost c.old.words c.new.words (object_words u + 1 + 2 * pointers_in t)
+
 -- Where t was stored, u is so in its stead, and what is given leads to it. Where t is large enough, nothing is changed.
 pub record Opened (size : StructSize) (c : CallAt) (t u : Tree) (given : Type 0) : Type 0 where
   pub replaced : IsReplaced c.old.words c.new.words c.segment c.at t u
   pub leads : given
   pub memory : KeepsMemory c.old c.new
+  pub taken : TakesFor c t u
   pub unchanged : HasSections size t → c.new ≡ c.old
 
--- Memory is refused by the name k, for a value that isn't large enough: it stands as it was, and new words are zero.
-pub record Unopened (size : StructSize) (c : CallAt) (t : Tree) (k : ErrorKind) : Type 0 where
+-- Memory is refused by the name k, for a value t that isn't large enough and was to become u: it stands as it was, and new words are zero.
+pub record Unopened (size : StructSize) (c : CallAt) (t u : Tree) (k : ErrorKind) : Type 0 where
   pub stands : IsReplaced c.old.words c.new.words c.segment c.at t t
   pub narrow : HasSections size t → ⊥
   pub memory : SpendsMemory c.old c.new k
+  pub taken : TakesFor c t u
   pub full : RefusesGrowth c.old c.new k
 
 -- A call opens t, which is to become u, and what it gives is as Given says; or it is refused: by what t is, and nothing is changed, or for memory.
 abbrev pub Opens : {B : Type 0} → StructSize → (Segments → ℕ → ℕ → Tree → B → Type 0) → CallAt → Tree → Result Tree ErrorKind → Result B ErrorKind → Type 0
 Opens size Given c t (Ok u) (Ok b) = Opened size c t u (Given c.new.words c.segment c.at u b)
-Opens size Given c t (Ok u) (Err k) = Unopened size c t k
+Opens size Given c t (Ok u) (Err k) = Unopened size c t u k
 Opens size Given c t (Err k) result = (result ≡ Err k) × (c.new ≡ c.old)
 
 -- The pointer at a place leads to the struct u, which is e; or to the list u, which is l, or none where u is null.

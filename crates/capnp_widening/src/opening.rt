@@ -1,10 +1,10 @@
 //! Structs and lists of structs opened for writing, at least as large as asked for ("Structs", "Lists").
-ghost use Rattle.std.specs.Prelude.{◌≡◌, ◌↔◌, ◌+◌, ◌*◌, ◌^◌, ◌≤◌, max, IsTrue, IsOk, Some, IfSome, IfOk, OnOk, IfErr};
+ghost use Rattle.std.specs.Prelude.{◌≡◌, ◌↔◌, ◌+◌, ◌*◌, ◌^◌, ◌≤◌, max, IsTrue, IsOk, Some, IfSome, IfOk, OnOk, IfErr, OnErr};
 ghost use Rattle.capnp_format.specs.Forest.{target};
 ghost use Rattle.capnp_format.specs.Segments.{IsPlace, word_at};
 ghost use Rattle.capnp_format.specs.Tree.{Tree, Null};
 ghost use Rattle.capnp_making.specs.Existing.{struct_in};
-ghost use Rattle.capnp_making.specs.Memory.{HasRoom, KeepsMemory, SpendsMemory};
+ghost use Rattle.capnp_making.specs.Memory.{HasRoom, KeepsMemory, SpendsMemory, TakesWords};
 ghost use Rattle.capnp_making.specs.Stored.{IsStored};
 ghost use Rattle.capnp_widening.specs.Opening.{call_at, HasWideStructs, OpensStruct, OpensList, refusal_of_elements};
 ghost use Rattle.capnp_widening.specs.Rooms.{ListFits, OpeningFits, StructFits};
@@ -40,6 +40,8 @@ pub fn open_struct<A: BuilderArena>(
     ensures memory { IfErr result (SpendsMemory (A.view arena.old) (A.view arena.new)) }
     ensures named { (word_at (A.view arena.old).words id at ≡ 0 → ⊥) → IfErr result (IsNoWider (A.view arena.old) (A.view arena.new) id at) }
     ensures fits { OpeningFits (A.view arena.old) id at size → IsOk result }
+    ensures taken { word_at (A.view arena.old).words id at ≡ 0 → OnOk result (TakesWords (A.view arena.old) (A.view arena.new) id (size.data_words + size.pointers)) }
+    ensures refused { word_at (A.view arena.old).words id at ≡ 0 → OnErr result ((A.view arena.new).words ≡ (A.view arena.old).words) }
 {
     match existing::get_struct(arena, id, at) {
         Some(old) => {
@@ -71,6 +73,8 @@ fn new_struct<A: BuilderArena>(
     ensures granted { OnOk result (KeepsMemory (A.view arena.old) (A.view arena.new)) }
     ensures memory { IfErr result (SpendsMemory (A.view arena.old) (A.view arena.new)) }
     ensures fits { HasRoom (A.view arena.old) id (size.data_words + size.pointers) → IsOk result }
+    ensures taken { OnOk result (TakesWords (A.view arena.old) (A.view arena.new) id (size.data_words + size.pointers)) }
+    ensures refused { OnErr result ((A.view arena.new).words ≡ (A.view arena.old).words) }
 {
     match make_struct(arena, id, at, size) {
         Ok(start) => Ok(ExistingStruct {

@@ -1,6 +1,6 @@
 //! What a pointer leads to, found for writing: a default is put in place of null first, and a struct or
 //! list of structs that is too small is made wider ("Structs", "Lists", "Default Values").
-ghost use Rattle.std.specs.Prelude.{◌≡◌, ◌+◌, ◌*◌, ◌^◌, ◌<◌, ◌≤◌, true, IsNone, IsOk, IfOk, IfErr, OnOk, Result};
+ghost use Rattle.std.specs.Prelude.{◌≡◌, ◌+◌, ◌*◌, ◌^◌, ◌<◌, ◌≤◌, true, IsNone, IsOk, IfOk, IfErr, OnOk, OnErr, Result};
 ghost use Rattle.capnp_making.specs.declared.existing.ExistingBytes.{ExistingBytes};
 ghost use Rattle.capnp_making.specs.Existing.{LieIn, is_unfound};
 ghost use Rattle.capnp_making.specs.Memory.{KeepsMemory, SpendsMemory};
@@ -9,9 +9,9 @@ ghost use Rattle.capnp_readers.specs.Readers.{IsListPlace};
 ghost use Rattle.capnp_widening.specs.RowsRemade.{RefusesWider};
 ghost use Rattle.capnp_widening.specs.Widened.{IsNoWider};
 ghost use Rattle.capnp_words.specs.declared.error.ErrorKind.{ErrorKind};
-ghost use Rattle.capnp_builders.specs.Defaults.{IsFew, DefaultFits, object_default, PutsDefaultOver};
+ghost use Rattle.capnp_builders.specs.Defaults.{IsFew, DefaultFits, LeavesNull, object_default, PutsDefaultOver};
 ghost use Rattle.capnp_builders.specs.Found.{FindsList, FindsData, FindsText, IsLent};
-ghost use Rattle.capnp_builders.specs.Opening.{FindsStruct, FindsStructs, IsStructAtLeast, StructFindFits, StructsFindFits};
+ghost use Rattle.capnp_builders.specs.Opening.{FindsStruct, FindsStructs, IsStructAtLeast, StructFindFits, StructsFindFits, TakesForNewStruct};
 ghost use Rattle.capnp_builders.specs.Places.{StartsAt, IsAligned};
 
 use super::PointerBuilder;
@@ -64,7 +64,9 @@ impl<'a, A: BuilderArena> PointerBuilder<'a, A> {
         requires there { IsThere (built A.view self.old) }
         requires few { IsFew default }
         ensures found { OfStored (built A.view self.old) (FindsStruct size default.entry result (calling A.view self.old self.new)) }
-        ensures fits { OfStored (built A.view self.old) (λ t. StructFindFits size default.entry (calling A.view self.old self.new) t → IsOk result) }
+        ensures fits { StructFindFits size default.entry (A.view self.old.arena.now) self.old.segment self.old.at → IsOk result }
+        ensures taken { IsNull (built A.view self.old) → LeavesNull default.entry → OnOk result (TakesForNewStruct size (calling A.view self.old self.new)) }
+        ensures refused { IsNull (built A.view self.old) → LeavesNull default.entry → OnErr result ((A.view self.new.arena.now).words ≡ (A.view self.old.arena.now).words) }
         ensures wide { IfOk result (IsStructAtLeast size) }
         ensures aligned { IfOk result IsAligned }
         ensures set { (IsNull (built A.view self.old) → ⊥) → IfErr result (IsNoWider (A.view self.old.arena.now) (A.view self.new.arena.now) self.old.segment self.old.at) }
@@ -102,7 +104,8 @@ impl<'a, A: BuilderArena> PointerBuilder<'a, A> {
         requires few { IsFew default }
         ensures same { IfOk result (λ b. b.arena.ghost_name ≡ self.entry.arena.ghost_name) }
         ensures found { OfStored (built A.view self.entry) (λ t. Leaves (λ b. A.view b.arena.now) (λ b. b.place) (λ new r. FindsStruct size default.entry r (calling_last A.view self.entry new) t) result) }
-        ensures fits { OfStored (built A.view self.entry) (λ t. StructFindFits size default.entry (calling A.view self.entry self.entry) t → IsOk result) }
+        ensures fits { StructFindFits size default.entry (A.view self.entry.arena.now) self.entry.segment self.entry.at → IsOk result }
+        ensures taken { IsNull (built A.view self.entry) → LeavesNull default.entry → IfOk result (λ b. TakesForNewStruct size (calling_last A.view self.entry (A.view b.arena.now))) }
         ensures wide { IfOk result (λ b. IsStructAtLeast size b.place) }
         ensures granted { IfOk result (λ b. KeepsMemory (A.view self.entry.arena.now) (A.view b.arena.now)) }
     {
@@ -122,7 +125,7 @@ impl<'a, A: BuilderArena> PointerBuilder<'a, A> {
         requires there { IsThere (built A.view self.old) }
         requires few { IsFew default }
         ensures found { OfStored (built A.view self.old) (FindsStructs size default.entry result (calling A.view self.old self.new)) }
-        ensures fits { OfStored (built A.view self.old) (λ t. StructsFindFits size default.entry (calling A.view self.old self.new) t → IsOk result) }
+        ensures fits { StructsFindFits size default.entry (A.view self.old.arena.now) self.old.segment self.old.at → IsOk result }
         ensures set { (IsNull (built A.view self.old) → ⊥) → IfErr result (RefusesWider (A.view self.old.arena.now) (A.view self.new.arena.now) self.old.segment self.old.at size) }
         ensures granted { OnOk result (KeepsMemory (A.view self.old.arena.now) (A.view self.new.arena.now)) }
         ensures memory { IfErr result (SpendsMemory (A.view self.old.arena.now) (A.view self.new.arena.now)) }
@@ -160,7 +163,7 @@ impl<'a, A: BuilderArena> PointerBuilder<'a, A> {
         requires few { IsFew default }
         ensures same { IfOk result (λ b. b.arena.ghost_name ≡ self.entry.arena.ghost_name) }
         ensures found { OfStored (built A.view self.entry) (λ t. Leaves (λ b. A.view b.arena.now) (λ b. b.place) (λ new r. FindsStructs size default.entry r (calling_last A.view self.entry new) t) result) }
-        ensures fits { OfStored (built A.view self.entry) (λ t. StructsFindFits size default.entry (calling A.view self.entry self.entry) t → IsOk result) }
+        ensures fits { StructsFindFits size default.entry (A.view self.entry.arena.now) self.entry.segment self.entry.at → IsOk result }
         ensures granted { IfOk result (λ b. KeepsMemory (A.view self.entry.arena.now) (A.view b.arena.now)) }
     {
         match self.find_struct_list(size, default) {

@@ -1,10 +1,15 @@
 use Rattle.std.proofs.Common.{◌+◌, false, refl}
+use Rattle.capnp_arena.specs.View.{View}
+use Rattle.capnp_widening.proofs.Rooms.{takes_words}
 use Rattle.capnp_widening.proofs.StructsOpened.{struct_made, struct_unmade, no_truth}
 use Rattle.capnp_widening.proofs.opening.new_struct.Goals as goal
 
 pub returns-in-Ok-clause-opened : goal.returns-in-Ok-clause-opened
 returns-in-Ok-clause-opened g c =
-    struct_made (g.A.BuilderArena.view c.args.arena.now) (g.A.BuilderArena.view c.make_struct.new.arena) c.args.id c.args.at c.args.size c.in-Ok.start c.in-Ok.ensures.made c.in-Ok.ensures.granted c.in-Ok.ensures.start
+    let a : View = g.A.BuilderArena.view c.args.arena.now in
+    let b : View = g.A.BuilderArena.view c.make_struct.new.arena in
+    struct_made a b c.args.id c.args.at c.args.size c.in-Ok.start c.in-Ok.ensures.made c.in-Ok.ensures.granted
+    (takes_words a b c.args.id (c.args.size.data_words + c.args.size.pointers) c.in-Ok.ensures.taken) c.in-Ok.ensures.start
 
 -- It fits nowhere.
 pub returns-in-Err-clause-opened : goal.returns-in-Err-clause-opened

@@ -31,3 +31,13 @@ returns-else-not-is_null-clause-fits g c = λ h. elim h [
   | inl (null, room) ↦ c.new_struct.ensures.fits room
   | inr (ws, ts, x, room) ↦ absurd (no_struct _ (c.in-None.ensures.found (Struct ws ts) x))
 ]
+
+-- No struct is found where the pointer is null.
+pub returns-then-is_wide-clause-taken : goal.returns-then-is_wide-clause-taken
+returns-then-is_wide-clause-taken g c = λ null. absurd (some_struct _ (c.in-Some.ensures.found Null (null_stored (g.A.BuilderArena.view c.args.arena.now).words c.args.id c.args.at c.requires.place null)))
+
+pub returns-else-is_wide-clause-taken : goal.returns-else-is_wide-clause-taken
+returns-else-is_wide-clause-taken g c = λ null. absurd (some_struct _ (c.in-Some.ensures.found Null (null_stored (g.A.BuilderArena.view c.args.arena.now).words c.args.id c.args.at c.requires.place null)))
+
+pub returns-else-is_wide-clause-refused : goal.returns-else-is_wide-clause-refused
+returns-else-is_wide-clause-refused g c = λ null. absurd (some_struct _ (c.in-Some.ensures.found Null (null_stored (g.A.BuilderArena.view c.args.arena.now).words c.args.id c.args.at c.requires.place null)))

@@ -17,6 +17,7 @@ returns-in-None-clause-opened g c = λ t stored.
       granted = c.get_struct_list.ensures.granted;
       refused = c.get_struct_list.ensures.refused;
       named = c.get_struct_list.ensures.named;
+      few = c.get_struct_list.ensures.few;
     }))
 
 -- No refusal before memory is asked for is the allocator's.

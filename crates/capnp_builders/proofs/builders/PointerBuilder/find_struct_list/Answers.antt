@@ -55,21 +55,22 @@ returns-in-Err-open_struct_list-clause-there g c = λ t stored.
 
 -- It isn't refused where there is room: not for the default, and not once that is put.
 pub returns-in-Err-clause-fits : goal.returns-in-Err-clause-fits
-returns-in-Err-clause-fits g c = λ t stored fits.
-    (let a : View = g.A.BuilderArena.view c.args.self.now.arena.now in
+returns-in-Err-clause-fits g c = λ h.
+    (let (t, stored, fits) = h in
+    let a : View = g.A.BuilderArena.view c.args.self.now.arena.now in
     let m : View = g.A.BuilderArena.view c.put_default.new.arena in
     let s = c.args.self.now.segment in
     let p = c.args.self.now.at in
-    c.in-Err.ensures.fits (refused_default c.args.default s p a m m t c.in-Err.k (λ v. ListFits v s p c.args.size) fits (c.in-Err.ensures.put t stored)))
+    c.in-Err.ensures.fits (refused_default c.args.default s p a m t c.in-Err.k (λ v. ListFits v s p c.args.size) fits (c.in-Err.ensures.put t stored)))
 
 pub returns-in-Err-open_struct_list-clause-fits : goal.returns-in-Err-open_struct_list-clause-fits
-returns-in-Err-open_struct_list-clause-fits g c = λ t stored fits.
-    (let a : View = g.A.BuilderArena.view c.args.self.now.arena.now in
+returns-in-Err-open_struct_list-clause-fits g c = λ h.
+    (let (t, stored, fits) = h in
+    let a : View = g.A.BuilderArena.view c.args.self.now.arena.now in
     let m : View = g.A.BuilderArena.view c.put_default.new.arena in
-    let b : View = g.A.BuilderArena.view c.open_struct_list.new.arena in
     let s = c.args.self.now.segment in
     let p = c.args.self.now.at in
-    c.in-Err-open_struct_list.ensures.fits (then_fits (object_default c.args.default t) s p a m b t c.in-Ok.field-0 (λ v. ListFits v s p c.args.size) fits (c.in-Ok.ensures.put t stored)))
+    c.in-Err-open_struct_list.ensures.fits (then_fits (object_default c.args.default t) s p a m t c.in-Ok.field-0 (λ v. ListFits v s p c.args.size) fits (c.in-Ok.ensures.put t stored)))
 
 -- A pointer that isn't null gets no default.
 pub returns-in-Err-open_struct_list-clause-set : goal.returns-in-Err-open_struct_list-clause-set
