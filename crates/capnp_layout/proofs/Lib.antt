@@ -8,3 +8,4 @@ pub mod RunLemmas
 pub mod NumberLemmas
 pub mod SizeLemmas
 pub mod CheckLemmas
+pub mod CanonicalMessageLemmas

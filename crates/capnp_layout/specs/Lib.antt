@@ -4,3 +4,4 @@ pub mod Messages
 pub mod Answers
 pub mod Tries
 pub mod Runs
+pub mod CanonicalMessages

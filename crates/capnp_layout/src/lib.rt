@@ -1,12 +1,13 @@
 //! The wire layout of Cap'n Proto: what the crates below have, under one name, and the engine of the program `layout_tool`.
 #![tactic(auto)]
 
+pub mod framing;
 pub mod tool;
 
 pub use capnp_arena::arena;
 pub use capnp_builders::builders;
 pub use capnp_edits::edit;
-pub use capnp_framing::{devices, framing};
+pub use capnp_framing::devices;
 pub use capnp_readers::{object, readers, source};
 pub use capnp_words::{
     error, lanes, laws, mask, primitive, read_limiter, units, wire_pointer, words, zero,

@@ -1,0 +1,171 @@
+-- What the test at the root of a message of one segment says of the whole message.
+use Rattle.std.proofs.Common.{◌≡◌, ◌↔◌, inl, inr, ℕ, ◌+◌, ◌-◌, ◌<◌, ◌≤◌, min, List, [], ◌∷◌, take, drop, get_or, length, Bool, true, false, nat_eq, IsTrue, Option, Some, None, refl, ap, sym, ◌∙◌, subst, arith, eq-eqb, eqb-true, length-drop, length-take}
+use Rattle.std.proofs.lemmas.List.{take_all}
+use Rattle.capnp_words.specs.declared.error.ErrorKind.{ErrorKind}
+use Rattle.capnp_words.specs.Meter.{Meter, FitsIn, less, raised, spent}
+use Rattle.capnp_format.specs.Bytes.{message}
+use Rattle.capnp_format.specs.Segments.{Segments, segment}
+use Rattle.capnp_format.specs.Tree.{Tree}
+use Rattle.capnp_format.specs.Canonical.{Lies, Reaches, Stands, body, charge, encoding, pointer, word_count}
+use Rattle.capnp_format.proofs.Lengths.{length-body}
+use Rattle.capnp_format.proofs.Unique.{Standing, for_offset, one_stands, stands_means}
+use Rattle.capnp_arena.specs.Checks.{total_words}
+use Rattle.capnp_arena.proofs.MessageLemmas.{length-message}
+use Rattle.capnp_objects.specs.Reading.{Reading}
+use Rattle.capnp_objects.specs.Spending.{Paid, pointers_in}
+use Rattle.capnp_readers.specs.Checking.{Finds, IsCanonicalAt, IsFound, TestFails, TestStops, progress}
+use Rattle.capnp_readers.proofs.NeverStops.{stops_never}
+use Rattle.capnp_layout.specs.Answers.{CoversRoot, root_of}
+use Rattle.capnp_framing.specs.Frames.{frame}
+use Rattle.capnp_framing.specs.Reading.{total}
+use Rattle.capnp_framing.proofs.FrameLemmas.{same_frames}
+use Rattle.capnp_layout.specs.CanonicalMessages.{CanBeTested, IsCanonical, IsCanonicalOf, IsPaid, MeansItsValue, MessageTestFails, OneCanonicalValue, SameCanonicalFrames}
+use Rattle.capnp_layout.proofs.CanonLemmas.{covers_root}
+use Rattle.capnp_layout.proofs.RunLemmas.{covers_rest}
+use Rattle.capnp_layout.proofs.TryLemmas.{total-message}
+
+-- a message of one segment
+only_segment : (S : Segments) → length S ≡ 1 → S ≡ segment S 0 ∷ []
+only_segment [] one = absurd (omega arith)
+only_segment (ws ∷ []) one = refl
+only_segment (ws ∷ vs ∷ S) one = absurd (omega arith)
+
+-- words of which the first is w, and all others are these
+all_words : (ws vs : List ℕ) (w : ℕ) → length vs + 1 ≡ length ws → get_or ws 0 0 ≡ w → take (length vs) (drop 1 ws) ≡ vs → ws ≡ w ∷ vs
+all_words [] vs w many first behind = absurd (omega arith)
+all_words (x ∷ ws) vs w many first behind =
+    let others : ws ≡ vs = sym (take_all (length vs) ws (omega arith)) ∙ behind in
+    ap (λ y. y ∷ ws) first ∙ ap (λ (ys : List ℕ). w ∷ ys) others
+
+-- canonical words that stand at the root of the only segment, up to its end, are a canonical message
+pub stands_alone : {S : Segments} {t : Tree} → length S ≡ 1 → Stands S 0 0 1 t → 1 + word_count t ≡ length (segment S 0) → IsCanonicalOf S t
+stands_alone {S} {t} one stands full = record {
+  value = stands.1;
+  trimmed = stands.2;
+  free = stands.3;
+  encodable = stands.4;
+  is = only_segment S one ∙ ap (λ (ws : List ℕ). ws ∷ []) (all_words (segment S 0) (body t) (pointer t 0) (omega (arith, length-body t stands.1, full)) stands.5.1 stands.5.2);
+}
+
+-- and those of a canonical message stand there
+pub canonical_stands : {S : Segments} {t : Tree} → IsCanonicalOf S t → Stands S 0 0 1 t
+canonical_stands {t = t} canonical =
+    let lies : Lies (encoding t ∷ []) 0 0 1 t = (for_offset t (Reaches 0 1) (omega arith, omega arith), refl, take_all (length (body t)) (body t) (omega arith)) in
+    subst (λ (S : Segments). Stands S 0 0 1 t) (sym canonical.is) (omega arith, canonical.value, canonical.trimmed, canonical.free, canonical.encodable, lies)
+
+pub canonical_length : {S : Segments} {t : Tree} → IsCanonicalOf S t → length (segment S 0) ≡ 1 + word_count t
+canonical_length {t = t} canonical = ap (λ (S : Segments). length (segment S 0)) canonical.is ∙ (let whole : length (encoding t) ≡ 1 + word_count t = omega (arith, length-body t canonical.value) in whole)
+
+-- they lie within the segment
+within : (S : Segments) (t : Tree) → Stands S 0 0 1 t → 1 + word_count t ≤ length (segment S 0)
+within S t stands =
+    let place : 0 < length (segment S 0) = stands.0 in
+    let some : length (take (length (body t)) (drop 1 (segment S 0))) ≡ length (body t) = ap length stands.5.2 in
+    omega (arith, place, some, length-body t stands.1, length-take (length (body t)) (drop 1 (segment S 0)), length-drop 1 (segment S 0))
+
+-- what is charged for the root and behind it
+both_less : (budget : Option ℕ) (c : ℕ) → less (less budget 1) c ≡ less budget (1 + c)
+both_less None c = refl
+both_less (Some b) c = ap Some (let same : b - 1 - c ≡ b - (1 + c) = omega arith in same)
+
+paid_both : {m m' : Meter} {c i : ℕ} → FitsIn m.left 1 → Paid true (spent m 1) m' c i → Paid true m m' (1 + c) i
+paid_both {m} {c = c} {i = i} one paid = record {
+  covers = covers_root m.left c one paid.covers;
+  spent = paid.spent ∙ ap (λ (left : Option ℕ). let now : Meter = record { left = left; followed = raised m.followed i } in now) (both_less m.left c);
+}
+
+-- What the answer of the test of a message is: whether it is canonical, what is paid for it, and where it fails.
+pub record IsAnswered (S : Segments) (n : ℕ) (m m' : Meter) (yes : Bool) : Type 0 where
+  pub exactly : IsTrue yes ↔ IsCanonical S
+  pub paid : yes ≡ true → IsPaid S m m'
+  pub failed : yes ≡ false → MessageTestFails S n m m'
+
+-- where the test finds a value, the message is canonical exactly where the words end there
+pub found_answers : {S : Segments} {n h : ℕ} {m m' : Meter} (ends : Bool) → length S ≡ 1 → CoversRoot S m.left → IsFound (root_of S n) (progress 1 (spent m 1)) (progress h m') → IsTrue ends ↔ (h ≡ length (segment S 0)) → IsAnswered S n m m' ends
+found_answers {S} {n} {h} {m} {m'} ends one covers (t, finds) same =
+    let full = λ (is : h ≡ length (segment S 0)). stands_alone one finds.stands (sym finds.head_is ∙ is) in
+    record {
+      exactly = (
+        λ yes. (t, full (same.0 yes)),
+        λ (u, canonical). (
+            let there : 1 ≤ length (segment S 0) = omega (arith, finds.stands.0) in
+            let value : t ≡ u = one_stands {S = S} {s = 0} {h = 1} there (record { stands = finds.stands }) (record { stands = canonical_stands canonical }) in
+            same.1 (finds.head_is ∙ ap (λ v. 1 + word_count v) value ∙ sym (canonical_length canonical))
+            ),
+      );
+      paid = λ yes. (t, full (same.0 yes), paid_both covers.covered finds.paid);
+      failed = λ no. (
+        covers,
+        inr (
+          t,
+          h,
+          finds,
+          (
+              let in_segment = within S t finds.stands in
+              let other : h ≡ length (segment S 0) → ⊥ = λ is. (let wrong : IsTrue false = subst IsTrue no (same.1 is) in cc) in
+              let head = finds.head_is in
+              omega arith
+              ),
+        ),
+      );
+    }
+
+-- where it finds none, the message isn't canonical
+pub none_answers : {S : Segments} {n : ℕ} {m m' : Meter} → CoversRoot S m.left → IsTrue false ↔ IsCanonicalAt (root_of S n) 1 → TestFails (root_of S n) (progress 1 (spent m 1)) m' → IsAnswered S n m m' false
+none_answers covers same fails = record {
+  exactly = (λ wrong. absurd (let never : false ≡ true = wrong in cc), λ (t, canonical). same.1 (t, canonical_stands canonical));
+  paid = λ wrong. absurd (cc);
+  failed = λ no. (covers, inl fails);
+}
+
+-- a canonical message has a word for its root
+has_root : {S : Segments} {t : Tree} → IsCanonicalOf S t → 1 ≤ length (segment S 0)
+has_root canonical = omega (arith, canonical_length canonical)
+
+pub one_canonical_value : OneCanonicalValue
+one_canonical_value S t u a b = one_stands {S = S} {s = 0} {h = 1} (has_root a) (record { stands = canonical_stands a }) (record { stands = canonical_stands b })
+
+pub means_its_value : MeansItsValue
+means_its_value S t n canonical levels = stands_means S n 0 0 1 t levels (has_root canonical) (canonical_stands canonical)
+
+pub same_canonical_frames : SameCanonicalFrames
+same_canonical_frames S R t u framed as_framed canonical other = (
+  λ frames. one_canonical_value R t u (subst (λ (T : Segments). IsCanonicalOf T t) (same_frames S R framed as_framed frames) canonical) other,
+  λ values. ap frame (canonical.is ∙ ap (λ (v : Tree). encoding v ∷ []) values ∙ sym other.is),
+)
+
+-- The root of a message is read: r is its place, m what the limiter has left of what it had.
+pub record IsRootRead (S : Segments) (n : ℕ) (old : Meter) (r : Reading) (m : Meter) : Type 0 where
+  pub place : r ≡ root_of S n
+  pub left : m ≡ spent old 1
+  pub covers : CoversRoot S old.left
+
+-- what holds where the root is read holds at the root
+moved : {S : Segments} {n : ℕ} {old : Meter} {r : Reading} {m : Meter} (P : Reading → Meter → Type 0) → IsRootRead S n old r m → P r m → P (root_of S n) (spent old 1)
+moved {S} {n} {m = m} P root held = subst (P (root_of S n)) root.left (subst (λ (x : Reading). P x m) root.place held)
+
+pub read_answers : {S : Segments} {n : ℕ} {old : Meter} {r : Reading} {m m' : Meter} (h : ℕ) (ends : Bool) → IsRootRead S n old r m → length S ≡ 1 → IsFound r (progress 1 m) (progress h m') → IsTrue ends ↔ (h ≡ length (segment S 0)) → IsAnswered S n old m' ends
+read_answers {m' = m'} h ends root one found same = found_answers ends one root.covers (moved (λ r m. IsFound r (progress 1 m) (progress h m')) root found) same
+
+pub read_fails : {S : Segments} {n : ℕ} {old : Meter} {r : Reading} {m m' : Meter} (b : Bool) → b ≡ false → IsRootRead S n old r m → IsTrue b ↔ IsCanonicalAt r 1 → TestFails r (progress 1 m) m' → IsAnswered S n old m' false
+read_fails {r = r} {m' = m'} b is_no root same fails =
+    let none = subst (λ v. IsTrue v ↔ IsCanonicalAt r 1) is_no same in
+    none_answers root.covers (moved (λ r m. IsTrue false ↔ IsCanonicalAt r 1) root none) (moved (λ r m. TestFails r (progress 1 m) m') root fails)
+
+-- the test of a canonical message isn't refused within its limits
+pub never_refused : {S : Segments} {n : ℕ} {old : Meter} {r : Reading} {m m' : Meter} {k : ErrorKind} → IsRootRead S n old r m → TestStops k r (progress 1 m) m' → CanBeTested S n old → ⊥
+never_refused {S} {n} {old} {m' = m'} {k = k} root stops (t, canonical, levels, fits) =
+    let stopped = moved (λ r m. TestStops k r (progress 1 m) m') root stops in
+    stops_never stopped (t, canonical_stands canonical, for_offset t (1 ≤ length (segment S 0)) (has_root canonical), levels, covers_rest old.left (charge t) fits)
+
+-- the words of all segments are those of the only one
+only_total : (S : Segments) → length S ≡ 1 → total S ≡ length (segment S 0)
+only_total [] one = absurd (omega arith)
+only_total (ws ∷ []) one = omega arith
+only_total (ws ∷ vs ∷ S) one = absurd (omega arith)
+
+-- whether a head is behind the last word of all segments, of which there is one
+pub ends_there : (B : List (List ℕ)) (h n : ℕ) → length B ≡ 1 → n ≡ total_words B → IsTrue (nat_eq h n) ↔ (h ≡ length (segment (message B) 0))
+ends_there B h n one all =
+    let there : n ≡ length (segment (message B) 0) = all ∙ total-message B ∙ only_total (message B) (length-message B ∙ one) in
+    (λ yes. eqb-true h n yes ∙ there, λ is. eq-eqb h n (is ∙ sym there))
