@@ -11,6 +11,7 @@ use capnp_arena::arena::BuilderArena;
 use capnp_making::making::clear;
 use capnp_making::numbers::{set_bit, set_number};
 use capnp_readers::readers::StructPlace;
+use capnp_words::lanes;
 
 /// Writes content of so many bits over the data section of a struct, and zeros where there is none.
 pub(crate) fn write_content<A: BuilderArena>(
@@ -78,7 +79,7 @@ fn copy_bytes<A: BuilderArena>(arena: &mut A, id: u32, start: u64, from: &[u8])
         let first = start as usize;
         let end = first + from.len();
         let bytes = arena.segment_mut(id);
-        bytes[first..end].copy_from_slice(from);
+        lanes::copy(from, &mut bytes[first..end]);
     }
 }
 
@@ -91,7 +92,7 @@ fn zero_bytes<A: BuilderArena>(arena: &mut A, id: u32, start: u64, count: u32)
         let first = start as usize;
         let end = first + count as usize;
         let bytes = arena.segment_mut(id);
-        bytes[first..end].fill(0);
+        lanes::zero(&mut bytes[first..end]);
     }
 }
 

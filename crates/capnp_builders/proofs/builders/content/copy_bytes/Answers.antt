@@ -9,8 +9,8 @@ use Rattle.capnp_builders.specs.Content.{with_fields}
 use Rattle.capnp_builders.proofs.BytesAsFields.{bytes_as_fields}
 use Rattle.capnp_builders.proofs.builders.content.copy_bytes.Goals as goal
 
-pub slice_bounds-copy_from_slice-end : goal.slice_bounds-copy_from_slice-end
-slice_bounds-copy_from_slice-end g c =
+pub slice_bounds-copy-end : goal.slice_bounds-copy-end
+slice_bounds-copy-end g c =
     omega (arith, words_lent (g.A.BuilderArena.view c.args.arena.now).words (g.A.ReaderArena.segments c.args.arena.now) c.args.id c.segment_mut-bytes.result.now (g.met.A.BuilderArena.read c.args.arena.now) c.segment_mut-bytes.ensures.bytes, c.requires.inside)
 
 pub returns-then-not-is_empty : goal.returns-then-not-is_empty
@@ -24,7 +24,7 @@ returns-then-not-is_empty g c =
     let small : (j : ℕ) → get_or bs j 0 < 256 = λ j. (let h : Fits w8 (get_or bs j 0) = search rules in h.fits) in
     let below : (j : ℕ) → get_or xs j 0 < 256 = λ j. omega (arith, c.type_inv.from j) in
     let inside : b + length xs ≤ 8 * (length bs / 8) = omega (arith, words_lent (g.A.BuilderArena.view a).words (g.A.ReaderArena.segments a) id bs (g.met.A.BuilderArena.read a) there, c.requires.inside) in
-    let over = put_over b (b + length xs - b) bs c.copy_from_slice.new.self xs c.copy_from_slice.ensures.after (omega arith) in
+    let over = put_over b (b + length xs - b) bs c.copy.new.to xs c.copy.ensures (omega arith) in
     let long : length (overwritten bs b xs) ≡ length bs = length-over bs b xs (omega (arith, inside)) in
     ap (λ (ys : List ℕ). g.A.BuilderArena.view (g.A.BuilderArena.with_bytes a id ys)) over
     ∙ g.met.A.BuilderArena.with_bytes_view a id (overwritten bs b xs)

@@ -10,8 +10,8 @@ use Rattle.capnp_builders.specs.Content.{with_fields}
 use Rattle.capnp_builders.proofs.BytesAsFields.{bytes_as_fields, small_zeros, zeros_as_fields}
 use Rattle.capnp_builders.proofs.builders.content.zero_bytes.Goals as goal
 
-pub slice_bounds-fill-end : goal.slice_bounds-fill-end
-slice_bounds-fill-end g c =
+pub slice_bounds-zero-end : goal.slice_bounds-zero-end
+slice_bounds-zero-end g c =
     omega (arith, words_lent (g.A.BuilderArena.view c.args.arena.now).words (g.A.ReaderArena.segments c.args.arena.now) c.args.id c.segment_mut-bytes.result.now (g.met.A.BuilderArena.read c.args.arena.now) c.segment_mut-bytes.ensures.bytes, c.requires.inside)
 
 pub returns-then-count-gt0 : goal.returns-then-count-gt0
@@ -28,7 +28,7 @@ returns-then-count-gt0 g c =
     let below : (j : ℕ) → get_or xs j 0 < 256 = λ j. small_zeros n j in
     let inside : b + length xs ≤ 8 * (length bs / 8) = omega (arith, words_lent (g.A.BuilderArena.view a).words (g.A.ReaderArena.segments a) id bs (g.met.A.BuilderArena.read a) there, c.requires.inside, many) in
     let part : length (take (b + n - b) (drop b bs)) ≡ n = omega (arith, length-take (b + n - b) (drop b bs), length-drop b bs, inside, many) in
-    let over = put_over b (b + n - b) bs c.fill.new.self xs (c.fill.ensures.after (λ y e. e) ∙ ap (λ k. replicate {A = ℕ} k 0) part) (omega (arith, many)) in
+    let over = put_over b (b + n - b) bs c.zero.new.bytes xs (c.zero.ensures ∙ ap (λ k. replicate {A = ℕ} k 0) part) (omega (arith, many)) in
     let long : length (overwritten bs b xs) ≡ length bs = length-over bs b xs (omega (arith, inside)) in
     ap (λ (ys : List ℕ). g.A.BuilderArena.view (g.A.BuilderArena.with_bytes a id ys)) over
     ∙ g.met.A.BuilderArena.with_bytes_view a id (overwritten bs b xs)
