@@ -41,17 +41,6 @@ then_does (copied bytes) s p a m b t x r P stored (inl d) f =
     })
 then_does (copied bytes) s p a m b t x r P stored (inr e) f = absurd e
 
--- the default is refused, and so is the call
-pub refused_so : {B : Type 0} (w : DefaultUse) (s p : ℕ) (a m : View) (t : Tree) (k : ErrorKind) (r : Result B ErrorKind) (P : CallAt → Tree → Type 0) → r ≡ Err k → PutsDefaultOver w (call_at s p a m) t (Err k) → WithDefault w (call_at s p a m) t P r
-refused_so ignored s p a m t k r P is (ok, same) = absurd (no_truth ok)
-refused_so (denied l) s p a m t k r P is (e, same) = (is ∙ ap (λ i. Err i) (same_name k l e), same)
-refused_so (copied bytes) s p a m t k r P is (inl d) = absurd (no_truth d.does.0)
-refused_so (copied bytes) s p a m t k (Ok y) P is (inr e) = cc
-refused_so (copied bytes) s p a m t k (Err l) P is (inr e) = inr (subst (λ i. DropsDefault bytes (call_at s p a m) i) (same_error k l is) e)
-  where
-    same_error : {B : Type 0} (k l : ErrorKind) → ◌≡◌ {A = Result B ErrorKind} (Err l) (Err k) → k ≡ l
-    same_error k l e = cc
-
 -- some value stands once the default is put
 pub stands_then : (w : DefaultUse) (s p : ℕ) (a m : View) (t : Tree) (x : Unit {0}) → IsStored a.words s p t → PutsDefaultOver w (call_at s p a m) t (Ok x) → (u : Tree) × IsStored m.words s p u
 stands_then ignored s p a m t x stored (ok, same) = (t, subst (λ (v : View). IsStored v.words s p t) (sym same) stored)
@@ -90,17 +79,6 @@ pub use_of_null : (w : DefaultUse) (bytes ws : List ℕ) → 0 < length ws → g
 use_of_null w bytes [] some e = absurd (omega arith)
 use_of_null w bytes (x ∷ xs) some e = ap (λ b. cond b w (copied bytes)) (let test : nat_eq x 0 ≡ true = grind (arith, nat_tests) in test)
 
-pub use_of_value : (w : DefaultUse) (bytes ws : List ℕ) → 0 < length ws → get_or ws 0 0 ≢ 0 → use_of_words w bytes ws ≡ copied bytes
-use_of_value w bytes [] some e = absurd (omega arith)
-use_of_value w bytes (x ∷ xs) some e = ap (λ b. cond b w (copied bytes)) (let test : nat_eq x 0 ≡ false = grind (arith, nat_tests) in test)
-
--- the uses, with what they are
-pub nothing_put : (w : DefaultUse) (s p : ℕ) (v : View) (t : Tree) (x : Unit {0}) → w ≡ ignored → PutsDefaultOver w (call_at s p v v) t (Ok x)
-nothing_put w s p v t x e = subst (λ u. PutsDefaultOver u (call_at s p v v) t (Ok x)) (sym e) (refl, refl)
-
-pub put_denied : (w : DefaultUse) (s p : ℕ) (v : View) (t : Tree) (k : ErrorKind) → w ≡ denied k → PutsDefaultOver w (call_at s p v v) t (Err k)
-put_denied w s p v t k e = subst (λ u. PutsDefaultOver u (call_at s p v v) t (Err k)) (sym e) (refl, refl)
-
 -- What the copy of a default says.
 pub record Copying (bytes : List ℕ) (s p : ℕ) (a b : View) (o : Result (Unit {0}) ErrorKind) : Type 0 where
   pub done : OnOk o (StandsForNull bytes a.words b.words s p)
@@ -110,25 +88,6 @@ pub record Copying (bytes : List ℕ) (s p : ℕ) (a b : View) (o : Result (Unit
   pub taken : TakesAtMost o (default_root bytes) (default_copy s p a b)
   pub granted : OnOk o (KeepsMemory a b)
   pub memory : IfErr o (SpendsMemory a b)
-
-pub put_copied : (w : DefaultUse) (bytes : List ℕ) (s p : ℕ) (a b : View) (t : Tree) (o : Result (Unit {0}) ErrorKind) → w ≡ copied bytes → Copying bytes s p a b o → PutsDefaultOver w (call_at s p a b) t o
-put_copied w bytes s p a b t o e c = subst (λ u. PutsDefaultOver u (call_at s p a b) t o) (sym e) (go o c)
-  where
-    go : (o : Result (Unit {0}) ErrorKind) → Copying bytes s p a b o → PutsDefaultOver (copied bytes) (call_at s p a b) t o
-    go (Ok x) c =
-        let (u, n, means, plain, made) = c.done in
-        inl (record {
-          mid = b;
-          value = u;
-          put = record { meant = (n, means); plain = plain; replaced = made; stands = c.stands; memory = c.granted; taken = c.taken };
-          does = (refl, refl);
-        })
-    go (Err k) c = inr (record { named = c.named; replaced = c.refused; memory = c.memory; taken = c.taken })
-
--- the message has no fewer words then
-pub copied_longer : (bytes : List ℕ) (s p : ℕ) (a b : View) (o : Result (Unit {0}) ErrorKind) → Copying bytes s p a b o → Grows a.words b.words
-copied_longer bytes s p a b (Ok x) c = let (u, n, means, plain, made) = c.done in record { segments = made.segments; words = made.words }
-copied_longer bytes s p a b (Err k) c = record { segments = c.refused.segments; words = c.refused.words }
 
 pub nothing_longer : (S : Segments) → Grows S S
 nothing_longer S = record { segments = omega arith; words = λ v. omega arith }

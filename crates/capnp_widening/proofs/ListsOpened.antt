@@ -38,21 +38,6 @@ opens size r c (Flat w ns) some o = o
 opens size r c (Pointers ts) some o = o
 opens size r c (Structs d q es) some o = o
 
--- a list of structs that are large enough
-pub list_wide : (v : View) (s p : ℕ) (t : Tree) (l : ExistingList) (size : StructSize) → IsStored v.words s p t → list_in (target v.words s p) Void t ≡ Ok (Some l) → HasWideStructs size l → OpensList size (Ok (Some l)) (call_at s p v v) t
-list_wide v s p t l size stored found wide =
-    let k = are_structs v.words s p t l (ap size_number wide.0) (stored, found) in
-    let stays : list_widened size.data_words size.pointers t ≡ Ok t =
-    ap (list_widened size.data_words size.pointers) k.tree ∙ structs_stay size.data_words size.pointers l.struct_size.data_words l.struct_size.pointers k.elements wide.1 wide.2 ∙ ap Ok (sym k.tree) in
-    opens size (Ok (Some l)) (call_at s p v v) t (not_null l v.words s p t found)
-    (subst (λ x. Opens size LeadsToAll (call_at s p v v) t x (Ok (Some l))) (sym stays) (record {
-      replaced = unchanged v.words s p t stored;
-      leads = (found, list_inside v.words s p t l stored found);
-      memory = keeps_itself v;
-      taken = omega arith;
-      unchanged = λ h. refl;
-    }))
-
 -- why elements make no structs
 abbrev Refuses : Option ErrorKind → Result Tree ErrorKind → Type 0
 Refuses None r = (u : Tree) × (r ≡ Ok u)
@@ -109,24 +94,9 @@ pub list_error : (S : Segments) (s p : ℕ) (t : Tree) (l : ExistingList) (size 
     Some k ≡ refusal_of_elements size l.size l.struct_size l.count → list_widened size.data_words size.pointers t ≡ Err k
 list_error S s p t l size k stored found narrow refused = subst (λ o. Refuses o (list_widened size.data_words size.pointers t)) (sym refused) (refuses S s p t l size l.size refl stored found narrow)
 
-pub list_refused : (v : View) (s p : ℕ) (t : Tree) (l : ExistingList) (size : StructSize) (k : ErrorKind) → IsStored v.words s p t → list_in (target v.words s p) Void t ≡ Ok (Some l) → (HasWideStructs size l → ⊥) →
-    Some k ≡ refusal_of_elements size l.size l.struct_size l.count → OpensList size (Err k) (call_at s p v v) t
-list_refused v s p t l size k stored found narrow refused =
-    let e = list_error v.words s p t l size k stored found narrow refused in
-    opens size (Err k) (call_at s p v v) t (not_null l v.words s p t found) (subst (λ x. Opens size LeadsToAll (call_at s p v v) t x (Err k)) (sym e) (refl, refl))
-
 -- what is no list
 no_error : (k : ErrorKind) → ◌≡◌ {A = Result (Option ExistingList) ErrorKind} (Ok None) (Err k) → ⊥
 no_error k e = cc
-
-pub no_list_there : (v : View) (s p : ℕ) (t : Tree) (size : StructSize) (k : ErrorKind) → list_in (target v.words s p) Void t ≡ Err k → OpensList size (Err k) (call_at s p v v) t
-no_list_there v s p t size k found =
-    let e = unfound_refused (target v.words s p) t size.data_words size.pointers k found in
-    opens size (Err k) (call_at s p v v) t (λ null. no_error k (sym (ap (list_in (target v.words s p) Void) null) ∙ found)) (subst (λ x. Opens size LeadsToAll (call_at s p v v) t x (Err k)) (sym e) (refl, refl))
-
--- null
-pub null_opened : (v : View) (s p : ℕ) (t : Tree) (size : StructSize) → t ≡ Null → OpensList size (Ok None) (call_at s p v v) t
-null_opened v s p t size null = subst (λ x. OpensList size (Ok None) (call_at s p v v) x) (sym null) (refl, refl)
 
 -- a list that is made one of larger structs
 sections_wide : (S : Segments) (s p : ℕ) (t : Tree) (l : ExistingList) (size : StructSize) → list_in (target S s p) Void t ≡ Ok (Some l) → HasSections size t → HasWideStructs size l
