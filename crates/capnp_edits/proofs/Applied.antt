@@ -1,5 +1,5 @@
 -- What an edit leaves of a forest.
-use Rattle.std.proofs.Common.{◌≡◌, inl, inr, ℕ, zero, suc, pred, ◌+◌, ◌*◌, ◌<◌, ◌≤◌, Bool, true, false, cond, nat_le, List, [], ◌∷◌, length, Option, Some, None, Result, Ok, Err, IsOk, IfErr, OnOk, OnErr, refl, sym, ap, ◌∙◌, subst, arith}
+use Rattle.std.proofs.Common.{◌≡◌, ◌⊎◌, inl, inr, ℕ, zero, suc, pred, ◌+◌, ◌*◌, ◌<◌, ◌≤◌, Bool, true, false, cond, nat_le, List, [], ◌∷◌, length, Option, Some, None, Result, Ok, Err, IsOk, IfErr, OnOk, OnErr, refl, sym, ap, ◌∙◌, subst, arith}
 use Rattle.std.proofs.lemmas.Bool.Decides.{nat_tests}
 use Rattle.std.proofs.lemmas.List.{append-nil}
 use Rattle.capnp_words.specs.declared.error.ErrorKind.{ErrorKind}
@@ -13,7 +13,9 @@ use Rattle.capnp_format.specs.Forest.{IsForest, target, cover}
 use Rattle.capnp_making.specs.declared.existing.ExistingStruct.{ExistingStruct}
 use Rattle.capnp_making.specs.Existing.{struct_in}
 use Rattle.capnp_making.specs.Fields.{put_field}
-use Rattle.capnp_making.specs.Memory.{HasRoom, IsRefusedFor, KeepsMemory}
+use Rattle.capnp_making.specs.Memory.{HasRoom, IsRefusedFor, KeepsMemory, TakesWords}
+use Rattle.capnp_making.specs.Zeroed.{IsPruned}
+use Rattle.capnp_widening.specs.Opening.{CallAt}
 use Rattle.capnp_making.specs.Path.{Element, struct_at, put_struct, update, PathLeads, one_word}
 use Rattle.capnp_making.specs.Stored.{IsStored, IsReplaced, Puts}
 use Rattle.capnp_making.proofs.Extents.{once_held, times-first}
@@ -26,7 +28,9 @@ use Rattle.capnp_edits.specs.Paths.{Spot, PointerTo, ElementOf, path_of, found, 
 use Rattle.capnp_edits.specs.declared.edit.Op.{Op}
 use Rattle.capnp_edits.specs.declared.edit.Source.{Source}
 use Rattle.capnp_edits.specs.declared.edit.Op.TheVariants.{InitStruct, InitList, InitStructList, InitText, InitData, SetText, SetData, SetCapability, Clear, SetField, SetBool, SetElement, WriteText, WriteData, GetStruct, GetList, GetStructList, GetText, GetData, CopyFrom, SetStruct, SetList, CopyContent}
-use Rattle.capnp_edits.specs.Edits.{refusal_of, field_of, is_field, is_in_range, is_search, search_of, Making, becomes, denied, with_written, made_at, made, IsOfMemory, takes_memory, words_taken, is_of_place, copied_by, IsWordsRefused, IsCallRefused, IsRefusedAs, WordsFit, GivesAt, IsPut, Does, DoesAt, Leaves, as_it_stands, is_done, lacks_memory, is_denied, IsReplacedIf, leads_to, are_written, are_outside, WritesAt, is_put, is_out_of_range, has_none, Takes, leads_nowhere, IsApplied, refusals_after}
+use Rattle.capnp_edits.specs.Edits.{refusal_of, field_of, is_field, is_in_range, is_search, Making, becomes, denied, with_written, made_at, made, IsOfMemory, takes_memory, words_taken, is_of_place, copied_by, GivesAt, Does, DoesAt, Leaves, as_it_stands, is_done, lacks_memory, is_denied, IsReplacedIf, leads_to, are_written, are_outside, WritesAt, is_put, is_out_of_range, has_none, Takes, leads_nowhere, IsApplied, refusals_after}
+use Rattle.capnp_edits.specs.Steps.{call_to, OpFits, IsCallRefused, IsOfPlace, IsRefusedAs, IsPut}
+use Rattle.capnp_edits.proofs.Taken.{object_takes}
 use Rattle.capnp_edits.proofs.Steps.{first, same_some, struct_of}
 use Rattle.capnp_edits.proofs.Walks.{found-append, update-append}
 
@@ -50,35 +54,39 @@ pub never_nowhere : {A : Type 0} (result : Result A ErrorKind) (old new : View) 
 never_nowhere (Ok x) old new n why e = absurd (cc)
 never_nowhere (Err k) old new n why e = absurd (of_no_place k (of_memory old new n k why) (same_some k NoSuchPlace e))
 
--- any other operation has no default, and fits where its words do
-no_search : (op : Op) → is_search op ≡ false → search_of op ≡ None
-no_search (GetStruct size default) e = absurd (cc)
-no_search (GetList size default) e = absurd (cc)
-no_search (GetStructList size default) e = absurd (cc)
-no_search (GetText default) e = absurd (cc)
-no_search (GetData default) e = absurd (cc)
-no_search op e = refl
-
-pub room_for : (old : View) (id : ℕ) (op : Op) → is_search op ≡ false → WordsFit old id op → HasRoom old id (words_taken op)
-room_for old id (GetStruct size default) e fits = absurd (cc)
-room_for old id (GetList size default) e fits = absurd (cc)
-room_for old id (GetStructList size default) e fits = absurd (cc)
-room_for old id (GetText default) e fits = absurd (cc)
-room_for old id (GetData default) e fits = absurd (cc)
-room_for old id op e fits = fits
+-- an operation that makes an object has room where its words have
+pub room_for : (old : View) (place : PointerPlace) (op : Op) → copied_by op ≡ None → is_search op ≡ false → OpFits old place op → takes_memory op ≡ true → HasRoom old place.segment (words_taken op)
+room_for old place (GetStruct size default) none other fits = absurd (cc)
+room_for old place (GetList size default) none other fits = absurd (cc)
+room_for old place (GetStructList size default) none other fits = absurd (cc)
+room_for old place (GetText default) none other fits = absurd (cc)
+room_for old place (GetData default) none other fits = absurd (cc)
+room_for old place (CopyFrom source b) none other fits = absurd (cc)
+room_for old place (SetStruct source b) none other fits = absurd (cc)
+room_for old place (SetList source b) none other fits = absurd (cc)
+room_for old place (CopyContent source) none other fits = absurd (cc)
+room_for old place op none other fits = fits
 
 -- an operation is refused as its call is, which copies nothing
-pub refused_as : {A : Type 0} (result : Result A ErrorKind) (old new : View) (op : Op) → copied_by op ≡ None → is_search op ≡ false → IfErr result (IsRefusedFor old new (words_taken op)) → IfErr result (IsRefusedAs old new op)
-refused_as (Ok x) old new op none other why = tt
-refused_as (Err k) old new op none other why = inr (subst (λ c. IsCallRefused old new op c k) (sym none) (subst (λ d. IsWordsRefused old new d (words_taken op) k) (sym (no_search op other)) why))
+call_refused : (call : CallAt) (op : Op) (k : ErrorKind) → copied_by op ≡ None → is_search op ≡ false → IsRefusedFor call.old call.new (words_taken op) k → IsCallRefused call op k
+call_refused call (GetStruct size default) k none other why = absurd (cc)
+call_refused call (GetList size default) k none other why = absurd (cc)
+call_refused call (GetStructList size default) k none other why = absurd (cc)
+call_refused call (GetText default) k none other why = absurd (cc)
+call_refused call (GetData default) k none other why = absurd (cc)
+call_refused call (CopyFrom source b) k none other why = absurd (cc)
+call_refused call (SetStruct source b) k none other why = absurd (cc)
+call_refused call (SetList source b) k none other why = absurd (cc)
+call_refused call (CopyContent source) k none other why = absurd (cc)
+call_refused call op k none other why = why
 
-pub refused_there : {A : Type 0} (result : Result A ErrorKind) (old new : View) (op : Op) → IfErr result (λ k. is_of_place k ≡ true) → OnErr result (new ≡ old) → IfErr result (IsRefusedAs old new op)
-refused_there (Ok x) old new op named kept = tt
-refused_there (Err k) old new op named kept = inl (named, kept)
+pub refused_as : {A : Type 0} (result : Result A ErrorKind) (call : CallAt) (op : Op) → copied_by op ≡ None → is_search op ≡ false → IfErr result (IsRefusedFor call.old call.new (words_taken op)) → IfErr result (IsRefusedAs call op)
+refused_as (Ok x) call op none other why = tt
+refused_as (Err k) call op none other why = inr (call_refused call op k none other why)
 
-pub refused_same : {A : Type 0} (result : Result A ErrorKind) (old new : View) (op : Op) → IfErr result (λ k. is_of_place k ≡ true) → new ≡ old → IfErr result (IsRefusedAs old new op)
-refused_same (Ok x) old new op named same = tt
-refused_same (Err k) old new op named same = inl (named, same)
+pub refused_there : {A : Type 0} (result : Result A ErrorKind) (old new : View) (Q : ErrorKind → Type 0) → IfErr result (λ k. is_of_place k ≡ true) → OnErr result (new ≡ old) → IfErr result (λ k. IsOfPlace old new k ⊎ Q k)
+refused_there (Ok x) old new Q named kept = tt
+refused_there (Err k) old new Q named kept = inl (named, kept)
 
 -- by a name of what a path leads to
 pub of_place : {A : Type 0} (result : Result A ErrorKind) → IfErr result (λ k. k ≡ NoSuchPlace) → IfErr result (λ k. is_of_place k ≡ true)
@@ -144,12 +152,13 @@ unrefused (Err k) e = absurd (cc)
 -- a call that makes u of n words does an operation that makes it
 pub made_is_put : {A : Type 0} (result : Result A ErrorKind) (old new : View) (place : PointerPlace) (op : Op) (u : Tree) (n : ℕ) → takes_memory op ≡ true → ((t : Tree) → made_at op (PointerTo t) ≡ becomes u) → n ≡ words_taken op →
     OnOk result (Puts old.words new.words place.segment place.word u) → OnOk result (KeepsMemory old new) → IfErr result (IsRefusedFor old new n) → OnErr result (Puts old.words new.words place.segment place.word Null) →
-    (HasRoom old place.segment n → IsOk result) → IsPut old new place op (refusal_of result)
-made_is_put result old new place op u n takes makes words puts keeps why cleared fits = record {
+    (HasRoom old place.segment n → IsOk result) → OnOk result (TakesWords old new place.segment n) → OnErr result (IsPruned old.words new.words) → IsPut old new place op (refusal_of result)
+made_is_put result old new place op u n takes makes words puts keeps why cleared fits taken only = record {
   done = bytes_refused result old new place op n u takes makes puts why cleared;
   counted = bytes_counted result old new n keeps why;
   named = λ k e. subst (λ m. IsRefusedFor old new m k) words (named_refusal result (IsRefusedFor old new n) k why e);
-  fits = λ room. not_refused result (fits (subst (λ m. HasRoom old place.segment m) (sym words) room));
+  fits = λ room. not_refused result (fits (subst (λ m. HasRoom old place.segment m) (sym words) (room takes)));
+  taken = object_takes result (call_to place old new) op n takes words taken only;
 }
 
 -- what an operation makes whose numbers are in range, and one whose are not

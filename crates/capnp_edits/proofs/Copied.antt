@@ -20,7 +20,7 @@ use Rattle.capnp_objects.specs.declared.object.Expected.{Expected}
 use Rattle.capnp_objects.specs.declared.object.Expected.TheVariants.{Struct as ExpectedStruct, List as ExpectedList}
 use Rattle.capnp_objects.specs.Expected.{CanBeGiven, too_deep, another_kind, misfit, narrow_elements, one_level, Withheld, no_level, unfollowed, of_another_kind, stopped, misfits}
 use Rattle.capnp_objects.specs.Outcomes.{Reads, ReadsAll}
-use Rattle.capnp_objects.specs.Reading.{Reading, behind}
+use Rattle.capnp_objects.specs.Reading.{Reading}
 use Rattle.capnp_objects.specs.Refusals.{Refused, here as stops_here, Unfollowed, exceeding, leading_nowhere, pads_exceed, nowhere}
 use Rattle.capnp_objects.specs.Wanted.{plain}
 use Rattle.capnp_objects.proofs.Expecting.{not_withheld}
@@ -29,13 +29,15 @@ use Rattle.capnp_objects.proofs.Refusals.{unreadable}
 use Rattle.capnp_readers.specs.Calls.{IsRead, without_default, WhereRead, IsAnswered, IsRefused, IsStructRead, IsListRead, GivesList, call}
 use Rattle.capnp_readers.specs.Readers.{reading}
 use Rattle.capnp_readers.specs.Sections.{bytes_for}
-use Rattle.capnp_readers.specs.Sizes.{pointers_read}
+use Rattle.capnp_readers.specs.Sizes.{own_words, pointers_read}
 use Rattle.capnp_readers.specs.declared.readers.PointerReader.{PointerReader}
 use Rattle.capnp_readers.specs.declared.readers.struct_reader.StructReader.{StructReader}
 use Rattle.capnp_readers.specs.declared.readers.list_reader.ListReader.{ListReader}
 use Rattle.capnp_readers.specs.declared.readers.PointerPlace.{PointerPlace}
 use Rattle.capnp_copies.specs.Changes.{Change, RefusesValue, change}
 use Rattle.capnp_copies.specs.Forms.{form_of, kept}
+use Rattle.capnp_copies.specs.Growth.{TakesAtMost, TakesForObject, TakesForListOf, TakesForStruct, TakesForList}
+use Rattle.capnp_widening.specs.Opening.{CallAt}
 use Rattle.capnp_copies.specs.ListValues.{ListElements, ReadsList, RefusesElements, RefusesList, elements_read}
 use Rattle.capnp_copies.specs.StructValues.{RefusesSections, RefusesStruct, data_of}
 use Rattle.capnp_builders.specs.Kept.{PutsCopy, PutsStruct, PutsList, IsKept}
@@ -46,10 +48,12 @@ use Rattle.capnp_edits.specs.declared.edit.copying.Copying.{Copying}
 use Rattle.capnp_edits.specs.declared.edit.copying.Wanted.{Wanted}
 use Rattle.capnp_edits.specs.declared.edit.copying.Wanted.TheVariants.{Value, Struct as AStruct, List as AList, Content}
 use Rattle.capnp_edits.specs.Paths.{PointerTo}
-use Rattle.capnp_edits.specs.Sources.{is_whole, RefusesNext, words_in, root_of, once_at_root, as_wanted, HasRoot, IsOpened, CanBeCopiedAs, IsRootless, IsWithheld, IsUnread, FitsBehind, Sections, LeadsToStruct, LeadsToList, RefusesAs, CopiedOrRefused}
-use Rattle.capnp_edits.specs.Edits.{as_it_stands, refusal_of, made, copies, copied_by, IsOfMemory, IsSourceRefused, IsCallRefused, CopyFits, CallFits, OpFits, is_search, words_taken, is_of_place, IsRefusedAs, refusals_after, CopiesRoot, root_copied, root_not_copied, root_unread, Does, is_copied, is_not_copied, is_unread}
+use Rattle.capnp_edits.specs.Sources.{is_whole, copy_at, words_in, root_of, once_at_root, as_wanted, HasRoot, IsOpened, CanBeCopiedAs, IsRootless, IsWithheld, IsUnread, FitsBehind, Sections, LeadsToStruct, LeadsToList, RefusesAs, CopiedOrRefused}
+use Rattle.capnp_edits.specs.Edits.{as_it_stands, refusal_of, made, copies, copied_by, IsOfMemory, is_search, takes_memory, words_taken, is_of_place, refusals_after, CopiesRoot, root_copied, root_not_copied, root_unread, Does, is_copied, is_not_copied, is_unread}
+use Rattle.capnp_edits.specs.Steps.{call_to, result_of, OpFits, IsWholeRefused, IsCallRefused, IsRefusedAs, TakesForWanted, TakesForWhole}
+use Rattle.capnp_edits.proofs.Taken.{value_taken, object_taken, list_taken}
 use Rattle.capnp_edits.proofs.Applied.{room_for, of_allocation, of_no_place, never_refused}
-use Rattle.capnp_edits.proofs.CopiedStruct.{struct_at, struct_reads, struct_refused, struct_given, struct_fits}
+use Rattle.capnp_edits.proofs.CopiedStruct.{own_long, struct_at, struct_reads, struct_refused, struct_given, struct_fits}
 use Rattle.capnp_edits.proofs.CopiedList.{list_at, list_reads, list_refused, list_given, list_small, list_fits}
 use Rattle.capnp_edits.proofs.Steps.{same_some}
 
@@ -76,11 +80,7 @@ copy_refused_as : (w : Wanted) (b : Bool) (id at : ℕ) (old new : View) (r : Re
 copy_refused_as Value b id at old new r m m' k whole refuses = value_refused b id at old new r m m' k refuses
 copy_refused_as AStruct b id at old new r m m' k whole (s, leads, refuses) = struct_refused b id at old new r m m' s k leads refuses
 copy_refused_as AList b id at old new r m m' k whole (l, n, leads, refuses) = list_refused b id at old new r m n m' l k leads refuses
-copy_refused_as Content b id at old new r m m' k whole refuses = absurd (cc)
-
-content_nowhere : (b : Bool) (id at : ℕ) (old new : View) (m m' : Meter) (s : Sections) (i : ℕ) (k : ErrorKind) → RefusesNext s i (change (form_of b) id at old new m m') k → k ≡ NoSuchPlace → ⊥
-content_nowhere b id at old new m m' s i k (between, inl (taken, n, limits, (refuses, none))) e = of_no_place k (of_allocation taken new (length new.words) (n + 1) k refuses) e
-content_nowhere b id at old new m m' s i k (between, inr refused) e = not_for_place (subst (λ y. Refused plain (behind s.first i) between m' y) e refused)
+copy_refused_as Content b id at old new r m m' k whole refuses = absurd refuses
 
 whole_nowhere : (w : Wanted) (b : Bool) (id at : ℕ) (old new : View) (r : Reading) (m m' : Meter) (k : ErrorKind) → is_whole w ≡ true → RefusesAs w r (change (form_of b) id at old new m m') k → k ≡ NoSuchPlace → ⊥
 whole_nowhere w b id at old new r m m' k whole refuses e = elim (copy_refused_as w b id at old new r m m' k whole refuses) [
@@ -89,7 +89,7 @@ whole_nowhere w b id at old new r m m' k whole refuses e = elim (copy_refused_as
 ]
 
 copy_nowhere_as : (w : Wanted) (b : Bool) (id at : ℕ) (old new : View) (r : Reading) (m m' : Meter) (k : ErrorKind) → RefusesAs w r (change (form_of b) id at old new m m') k → k ≡ NoSuchPlace → ⊥
-copy_nowhere_as Content b id at old new r m m' k (s, i, leads, refuses) e = content_nowhere b id at old new m m' s i k refuses e
+copy_nowhere_as Content b id at old new r m m' k refuses e = absurd refuses
 copy_nowhere_as Value b id at old new r m m' k refuses e = whole_nowhere Value b id at old new r m m' k refl refuses e
 copy_nowhere_as AStruct b id at old new r m m' k refuses e = whole_nowhere AStruct b id at old new r m m' k refl refuses e
 copy_nowhere_as AList b id at old new r m m' k refuses e = whole_nowhere AList b id at old new r m m' k refl refuses e
@@ -114,6 +114,7 @@ pub record Tried {A : Type 0} (result : Result A ErrorKind) (c : Copying) (old n
   pub after : Meter
   pub done : IfOk result (λ x. IsDone c after old.words new.words place)
   pub refused : IfErr result (RefusesAs c.wanted (root_of c.source) (change (form_of c.canonicalize) place.segment place.word old new (once_at_root c.source) after))
+  pub taken : TakesForWanted c.wanted (refusal_of result) c.source (copy_at (call_to place old new) c after)
 
 pub tried_done : {A : Type 0} (result : Result A ErrorKind) (c : Copying) (old new : View) (place : PointerPlace) → is_whole c.wanted ≡ true → Tried result c old new place → OnErr result (Puts old.words new.words place.segment place.word Null) →
     CopiesRoot old.words new.words place c (refusal_of result)
@@ -130,9 +131,12 @@ pub copy_counted : {A : Type 0} (result : Result A ErrorKind) (old new : View) �
 copy_counted (Ok x) old new keeps spends = ap (λ (v : View). v.refusals) keeps.0
 copy_counted (Err k) old new keeps spends = spends.2
 
-pub tried_named : {A : Type 0} (result : Result A ErrorKind) (c : Copying) (old new : View) (place : PointerPlace) → Tried result c old new place → IfErr result (IsSourceRefused old new c)
+pub tried_named : {A : Type 0} (result : Result A ErrorKind) (c : Copying) (old new : View) (place : PointerPlace) → Tried result c old new place → IfErr result (IsWholeRefused (call_to place old new) c)
 tried_named (Ok x) c old new place tried = tt
-tried_named (Err k) c old new place tried = inr (place, tried.after, tried.refused)
+tried_named (Err k) c old new place tried = inr (tried.after, tried.refused)
+
+pub tried_taken : {A : Type 0} (result : Result A ErrorKind) (c : Copying) (old new : View) (place : PointerPlace) → Tried result c old new place → TakesForWhole (call_to place old new) c (refusal_of result)
+tried_taken result c old new place tried = inr (tried.after, tried.taken)
 
 pub tried_fits : {A : Type 0} (result : Result A ErrorKind) (c : Copying) (old new : View) (place : PointerPlace) → Tried result c old new place → FitsBehind old place.segment c → IsOk result
 tried_fits (Ok x) c old new place tried fits = refl
@@ -140,8 +144,9 @@ tried_fits (Err k) c old new place tried fits = absurd (copy_fits_as c.wanted c 
 
 -- of what the root means
 pub value_tried : {A : Type 0} (result : Result A ErrorKind) (c : Copying) (r : Reading) (m m' : Meter) (old new : View) (place : PointerPlace) → c.wanted ≡ Value → r ≡ root_of c.source → m ≡ once_at_root c.source → HasRoot c.source →
-    IfOk result (λ x. PutsCopy r (change (form_of c.canonicalize) place.segment place.word old new m m')) → IfErr result (RefusesValue r (change (form_of c.canonicalize) place.segment place.word old new m m')) → Tried result c old new place
-value_tried result c r m m' old new place is is_r is_m has done refused = record { root = has; after = m'; done = good result done; refused = bad result refused }
+    IfOk result (λ x. PutsCopy r (change (form_of c.canonicalize) place.segment place.word old new m m')) → IfErr result (RefusesValue r (change (form_of c.canonicalize) place.segment place.word old new m m')) →
+    TakesAtMost result r (change (form_of c.canonicalize) place.segment place.word old new m m') → Tried result c old new place
+value_tried result c r m m' old new place is is_r is_m has done refused taken = record { root = has; after = m'; done = good result done; refused = bad result refused; taken = takes }
   where
     good : {A : Type 0} (q : Result A ErrorKind) → IfOk q (λ x. PutsCopy r (change (form_of c.canonicalize) place.segment place.word old new m m')) → IfOk q (λ x. IsDone c m' old.words new.words place)
     good (Ok x) (t, reads, puts) =
@@ -155,11 +160,18 @@ value_tried result c r m m' old new place is is_r is_m has done refused = record
         subst (λ w. RefusesAs w (root_of c.source) (change (form_of c.canonicalize) place.segment place.word old new (once_at_root c.source) m') k) (sym is)
         (subst (λ y. RefusesValue (root_of c.source) (change (form_of c.canonicalize) place.segment place.word old new y m') k) is_m (subst (λ y. RefusesValue y (change (form_of c.canonicalize) place.segment place.word old new m m') k) is_r h))
 
+    takes : TakesForWanted c.wanted (refusal_of result) c.source (copy_at (call_to place old new) c m')
+    takes =
+        let ch : Meter → Change = λ y. change (form_of c.canonicalize) place.segment place.word old new y m' in
+        subst (λ w. TakesForWanted w (refusal_of result) c.source (ch (once_at_root c.source))) (sym is)
+        (subst (λ y. TakesAtMost (result_of (refusal_of result)) (root_of c.source) (ch y)) is_m (subst (λ y. TakesAtMost (result_of (refusal_of result)) y (ch m)) is_r (value_taken result r (ch m) taken)))
+
 -- of the struct that it leads to
 struct_tried : {A : Type 0} (result : Result A ErrorKind) (c : Copying) (s : Sections) (m' : Meter) (old new : View) (place : PointerPlace) → c.wanted ≡ AStruct → HasRoot c.source → LeadsToStruct (root_of c.source) (once_at_root c.source) s →
     IfOk result (λ x. KeepsSections s (change (form_of c.canonicalize) place.segment place.word old new s.limiter m')) →
-    IfErr result (RefusesSections s.words s.first s.pointers (change (form_of c.canonicalize) place.segment place.word old new s.limiter m')) → Tried result c old new place
-struct_tried result c s m' old new place is has leads done refused = record { root = has; after = m'; done = good result done; refused = bad result refused }
+    IfErr result (RefusesSections s.words s.first s.pointers (change (form_of c.canonicalize) place.segment place.word old new s.limiter m')) →
+    TakesForObject result s.first s.pointers (length s.words + s.pointers + 1) (change (form_of c.canonicalize) place.segment place.word old new s.limiter m') → Tried result c old new place
+struct_tried result c s m' old new place is has leads done refused taken = record { root = has; after = m'; done = good result done; refused = bad result refused; taken = takes }
   where
     good : {A : Type 0} (q : Result A ErrorKind) → IfOk q (λ x. KeepsSections s (change (form_of c.canonicalize) place.segment place.word old new s.limiter m')) → IfOk q (λ x. IsDone c m' old.words new.words place)
     good (Ok x) (ts, counts, all, puts) =
@@ -172,11 +184,14 @@ struct_tried result c s m' old new place is has leads done refused = record { ro
     bad (Ok x) h = tt
     bad (Err k) h = subst (λ w. RefusesAs w (root_of c.source) (change (form_of c.canonicalize) place.segment place.word old new (once_at_root c.source) m') k) (sym is) (s, leads, h)
 
+    takes : TakesForWanted c.wanted (refusal_of result) c.source (copy_at (call_to place old new) c m')
+    takes = subst (λ w. TakesForWanted w (refusal_of result) c.source (copy_at (call_to place old new) c m')) (sym is) (s, leads, object_taken result s.first s.pointers _ _ taken)
+
 -- of the list
 list_tried : {A : Type 0} (result : Result A ErrorKind) (c : Copying) (l : ListElements) (m m' : Meter) (old new : View) (place : PointerPlace) → c.wanted ≡ AList → HasRoot c.source →
     LeadsToList (root_of c.source) (once_at_root c.source) m l → IfOk result (λ x. KeepsList l (change (form_of c.canonicalize) place.segment place.word old new m m')) →
-    IfErr result (RefusesElements l (change (form_of c.canonicalize) place.segment place.word old new m m')) → Tried result c old new place
-list_tried result c l m m' old new place is has leads done refused = record { root = has; after = m'; done = good result done; refused = bad result refused }
+    IfErr result (RefusesElements l (change (form_of c.canonicalize) place.segment place.word old new m m')) → TakesForListOf result l (change (form_of c.canonicalize) place.segment place.word old new m m') → Tried result c old new place
+list_tried result c l m m' old new place is has leads done refused taken = record { root = has; after = m'; done = good result done; refused = bad result refused; taken = takes }
   where
     good : {A : Type 0} (q : Result A ErrorKind) → IfOk q (λ x. KeepsList l (change (form_of c.canonicalize) place.segment place.word old new m m')) → IfOk q (λ x. IsDone c m' old.words new.words place)
     good (Ok x) (t, all, puts) =
@@ -188,6 +203,9 @@ list_tried result c l m m' old new place is has leads done refused = record { ro
         IfErr q (RefusesAs c.wanted (root_of c.source) (change (form_of c.canonicalize) place.segment place.word old new (once_at_root c.source) m'))
     bad (Ok x) h = tt
     bad (Err k) h = subst (λ w. RefusesAs w (root_of c.source) (change (form_of c.canonicalize) place.segment place.word old new (once_at_root c.source) m') k) (sym is) (l, m, leads, h)
+
+    takes : TakesForWanted c.wanted (refusal_of result) c.source (copy_at (call_to place old new) c m')
+    takes = subst (λ w. TakesForWanted w (refusal_of result) c.source (copy_at (call_to place old new) c m')) (sym is) (l, m, leads, list_taken result l _ taken)
 
 -- A call without a default reads the pointer itself.
 own_pointer : {A : Type 0} (g : Ghosts A) (expected : Expected) (from p : PointerReader A g) → IsRead g expected from p None → p ≡ from
@@ -206,19 +224,22 @@ withheld_at g expected from m m' k (inr h) = where_read g expected from (λ p. W
 -- The calls on a root's reader.
 pub struct_copied : {A B : Type 0} (result : Result B ErrorKind) (c : Copying) (g : Ghosts A) (from : PointerReader A g) (v : StructReader A g) (m n m' : Meter) (old new : View) (place : PointerPlace) → c.wanted ≡ AStruct → IsOpened g c.source from m →
     length v.content.now ≡ bytes_for v.bits → WhereRead g (call g from ExpectedStruct None) (λ p. IsStructRead g p m n v) → IfOk result (λ x. PutsStruct g v (change (form_of c.canonicalize) place.segment place.word old new n m')) →
-    IfErr result (RefusesStruct g v (change (form_of c.canonicalize) place.segment place.word old new n m')) → Tried result c old new place
-struct_copied result c g from v m n m' old new place is here long read done refused =
+    IfErr result (RefusesStruct g v (change (form_of c.canonicalize) place.segment place.word old new n m')) → TakesForStruct g result v (change (form_of c.canonicalize) place.segment place.word old new n m') → Tried result c old new place
+struct_copied result c g from v m n m' old new place is here long read done refused taken =
     let s : Sections = record { words = data_of g v; first = pointers_read g v; pointers = v.pointer_count; limiter = n } in
-    let leads : LeadsToStruct (reading g from) m s = struct_at g from m n v long (where_read g ExpectedStruct from (λ p. IsStructRead g p m n v) read) in
+    let there : IsStructRead g from m n v = where_read g ExpectedStruct from (λ p. IsStructRead g p m n v) read in
+    let leads : LeadsToStruct (reading g from) m s = struct_at g from m n v long there in
+    let own : own_words g v + 1 ≡ length (data_of g v) + v.pointer_count + 1 = ap (λ x. x + 1) (own_long g from m n v long there) in
     struct_tried result c s m' old new place is here.root (subst (λ y. LeadsToStruct (root_of c.source) y s) here.once (subst (λ r. LeadsToStruct r m s) here.reads leads)) done refused
+    (subst (λ x. TakesForObject result s.first s.pointers x (change (form_of c.canonicalize) place.segment place.word old new n m')) own taken)
 
 pub list_copied : {A B : Type 0} (result : Result B ErrorKind) (c : Copying) (g : Ghosts A) (from : PointerReader A g) (v : ListReader A g) (m n m' : Meter) (old new : View) (place : PointerPlace) → c.wanted ≡ AList → IsOpened g c.source from m →
     GivesList g Void (call g from (ExpectedList Void) None) m n v → IfOk result (λ x. PutsList g v (change (form_of c.canonicalize) place.segment place.word old new n m')) →
-    IfErr result (RefusesList g v (change (form_of c.canonicalize) place.segment place.word old new n m')) → Tried result c old new place
-list_copied result c g from v m n m' old new place is here read done refused =
+    IfErr result (RefusesList g v (change (form_of c.canonicalize) place.segment place.word old new n m')) → TakesForList g result v (change (form_of c.canonicalize) place.segment place.word old new n m') → Tried result c old new place
+list_copied result c g from v m n m' old new place is here read done refused taken =
     let l : ListElements = elements_read g v in
     let leads : LeadsToList (reading g from) m n l = list_at g from m n v (where_read g (ExpectedList Void) from (λ p. IsListRead g Void p m n v) read) in
-    list_tried result c l n m' old new place is here.root (subst (λ y. LeadsToList (root_of c.source) y n l) here.once (subst (λ r. LeadsToList r m n l) here.reads leads)) done refused
+    list_tried result c l n m' old new place is here.root (subst (λ y. LeadsToList (root_of c.source) y n l) here.once (subst (λ r. LeadsToList r m n l) here.reads leads)) done refused taken
 
 unread_as : {A : Type 0} (g : Ghosts A) (c : Copying) (expected : Expected) (from : PointerReader A g) (m m' : Meter) (k : ErrorKind) → ((r : Reading) (i j : Meter) → Withheld expected r i j k → IsWithheld c.wanted r i j k) → IsOpened g c.source from m →
     IsRefused g (call g from expected None) m m' k → IsUnread c k
@@ -357,11 +378,11 @@ pub unread_counted : (c : Copying) (k : ErrorKind) (n : ℕ) → IsUnread c k �
 unread_counted c k n unread = sym (not_the_allocator k (λ e. false≢true (sym (other_unread c k unread) ∙ ap is_of_call e)) n)
 
 -- a copy is never refused for a place
-pub copy_nowhere : {A : Type 0} (result : Result A ErrorKind) (old new : View) (c : Copying) → IfErr result (IsSourceRefused old new c) → refusal_of result ≡ Some NoSuchPlace → new ≡ old
-copy_nowhere (Ok x) old new c why e = absurd (cc)
-copy_nowhere (Err k) old new c why e = elim why [
+pub copy_nowhere : {A : Type 0} (result : Result A ErrorKind) (call : CallAt) (c : Copying) → IfErr result (IsWholeRefused call c) → refusal_of result ≡ Some NoSuchPlace → call.new ≡ call.old
+copy_nowhere (Ok x) call c why e = absurd (cc)
+copy_nowhere (Err k) call c why e = elim why [
   | inl h ↦ h.1
-  | inr (place, m, refuses) ↦ absurd (copy_nowhere_as c.wanted c.canonicalize place.segment place.word old new (root_of c.source) (once_at_root c.source) m k refuses (same_some k NoSuchPlace e))
+  | inr (m, refuses) ↦ absurd (copy_nowhere_as c.wanted c.canonicalize call.segment call.at call.old call.new (root_of c.source) (once_at_root c.source) m k refuses (same_some k NoSuchPlace e))
 ]
 
 -- at its place
@@ -384,23 +405,33 @@ copied_at S R place op c r whole is (root_copied u copied done puts) t stored = 
 copied_at S R place op c r whole is (root_not_copied k why named puts) t stored = record { left = Some Null; leaves = as_it_stands (is_not_copied c k (made_copied op c t whole is) why named refl); stands = puts t stored }
 copied_at S R place op c r whole is (root_unread k why named same) t stored = record { left = None; leaves = as_it_stands (is_unread c k (made_copied op c t whole is) why named refl); stands = same }
 
-pub copy_refused : {A : Type 0} (result : Result A ErrorKind) (old new : View) (op : Op) (c : Copying) → copied_by op ≡ Some c → IfErr result (IsSourceRefused old new c) → IfErr result (IsRefusedAs old new op)
-copy_refused (Ok x) old new op c is why = tt
-copy_refused (Err k) old new op c is why = inr (subst (λ o. IsCallRefused old new op o k) (sym is) why)
+whole_refused : (call : CallAt) (op : Op) (c : Copying) (k : ErrorKind) → is_whole c.wanted ≡ true → copied_by op ≡ Some c → IsWholeRefused call c k → IsCallRefused call op k
+whole_refused call (CopyFrom source b) c k whole e why = subst (λ x. IsWholeRefused call x k) (sym (same_some _ c e)) why
+whole_refused call (SetStruct source b) c k whole e why = subst (λ x. IsWholeRefused call x k) (sym (same_some _ c e)) why
+whole_refused call (SetList source b) c k whole e why = subst (λ x. IsWholeRefused call x k) (sym (same_some _ c e)) why
+whole_refused call (CopyContent source) c k whole e why = absurd (false≢true (ap (λ (x : Copying). is_whole x.wanted) (same_some _ c e) ∙ whole))
+whole_refused call op c k whole e why = absurd (cc)
+
+pub copy_refused : {A : Type 0} (result : Result A ErrorKind) (call : CallAt) (op : Op) (c : Copying) → is_whole c.wanted ≡ true → copied_by op ≡ Some c → IfErr result (IsWholeRefused call c) → IfErr result (IsRefusedAs call op)
+copy_refused (Ok x) call op c whole is why = tt
+copy_refused (Err k) call op c whole is why = inr (whole_refused call op c k whole is why)
 
 -- a call that copies nothing fits where its words do
-pub words_fit : {A : Type 0} (result : Result A ErrorKind) (old : View) (id : ℕ) (op : Op) → copied_by op ≡ None → is_search op ≡ false → (HasRoom old id (words_taken op) → IsOk result) → OpFits old id op → IfErr result (λ k. is_of_place k ≡ true)
-words_fit result old id op none other fits room = never_refused result (fits (room_for old id op other (subst (λ c. CallFits old id op c) none room)))
+pub words_fit : {A : Type 0} (result : Result A ErrorKind) (old : View) (place : PointerPlace) (op : Op) → copied_by op ≡ None → is_search op ≡ false → ((takes_memory op ≡ true → HasRoom old place.segment (words_taken op)) → IsOk result) →
+    OpFits old place op → IfErr result (λ k. is_of_place k ≡ true)
+words_fit result old place op none other fits room = never_refused result (fits (room_for old place op none other room))
 
 -- and a copy where what it keeps does
-pub copy_fits : {A : Type 0} (result : Result A ErrorKind) (old : View) (id : ℕ) (op : Op) (c : Copying) → copied_by op ≡ Some c → (CopyFits old id c.wanted c → IsOk result) → OpFits old id op → IfErr result (λ k. is_of_place k ≡ true)
-copy_fits result old id op c is fits room = never_refused result (fits (subst (λ o. CallFits old id op o) is room))
+whole_fits : (old : View) (place : PointerPlace) (op : Op) (c : Copying) → is_whole c.wanted ≡ true → copied_by op ≡ Some c → OpFits old place op → FitsBehind old place.segment c
+whole_fits old place (CopyFrom source b) c whole e fits = subst (FitsBehind old place.segment) (same_some _ c e) fits
+whole_fits old place (SetStruct source b) c whole e fits = subst (FitsBehind old place.segment) (same_some _ c e) fits
+whole_fits old place (SetList source b) c whole e fits = subst (FitsBehind old place.segment) (same_some _ c e) fits
+whole_fits old place (CopyContent source) c whole e fits = absurd (false≢true (ap (λ (x : Copying). is_whole x.wanted) (same_some _ c e) ∙ whole))
+whole_fits old place op c whole e fits = absurd (cc)
 
-pub whole_fits : (w : Wanted) (old : View) (id : ℕ) (c : Copying) → is_whole w ≡ true → CopyFits old id w c → FitsBehind old id c
-whole_fits Value old id c whole fits = fits
-whole_fits AStruct old id c whole fits = fits
-whole_fits AList old id c whole fits = fits
-whole_fits Content old id c whole fits = absurd (false≢true whole)
+pub copy_fits : {A : Type 0} (result : Result A ErrorKind) (old : View) (place : PointerPlace) (op : Op) (c : Copying) → is_whole c.wanted ≡ true → copied_by op ≡ Some c → (FitsBehind old place.segment c → IsOk result) → OpFits old place op →
+    IfErr result (λ k. is_of_place k ≡ true)
+copy_fits result old place op c whole is fits room = never_refused result (fits (whole_fits old place op c whole is room))
 
 -- an operation that copies none
 pub none_copied : (op : Op) → ((c : Copying) → copied_by op ≡ Some c → ⊥) → copied_by op ≡ None

@@ -1,5 +1,5 @@
 -- The copy of the struct that a root leads to.
-use Rattle.std.proofs.Common.{◌≡◌, inl, inr, ◌⊎◌, ℕ, zero, suc, pred, ◌+◌, ◌*◌, ◌^◌, ◌<◌, ◌≤◌, Bool, nat_eq, cond, List, [], length, Some, None, refl, sym, ap, ap₂, ◌∙◌, subst, arith}
+use Rattle.std.proofs.Common.{◌≡◌, inl, inr, ◌⊎◌, ℕ, zero, suc, pred, ◌+◌, ◌*◌, ◌/◌, ◌%◌, ◌^◌, ◌<◌, ◌≤◌, Bool, nat_eq, cond, List, [], length, Some, None, refl, sym, ap, ap₂, ◌∙◌, subst, arith}
 use lib.IntN.{ℤ, pos, negsuc, ◌-ℤ◌}
 use Rattle.std.proofs.lemmas.Int.{ints}
 use Rattle.capnp_words.specs.Meter.{Meter, Affords}
@@ -31,12 +31,14 @@ use Rattle.capnp_objects.proofs.Refusals.{stops_struct, unreadable}
 use Rattle.capnp_readers.specs.Calls.{IsStructRead}
 use Rattle.capnp_readers.specs.Readers.{reading}
 use Rattle.capnp_readers.specs.Sections.{bytes_for}
-use Rattle.capnp_readers.specs.Sizes.{pointers_read}
+use Rattle.capnp_readers.specs.Sizes.{own_words, pointers_read}
 use Rattle.capnp_readers.specs.declared.readers.PointerReader.{PointerReader}
 use Rattle.capnp_readers.specs.declared.readers.struct_reader.StructReader.{StructReader}
 use Rattle.capnp_copies.specs.Changes.{change}
 use Rattle.capnp_copies.specs.Forms.{form_of, kept}
-use Rattle.capnp_copies.specs.StructValues.{RefusesSections, data_of}
+use Rattle.capnp_copies.specs.StructValues.{RefusesSections, section_words, data_of}
+use Rattle.capnp_format.specs.Bytes.{words_of}
+use Rattle.capnp_format.proofs.WordsOf.{words}
 use Rattle.capnp_copies.proofs.DataSections.{whole_section, kept_count-le}
 use Rattle.capnp_edits.specs.declared.edit.copying.Copying.{Copying}
 use Rattle.capnp_edits.specs.declared.edit.copying.Wanted.TheVariants.{Struct as AStruct}
@@ -60,6 +62,26 @@ struct_at g p m m' v long (inr (a, o, z, shows, source, nesting)) =
     let whole : length v.content.now ≡ 8 * data_words a.word = omega (arith, long, bits) in
     let level : levels v.nesting_limit ≡ pred (levels p.nesting_limit) = ap levels nesting ∙ level_less p.nesting_limit o.meets.levels in
     a_struct a o z (rw bits (whole_section (data_words a.word) v.content.now whole ∙ shows.words_are)) (rw (source, shows.segment_is, shows.pointers_start, level) refl) shows.pointers_are
+
+-- the struct that get_struct gave has whole words
+pub whole_words : (bytes : List ℕ) (bits : ℕ) → length bytes ≡ bytes_for bits → bits % 64 ≡ 0 → (section_words bits bytes ≡ words_of bytes) × (bits ≡ 64 * length (words_of bytes))
+whole_words bytes bits long whole =
+    let d : ℕ = bits / 64 in
+    let is : bits ≡ 64 * d = omega (arith, whole) in
+    let all : length bytes ≡ 8 * d = omega (arith, long, is) in
+    let many : d ≡ length (words_of bytes) = omega (arith, words bytes, all) in
+    (ap (λ b. section_words b bytes) is ∙ whole_section d bytes all, is ∙ ap (λ n. 64 * n) many)
+
+pub whole_bits : {A : Type 0} (g : Ghosts A) (p : PointerReader A g) (m n : Meter) (v : StructReader A g) → IsStructRead g p m n v → v.bits % 64 ≡ 0
+whole_bits g p m n v (inl ((null, same), (nothing, no_bits, none, nesting))) = omega (arith, no_bits)
+whole_bits g p m n v (inr (a, o, z, shows, source, nesting)) = omega (arith, shows.bits_are)
+
+-- so its own words are those of its sections
+pub own_long : {A : Type 0} (g : Ghosts A) (p : PointerReader A g) (m n : Meter) (v : StructReader A g) → length v.content.now ≡ bytes_for v.bits → IsStructRead g p m n v → own_words g v ≡ length (data_of g v) + v.pointer_count
+own_long g p m n v long read =
+    let all = whole_words v.content.now v.bits long (whole_bits g p m n v read) in
+    let many : length (data_of g v) ≡ length (words_of v.content.now) = ap length all.0 in
+    omega (arith, many, all.1)
 
 -- reading it, and then its pointers, is reading the value
 no_children : (ts : Trees) → count ts ≡ 0 → ts ≡ no_trees

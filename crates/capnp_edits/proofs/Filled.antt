@@ -1,5 +1,5 @@
 -- Content of another message's struct that is copied over a struct, which a pointer leads to or which is an element of a list.
-use Rattle.std.proofs.Common.{◌≡◌, inl, inr, ℕ, zero, suc, pred, min, ◌+◌, ◌*◌, ◌/◌, ◌%◌, ◌<◌, false, List, [], ◌∷◌, length, Option, Some, None, Result, Ok, Err, IfOk, IfErr, refl, sym, ap, ap₂, ◌∙◌, subst, arith}
+use Rattle.std.proofs.Common.{◌≡◌, inl, inr, ℕ, zero, suc, pred, min, ◌+◌, ◌*◌, ◌/◌, ◌<◌, false, List, [], ◌∷◌, length, Option, Some, None, Result, Ok, Err, IsOk, IfOk, IfErr, true, ◌⊎◌, refl, sym, ap, ap₂, ◌∙◌, subst, arith}
 use Rattle.capnp_words.specs.Meter.{Meter}
 use Rattle.capnp_words.specs.declared.error.ErrorKind.{ErrorKind}
 use Rattle.capnp_words.specs.declared.error.ErrorKind.TheVariants.{NoSuchPlace}
@@ -10,7 +10,6 @@ use Rattle.capnp_format.specs.Forest.{IsForest, target}
 use Rattle.capnp_format.specs.Segments.{Segments, Target}
 use Rattle.capnp_format.specs.Tree.{Tree, Null, Capability, Struct, Flat, Pointers, Structs, Trees, no_trees, count, element_count}
 use Rattle.capnp_format.specs.Word.{data_words, pointer_count}
-use Rattle.capnp_format.proofs.WordsOf.{words}
 use Rattle.capnp_making.specs.Memory.{refusals_for}
 use Rattle.capnp_making.specs.declared.existing.ExistingStruct.{ExistingStruct}
 use Rattle.capnp_making.specs.Existing.{struct_in}
@@ -19,7 +18,10 @@ use Rattle.capnp_making.specs.Stored.{IsStored, IsReplaced}
 use Rattle.capnp_making.proofs.Replaced.{forest_stored, forest_updated, stored_within}
 use Rattle.capnp_objects.specs.declared.object.Expected.TheVariants.{Struct as ExpectedStruct}
 use Rattle.capnp_objects.specs.Outcomes.{ReadsAll}
-use Rattle.capnp_objects.specs.Reading.{Reading}
+use Rattle.capnp_objects.specs.Reading.{Reading, behind}
+use Rattle.capnp_objects.specs.Refusals.{Refused}
+use Rattle.capnp_objects.proofs.Limits.{not_for_place}
+use Rattle.capnp_widening.specs.Opening.{CallAt}
 use Rattle.capnp_objects.specs.Demands.{own}
 use Rattle.capnp_objects.specs.Expected.{CanBeGiven}
 use Rattle.capnp_objects.specs.Faults.{child_at}
@@ -37,9 +39,8 @@ use Rattle.capnp_readers.specs.declared.readers.PointerPlace.{PointerPlace}
 use Rattle.capnp_readers.specs.declared.readers.PointerReader.{PointerReader}
 use Rattle.capnp_readers.specs.declared.readers.struct_reader.StructPlace.{StructPlace}
 use Rattle.capnp_readers.specs.declared.readers.struct_reader.StructReader.{StructReader}
-use Rattle.capnp_copies.specs.StructValues.{section_words, data_of}
-use Rattle.capnp_copies.proofs.DataSections.{whole_section}
-use Rattle.capnp_builders.specs.Content.{TakesContent, StopsAtContent, ContentFits, pointers_copied}
+use Rattle.capnp_copies.specs.StructValues.{data_of}
+use Rattle.capnp_builders.specs.Content.{TakesContent, StopsAtContent, ContentFits, TakesForContent as TakesForCopy, pointers_copied}
 use Rattle.capnp_builders.specs.Laws.{up_to}
 use Rattle.capnp_builders.specs.Places.{IsAligned}
 use Rattle.capnp_builders.proofs.ContentTaken.{content_taken, content_stopped}
@@ -51,25 +52,14 @@ use Rattle.capnp_edits.specs.declared.edit.Source.{Source}
 use Rattle.capnp_edits.specs.declared.edit.copying.Wanted.TheVariants.{Content}
 use Rattle.capnp_edits.specs.Paths.{path_of, found, IsElementFound, PointerTo, ElementOf}
 use Rattle.capnp_edits.specs.Sources.{copying, root_of, once_at_root, HasRoot, IsOpened, Sections, LeadsToStruct, no_struct, a_struct, ContentRead, ContentFitsBehind, IsUnread, FilledOrRefused}
-use Rattle.capnp_edits.specs.Edits.{as_it_stands, refusal_of, made, fills, sections, FillsAt, FillsOrWrites, WritesAt, all_filled, first_filled, none_filled, refusals_after, IsSourceRefused, IsApplied, Takes, leads_to, is_filled, is_half_filled, is_not_filled, Does, DoesAt}
-use Rattle.capnp_edits.proofs.Applied.{of_allocation, denied_at, element_struct, applied_element}
+use Rattle.capnp_edits.specs.Edits.{as_it_stands, refusal_of, made, fills, sections, is_of_place, FillsAt, FillsOrWrites, WritesAt, all_filled, first_filled, none_filled, refusals_after, IsApplied, Takes, leads_to, is_filled, is_half_filled, is_not_filled, Does, DoesAt}
+use Rattle.capnp_edits.specs.Steps.{IsStructAt, IsContentRefused, IsCallRefused, IsElementRefused, IsOfPlace, IsRefusedAs, OpFits, TakesForContent, TakesFor}
+use Rattle.capnp_edits.proofs.Taken.{pointers_taken}
+use Rattle.capnp_edits.proofs.Applied.{of_allocation, of_no_place, never_refused, denied_at, element_struct, applied_element}
 use Rattle.capnp_edits.proofs.Copied.{where_read}
-use Rattle.capnp_edits.proofs.CopiedStruct.{struct_at as source_at, struct_suits}
+use Rattle.capnp_edits.proofs.CopiedStruct.{struct_at as source_at, whole_words, whole_bits, struct_suits}
 use Rattle.capnp_edits.proofs.Steps.{same_some, first, struct_of}
 use Rattle.capnp_edits.proofs.Walks.{found-append, update-append}
-
--- the struct that get_struct gave has whole words
-whole_words : (bytes : List ℕ) (bits : ℕ) → length bytes ≡ bytes_for bits → bits % 64 ≡ 0 → (section_words bits bytes ≡ words_of bytes) × (bits ≡ 64 * length (words_of bytes))
-whole_words bytes bits long whole =
-    let d : ℕ = bits / 64 in
-    let is : bits ≡ 64 * d = omega (arith, whole) in
-    let all : length bytes ≡ 8 * d = omega (arith, long, is) in
-    let many : d ≡ length (words_of bytes) = omega (arith, words bytes, all) in
-    (ap (λ b. section_words b bytes) is ∙ whole_section d bytes all, is ∙ ap (λ n. 64 * n) many)
-
-whole_bits : {A : Type 0} (g : Ghosts A) (p : PointerReader A g) (m n : Meter) (v : StructReader A g) → IsStructRead g p m n v → v.bits % 64 ≡ 0
-whole_bits g p m n v (inl ((null, same), (nothing, no_bits, none, nesting))) = omega (arith, no_bits)
-whole_bits g p m n v (inr (a, o, z, shows, source, nesting)) = omega (arith, shows.bits_are)
 
 -- as the sections of a source's struct
 record SourceStruct {A : Type 0} (g : Ghosts A) (source : Source) (v : StructReader A g) (n : Meter) : Type 0 where
@@ -136,20 +126,42 @@ fill_counted (Err k) g v n m' old new place copied (mid, taking, stops) = stops.
 
 pub fill_named : {A B : Type 0} (result : Result B ErrorKind) (g : Ghosts A) (source : Source) (from : PointerReader A g) (v : StructReader A g) (m n m' : Meter) (old new : View) (place : StructPlace) → IsOpened g source from m →
     length v.content.now ≡ bytes_for v.bits → WhereRead g (call g from ExpectedStruct None) (λ p. IsStructRead g p m n v) → IfErr result (StopsAtContent g v place (pointers_copied place old new n m')) →
-    IfErr result (IsSourceRefused old new (copying source Content false))
+    IfErr result (IsContentRefused old new place source)
 fill_named (Ok x) g source from v m n m' old new place opened long read refused = tt
 fill_named (Err k) g source from v m n m' old new place opened long read (mid, taking, stops) =
     let s = source_struct g source from v m n opened long read in
+    inr (record {
+      content = content_read g source v n stops.between stops.first opened.root s stops.are_read;
+      fewer = stops.fewer;
+      taken = mid;
+      limits = taking.limits;
+      takes = rw (← s.bits) taking.cleared;
+      after = m';
+      why = stops.why;
+    })
+
+pub fill_taken : {A B : Type 0} (result : Result B ErrorKind) (g : Ghosts A) (source : Source) (from : PointerReader A g) (v : StructReader A g) (m n m' : Meter) (old new : View) (place : StructPlace) → IsOpened g source from m →
+    length v.content.now ≡ bytes_for v.bits → WhereRead g (call g from ExpectedStruct None) (λ p. IsStructRead g p m n v) → TakesForCopy g result v place (pointers_copied place old new n m') →
+    TakesForContent old new place source (refusal_of result)
+fill_taken result g source from v m n m' old new place opened long read taken =
+    let s = source_struct g source from v m n opened long read in
     inr (
-      record { segment = place.segment; word = place.pointers_at },
+      record { words = words_of v.content.now; first = pointers_read g v; pointers = v.pointer_count; limiter = n },
       m',
-      (
-        record { words = words_of v.content.now; first = pointers_read g v; pointers = v.pointer_count; limiter = n },
-        count stops.first,
-        s.leads,
-        (stops.between, elim stops.why [ inl h ↦ inl (mid, h.0, taking.limits, h.1) | inr h ↦ inr h ]),
-      ),
+      s.leads,
+      pointers_taken result (pointers_read g v) (min place.pointers v.pointer_count) (pointers_copied place old new n m') taken,
     )
+
+-- never for a missing place
+pub fill_nowhere : {A : Type 0} (result : Result A ErrorKind) (old new : View) (place : StructPlace) (source : Source) → IfErr result (IsContentRefused old new place source) → refusal_of result ≡ Some NoSuchPlace → new ≡ old
+fill_nowhere (Ok x) old new place source why e = absurd (cc)
+fill_nowhere (Err k) old new place source (inl h) e = h.1
+fill_nowhere (Err k) old new place source (inr stops) e =
+    let nowhere : k ≡ NoSuchPlace = same_some k NoSuchPlace e in
+    absurd (elim stops.why [
+      | inl h ↦ of_no_place k (of_allocation stops.taken new (length new.words) (h.0 + 1) k h.1.0) nowhere
+      | inr refused ↦ not_for_place (subst (λ y. Refused plain (behind stops.content.from.first (count stops.content.children)) stops.content.after stops.after y) nowhere refused)
+    ])
 
 -- whole words start at a word
 pub sections_aligned : (e : ExistingStruct) → IsAligned (sections e)
@@ -171,6 +183,39 @@ fill_nothing g source from v m n S e opened long read empty =
       filled = S;
       fills_first = refl;
     }) (omega (arith, no_pointers)) refl refl
+
+pub nothing_taken : {A : Type 0} (g : Ghosts A) (source : Source) (from : PointerReader A g) (v : StructReader A g) (m n : Meter) (old : View) (e : ExistingStruct) → IsOpened g source from m → length v.content.now ≡ bytes_for v.bits →
+    WhereRead g (call g from ExpectedStruct None) (λ p. IsStructRead g p m n v) → e.size.data_words + e.size.pointers ≡ 0 → TakesForContent old old (sections e) source None
+nothing_taken g source from v m n old e opened long read empty =
+    let s = source_struct g source from v m n opened long read in
+    let no_pointers : e.size.pointers ≡ 0 = omega (arith, empty) in
+    inr (
+      record { words = words_of v.content.now; first = pointers_read g v; pointers = v.pointer_count; limiter = n },
+      n,
+      s.leads,
+      record { children = no_trees; counts = omega (arith, no_pointers); are_read = read_none plain (pointers_read g v) n; words = omega arith },
+    )
+
+-- how a call on content does its operation, at a pointer and at an element
+pub content_refused : {A : Type 0} (result : Result A ErrorKind) (c : CallAt) (op : Op) (source : Source) (e : ExistingStruct) → op ≡ CopyContent source → IsStructAt c.old.words (record { segment = c.segment; word = c.at }) e →
+    IfErr result (IsContentRefused c.old c.new (sections e) source) → IfErr result (IsRefusedAs c op)
+content_refused (Ok x) c op source e is there why = tt
+content_refused (Err k) c op source e is there why = inr (subst (λ o. IsCallRefused c o k) (sym is) (e, there, why))
+
+pub content_fits : {A : Type 0} (result : Result A ErrorKind) (old : View) (place : PointerPlace) (op : Op) (source : Source) (e : ExistingStruct) → op ≡ CopyContent source → IsStructAt old.words place e →
+    (ContentFitsBehind old e.segment source e.size.pointers → IsOk result) → OpFits old place op → IfErr result (λ k. is_of_place k ≡ true)
+content_fits result old place op source e is there fits room =
+    let asked : OpFits old place (CopyContent source) = subst (OpFits old place) is room in
+    never_refused result (fits (asked e there))
+
+pub content_takes_at : (c : CallAt) (op : Op) (source : Source) (e : ExistingStruct) (r : Option ErrorKind) → op ≡ CopyContent source → IsStructAt c.old.words (record { segment = c.segment; word = c.at }) e →
+    TakesForContent c.old c.new (sections e) source r → TakesFor c op r
+content_takes_at c op source e r is there taken = subst (λ o. TakesFor c o r) (sym is) (e, there, taken)
+
+pub element_refused : {A : Type 0} (result : Result A ErrorKind) (old new : View) (e : ExistingStruct) (op : Op) (source : Source) → op ≡ CopyContent source → IfErr result (IsContentRefused old new (sections e) source) →
+    IfErr result (λ k. IsOfPlace old new k ⊎ IsElementRefused old new e op k)
+element_refused (Ok x) old new e op source is why = tt
+element_refused (Err k) old new e op source is why = inr (subst (λ o. IsElementRefused old new e o k) (sym is) why)
 
 -- at a struct that a pointer leads to
 filled_struct : (S R : Segments) (place : PointerPlace) (op : Op) (source : Source) (r : Option ErrorKind) (ws : List ℕ) (ts : Trees) → op ≡ CopyContent source → IsStored S place.segment place.word (Struct ws ts) →

@@ -1,8 +1,10 @@
 pub mod Walks
 pub mod Steps
+pub mod Taken
 pub mod Applied
 pub mod Fields
 pub mod Folded
+pub mod Stepped
 pub mod Contents
 pub mod Names
 pub mod Sought

@@ -1,5 +1,5 @@
 -- Searches: what they leave, with a default or without one.
-use Rattle.std.proofs.Common.{◌≡◌, ◌⊎◌, inl, inr, ℕ, ◌+◌, ◌/◌, ◌^◌, ◌<◌, ◌≤◌, Bool, true, false, cond, ◌&&◌, nat_eq, nat_le, nat_lt, List, [], ◌∷◌, length, Option, Some, None, unwrap_or, Result, Ok, Err, IfErr, OnOk, refl, sym, ap, ◌∙◌, subst, arith}
+use Rattle.std.proofs.Common.{◌≡◌, ◌⊎◌, inl, inr, ℕ, ◌+◌, ◌/◌, ◌^◌, ◌<◌, ◌≤◌, Bool, true, false, cond, ◌&&◌, nat_eq, nat_le, nat_lt, List, [], ◌∷◌, length, Option, Some, None, unwrap_or, Result, Ok, Err, IsOk, IfErr, OnOk, refl, sym, ap, ◌∙◌, subst, arith}
 use Rattle.std.proofs.lemmas.Bool.{cases_lt}
 use Rattle.std.proofs.lemmas.Bool.Decides.{nat_tests}
 use Rattle.std.specs.Borrow.{Bor}
@@ -35,12 +35,13 @@ use Rattle.capnp_widening.specs.RowsRemade.{RefusesWider}
 use Rattle.capnp_widening.specs.Widened.{list_widened, IsNoWider}
 use Rattle.capnp_builders.specs.Defaults.{IsFew, DefaultUse, ignored, denied as is_denied_by, copied as is_copied_from, use_of_words, default_use, default_root, default_copy, RefusesDefault, WithDefault, DefaultFits}
 use Rattle.capnp_builders.specs.Found.{list_given, bytes_given, GivesList, GivesData, GivesText, FindsList, FindsData, FindsText}
-use Rattle.capnp_builders.specs.Opening.{IsStructGiven, IsListGiven, OpensStruct, OpensList, FindsStruct, FindsStructs}
+use Rattle.capnp_builders.specs.Opening.{IsStructGiven, IsListGiven, OpensStruct, OpensList, FindsStruct, FindsStructs, StructFindFits, StructsFindFits}
 use Rattle.capnp_edits.specs.declared.edit.Op.{Op}
 use Rattle.capnp_edits.specs.declared.edit.Op.TheVariants.{GetStruct, GetList, GetStructList, GetText, GetData}
 use Rattle.capnp_edits.specs.Paths.{PointerTo}
-use Rattle.capnp_edits.specs.Edits.{refusal_of, is_small_default, is_in_range, Making, becomes, denied, widens, defaults, nowhere, unchanged, opened, struct_made, structs_made, list_looked, text_looked, data_looked, with_default, made_at, made, is_of_place, copied_by, IsOfMemory, IsOpeningRefused, IsDefaultRefused, IsSearchRefused, IsRefusedAs, WordsFit, CallFits, OpFits, Yields, is_done, is_denied, is_widened, is_not_widened, as_it_stands, default_put, default_dropped, IsReplacedIf, DoesAt, Does, IsSought, refusals_after}
-use Rattle.capnp_edits.proofs.Applied.{of_allocation, of_no_place, denied_at, in_range_makes}
+use Rattle.capnp_edits.specs.Edits.{refusal_of, is_small_default, is_in_range, Making, becomes, nowhere, unchanged, opened, struct_made, structs_made, list_looked, text_looked, data_looked, with_default, made, is_of_place, IsOfMemory, Yields, is_done, is_denied, is_widened, is_not_widened, as_it_stands, default_put, default_dropped, IsReplacedIf, DoesAt, Does}
+use Rattle.capnp_edits.specs.Steps.{OpFits, IsOpeningRefused, IsSearchRefused, IsRefusedAs, FindsAt, IsSought}
+use Rattle.capnp_edits.proofs.Applied.{never_refused, of_allocation, of_no_place, denied_at, in_range_makes}
 use Rattle.capnp_edits.proofs.Contents.{list_anywhere, data_anywhere, text_anywhere}
 use Rattle.capnp_edits.proofs.Names.{elsewhere, struct_elsewhere, structs_elsewhere, list_elsewhere, data_elsewhere, text_elsewhere, fault_elsewhere, unfound_name, list_unfound, data_unfound, text_unfound}
 use Rattle.capnp_edits.proofs.Steps.{same_some}
@@ -209,10 +210,10 @@ text_why : (k : ErrorKind) → WhySo (GivesText (Err k)) k
 text_why k c t h = inl (elsewhere (text_in (target c.old.words c.segment c.at) t) k (text_elsewhere (target c.old.words c.segment c.at) t) (bytes_err c.segment (text_in (target c.old.words c.segment c.at) t) k h.0), h.1)
 
 -- Why a search is refused: as what stands is; or as the value of its default is, which is put first; or as the copy of that is.
-data Why (old new : View) (default : Option (Bor (List ℕ))) (k : ErrorKind) : Type 0 where
-  as_found : IsOpeningRefused old new k → Why old new default k
-  as_default : (d : Bor (List ℕ)) (mid : View) → default ≡ Some d → KeepsMemory old mid → IsWhy mid new k → Why old new default k
-  as_copy : (d : Bor (List ℕ)) (id at : ℕ) → default ≡ Some d → SpendsMemory old new k → RefusesDefault d.now (default_copy id at old new) k → Why old new default k
+data Why (c : CallAt) (default : Option (Bor (List ℕ))) (k : ErrorKind) : Type 0 where
+  as_found : IsOpeningRefused c.old c.new k → Why c default k
+  as_default : (d : Bor (List ℕ)) (mid : View) → default ≡ Some d → KeepsMemory c.old mid → IsWhy mid c.new k → Why c default k
+  as_copy : (d : Bor (List ℕ)) → default ≡ Some d → SpendsMemory c.old c.new k → RefusesDefault d.now (default_copy c.segment c.at c.old c.new) k → Why c default k
 
 plainly : (old new : View) (k : ErrorKind) → IsWhy old new k → IsOpeningRefused old new k
 plainly old new k (inl h) = inl h.1
@@ -232,35 +233,35 @@ use_is of_null bytes (x ∷ xs) plain = by_first (nat_eq x 0)
     by_first true = plain
     by_first false = refl
 
-why_used : (B : Type 0) (k : ErrorKind) (used : DefaultUse) (d : Bor (List ℕ)) (P : CallAt → Tree → Type 0) (c : CallAt) → IsOf d.now used → WhySo P k → WithDefault {B = B} used c Null P (Err k) → Why c.old c.new (Some d) k
+why_used : (B : Type 0) (k : ErrorKind) (used : DefaultUse) (d : Bor (List ℕ)) (P : CallAt → Tree → Type 0) (c : CallAt) → IsOf d.now used → WhySo P k → WithDefault {B = B} used c Null P (Err k) → Why c (Some d) k
 why_used B k ignored d P c only why h = as_found (plainly c.old c.new k (why c Null h))
 why_used B k (is_denied_by j) d P c only why h = as_found (inl h.1)
 why_used B k (is_copied_from bytes) d P c only why (inl on) = as_default d on.mid refl on.put.memory (why (record c { old = on.mid }) on.value on.does)
-why_used B k (is_copied_from bytes) d P c only why (inr drops) = as_copy d c.segment c.at refl drops.memory (subst (λ b. RefusesDefault b (default_copy c.segment c.at c.old c.new) k) only drops.named)
+why_used B k (is_copied_from bytes) d P c only why (inr drops) = as_copy d refl drops.memory (subst (λ b. RefusesDefault b (default_copy c.segment c.at c.old c.new) k) only drops.named)
 
 why_null : (B : Type 0) (k : ErrorKind) (of_null : DefaultUse) (default : Option (Bor (List ℕ))) (P : CallAt → Tree → Type 0) (c : CallAt) → ((bytes : List ℕ) → IsOf bytes of_null) → WhySo P k →
-    WithDefault {B = B} (default_use of_null default Null) c Null P (Err k) → Why c.old c.new default k
+    WithDefault {B = B} (default_use of_null default Null) c Null P (Err k) → Why c default k
 why_null B k of_null None P c plain why h = as_found (plainly c.old c.new k (why c Null h))
 why_null B k of_null (Some d) P c plain why h = why_used B k (use_of_words of_null d.now (words_of d.now)) d P c (use_is of_null d.now (words_of d.now) (plain d.now)) why h
 
 -- a place that is null stores null; of any other one the call says why
 why_refused : (B : Type 0) (k : ErrorKind) (of_null : DefaultUse) (default : Option (Bor (List ℕ))) (P : CallAt → Tree → Type 0) (c : CallAt) → IsPlace c.old.words c.segment c.at → ((bytes : List ℕ) → IsOf bytes of_null) → WhySo P k →
-    ((t : Tree) → IsStored c.old.words c.segment c.at t → WithDefault {B = B} (default_use of_null default t) c t P (Err k)) → ((word_at c.old.words c.segment c.at ≡ 0 → ⊥) → IsOpeningRefused c.old c.new k) → Why c.old c.new default k
+    ((t : Tree) → IsStored c.old.words c.segment c.at t → WithDefault {B = B} (default_use of_null default t) c t P (Err k)) → ((word_at c.old.words c.segment c.at ≡ 0 → ⊥) → IsOpeningRefused c.old c.new k) → Why c default k
 why_refused B k of_null default P c there plain why found set = elim (cases_lt 0 (word_at c.old.words c.segment c.at)) [
   | inl some ↦ as_found (set (λ null. absurd (omega (arith, some, null))))
   | inr none ↦ why_null B k of_null default P c plain why (found Null (null_stored c.old.words c.segment c.at there (omega (arith, none))))
 ]
 
 -- so it is refused
-refused_so : (old new : View) (default : Option (Bor (List ℕ))) (k : ErrorKind) → Why old new default k → IsSearchRefused old new default k
-refused_so old new None k (as_found h) = h
-refused_so old new (Some d) k (as_found h) = inl (old, keeps_itself old, h)
-refused_so old new None k (as_default d mid is keeps h) = absurd (cc)
-refused_so old new (Some e) k (as_default d mid is keeps h) = inl (mid, keeps, plainly mid new k h)
-refused_so old new None k (as_copy d id at is spent named) = absurd (cc)
-refused_so old new (Some e) k (as_copy d id at is spent named) =
+refused_so : (c : CallAt) (default : Option (Bor (List ℕ))) (k : ErrorKind) → Why c default k → IsSearchRefused c default k
+refused_so c None k (as_found h) = h
+refused_so c (Some d) k (as_found h) = inl (c.old, keeps_itself c.old, h)
+refused_so c None k (as_default d mid is keeps h) = absurd (cc)
+refused_so c (Some e) k (as_default d mid is keeps h) = inl (mid, keeps, plainly mid c.new k h)
+refused_so c None k (as_copy d is spent named) = absurd (cc)
+refused_so c (Some e) k (as_copy d is spent named) =
     let same : d ≡ e = same_default d e (sym is) in
-    inr (spent, (id, at, subst (λ (x : Bor (List ℕ)). RefusesDefault x.now (default_copy id at old new) k) same named))
+    inr (spent, subst (λ (x : Bor (List ℕ)). RefusesDefault x.now (default_copy c.segment c.at c.old c.new) k) same named)
   where
     same_default : (d e : Bor (List ℕ)) → Some d ≡ Some e → d ≡ e
     same_default d e h = cc
@@ -269,33 +270,35 @@ refused_so old new (Some e) k (as_copy d id at is spent named) =
 grown_nowhere : (old new : View) (k : ErrorKind) → RefusesGrowth old new k → k ≡ NoSuchPlace → ⊥
 grown_nowhere old new k (n, (refuses, none)) e = of_no_place k (of_allocation old new (length new.words) (n + 1) k refuses) e
 
-never_nowhere : (old new : View) (default : Option (Bor (List ℕ))) (k : ErrorKind) → Why old new default k → k ≡ NoSuchPlace → new ≡ old
-never_nowhere old new default k (as_found (inl same)) e = same
-never_nowhere old new default k (as_found (inr h)) e = absurd (grown_nowhere old new k h.1 e)
-never_nowhere old new default k (as_default d mid is keeps (inl h)) e = absurd (h.0 e)
-never_nowhere old new default k (as_default d mid is keeps (inr h)) e = absurd (grown_nowhere mid new k h.1 e)
-never_nowhere old new default k (as_copy d id at is spent named) e = absurd (elim (dropped_name d.now id at old new k named) [
+never_nowhere : (c : CallAt) (default : Option (Bor (List ℕ))) (k : ErrorKind) → Why c default k → k ≡ NoSuchPlace → c.new ≡ c.old
+never_nowhere c default k (as_found (inl same)) e = same
+never_nowhere c default k (as_found (inr h)) e = absurd (grown_nowhere c.old c.new k h.1 e)
+never_nowhere c default k (as_default d mid is keeps (inl h)) e = absurd (h.0 e)
+never_nowhere c default k (as_default d mid is keeps (inr h)) e = absurd (grown_nowhere mid c.new k h.1 e)
+never_nowhere c default k (as_copy d is spent named) e = absurd (elim (dropped_name d.now c.segment c.at c.old c.new k named) [
   | inl memory ↦ of_no_place k memory e
   | inr fault ↦ fault_elsewhere of_default (subst (HasFault of_default (default_root d.now)) e fault)
 ])
 
 -- what a call leaves that is refused, or isn't
-sought : {B : Type 0} (result : Result B ErrorKind) (default : Option (Bor (List ℕ))) (op : Op) (c : CallAt) → ((k : ErrorKind) → IsSearchRefused c.old c.new default k → IsRefusedAs c.old c.new op k) →
-    Does c.old.words c.new.words (place_in c) op (refusal_of result) → OnOk result (KeepsMemory c.old c.new) → IfErr result (SpendsMemory c.old c.new) → IfErr result (Why c.old c.new default) →
-    (WordsFit c.old c.segment op → IfErr result (λ k. is_of_place k ≡ true)) → IsSought c.old c.new (place_in c) op (refusal_of result)
-sought (Ok x) default op c told does granted memory why fits = record {
+sought : {B : Type 0} (result : Result B ErrorKind) (default : Option (Bor (List ℕ))) (op : Op) (c : CallAt) → ((k : ErrorKind) → IsSearchRefused c default k → IsRefusedAs c op k) →
+    Does c.old.words c.new.words (place_in c) op (refusal_of result) → OnOk result (KeepsMemory c.old c.new) → IfErr result (SpendsMemory c.old c.new) → IfErr result (Why c default) →
+    (OpFits c.old (place_in c) op → IfErr result (λ k. is_of_place k ≡ true)) → FindsAt c op (refusal_of result) → IsSought c.old c.new (place_in c) op (refusal_of result)
+sought (Ok x) default op c told does granted memory why fits finds = record {
   done = does;
   counted = ap (λ (v : View). v.refusals) granted.0;
   named = λ k e. absurd (cc);
   fits = λ room k e. absurd (cc);
   nowhere = λ e. absurd (cc);
+  taken = finds;
 }
-sought (Err k) default op c told does granted memory why fits = record {
+sought (Err k) default op c told does granted memory why fits finds = record {
   done = does;
   counted = memory.2;
-  named = λ j e. told j (subst (IsSearchRefused c.old c.new default) (same_some k j e) (refused_so c.old c.new default k why));
+  named = λ j e. told j (subst (IsSearchRefused c default) (same_some k j e) (refused_so c default k why));
   fits = λ room j e. subst (λ x. is_of_place x ≡ true) (same_some k j e) (fits room);
-  nowhere = λ e. never_nowhere c.old c.new default k why (same_some k NoSuchPlace e);
+  nowhere = λ e. never_nowhere c default k why (same_some k NoSuchPlace e);
+  taken = finds;
 }
 
 -- Where a default's value has no fault and fits, only what is found is refused.
@@ -356,7 +359,7 @@ found_fits {B} (Err k) of_null default P c there plain name found set room = eli
 -- of any call
 why_if : {B : Type 0} (result : Result B ErrorKind) (of_null : DefaultUse) (default : Option (Bor (List ℕ))) (P : Result B ErrorKind → CallAt → Tree → Type 0) (c : CallAt) → IsPlace c.old.words c.segment c.at → ((bytes : List ℕ) → IsOf bytes of_null) →
     ((k : ErrorKind) → WhySo (P (Err k)) k) → ((t : Tree) → IsStored c.old.words c.segment c.at t → WithDefault (default_use of_null default t) c t (P result) result) →
-    ((word_at c.old.words c.segment c.at ≡ 0 → ⊥) → IfErr result (IsOpeningRefused c.old c.new)) → IfErr result (Why c.old c.new default)
+    ((word_at c.old.words c.segment c.at ≡ 0 → ⊥) → IfErr result (IsOpeningRefused c.old c.new)) → IfErr result (Why c default)
 why_if (Ok x) of_null default P c there plain why found set = tt
 why_if {B} (Err k) of_null default P c there plain why found set = why_refused B k of_null default (P (Err k)) c there plain (why k) found set
 
@@ -378,21 +381,23 @@ set_same (Err k) old new same = inl same
 -- the calls
 pub struct_sought : (result : Result StructPlace ErrorKind) (size : StructSize) (default : Option (Bor (List ℕ))) (c : CallAt) → IsPlace c.old.words c.segment c.at → is_in_range (GetStruct size default) ≡ true →
     ((t : Tree) → IsStored c.old.words c.segment c.at t → FindsStruct size default result c t) → ((word_at c.old.words c.segment c.at ≡ 0 → ⊥) → IfErr result (IsNoWider c.old c.new c.segment c.at)) →
-    OnOk result (KeepsMemory c.old c.new) → IfErr result (SpendsMemory c.old c.new) → IsSought c.old c.new (place_in c) (GetStruct size default) (refusal_of result)
-struct_sought result size default c there range found set granted memory =
+    OnOk result (KeepsMemory c.old c.new) → IfErr result (SpendsMemory c.old c.new) → (StructFindFits size default c.old c.segment c.at → IsOk result) →
+    IsSought c.old c.new (place_in c) (GetStruct size default) (refusal_of result)
+struct_sought result size default c there range found set granted memory fits =
     let op = GetStruct size default in
     sought result default op c (λ k h. inr h)
     (λ t stored. with_does result ignored default (struct_made size) (OpensStruct size result) op c t stored (λ x. in_range_makes op (PointerTo x) range) (struct_so result size op) (found t stored)) granted memory
-    (why_if result ignored default (OpensStruct size) c there (λ b. tt) (struct_why size) found (λ some. set_struct result c.old c.new c.segment c.at (set some))) (λ room. absurd room)
+    (why_if result ignored default (OpensStruct size) c there (λ b. tt) (struct_why size) found (λ some. set_struct result c.old c.new c.segment c.at (set some))) (λ room. never_refused result (fits room)) (λ t stored. (result, refl, found t stored))
 
 pub structs_sought : (result : Result ListPlace ErrorKind) (size : StructSize) (default : Option (Bor (List ℕ))) (c : CallAt) → IsPlace c.old.words c.segment c.at → is_in_range (GetStructList size default) ≡ true →
     ((t : Tree) → IsStored c.old.words c.segment c.at t → FindsStructs size default result c t) → ((word_at c.old.words c.segment c.at ≡ 0 → ⊥) → IfErr result (RefusesWider c.old c.new c.segment c.at size)) →
-    OnOk result (KeepsMemory c.old c.new) → IfErr result (SpendsMemory c.old c.new) → IsSought c.old c.new (place_in c) (GetStructList size default) (refusal_of result)
-structs_sought result size default c there range found set granted memory =
+    OnOk result (KeepsMemory c.old c.new) → IfErr result (SpendsMemory c.old c.new) → (StructsFindFits size default c.old c.segment c.at → IsOk result) →
+    IsSought c.old c.new (place_in c) (GetStructList size default) (refusal_of result)
+structs_sought result size default c there range found set granted memory fits =
     let op = GetStructList size default in
     sought result default op c (λ k h. inr h)
     (λ t stored. with_does result ignored default (structs_made size) (OpensList size result) op c t stored (λ x. in_range_makes op (PointerTo x) range) (structs_so result size op) (found t stored)) granted memory
-    (why_if result ignored default (OpensList size) c there (λ b. tt) (structs_why size) found (λ some. set_structs result c.old c.new c.segment c.at size (set some))) (λ room. absurd room)
+    (why_if result ignored default (OpensList size) c there (λ b. tt) (structs_why size) found (λ some. set_structs result c.old c.new c.segment c.at size (set some))) (λ room. never_refused result (fits room)) (λ t stored. (result, refl, found t stored))
 
 pub list_sought : (result : Result ListPlace ErrorKind) (size : ElementSize) (default : Option (Bor (List ℕ))) (c : CallAt) → IsPlace c.old.words c.segment c.at → is_in_range (GetList size default) ≡ true →
     ((t : Tree) → IsStored c.old.words c.segment c.at t → FindsList size default result c t) → ((word_at c.old.words c.segment c.at ≡ 0 → ⊥) → (c.new ≡ c.old) × IfErr result (λ k. is_unfound k ≡ true)) →
@@ -402,7 +407,7 @@ list_sought result size default c there range found set granted memory =
     sought result default op c (λ k h. inr h)
     (λ t stored. with_does result ignored default (list_looked size) (GivesList size result) op c t stored (λ x. in_range_makes op (PointerTo x) range) (list_so result size op) (found t stored)) granted memory
     (why_if result ignored default (GivesList size) c there (λ b. tt) (list_why size) found (λ some. set_same result c.old c.new (set some).0))
-    (λ room. found_fits result ignored default (GivesList size) c there (λ b. tt) (list_name size) found (λ some. (set some).1) room)
+    (λ room. found_fits result ignored default (GivesList size) c there (λ b. tt) (list_name size) found (λ some. (set some).1) room) (λ t stored. (result, refl, found t stored))
 
 pub data_sought : (result : Result ExistingBytes ErrorKind) (default : Option (Bor (List ℕ))) (c : CallAt) → IsPlace c.old.words c.segment c.at → is_in_range (GetData default) ≡ true →
     ((t : Tree) → IsStored c.old.words c.segment c.at t → FindsData default result c t) → ((word_at c.old.words c.segment c.at ≡ 0 → ⊥) → (c.new ≡ c.old) × IfErr result (λ k. is_unfound k ≡ true)) →
@@ -413,7 +418,7 @@ data_sought result default c there range found set granted memory =
     sought result default op c (λ k h. inr h)
     (λ t stored. with_does result of_null default data_looked (GivesData result) op c t stored (λ x. in_range_makes op (PointerTo x) range) (data_so result op) (found t stored)) granted memory
     (why_if result of_null default GivesData c there (λ b. tt) data_why found (λ some. set_same result c.old c.new (set some).0))
-    (λ room. found_fits result of_null default GivesData c there (λ b. refl) data_name found (λ some. (set some).1) room)
+    (λ room. found_fits result of_null default GivesData c there (λ b. refl) data_name found (λ some. (set some).1) room) (λ t stored. (result, refl, found t stored))
 
 pub text_sought : (result : Result ExistingBytes ErrorKind) (default : Option (Bor (List ℕ))) (c : CallAt) → IsPlace c.old.words c.segment c.at → is_in_range (GetText default) ≡ true →
     ((t : Tree) → IsStored c.old.words c.segment c.at t → FindsText default result c t) → ((word_at c.old.words c.segment c.at ≡ 0 → ⊥) → (c.new ≡ c.old) × IfErr result (λ k. is_unfound k ≡ true)) →
@@ -424,7 +429,7 @@ text_sought result default c there range found set granted memory =
     sought result default op c (λ k h. inr h)
     (λ t stored. with_does result of_null default text_looked (GivesText result) op c t stored (λ x. in_range_makes op (PointerTo x) range) (text_so result op) (found t stored)) granted memory
     (why_if result of_null default GivesText c there (λ b. tt) text_why found (λ some. set_same result c.old c.new (set some).0))
-    (λ room. found_fits result of_null default GivesText c there (λ b. refl) text_name found (λ some. (set some).1) room)
+    (λ room. found_fits result of_null default GivesText c there (λ b. refl) text_name found (λ some. (set some).1) room) (λ t stored. (result, refl, found t stored))
 
 -- the numbers of a list that is looked for
 pub list_range : (size : ElementSize) (default : Option (Bor (List ℕ))) → is_in_range (GetList size default) ≡ true → (size_number size ≤ 6) × (is_small_default default ≡ true)
@@ -436,7 +441,3 @@ list_range size default e = both (nat_le (size_number size) 6) (is_small_default
         within : (n : ℕ) → nat_le n 6 ≡ true → n ≤ 6
         within n e = grind (arith, nat_tests)
     both false c is e = absurd (cc)
-
--- an operation that copies nothing fits where its words do
-pub words_fit : (old : View) (id : ℕ) (op : Op) → copied_by op ≡ None → OpFits old id op → WordsFit old id op
-words_fit old id op none room = subst (λ c. CallFits old id op c) none room

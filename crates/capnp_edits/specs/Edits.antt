@@ -9,11 +9,10 @@ use Rattle.capnp_format.specs.Numbers.{element_bits, words_for}
 use Rattle.capnp_format.specs.Segments.{Segments, Target}
 use Rattle.capnp_format.specs.Tree.{Tree, Null, Capability, Struct, Flat, Structs, count, capabilities}
 use Rattle.capnp_format.specs.Forest.{IsForest}
-use Rattle.capnp_arena.specs.View.{View}
 use Rattle.capnp_making.specs.Existing.{is_unfound, list_in, data_in, text_in, LieIn}
 use Rattle.capnp_making.specs.Fields.{with_bits, put_field, with_field}
 use Rattle.capnp_making.specs.Filled.{AreFilled}
-use Rattle.capnp_making.specs.Memory.{HasRoom, IsRefusedFor, KeepsMemory, SpendsMemory, RefusesGrowth, refusals_for}
+use Rattle.capnp_making.specs.Memory.{refusals_for}
 use Rattle.capnp_making.specs.Made.{list_words, zero_struct, zero_structs, zero_list}
 use Rattle.capnp_making.specs.Path.{Step, struct_at, put_struct, update}
 use Rattle.capnp_making.specs.Stored.{IsStored, IsReplaced, Puts}
@@ -27,7 +26,7 @@ use Rattle.capnp_objects.specs.Wanted.{of_default}
 use Rattle.capnp_readers.specs.Readers.{IsListPlace}
 use Rattle.capnp_readers.specs.declared.readers.struct_reader.StructPlace.{StructPlace}
 use Rattle.capnp_widening.specs.Widened.{list_widened}
-use Rattle.capnp_builders.specs.Defaults.{DefaultUse, ignored, denied as is_denied_by, copied as is_copied_from, object_default, blob_default, default_root, default_copy, RefusesDefault, DefaultFits}
+use Rattle.capnp_builders.specs.Defaults.{DefaultUse, ignored, denied as is_denied_by, copied as is_copied_from, object_default, blob_default, default_root}
 use Rattle.capnp_widening.specs.Opening.{struct_opened}
 use Rattle.capnp_builders.specs.Laws.{TakesBytes}
 use Rattle.capnp_edits.specs.declared.edit.Source.{Source}
@@ -40,9 +39,8 @@ use Rattle.capnp_edits.specs.declared.edit.Edit.{Edit}
 use Rattle.capnp_edits.specs.declared.edit.Op.{Op}
 use Rattle.capnp_edits.specs.declared.edit.Op.TheVariants.{InitStruct, InitList, InitStructList, InitText, InitData, SetText, SetData, SetCapability, Clear, SetField, SetBool, SetElement, WriteText, WriteData, GetStruct, GetList, GetStructList, GetText, GetData, CopyFrom, SetStruct, SetList, CopyContent}
 use Rattle.capnp_edits.specs.declared.edit.copying.Copying.{Copying}
-use Rattle.capnp_edits.specs.declared.edit.copying.Wanted.{Wanted}
 use Rattle.capnp_edits.specs.declared.edit.copying.Wanted.TheVariants.{Value, Struct as AStruct, List as AList, Content}
-use Rattle.capnp_edits.specs.Sources.{copying, Copies, ContentRead, ContentFitsBehind, Fills, FillsAll, IsNextUnreadable, IsUnread, IsUnreadable, IsCopyRefused, FitsBehind}
+use Rattle.capnp_edits.specs.Sources.{copying, Copies, ContentRead, Fills, FillsAll, IsNextUnreadable, IsUnread, IsUnreadable}
 use Rattle.capnp_edits.specs.Paths.{Spot, PointerTo, ElementOf, path_of, found}
 
 -- The name by which a call is refused, if it is.
@@ -91,15 +89,6 @@ is_search (GetStructList size default) = true
 is_search (GetText default) = true
 is_search (GetData default) = true
 is_search op = false
-
--- The default of a search.
-abbrev pub search_of : Op → Option (Option (Bor (List ℕ)))
-search_of (GetStruct size default) = Some default
-search_of (GetList size default) = Some default
-search_of (GetStructList size default) = Some default
-search_of (GetText default) = Some default
-search_of (GetData default) = Some default
-search_of op = None
 
 -- A number has no more bits than its element size, which is one from the least number of a size on, up to 8 bytes.
 abbrev pub is_number_from : ℕ → ElementSize → ℕ → Bool
@@ -297,59 +286,6 @@ copied_by (SetList source canonicalize) = Some (copying source AList canonicaliz
 copied_by (CopyContent source) = Some (copying source Content false)
 copied_by op = None
 
--- A copy is refused by a name: its source isn't read, and all is as it was; or as the copy of what was read is.
-abbrev pub IsSourceRefused : View → View → Copying → ErrorKind → Type 0
-IsSourceRefused old new c k = (IsUnread c k × (new ≡ old)) ⊎ IsCopyRefused old new c k
-
--- What is looked for isn't opened: all is as it was; or memory is refused, and truly.
-abbrev pub IsOpeningRefused : View → View → ErrorKind → Type 0
-IsOpeningRefused old new k = (new ≡ old) ⊎ (SpendsMemory old new k × RefusesGrowth old new k)
-
--- A default's copy is refused.
-abbrev pub IsDefaultRefused : View → View → List ℕ → ErrorKind → Type 0
-IsDefaultRefused old new bytes k = SpendsMemory old new k × ((id : ℕ) × (at : ℕ) × RefusesDefault bytes (default_copy id at old new) k)
-
--- A search is refused: where a default's value is put in place of null first, from there on; or its copy is.
-abbrev pub IsSearchRefused : View → View → Option (Bor (List ℕ)) → ErrorKind → Type 0
-IsSearchRefused old new None k = IsOpeningRefused old new k
-IsSearchRefused old new (Some default) k = ((mid : View) × KeepsMemory old mid × IsOpeningRefused mid new k) ⊎ IsDefaultRefused old new default.now k
-
--- Any other operation that copies nothing is refused only for want of memory or room for its n words, and truly.
-abbrev pub IsWordsRefused : View → View → Option (Option (Bor (List ℕ))) → ℕ → ErrorKind → Type 0
-IsWordsRefused old new (Some default) n k = IsSearchRefused old new default k
-IsWordsRefused old new None n k = IsRefusedFor old new n k
-
-abbrev pub IsCallRefused : View → View → Op → Option Copying → ErrorKind → Type 0
-IsCallRefused old new op (Some c) k = IsSourceRefused old new c k
-IsCallRefused old new op None k = IsWordsRefused old new (search_of op) (words_taken op) k
-
--- A refusal by a name is for what a path leads to, and all is as it was; or it is that of the call.
-abbrev pub IsRefusedAs : View → View → Op → ErrorKind → Type 0
-IsRefusedAs old new op k = ((is_of_place k ≡ true) × (new ≡ old)) ⊎ IsCallRefused old new op (copied_by op) k
-
--- What a call makes of n words, or copies, fits at a pointer of segment id.
--- What is copied does; content, at any struct of any segment.
-abbrev pub CopyFits : View → ℕ → Wanted → Copying → Type 0
-CopyFits old id Content c = (j q : ℕ) → ContentFitsBehind old j c.source q
-CopyFits old id w c = FitsBehind old id c
-
--- So do the words of an object, and a default's value. How many words make what is found larger isn't said by the operation alone, so of none is it known
--- that they fit.
-abbrev pub WordsFit : View → ℕ → Op → Type 0
-WordsFit old id (GetStruct size default) = ⊥
-WordsFit old id (GetList size default) = DefaultFits default old id
-WordsFit old id (GetStructList size default) = ⊥
-WordsFit old id (GetText default) = DefaultFits default old id
-WordsFit old id (GetData default) = DefaultFits default old id
-WordsFit old id op = HasRoom old id (words_taken op)
-
-abbrev pub CallFits : View → ℕ → Op → Option Copying → Type 0
-CallFits old id op (Some c) = CopyFits old id c.wanted c
-CallFits old id op None = WordsFit old id op
-
-abbrev pub OpFits : View → ℕ → Op → Type 0
-OpFits old id op = CallFits old id op (copied_by op)
-
 -- What stands after a whole operation in range where a pointer meant t: what it makes; or null, for want of memory.
 abbrev pub Gives : Op → Tree → Option ErrorKind → Tree → Type 0
 Gives op t None u = made_at op (PointerTo t) ≡ becomes u
@@ -367,14 +303,6 @@ place_of b = record { segment = b.segment; word = b.at }
 -- Whatever value the pointer at a place had, it has in its stead what the operation gives, with its outcome.
 abbrev pub GivesAt : Segments → Segments → PointerPlace → Op → Option ErrorKind → Type 0
 GivesAt S R place op r = (t : Tree) → IsStored S place.segment place.word t → (u : Tree) × Gives op t r u × IsReplaced S R place.segment place.word t u
-
--- What a call leaves that does a whole operation in range at a place, with its outcome: what the operation gives; the refused requests that are counted; a
--- refusal is for want of memory or room, and there is none where the words fit.
-pub record IsPut (old new : View) (place : PointerPlace) (op : Op) (r : Option ErrorKind) : Type 0 where
-  pub done : GivesAt old.words new.words place op r
-  pub counted : new.refusals ≡ refusals_after r old.refusals
-  pub named : (k : ErrorKind) → r ≡ Some k → IsRefusedFor old new (words_taken op) k
-  pub fits : HasRoom old place.segment (words_taken op) → r ≡ None
 
 -- The pointer behind those that are read is refused by the name k, for memory or for what it reads.
 abbrev pub IsNextRefused : (source : Source) → ContentRead source → ErrorKind → Type 0
@@ -437,14 +365,6 @@ pub record DoesAt (S R : Segments) (place : PointerPlace) (op : Op) (t : Tree) (
 
 abbrev pub Does : Segments → Segments → PointerPlace → Op → Option ErrorKind → Type 0
 Does S R place op r = (t : Tree) → IsStored S place.segment place.word t → DoesAt S R place op t r
-
--- What a call leaves that does a search at a place, with its outcome.
-pub record IsSought (old new : View) (place : PointerPlace) (op : Op) (r : Option ErrorKind) : Type 0 where
-  pub done : Does old.words new.words place op r
-  pub counted : new.refusals ≡ refusals_after r old.refusals
-  pub named : (k : ErrorKind) → r ≡ Some k → IsRefusedAs old new op k
-  pub fits : WordsFit old place.segment op → (k : ErrorKind) → r ≡ Some k → is_of_place k ≡ true
-  pub nowhere : r ≡ Some NoSuchPlace → new ≡ old
 
 -- What writing bits leaves of the data section of a struct, with its outcome: they are written, or they aren't there.
 pub data PutsBits (S R : Segments) (e : ExistingStruct) (f : Field) (r : Option ErrorKind) : Type 0 where

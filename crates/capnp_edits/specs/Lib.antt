@@ -1,3 +1,4 @@
 pub mod Paths
 pub mod Edits
 pub mod Sources
+pub mod Steps

@@ -12,9 +12,8 @@ use Rattle.capnp_format.specs.Tree.{Tree, Null, Struct, Flat, Pointers, Structs,
 use Rattle.capnp_format.specs.Word.{kind, offset_bits, data_words, pointer_count, element_size, list_count}
 use Rattle.capnp_arena.specs.Checks.{Holds, misplaced}
 use Rattle.capnp_arena.specs.Limits.{whole}
-use Rattle.capnp_arena.specs.View.{View, KeepsLimits}
+use Rattle.capnp_arena.specs.View.{View}
 use Rattle.capnp_arena.specs.declared.arena.reader_arena.ReaderArena.{Ghosts}
-use Rattle.capnp_making.specs.Memory.{RefusesWords}
 use Rattle.capnp_making.specs.Near.{HasOwnRoom}
 use Rattle.capnp_objects.specs.declared.object.Expected.TheVariants.{Struct as ExpectedStruct, List as ExpectedList}
 use Rattle.capnp_objects.specs.Demands.{IsStructList, tag}
@@ -26,12 +25,12 @@ use Rattle.capnp_objects.specs.Refusals.{Refused}
 use Rattle.capnp_objects.specs.Source.{levels}
 use Rattle.capnp_objects.specs.Wanted.{Takes, plain}
 use Rattle.capnp_readers.specs.Readers.{reading}
-use Rattle.capnp_readers.specs.declared.readers.PointerPlace.{PointerPlace}
 use Rattle.capnp_readers.specs.declared.readers.PointerReader.{PointerReader}
 use Rattle.capnp_copies.specs.Changes.{Change, RefusesValue, change}
 use Rattle.capnp_copies.specs.Forms.{form_of, kept}
 use Rattle.capnp_copies.specs.ListValues.{ListElements, RefusesElements}
 use Rattle.capnp_copies.specs.StructValues.{RefusesSections}
+use Rattle.capnp_widening.specs.Opening.{CallAt}
 use Rattle.capnp_builders.specs.Laws.{HoldContent, up_to}
 use Rattle.capnp_edits.specs.declared.edit.Source.{Source}
 use Rattle.capnp_edits.specs.declared.edit.copying.Copying.{Copying}
@@ -205,23 +204,20 @@ ContentFitsBehind v id source q =
 abbrev pub IsNextUnreadable : (source : Source) → ContentRead source → ErrorKind → Type 0
 IsNextUnreadable source c k = (m : Meter) × Refused plain (behind c.from.first (count c.children)) c.after m k
 
--- Between these there are i pointers; the next one is refused by the name k: it can't be read, or an object finds no room once the data is taken.
-abbrev pub RefusesNext : Sections → ℕ → Change → ErrorKind → Type 0
-RefusesNext s i c k =
-    (between : Meter) × (((taken : View) × (n : ℕ) × KeepsLimits c.old taken × RefusesWords taken c.new n k) ⊎ Refused plain (behind s.first i) between c.after k)
-
--- The copy of what is wanted at a place is refused by the name k.
+-- The copy of a whole value that is wanted at a place is refused by the name k.
 abbrev pub RefusesAs : Wanted → Reading → Change → ErrorKind → Type 0
 RefusesAs Value r c k = RefusesValue r c k
 RefusesAs AStruct r c k = (s : Sections) × LeadsToStruct r c.before s × RefusesSections s.words s.first s.pointers (record c { before = s.limiter }) k
 RefusesAs AList r c k = (l : ListElements) × (m : Meter) × LeadsToList r c.before m l × RefusesElements l (record c { before = m }) k
-RefusesAs Content r c k = (s : Sections) × (i : ℕ) × LeadsToStruct r c.before s × RefusesNext s i c k
+RefusesAs Content r c k = ⊥
 
--- From old to new the copy to a place is refused by the name k: an object finds no room, or reading is refused.
-abbrev pub IsCopyRefused : View → View → Copying → ErrorKind → Type 0
-IsCopyRefused old new c k =
-    (place : PointerPlace) × (m : Meter)
-    × RefusesAs c.wanted (root_of c.source) (change (form_of c.canonicalize) place.segment place.word old new (once_at_root c.source) m) k
+-- A copy that a call makes at a place; what is left of its limiter then is m.
+abbrev pub copy_at : CallAt → Copying → Meter → Change
+copy_at call c m = change (form_of c.canonicalize) call.segment call.at call.old call.new (once_at_root c.source) m
+
+-- It is refused by the name k: an object finds no room, or reading is refused.
+abbrev pub IsCopyRefused : CallAt → Copying → ErrorKind → Type 0
+IsCopyRefused call c k = (m : Meter) × RefusesAs c.wanted (root_of c.source) (copy_at call c m) k
 
 -- Where there is a value to be copied, reading isn't refused.
 abbrev pub CopiedOrRefused : Type 0

@@ -1,8 +1,8 @@
 //! Edits: changes of a message that is built, as data. Each has a path from the root pointer, and an
 //! operation that is done where the path leads.
-ghost use Rattle.std.specs.Prelude.{◌≡◌, ℕ, true, length, IfErr, Some};
-ghost use Rattle.capnp_words.specs.declared.error.ErrorKind.TheVariants.{NoSuchPlace};
-ghost use Rattle.capnp_edits.specs.Edits.{refusal_of, is_of_place, OpFits, IsRefusedAs, IsApplied, AreApplied, refusals_after, refusals_after_all};
+ghost use Rattle.std.specs.Prelude.{◌≡◌, length};
+ghost use Rattle.capnp_edits.specs.Edits.{refusal_of, AreApplied, refusals_after_all};
+ghost use Rattle.capnp_edits.specs.Steps.{IsStep, AreSteps};
 
 mod copying;
 mod elements;
@@ -122,11 +122,7 @@ pub struct Edit<'a> {
 /// null; where its kind is refused then, or memory for making it larger, the value stays. So does every value
 /// that was to be made larger.
 pub fn apply<A: BuilderArena>(arena: &mut A, edit: &Edit<'_>) -> Result<(), ErrorKind>
-    ensures applied { IsApplied (A.view arena.old).words (A.view arena.new).words edit.now (refusal_of result) }
-    ensures counted { (A.view arena.new).refusals ≡ refusals_after (refusal_of result) (A.view arena.old).refusals }
-    ensures named { IfErr result (IsRefusedAs (A.view arena.old) (A.view arena.new) edit.now.op) }
-    ensures fits { ((id : ℕ) → OpFits (A.view arena.old) id edit.now.op) → IfErr result (λ k. is_of_place k ≡ true) }
-    ensures nowhere { refusal_of result ≡ Some NoSuchPlace → A.view arena.new ≡ A.view arena.old }
+    ensures { IsStep (A.view arena.old) (A.view arena.new) edit.now (refusal_of result) }
 {
     if !has_words(&*arena, 0, 1) {
         return Err(ErrorKind::NoSuchPlace);
@@ -146,6 +142,7 @@ pub fn apply_all<A: BuilderArena>(
     outcomes: &mut [Option<ErrorKind>],
 )
     requires { length outcomes.old ≡ length edits.now }
+    ensures steps { AreSteps (A.view arena.old) (A.view arena.new) edits.now outcomes.new }
     ensures applied { AreApplied (A.view arena.old).words (A.view arena.new).words edits.now outcomes.new }
     ensures counted { (A.view arena.new).refusals ≡ refusals_after_all outcomes.new (A.view arena.old).refusals }
 {

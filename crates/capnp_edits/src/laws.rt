@@ -1,6 +1,7 @@
 //! What follows of the contracts of this crate. Each function does nothing: its contract is a law, proved
 //! for all messages.
 ghost use Rattle.capnp_edits.specs.Sources.{CopiedOrRefused, FilledOrRefused};
+ghost use Rattle.capnp_edits.specs.Steps.{StepIsThere};
 
 /// What is copied of another message can be copied or is refused for what is read of it, and never both.
 pub fn copied_or_refused()
@@ -11,4 +12,9 @@ pub fn copied_or_refused()
 /// copied mean values within both limits, no copy of it is refused for what is read.
 pub fn filled_or_refused()
     ensures { FilledOrRefused }
+{}
+
+/// An edit whose path leads to a pointer is done at that one: what `apply` says of its place is said of it.
+pub fn step_is_there()
+    ensures { StepIsThere }
 {}

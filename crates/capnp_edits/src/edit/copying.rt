@@ -1,9 +1,10 @@
 //! Edits that copy from another message.
 ghost use Rattle.std.specs.Prelude.{◌≡◌, true, IsOk, IfOk, IfErr};
 ghost use Rattle.capnp_format.specs.Segments.{IsPlace};
-ghost use Rattle.capnp_builders.specs.Building.{built, IsThere};
+ghost use Rattle.capnp_builders.specs.Building.{built, calling, IsThere};
 ghost use Rattle.capnp_edits.specs.Sources.{is_whole, FitsBehind, IsOpened, IsRootless};
-ghost use Rattle.capnp_edits.specs.Edits.{refusal_of, copied_by, place_of, refusals_after, CopiesRoot, IsSourceRefused};
+ghost use Rattle.capnp_edits.specs.Edits.{refusal_of, copied_by, place_of, refusals_after, CopiesRoot};
+ghost use Rattle.capnp_edits.specs.Steps.{call_to, IsWholeRefused, TakesForWhole};
 
 use crate::edit::{Op, Source};
 use capnp_arena::arena::{BuilderArena, ReaderArena, ReaderArenaImpl, SegmentArray};
@@ -81,7 +82,8 @@ fn copy_root<A: BuilderArena>(
     requires whole { is_whole copying.wanted ≡ true }
     ensures done { CopiesRoot (A.view pointer.old.arena.now).words (A.view pointer.new.arena.now).words (place_of pointer.old) copying.entry (refusal_of result) }
     ensures counted { (A.view pointer.new.arena.now).refusals ≡ refusals_after (refusal_of result) (A.view pointer.old.arena.now).refusals }
-    ensures named { IfErr result (IsSourceRefused (A.view pointer.old.arena.now) (A.view pointer.new.arena.now) copying.entry) }
+    ensures named { IfErr result (IsWholeRefused (calling A.view pointer.old pointer.new) copying.entry) }
+    ensures taken { TakesForWhole (calling A.view pointer.old pointer.new) copying.entry (refusal_of result) }
     ensures fits { FitsBehind (A.view pointer.old.arena.now) pointer.old.segment copying.entry → IsOk result }
     ensures same { pointer.new.arena.ghost_name ≡ pointer.old.arena.ghost_name }
 {
@@ -113,7 +115,8 @@ pub(crate) fn edit_source<A: BuilderArena>(
     requires whole { is_whole copying.wanted ≡ true }
     ensures done { CopiesRoot (A.view arena.old).words (A.view arena.new).words place copying.entry (refusal_of result) }
     ensures counted { (A.view arena.new).refusals ≡ refusals_after (refusal_of result) (A.view arena.old).refusals }
-    ensures named { IfErr result (IsSourceRefused (A.view arena.old) (A.view arena.new) copying.entry) }
+    ensures named { IfErr result (IsWholeRefused (call_to place (A.view arena.old) (A.view arena.new)) copying.entry) }
+    ensures taken { TakesForWhole (call_to place (A.view arena.old) (A.view arena.new)) copying.entry (refusal_of result) }
     ensures fits { FitsBehind (A.view arena.old) place.segment copying.entry → IsOk result }
 {
     let mut pointer = PointerBuilder {

@@ -10,6 +10,7 @@ ghost use Rattle.capnp_readers.specs.Sections.{data_bits, list_words};
 ghost use Rattle.capnp_builders.specs.Elements.{value_bits, WritesElement};
 ghost use Rattle.capnp_builders.specs.Found.{place_of as list_place};
 ghost use Rattle.capnp_edits.specs.Edits.{refusal_of, is_content, is_in_range, is_number_from, is_of_place, PutsElement, PutsByte, Does};
+ghost use Rattle.capnp_edits.specs.Steps.{KeepsLengths};
 
 use crate::edit::Op;
 use crate::edit::path::has_words;
@@ -175,6 +176,7 @@ pub(crate) fn edit_content<A: BuilderArena>(
     requires range { is_in_range op ≡ true }
     requires content { is_content op ≡ true }
     ensures done { Does (A.view arena.old).words (A.view arena.new).words place op.entry (refusal_of result) }
+    ensures lengths { KeepsLengths (A.view arena.old).words (A.view arena.new).words }
     ensures limits { KeepsLimits (A.view arena.old) (A.view arena.new) }
     ensures named { IfErr result (λ k. is_of_place k ≡ true) }
     ensures kept { OnErr result (A.view arena.new ≡ A.view arena.old) }

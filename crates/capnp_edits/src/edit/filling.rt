@@ -1,14 +1,14 @@
 //! Edits that copy the content of a struct of another message.
-ghost use Rattle.std.specs.Prelude.{◌≡◌, ◌+◌, None, false, true, IsOk, IfOk, IfErr, IfSome};
+ghost use Rattle.std.specs.Prelude.{◌≡◌, ◌⊎◌, ◌+◌, Some, None, true, IsOk, IfOk, IfErr, IfSome};
 ghost use Rattle.capnp_arena.specs.View.{View};
 ghost use Rattle.capnp_making.specs.Existing.{LiesIn};
 ghost use Rattle.capnp_readers.specs.Readers.{IsStructPlace};
 ghost use Rattle.capnp_builders.specs.Places.{IsAligned};
-ghost use Rattle.capnp_builders.specs.Content.{TakesContent, StopsAtContent, ContentFits, pointers_copied};
+ghost use Rattle.capnp_builders.specs.Content.{TakesContent, StopsAtContent, ContentFits, TakesForContent as TakesForCopy, pointers_copied};
 ghost use Rattle.capnp_words.specs.declared.error.ErrorKind.TheVariants.{NoSuchPlace};
-ghost use Rattle.capnp_edits.specs.declared.edit.copying.Wanted.TheVariants.{Content};
-ghost use Rattle.capnp_edits.specs.Sources.{copying, ContentFitsBehind};
-ghost use Rattle.capnp_edits.specs.Edits.{refusal_of, is_of_place, sections, FillsAt, FillsOrWrites, refusals_after, IsSourceRefused, IsRefusedAs, OpFits};
+ghost use Rattle.capnp_edits.specs.Sources.{ContentFitsBehind};
+ghost use Rattle.capnp_edits.specs.Edits.{refusal_of, is_of_place, sections, FillsAt, FillsOrWrites, refusals_after};
+ghost use Rattle.capnp_edits.specs.Steps.{ElementFits, IsContentRefused, IsElementRefused, IsOfPlace, TakesForContent, TakesForElement};
 
 use crate::edit::copying::open_source;
 use crate::edit::fields::edit_struct;
@@ -53,6 +53,7 @@ fn copy_over<A: BuilderArena, B: ReaderArena>(
     ensures copied { IfOk result (λ _. TakesContent B.ReaderArena value.now place (pointers_copied place (A.view arena.old) (A.view arena.new) lim.old lim.new)) }
     ensures fits { ContentFits B.ReaderArena value.now place (pointers_copied place (A.view arena.old) (A.view arena.new) lim.old lim.new) → IsOk result }
     ensures refused { IfErr result (StopsAtContent B.ReaderArena value.now place (pointers_copied place (A.view arena.old) (A.view arena.new) lim.old lim.new)) }
+    ensures taken { TakesForCopy B.ReaderArena result value.now place (pointers_copied place (A.view arena.old) (A.view arena.new) lim.old lim.new) }
 {
     let mut builder = StructBuilder { arena, place };
     builder.copy_content_from(value, lim)
@@ -67,7 +68,8 @@ pub(crate) fn fill<A: BuilderArena>(
     requires { LiesIn (A.view arena.old).words parent }
     ensures filled { FillsAt (A.view arena.old).words (A.view arena.new).words (sections parent) source.entry (refusal_of result) }
     ensures counted { (A.view arena.new).refusals ≡ refusals_after (refusal_of result) (A.view arena.old).refusals }
-    ensures named { IfErr result (IsSourceRefused (A.view arena.old) (A.view arena.new) (copying source.entry Content false)) }
+    ensures named { IfErr result (IsContentRefused (A.view arena.old) (A.view arena.new) (sections parent) source.entry) }
+    ensures taken { TakesForContent (A.view arena.old) (A.view arena.new) (sections parent) source.entry (refusal_of result) }
     ensures fits { ContentFitsBehind (A.view arena.old) parent.segment source.entry parent.size.pointers → IsOk result }
 {
     let (root, mut lim) = match open_source(source) {
@@ -93,8 +95,9 @@ pub(crate) fn edit_element<A: BuilderArena>(
     requires { LiesIn (A.view arena.old).words parent }
     ensures done { FillsOrWrites (A.view arena.old).words (A.view arena.new).words parent op.entry (refusal_of result) }
     ensures counted { (A.view arena.new).refusals ≡ refusals_after (refusal_of result) (A.view arena.old).refusals }
-    ensures named { IfErr result (IsRefusedAs (A.view arena.old) (A.view arena.new) op.entry) }
-    ensures fits { OpFits (A.view arena.old) parent.segment op.entry → IfErr result (λ k. is_of_place k ≡ true) }
+    ensures named { IfErr result (λ k. IsOfPlace (A.view arena.old) (A.view arena.new) k ⊎ IsElementRefused (A.view arena.old) (A.view arena.new) parent op.entry k) }
+    ensures fits { ElementFits (A.view arena.old) parent op.entry → IfErr result (λ k. is_of_place k ≡ true) }
+    ensures taken { TakesForElement (A.view arena.old) (A.view arena.new) parent op.entry (refusal_of result) }
     ensures nowhere { refusal_of result ≡ Some NoSuchPlace → A.view arena.new ≡ A.view arena.old }
 {
     match op {

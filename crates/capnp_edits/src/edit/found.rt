@@ -3,7 +3,8 @@ ghost use Rattle.std.specs.Prelude.{◌≡◌, IfErr, true, None, Some};
 ghost use Rattle.capnp_format.specs.Segments.{IsPlace};
 ghost use Rattle.capnp_words.specs.declared.error.ErrorKind.TheVariants.{NoSuchPlace};
 ghost use Rattle.capnp_builders.specs.Building.{built, IsThere};
-ghost use Rattle.capnp_edits.specs.Edits.{refusal_of, is_search, is_in_range, place_of, copied_by, is_of_place, OpFits, IsRefusedAs, IsSought, Does, refusals_after};
+ghost use Rattle.capnp_edits.specs.Edits.{refusal_of, is_search, is_in_range, place_of, is_of_place, Does, refusals_after};
+ghost use Rattle.capnp_edits.specs.Steps.{call_to, OpFits, IsRefusedAs, IsSought, TakesFor};
 
 use crate::edit::Op;
 use crate::edit::pointer::done;
@@ -54,11 +55,11 @@ pub(crate) fn edit_search<A: BuilderArena>(
     requires there { IsPlace (A.view arena.old).words place.segment place.word }
     requires range { is_in_range op ≡ true }
     requires search { is_search op ≡ true }
-    requires uncopied { copied_by op ≡ None }
     ensures done { Does (A.view arena.old).words (A.view arena.new).words place op.entry (refusal_of result) }
     ensures counted { (A.view arena.new).refusals ≡ refusals_after (refusal_of result) (A.view arena.old).refusals }
-    ensures named { IfErr result (IsRefusedAs (A.view arena.old) (A.view arena.new) op.entry) }
-    ensures fits { OpFits (A.view arena.old) place.segment op.entry → IfErr result (λ k. is_of_place k ≡ true) }
+    ensures named { IfErr result (IsRefusedAs (call_to place (A.view arena.old) (A.view arena.new)) op.entry) }
+    ensures taken { TakesFor (call_to place (A.view arena.old) (A.view arena.new)) op.entry (refusal_of result) }
+    ensures fits { OpFits (A.view arena.old) place op.entry → IfErr result (λ k. is_of_place k ≡ true) }
     ensures nowhere { refusal_of result ≡ Some NoSuchPlace → A.view arena.new ≡ A.view arena.old }
 {
     look_at(arena, place, op)

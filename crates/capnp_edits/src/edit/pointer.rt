@@ -4,7 +4,8 @@ ghost use Rattle.capnp_format.specs.Segments.{IsPlace};
 ghost use Rattle.capnp_making.specs.Memory.{HasRoom, IsRefusedFor};
 ghost use Rattle.capnp_words.specs.declared.error.ErrorKind.TheVariants.{NoSuchPlace};
 ghost use Rattle.capnp_builders.specs.Building.{built, IsThere};
-ghost use Rattle.capnp_edits.specs.Edits.{refusal_of, field_of, is_field, is_content, is_search, is_init, is_small_default, is_in_range, place_of, is_of_place, copied_by, OpFits, IsRefusedAs, IsPut, Does, refusals_after};
+ghost use Rattle.capnp_edits.specs.Edits.{refusal_of, field_of, is_field, is_content, is_search, is_init, is_small_default, is_in_range, place_of, is_of_place, copied_by, Does, refusals_after};
+ghost use Rattle.capnp_edits.specs.Steps.{call_to, OpFits, IsRefusedAs, IsPut, TakesFor};
 
 use crate::edit::Op;
 use crate::edit::copying::{copying_of, edit_source};
@@ -180,8 +181,9 @@ pub(crate) fn edit_pointer<A: BuilderArena>(
     requires { IsPlace (A.view arena.old).words place.segment place.word }
     ensures done { Does (A.view arena.old).words (A.view arena.new).words place op.entry (refusal_of result) }
     ensures counted { (A.view arena.new).refusals ≡ refusals_after (refusal_of result) (A.view arena.old).refusals }
-    ensures named { IfErr result (IsRefusedAs (A.view arena.old) (A.view arena.new) op.entry) }
-    ensures fits { OpFits (A.view arena.old) place.segment op.entry → IfErr result (λ k. is_of_place k ≡ true) }
+    ensures named { IfErr result (IsRefusedAs (call_to place (A.view arena.old) (A.view arena.new)) op.entry) }
+    ensures taken { (refusal_of result ≡ Some NoSuchPlace → ⊥) → TakesFor (call_to place (A.view arena.old) (A.view arena.new)) op.entry (refusal_of result) }
+    ensures fits { OpFits (A.view arena.old) place op.entry → IfErr result (λ k. is_of_place k ≡ true) }
     ensures nowhere { refusal_of result ≡ Some NoSuchPlace → A.view arena.new ≡ A.view arena.old }
 {
     if is_on_field(op) {

@@ -1,7 +1,9 @@
 use Rattle.std.proofs.Common.{◌≡◌, sym, ap, ◌∙◌, subst, arith}
 use Rattle.std.proofs.lemmas.List.{length-set, take_all}
 use Rattle.capnp_edits.specs.Edits.{refusal_of, IsApplied, refusals_after_all}
+use Rattle.capnp_edits.specs.Steps.{IsStep}
 use Rattle.capnp_edits.proofs.Folded.{next_applied, next_counted}
+use Rattle.capnp_edits.proofs.Stepped.{next_step}
 use Rattle.capnp_edits.proofs.edit.apply_all.Goals as goal
 use Rattle.capnp_edits.proofs.edit.apply_all.Goals.{in-Ok, in-Err}
 
@@ -13,8 +15,10 @@ loop-i-preserved g c =
     let edit = c.index-edits-i.result in
     let old = g.A.BuilderArena.view c.loop-i.arena in
     let new = g.A.BuilderArena.view c.apply.new.arena in
+    let step = subst (λ e. IsStep old new e (refusal_of c.apply.result)) c.index-edits-i.is c.apply.ensures in
     let applied = subst (λ e. IsApplied old.words new.words e (refusal_of c.apply.result)) c.index-edits-i.is c.apply.ensures.applied in
     record {
+      steps = next_step _ _ _ c.args.edits.now c.loop-i.outcomes c.loop-i.i edit (refusal_of c.apply.result) r c.loop-i-test.true before.long same before.steps step;
       applied = next_applied _ _ _ c.args.edits.now c.loop-i.outcomes c.loop-i.i edit (refusal_of c.apply.result) r c.loop-i-test.true before.long same before.applied applied;
       counted = next_counted c.loop-i.outcomes c.loop-i.i _ _ _ (refusal_of c.apply.result) r (omega (arith, c.loop-i-test.true, before.long)) same before.counted c.apply.ensures.counted;
       long = length-set c.loop-i.outcomes c.loop-i.i r ∙ before.long;

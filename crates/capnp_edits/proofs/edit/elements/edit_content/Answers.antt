@@ -1,6 +1,7 @@
 use Rattle.std.proofs.Common.{◌≡◌, true, sym, subst}
 use Rattle.capnp_edits.specs.Edits.{refusal_of, is_in_range, is_number_from, Does}
 use Rattle.capnp_edits.proofs.Contents.{element_does, text_does, data_does}
+use Rattle.capnp_edits.proofs.Taken.{element_lengths, byte_lengths}
 use Rattle.capnp_edits.proofs.edit.elements.edit_content.Goals as goal
 
 pub returns-in-SetElement-clause-done : goal.returns-in-SetElement-clause-done
@@ -27,3 +28,12 @@ returns-in-WriteData-clause-done g c =
     let r = refusal_of c.write_byte-in-WriteData.result in
     subst (λ op. Does S R c.args.place op r) (sym c.in-WriteData.is)
     (data_does S R c.args.place c.in-WriteData.index c.in-WriteData.value r c.get_data-found.result c.requires.there c.write_byte-in-WriteData.ensures.byte c.get_data-found.ensures.found c.write_byte-in-WriteData.ensures.put)
+
+pub returns-in-SetElement-clause-lengths : goal.returns-in-SetElement-clause-lengths
+returns-in-SetElement-clause-lengths g c = element_lengths _ _ _ _ _ _ _ c.set_element.ensures.put
+
+pub returns-in-WriteText-clause-lengths : goal.returns-in-WriteText-clause-lengths
+returns-in-WriteText-clause-lengths g c = byte_lengths _ _ _ _ _ _ c.write_byte.ensures.put
+
+pub returns-in-WriteData-clause-lengths : goal.returns-in-WriteData-clause-lengths
+returns-in-WriteData-clause-lengths g c = byte_lengths _ _ _ _ _ _ c.write_byte-in-WriteData.ensures.put

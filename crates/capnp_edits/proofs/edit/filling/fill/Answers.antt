@@ -1,11 +1,12 @@
-use Rattle.std.proofs.Common.{inl, false, refl, sym, subst}
+use Rattle.std.proofs.Common.{IfErr, inl, false, refl, sym, subst}
 use Rattle.capnp_readers.specs.declared.readers.struct_reader.StructPlace.{StructPlace}
 use Rattle.capnp_edits.specs.declared.edit.copying.Wanted.TheVariants.{Content}
 use Rattle.capnp_edits.specs.Sources.{copying, IsUnread, ContentFitsBehind}
 use Rattle.capnp_edits.specs.Edits.{refusal_of, FillsAt, none_filled}
+use Rattle.capnp_edits.specs.Steps.{IsContentRefused, TakesForContent}
 use Rattle.capnp_edits.proofs.Copied.{unread_counted, content_unread}
 use Rattle.capnp_builders.specs.Places.{IsAligned}
-use Rattle.capnp_edits.proofs.Filled.{fill_done, fill_counted, fill_named, fill_nothing, fill_unread, fill_fits, sections_aligned}
+use Rattle.capnp_edits.proofs.Filled.{fill_done, fill_counted, fill_named, fill_taken, fill_nothing, nothing_taken, fill_unread, fill_fits, sections_aligned}
 use Rattle.capnp_edits.proofs.edit.filling.fill.Goals as goal
 
 -- There is no root where it is refused.
@@ -20,6 +21,9 @@ returns-in-Err-clause-counted g c = unread_counted (copying c.args.source Conten
 
 pub returns-in-Err-clause-named : goal.returns-in-Err-clause-named
 returns-in-Err-clause-named g c = inl (rootless g c, refl)
+
+pub returns-in-Err-clause-taken : goal.returns-in-Err-clause-taken
+returns-in-Err-clause-taken g c = inl (c.in-Err.k, refl, rootless g c, refl)
 
 pub returns-in-Err-clause-fits : goal.returns-in-Err-clause-fits
 returns-in-Err-clause-fits g c = λ fits. absurd (fill_unread (g.A.BuilderArena.view c.args.arena.now) c.args.parent.segment c.args.source c.args.parent.size.pointers c.in-Err.k (rootless g c) fits)
@@ -52,8 +56,19 @@ returns-in-Some-clause-counted g c =
 
 pub returns-in-Some-clause-named : goal.returns-in-Some-clause-named
 returns-in-Some-clause-named g c =
+    let old = g.A.BuilderArena.view c.args.arena.now in
+    let new = g.A.BuilderArena.view c.copy_over.new.arena in
     let value = c.in-Ok-get_struct.value in
-    fill_named c.copy_over.result _ c.args.source c.in-Ok.opened.0 value _ _ _ _ _ c.in-Some.place c.in-Ok.ensures.found value.content_is.1 c.in-Ok-get_struct.ensures.read c.copy_over.ensures.refused
+    subst (λ p. IfErr c.copy_over.result (IsContentRefused old new p c.args.source)) c.in-Some.ensures.place
+    (fill_named c.copy_over.result _ c.args.source c.in-Ok.opened.0 value _ _ _ old new c.in-Some.place c.in-Ok.ensures.found value.content_is.1 c.in-Ok-get_struct.ensures.read c.copy_over.ensures.refused)
+
+pub returns-in-Some-clause-taken : goal.returns-in-Some-clause-taken
+returns-in-Some-clause-taken g c =
+    let old = g.A.BuilderArena.view c.args.arena.now in
+    let new = g.A.BuilderArena.view c.copy_over.new.arena in
+    let value = c.in-Ok-get_struct.value in
+    subst (λ p. TakesForContent old new p c.args.source (refusal_of c.copy_over.result)) c.in-Some.ensures.place
+    (fill_taken c.copy_over.result _ c.args.source c.in-Ok.opened.0 value _ _ _ old new c.in-Some.place c.in-Ok.ensures.found value.content_is.1 c.in-Ok-get_struct.ensures.read c.copy_over.ensures.taken)
 
 -- Nothing is taken by a struct of no words.
 pub returns-in-None-clause-filled : goal.returns-in-None-clause-filled
@@ -61,8 +76,16 @@ returns-in-None-clause-filled g c =
     let value = c.in-Ok-get_struct.value in
     fill_nothing _ c.args.source c.in-Ok.opened.0 value _ _ _ c.args.parent c.in-Ok.ensures.found value.content_is.1 c.in-Ok-get_struct.ensures.read (c.in-None.ensures.empty refl)
 
+pub returns-in-None-clause-taken : goal.returns-in-None-clause-taken
+returns-in-None-clause-taken g c =
+    let value = c.in-Ok-get_struct.value in
+    nothing_taken _ c.args.source c.in-Ok.opened.0 value _ _ (g.A.BuilderArena.view c.args.arena.now) c.args.parent c.in-Ok.ensures.found value.content_is.1 c.in-Ok-get_struct.ensures.read (c.in-None.ensures.empty refl)
+
 pub copy_over-requires-clause-aligned : goal.copy_over-requires-clause-aligned
 copy_over-requires-clause-aligned g c = subst IsAligned (sym c.in-Some.ensures.place) (sections_aligned c.args.parent)
+
+pub returns-in-Err-get_struct-clause-taken : goal.returns-in-Err-get_struct-clause-taken
+returns-in-Err-get_struct-clause-taken g c = inl (c.in-Err-get_struct.k, refl, missing g c, refl)
 
 pub returns-in-Err-get_struct-clause-fits : goal.returns-in-Err-get_struct-clause-fits
 returns-in-Err-get_struct-clause-fits g c = λ fits. absurd (fill_unread (g.A.BuilderArena.view c.args.arena.now) c.args.parent.segment c.args.source c.args.parent.size.pointers c.in-Err-get_struct.k (missing g c) fits)

@@ -1,6 +1,7 @@
 use Rattle.std.proofs.Common.{sym, ap, ◌∙◌, subst}
 use Rattle.capnp_widening.specs.Opening.{call_at}
-use Rattle.capnp_edits.specs.Edits.{refusal_of, is_in_range, place_of, IsSought}
+use Rattle.capnp_edits.specs.Edits.{refusal_of, is_in_range, place_of}
+use Rattle.capnp_edits.specs.Steps.{IsSought}
 use Rattle.capnp_edits.proofs.Sought.{few_words, list_range, struct_sought, list_sought, structs_sought, text_sought, data_sought}
 use Rattle.capnp_edits.proofs.edit.found.look.Goals as goal
 
@@ -13,7 +14,7 @@ returns-in-GetStruct-clause-sought g c =
     let new = g.A.BuilderArena.view c.find_struct.new.self.arena.now in
     rw c.done.ensures (
     subst (λ op. IsSought old new (place_of c.args.pointer.now) op (refusal_of c.find_struct.result)) (sym c.in-GetStruct.is)
-    (struct_sought c.find_struct.result c.in-GetStruct.size c.in-GetStruct.default (call_at c.args.pointer.now.segment c.args.pointer.now.at old new) c.requires.there (sym (ap is_in_range c.in-GetStruct.is) ∙ c.requires.range) c.find_struct.ensures.found c.find_struct.ensures.set c.find_struct.ensures.granted c.find_struct.ensures.memory))
+    (struct_sought c.find_struct.result c.in-GetStruct.size c.in-GetStruct.default (call_at c.args.pointer.now.segment c.args.pointer.now.at old new) c.requires.there (sym (ap is_in_range c.in-GetStruct.is) ∙ c.requires.range) c.find_struct.ensures.found c.find_struct.ensures.set c.find_struct.ensures.granted c.find_struct.ensures.memory c.find_struct.ensures.fits))
 
 pub find_list-requires-clause-few : goal.find_list-requires-clause-few
 find_list-requires-clause-few g c = few_words c.in-GetList.default (list_range c.in-GetList.size c.in-GetList.default (sym (ap is_in_range c.in-GetList.is) ∙ c.requires.range)).1
@@ -38,7 +39,7 @@ returns-in-GetStructList-clause-sought g c =
     let new = g.A.BuilderArena.view c.find_struct_list.new.self.arena.now in
     rw c.done-in-GetStructList.ensures (
     subst (λ op. IsSought old new (place_of c.args.pointer.now) op (refusal_of c.find_struct_list.result)) (sym c.in-GetStructList.is)
-    (structs_sought c.find_struct_list.result c.in-GetStructList.size c.in-GetStructList.default (call_at c.args.pointer.now.segment c.args.pointer.now.at old new) c.requires.there (sym (ap is_in_range c.in-GetStructList.is) ∙ c.requires.range) c.find_struct_list.ensures.found c.find_struct_list.ensures.set c.find_struct_list.ensures.granted c.find_struct_list.ensures.memory))
+    (structs_sought c.find_struct_list.result c.in-GetStructList.size c.in-GetStructList.default (call_at c.args.pointer.now.segment c.args.pointer.now.at old new) c.requires.there (sym (ap is_in_range c.in-GetStructList.is) ∙ c.requires.range) c.find_struct_list.ensures.found c.find_struct_list.ensures.set c.find_struct_list.ensures.granted c.find_struct_list.ensures.memory c.find_struct_list.ensures.fits))
 
 pub find_text-requires-clause-few : goal.find_text-requires-clause-few
 find_text-requires-clause-few g c = few_words c.in-GetText.default (sym (ap is_in_range c.in-GetText.is) ∙ c.requires.range)

@@ -1,0 +1,127 @@
+-- Steps: one edit at its place, and edits one behind the other.
+use Rattle.std.proofs.Common.{◌≡◌, ◌⊎◌, inl, ℕ, ◌+◌, ◌*◌, ◌<◌, ◌≤◌, true, ◌&&◌, cond, List, [], ◌∷◌, ◌++◌, length, take, get_or, set, Option, Some, None, Result, IfErr, refl, sym, ap, ap₂, ◌∙◌, subst, arith, lt-ltb}
+use Rattle.std.proofs.lemmas.List.{append-nil, take_more, take_more_set}
+use Rattle.capnp_words.specs.declared.error.ErrorKind.{ErrorKind}
+use Rattle.capnp_words.specs.declared.error.ErrorKind.TheVariants.{NoSuchPlace}
+use Rattle.capnp_arena.specs.View.{View}
+use Rattle.capnp_format.specs.Forest.{target, cover}
+use Rattle.capnp_format.specs.Segments.{Segments, segment}
+use Rattle.capnp_format.specs.Tree.{Tree, Struct, Pointers, Structs, count, element_count}
+use Rattle.capnp_making.proofs.Extents.{once_held, times-first}
+use Rattle.capnp_making.proofs.Replaced.{forest_stored}
+use Rattle.capnp_making.specs.Path.{Step, Child, Element, tree_at, struct_at, next, PathLeads, one_word}
+use Rattle.capnp_making.specs.Stored.{IsStored}
+use Rattle.capnp_edits.specs.declared.edit.Edit.{Edit}
+use Rattle.capnp_edits.specs.declared.edit.path.Place.{Place}
+use Rattle.capnp_edits.specs.declared.edit.path.Place.TheVariants.{Pointer as AtPointer, Element as AtElement}
+use Rattle.capnp_edits.specs.Edits.{refusal_of, is_of_place, IsApplied, refusals_after}
+use Rattle.capnp_edits.specs.Paths.{PointerTo, ElementOf, path_of, found, IsFound}
+use Rattle.capnp_edits.specs.Steps.{FitsAt, IsOfPlace, IsRefusedAt, TakesAt, IsStep, AreSteps, StepIsThere}
+use Rattle.capnp_edits.proofs.Applied.{named_refusal, no_forest}
+use Rattle.capnp_edits.proofs.Steps.{first, same_some}
+use Rattle.capnp_edits.proofs.Walks.{found-append}
+
+-- an edit at its place
+pub step_at : {A : Type 0} (result : Result A ErrorKind) (old new : View) (edit : Edit) (there : Place) → 1 ≤ length (segment old.words 0) → IsApplied old.words new.words edit (refusal_of result) →
+    new.refusals ≡ refusals_after (refusal_of result) old.refusals → ((t : Tree) → IsStored old.words 0 0 t → IsFound old.words 0 0 t (path_of edit.path.now) (Some there)) →
+    IfErr result (λ k. IsOfPlace old new k ⊎ IsRefusedAt old new edit.op k there) → (FitsAt old edit.op there → IfErr result (λ k. is_of_place k ≡ true)) → (refusal_of result ≡ Some NoSuchPlace → new ≡ old) →
+    ((refusal_of result ≡ Some NoSuchPlace → ⊥) → TakesAt old new edit.op (refusal_of result) there) → IsStep old new edit (refusal_of result)
+step_at result old new edit there root applied counted leads named fits nowhere taken = record {
+  applied = applied;
+  counted = counted;
+  place = Some there;
+  leads = leads;
+  missing = λ e. absurd (cc);
+  rootless = λ e. absurd (omega (arith, root, e));
+  nowhere = nowhere;
+  named = λ k e. named_refusal result (λ j. IsOfPlace old new j ⊎ IsRefusedAt old new edit.op j there) k named e;
+  fits = λ room k e. named_refusal result (λ j. is_of_place j ≡ true) k (fits room) e;
+  taken = taken;
+}
+
+-- an edit without a place
+of_missing : (k : ErrorKind) → Some NoSuchPlace ≡ Some k → is_of_place k ≡ true
+of_missing k e = sym (ap is_of_place (same_some NoSuchPlace k e))
+
+pub nothing_done : (v : View) (edit : Edit) → IsApplied v.words v.words edit (Some NoSuchPlace) → ((t : Tree) → IsStored v.words 0 0 t → IsFound v.words 0 0 t (path_of edit.path.now) None) → IsStep v v edit (Some NoSuchPlace)
+nothing_done v edit applied leads = record {
+  applied = applied;
+  counted = refl;
+  place = None;
+  leads = leads;
+  missing = λ e. refl;
+  rootless = λ e. refl;
+  nowhere = λ e. refl;
+  named = λ k e. inl (of_missing k e, refl);
+  fits = λ room k e. of_missing k e;
+  taken = λ other. absurd (other refl);
+}
+
+-- what is stored at the root has a word
+root_held : (S : Segments) (t : Tree) → IsStored S 0 0 t → 1 ≤ length (segment S 0)
+root_held S t stored = omega (arith, stored.inside 0 0 (omega (arith, times-first (one_word 0 0) (cover S 0 0 t) 0 0, once_held 0 0)))
+
+pub rootless_done : (v : View) (edit : Edit) → (1 ≤ length (segment v.words 0) → ⊥) → IsStep v v edit (Some NoSuchPlace)
+rootless_done v edit empty = nothing_done v edit (no_forest v.words edit (Some NoSuchPlace) empty) (λ t stored. absurd (empty (root_held v.words t stored)))
+
+-- one step more
+steps_more : (a b c : View) (es : List Edit) (rs : List (Option ErrorKind)) (e : Edit) (r : Option ErrorKind) → AreSteps a b es rs → IsStep b c e r → AreSteps a c (es ++ e ∷ []) (rs ++ r ∷ [])
+steps_more a b c [] [] e r h k = (c, subst (λ x. IsStep x c e r) h k, refl)
+steps_more a b c (f ∷ es) (s ∷ rs) e r (mid, one, others) k = (mid, one, steps_more mid b c es rs e r others k)
+steps_more a b c [] (s ∷ rs) e r h k = absurd h
+steps_more a b c (f ∷ es) [] e r h k = absurd h
+
+-- edit number i is done
+pub next_step : (a b c : View) (es : List Edit) (rs : List (Option ErrorKind)) (i : ℕ) (d : Edit) (q r : Option ErrorKind) → i < length es → length rs ≡ length es → q ≡ r → AreSteps a b (take i es) (take i rs) → IsStep b c (get_or es i d) q →
+    AreSteps a c (take (i + 1) es) (take (i + 1) (set rs i r))
+next_step a b c es rs i d q r l long same before one =
+    let less : i < length rs = rw long l in
+    let all = steps_more a b c (take i es) (take i rs) (get_or es i d) r before (subst (IsStep b c (get_or es i d)) same one) in
+    subst (λ xs. AreSteps a c xs (take (i + 1) (set rs i r))) (sym (take_more es i d l)) (subst (AreSteps a c (take i es ++ get_or es i d ∷ [])) (sym (take_more_set rs i r less)) all)
+
+-- a path leads to one place
+same_end : (S : Segments) (s p : ℕ) (t : Tree) (path : List Step) (u q : ℕ) (x : Tree) (v r : ℕ) (y : Tree) → PathLeads S s p t path u q x → PathLeads S s p t path v r y → (u ≡ v) × (q ≡ r)
+same_end S s p t [] u q x v r y h k = (sym h.0 ∙ k.0, sym h.1 ∙ k.1)
+same_end S s p (Struct ws ts) (Child i ∷ path) u q x v r y h k = same_end S (target S s p).segment ((target S s p).start + length ws + i) (tree_at ts i) path u q x v r y h.1 k.1
+same_end S s p (Pointers ts) (Element i ∷ path) u q x v r y h k = same_end S (target S s p).segment ((target S s p).start + i) (tree_at ts i) path u q x v r y h.1 k.1
+same_end S s p (Structs d w es) (Element i ∷ Child j ∷ path) u q x v r y h k =
+    same_end S (target S s p).segment ((target S s p).start + 1 + i * (d + w) + d + j) (next (struct_at es i) (Child j)) path u q x v r y h.2 k.2
+same_end S s p t (step ∷ path) u q x v r y h k = absurd h
+
+-- to a pointer
+leads_spot : (S : Segments) (s p : ℕ) (t : Tree) (path : List Step) (u q : ℕ) (x : Tree) → PathLeads S s p t path u q x → found t path ≡ Some (PointerTo x)
+leads_spot S s p t [] u q x h = ap (λ y. Some (PointerTo y)) h.2
+leads_spot S s p (Struct ws ts) (Child i ∷ path) u q x h =
+    first i (count ts) _ _ h.0 ∙ leads_spot S (target S s p).segment ((target S s p).start + length ws + i) (tree_at ts i) path u q x h.1
+leads_spot S s p (Pointers ts) (Element i ∷ path) u q x h = first i (count ts) _ _ h.0 ∙ leads_spot S (target S s p).segment ((target S s p).start + i) (tree_at ts i) path u q x h.1
+leads_spot S s p (Structs d w es) (Element i ∷ Child j ∷ path) u q x h =
+    ap₂ (λ a b. cond (a && b) (found (next (struct_at es i) (Child j)) path) None) (lt-ltb i (element_count es) h.0) (lt-ltb j w h.1)
+    ∙ leads_spot S (target S s p).segment ((target S s p).start + 1 + i * (d + w) + d + j) (next (struct_at es i) (Child j)) path u q x h.2
+leads_spot S s p t (step ∷ path) u q x h = absurd h
+
+no_spot : (x : Tree) → Some (PointerTo x) ≡ None → ⊥
+no_spot x e = cc
+
+no_element : (x y : Tree) → Some (PointerTo x) ≡ Some (ElementOf y) → ⊥
+no_element x y e = cc
+
+-- so a step is done there
+pub step_is_there : StepIsThere
+step_is_there old new edit r t x u q s forest leads = go s.place (s.leads t (forest_stored old.words t forest))
+  where
+    path : List Step
+    path = path_of edit.path.now
+
+    spot : found t path ≡ Some (PointerTo x)
+    spot = leads_spot old.words 0 0 t path u q x leads
+
+    go : (place : Option Place) → IsFound old.words 0 0 t path place → place ≡ Some (AtPointer (record { segment = u; word = q }))
+    go None none = absurd (no_spot x (sym spot ∙ ap (found t) (sym (append-nil path)) ∙ none []))
+    go (Some (AtPointer place)) f =
+        let same = same_end old.words 0 0 t path place.segment place.word f.value u q x f.leads leads in
+        ap₂ (λ v w. Some (AtPointer (record { segment = v; word = w }))) same.0 same.1
+    go (Some (AtElement e)) f =
+        let list = Structs e.size.data_words e.size.pointers f.elements in
+        absurd (no_element x (struct_at f.elements f.index) (
+        sym spot ∙ ap (found t) f.path_is ∙ found-append t f.front (Element f.index ∷ []) list f.spot ∙ first f.index (element_count f.elements) _ _ f.counts
+        ))
