@@ -14,14 +14,11 @@ use Rattle.capnp_making.specs.declared.existing.ExistingList.{ExistingList}
 use Rattle.capnp_making.specs.Existing.{list_in}
 use Rattle.capnp_making.specs.Memory.{KeepsMemory}
 use Rattle.capnp_making.specs.Stored.{IsStored}
-use Rattle.capnp_making.proofs.Filling.{unchanged}
-use Rattle.capnp_making.proofs.Memory.{keeps_itself}
 use Rattle.capnp_widening.specs.Opening.{Opens, OpensList, HasSections, HasWideStructs, LeadsToAll, refusal_of_words, refusal_of_elements, call_at, CallAt}
 use Rattle.capnp_widening.specs.Rooms.{TakesForList}
 use Rattle.capnp_widening.specs.RowsRemade.{WidensList, LeadsToList, RefusesWider}
 use Rattle.capnp_widening.specs.Widened.{fill_elements, LeavesAll, limited, list_widened}
-use Rattle.capnp_widening.proofs.AnyList.{list_inside, unfound_refused}
-use Rattle.capnp_widening.proofs.Listed.{same_list, no_list, not_a_list, structs_stay, structs_widen}
+use Rattle.capnp_widening.proofs.Listed.{same_list, no_list, not_a_list, structs_widen}
 use Rattle.capnp_widening.proofs.PlainLists.{are_numbers, are_pointers}
 use Rattle.capnp_widening.proofs.StructLists.{are_structs}
 use Rattle.capnp_widening.proofs.StructsOpened.{stands_grown}
@@ -88,15 +85,6 @@ refuses S s p t l size InlineComposite is stored found narrow =
     subst (λ x. Refuses (refusal_of_elements size InlineComposite l.struct_size l.count) (list_widened size.data_words size.pointers x)) (sym k.tree)
     (subst (λ r. Refuses (refusal_of_elements size InlineComposite l.struct_size l.count) r) (sym widens)
     (subst (λ m. Refuses (refusal_of_elements size InlineComposite l.struct_size l.count) (limited (m * (max e size.data_words + max q size.pointers)) u)) counts (by_words (l.count * (max e size.data_words + max q size.pointers)) u)))
-
--- they don't
-pub list_error : (S : Segments) (s p : ℕ) (t : Tree) (l : ExistingList) (size : StructSize) (k : ErrorKind) → IsStored S s p t → list_in (target S s p) Void t ≡ Ok (Some l) → (HasWideStructs size l → ⊥) →
-    Some k ≡ refusal_of_elements size l.size l.struct_size l.count → list_widened size.data_words size.pointers t ≡ Err k
-list_error S s p t l size k stored found narrow refused = subst (λ o. Refuses o (list_widened size.data_words size.pointers t)) (sym refused) (refuses S s p t l size l.size refl stored found narrow)
-
--- what is no list
-no_error : (k : ErrorKind) → ◌≡◌ {A = Result (Option ExistingList) ErrorKind} (Ok None) (Err k) → ⊥
-no_error k e = cc
 
 -- a list that is made one of larger structs
 sections_wide : (S : Segments) (s p : ℕ) (t : Tree) (l : ExistingList) (size : StructSize) → list_in (target S s p) Void t ≡ Ok (Some l) → HasSections size t → HasWideStructs size l

@@ -1,8 +1,8 @@
 -- Structs that are opened for writing.
-use Rattle.std.proofs.Common.{◌≡◌, ◌≢◌, inl, inr, Bool, true, false, ℕ, zero, suc, ◌+◌, ◌≤◌, max, List, length, Some, None, Ok, Err, refl, sym, ap, ap₂, ◌∙◌, subst, arith}
+use Rattle.std.proofs.Common.{◌≡◌, inl, inr, Bool, true, false, ℕ, zero, suc, ◌+◌, ◌≤◌, max, List, length, Some, None, Ok, Err, refl, sym, ap, ap₂, ◌∙◌, subst, arith}
 use Rattle.std.proofs.lemmas.Grind.{common_steps}
 use Rattle.capnp_words.specs.declared.error.ErrorKind.{ErrorKind}
-use Rattle.capnp_words.specs.declared.error.ErrorKind.TheVariants.{AllocationFailed, MessageContainsNonStructPointerWhereStructPointerWasExpected}
+use Rattle.capnp_words.specs.declared.error.ErrorKind.TheVariants.{AllocationFailed}
 use Rattle.capnp_format.specs.Segments.{Segments, segment, word_at, Target, IsPlace}
 use Rattle.capnp_format.specs.Tree.{Tree, Null, Capability, Struct, Flat, Pointers, Structs, Trees, count}
 use Rattle.capnp_format.specs.Means.{Means}
@@ -148,18 +148,6 @@ struct_kept a b s p (Structs d q es) e size k stored found narrow leaves named f
 -- a value that is no struct, and not null
 pub some_struct : (e : ExistingStruct) → Some e ≡ None → ⊥
 some_struct e x = cc
-
-null_word : (S : Segments) (s p : ℕ) → IsStored S s p Null → word_at S s p ≡ 0
-null_word S s p stored = (stored.means.2).0
-
-pub no_struct_there : (v : View) (s p : ℕ) (t : Tree) (size : StructSize) → IsStored v.words s p t → struct_in (target v.words s p) t ≡ None → word_at v.words s p ≢ 0 →
-    OpensStruct size (Err MessageContainsNonStructPointerWhereStructPointerWasExpected) (call_at s p v v) t
-no_struct_there v s p Null size stored none some = absurd (some (null_word v.words s p stored))
-no_struct_there v s p (Capability i) size stored none some = (refl, refl)
-no_struct_there v s p (Struct ws ts) size stored none some = absurd (some_struct _ none)
-no_struct_there v s p (Flat n ns) size stored none some = (refl, refl)
-no_struct_there v s p (Pointers ts) size stored none some = (refl, refl)
-no_struct_there v s p (Structs d q es) size stored none some = (refl, refl)
 
 -- a new struct in place of null
 zero_count : (n : ℕ) → length (zeros n) ≡ n
