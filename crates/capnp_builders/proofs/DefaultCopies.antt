@@ -1,12 +1,8 @@
 -- The copy of a default: nothing of a limiter is spent, and each refusal to read is a fault of the default.
-use Rattle.std.proofs.Common.{◌≡◌, inl, inr, ℕ, ◌-◌, ◌^◌, List, length, false, None, Result, Ok, Err, IfOk, IfErr, OnOk, OnErr, MatchResult, pos, refl, sym, ap, ap₂, ◌∙◌, subst}
+use Rattle.std.proofs.Common.{◌≡◌, inl, inr, ℕ, List, Result, Ok, Err, IfOk, IfErr, OnOk, OnErr}
 use Rattle.capnp_words.specs.declared.error.ErrorKind.{ErrorKind}
-use Rattle.capnp_words.specs.Meter.{Meter, unused}
-use Rattle.capnp_format.specs.Tree.{Tree, Null}
+use Rattle.capnp_words.specs.Meter.{Meter}
 use Rattle.capnp_arena.specs.View.{View}
-use Rattle.capnp_making.specs.Stored.{IsReplaced}
-use Rattle.capnp_objects.specs.Outcomes.{Reads}
-use Rattle.capnp_objects.specs.Reading.{Reading}
 use Rattle.capnp_objects.specs.Refusals.{BreaksOff}
 use Rattle.capnp_objects.specs.Wanted.{of_default}
 use Rattle.capnp_objects.proofs.Refusals.{breaks_off_spends, unreadable}
