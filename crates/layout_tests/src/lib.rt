@@ -1,10 +1,15 @@
 //! Tests of capnp_layout, by its public calls: its devices, the names that it gives the crates below, and what
-//! is answered where memory or a device fails. What its engine answers else, runs of the program show.
+//! is answered where memory or a device fails, what a run asks for, and messages that are canonical as a
+//! whole. What its engine answers else, runs of the program show.
 #![tactic(auto)]
 
+#[cfg(test)]
+mod canonical_messages;
 #[cfg(test)]
 mod devices;
 #[cfg(test)]
 mod failing;
 #[cfg(test)]
 mod names;
+#[cfg(test)]
+mod tries;

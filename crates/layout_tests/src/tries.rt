@@ -1,0 +1,51 @@
+//! What a run asks its allocator for: rows for the input, and for canonical words a segment and its row
+//! at each try.
+use capnp_layout::arena::{HeapAllocator, ReaderOptions};
+use capnp_layout::devices::{MemoryInput, MemoryOutput};
+use capnp_layout::tool::{Args, Outcome, run_with};
+use std::alloc::{AllocError, Global};
+use test_support::{NotingAllocator, Request};
+
+/// One word: a null pointer. Its canonical words are as many.
+const NULL: &[u8] = b"0000000000000000\n";
+
+/// Eight words that make 23: three structs of two pointers, each of which leads to the next one twice,
+/// and the last one to the number 9.
+const DOUBLED: &[u8] =
+    b"00000000000002000400000000000200000000000000020004000000000002000000000000000200040000000100000000000000010000000900000000000000\n";
+
+/// What an allocator is asked for, behind the input's rows, where these are the rooms of the tries.
+fn asked(alloc: Global, rooms: &[u32]) -> Result<Vec<Request>, AllocError> {
+    let mut requests = Vec::new(alloc);
+    for room in rooms {
+        requests.push(Request::Segment(*room))?;
+        requests.push(Request::Row)?;
+    }
+    Ok(requests)
+}
+
+/// The first try asks for the words of the input and one more, each further one for twice as many as
+/// the one before, and nothing else is asked for: no segment for a check or a size.
+#[test]
+fn rooms(rt: HostRuntime) -> Result<(), AllocError> {
+    let options = ReaderOptions::default();
+    for (args, message, rooms) in [
+        (Args::Canon(options), NULL, &[2u32][..]),
+        (Args::Canon(options), DOUBLED, &[9, 18, 36][..]),
+        (Args::Check(options), DOUBLED, &[][..]),
+        (Args::Size(options), DOUBLED, &[][..]),
+    ] {
+        let heap = HeapAllocator::new(rt.alloc(), 0);
+        let allocator = NotingAllocator::new(rt.alloc(), heap);
+        let mut from = MemoryInput::new(message);
+        let mut to = MemoryOutput::new(rt.alloc());
+        let (outcome, allocator) = run_with(rt.alloc(), allocator, &args, &mut from, &mut to);
+        assert!(rt; outcome == Outcome::Done);
+        let want = asked(rt.alloc(), rooms)?;
+        let requests = allocator.requests();
+        let (rows, tries) = requests.split_at(requests.len().saturating_sub(want.len()));
+        assert!(rt; rows.iter().all(|request| *request == Request::Row));
+        assert!(rt; tries == want.as_slice(), "{tries:?}");
+    }
+    Ok(())
+}
