@@ -61,12 +61,12 @@ default_use of_null default t = ignored
 abbrev pub object_default : Option (Bor (List ℕ)) → Tree → DefaultUse
 object_default default t = default_use ignored default t
 
+abbrev pub blob_default : Option (Bor (List ℕ)) → Tree → DefaultUse
+blob_default default t = default_use (denied ExistingPointerIsNotAList) default t
+
 -- There is no default, or one whose first word is null: an object isn't put in place of null.
 abbrev pub LeavesNull : Option (Bor (List ℕ)) → Type 0
 LeavesNull default = object_default default Null ≡ ignored
-
-abbrev pub blob_default : Option (Bor (List ℕ)) → Tree → DefaultUse
-blob_default default t = default_use (denied ExistingPointerIsNotAList) default t
 
 -- The value u of a default, which has no capabilities, is stored in place of null, and no more words are taken than reading it costs.
 pub record PutsDefault (bytes : List ℕ) (c : CallAt) (u : Tree) : Type 0 where
