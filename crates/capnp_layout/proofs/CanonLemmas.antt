@@ -1,9 +1,10 @@
 -- What a refused copy says of the message that was read.
-use Rattle.std.proofs.Common.{◌≡◌, ◌⊎◌, inl, inr, Some, None, ℕ, ◌+◌, ◌<◌, ◌≤◌, List, [], ◌∷◌, length, true, false, Option, Result, Ok, Err, IfSome, IsNone, IfOk, OnOk, refl, ap, sym, ◌∙◌, subst, arith, length-set, get_or}
+use Rattle.std.proofs.Common.{◌≡◌, ◌⊎◌, inl, inr, Some, None, ℕ, ◌+◌, ◌<◌, ◌≤◌, List, [], ◌∷◌, length, Bool, true, false, Option, IfSome, IsNone, refl, ap, sym, ◌∙◌, subst, arith, length-set, get_or}
 use Rattle.capnp_words.specs.declared.error.ErrorKind.{ErrorKind}
 use Rattle.capnp_words.specs.declared.error.ErrorKind.TheVariants.{MessageTooLarge}
 use Rattle.capnp_format.specs.Segments.{Segments, segment}
-use Rattle.capnp_words.specs.Meter.{Meter, Affords, unused, less, FitsIn}
+use Rattle.capnp_words.specs.Meter.{Meter, Affords, charged, unused, less, FitsIn}
+use Rattle.capnp_objects.specs.Spending.{after, pointers_in}
 use Rattle.capnp_objects.specs.Refusals.{Refused}
 use Rattle.capnp_objects.specs.Reading.{Reading}
 use Rattle.capnp_objects.specs.Wanted.{canonical}
@@ -14,12 +15,12 @@ use Rattle.capnp_format.specs.Tree.{Tree}
 use Rattle.capnp_format.proofs.Levels.{one_value}
 use Rattle.capnp_objects.specs.Outcomes.{Reads}
 use Rattle.std.proofs.lemmas.Bool.{cases_lt}
-use Rattle.capnp_making.specs.Memory.{KeepsMemory}
-use Rattle.capnp_copies.specs.Changes.{StandsAsRead, StandsWhereItFits, change}
+use Rattle.capnp_making.specs.Memory.{KeepsMemory, RefusesWords}
+use Rattle.capnp_copies.specs.Changes.{RefusesValue, StandsAsRead, StandsWhereItFits, change}
 use Rattle.capnp_builders.specs.Building.{Building, HasOnlyNull, IsNull, built}
 use Rattle.capnp_builders.specs.Kept.{FillsMessage}
 use Rattle.capnp_builders.specs.declared.builders.PointerBuilder.{PointerBuilder}
-use Rattle.capnp_layout.specs.Answers.{CoversRoot, IsMadeWhereAlone, IsWantOfRoom, IsWithin, LacksMemoryOr, RefusesCopy, RefusesCopyAnywhere, RefusesMessage, is_message_too_large, root_of}
+use Rattle.capnp_layout.specs.Answers.{CoversRoot, IsMadeWhereAlone, IsWantOfRoom, IsRead, LacksMemoryOr, RefusesCopy, RefusesCopyAnywhere, RefusesMessage, is_message_too_large, root_of}
 use Rattle.capnp_layout.specs.Answers.RefusesMessage.{below_root}
 use Rattle.capnp_layout.specs.declared.tool.args.Args.TheVariants.{Canon}
 use Rattle.capnp_arena.specs.declared.arena.reader_arena_impl.ReaderOptions.{ReaderOptions}
@@ -49,12 +50,16 @@ only_null {B} fresh = ap (λ i. segment B.segments i) fresh.first ∙ ap (λ (R 
 pub null_root : {B : Building} {room : ℕ} → IsFreshPlace B room → B.at ≡ 0 → IsNull B
 null_root {B} fresh start = ap (λ (ws : List ℕ). get_or ws B.at 0) (only_null fresh) ∙ ap (λ i. get_or (0 ∷ []) i 0) start
 
+-- what is left after a cost, whether or not pointers were counted
+left_after : (charging : Bool) (m : Meter) (c i : ℕ) → (after charging m c i).left ≡ (charged charging m c).left
+left_after true m c i = refl
+left_after false m c i = refl
+
 -- a copy to the root of a fresh message is made, if that has one segment afterwards
-pub made_copy : {X : Type 0} (r : Reading) (left : Option ℕ) (s p : ℕ) (old made : View) (l m : Meter) (o : Result X ErrorKind) → l ≡ unused left → IfOk o (λ _. FillsMessage r (change canonical s p old made l m)) →
-    IfOk o (λ _. (t : Tree) × IsWithin r left t × IsMadeWhereAlone made t)
-made_copy r left s p old made l m (Ok x) begun (t, reads, copy) =
-    (t, (reads.cost, reads.means, reads.takes tt, subst (λ (x : Meter). Affords r.charging x reads.cost) begun reads.covers), copy)
-made_copy r left s p old made l m (Err k) begun copied = tt
+pub made_copy : (r : Reading) (left : Option ℕ) (s p : ℕ) (old made : View) (l m : Meter) → l ≡ unused left → FillsMessage r (change canonical s p old made l m) → (t : Tree) × IsRead r left m.left t × IsMadeWhereAlone made t
+made_copy r left s p old made l m begun (t, reads, copy) =
+    let spent = ap (λ (y : Meter). y.left) reads.spent ∙ left_after r.charging l reads.cost (pointers_in t) ∙ ap (λ (y : Meter). (charged r.charging y reads.cost).left) begun in
+    (t, (reads.cost, reads.means, reads.takes tt, subst (λ (x : Meter). Affords r.charging x reads.cost) begun reads.covers, spent), copy)
 
 -- where it has more, not all words fit in the first
 spread : {r : Reading} {room : ℕ} {l m : Meter} {t : Tree} (old new : View) (s p : ℕ) → IsFreshPlace (record { segments = old.words; segment = s; at = p; room = old.room s }) room → Reads canonical r l m t → StandsWhereItFits (change canonical s p old new l m) t →
@@ -67,17 +72,29 @@ spread {r} {room} {t = t} old new s p fresh reads copy = elim (cases_lt room (1 
       inl (ap length same ∙ length-set old.words s _ ∙ ap length fresh.null)
 ]
 
-pub spread_copy : {X : Type 0} {room : ℕ} (r : Reading) (s p : ℕ) (old new : View) (l m : Meter) (P : Tree → Type 0) (o : Result X ErrorKind) → IsFreshPlace (record { segments = old.words; segment = s; at = p; room = old.room s }) room →
-    IfOk o (λ _. (t : Tree) × Reads canonical r l m t × P t) → OnOk o (StandsAsRead r (change canonical s p old new l m)) → OnOk o ((length new.words ≡ 1) ⊎ IsTooLarge canonical r 1 room)
-spread_copy r s p old new l m P (Ok x) fresh (t, reads, _) stands = spread old new s p fresh reads (stands t reads)
-spread_copy r s p old new l m P (Err k) fresh read stands = tt
+pub spread_copy : {room : ℕ} (r : Reading) (s p : ℕ) (old new : View) (l m : Meter) (P : Tree → Type 0) → IsFreshPlace (record { segments = old.words; segment = s; at = p; room = old.room s }) room →
+    (t : Tree) × Reads canonical r l m t × P t → StandsAsRead r (change canonical s p old new l m) → (length new.words ≡ 1) ⊎ IsTooLarge canonical r 1 room
+spread_copy r s p old new l m P fresh (t, reads, _) stands = spread old new s p fresh reads (stands t reads)
 
 -- a copy leaves the room of the segment where it begins
-pub kept_room : {X : Type 0} {room : ℕ} (old new : View) (s p : ℕ) (o : Result X ErrorKind) → IsFreshPlace (record { segments = old.words; segment = s; at = p; room = old.room s }) room → OnOk o (KeepsMemory old new) → OnOk o (new.room 0 ≡ room)
-kept_room old new s p (Ok x) fresh kept =
+pub kept_room : {room : ℕ} (old new : View) (s p : ℕ) → IsFreshPlace (record { segments = old.words; segment = s; at = p; room = old.room s }) room → KeepsMemory old new → new.room 0 ≡ room
+kept_room old new s p fresh kept =
     let some : 0 < length old.words = omega (arith, ap length fresh.null) in
     kept.1 0 some ∙ ap old.room (sym fresh.first) ∙ fresh.holds
-kept_room old new s p (Err k) fresh kept = tt
+
+-- the names by which words are refused are want of room
+want_of_words : (old new : View) (n : ℕ) (k : ErrorKind) → RefusesWords old new n k → IsWantOfRoom k
+want_of_words old new n k (inl memory, none) = inl memory.0
+want_of_words old new n k (inr (inl large), none) = inr (_, large.0)
+want_of_words old new n k (inr (inr many), none) = inr (_, many.0)
+
+-- what refuses a copy to the root of a fresh message
+pub refused_copy : {room : ℕ} (r : Reading) (left : Option ℕ) (s p : ℕ) (old new : View) (l m : Meter) (k : ErrorKind) → l ≡ unused left → IsFreshPlace (record { segments = old.words; segment = s; at = p; room = old.room s }) room →
+    RefusesValue r (change canonical s p old new l m) k → RefusesCopyAnywhere r left room k
+refused_copy {room} r left s p old new l m k begun fresh (inl (n, refused, wanted, large)) =
+    let used : length (segment old.words s) ≡ 1 = ap length (only_null fresh) in
+    inl (want_of_words old new n k refused, subst (λ i. IsTooLarge canonical r i room) used (subst (IsTooLarge canonical r (length (segment old.words s))) fresh.holds large))
+refused_copy r left s p old new l m k begun fresh (inr refused) = inr (m, subst (λ (x : Meter). Refused canonical r x m k) begun refused)
 
 -- words that are taken, if there is room for them, leave the room
 pub room_kept : (o : Option ℕ) {old new : View} (P : ℕ → Type 0) (words : Segments) → IfSome o (λ at. P at × (new ≡ record old { words = words })) → (IsNone o → new ≡ old) → new.room ≡ old.room

@@ -1,5 +1,5 @@
 -- What the test at the root of a message of one segment says of the whole message.
-use Rattle.std.proofs.Common.{◌≡◌, ◌↔◌, inl, inr, ℕ, ◌+◌, ◌-◌, ◌<◌, ◌≤◌, min, List, [], ◌∷◌, take, drop, get_or, length, Bool, true, false, nat_eq, IsTrue, Option, Some, None, refl, ap, sym, ◌∙◌, subst, arith, eq-eqb, eqb-true, length-drop, length-take}
+use Rattle.std.proofs.Common.{◌≡◌, ◌↔◌, inl, inr, ℕ, ◌+◌, ◌-◌, ◌<◌, ◌≤◌, List, [], ◌∷◌, take, drop, get_or, length, Bool, true, false, nat_eq, IsTrue, Option, Some, None, refl, ap, sym, ◌∙◌, subst, arith, eq-eqb, eqb-true, length-drop, length-take}
 use Rattle.std.proofs.lemmas.List.{take_all}
 use Rattle.capnp_words.specs.declared.error.ErrorKind.{ErrorKind}
 use Rattle.capnp_words.specs.Meter.{Meter, FitsIn, less, raised, spent}
@@ -8,12 +8,12 @@ use Rattle.capnp_format.specs.Segments.{Segments, segment}
 use Rattle.capnp_format.specs.Tree.{Tree}
 use Rattle.capnp_format.specs.Canonical.{Lies, Reaches, Stands, body, charge, encoding, pointer, word_count}
 use Rattle.capnp_format.proofs.Lengths.{length-body}
-use Rattle.capnp_format.proofs.Unique.{Standing, for_offset, one_stands, stands_means}
+use Rattle.capnp_format.proofs.Unique.{for_offset, one_stands, stands_means}
 use Rattle.capnp_arena.specs.Checks.{total_words}
 use Rattle.capnp_arena.proofs.MessageLemmas.{length-message}
 use Rattle.capnp_objects.specs.Reading.{Reading}
-use Rattle.capnp_objects.specs.Spending.{Paid, pointers_in}
-use Rattle.capnp_readers.specs.Checking.{Finds, IsCanonicalAt, IsFound, TestFails, TestStops, progress}
+use Rattle.capnp_objects.specs.Spending.{Paid}
+use Rattle.capnp_readers.specs.Checking.{IsCanonicalAt, IsFound, TestFails, TestStops, progress}
 use Rattle.capnp_readers.proofs.NeverStops.{stops_never}
 use Rattle.capnp_layout.specs.Answers.{CoversRoot, root_of}
 use Rattle.capnp_framing.specs.Frames.{frame}

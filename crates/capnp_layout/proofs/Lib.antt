@@ -9,3 +9,4 @@ pub mod NumberLemmas
 pub mod SizeLemmas
 pub mod CheckLemmas
 pub mod CanonicalMessageLemmas
+pub mod CanonicalFrameLemmas

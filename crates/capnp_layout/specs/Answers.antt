@@ -11,7 +11,7 @@ use Rattle.capnp_format.specs.Bytes.{message}
 use Rattle.capnp_format.specs.Tree.{Tree, capabilities, depth}
 use Rattle.capnp_format.specs.Means.{Means}
 use Rattle.capnp_format.specs.Canonical.{trim, encoding, word_count, charge, Stands}
-use Rattle.capnp_words.specs.Meter.{Meter, Affords, FitsIn, less, unused}
+use Rattle.capnp_words.specs.Meter.{Meter, Affords, FitsIn, charged, less, unused}
 use Rattle.capnp_arena.specs.Allocations.{max_segment_words, one_more}
 use Rattle.capnp_arena.specs.Checks.{misplaced}
 use Rattle.capnp_arena.specs.Limits.{IsSmall}
@@ -73,9 +73,11 @@ abbrev pub is_message_too_large : ErrorKind → Bool
 is_message_too_large (MessageTooLarge w) = true
 is_message_too_large _ = false
 
--- A place means a value t without capabilities, and so many words, if there is a limit, cover what reading it costs.
-abbrev pub IsWithin : Reading → Option ℕ → Tree → Type 0
-IsWithin r left t = (c : ℕ) × MeansThere r t c × (capabilities t ≡ 0) × Affords r.charging (unused left) c
+-- A place means a value t without capabilities, so many words, if there is a limit, cover what reading it costs, and those that are
+-- left after that cost are these.
+abbrev pub IsRead : Reading → Option ℕ → Option ℕ → Tree → Type 0
+IsRead r left after t =
+    (c : ℕ) × MeansThere r t c × (capabilities t ≡ 0) × Affords r.charging (unused left) c × (after ≡ (charged r.charging (unused left) c).left)
 
 -- A copy of what a place means, into a fresh segment of so many words, is refused by the name k: it needs more words, or
 -- reading it is refused.

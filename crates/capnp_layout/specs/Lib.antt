@@ -5,3 +5,4 @@ pub mod Answers
 pub mod Tries
 pub mod Runs
 pub mod CanonicalMessages
+pub mod CanonicalErrors

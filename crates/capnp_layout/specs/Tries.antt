@@ -1,5 +1,5 @@
 -- In how much room the canonical words of a message are tried to be made.
-use Rattle.std.specs.Prelude.{◌≡◌, ℕ, ◌+◌, ◌*◌, ◌<◌, zero, suc, min, Bool, IsTrue}
+use Rattle.std.specs.Prelude.{ℕ, ◌+◌, ◌*◌, ◌<◌, zero, suc, min, Bool, IsTrue}
 use Rattle.capnp_arena.specs.Allocations.{max_segment_words}
 use Rattle.capnp_copies.specs.Rooms.{IsTooLarge}
 use Rattle.capnp_objects.specs.Reading.{Reading}

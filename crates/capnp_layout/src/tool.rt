@@ -11,4 +11,5 @@ mod size;
 mod writing;
 
 pub use args::{Args, parse_args};
+pub(crate) use canon::copy_in_tries;
 pub use engine::{Outcome, run, run_with};

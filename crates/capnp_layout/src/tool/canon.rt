@@ -1,7 +1,7 @@
 //! The canonical words of a message ("Canonicalization"), in a segment of which the size is found by
 //! tries: the first asks for the words of the input and one more, each further one for twice those of
 //! the one before, so that all together take no longer than twice the last. While one runs, its allocator is taken out, so that it ends where that segment does.
-ghost use Rattle.std.specs.Prelude.{◌≡◌, ◌⊎◌, ◌<◌, ◌≤◌, ◌+◌, ◌*◌, ◌++◌, ◌↔◌, ◌∷◌, [], false, min, IsTrue, OnOk, IfOk, IfErr};
+ghost use Rattle.std.specs.Prelude.{◌≡◌, ◌⊎◌, ◌<◌, ◌≤◌, ◌+◌, ◌*◌, ◌++◌, ◌↔◌, ◌∷◌, [], false, min, ℕ, Option, IsTrue, OnOk, IfOk, IfErr};
 ghost use Rattle.capnp_format.specs.Bytes.{message};
 ghost use Rattle.capnp_format.specs.Canonical.{trim, encoding};
 ghost use Rattle.capnp_format.specs.Tree.{Tree};
@@ -12,7 +12,7 @@ ghost use Rattle.capnp_objects.specs.Source.{levels};
 ghost use Rattle.capnp_objects.specs.Wanted.{canonical};
 ghost use Rattle.capnp_readers.specs.Readers.{reading};
 ghost use Rattle.capnp_copies.specs.Rooms.{IsTooLarge};
-ghost use Rattle.capnp_layout.specs.Answers.{IsAloneOr, IsMade, IsMadeWhereAlone, IsWantOfRoom, IsWithin, LacksMemoryOr, RefusesCopy, RefusesCopyAnywhere, RefusesMessage, ValueOf, is_message_too_large, root_of};
+ghost use Rattle.capnp_layout.specs.Answers.{IsAloneOr, IsMade, IsMadeWhereAlone, IsWantOfRoom, IsRead, LacksMemoryOr, RefusesCopy, RefusesCopyAnywhere, RefusesMessage, ValueOf, is_message_too_large, root_of};
 ghost use Rattle.capnp_layout.specs.Messages.{segments_in};
 ghost use Rattle.capnp_layout.specs.Tries.{IsMadeByFirstTry, room_of_try};
 ghost use Rattle.capnp_framing.specs.Reading.{total};
@@ -40,21 +40,25 @@ fn is_want_of_room(kind: ErrorKind) -> bool
 }
 
 /// Copies what a pointer means to the root of a message whose only word is that root, which is null.
-/// Words that don't fit behind it go into further segments, if there are any to get.
+/// Words that don't fit behind it go into further segments, if there are any to get. What the copy
+/// leaves of the limit is given.
 fn copy_root<A: BuilderArena, B: ReaderArena>(
     arena: &mut A,
     from: PointerReader<'_, B>,
     left: Option<usize>,
-) -> Result<(), ErrorKind>
+) -> Result<Option<usize>, ErrorKind>
     requires root { (A.view arena.old).words ≡ (0 ∷ []) ∷ [] }
-    ensures copied { IfOk result (λ _. (t : Tree) × IsWithin (reading B.ReaderArena from.entry) left t × IsMadeWhereAlone (A.view arena.new) t) }
+    ensures copied { IfOk result (λ after. (t : Tree) × IsRead (reading B.ReaderArena from.entry) left after t × IsMadeWhereAlone (A.view arena.new) t) }
     ensures room { OnOk result ((A.view arena.new).room 0 ≡ (A.view arena.old).room 0) }
     ensures alone { OnOk result (IsAloneOr (A.view arena.new) (IsTooLarge canonical (reading B.ReaderArena from.entry) 1 ((A.view arena.old).room 0))) }
     ensures refused { IfErr result (RefusesCopyAnywhere (reading B.ReaderArena from.entry) left ((A.view arena.old).room 0)) }
 {
     let mut lim = ReadLimiter::new(left);
     let mut root = PointerBuilder::get_root(arena);
-    root.copy_from(from, &mut lim, true)
+    match root.copy_from(from, &mut lim, true) {
+        Ok(()) => Ok(lim.left()),
+        Err(kind) => Err(kind),
+    }
 }
 
 /// The same into its only segment, which has room for so many words. What doesn't fit there is
@@ -64,18 +68,18 @@ fn copy_to_segment<A: Allocator, B: ReaderArena>(
     from: PointerReader<'_, B>,
     left: Option<usize>,
     room: u32,
-) -> Result<(), ErrorKind>
+) -> Result<Option<usize>, ErrorKind>
     requires root { (⟦<BuilderArenaImpl<A> as BuilderArena>⟧.view arena.old).words ≡ (0 ∷ []) ∷ [] }
     requires room { room ≤ (⟦<BuilderArenaImpl<A> as BuilderArena>⟧.view arena.old).room 0 }
-    ensures copied { IfOk result (λ _. (t : Tree) × IsWithin (reading B.ReaderArena from.entry) left t × IsMade (⟦<BuilderArenaImpl<A> as BuilderArena>⟧.view arena.new) t) }
+    ensures copied { IfOk result (λ after. (t : Tree) × IsRead (reading B.ReaderArena from.entry) left after t × IsMade (⟦<BuilderArenaImpl<A> as BuilderArena>⟧.view arena.new) t) }
     ensures room { OnOk result ((⟦<BuilderArenaImpl<A> as BuilderArena>⟧.view arena.new).room 0 ≡ (⟦<BuilderArenaImpl<A> as BuilderArena>⟧.view arena.old).room 0) }
     ensures refused { IfErr result (RefusesCopy (reading B.ReaderArena from.entry) left room) }
 {
     let too_large = ErrorKind::MessageTooLarge(room as usize);
     match copy_root(arena, from, left) {
-        Ok(()) => {
+        Ok(after) => {
             if arena.len() == 1 {
-                Ok(())
+                Ok(after)
             } else {
                 Err(too_large)
             }
@@ -118,7 +122,7 @@ fn make_message<A: Allocator>(
 }
 
 /// Makes the canonical words of what a pointer means in a fresh message with a segment of so many
-/// words, and in that one alone: while it is copied there is no allocator to give another. A refusal
+/// words, and in that one alone, and gives it with what the copy leaves of the limit: while it is copied there is no allocator to give another. A refusal
 /// gives the allocator back.
 fn copy_to_message<A: Allocator, B: ReaderArena>(
     alloc: Global,
@@ -126,12 +130,12 @@ fn copy_to_message<A: Allocator, B: ReaderArena>(
     from: PointerReader<'_, B>,
     left: Option<usize>,
     room: u32,
-) -> Result<BuilderArenaImpl<A>, (ErrorKind, A)>
+) -> Result<(BuilderArenaImpl<A>, Option<usize>), (ErrorKind, A)>
     requires some { 1 ≤ room }
     requires most { room ≤ max_segment_words }
-    ensures copied { IfOk result (λ made. (t : Tree) × IsWithin (reading B.ReaderArena from.entry) left t × IsMade (⟦<BuilderArenaImpl<A> as BuilderArena>⟧.view made) t) }
-    ensures asked { IfOk result (λ made. IsTrue (A.offers allocator room ((⟦<BuilderArenaImpl<A> as BuilderArena>⟧.view made).room 0))) }
-    ensures granted { IfOk result (λ made. (⟦<BuilderArenaImpl<A> as BuilderArena>⟧.view made).refusals ≡ A.refusals allocator) }
+    ensures copied { IfOk result (λ x. (t : Tree) × IsRead (reading B.ReaderArena from.entry) left x.1 t × IsMade (⟦<BuilderArenaImpl<A> as BuilderArena>⟧.view x.0) t) }
+    ensures asked { IfOk result (λ x. IsTrue (A.offers allocator room ((⟦<BuilderArenaImpl<A> as BuilderArena>⟧.view x.0).room 0))) }
+    ensures granted { IfOk result (λ x. (⟦<BuilderArenaImpl<A> as BuilderArena>⟧.view x.0).refusals ≡ A.refusals allocator) }
     ensures given_back { IfErr result (λ e. A.offers e.1 ≡ A.offers allocator) }
     ensures refused { IfErr result (λ e. LacksMemoryOr (A.refusals allocator) (A.refusals e.1) e.0 (RefusesCopy (reading B.ReaderArena from.entry) left room e.0)) }
 {
@@ -140,7 +144,7 @@ fn copy_to_message<A: Allocator, B: ReaderArena>(
     let copied = copy_to_segment(&mut segments, from, left, room);
     let made = segments.with_allocator(allocator);
     match copied {
-        Ok(()) => Ok(made),
+        Ok(after) => Ok((made, after)),
         Err(kind) => Err((kind, made.into_allocator())),
     }
 }
@@ -174,24 +178,24 @@ fn next_room(room: u32) -> u32
 }
 
 /// The same in as many tries as it takes, where the input has so many words.
-fn copy_in_tries<A: Allocator, B: ReaderArena>(
+pub(crate) fn copy_in_tries<A: Allocator, B: ReaderArena>(
     alloc: Global,
     allocator: A,
     from: PointerReader<'_, B>,
     left: Option<usize>,
     words: usize,
-) -> Result<BuilderArenaImpl<A>, (ErrorKind, A)>
-    ensures copied { IfOk result (λ made. (t : Tree) × IsWithin (reading B.ReaderArena from.entry) left t × IsMade (⟦<BuilderArenaImpl<A> as BuilderArena>⟧.view made) t) }
-    ensures tries { IfOk result (λ made. IsMadeByFirstTry (reading B.ReaderArena from.entry) words (A.offers allocator)
-        ((⟦<BuilderArenaImpl<A> as BuilderArena>⟧.view made).room 0)) }
-    ensures granted { IfOk result (λ made. (⟦<BuilderArenaImpl<A> as BuilderArena>⟧.view made).refusals ≡ A.refusals allocator) }
+) -> Result<(BuilderArenaImpl<A>, Option<usize>), (ErrorKind, A)>
+    ensures copied { IfOk result (λ x. (t : Tree) × IsRead (reading B.ReaderArena from.entry) left x.1 t × IsMade (⟦<BuilderArenaImpl<A> as BuilderArena>⟧.view x.0) t) }
+    ensures tries { IfOk result (λ x. IsMadeByFirstTry (reading B.ReaderArena from.entry) words (A.offers allocator)
+        ((⟦<BuilderArenaImpl<A> as BuilderArena>⟧.view x.0).room 0)) }
+    ensures granted { IfOk result (λ x. (⟦<BuilderArenaImpl<A> as BuilderArena>⟧.view x.0).refusals ≡ A.refusals allocator) }
     ensures refused { IfErr result (λ e. LacksMemoryOr (A.refusals allocator) (A.refusals e.1) e.0 (RefusesCopy (reading B.ReaderArena from.entry) left max_segment_words e.0)) }
 {
     let mut room = first_room(words);
     let mut unused = allocator;
     loop {
         match copy_to_message(alloc, unused, from, left, room) {
-            Ok(made) => return Ok(made),
+            Ok(copied) => return Ok(copied),
             Err((kind, returned)) => {
                 if room == MAX_SEGMENT_WORDS || !is_too_large(kind) {
                     return Err((kind, returned));
@@ -200,6 +204,26 @@ fn copy_in_tries<A: Allocator, B: ReaderArena>(
                 room = next_room(room);
             }
         }
+    }
+}
+
+/// The same, and what the copy leaves of the limit isn't given.
+fn make_in_tries<A: Allocator, B: ReaderArena>(
+    alloc: Global,
+    allocator: A,
+    from: PointerReader<'_, B>,
+    left: Option<usize>,
+    words: usize,
+) -> Result<BuilderArenaImpl<A>, (ErrorKind, A)>
+    ensures copied { IfOk result (λ made. (after : Option ℕ) × (t : Tree) × IsRead (reading B.ReaderArena from.entry) left after t × IsMade (⟦<BuilderArenaImpl<A> as BuilderArena>⟧.view made) t) }
+    ensures tries { IfOk result (λ made. IsMadeByFirstTry (reading B.ReaderArena from.entry) words (A.offers allocator)
+        ((⟦<BuilderArenaImpl<A> as BuilderArena>⟧.view made).room 0)) }
+    ensures granted { IfOk result (λ made. (⟦<BuilderArenaImpl<A> as BuilderArena>⟧.view made).refusals ≡ A.refusals allocator) }
+    ensures refused { IfErr result (λ e. LacksMemoryOr (A.refusals allocator) (A.refusals e.1) e.0 (RefusesCopy (reading B.ReaderArena from.entry) left max_segment_words e.0)) }
+{
+    match copy_in_tries(alloc, allocator, from, left, words) {
+        Ok((made, _)) => Ok(made),
+        Err(refused) => Err(refused),
     }
 }
 
@@ -226,7 +250,7 @@ pub(crate) fn canonical<A: Allocator>(
     match read_root(&arena, options.traversal_limit_in_words) {
         Ok((root, lim)) => {
             let words = arena.size_in_words();
-            copy_in_tries(alloc, allocator, root, lim.left(), words)
+            make_in_tries(alloc, allocator, root, lim.left(), words)
         }
         Err(kind) => Err((kind, allocator)),
     }

@@ -16,6 +16,9 @@ pub returns-in-Err-clause-refused : goal.returns-in-Err-clause-refused
 returns-in-Err-clause-refused g c =
     inr (beyond_limits (2 ^ 64 - 1) c.in-Err.ensures.named (λ small. (let read : IsOk c.open.result = c.open.ensures.small.1 small in absurd (search rules))), refl)
 
+pub returns-clause-refused : goal.returns-clause-refused
+returns-clause-refused g c = inr (at_root (subst (λ (S : Segments). RefusesRoot S c.args.options.traversal_limit_in_words c.in-Err-read_root.kind) c.in-Ok.ensures.words c.in-Err-read_root.ensures.refused), refl)
+
 pub returns-in-Ok-read_root-clause-refused : goal.returns-in-Ok-read_root-clause-refused
 returns-in-Ok-read_root-clause-refused g c =
     let read : IsOk c.read_root.result = search rules in
@@ -24,14 +27,11 @@ returns-in-Ok-read_root-clause-refused g c =
     let at_root = c.in-Ok-read_root.ensures.place ∙ ap (λ (S : Segments). root_of S (levels c.in-Ok.arena.nesting_limit)) same ∙ ap (λ n. root_of (message (segments_in c.args.source)) (levels n)) c.in-Ok.ensures.nesting in
     let covers : CoversRoot (message (segments_in c.args.source)) c.args.options.traversal_limit_in_words =
     subst (λ (S : Segments). CoversRoot S c.args.options.traversal_limit_in_words) same (c.read_root.ensures.exactly.0 read) in
-    IfErr-weaker c.copy_in_tries.result _ _ (λ e. copy_refused c.args.options at_root left covers) c.copy_in_tries.ensures.refused
-
-pub returns-clause-refused : goal.returns-clause-refused
-returns-clause-refused g c = inr (at_root (subst (λ (S : Segments). RefusesRoot S c.args.options.traversal_limit_in_words c.in-Err-read_root.kind) c.in-Ok.ensures.words c.in-Err-read_root.ensures.refused), refl)
+    IfErr-weaker c.make_in_tries.result _ _ (λ e. copy_refused c.args.options at_root left covers) c.make_in_tries.ensures.refused
 
 pub returns-in-Ok-read_root-clause-tries : goal.returns-in-Ok-read_root-clause-tries
 returns-in-Ok-read_root-clause-tries g c =
     let same = c.in-Ok.ensures.words in
     let place = c.in-Ok-read_root.ensures.place ∙ ap (λ (S : Segments). root_of S (levels c.in-Ok.arena.nesting_limit)) same ∙ ap (λ n. root_of (message (segments_in c.args.source)) (levels n)) c.in-Ok.ensures.nesting in
     let words = c.size_in_words-words.ensures ∙ total-message _ ∙ ap total same in
-    IfOk-weaker c.copy_in_tries.result _ _ (λ made. moved_tries (g.A.Allocator.offers c.args.allocator) _ place words) c.copy_in_tries.ensures.tries
+    IfOk-weaker c.make_in_tries.result _ _ (λ made. moved_tries (g.A.Allocator.offers c.args.allocator) _ place words) c.make_in_tries.ensures.tries

@@ -1,7 +1,7 @@
 use Rattle.std.proofs.Common.{◌≡◌, ◌∙◌, true, false, inl, inr, refl, rules, arith}
 use Rattle.capnp_layout.specs.Answers.{is_message_too_large}
 use Rattle.capnp_layout.proofs.CanonLemmas.{last_try, moved_try}
-use Rattle.capnp_layout.proofs.TryLemmas.{made_by_try, next_comes, try_is_granted, try_too_small}
+use Rattle.capnp_layout.proofs.TryLemmas.{next_comes, try_is_granted, try_too_small}
 use Rattle.capnp_layout.proofs.tool.canon.copy_in_tries.Goals as goal
 use Rattle.capnp_layout.proofs.tool.canon.copy_in_tries.Goals.{then-room-eq-MAX_SEGMENT_WORDS-via-then-room-eq-MAX_SEGMENT_WORDS, then-room-eq-MAX_SEGMENT_WORDS-via-else-room-eq-MAX_SEGMENT_WORDS+then-not-is_too_large}
 
@@ -13,13 +13,13 @@ returns-then-room-eq-MAX_SEGMENT_WORDS-clause-refused g c =
       | then-room-eq-MAX_SEGMENT_WORDS-via-then-room-eq-MAX_SEGMENT_WORDS w ↦ inl w.if-room-eq-MAX_SEGMENT_WORDS.true
       | then-room-eq-MAX_SEGMENT_WORDS-via-else-room-eq-MAX_SEGMENT_WORDS+then-not-is_too_large w ↦ inr (let e : is_message_too_large c.in-Err.kind ≡ false = search rules in e)
     ])
-    (moved_try c.loop-made.invariant.granted refl c.in-Err.ensures.refused)
+    (moved_try c.loop-copied.invariant.granted refl c.in-Err.ensures.refused)
 
 -- a try that found too little room is followed by one with twice as much
-pub loop-made-preserved : goal.loop-made-preserved
-loop-made-preserved g c =
+pub loop-copied-preserved : goal.loop-copied-preserved
+loop-copied-preserved g c =
     let large : is_message_too_large c.in-Err.kind ≡ true = search rules in
-    let old = c.loop-made.invariant in
+    let old = c.loop-copied.invariant in
     record {
       some = omega (arith, old.some, old.most);
       most = omega arith;

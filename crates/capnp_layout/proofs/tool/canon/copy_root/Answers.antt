@@ -1,35 +1,42 @@
-use Rattle.std.proofs.Common.{rules, ◌≡◌, ◌⊎◌, length, subst, IfOk, OnOk}
+use Rattle.std.proofs.Common.{rules, ◌≡◌, ◌⊎◌, Option, length, subst, sym, ℕ}
 use Rattle.capnp_format.specs.Tree.{Tree}
 use Rattle.capnp_objects.specs.Wanted.{canonical}
 use Rattle.capnp_copies.specs.Rooms.{IsTooLarge}
 use Rattle.capnp_readers.specs.Readers.{reading}
-use Rattle.capnp_layout.specs.Answers.{IsWithin, IsMadeWhereAlone}
-use Rattle.capnp_layout.proofs.CanonLemmas.{fresh_root, null_root, only_null, made_copy, kept_room, spread_copy}
+use Rattle.capnp_layout.specs.Answers.{IsRead, IsMadeWhereAlone}
+use Rattle.capnp_layout.proofs.CanonLemmas.{fresh_root, null_root, only_null, made_copy, kept_room, refused_copy, spread_copy}
 use Rattle.capnp_layout.proofs.tool.canon.copy_root.Goals as goal
 
-pub returns-clause-copied : goal.returns-clause-copied
-returns-clause-copied g c =
+pub returns-in-Ok-clause-copied : goal.returns-in-Ok-clause-copied
+returns-in-Ok-clause-copied g c =
     let view = g.A.BuilderArena.view in
     let r = reading g.B.ReaderArena c.args.from in
     let root = c.get_root-root.result in
     let fresh = fresh_root view root c.args.arena.now c.get_root-root.ensures.now c.get_root-root.ensures.place.0 c.requires.root in
-    let made = made_copy r c.args.left root.segment root.at (view root.arena.now) (view c.copy_from.new.self.arena.now) _ _ c.copy_from.result c.new-lim.ensures (c.copy_from.ensures.alone fresh.null) in
-    subst (λ (a : g.row.A.Denot). IfOk c.copy_from.result (λ _. (t : Tree) × IsWithin r c.args.left t × IsMadeWhereAlone (view a) t)) (search rules) made
+    let made = made_copy r c.args.left root.segment root.at (view root.arena.now) (view c.copy_from.new.self.arena.now) _ _ c.new-lim.ensures (c.in-Ok.ensures.alone fresh.null) in
+    let left = subst (λ (after : Option ℕ). (t : Tree) × IsRead r c.args.left after t × IsMadeWhereAlone (view c.copy_from.new.self.arena.now) t) (sym c.left.ensures) made in
+    subst (λ (a : g.row.A.Denot). (t : Tree) × IsRead r c.args.left c.left.result t × IsMadeWhereAlone (view a) t) (search rules) left
 
-pub returns-clause-room : goal.returns-clause-room
-returns-clause-room g c =
+pub returns-in-Ok-clause-room : goal.returns-in-Ok-clause-room
+returns-in-Ok-clause-room g c =
     let view = g.A.BuilderArena.view in
     let root = c.get_root-root.result in
     let fresh = fresh_root view root c.args.arena.now c.get_root-root.ensures.now c.get_root-root.ensures.place.0 c.requires.root in
-    let kept = kept_room (view root.arena.now) (view c.copy_from.new.self.arena.now) root.segment root.at c.copy_from.result fresh c.copy_from.ensures.granted in
-    subst (λ (a : g.row.A.Denot). OnOk c.copy_from.result ((view a).room 0 ≡ (view c.args.arena.now).room 0)) (search rules) kept
+    let kept = kept_room (view root.arena.now) (view c.copy_from.new.self.arena.now) root.segment root.at fresh c.in-Ok.ensures.granted in
+    subst (λ (a : g.row.A.Denot). (view a).room 0 ≡ (view c.args.arena.now).room 0) (search rules) kept
 
-pub returns-clause-alone : goal.returns-clause-alone
-returns-clause-alone g c =
+pub returns-in-Ok-clause-alone : goal.returns-in-Ok-clause-alone
+returns-in-Ok-clause-alone g c =
     let view = g.A.BuilderArena.view in
     let r = reading g.B.ReaderArena c.args.from in
-    let fresh = fresh_root view c.get_root-root.result c.args.arena.now c.get_root-root.ensures.now c.get_root-root.ensures.place.0 c.requires.root in
     let root = c.get_root-root.result in
-    let spread =
-    spread_copy r root.segment root.at (view root.arena.now) (view c.copy_from.new.self.arena.now) _ _ _ c.copy_from.result fresh (c.copy_from.ensures.fresh (only_null fresh)) (c.copy_from.ensures.near (null_root fresh c.get_root-root.ensures.place.1)) in
-    subst (λ (a : g.row.A.Denot). OnOk c.copy_from.result ((length (view a).words ≡ 1) ⊎ IsTooLarge canonical r 1 ((view c.args.arena.now).room 0))) (search rules) spread
+    let fresh = fresh_root view root c.args.arena.now c.get_root-root.ensures.now c.get_root-root.ensures.place.0 c.requires.root in
+    let spread = spread_copy r root.segment root.at (view root.arena.now) (view c.copy_from.new.self.arena.now) _ _ _ fresh (c.in-Ok.ensures.fresh (only_null fresh)) (c.in-Ok.ensures.near (null_root fresh c.get_root-root.ensures.place.1)) in
+    subst (λ (a : g.row.A.Denot). (length (view a).words ≡ 1) ⊎ IsTooLarge canonical r 1 ((view c.args.arena.now).room 0)) (search rules) spread
+
+pub returns-in-Err-clause-refused : goal.returns-in-Err-clause-refused
+returns-in-Err-clause-refused g c =
+    let view = g.A.BuilderArena.view in
+    let root = c.get_root-root.result in
+    let fresh = fresh_root view root c.args.arena.now c.get_root-root.ensures.now c.get_root-root.ensures.place.0 c.requires.root in
+    refused_copy (reading g.B.ReaderArena c.args.from) c.args.left root.segment root.at (view root.arena.now) (view c.copy_from.new.self.arena.now) _ _ c.in-Err.kind c.new-lim.ensures fresh c.in-Err.ensures.refused

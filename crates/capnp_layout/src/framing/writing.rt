@@ -1,0 +1,101 @@
+//! A message made canonical and written as a frame ("Canonicalization", "Serialization Over a Stream").
+ghost use Rattle.std.specs.Prelude.{◌≡◌, ◌⊎◌, ◌∷◌, [], false, true, length, OnOk, IfErr};
+ghost use Rattle.capnp_words.specs.declared.error.ErrorKind.{ErrorKind};
+ghost use Rattle.capnp_words.specs.declared.error.ErrorKind.TheVariants.{AllocationFailed};
+ghost use Rattle.capnp_format.specs.Canonical.{encoding, trim};
+ghost use Rattle.capnp_format.specs.Tree.{Tree};
+ghost use Rattle.capnp_arena.specs.Allocations.{max_segment_words};
+ghost use Rattle.capnp_framing.specs.Frames.{frame};
+ghost use Rattle.capnp_framing.specs.Writing.{IsUnwritten, Prints};
+ghost use Rattle.capnp_framing.specs.declared.framing.frame_error.FrameError.{FrameError};
+ghost use Rattle.capnp_framing.specs.declared.framing.frame_error.FrameError.TheVariants.{WriteFailed};
+ghost use Rattle.capnp_readers.specs.Readers.{reading};
+ghost use Rattle.capnp_layout.specs.Answers.{IsRead, RefusesCopy};
+ghost use Rattle.capnp_layout.specs.CanonicalErrors.{IsLeftOf};
+
+use super::canonical_error::CanonicalError;
+use crate::tool::copy_in_tries;
+use capnp_arena::arena::{BuilderArena, BuilderArenaImpl, HeapAllocator, ReaderArena};
+use capnp_framing::devices::Output;
+use capnp_framing::framing::write;
+use capnp_objects::source::Source;
+use capnp_readers::readers::PointerReader;
+use capnp_words::error::ErrorKind;
+use capnp_words::read_limiter::ReadLimiter;
+use std::alloc::Global;
+
+/// How many words there are where a pointer is read.
+fn words_of_source<B: ReaderArena>(from: &PointerReader<'_, B>) -> usize {
+    match from.source {
+        Source::Arena(arena) => arena.size_in_words(),
+        _ => 0,
+    }
+}
+
+/// Charges what a copy has spent, so that so many words are left.
+fn settle(lim: &mut ReadLimiter, after: Option<usize>)
+    requires { IsLeftOf after lim.old.left }
+    ensures { lim.new.left ≡ after }
+{
+    let Some(left) = lim.left() else {
+        return;
+    };
+    let Some(after) = after else {
+        return;
+    };
+    let _ = lim.can_read(left - after);
+}
+
+/// Writes a message of one segment as a frame.
+fn write_segment<W: Output>(
+    output: &mut W,
+    made: &BuilderArenaImpl<HeapAllocator>,
+) -> Result<(), CanonicalError>
+    requires works { W.has_failed output.old ≡ false }
+    requires single { length (⟦<BuilderArenaImpl<HeapAllocator> as ReaderArena>⟧.segments made.now) ≡ 1 }
+    ensures written { OnOk result (Prints W.Output output.old output.new
+        (frame (⟦<BuilderArenaImpl<HeapAllocator> as BuilderArena>⟧.view made.now).words)) }
+    ensures works { OnOk result (W.has_failed output.new ≡ false) }
+    ensures refused { IfErr result (λ e. (e ≡ CanonicalError.Frame WriteFailed) × (W.has_failed output.new ≡ true)) }
+{
+    match made.get_segments_for_output() {
+        Ok(segments) => match write(output, &segments) {
+            Ok(()) => Ok(()),
+            Err(error) => Err(CanonicalError::Frame(error)),
+        },
+        Err(kind) => Err(CanonicalError::Layout(kind)),
+    }
+}
+
+/// Writes what a pointer means as the frame of a canonical message: one segment, its canonical words.
+///
+/// The limiter is charged what the copy costs, once, however many tries it takes to find the room. A
+/// value that isn't copied is `Layout`, with the refusal of the copy, and nothing is written; more than
+/// 536,870,911 words are `MessageTooLarge`. `Frame` says that the output has failed; how much it took
+/// isn't said. What is left of the limiter after a refusal isn't said.
+pub fn write_canonical<W: Output, B: ReaderArena>(
+    alloc: Global,
+    output: &mut W,
+    from: PointerReader<'_, B>,
+    lim: &mut ReadLimiter,
+) -> Result<(), CanonicalError>
+    requires { W.has_failed output.old ≡ false }
+    ensures written { OnOk result ((t : Tree)
+        × IsRead (reading B.ReaderArena from.entry) lim.old.left lim.new.left t
+        × Prints W.Output output.old output.new (frame (encoding (trim t) ∷ []))) }
+    ensures works { OnOk result (W.has_failed output.new ≡ false) }
+    ensures layout { IfErr result (λ e. (k : ErrorKind) → e ≡ CanonicalError.Layout k →
+        ((k ≡ AllocationFailed) ⊎ RefusesCopy (reading B.ReaderArena from.entry) lim.old.left max_segment_words k)
+        × IsUnwritten W.Output output.old output.new) }
+    ensures frame { IfErr result (λ e. (f : FrameError) → e ≡ CanonicalError.Frame f →
+        (f ≡ WriteFailed) × (W.has_failed output.new ≡ true)) }
+{
+    let words = words_of_source(&from);
+    match copy_in_tries(alloc, HeapAllocator::new(alloc, 0), from, lim.left(), words) {
+        Ok((made, after)) => {
+            settle(lim, after);
+            write_segment(output, &made)
+        }
+        Err((kind, _)) => Err(CanonicalError::Layout(kind)),
+    }
+}
