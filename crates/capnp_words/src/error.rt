@@ -86,6 +86,9 @@ pub enum ErrorKind {
     UnknownPointerType,
 }
 
+/// What a call gives that can be refused.
+pub type Result<T> = std::result::Result<T, ErrorKind>;
+
 impl ErrorKind {
     /// The variant's name, without the number.
     pub fn name(&self) -> &'static str

@@ -1,4 +1,5 @@
-//! The names that no other test here uses: units, sizes of elements and of numbers, and the laws.
+//! The names that no other test here uses: units, sizes of elements and of numbers, results, and the laws.
+use capnp_words::error::{self, ErrorKind};
 use capnp_words::laws::*;
 use capnp_words::primitive::Primitive;
 use capnp_words::read_limiter::ReadLimiter;
@@ -101,4 +102,13 @@ fn laws() {
     elements_are_bits();
     one_arena_value();
     worked_examples();
+}
+
+#[test]
+fn results(rt: HostRuntime) {
+    let mut lim = ReadLimiter::new(Some(3));
+    let granted: error::Result<()> = lim.can_read(2);
+    let refused: error::Result<()> = lim.can_read(2);
+    assert!(rt; granted == Ok(()));
+    assert!(rt; refused == Err(ErrorKind::ReadLimitExceeded));
 }
