@@ -28,5 +28,5 @@ returns-in-SetCapability-clause-put g c =
       counted = ap (λ (v : View). v.refusals) c.set_capability.ensures.limits;
       named = λ k e. absurd (cc);
       fits = λ room. refl;
-      taken = c.set_capability.ensures.lengths;
+      taken = c.set_capability.ensures.only.words;
     })
