@@ -1,8 +1,10 @@
 //! Tests of capnp_layout, by its public calls: its devices, the names that it gives the crates below, and what
-//! is answered where memory or a device fails, what a run asks for, and messages that are canonical as a
-//! whole. What its engine answers else, runs of the program show.
+//! is answered where memory or a device fails, what a run asks for, and canonical
+//! messages as a whole, tested and written. What its engine answers else, runs of the program show.
 #![tactic(auto)]
 
+#[cfg(test)]
+mod canonical_frames;
 #[cfg(test)]
 mod canonical_messages;
 #[cfg(test)]

@@ -1,0 +1,57 @@
+//! Values that are written as canonical frames.
+use capnp_layout::arena::ReaderOptions;
+use capnp_layout::devices::MemoryOutput;
+use capnp_layout::error::ErrorKind;
+use capnp_layout::framing::{CanonicalError, write_canonical};
+use capnp_layout::read_limiter::ReadLimiter;
+use capnp_layout::readers::PointerReader;
+use std::process::Abort;
+use test_support::{arena_of, bytes_of};
+
+/// Eight words that make 23: three structs of two pointers, each of which leads to the next one twice, and
+/// the last one to the number 9.
+const DOUBLED: &str =
+    "0000000000000200 0400000000000200 0000000000000200 0400000000000200 0000000000000200 0400000001000000 0000000001000000 0900000000000000";
+
+/// A struct of two words of data, and a value that takes several tries, are each written as one frame and
+/// charged once. Where the limiter doesn't cover the copy nothing is written.
+#[test]
+fn frames(rt: HostRuntime) {
+    let two = "0000000002000000 1111111111111111 0000000000000080";
+    let refused = Err(CanonicalError::Layout(ErrorKind::ReadLimitExceeded));
+    for (text, budget, want, words) in [
+        (two, 3, Ok(()), 3u8),
+        (DOUBLED, 23, Ok(()), 23),
+        (DOUBLED, 22, refused, 0),
+    ] {
+        let source = arena_of(rt.alloc(), text, ReaderOptions::default()).expect(&rt, "a message");
+        let mut lim = ReadLimiter::new(Some(budget));
+        let from = PointerReader::get_root_from_arena(&source, &mut lim).expect(&rt, "a root");
+        let mut to = MemoryOutput::new(rt.alloc());
+        assert!(rt; write_canonical(rt.alloc(), &mut to, from, &mut lim) == want);
+        if want.is_ok() {
+            assert!(rt; lim.left() == Some(0));
+            let head = [0, 0, 0, 0, words, 0, 0, 0];
+            assert!(rt; to.bytes().starts_with(&head));
+            assert!(rt; to.bytes().len() == 8 + 8 * words as usize);
+        } else {
+            assert!(rt; to.bytes().is_empty());
+        }
+    }
+}
+
+/// The words of a frame, and the name of a refusal.
+#[test]
+fn words(rt: HostRuntime) {
+    let two = "0000000002000000 1111111111111111 0000000000000080";
+    let source = arena_of(rt.alloc(), two, ReaderOptions::default()).expect(&rt, "a message");
+    let mut lim = ReadLimiter::new(None);
+    let from = PointerReader::get_root_from_arena(&source, &mut lim).expect(&rt, "a root");
+    let mut to = MemoryOutput::new(rt.alloc());
+    assert!(rt; write_canonical(rt.alloc(), &mut to, from, &mut lim) == Ok(()));
+    let want = "0000000003000000 0000000002000000 1111111111111111 0000000000000080";
+    let want = bytes_of(rt.alloc(), want).expect(&rt, "hex digits");
+    assert!(rt; to.bytes() == want.as_slice());
+    let refused = CanonicalError::Layout(ErrorKind::NoSuchPlace);
+    assert!(rt; refused.name() == "NoSuchPlace");
+}
