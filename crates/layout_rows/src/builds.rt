@@ -11,10 +11,10 @@ mod structs;
 
 use self::call::{Call, MessageCall};
 use self::place::Place;
-use crate::memory;
+use crate::memory::{self, Built};
 use crate::output::Output;
 use crate::parse::{self, Fault};
-use capnp_arena::arena::BuilderArena;
+use capnp_arena::arena::{BuilderArena, ReaderArena};
 use capnp_readers::readers::PointerPlace;
 use std::alloc::Global;
 
@@ -29,20 +29,20 @@ pub fn answer(alloc: Global, line: &str) -> Result<String, Fault> {
     match memory::built(alloc, allocator) {
         Ok(mut arena) => {
             put_answers(alloc, &mut arena, calls, &mut out)?;
-            memory::put_words(&arena, &mut out)?;
+            memory::put_words(&arena, &mut out);
         }
         Err(kind) => {
-            out.text("refused ")?;
-            out.refusal(kind)?;
+            out.text("refused ");
+            out.refusal(kind);
         }
     }
-    Ok(out.into_text())
+    Ok(out.into_text()?)
 }
 
 /// Makes calls in order, and adds the answer of each with a `;` behind it.
-fn put_answers<A: BuilderArena>(
+fn put_answers(
     alloc: Global,
-    arena: &mut A,
+    arena: &mut Built,
     calls: &[&str],
     out: &mut Output,
 ) -> Result<(), Fault> {
@@ -50,12 +50,15 @@ fn put_answers<A: BuilderArena>(
     keep(&mut kept, Place::Pointer(ROOT))?;
     for text in calls {
         match call_once(alloc, arena, kept.as_slice(), text, out) {
-            Ok(Some(place)) => keep(&mut kept, place)?,
+            Ok(Some(place)) => {
+                place.put(out);
+                keep(&mut kept, place)?;
+            }
             Ok(None) => {}
-            Err(Fault::Unfit) => out.text("none")?,
+            Err(Fault::Unfit) => out.text("none"),
             Err(fault) => return Err(fault),
         }
-        out.text(";")?;
+        out.text(";");
     }
     Ok(())
 }
@@ -75,9 +78,9 @@ fn keep(kept: &mut Vec<Place>, place: Place) -> Result<(), Fault> {
 }
 
 /// Makes a call and adds its answer. Gives the place that is to be kept, if there is one.
-fn call_once<A: BuilderArena>(
+fn call_once(
     alloc: Global,
-    arena: &mut A,
+    arena: &mut Built,
     kept: &[Place],
     text: &str,
     out: &mut Output,
@@ -117,21 +120,54 @@ fn made_of<'a>(kept: &[Place], text: &'a str) -> (Option<Place>, &'a str) {
 }
 
 /// Makes a call of the message itself.
-fn message_call<A: BuilderArena>(
-    arena: &A,
+fn message_call(
+    arena: &mut Built,
     call: MessageCall,
     out: &mut Output,
 ) -> Result<Option<Place>, Fault> {
     match call {
-        MessageCall::Words => memory::put_words(arena, out)?,
-        MessageCall::Refused => out.number(arena.refused())?,
-        MessageCall::Size => out.number(arena.size_in_words())?,
+        MessageCall::Words => memory::put_words(&*arena, out),
+        MessageCall::Len => out.number(arena.len()),
+        MessageCall::Refused => out.number(arena.refused()),
+        MessageCall::Size => out.number(arena.size_in_words()),
+        MessageCall::Allocated(segment) => allocated(arena, segment, out),
+        MessageCall::WriteAllocated(segment, index, byte) => {
+            write_allocated(arena, segment, (index, byte), out)?;
+        }
         MessageCall::PointerAt(place) => {
-            if !place::is_pointer(arena, place) {
+            if !place::is_pointer(&*arena, place) {
                 return Err(Fault::Unfit);
             }
-            return Place::Pointer(place).put(out);
+            return Ok(Some(Place::Pointer(place)));
         }
     }
     Ok(None)
+}
+
+/// Adds the bytes of a segment that are lent to be written, or that there are none.
+fn allocated<A: BuilderArena>(arena: &mut A, segment: u32, out: &mut Output) {
+    match arena.allocated_mut(segment) {
+        Some(bytes) => out.hex_or_dash(bytes),
+        None => out.text("absent"),
+    }
+}
+
+/// Writes one of the bytes of a segment that are lent to be written, if there are any.
+fn write_allocated<A: BuilderArena>(
+    arena: &mut A,
+    segment: u32,
+    (index, byte): (usize, u8),
+    out: &mut Output,
+) -> Result<(), Fault> {
+    match arena.allocated_mut(segment) {
+        Some(bytes) => {
+            let Some(at) = bytes.get_mut(index) else {
+                return Err(Fault::Unfit);
+            };
+            *at = byte;
+            out.text("ok");
+        }
+        None => out.text("absent"),
+    }
+    Ok(())
 }

@@ -20,15 +20,15 @@ pub fn answer(alloc: Global, line: &str) -> Result<String, Fault> {
     match memory::built(alloc, allocator) {
         Ok(mut arena) => {
             put_outcomes(alloc, &mut arena, edits, &mut out)?;
-            out.text(" ")?;
-            memory::put_words(&arena, &mut out)?;
+            out.text(" ");
+            memory::put_words(&arena, &mut out);
         }
         Err(kind) => {
-            out.text("refused ")?;
-            out.refusal(kind)?;
+            out.text("refused ");
+            out.refusal(kind);
         }
     }
-    Ok(out.into_text())
+    Ok(out.into_text()?)
 }
 
 /// Does edits, and adds what becomes of each, parted by `;`.
@@ -40,11 +40,11 @@ fn put_outcomes<A: BuilderArena>(
 ) -> Result<(), Fault> {
     for (i, edit) in edits.split(';').enumerate() {
         if i > 0 {
-            out.text(";")?;
+            out.text(";");
         }
         match edit_once(alloc, arena, edit)? {
-            Ok(()) => out.text("ok")?,
-            Err(kind) => out.refusal(kind)?,
+            Ok(()) => out.text("ok"),
+            Err(kind) => out.refusal(kind),
         }
     }
     Ok(())

@@ -8,7 +8,7 @@ use capnp_arena::arena::{
     ReaderArena,
 };
 use capnp_words::error::ErrorKind;
-use std::alloc::{AllocError, Global};
+use std::alloc::Global;
 
 /// Makes segments on the heap, of which it grants only so many. It counts what it refuses.
 #[derive(Drop)]
@@ -106,17 +106,16 @@ pub fn built(alloc: Global, allocator: SegmentAllocator) -> Result<Built, ErrorK
 }
 
 /// Adds the allocated words of each segment in hex digits, parted by commas.
-pub fn put_words(arena: &impl ReaderArena, out: &mut Output) -> Result<(), AllocError> {
+pub fn put_words(arena: &impl ReaderArena, out: &mut Output) {
     for id in 0..u32::MAX {
         match arena.get_segment(id) {
             Ok(bytes) => {
                 if id > 0 {
-                    out.text(",")?;
+                    out.text(",");
                 }
-                out.hex(bytes)?;
+                out.hex(bytes);
             }
             Err(_) => break,
         }
     }
-    Ok(())
 }

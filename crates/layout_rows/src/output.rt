@@ -5,11 +5,12 @@ use capnp_words::wire_pointer::ElementSize;
 use std::alloc::{AllocError, Global};
 use std::fmt::Display;
 
-/// A line so far.
+/// A line so far. Where there is no memory for a part of it, the line is lost, and that is said at its end.
 #[derive(Drop)]
 pub struct Output {
     alloc: Global,
     text: String,
+    is_lost: bool,
 }
 
 impl Output {
@@ -18,49 +19,60 @@ impl Output {
         Output {
             alloc,
             text: String::new(alloc),
+            is_lost: false,
         }
     }
 
-    /// The line.
-    pub fn into_text(self) -> String {
-        let Output { alloc: _, text } = self;
-        text
+    /// The line, if there was memory for all of it.
+    pub fn into_text(self) -> Result<String, AllocError> {
+        let Output {
+            alloc: _,
+            text,
+            is_lost,
+        } = self;
+        if is_lost { Err(AllocError) } else { Ok(text) }
     }
 
     /// Adds a text.
-    pub fn text(&mut self, text: &str) -> Result<(), AllocError> {
-        self.text.push_str(text)
+    pub fn text(&mut self, text: &str) {
+        if self.text.push_str(text).is_err() {
+            self.is_lost = true;
+        }
     }
 
     /// Adds a number in decimal digits, a negative one behind a `-`.
-    pub fn number<N: Display + Drop>(&mut self, n: N) -> Result<(), AllocError> {
-        let digits = format!(in self.alloc; "{n}")?;
-        self.text.push_str(digits.as_str())
+    pub fn number<N: Display + Drop>(&mut self, n: N) {
+        match format!(in self.alloc; "{n}") {
+            Ok(digits) => self.text(digits.as_str()),
+            Err(_) => self.is_lost = true,
+        }
     }
 
     /// Adds 1 for yes, 0 for no.
-    pub fn flag(&mut self, yes: bool) -> Result<(), AllocError> {
-        self.text.push_str(if yes { "1" } else { "0" })
+    pub fn flag(&mut self, yes: bool) {
+        self.text(if yes { "1" } else { "0" });
     }
 
     /// Adds bytes as hex digits.
-    pub fn hex(&mut self, bytes: &[u8]) -> Result<(), AllocError> {
-        let digits = hex::encode(self.alloc, bytes)?;
-        self.text.push_str(digits.as_str())
+    pub fn hex(&mut self, bytes: &[u8]) {
+        match hex::encode(self.alloc, bytes) {
+            Ok(digits) => self.text(digits.as_str()),
+            Err(_) => self.is_lost = true,
+        }
     }
 
     /// Adds bytes as hex digits, `-` for none.
-    pub fn hex_or_dash(&mut self, bytes: &[u8]) -> Result<(), AllocError> {
+    pub fn hex_or_dash(&mut self, bytes: &[u8]) {
         if bytes.is_empty() {
-            self.text.push_str("-")
+            self.text("-");
         } else {
-            self.hex(bytes)
+            self.hex(bytes);
         }
     }
 
     /// Adds the size of elements as a number.
-    pub fn element_size(&mut self, size: ElementSize) -> Result<(), AllocError> {
-        self.text.push_str(match size {
+    pub fn element_size(&mut self, size: ElementSize) {
+        self.text(match size {
             ElementSize::Void => "0",
             ElementSize::Bit => "1",
             ElementSize::Byte => "2",
@@ -69,12 +81,14 @@ impl Output {
             ElementSize::EightBytes => "5",
             ElementSize::Pointer => "6",
             ElementSize::InlineComposite => "7",
-        })
+        });
     }
 
     /// Adds the name of a refusal, with its number where it has one.
-    pub fn refusal(&mut self, kind: ErrorKind) -> Result<(), AllocError> {
-        let name = format!(in self.alloc; "{kind}")?;
-        self.text.push_str(name.as_str())
+    pub fn refusal(&mut self, kind: ErrorKind) {
+        match format!(in self.alloc; "{kind}") {
+            Ok(name) => self.text(name.as_str()),
+            Err(_) => self.is_lost = true,
+        }
     }
 }

@@ -17,9 +17,9 @@ use capnp_words::error::ErrorKind;
 use capnp_words::mask::Mask;
 use capnp_words::primitive::Primitive;
 use capnp_words::read_limiter::ReadLimiter;
-use capnp_words::wire_pointer::PointerType;
+use capnp_words::wire_pointer::{ElementSize, PointerType};
 use capnp_words::zero::Zero;
-use std::alloc::{AllocError, Global};
+use std::alloc::Global;
 use std::fmt::Display;
 use std::str::FromStr;
 
@@ -76,207 +76,276 @@ impl Reading {
                 Some(number) => kept.get(number),
                 None => kept.last(),
             };
-            let given = match self.call(arena, of.copied(), call) {
-                Ok(given) => given,
-                Err(Fault::Unfit) => {
-                    self.out.text("none")?;
-                    None
-                }
-                Err(fault) => return Err(fault),
-            };
-            if let Some(reader) = given {
+            if let Some(reader) = self.call(arena, of.copied(), call) {
+                self.show(reader);
                 match kept.push(reader) {
                     Ok(()) => {}
                     Err(_) => return Err(Fault::NoMemory),
                 }
             }
-            self.limits()?;
+            self.limits();
         }
         let Reading { limiter: _, out } = self;
-        Ok(out.into_text())
+        Ok(out.into_text()?)
     }
 
     /// What is left of the budget, and how many pointers were followed.
-    fn limits(&mut self) -> Result<(), AllocError> {
-        self.out.text(" ")?;
+    fn limits(&mut self) {
+        self.out.text(" ");
         match self.limiter.left() {
-            Some(words) => self.out.number(words)?,
-            None => self.out.text("none")?,
+            Some(words) => self.out.number(words),
+            None => self.unfit(),
         }
-        self.out.text(" ")?;
-        self.out.number(self.limiter.followed())?;
-        self.out.text(";")
+        self.out.text(" ");
+        self.out.number(self.limiter.followed());
+        self.out.text(";");
     }
 
-    /// Makes a call, of a reader that is kept if there is one, and answers what it gives.
+    /// Makes a call, of a reader that is kept if there is one. A reader that it gives isn't shown yet.
     fn call<'a, A: ReaderArena>(
         &mut self,
         arena: &'a A,
         of: Option<Reader<'a, A>>,
         call: &'a Call,
-    ) -> Result<Option<Reader<'a, A>>, Fault> {
+    ) -> Option<Reader<'a, A>> {
         match call.op {
             Op::Root => self.root(arena),
-            Op::NewPointer => self.keep(Reader::Pointer(PointerReader::new_default())),
-            Op::NewStruct => self.keep(Reader::Struct(StructReader::new_default())),
-            Op::NewList => self.keep(Reader::List(ListReader::new_default())),
-            Op::At(place, nesting_limit) => {
-                let reader = reader_at(arena, place, nesting_limit)?;
-                self.keep(Reader::Pointer(reader))
-            }
+            Op::NewPointer | Op::NewStruct | Op::NewList => from_nothing(arena, call.op),
+            Op::At(place, nesting_limit) => self.at(arena, place, nesting_limit),
             Op::FromDefault => self.from_default(call),
-            op => match of {
-                Some(Reader::Pointer(from)) => self.call_of_pointer(from, call),
-                Some(Reader::Struct(from)) => self.call_of_struct(from, op),
-                Some(Reader::List(from)) => self.call_of_list(from, op),
-                None => Err(Fault::Unfit),
-            },
+            _ => self.call_of(of, call),
         }
     }
 
-    fn root<'a, A: ReaderArena>(&mut self, arena: &'a A) -> Result<Option<Reader<'a, A>>, Fault> {
-        let root = match PointerReader::get_root_from_arena(arena, &mut self.limiter) {
-            Ok(root) => root,
-            Err(kind) => return self.refused(kind),
-        };
-        self.keep(Reader::Pointer(root))
+    /// Makes a call of a reader that is kept, if there is one.
+    fn call_of<'a, A: ReaderArena>(
+        &mut self,
+        of: Option<Reader<'a, A>>,
+        call: &'a Call,
+    ) -> Option<Reader<'a, A>> {
+        match of {
+            Some(Reader::Pointer(from)) => self.call_of_pointer(from, call),
+            Some(Reader::Struct(from)) => self.call_of_struct(from, call.op),
+            Some(Reader::List(from)) => self.call_of_list(from, call.op),
+            None => {
+                self.unfit();
+                None
+            }
+        }
     }
 
-    fn from_default<'a, A: ReaderArena>(
+    /// Answers a call that can't be made.
+    fn unfit(&mut self) {
+        self.out.text("none");
+    }
+
+    fn root<'a, A: ReaderArena>(&mut self, arena: &'a A) -> Option<Reader<'a, A>> {
+        match PointerReader::get_root_from_arena(arena, &mut self.limiter) {
+            Ok(root) => Some(Reader::Pointer(root)),
+            Err(kind) => {
+                self.out.refusal(kind);
+                None
+            }
+        }
+    }
+
+    /// The pointer at a place, where there is a word.
+    fn at<'a, A: ReaderArena>(
         &mut self,
-        call: &'a Call,
-    ) -> Result<Option<Reader<'a, A>>, Fault> {
-        let Some(bytes) = default_of(call)? else {
-            return Err(Fault::Malformed);
+        arena: &'a A,
+        place: PointerPlace,
+        nesting_limit: i32,
+    ) -> Option<Reader<'a, A>> {
+        match reader_at(arena, place, nesting_limit) {
+            Some(reader) => Some(Reader::Pointer(reader)),
+            None => {
+                self.unfit();
+                None
+            }
+        }
+    }
+
+    fn from_default<'a, A: ReaderArena>(&mut self, call: &'a Call) -> Option<Reader<'a, A>> {
+        let Ok(Some(bytes)) = default_of(call) else {
+            self.unfit();
+            return None;
         };
-        let pointer = match PointerReader::from_default(bytes) {
-            Ok(pointer) => pointer,
-            Err(kind) => return self.refused(kind),
-        };
-        self.keep(Reader::Pointer(pointer))
+        match PointerReader::from_default(bytes) {
+            Ok(pointer) => Some(Reader::Pointer(pointer)),
+            Err(kind) => {
+                self.out.refusal(kind);
+                None
+            }
+        }
     }
 
     fn call_of_pointer<'a, A: ReaderArena>(
         &mut self,
         from: PointerReader<'a, A>,
         call: &'a Call,
-    ) -> Result<Option<Reader<'a, A>>, Fault> {
-        let default = default_of(call)?;
+    ) -> Option<Reader<'a, A>> {
+        let Ok(default) = default_of(call) else {
+            self.unfit();
+            return None;
+        };
         match call.op {
-            Op::Struct => match from.get_struct(&mut self.limiter, default) {
-                Ok(found) => return self.keep(Reader::Struct(found)),
-                Err(kind) => return self.refused(kind),
-            },
-            Op::List(size) => match from.get_list(&mut self.limiter, size, default) {
-                Ok(found) => return self.keep(Reader::List(found)),
-                Err(kind) => return self.refused(kind),
-            },
-            Op::Next => return self.next(from),
-            Op::Text => {
-                let text = from.get_text(&mut self.limiter, default);
-                self.bytes(text)?;
+            Op::Struct => self.structure(from, default),
+            Op::List(size) => self.list(from, size, default),
+            Op::Next => self.next(from),
+            Op::Text | Op::Data => {
+                self.bytes(from, call.op, default);
+                None
             }
-            Op::Data => {
-                let data = from.get_data(&mut self.limiter, default);
-                self.bytes(data)?;
+            op => {
+                self.ask_pointer(from, op);
+                None
             }
-            op => self.ask_pointer(from, op)?,
         }
-        Ok(None)
     }
 
-    fn next<'a, A: ReaderArena>(
+    fn structure<'a, A: ReaderArena>(
         &mut self,
         from: PointerReader<'a, A>,
-    ) -> Result<Option<Reader<'a, A>>, Fault> {
-        match from.next(&mut self.limiter) {
-            Ok(Target::Struct(found)) => {
-                self.out.text("struct:")?;
-                return self.keep(Reader::Struct(found));
+        default: Option<&'a [u8]>,
+    ) -> Option<Reader<'a, A>>
+        requires { IfSome default (λ bytes. length bytes.now / 8 < 2 ^ 32) }
+    {
+        match from.get_struct(&mut self.limiter, default) {
+            Ok(found) => Some(Reader::Struct(found)),
+            Err(kind) => {
+                self.out.refusal(kind);
+                None
             }
-            Ok(Target::List(found)) => {
-                self.out.text("list:")?;
-                return self.keep(Reader::List(found));
-            }
-            Ok(Target::Null) => self.out.text("null")?,
-            Ok(Target::Cap(index)) => {
-                self.out.text("capability:")?;
-                self.out.number(index)?;
-            }
-            Err(kind) => self.out.refusal(kind)?,
         }
-        Ok(None)
+    }
+
+    fn list<'a, A: ReaderArena>(
+        &mut self,
+        from: PointerReader<'a, A>,
+        size: ElementSize,
+        default: Option<&'a [u8]>,
+    ) -> Option<Reader<'a, A>>
+        requires { IfSome default (λ bytes. length bytes.now / 8 < 2 ^ 32) }
+    {
+        match from.get_list(&mut self.limiter, size, default) {
+            Ok(found) => Some(Reader::List(found)),
+            Err(kind) => {
+                self.out.refusal(kind);
+                None
+            }
+        }
+    }
+
+    fn next<'a, A: ReaderArena>(&mut self, from: PointerReader<'a, A>) -> Option<Reader<'a, A>> {
+        match from.next(&mut self.limiter) {
+            Ok(target) => self.target(target),
+            Err(kind) => {
+                self.out.refusal(kind);
+                None
+            }
+        }
+    }
+
+    /// Answers the kind of what a pointer leads to, and gives a reader of it.
+    fn target<'a, A: ReaderArena>(&mut self, target: Target<'a, A>) -> Option<Reader<'a, A>> {
+        match target {
+            Target::Struct(found) => {
+                self.out.text("struct:");
+                Some(Reader::Struct(found))
+            }
+            Target::List(found) => {
+                self.out.text("list:");
+                Some(Reader::List(found))
+            }
+            Target::Null => {
+                self.out.text("null");
+                None
+            }
+            Target::Cap(index) => {
+                self.out.text("capability:");
+                self.out.number(index);
+                None
+            }
+        }
+    }
+
+    /// The bytes of a text or of data.
+    fn bytes<'a, A: ReaderArena>(
+        &mut self,
+        from: PointerReader<'a, A>,
+        op: Op,
+        default: Option<&'a [u8]>,
+    )
+        requires { IfSome default (λ bytes. length bytes.now / 8 < 2 ^ 32) }
+    {
+        let read = match op {
+            Op::Text => from.get_text(&mut self.limiter, default),
+            _ => from.get_data(&mut self.limiter, default),
+        };
+        match read {
+            Ok(bytes) => self.out.hex_or_dash(bytes),
+            Err(kind) => self.out.refusal(kind),
+        }
     }
 
     /// Calls that give no reader, of a pointer.
-    fn ask_pointer<A: ReaderArena>(
-        &mut self,
-        from: PointerReader<'_, A>,
-        op: Op,
-    ) -> Result<(), Fault> {
+    fn ask_pointer<A: ReaderArena>(&mut self, from: PointerReader<'_, A>, op: Op) {
         match op {
-            Op::IsNull => self.out.flag(from.is_null())?,
+            Op::IsNull => self.out.flag(from.is_null()),
             Op::Type => {
                 let found = from.get_pointer_type(&mut self.limiter);
-                self.pointer_type(found)?;
+                self.pointer_type(found);
             }
-            Op::Capability => match from.get_capability() {
-                Ok(index) => self.out.number(index)?,
-                Err(kind) => self.out.refusal(kind)?,
-            },
+            Op::Capability => self.capability(from.get_capability()),
             Op::Size => {
                 let size = from.total_size(&mut self.limiter);
-                self.size(size)?;
+                self.size(size);
             }
-            Op::Canonical(head) => {
-                let mut head = head;
-                let tested = from.is_canonical(&mut self.limiter, &mut head);
-                self.tested(tested)?;
-                self.head(head)?;
-            }
-            _ => return Err(Fault::Unfit),
+            Op::Canonical(head) => self.canonical(from, head),
+            _ => self.unfit(),
         }
-        Ok(())
     }
 
     fn call_of_struct<'a, A: ReaderArena>(
         &mut self,
         from: StructReader<'a, A>,
         op: Op,
-    ) -> Result<Option<Reader<'a, A>>, Fault> {
+    ) -> Option<Reader<'a, A>> {
         match op {
-            Op::Pointer(index) => {
-                return self.keep(Reader::Pointer(from.get_pointer_field(index)));
+            Op::Pointer(index) => Some(Reader::Pointer(from.get_pointer_field(index))),
+            Op::Section => Some(Reader::List(from.get_pointer_section_as_list())),
+            op => {
+                self.ask_struct(from, op);
+                None
             }
-            Op::Section => return self.keep(Reader::List(from.get_pointer_section_as_list())),
-            op => self.ask_struct(from, op)?,
         }
-        Ok(None)
     }
 
     /// Calls that give no reader, of a struct.
-    fn ask_struct<A: ReaderArena>(
-        &mut self,
-        from: StructReader<'_, A>,
-        op: Op,
-    ) -> Result<(), Fault> {
+    fn ask_struct<A: ReaderArena>(&mut self, from: StructReader<'_, A>, op: Op) {
         match op {
-            Op::IsPointerNull(index) => self.out.flag(from.is_pointer_field_null(index))?,
-            Op::Bool(index, None) => self.out.flag(from.get_bool_field(index))?,
+            Op::IsPointerNull(index) => self.out.flag(from.is_pointer_field_null(index)),
+            Op::Bool(index, None) => self.out.flag(from.get_bool_field(index)),
             Op::Bool(index, Some(mask)) => {
-                self.out.flag(from.get_bool_field_mask(index, mask))?;
+                self.out.flag(from.get_bool_field_mask(index, mask));
             }
-            Op::Number(of, index, mask) => self.field(from, of, index, mask)?,
-            Op::Bytes => self.out.hex_or_dash(from.data_bytes())?,
+            Op::Number(of, index, mask) => self.field(from, of, index, mask),
+            Op::Bytes => self.out.hex_or_dash(from.data_bytes()),
             Op::Size => {
                 let size = from.total_size(&mut self.limiter);
-                self.size(size)?;
+                self.size(size);
             }
-            Op::CanonicalStruct(read, behind) => self.canonical_struct(from, read, behind)?,
-            Op::CanonicalShared(head) => self.canonical_shared(from, head)?,
-            _ => return Err(Fault::Unfit),
+            Op::CanonicalStruct(read, behind) => self.canonical_struct(from, read, behind),
+            Op::CanonicalShared(head) => self.canonical_shared(from, head),
+            _ => self.unfit(),
         }
-        Ok(())
+    }
+
+    fn canonical<A: ReaderArena>(&mut self, from: PointerReader<'_, A>, head: u32) {
+        let mut head = head;
+        let tested = from.is_canonical(&mut self.limiter, &mut head);
+        self.tested(tested);
+        self.head(head);
     }
 
     fn canonical_struct<A: ReaderArena>(
@@ -284,7 +353,7 @@ impl Reading {
         from: StructReader<'_, A>,
         read: u32,
         behind: u32,
-    ) -> Result<(), AllocError> {
+    ) {
         let (mut read, mut behind) = (read, behind);
         let (mut data, mut pointers) = (false, false);
         let tested = from.is_canonical(
@@ -294,17 +363,13 @@ impl Reading {
             &mut data,
             &mut pointers,
         );
-        self.tested(tested)?;
-        self.head(read)?;
-        self.head(behind)?;
-        self.used(data, pointers)
+        self.tested(tested);
+        self.head(read);
+        self.head(behind);
+        self.used(data, pointers);
     }
 
-    fn canonical_shared<A: ReaderArena>(
-        &mut self,
-        from: StructReader<'_, A>,
-        head: u32,
-    ) -> Result<(), AllocError> {
+    fn canonical_shared<A: ReaderArena>(&mut self, from: StructReader<'_, A>, head: u32) {
         let mut head = head;
         let (mut data, mut pointers) = (false, false);
         let tested = from.is_canonical_shared(
@@ -313,47 +378,64 @@ impl Reading {
             &mut data,
             &mut pointers,
         );
-        self.tested(tested)?;
-        self.head(head)?;
-        self.used(data, pointers)
+        self.tested(tested);
+        self.head(head);
+        self.used(data, pointers);
     }
 
     fn call_of_list<'a, A: ReaderArena>(
         &mut self,
         from: ListReader<'a, A>,
         op: Op,
-    ) -> Result<Option<Reader<'a, A>>, Fault> {
+    ) -> Option<Reader<'a, A>> {
         match op {
-            Op::Element(index) => {
-                let found = struct_at(&from, index).ok_or(Fault::Unfit)?;
-                return self.keep(Reader::Struct(found));
+            Op::Element(index) => self.found(struct_at(&from, index)),
+            Op::OwnElement(index) => self.found(own_struct_at(&from, index)),
+            Op::PointerElement(index) => match pointer_at(&from, index) {
+                Some(pointer) => Some(Reader::Pointer(pointer)),
+                None => {
+                    self.unfit();
+                    None
+                }
+            },
+            op => {
+                self.ask_list(from, op);
+                None
             }
-            Op::OwnElement(index) => {
-                let found = own_struct_at(&from, index).ok_or(Fault::Unfit)?;
-                return self.keep(Reader::Struct(found));
-            }
-            Op::PointerElement(index) => {
-                let found = pointer_at(&from, index).ok_or(Fault::Unfit)?;
-                return self.keep(Reader::Pointer(found));
-            }
-            op => self.ask_list(from, op)?,
         }
-        Ok(None)
+    }
+
+    /// The struct of a list, if there is one.
+    fn found<'a, A: ReaderArena>(
+        &mut self,
+        found: Option<StructReader<'a, A>>,
+    ) -> Option<Reader<'a, A>> {
+        match found {
+            Some(found) => Some(Reader::Struct(found)),
+            None => {
+                self.unfit();
+                None
+            }
+        }
     }
 
     /// Calls that give no reader, of a list.
-    fn ask_list<A: ReaderArena>(&mut self, from: ListReader<'_, A>, op: Op) -> Result<(), Fault> {
+    fn ask_list<A: ReaderArena>(&mut self, from: ListReader<'_, A>, op: Op) {
         match op {
-            Op::Get(of, index) => self.element(from, of, index)?,
-            Op::Bytes => self.out.hex_or_dash(from.data_bytes())?,
-            Op::Bits => self.out.number(from.element_data_bits())?,
-            Op::Low(index) => {
-                let n = low_data_at(&from, index).ok_or(Fault::Unfit)?;
-                self.out.number(n)?;
-            }
-            _ => return Err(Fault::Unfit),
+            Op::Get(of, index) => self.element(from, of, index),
+            Op::Bytes => self.out.hex_or_dash(from.data_bytes()),
+            Op::Bits => self.out.number(from.element_data_bits()),
+            Op::Low(index) => self.number_or_none(low_data_at(&from, index)),
+            _ => self.unfit(),
         }
-        Ok(())
+    }
+
+    /// Answers a number, if there is one.
+    fn number_or_none<N: Display + Drop>(&mut self, number: Option<N>) {
+        match number {
+            Some(number) => self.out.number(number),
+            None => self.unfit(),
+        }
     }
 
     /// A number of a struct, under a mask if there is one.
@@ -363,7 +445,7 @@ impl Reading {
         of: NumberType,
         index: usize,
         mask: Option<&str>,
-    ) -> Result<(), Fault> {
+    ) {
         match of {
             NumberType::U8 => self.number::<u8, A>(from, index, mask),
             NumberType::U16 => self.number::<u16, A>(from, index, mask),
@@ -381,35 +463,31 @@ impl Reading {
         from: StructReader<'_, A>,
         index: usize,
         mask: Option<&str>,
-    ) -> Result<(), Fault>
+    )
     where
         T::Err: Drop,
     {
-        let mask: Option<T> = mask_of(mask)?;
-        let number: T = match mask {
-            Some(mask) => from.get_data_field_mask(index, mask),
-            None => from.get_data_field(index),
-        };
-        self.out.number(number)?;
-        Ok(())
+        let mask: Result<Option<T>, Fault> = mask_of(mask);
+        match mask {
+            Ok(Some(mask)) => self.out.number(from.get_data_field_mask::<T>(index, mask)),
+            Ok(None) => self.out.number(from.get_data_field::<T>(index)),
+            Err(_) => self.unfit(),
+        }
     }
 
     /// An element of a list that is a number, a bit or nothing.
-    fn element<A: ReaderArena>(
-        &mut self,
-        from: ListReader<'_, A>,
-        of: ElementType,
-        index: u32,
-    ) -> Result<(), Fault> {
+    fn element<A: ReaderArena>(&mut self, from: ListReader<'_, A>, of: ElementType, index: u32) {
         match of {
             ElementType::Void => {
                 <() as PrimitiveElement>::get(&from, index);
-                self.out.text("-")?;
+                self.out.text("-");
             }
-            ElementType::Bool => self.out.flag(element(from, index)?)?,
-            ElementType::Number(of) => self.number_element(from, of, index)?,
+            ElementType::Bool => match number_at::<bool, A>(&from, index) {
+                Some(bit) => self.out.flag(bit),
+                None => self.unfit(),
+            },
+            ElementType::Number(of) => self.number_element(from, of, index),
         }
-        Ok(())
     }
 
     fn number_element<A: ReaderArena>(
@@ -417,110 +495,88 @@ impl Reading {
         from: ListReader<'_, A>,
         of: NumberType,
         index: u32,
-    ) -> Result<(), Fault> {
+    ) {
         match of {
-            NumberType::U8 => self.number_at::<u8, A>(from, index),
-            NumberType::U16 => self.number_at::<u16, A>(from, index),
-            NumberType::U32 => self.number_at::<u32, A>(from, index),
-            NumberType::U64 => self.number_at::<u64, A>(from, index),
-            NumberType::I8 => self.number_at::<i8, A>(from, index),
-            NumberType::I16 => self.number_at::<i16, A>(from, index),
-            NumberType::I32 => self.number_at::<i32, A>(from, index),
-            NumberType::I64 => self.number_at::<i64, A>(from, index),
+            NumberType::U8 => self.number_or_none::<u8>(number_at(&from, index)),
+            NumberType::U16 => self.number_or_none::<u16>(number_at(&from, index)),
+            NumberType::U32 => self.number_or_none::<u32>(number_at(&from, index)),
+            NumberType::U64 => self.number_or_none::<u64>(number_at(&from, index)),
+            NumberType::I8 => self.number_or_none::<i8>(number_at(&from, index)),
+            NumberType::I16 => self.number_or_none::<i16>(number_at(&from, index)),
+            NumberType::I32 => self.number_or_none::<i32>(number_at(&from, index)),
+            NumberType::I64 => self.number_or_none::<i64>(number_at(&from, index)),
         }
     }
 
-    fn number_at<E: PrimitiveElement + Display + Drop, A: ReaderArena>(
-        &mut self,
-        from: ListReader<'_, A>,
-        index: u32,
-    ) -> Result<(), Fault> {
-        let number: E = element(from, index)?;
-        self.out.number(number)?;
-        Ok(())
-    }
-
-    /// Answers a reader, and gives it to be kept.
-    fn keep<'a, A: ReaderArena>(
-        &mut self,
-        reader: Reader<'a, A>,
-    ) -> Result<Option<Reader<'a, A>>, Fault> {
+    /// Shows a reader.
+    fn show<A: ReaderArena>(&mut self, reader: Reader<'_, A>) {
         match reader {
-            Reader::Pointer(pointer) => {
-                self.source(pointer.source)?;
-                self.nesting(pointer.nesting_limit)?;
-            }
-            Reader::Struct(found) => {
-                self.source(found.source)?;
-                self.out.text("/")?;
-                self.out.hex_or_dash(found.data_bytes())?;
-                self.out.text("/")?;
-                self.out.number(found.pointer_count())?;
-                self.nesting(found.nesting_limit)?;
-            }
-            Reader::List(list) => {
-                self.source(list.source)?;
-                self.elements(&list)?;
-                self.nesting(list.nesting_limit)?;
-            }
+            Reader::Pointer(pointer) => self.show_pointer(pointer),
+            Reader::Struct(found) => self.show_struct(found),
+            Reader::List(list) => self.show_list(&list),
         }
-        Ok(Some(reader))
     }
 
-    /// Answers a refusal, and keeps nothing.
-    fn refused<'a, A: ReaderArena>(
-        &mut self,
-        kind: ErrorKind,
-    ) -> Result<Option<Reader<'a, A>>, Fault> {
-        self.out.refusal(kind)?;
-        Ok(None)
+    fn show_pointer<A: ReaderArena>(&mut self, pointer: PointerReader<'_, A>) {
+        self.source(pointer.source);
+        self.nesting(pointer.nesting_limit);
     }
 
-    /// How many elements a list has, and how wide they are.
-    fn elements<A: ReaderArena>(&mut self, list: &ListReader<'_, A>) -> Result<(), AllocError> {
+    fn show_struct<A: ReaderArena>(&mut self, found: StructReader<'_, A>) {
+        self.source(found.source);
+        self.out.text("/");
+        self.out.hex_or_dash(found.data_bytes());
+        self.out.text("/");
+        self.out.number(found.pointer_count());
+        self.nesting(found.nesting_limit);
+    }
+
+    fn show_list<A: ReaderArena>(&mut self, list: &ListReader<'_, A>) {
+        self.source(list.source);
         let sections = list.struct_size();
-        self.out.text("/")?;
-        self.out.number(list.len())?;
-        self.out.text("/")?;
-        self.out.element_size(list.get_element_size())?;
-        self.out.text("/")?;
-        self.out.number(sections.data_words)?;
-        self.out.text("/")?;
-        self.out.number(sections.pointers)
+        self.out.text("/");
+        self.out.number(list.len());
+        self.out.text("/");
+        self.out.element_size(list.get_element_size());
+        self.out.text("/");
+        self.out.number(sections.data_words);
+        self.out.text("/");
+        self.out.number(sections.pointers);
+        self.nesting(list.nesting_limit);
     }
 
-    fn source<A>(&mut self, source: Source<'_, A>) -> Result<(), AllocError> {
+    fn source<A>(&mut self, source: Source<'_, A>) {
         self.out.text(match source {
             Source::Arena(_) => "message",
             Source::Default(_) => "default",
             Source::Nothing => "nothing",
-        })
+        });
     }
 
-    fn nesting(&mut self, nesting_limit: i32) -> Result<(), AllocError> {
-        self.out.text("/")?;
-        self.out.number(nesting_limit)
+    fn nesting(&mut self, nesting_limit: i32) {
+        self.out.text("/");
+        self.out.number(nesting_limit);
     }
 
-    fn bytes(&mut self, read: Result<&[u8], ErrorKind>) -> Result<(), AllocError> {
-        match read {
-            Ok(bytes) => self.out.hex_or_dash(bytes),
+    fn capability(&mut self, index: Result<u32, ErrorKind>) {
+        match index {
+            Ok(index) => self.out.number(index),
             Err(kind) => self.out.refusal(kind),
         }
     }
 
-    fn size(&mut self, size: Result<MessageSize, ErrorKind>) -> Result<(), AllocError> {
+    fn size(&mut self, size: Result<MessageSize, ErrorKind>) {
         match size {
             Ok(size) => {
-                self.out.number(size.word_count)?;
-                self.out.text("/")?;
-                self.out.number(size.cap_count)
+                self.out.number(size.word_count);
+                self.out.text("/");
+                self.out.number(size.cap_count);
             }
             Err(kind) => self.out.refusal(kind),
         }
     }
 
-    fn pointer_type(&mut self, found: Result<PointerType, ErrorKind>) -> Result<(), AllocError> {
+    fn pointer_type(&mut self, found: Result<PointerType, ErrorKind>) {
         match found {
             Ok(PointerType::Null) => self.out.text("n"),
             Ok(PointerType::Struct) => self.out.text("s"),
@@ -531,7 +587,7 @@ impl Reading {
     }
 
     /// What a test for canonical form says.
-    fn tested(&mut self, tested: Result<bool, ErrorKind>) -> Result<(), AllocError> {
+    fn tested(&mut self, tested: Result<bool, ErrorKind>) {
         match tested {
             Ok(yes) => self.out.flag(yes),
             Err(kind) => self.out.refusal(kind),
@@ -539,17 +595,27 @@ impl Reading {
     }
 
     /// Where the test for canonical form has come to.
-    fn head(&mut self, head: u32) -> Result<(), AllocError> {
-        self.out.text("/")?;
-        self.out.number(head)
+    fn head(&mut self, head: u32) {
+        self.out.text("/");
+        self.out.number(head);
     }
 
     /// Whether the last words of both sections are used.
-    fn used(&mut self, data: bool, pointers: bool) -> Result<(), AllocError> {
-        self.out.text("/")?;
-        self.out.flag(data)?;
-        self.out.text("/")?;
-        self.out.flag(pointers)
+    fn used(&mut self, data: bool, pointers: bool) {
+        self.out.text("/");
+        self.out.flag(data);
+        self.out.text("/");
+        self.out.flag(pointers);
+    }
+}
+
+/// A reader from nothing.
+fn from_nothing<'a, A: ReaderArena>(_arena: &'a A, op: Op) -> Option<Reader<'a, A>> {
+    match op {
+        Op::NewPointer => Some(Reader::Pointer(PointerReader::new_default())),
+        Op::NewStruct => Some(Reader::Struct(StructReader::new_default())),
+        Op::NewList => Some(Reader::List(ListReader::new_default())),
+        _ => None,
     }
 }
 
@@ -558,14 +624,13 @@ fn reader_at<'a, A: ReaderArena>(
     arena: &'a A,
     place: PointerPlace,
     nesting_limit: i32,
-) -> Result<PointerReader<'a, A>, Fault> {
-    let Ok(bytes) = arena.get_segment(place.segment) else {
-        return Err(Fault::Unfit);
-    };
-    if place.word as usize >= bytes.len() / 8 {
-        return Err(Fault::Unfit);
+) -> Option<PointerReader<'a, A>> {
+    match arena.get_segment(place.segment) {
+        Ok(bytes) if (place.word as usize) < bytes.len() / 8 => {
+            Some(PointerReader::at(arena, place, nesting_limit))
+        }
+        _ => None,
     }
-    Ok(PointerReader::at(arena, place, nesting_limit))
 }
 
 /// The bytes of a call's default, if it has one. One of too many words is `Unfit`.
@@ -577,12 +642,4 @@ fn default_of<'a>(call: &'a Call) -> Result<Option<&'a [u8]>, Fault>
         Some(_) => Err(Fault::Unfit),
         None => Ok(None),
     }
-}
-
-/// A number of a list whose elements are wide enough.
-fn element<E: PrimitiveElement, A: ReaderArena>(
-    from: ListReader<'_, A>,
-    index: u32,
-) -> Result<E, Fault> {
-    number_at(&from, index).ok_or(Fault::Unfit)
 }

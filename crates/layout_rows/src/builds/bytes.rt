@@ -82,7 +82,7 @@ fn init<A: BuilderArena>(
             for (to, from) in bytes.iter_mut().zip(first) {
                 *to = *from;
             }
-            out.number(bytes.len())?;
+            out.number(bytes.len());
             Ok(None)
         }
         Err(kind) => refuse(kind, out),
@@ -125,7 +125,7 @@ fn find<A: BuilderArena>(
     match found {
         Ok(bytes) => {
             let numbers = [bytes.segment, bytes.start, bytes.length];
-            put_numbers(&numbers.map(u64::from), out)?;
+            put_numbers(&numbers.map(u64::from), out);
             Ok(None)
         }
         Err(kind) => refuse(kind, out),
@@ -144,7 +144,7 @@ fn get<A: BuilderArena>(
 {
     match lent(arena, place, blob, default)? {
         Ok(bytes) => {
-            out.hex_or_dash(bytes)?;
+            out.hex_or_dash(bytes);
             Ok(None)
         }
         Err(kind) => refuse(kind, out),
@@ -165,7 +165,7 @@ fn write<A: BuilderArena>(
                 return Err(Fault::Unfit);
             };
             *at = byte;
-            out.text("ok")?;
+            out.text("ok");
             Ok(None)
         }
         Err(kind) => refuse(kind, out),

@@ -26,10 +26,16 @@ pub enum Call<'a> {
 pub enum MessageCall {
     /// Its words.
     Words,
+    /// How many segments it has.
+    Len,
     /// How many requests for memory were refused.
     Refused,
     /// `size_in_words`.
     Size,
+    /// The allocated words of a segment, as they are lent to be written.
+    Allocated(u32),
+    /// The same, and a byte of them is written.
+    WriteAllocated(u32, usize, u8),
     /// The pointer of a word.
     PointerAt(PointerPlace),
 }
@@ -151,8 +157,15 @@ fn message_call<'a>(name: &str, arguments: &[&str]) -> Result<Option<Call<'a>>, 
     let call = match (name, arguments) {
         ("read", []) => return Ok(Some(Call::Read)),
         ("words", []) => MessageCall::Words,
+        ("len", []) => MessageCall::Len,
         ("refused", []) => MessageCall::Refused,
         ("size", []) => MessageCall::Size,
+        ("allocated", [segment]) => MessageCall::Allocated(parse::number(segment)?),
+        ("write_allocated", [segment, index, byte]) => MessageCall::WriteAllocated(
+            parse::number(segment)?,
+            parse::number(index)?,
+            parse::number(byte)?,
+        ),
         ("pointer_at", [segment, word]) => MessageCall::PointerAt(PointerPlace {
             segment: parse::number(segment)?,
             word: parse::number(word)?,

@@ -9,7 +9,7 @@ use capnp_arena::arena::{BuilderArena, ReaderArena, ReaderArenaImpl, SegmentArra
 use capnp_readers::readers::{PointerPlace, PointerReader, StructPlace};
 use capnp_words::error::ErrorKind;
 use capnp_words::read_limiter::ReadLimiter;
-use std::alloc::{AllocError, Global};
+use std::alloc::Global;
 
 /// Where a copy goes.
 #[derive(Clone, Copy)]
@@ -76,7 +76,7 @@ fn copy_to<A: BuilderArena>(
         Ok(root) => copy_root(arena, goal, root, &mut lim)?,
         Err(kind) => Outcome::NoSource(kind),
     };
-    put_outcome(outcome, &lim, out)?;
+    put_outcome(outcome, &lim, out);
     Ok(None)
 }
 
@@ -124,20 +124,30 @@ fn copy_value<A: BuilderArena, B: ReaderArena>(
 }
 
 // Adds what became of a copy, and of it what the limiter has left and how many pointers it has counted.
-fn put_outcome(outcome: Outcome, lim: &ReadLimiter, out: &mut Output) -> Result<(), AllocError> {
+fn put_outcome(outcome: Outcome, lim: &ReadLimiter, out: &mut Output) {
     match outcome {
         Outcome::NoSource(kind) => {
-            out.text("source:")?;
-            return out.refusal(kind);
+            out.text("source:");
+            out.refusal(kind);
         }
-        Outcome::Copied(Ok(())) => out.text("ok")?,
-        Outcome::Copied(Err(kind)) => out.refusal(kind)?,
+        Outcome::Copied(Ok(())) => {
+            out.text("ok");
+            put_limits(lim, out);
+        }
+        Outcome::Copied(Err(kind)) => {
+            out.refusal(kind);
+            put_limits(lim, out);
+        }
     }
-    out.text("/")?;
+}
+
+// Adds what a limiter has left and how many pointers it has counted.
+fn put_limits(lim: &ReadLimiter, out: &mut Output) {
+    out.text("/");
     match lim.left() {
-        Some(words) => out.number(words)?,
-        None => out.text("none")?,
+        Some(words) => out.number(words),
+        None => out.text("none"),
     }
-    out.text("/")?;
-    out.number(lim.followed())
+    out.text("/");
+    out.number(lim.followed());
 }

@@ -18,19 +18,19 @@ pub fn call<A: BuilderArena>(
     out: &mut Output,
 ) -> Result<Option<Place>, Fault> {
     match call {
-        ListCall::Element(index) => return struct_element(arena, place, index)?.put(out),
-        ListCall::Pointer(index) => return pointer_element(arena, place, index)?.put(out),
+        ListCall::Element(index) => return struct_element(arena, place, index),
+        ListCall::Pointer(index) => return pointer_element(arena, place, index),
         ListCall::Get(ElementType::Void, index) => {
             let () = element(arena, place, index)?;
-            out.text("-")?;
+            out.text("-");
         }
-        ListCall::Get(ElementType::Bool, index) => out.flag(element(arena, place, index)?)?,
+        ListCall::Get(ElementType::Bool, index) => out.flag(element(arena, place, index)?),
         ListCall::Get(ElementType::Number(number), index) => {
             get_number(arena, place, (number, index), out)?;
         }
         ListCall::Set(primitive, index, value) => {
             set(arena, place, primitive, (index, value))?;
-            out.text("ok")?;
+            out.text("ok");
         }
     }
     Ok(None)
@@ -41,12 +41,12 @@ fn struct_element<A: BuilderArena>(
     arena: &mut A,
     place: ListPlace,
     index: u32,
-) -> Result<Place, Fault> {
+) -> Result<Option<Place>, Fault> {
     let builder = list(arena, place)?;
     if index >= place.count || place.size == ElementSize::Bit {
         return Err(Fault::Unfit);
     }
-    Ok(Place::Struct(builder.get_struct_element(index).place))
+    Ok(Some(Place::Struct(builder.get_struct_element(index).place)))
 }
 
 // The pointer of an element.
@@ -54,7 +54,7 @@ fn pointer_element<A: BuilderArena>(
     arena: &mut A,
     place: ListPlace,
     index: u32,
-) -> Result<Place, Fault> {
+) -> Result<Option<Place>, Fault> {
     let builder = list(arena, place)?;
     let holds_pointer = match place.size {
         ElementSize::Pointer => true,
@@ -65,10 +65,10 @@ fn pointer_element<A: BuilderArena>(
         return Err(Fault::Unfit);
     }
     let pointer = builder.get_pointer_element(index);
-    Ok(Place::Pointer(PointerPlace {
+    Ok(Some(Place::Pointer(PointerPlace {
         segment: pointer.segment,
         word: pointer.at,
-    }))
+    })))
 }
 
 // Writes an element.

@@ -59,7 +59,7 @@ where
         Some(mask) => builder.get_data_field_mask(index, mask),
         None => builder.get_data_field(index),
     };
-    out.number(value)?;
+    out.number(value);
     Ok(())
 }
 
@@ -139,6 +139,6 @@ pub fn put_element<A: BuilderArena, T: PrimitiveElement + Display + Drop>(
     out: &mut Output,
 ) -> Result<(), Fault> {
     let value: T = element(arena, place, index)?;
-    out.number(value)?;
+    out.number(value);
     Ok(())
 }

@@ -13,8 +13,7 @@ use capnp_builders::builders::{ListBuilder, PointerBuilder, StructBuilder};
 use capnp_readers::readers::{ListPlace, PointerPlace, StructPlace};
 use capnp_words::error::ErrorKind;
 use capnp_words::read_limiter::ReadLimiter;
-use capnp_words::wire_pointer::{ElementSize, data_bits_per_element};
-use std::alloc::AllocError;
+use capnp_words::wire_pointer::{ElementSize, StructSize, data_bits_per_element};
 
 /// A place of a message that is built.
 #[derive(Clone, Copy)]
@@ -28,14 +27,13 @@ pub enum Place {
 }
 
 impl Place {
-    /// Shows the place, which is to be kept.
-    pub fn put(self, out: &mut Output) -> Result<Option<Place>, Fault> {
+    /// Shows the place.
+    pub fn put(self, out: &mut Output) {
         match self {
-            Place::Pointer(place) => put_numbers(&[place.segment.into(), place.word.into()], out)?,
-            Place::Struct(place) => put_struct(place, out)?,
-            Place::List(place) => put_list(place, out)?,
+            Place::Pointer(place) => put_numbers(&[place.segment.into(), place.word.into()], out),
+            Place::Struct(place) => put_struct(place, out),
+            Place::List(place) => put_list(place, out),
         }
-        Ok(Some(self))
     }
 
     /// Shows what a reader of the place reads.
@@ -45,28 +43,26 @@ impl Place {
         out: &mut Output,
     ) -> Result<Option<Place>, Fault> {
         match self {
-            Place::Pointer(place) => read_pointer(&pointer(arena, place)?, out)?,
-            Place::Struct(place) => read_struct(arena, place, out)?,
-            Place::List(place) => read_list(arena, place, out)?,
+            Place::Pointer(place) => read_pointer(arena, place, out),
+            Place::Struct(place) => read_struct(arena, place, out),
+            Place::List(place) => read_list(arena, place, out),
         }
-        Ok(None)
     }
 }
 
 /// Adds numbers, parted by `/`.
-pub fn put_numbers(numbers: &[u64], out: &mut Output) -> Result<(), AllocError> {
+pub fn put_numbers(numbers: &[u64], out: &mut Output) {
     for (i, number) in numbers.iter().enumerate() {
         if i > 0 {
-            out.text("/")?;
+            out.text("/");
         }
-        out.number(*number)?;
+        out.number(*number);
     }
-    Ok(())
 }
 
 /// Adds a refusal.
 pub fn refuse(kind: ErrorKind, out: &mut Output) -> Result<Option<Place>, Fault> {
-    out.refusal(kind)?;
+    out.refusal(kind);
     Ok(None)
 }
 
@@ -76,14 +72,14 @@ pub fn put_outcome(
     out: &mut Output,
 ) -> Result<Option<Place>, Fault> {
     match outcome {
-        Ok(()) => out.text("ok")?,
-        Err(kind) => out.refusal(kind)?,
+        Ok(()) => out.text("ok"),
+        Err(kind) => out.refusal(kind),
     }
     Ok(None)
 }
 
 // Shows where a struct is.
-fn put_struct(place: StructPlace, out: &mut Output) -> Result<(), AllocError> {
+fn put_struct(place: StructPlace, out: &mut Output) {
     put_numbers(
         &[
             u64::from(place.segment),
@@ -93,40 +89,44 @@ fn put_struct(place: StructPlace, out: &mut Output) -> Result<(), AllocError> {
             u64::from(place.pointers),
         ],
         out,
-    )
+    );
 }
 
 // Shows where a list is.
-fn put_list(place: ListPlace, out: &mut Output) -> Result<(), AllocError> {
+fn put_list(place: ListPlace, out: &mut Output) {
     put_numbers(
         &[u64::from(place.segment), place.byte, u64::from(place.count)],
         out,
-    )?;
-    put_elements(place, out)
+    );
+    put_elements(place.size, place.struct_size, out);
 }
 
 // Shows what the elements of a list are.
-fn put_elements(place: ListPlace, out: &mut Output) -> Result<(), AllocError> {
-    out.text("/")?;
-    out.element_size(place.size)?;
-    out.text("/")?;
-    let size = place.struct_size;
-    put_numbers(&[u64::from(size.data_words), u64::from(size.pointers)], out)
+fn put_elements(size: ElementSize, structs: StructSize, out: &mut Output) {
+    out.text("/");
+    out.element_size(size);
+    out.text("/");
+    out.number(structs.data_words);
+    out.text("/");
+    out.number(structs.pointers);
 }
 
 // Shows what a pointer reads as.
 fn read_pointer<A: BuilderArena>(
-    pointer: &PointerBuilder<'_, A>,
+    arena: &mut A,
+    place: PointerPlace,
     out: &mut Output,
-) -> Result<(), AllocError> {
-    let reader = pointer.as_reader();
+) -> Result<Option<Place>, Fault> {
+    let builder = pointer(arena, place)?;
+    let reader = builder.as_reader();
     let mut lim = ReadLimiter::new(None);
-    out.flag(reader.is_null())?;
-    out.text("/")?;
+    out.flag(reader.is_null());
+    out.text("/");
     match reader.total_size(&mut lim) {
         Ok(size) => put_numbers(&[size.word_count, u64::from(size.cap_count)], out),
         Err(kind) => out.refusal(kind),
     }
+    Ok(None)
 }
 
 // Shows what a struct reads as.
@@ -134,13 +134,13 @@ fn read_struct<A: BuilderArena>(
     arena: &mut A,
     place: StructPlace,
     out: &mut Output,
-) -> Result<(), Fault> {
+) -> Result<Option<Place>, Fault> {
     let builder = structure(arena, place)?;
     let reader = builder.as_reader();
-    out.hex_or_dash(reader.data_bytes())?;
-    out.text("/")?;
-    out.number(reader.pointer_count())?;
-    Ok(())
+    out.hex_or_dash(reader.data_bytes());
+    out.text("/");
+    out.number(reader.pointer_count());
+    Ok(None)
 }
 
 // Shows what a list reads as.
@@ -148,16 +148,12 @@ fn read_list<A: BuilderArena>(
     arena: &mut A,
     place: ListPlace,
     out: &mut Output,
-) -> Result<(), Fault> {
+) -> Result<Option<Place>, Fault> {
     let builder = list(arena, place)?;
     let reader = builder.as_reader();
-    let size = reader.struct_size();
-    out.number(reader.len())?;
-    out.text("/")?;
-    out.element_size(reader.get_element_size())?;
-    out.text("/")?;
-    put_numbers(&[u64::from(size.data_words), u64::from(size.pointers)], out)?;
-    Ok(())
+    out.number(reader.len());
+    put_elements(reader.get_element_size(), reader.struct_size(), out);
+    Ok(None)
 }
 
 // How many words a segment has, if it is there.

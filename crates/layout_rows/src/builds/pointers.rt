@@ -56,18 +56,18 @@ fn word<A: BuilderArena>(
 ) -> Result<Option<Place>, Fault> {
     let mut pointer = pointer(arena, place)?;
     match call {
-        PointerCall::IsNull => out.flag(pointer.is_null())?,
+        PointerCall::IsNull => out.flag(pointer.is_null()),
         PointerCall::Clear => {
             pointer.clear();
-            out.text("ok")?;
+            out.text("ok");
         }
         PointerCall::SetCapability(index) => {
             pointer.set_capability(index);
-            out.text("ok")?;
+            out.text("ok");
         }
         PointerCall::GetCapability => match pointer.get_capability() {
-            Ok(index) => out.number(index)?,
-            Err(kind) => out.refusal(kind)?,
+            Ok(index) => out.number(index),
+            Err(kind) => out.refusal(kind),
         },
         _ => return Err(Fault::Unfit),
     }
@@ -89,10 +89,10 @@ fn make<A: BuilderArena>(
     give(made, out)
 }
 
-/// Adds where an object is, or a refusal.
+/// Gives where an object is, or adds a refusal.
 fn give(made: Result<Place, ErrorKind>, out: &mut Output) -> Result<Option<Place>, Fault> {
     match made {
-        Ok(place) => place.put(out),
+        Ok(place) => Ok(Some(place)),
         Err(kind) => refuse(kind, out),
     }
 }

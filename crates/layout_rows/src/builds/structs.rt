@@ -21,7 +21,7 @@ pub fn call<A: BuilderArena>(
 ) -> Result<Option<Place>, Fault> {
     match call {
         StructCall::Content(source) => return copies::content(alloc, arena, place, source, out),
-        StructCall::Field(index) => return field(arena, place, index, out),
+        StructCall::Field(index) => return field(arena, place, index),
         StructCall::IsFieldNull(index) => is_field_null(arena, place, index, out)?,
         StructCall::SetBool(index, value, mask) => {
             set_bool(arena, place, (index, value, mask), out)?;
@@ -29,7 +29,7 @@ pub fn call<A: BuilderArena>(
         StructCall::GetBool(index, mask) => get_bool(arena, place, (index, mask), out)?,
         StructCall::SetNumber(number, index, value, mask) => {
             set_number(arena, place, number, (index, value, mask))?;
-            out.text("ok")?;
+            out.text("ok");
         }
         StructCall::GetNumber(number, index, mask) => {
             get_number(arena, place, number, (index, mask), out)?;
@@ -43,7 +43,6 @@ fn field<A: BuilderArena>(
     arena: &mut A,
     place: StructPlace,
     index: usize,
-    out: &mut Output,
 ) -> Result<Option<Place>, Fault> {
     let builder = structure(arena, place)?;
     if index >= usize::from(place.pointers) {
@@ -54,7 +53,7 @@ fn field<A: BuilderArena>(
         segment: pointer.segment,
         word: pointer.at,
     };
-    Place::Pointer(place).put(out)
+    Ok(Some(Place::Pointer(place)))
 }
 
 // Adds whether a pointer is zero.
@@ -68,7 +67,7 @@ fn is_field_null<A: BuilderArena>(
     if index >= usize::from(place.pointers) {
         return Err(Fault::Unfit);
     }
-    out.flag(builder.is_pointer_field_null(index))?;
+    out.flag(builder.is_pointer_field_null(index));
     Ok(())
 }
 
@@ -87,7 +86,7 @@ fn set_bool<A: BuilderArena>(
         Some(mask) => builder.set_bool_field_mask(index, value, mask),
         None => builder.set_bool_field(index, value),
     }
-    out.text("ok")?;
+    out.text("ok");
     Ok(())
 }
 
@@ -106,7 +105,7 @@ fn get_bool<A: BuilderArena>(
         Some(mask) => builder.get_bool_field_mask(index, mask),
         None => builder.get_bool_field(index),
     };
-    out.flag(value)?;
+    out.flag(value);
     Ok(())
 }
 
