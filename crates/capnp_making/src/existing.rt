@@ -12,7 +12,7 @@ ghost use Rattle.capnp_making.specs.Landings.{target_of};
 ghost use Rattle.capnp_making.specs.Stored.{IsStored};
 ghost use Rattle.capnp_making.specs.Existing.{LieIn, capability_of, capability_in, listed, landing_in, is_unfound, plain_misfit, structs_misfit, unless, plain_list, tagged_list, list_in, data_in, text_in, struct_in, AreInside, LiesIn, bytes_in, ends_in_zero};
 
-use crate::landing::{Landing, follow, length_of, word_of};
+use crate::landing::{Landing, landing_of, length_of, word_of};
 use capnp_arena::arena::BuilderArena;
 use capnp_words::error::ErrorKind;
 use capnp_words::wire_pointer::{
@@ -81,14 +81,16 @@ pub fn get_capability<A: BuilderArena>(arena: &A, id: u32, at: u32) -> Result<u3
 
 /// The struct that the pointer at a place leads to, as wide as it is ("Structs"). `None` where the
 /// pointer is null, or leads to anything else.
+#[inline(always)]
 pub fn get_struct<A: BuilderArena>(arena: &A, id: u32, at: u32) -> Option<ExistingStruct>
     ensures found { (t : Tree) → IsStored (A.view arena.now).words id at t → result ≡ struct_in (target (A.view arena.now).words id at) t }
     ensures inside { IfSome result (LiesIn (A.view arena.now).words) }
 {
-    if word_of(arena, id, at).is_null() {
+    let word = word_of(arena, id, at);
+    if word.is_null() {
         return None;
     }
-    match follow(arena, id, at) {
+    match landing_of(arena, id, at, word) {
         Some(landing) => {
             let size = landing.word.struct_size();
             let end = u64::from(landing.start) + u64::from(size.total());
@@ -147,10 +149,11 @@ fn follow_list<A: BuilderArena>(arena: &A, id: u32, at: u32) -> Result<Option<La
     ensures found { (t : Tree) → IsStored (A.view arena.now).words id at t → listed result ≡ landing_in (target (A.view arena.now).words id at) t }
     ensures named { IfErr result (λ k. is_unfound k ≡ true) }
 {
-    if word_of(arena, id, at).is_null() {
+    let word = word_of(arena, id, at);
+    if word.is_null() {
         return Ok(None);
     }
-    match follow(arena, id, at) {
+    match landing_of(arena, id, at, word) {
         Some(landing) => {
             if landing.word.kind() == WirePointerKind::List {
                 Ok(Some(landing))

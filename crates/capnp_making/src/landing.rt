@@ -48,13 +48,27 @@ pub fn word_of<A: BuilderArena>(arena: &A, id: u32, at: u32) -> WirePointer
     }
 }
 
-/// Where the pointer at a place leads, which is not zero.
+/// Where the pointer at a place leads, which is not zero. It is called where words are cleared, and
+/// most pointers that are set were null.
 #[cold]
 #[inline(never)]
 pub(crate) fn follow<A: BuilderArena>(arena: &A, id: u32, at: u32) -> Option<Landing>
     ensures { (a : Target) → leads (A.view arena.now).words id at ≡ Some a → landed result ≡ Some a }
 {
-    let word = word_of(arena, id, at);
+    landing_of(arena, id, at, word_of(arena, id, at))
+}
+
+/// Where the word of the pointer at a place leads, which is not zero.
+#[inline(always)]
+pub(crate) fn landing_of<A: BuilderArena>(
+    arena: &A,
+    id: u32,
+    at: u32,
+    word: WirePointer,
+) -> Option<Landing>
+    requires { word.0 ≡ word_at (A.view arena.now).words id at }
+    ensures { (a : Target) → leads (A.view arena.now).words id at ≡ Some a → landed result ≡ Some a }
+{
     if word.kind() == WirePointerKind::Far {
         follow_far(arena, word)
     } else {
@@ -84,6 +98,8 @@ fn follow_near<A: BuilderArena>(
 }
 
 /// Where a far pointer leads.
+#[cold]
+#[inline(never)]
 fn follow_far<A: BuilderArena>(arena: &A, word: WirePointer) -> Option<Landing>
     ensures { (a : Target) → far (A.view arena.now).words word.0 (is_double word.0) ≡ Some a → landed result ≡ Some a }
 {

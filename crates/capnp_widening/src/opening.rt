@@ -3,7 +3,7 @@ ghost use Rattle.std.specs.Prelude.{◌≡◌, ◌↔◌, ◌+◌, ◌*◌, ◌^
 ghost use Rattle.capnp_format.specs.Forest.{target};
 ghost use Rattle.capnp_format.specs.Segments.{IsPlace, word_at};
 ghost use Rattle.capnp_format.specs.Tree.{Tree, Null};
-ghost use Rattle.capnp_making.specs.Existing.{struct_in};
+ghost use Rattle.capnp_making.specs.Existing.{LiesIn, struct_in};
 ghost use Rattle.capnp_making.specs.Memory.{HasRoom, KeepsMemory, SpendsMemory, TakesWords};
 ghost use Rattle.capnp_making.specs.Stored.{IsStored};
 ghost use Rattle.capnp_widening.specs.Opening.{call_at, HasWideStructs, OpensStruct, OpensList, refusal_of_elements};
@@ -13,7 +13,7 @@ ghost use Rattle.capnp_widening.specs.Widened.{IsAtLeast, IsNoWider};
 ghost use Rattle.capnp_words.specs.declared.error.ErrorKind.TheVariants.{AllocationFailed};
 
 use crate::lists::get_struct_list;
-use crate::widening::{get_struct, greater};
+use crate::widening::{greater, widen_known};
 use capnp_arena::arena::BuilderArena;
 use capnp_making::existing::{self, ExistingList, ExistingStruct};
 use capnp_making::landing::word_of;
@@ -27,6 +27,7 @@ use capnp_words::wire_pointer::{ElementSize, StructSize};
 ///
 /// What is no struct is `MessageContainsNonStructPointerWhereStructPointerWasExpected`, and nothing is
 /// changed. Any other refusal is `AllocationFailed` or `MessageTooLarge`, and what stood stands.
+#[inline(always)]
 pub fn open_struct<A: BuilderArena>(
     arena: &mut A,
     id: u32,
@@ -60,6 +61,7 @@ pub fn open_struct<A: BuilderArena>(
 }
 
 /// A struct, all zero, in place of a null pointer.
+#[inline(never)]
 fn new_struct<A: BuilderArena>(
     arena: &mut A,
     id: u32,
@@ -87,6 +89,7 @@ fn new_struct<A: BuilderArena>(
 }
 
 /// A struct that is too small, made wider.
+#[inline(never)]
 fn widen_struct<A: BuilderArena>(
     arena: &mut A,
     id: u32,
@@ -95,6 +98,8 @@ fn widen_struct<A: BuilderArena>(
     size: StructSize,
 ) -> Result<ExistingStruct, ErrorKind>
     requires place { IsPlace (A.view arena.old).words id at }
+    requires inside { LiesIn (A.view arena.old).words old }
+    requires known { (t : Tree) → IsStored (A.view arena.old).words id at t → struct_in (target (A.view arena.old).words id at) t ≡ Some old }
     requires narrow { size.data_words ≤ old.size.data_words → size.pointers ≤ old.size.pointers → ⊥ }
     ensures opened { (t : Tree) → IsStored (A.view arena.old).words id at t → struct_in (target (A.view arena.old).words id at) t ≡ Some old → OpensStruct size result (call_at id at (A.view arena.old) (A.view arena.new)) t }
     ensures wide { IfOk result (IsAtLeast size) }
@@ -103,7 +108,7 @@ fn widen_struct<A: BuilderArena>(
     ensures named { IfErr result (IsNoWider (A.view arena.old) (A.view arena.new) id at) }
     ensures fits { StructFits (A.view arena.old) id at size → IsOk result }
 {
-    match get_struct(arena, id, at, size) {
+    match widen_known(arena, id, at, old, size) {
         Ok(wide) => Ok(ExistingStruct {
             segment: wide.segment,
             start: wide.start,

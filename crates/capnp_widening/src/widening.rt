@@ -1,13 +1,16 @@
 //! Structs and lists made wider where they are too small: the object stands anew in more words, its
 //! pointers are moved there, and at last its pointer is overwritten. Until then the old object stands
 //! as it was, and a refusal leaves nothing but zeros.
-ghost use Rattle.std.specs.Prelude.{ℕ, ◌≡◌, ◌<◌, ◌≤◌, ◌+◌, ◌*◌, ◌^◌, max, length, IsOk, IfOk, OnOk, IfErr, OnErr};
+ghost use Rattle.std.specs.Prelude.{ℕ, Some, ◌≡◌, ◌<◌, ◌≤◌, ◌+◌, ◌*◌, ◌^◌, max, length, IsOk, IfOk, OnOk, IfErr, OnErr};
 ghost use Rattle.capnp_arena.specs.View.{KeepsLimits};
 ghost use Rattle.capnp_format.specs.Segments.{segment, word_at, IsPlace, Grows};
-ghost use Rattle.capnp_making.specs.Existing.{LiesIn};
+ghost use Rattle.capnp_format.specs.Forest.{target};
+ghost use Rattle.capnp_format.specs.Tree.{Tree};
+ghost use Rattle.capnp_making.specs.Existing.{LiesIn, struct_in};
 ghost use Rattle.capnp_making.specs.Made.{IsFew, AsksWords};
 ghost use Rattle.capnp_making.specs.Memory.{HasRoom, KeepsMemory, SpendsMemory, RefusesWords, RefusesGrowth};
 ghost use Rattle.capnp_making.specs.Near.{HasOwnRoom};
+ghost use Rattle.capnp_making.specs.Stored.{IsStored};
 ghost use Rattle.capnp_making.specs.Zeroed.{IsPruned};
 ghost use Rattle.capnp_widening.specs.Housed.{IsRoom, AreCopied, Settles};
 ghost use Rattle.capnp_widening.specs.Rooms.{TakesAtMost, HasSomeRoom, IsWideStruct, StructFits, TakesForStruct};
@@ -134,6 +137,34 @@ pub fn get_struct<A: BuilderArena>(
             widen_struct(arena, id, at, old, wide)
         }
     }
+}
+
+/// Makes the struct that the pointer at a place leads to wider, as `get_struct` does, where it is known and
+/// too small. It isn't looked for again.
+pub(crate) fn widen_known<A: BuilderArena>(
+    arena: &mut A,
+    id: u32,
+    at: u32,
+    old: ExistingStruct,
+    size: StructSize,
+) -> Result<ExistingStruct, ErrorKind>
+    requires place { IsPlace (A.view arena.old).words id at }
+    requires inside { LiesIn (A.view arena.old).words old }
+    requires known { (t : Tree) → IsStored (A.view arena.old).words id at t → struct_in (target (A.view arena.old).words id at) t ≡ Some old }
+    requires narrow { size.data_words ≤ old.size.data_words → size.pointers ≤ old.size.pointers → ⊥ }
+    ensures widened { OnOk result (WidensStruct (A.view arena.old).words (A.view arena.new).words id at size) }
+    ensures leads { IfOk result (LeadsToStruct (A.view arena.old).words (A.view arena.new).words id at) }
+    ensures granted { OnOk result (KeepsMemory (A.view arena.old) (A.view arena.new)) }
+    ensures refused { OnErr result (LeavesAll (A.view arena.old).words (A.view arena.new).words id at) }
+    ensures named { IfErr result (IsNoWider (A.view arena.old) (A.view arena.new) id at) }
+    ensures fits { StructFits (A.view arena.old) id at size → IsOk result }
+    ensures few { TakesForStruct (A.view arena.old).words (A.view arena.new).words id at size }
+{
+    let wide = StructSize {
+        data_words: greater(old.size.data_words, size.data_words),
+        pointers: greater(old.size.pointers, size.pointers),
+    };
+    widen_struct(arena, id, at, old, wide)
 }
 
 /// The greater of two numbers.

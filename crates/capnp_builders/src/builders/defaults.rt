@@ -25,6 +25,7 @@ use capnp_words::words;
 /// pointer `TriedToReadFromNullArena`; any other fault keeps its name. A refusal of the arena is
 /// `AllocationFailed` or `MessageTooLarge`, and comes only where the words don't fit behind those of the
 /// pointer's segment. Then the pointer is null and the words that were allocated are zero.
+#[inline(never)]
 pub fn copy_default<A: BuilderArena>(
     arena: &mut A,
     id: u32,

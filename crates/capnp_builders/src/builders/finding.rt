@@ -56,6 +56,7 @@ impl<'a, A: BuilderArena> PointerBuilder<'a, A> {
 
     /// Where the struct is that the pointer leads to, as `get_struct` looks for it; `into_struct` is its
     /// builder. With both outcomes, it is what `get_struct` is made of.
+    #[inline(always)]
     pub fn find_struct(
         &mut self,
         size: StructSize,
@@ -95,6 +96,7 @@ impl<'a, A: BuilderArena> PointerBuilder<'a, A> {
     /// refusal is one of `put_default`, or `AllocationFailed` or `MessageTooLarge` of the words of a struct
     /// or of landing pads, and then what stood stands. A default that was put stays also where the call is
     /// refused then.
+    #[inline(always)]
     pub fn get_struct(
         mut self,
         size: StructSize,

@@ -1,0 +1,51 @@
+use Rattle.std.proofs.Common.{inl, inr, subst, ◌≡◌, ◌+◌, ◌*◌, ◌≤◌, sym, ap, ◌∙◌, arith, rules}
+use Rattle.capnp_format.specs.Segments.{Segments}
+use Rattle.capnp_format.specs.Tree.{Struct, count}
+use Rattle.capnp_arena.specs.View.{View}
+use Rattle.capnp_making.specs.Memory.{HasRoom}
+use Rattle.capnp_making.specs.Near.{HasOwnRoom}
+use Rattle.capnp_making.proofs.Outcomes.{on_made_so, if_ok_so}
+use Rattle.capnp_widening.specs.Rooms.{object_words, widened}
+use Rattle.capnp_widening.proofs.Filled.{greater_size}
+use Rattle.capnp_widening.proofs.StructRooms.{wider_words}
+use Rattle.capnp_widening.proofs.StructSteps.{the_struct, same_struct}
+use Rattle.capnp_widening.proofs.widening.widen_known.Goals as goal
+
+pub returns-clause-widened : goal.returns-clause-widened
+returns-clause-widened g c =
+    let S : Segments = (g.A.BuilderArena.view c.args.arena.now).words in
+    let R : Segments = (g.A.BuilderArena.view c.widen_struct.new.arena).words in
+    on_made_so c.widen_struct.result _ _ c.widen_struct.ensures.widened (λ w. λ ws ts x.
+    (let found = c.requires.known (Struct ws ts) x in
+    let same = same_struct (the_struct S c.args.id c.args.at ws ts) c.args.old found in
+    let d = ap (λ e. e.size.data_words) same in
+    let k = ap (λ e. e.size.pointers) same in
+    greater_size S R c.args.id c.args.at c.args.size.data_words c.args.size.pointers c.greater.result c.greater-2.result ws ts (omega (arith, c.greater.ensures, d)) (omega (arith, c.greater-2.ensures, k)) (w ws ts (x, found))))
+
+pub returns-clause-leads : goal.returns-clause-leads
+returns-clause-leads g c =
+    if_ok_so c.widen_struct.result _ _ c.widen_struct.ensures.leads (λ e w. λ ws ts x. w ws ts (x, c.requires.known (Struct ws ts) x))
+
+-- The words that it takes are those of the greater of both sizes.
+pub returns-clause-fits : goal.returns-clause-fits
+returns-clause-fits g c = λ h.
+    (let v : View = g.A.BuilderArena.view c.args.arena.now in
+    let (ws, ts, x, room) = h in
+    let same = same_struct (the_struct v.words c.args.id c.args.at ws ts) c.args.old (c.requires.known (Struct ws ts) x) in
+    let d = ap (λ e. e.size.data_words) same in
+    let k = ap (λ e. e.size.pointers) same in
+    let n = wider_words c.args.size ws ts c.greater.result c.greater-2.result (omega (arith, c.greater.ensures, d)) (omega (arith, c.greater-2.ensures, k)) in
+    let all : object_words (widened c.args.size ws ts) + 2 * count ts ≡ c.greater.result + c.greater-2.result + 2 * c.args.old.size.pointers = omega (arith, n, k) in
+    elim room [
+      | inl fits ↦ c.widen_struct.ensures.fits (subst (λ m. HasRoom v c.args.id m) all fits)
+      | inr (here, fits) ↦ c.widen_struct.ensures.near (sym (ap (λ e. e.segment) same) ∙ here) (subst (λ m. HasOwnRoom v c.args.id m) n fits)
+    ])
+
+pub returns-clause-few : goal.returns-clause-few
+returns-clause-few g c = λ ws ts x.
+    (let v : View = g.A.BuilderArena.view c.args.arena.now in
+    let same = same_struct (the_struct v.words c.args.id c.args.at ws ts) c.args.old (c.requires.known (Struct ws ts) x) in
+    let d = ap (λ e. e.size.data_words) same in
+    let k = ap (λ e. e.size.pointers) same in
+    let n = wider_words c.args.size ws ts c.greater.result c.greater-2.result (omega (arith, c.greater.ensures, d)) (omega (arith, c.greater-2.ensures, k)) in
+    omega (arith, c.widen_struct.ensures.few, n, k))
