@@ -9,6 +9,7 @@ pub use capnp_builders::builders;
 pub use capnp_edits::edit;
 pub use capnp_framing::devices;
 pub use capnp_readers::{object, readers, source};
+pub use capnp_words::error::Result;
 pub use capnp_words::{
     error, lanes, laws, mask, primitive, read_limiter, units, wire_pointer, words, zero,
 };

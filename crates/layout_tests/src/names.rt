@@ -4,7 +4,7 @@ use capnp_layout::devices::{
     DeviceFault, Input, MemoryInput, MemoryOutput, Output, ReaderInput, WriterOutput, write_all,
 };
 use capnp_layout::{
-    arena, builders, error, laws, mask, object, primitive, read_limiter, readers, source, units,
+    Result, arena, builders, error, laws, mask, object, primitive, read_limiter, readers, source, units,
     wire_pointer, words, zero,
 };
 
@@ -51,8 +51,10 @@ fn of_messages(rt: HostRuntime) {
     assert!(rt; matches!(nothing.source, source::Source::Nothing));
     let null = object::Object::Null;
     assert!(rt; matches!(null, object::Object::Null));
-    let limiter = read_limiter::ReadLimiter::new(Some(units::BYTES_PER_WORD));
+    let mut limiter = read_limiter::ReadLimiter::new(Some(units::BYTES_PER_WORD));
     assert!(rt; limiter.left() == Some(8));
+    let refused: Result<()> = limiter.can_read(9);
+    assert!(rt; refused == Err(error::ErrorKind::ReadLimitExceeded));
     laws::one_meaning();
 }
 
