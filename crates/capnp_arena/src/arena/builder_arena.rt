@@ -30,7 +30,9 @@ pub trait BuilderArena: ReaderArena + sealed::Closed {
         ensures* lends { sem 𝓛 (Lends Self.row (Array byte 0) self.entry result (with_bytes self.old id)) }
         ensures bytes { slice_get (Self.segments self.old) id ≡ Some result.now };
 
-    /// Lends the allocated words of a segment, as bytes, to be written; `None` exactly where `id` is not below the number of segments.
+    /// Lends the allocated words of a segment, as bytes, to be written; `None` exactly where `id` is not below the number of segments,
+    /// and the arena is then as it was. What is left of the arena afterwards is no clause here, and is shown by rows alone. `segment_mut`
+    /// lends the same bytes of a segment that is there, and its contract says exactly what the arena is afterwards.
     fn allocated_mut(&mut self, id: u32) -> Option<&mut [u8]>
         ensures there { IsSome result ↔ (id < length (Self.segments self.old)) }
         ensures bytes { IfSome result (λ s. slice_get (Self.segments self.old) id ≡ Some s.now) };
