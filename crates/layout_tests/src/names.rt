@@ -4,8 +4,8 @@ use capnp_layout::devices::{
     DeviceFault, Input, MemoryInput, MemoryOutput, Output, ReaderInput, WriterOutput, write_all,
 };
 use capnp_layout::{
-    Result, arena, builders, error, laws, mask, object, primitive, read_limiter, readers, source, units,
-    wire_pointer, words, zero,
+    Result, arena, builders, error, laws, mask, object, primitive, read_limiter, readers, source,
+    units, wire_pointer, words, zero,
 };
 
 #[test]
