@@ -33,7 +33,7 @@ pub fn set_data<A: BuilderArena>(
     requires place { IsPlace (A.view arena.old).words id at }
     requires few { length from.now < 2 ^ 29 }
     ensures made { OnOk result (Puts (A.view arena.old).words (A.view arena.new).words id at (Flat 2 from.now)) }
-    ensures anyhow { OnOk result (PutsOnceZeroed (A.view arena.old).words (A.view arena.new).words id at (Flat 2 from.now)) }
+    ensures once_zeroed { OnOk result (PutsOnceZeroed (A.view arena.old).words (A.view arena.new).words id at (Flat 2 from.now)) }
     ensures fits { HasRoom (A.view arena.old) id (words_for 2 (length from.now)) → IsOk result }
     ensures granted { OnOk result (KeepsMemory (A.view arena.old) (A.view arena.new)) }
     ensures taken { OnOk result (TakesWords (A.view arena.old) (A.view arena.new) id (words_for 2 (length from.now))) }
@@ -62,7 +62,7 @@ pub fn set_text<A: BuilderArena>(
     requires place { IsPlace (A.view arena.old).words id at }
     requires few { length from.now + 1 < 2 ^ 29 }
     ensures made { OnOk result (Puts (A.view arena.old).words (A.view arena.new).words id at (Flat 2 (from.now ++ 0 ∷ []))) }
-    ensures anyhow { OnOk result (PutsOnceZeroed (A.view arena.old).words (A.view arena.new).words id at (Flat 2 (from.now ++ 0 ∷ []))) }
+    ensures once_zeroed { OnOk result (PutsOnceZeroed (A.view arena.old).words (A.view arena.new).words id at (Flat 2 (from.now ++ 0 ∷ []))) }
     ensures fits { HasRoom (A.view arena.old) id (words_for 2 (length from.now + 1)) → IsOk result }
     ensures granted { OnOk result (KeepsMemory (A.view arena.old) (A.view arena.new)) }
     ensures taken { OnOk result (TakesWords (A.view arena.old) (A.view arena.new) id (words_for 2 (length from.now + 1))) }
@@ -89,7 +89,7 @@ fn set_bytes<A: BuilderArena>(
     requires enough { length from.now ≤ count }
     requires few { count < 2 ^ 29 }
     ensures made { OnOk result (Puts (A.view arena.old).words (A.view arena.new).words id at (Flat 2 (from.now ++ zeros (count - length from.now)))) }
-    ensures anyhow { OnOk result (PutsOnceZeroed (A.view arena.old).words (A.view arena.new).words id at (Flat 2 (from.now ++ zeros (count - length from.now)))) }
+    ensures once_zeroed { OnOk result (PutsOnceZeroed (A.view arena.old).words (A.view arena.new).words id at (Flat 2 (from.now ++ zeros (count - length from.now)))) }
     ensures fits { HasRoom (A.view arena.old) id (words_for 2 count) → IsOk result }
     ensures granted { OnOk result (KeepsMemory (A.view arena.old) (A.view arena.new)) }
     ensures taken { OnOk result (TakesWords (A.view arena.old) (A.view arena.new) id (words_for 2 count)) }

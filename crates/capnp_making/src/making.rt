@@ -205,7 +205,7 @@ pub fn init_struct<A: BuilderArena>(
 ) -> Result<Start, ErrorKind>
     requires place { IsPlace (A.view arena.old).words id at }
     ensures made { OnOk result (Puts (A.view arena.old).words (A.view arena.new).words id at (zero_struct size)) }
-    ensures anyhow { OnOk result (PutsOnceZeroed (A.view arena.old).words (A.view arena.new).words id at (zero_struct size)) }
+    ensures once_zeroed { OnOk result (PutsOnceZeroed (A.view arena.old).words (A.view arena.new).words id at (zero_struct size)) }
     ensures start { IfOk result (LeadsTo (A.view arena.new).words id at) }
     ensures inside { IfOk result (LieFrom (A.view arena.new).words (size.data_words + size.pointers)) }
     ensures fits { HasRoom (A.view arena.old) id (size.data_words + size.pointers) → IsOk result }
@@ -268,7 +268,7 @@ pub fn init_list<A: BuilderArena>(
     requires few { count < 2 ^ 29 }
     requires plain { size_number size ≤ 6 }
     ensures made { OnOk result (Puts (A.view arena.old).words (A.view arena.new).words id at (zero_list (size_number size) count)) }
-    ensures anyhow { OnOk result (PutsOnceZeroed (A.view arena.old).words (A.view arena.new).words id at (zero_list (size_number size) count)) }
+    ensures once_zeroed { OnOk result (PutsOnceZeroed (A.view arena.old).words (A.view arena.new).words id at (zero_list (size_number size) count)) }
     ensures start { IfOk result (LeadsTo (A.view arena.new).words id at) }
     ensures inside { IfOk result (LieFrom (A.view arena.new).words (list_words (size_number size) count)) }
     ensures fits { HasRoom (A.view arena.old) id (list_words (size_number size) count) → IsOk result }
@@ -349,7 +349,7 @@ pub fn init_struct_list<A: BuilderArena>(
     requires few { count < 2 ^ 30 }
     requires words { count * (size.data_words + size.pointers) < 2 ^ 29 }
     ensures made { OnOk result (Puts (A.view arena.old).words (A.view arena.new).words id at (zero_structs count size)) }
-    ensures anyhow { OnOk result (PutsOnceZeroed (A.view arena.old).words (A.view arena.new).words id at (zero_structs count size)) }
+    ensures once_zeroed { OnOk result (PutsOnceZeroed (A.view arena.old).words (A.view arena.new).words id at (zero_structs count size)) }
     ensures start { IfOk result (LeadsTo (A.view arena.new).words id at) }
     ensures inside { IfOk result (LieFrom (A.view arena.new).words (1 + count * (size.data_words + size.pointers))) }
     ensures fits { HasRoom (A.view arena.old) id (1 + count * (size.data_words + size.pointers)) → IsOk result }

@@ -43,11 +43,11 @@ returns-in-Ok-clause-zeroed g c =
     let k : ℕ = words_for 2 c.args.count in
     old_beside (g.A.BuilderArena.view c.args.arena.now) _ _ c.args.id c.args.at k c.in-Ok.start c.args.from.now c.in-Ok.ensures.zeroed c.in-Ok.ensures.behind (writes g c) (omega (arith, c.requires.enough)) c.in-Ok.ensures.inside.1
 
-pub returns-in-Ok-clause-anyhow : goal.returns-in-Ok-clause-anyhow
-returns-in-Ok-clause-anyhow g c =
+pub returns-in-Ok-clause-once_zeroed : goal.returns-in-Ok-clause-once_zeroed
+returns-in-Ok-clause-once_zeroed g c =
     let M : Segments = (g.A.BuilderArena.view c.init_list.new.arena).words in
     let R : Segments = (g.A.BuilderArena.view c.write_bytes.new.arena).words in
-    let (N, pruned, made) = c.in-Ok.ensures.anyhow in
+    let (N, pruned, made) = c.in-Ok.ensures.once_zeroed in
     (N, pruned, bytes_written N M R c.args.id c.args.at c.args.count Null c.in-Ok.start c.args.from.now (writes g c) made c.in-Ok.ensures.start c.requires.enough)
 
 -- And the pointer still leads to the list.
@@ -55,7 +55,7 @@ leads : (g : _) (c : goal.After-write_bytes g) → LeadsTo (g.A.BuilderArena.vie
 leads g c =
     let M : Segments = (g.A.BuilderArena.view c.init_list.new.arena).words in
     let R : Segments = (g.A.BuilderArena.view c.write_bytes.new.arena).words in
-    let (N, pruned, made) = c.in-Ok.ensures.anyhow in
+    let (N, pruned, made) = c.in-Ok.ensures.once_zeroed in
     bytes_target M R c.args.id c.args.at c.args.count c.in-Ok.start c.args.from.now (writes g c) made.stored c.in-Ok.ensures.start c.requires.enough
 
 pub returns-in-Ok-clause-behind : goal.returns-in-Ok-clause-behind

@@ -48,8 +48,8 @@ returns-clause-behind g c =
 pub returns-clause-zeroed : goal.returns-clause-zeroed
 returns-clause-zeroed g c = on_made_so c.make_struct.result _ _ c.make_struct.ensures.made (old_zeroed _ _ _ c.args.id c.args.at _ c.zero_object.ensures.zeroed)
 
-pub returns-clause-anyhow : goal.returns-clause-anyhow
-returns-clause-anyhow g c =
+pub returns-clause-once_zeroed : goal.returns-clause-once_zeroed
+returns-clause-once_zeroed g c =
     let M : Segments = (g.A.BuilderArena.view c.zero_object.new.arena).words in
     on_made_so c.make_struct.result _ _ c.make_struct.ensures.made (λ made. (M, c.zero_object.ensures.pruned, made))
 
