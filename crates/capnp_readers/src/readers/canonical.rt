@@ -384,7 +384,7 @@ fn test_rows<A: ReaderArena>(
     let mut are_pointers_used = pointers == 0;
     for i in 0..count {
         let at = start + i * width;
-        head = match test_children(from, at + data_words, pointers, nesting_limit, head, lim) {
+        head = match test_row(from, at + data_words, pointers, nesting_limit, head, lim) {
             Ok(Some(end)) => end,
             Ok(None) => return Ok(None),
             Err(kind) => return Err(kind),
@@ -397,6 +397,29 @@ fn test_rows<A: ReaderArena>(
     } else {
         None
     })
+}
+
+/// Tests so many pointers of an element, one behind the other from a position on. Where there are none
+/// nothing is called.
+#[cycle(tests)]
+#[inline(always)]
+fn test_row<A: ReaderArena>(
+    from: &PointerReader<'_, A>,
+    at: u32,
+    count: u32,
+    nesting_limit: i32,
+    first: u32,
+    lim: &mut ReadLimiter,
+) -> Result<Option<u32>, ErrorKind>
+    requires inside { at + count ≤ length (row (reading A.ReaderArena from.now)) }
+    ensures tells { IfOk result (TellsAll (reading_on A.ReaderArena from.now at nesting_limit) count (progress first lim.old) lim.new) }
+    ensures refused { IfErr result (TestsStop (reading_on A.ReaderArena from.now at nesting_limit) count (progress first lim.old) lim.new) }
+    ensures failed { IfOk result (λ o. IfNone o (TestsFail (reading_on A.ReaderArena from.now at nesting_limit) count (progress first lim.old) lim.new)) }
+{
+    if count == 0 {
+        return Ok(Some(first));
+    }
+    test_children(from, at, count, nesting_limit, first, lim)
 }
 
 /// Tests a list of numbers that starts at a position: the bits behind the last one have to be zero.

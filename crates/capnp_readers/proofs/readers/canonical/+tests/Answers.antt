@@ -347,3 +347,8 @@ test_place-returns-then-not-is_positional-clause-failed g t c =
     let r : Reading = reading_on g.A.ReaderArena c.args.from.now c.args.at c.args.nesting_limit in
     let word : c.word-word.result.0 ≡ word_of r = c.word-word.ensures.value ∙ ap (λ ws. slice_index ws c.args.at) c.args.from.now.held.0 in
     here (no_near_pointer (λ both. false≢true (sym c.if-not-is_positional.true ∙ c.is_positional.ensures.1 (subst (λ w. kind w < 2) (sym word) both.1))) refl)
+
+-- An element without pointers.
+pub test_row-returns-then-count-eq0-clause-tells : goal.test_row-returns-then-count-eq0-clause-tells
+test_row-returns-then-count-eq0-clause-tells g t c =
+    (no_trees, sym c.if-count-eq0.true, finds_none (reading_on g.A.ReaderArena c.args.from.now c.args.at c.args.nesting_limit) (progress c.args.first c.args.lim.now))

@@ -6,25 +6,28 @@ use Rattle.capnp_readers.proofs.Checks.{AreSeen}
 use Rattle.capnp_readers.proofs.readers.canonical.+tests.Given as goal
 
 abbrev pub decreases-test_struct : goal.decreases-test_struct
-decreases-test_struct g l = 5 * levels l.nesting_limit
+decreases-test_struct g l = 6 * levels l.nesting_limit
 
 abbrev pub decreases-test_list : goal.decreases-test_list
-decreases-test_list g l = 5 * levels l.nesting_limit
+decreases-test_list g l = 6 * levels l.nesting_limit
 
 abbrev pub decreases-test_place : goal.decreases-test_place
-decreases-test_place g l = 5 * levels l.nesting_limit + 1
+decreases-test_place g l = 6 * levels l.nesting_limit + 1
 
 abbrev pub decreases-test_children : goal.decreases-test_children
-decreases-test_children g l = 5 * levels l.nesting_limit + 2
+decreases-test_children g l = 6 * levels l.nesting_limit + 2
 
 abbrev pub decreases-test_sections : goal.decreases-test_sections
-decreases-test_sections g l = 5 * levels l.nesting_limit + 3
+decreases-test_sections g l = 6 * levels l.nesting_limit + 3
+
+abbrev pub decreases-test_row : goal.decreases-test_row
+decreases-test_row g l = 6 * levels l.nesting_limit + 3
 
 abbrev pub decreases-test_rows : goal.decreases-test_rows
-decreases-test_rows g l = 5 * levels l.nesting_limit + 3
+decreases-test_rows g l = 6 * levels l.nesting_limit + 4
 
 abbrev pub decreases-test_structs : goal.decreases-test_structs
-decreases-test_structs g l = 5 * levels l.nesting_limit + 4
+decreases-test_structs g l = 6 * levels l.nesting_limit + 5
 
 abbrev pub invariant-test_children-loop-i : goal.invariant-test_children-loop-i
 invariant-test_children-loop-i g l =
