@@ -4,8 +4,8 @@ use capnp_layout::devices::{
     DeviceFault, Input, MemoryInput, MemoryOutput, Output, ReaderInput, WriterOutput, write_all,
 };
 use capnp_layout::{
-    Result, arena, builders, error, laws, mask, object, primitive, read_limiter, readers, source,
-    units, wire_pointer, words, zero,
+    arena, builders, error, laws, mask, object, primitive, read_limiter, readers, source, units,
+    wire_pointer, words, zero,
 };
 
 #[test]
@@ -53,7 +53,7 @@ fn of_messages(rt: HostRuntime) {
     assert!(rt; matches!(null, object::Object::Null));
     let mut limiter = read_limiter::ReadLimiter::new(Some(units::BYTES_PER_WORD));
     assert!(rt; limiter.left() == Some(8));
-    let refused: Result<()> = limiter.can_read(9);
+    let refused: capnp_layout::Result<()> = limiter.can_read(9);
     assert!(rt; refused == Err(error::ErrorKind::ReadLimitExceeded));
     laws::one_meaning();
 }
