@@ -133,6 +133,7 @@ impl<'a, A: BuilderArena> PointerBuilder<'a, A> {
     pub fn clear(&mut self)
         requires { IsThere (built A.view self.old) }
         ensures cleared { Becomes (built A.view self.old) (built A.view self.new) Null }
+        ensures null { IsNull (built A.view self.new) }
         ensures only { IsPruned (A.view self.old.arena.now).words (A.view self.new.arena.now).words }
         ensures there { IsThere (built A.view self.new) }
         ensures limits { KeepsLimits (A.view self.old.arena.now) (A.view self.new.arena.now) }
@@ -146,7 +147,7 @@ impl<'a, A: BuilderArena> PointerBuilder<'a, A> {
     pub fn set_capability(&mut self, index: u32)
         requires { IsThere (built A.view self.old) }
         ensures made { Becomes (built A.view self.old) (built A.view self.new) (Capability index) }
-        ensures lengths { (v : ℕ) → length (segment (A.view self.new.arena.now).words v) ≡ length (segment (A.view self.old.arena.now).words v) }
+        ensures only { IsPrunedBut (A.view self.old.arena.now).words (A.view self.new.arena.now).words self.old.segment self.old.at (capability_word index) }
         ensures there { IsThere (built A.view self.new) }
         ensures limits { KeepsLimits (A.view self.old.arena.now) (A.view self.new.arena.now) }
         ensures same { self.new.arena.ghost_name ≡ self.old.arena.ghost_name }
