@@ -104,8 +104,7 @@ fn put_object<A: BuilderArena>(
 ///
 /// A refusal is that of `allocate_anywhere` for one word more than the object has, and changes
 /// nothing but `refused`.
-#[cold]
-#[inline(never)]
+#[inline(always)]
 fn put_far<A: BuilderArena>(
     arena: &mut A,
     id: u32,
