@@ -1,6 +1,6 @@
 -- Words written by a vector, and words moved.
 use Rattle.std.proofs.Common.{◌≡◌, ℕ, ◌+◌, ◌-◌, suc, ◌*◌, ◌^◌, ◌<◌, ◌≤◌, List, [], ◌∷◌, ◌++◌, length, set, take, drop, refl, sym, ap, ◌∙◌, arith, length-take, length-drop, drop-drop, append_assoc}
-use Rattle.std.proofs.lemmas.List.{set_split}
+use Rattle.std.proofs.lemmas.List.{drop-take, set_split, take-take}
 use Rattle.std.proofs.lemmas.Simd.{put_chunk_is}
 use Rattle.std.specs.List.{copy_within}
 use borrow.Rule.Slice.PartMut.{put_mid}
@@ -37,3 +37,15 @@ words_of-copy_within f t n bs l m =
     ap words_of (append_assoc (take (8 * t) bs) part (drop (8 * t + k) bs) ∙ ap (λ zs. take (8 * t) bs ++ (part ++ zs)) (sym (drop-drop k (8 * t) bs)))
     ∙ words_of-put_mid_at t n (8 * t) k bs part refl e m (omega (arith, length-take k (drop (8 * f) bs), length-drop (8 * f) bs))
     ∙ ap (put_mid t n (words_of bs)) (words_of-part f n (8 * f) k bs refl e l)
+
+part_of_front : (i k m : ℕ) (bs : List ℕ) → i + k ≤ m → take k (drop i (take m bs)) ≡ take k (drop i bs)
+part_of_front i k m bs l =
+    let e : m ≡ i + (m - i) = omega arith in
+    ap (λ j. take k (drop i (take j bs))) e ∙ ap (take k) (drop-take i (m - i) bs) ∙ take-take k (m - i) (drop i bs) (omega arith)
+
+-- words copied to a place behind them
+pub words_of-copied_behind : (f t n k : ℕ) (bs ys : List ℕ) → ys ≡ take k (drop (8 * f) (take (8 * t) bs)) → k ≡ 8 * n → f + n ≤ t → 8 * (t + n) ≤ length bs → words_of (put_mid (8 * t) (8 * n) bs ys) ≡ put_mid t n (words_of bs) (take n (drop f (words_of bs)))
+words_of-copied_behind f t n k bs ys e m below l =
+    let part : ys ≡ take k (drop (8 * f) bs) = e ∙ part_of_front (8 * f) k (8 * t) bs (omega arith) in
+    words_of-put_mid_at t n (8 * t) (8 * n) bs ys refl refl l (omega (arith, ap length part, length-take k (drop (8 * f) bs), length-drop (8 * f) bs))
+    ∙ ap (put_mid t n (words_of bs)) (ap words_of part ∙ words_of-part f n (8 * f) k bs refl m (omega arith))

@@ -96,11 +96,17 @@ pub fn used_part(bytes: &[u8], at: usize, n: usize) -> usize
     used(part(bytes, at, n))
 }
 
-/// Copies `n` words from one position to another, as they were before.
+/// Copies `n` words from one position to another, as they were before. Words that end before the others
+/// start are copied as those of another slice are.
 pub fn move_words(bytes: &mut [u8], from: usize, to: usize, n: usize)
     requires there { 8 * (from + n) ≤ length bytes.old }
     requires room { 8 * (to + n) ≤ length bytes.old }
     ensures { words_of bytes.new ≡ put_mid to n (words_of bytes.old) (take n (drop from (words_of bytes.old))) }
 {
-    bytes.copy_within(8 * from..8 * (from + n), 8 * to);
+    if from + n <= to {
+        let (front, back) = bytes.split_at_mut(8 * to);
+        lanes::copy(&front[8 * from..8 * (from + n)], &mut back[..8 * n]);
+    } else {
+        bytes.copy_within(8 * from..8 * (from + n), 8 * to);
+    }
 }
