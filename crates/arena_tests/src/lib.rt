@@ -14,3 +14,5 @@ mod reading;
 mod refusing;
 #[cfg(test)]
 mod returning;
+#[cfg(test)]
+mod scratch;

@@ -12,3 +12,5 @@ mod copies;
 mod growth;
 #[cfg(test)]
 mod messages;
+#[cfg(test)]
+mod scratch;

@@ -6,6 +6,7 @@ pub mod Limits
 pub mod Output
 pub mod Room
 pub mod Row
+pub mod Scratch
 pub mod Taking
 pub mod View
 pub mod Written

@@ -11,6 +11,7 @@ mod reader_arena;
 mod reader_arena_impl;
 mod reader_segments;
 mod row;
+mod scratch_allocator;
 
 pub use allocator::{Allocator, Segment};
 pub use builder_arena::BuilderArena;
@@ -22,6 +23,7 @@ pub use output_segments::OutputSegments;
 pub use reader_arena::ReaderArena;
 pub use reader_arena_impl::{ReaderArenaImpl, ReaderOptions};
 pub use reader_segments::{ReaderSegments, SegmentArray};
+pub use scratch_allocator::{ScratchSegment, ScratchSpaceHeapAllocator};
 
 /// The number of a segment, counted from 0.
 pub type SegmentId = u32;

@@ -1,5 +1,5 @@
 //! Where a builder's segments come from.
-ghost use Rattle.std.specs.Prelude.{◌≡◌, ◌<◌, ◌≤◌, ◌+◌, ◌-◌, ◌*◌, ◌/◌, ◌^◌, ◌++◌, ◌∷◌, [], ℕ, Bool, List, length, IsTrue, IsNone, IfSome, IfOk, OnOk, IfErr};
+ghost use Rattle.std.specs.Prelude.{◌≡◌, ◌<◌, ◌≤◌, ◌+◌, ◌-◌, ◌*◌, ◌/◌, ◌^◌, ◌++◌, ◌∷◌, [], ℕ, Bool, false, List, length, IsTrue, IsNone, IfSome, IsOk, IfOk, OnOk, IfErr};
 ghost use Rattle.std.specs.Borrow.{sem, Lends, Array, u8 as byte};
 ghost use Rattle.capnp_arena.specs.Allocations.{IsFresh, IsClearFrom, one_more, max_segment_words};
 ghost use Rattle.capnp_words.specs.declared.error.ErrorKind.TheVariants.{AllocationFailed, MessageTooLarge};
@@ -35,11 +35,15 @@ pub trait Allocator: Drop {
     // Whether a request for so many words may be met by a segment of so many words.
     ghost offers: { Self → ℕ → ℕ → Bool };
 
+    // Whether a request for so many words is sure to be met. Where an allocator doesn't say, none is.
+    ghost grants: { Self → ℕ → Bool } = { λ _ _. false };
+
     /// A segment of zeros, of at least `min_words` words and at most 536,870,911.
     ///
     /// A larger request is `MessageTooLarge(min_words)`; every other refusal is `AllocationFailed`, and counts in `refused`.
     fn allocate_segment(&mut self, min_words: u32) -> Result<Self::Segment, ErrorKind>
         ensures fresh { IfOk result (λ s. IsFresh min_words (Self.Segment.content s)) }
+        ensures sure { IsTrue (grants self.old min_words) → IsOk result }
         ensures size { IfOk result (λ s. IsTrue (offers self.old min_words (length (Self.Segment.content s) / 8))) }
         ensures counted { OnOk result (refusals self.new ≡ refusals self.old) }
         ensures too_large { max_segment_words < min_words → (result ≡ Err (MessageTooLarge min_words)) × (refusals self.new ≡ refusals self.old) }

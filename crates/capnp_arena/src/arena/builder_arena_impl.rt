@@ -131,6 +131,7 @@ impl<A: Allocator> BuilderArenaImpl<A> {
         ensures segments { ⟦<Self as ReaderArena>⟧.segments result ≡ [] }
         ensures refusals { (⟦<Self as BuilderArena>⟧.view result).refusals ≡ A.refusals allocator }
         ensures offers { (⟦<Self as BuilderArena>⟧.view result).offers ≡ A.offers allocator }
+        ensures allocator { result.allocator ≡ allocator }
     {
         let rows = Vec::new(alloc);
         BuilderArenaImpl {

@@ -1,0 +1,56 @@
+-- A segment in borrowed memory or on the heap, and an allocator that has one in borrowed memory. The lemma stands here since a law of a trait may cite
+-- nothing else.
+use Rattle.std.specs.Prelude.{ℕ, Bool, List, ◌≡◌, ◌/◌, ◌&&◌, ◌||◌, ◌==◌, length, min, nat_le, nat_lt}
+use Rattle.std.specs.Borrow.{MutBor}
+use Rattle.capnp_arena.specs.Allocations.{max_segment_words}
+use Rattle.capnp_arena.specs.Heap.{with_bytes, with_bytes-holds}
+use Rattle.capnp_arena.specs.declared.arena.allocator.Segment.{Ghosts}
+use Rattle.capnp_arena.specs.declared.arena.heap_allocator.HeapAllocator.{HeapAllocator}
+use Rattle.capnp_arena.specs.declared.arena.scratch_allocator.ScratchSegment.{ScratchSegment}
+use Rattle.capnp_arena.specs.declared.arena.scratch_allocator.ScratchSegment.TheVariants.{Borrowed, Owned}
+
+module _ {B : Type 0} where
+  abbrev pub IsBorrowed : ScratchSegment B → Type 0
+  IsBorrowed (Borrowed segment) = Unit {0}
+  IsBorrowed (Owned segment) = ⊥
+
+  abbrev pub IsOwned : ScratchSegment B → Type 0
+  IsOwned (Borrowed segment) = ⊥
+  IsOwned (Owned segment) = Unit {0}
+
+module _ {B : Type 0} (g : Ghosts B) where
+  abbrev pub content_of : ScratchSegment B → List ℕ
+  content_of (Borrowed segment) = g.content segment
+  content_of (Owned segment) = segment.bytes.items
+
+  -- the segment with the bytes w
+  abbrev pub with_content_of : ScratchSegment B → List ℕ → ScratchSegment B
+  with_content_of (Borrowed segment) w = Borrowed (g.with_content segment w)
+  with_content_of (Owned segment) w = Owned (with_bytes segment w)
+
+  pub with_content_of-holds : (s : ScratchSegment B) (w : List ℕ) → length w ≡ length (content_of s) → content_of (with_content_of s w) ≡ w
+  with_content_of-holds (Borrowed segment) w same = g.holds segment w same
+  with_content_of-holds (Owned segment) w same = with_bytes-holds segment w same
+
+-- the bytes of a segment, be they borrowed or on the heap
+abbrev pub bytes_of : ScratchSegment (MutBor (List ℕ)) → List ℕ
+bytes_of (Borrowed bytes) = bytes.now
+bytes_of (Owned segment) = segment.bytes.items
+
+-- how many words of a scratch space are a segment
+abbrev pub whole_words : List ℕ → ℕ
+whole_words bytes = min (length bytes / 8) max_segment_words
+
+-- An allocator with a scratch space: whether that is here, and not out; how many words it has; and what makes the other segments.
+pub record Scratch : Type 0 where
+  pub here : Bool
+  pub scratch_words : ℕ
+  pub heap : HeapAllocator
+
+-- whether a request is met by the scratch space: it isn't out, and has a word and at least those asked for
+abbrev pub lends : Scratch → ℕ → Bool
+lends a asked = a.here && (nat_lt 0 a.scratch_words && nat_le asked a.scratch_words)
+
+-- whether a request may be met by a segment of so many words, where the scratch space has so many
+abbrev pub offered : (ℕ → ℕ → Bool) → ℕ → ℕ → ℕ → Bool
+offered heap scratch_words asked words = heap asked words || ((words == scratch_words) && nat_le asked words)
