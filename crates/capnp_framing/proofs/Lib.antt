@@ -1,3 +1,4 @@
+pub mod FlatLemmas
 pub mod FrameLemmas
 pub mod ReadingLemmas
 pub mod TableLemmas

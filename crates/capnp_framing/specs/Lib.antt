@@ -1,3 +1,4 @@
+pub mod Flat
 pub mod Frames
 pub mod Laws
 pub mod Names

@@ -1,10 +1,12 @@
 //! The segments of a message in a stream of bytes ("Serialization Over a Stream").
 
+mod flat;
 mod frame_error;
 mod owned_segments;
 mod reading;
 mod writing;
 
+pub use flat::{FrameSegments, read_from_flat_slice};
 pub use frame_error::FrameError;
 pub use owned_segments::OwnedSegments;
 pub use reading::read;

@@ -17,7 +17,7 @@ use std::alloc::Global;
 
 /// By how many bytes the memory for a segment grows at first. From there on it grows by as many as
 /// came: what a table only announces is believed no further.
-const FIRST_BYTES: usize = 65536;
+const FIRST_BYTES: usize = 1 << 20;
 
 /// The bytes of 512 lengths and their padding.
 const TABLE_BYTES: usize = 2052;
@@ -84,7 +84,7 @@ fn read_segment<R: Input>(alloc: Global, input: &mut R, size: usize) -> Result<V
 }
 
 /// The number in the four bytes from a position on.
-fn number_at(table: &[u8], at: usize) -> u32
+pub(super) fn number_at(table: &[u8], at: usize) -> u32
     requires { at + 4 ≤ length table.now }
     ensures { result ≡ from_le_bytes w32 (take 4 (drop at table.now)) }
 {
@@ -92,7 +92,7 @@ fn number_at(table: &[u8], at: usize) -> u32
 }
 
 /// The sum of so many lengths.
-fn sum_of(table: &[u8], count: usize) -> u64
+pub(super) fn sum_of(table: &[u8], count: usize) -> u64
     requires inside { 4 * count ≤ length table.now }
     requires few { count ≤ 512 }
     ensures { result ≡ words_told count table.now }

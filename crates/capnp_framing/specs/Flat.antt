@@ -1,0 +1,27 @@
+-- Frames that stand in memory as a whole.
+use Rattle.std.specs.Prelude.{◌≡◌, ℕ, ◌*◌, ◌≤◌, List, [], ◌∷◌, ◌++◌, take, drop, zero, suc}
+use Rattle.std.specs.Int.{from_le_bytes, w32}
+use Rattle.capnp_format.specs.Segments.{Segments}
+use Rattle.capnp_framing.specs.Frames.{IsFrameOf}
+use Rattle.capnp_framing.specs.Reading.{total, words_told}
+
+-- The length in words that the first bytes of a table tell.
+abbrev pub first_told : List ℕ → ℕ
+first_told table = from_le_bytes w32 (take 4 table)
+
+-- The bytes of n segments that stand one behind the other, of as many words as a table tells.
+abbrev pub parts : ℕ → List ℕ → List ℕ → List (List ℕ)
+parts zero table bytes = []
+parts (suc n) table bytes = take (8 * first_told table) bytes ∷ parts n (drop 4 table) (drop (8 * first_told table) bytes)
+
+-- That of these with the number id.
+abbrev pub part_at : ℕ → List ℕ → List ℕ → List ℕ
+part_at id table bytes = take (8 * first_told (drop (4 * id) table)) (drop (8 * words_told id table) bytes)
+
+-- Bytes begin with a frame of a message of at most so many words.
+pub record BeginsWithFrame (bytes : List ℕ) (most : ℕ) (S : Segments) : Type 0 where
+  pub front : List ℕ
+  pub behind : List ℕ
+  pub is : bytes ≡ front ++ behind
+  pub framed : IsFrameOf S front
+  pub short : total S ≤ most
