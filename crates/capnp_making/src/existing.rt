@@ -1,6 +1,6 @@
 //! What a pointer leads to already ("Lists", "Capabilities (Interfaces)"): nothing is written, and
 //! nothing made.
-ghost use Rattle.std.specs.Prelude.{◌≡◌, ◌↔◌, ◌<◌, ◌≤◌, ◌+◌, ◌^◌, IsTrue, IsSome, IfSome, IfErr, true, length};
+ghost use Rattle.std.specs.Prelude.{◌≡◌, ◌≢◌, ◌↔◌, ◌<◌, ◌≤◌, ◌+◌, ◌^◌, IsTrue, IsSome, IfSome, IfErr, true, length};
 ghost use Rattle.capnp_format.specs.Bytes.{words_of};
 ghost use Rattle.capnp_format.specs.Forest.{target};
 ghost use Rattle.capnp_format.specs.Numbers.{words_for};
@@ -90,6 +90,29 @@ pub fn get_struct<A: BuilderArena>(arena: &A, id: u32, at: u32) -> Option<Existi
     if word.is_null() {
         return None;
     }
+    if word.kind() == WirePointerKind::Far {
+        // Its result is taken apart, so that a struct that is near does not go through memory.
+        return match struct_behind_pad(arena, id, at, word) {
+            Some(found) => Some(found),
+            None => None,
+        };
+    }
+    struct_of(arena, id, at, word)
+}
+
+/// The struct that a word leads to which stands at a place and isn't zero, as wide as it is.
+#[inline(always)]
+fn struct_of<A: BuilderArena>(
+    arena: &A,
+    id: u32,
+    at: u32,
+    word: WirePointer,
+) -> Option<ExistingStruct>
+    requires is { word.0 ≡ word_at (A.view arena.now).words id at }
+    requires some { word.0 ≢ 0 }
+    ensures found { (t : Tree) → IsStored (A.view arena.now).words id at t → result ≡ struct_in (target (A.view arena.now).words id at) t }
+    ensures inside { IfSome result (LiesIn (A.view arena.now).words) }
+{
     match landing_of(arena, id, at, word) {
         Some(landing) => {
             let size = landing.word.struct_size();
@@ -108,6 +131,23 @@ pub fn get_struct<A: BuilderArena>(arena: &A, id: u32, at: u32) -> Option<Existi
         }
         None => None,
     }
+}
+
+/// The same of a far pointer, out of line.
+#[cold]
+#[inline(never)]
+fn struct_behind_pad<A: BuilderArena>(
+    arena: &A,
+    id: u32,
+    at: u32,
+    word: WirePointer,
+) -> Option<ExistingStruct>
+    requires is { word.0 ≡ word_at (A.view arena.now).words id at }
+    requires some { word.0 ≢ 0 }
+    ensures found { (t : Tree) → IsStored (A.view arena.now).words id at t → result ≡ struct_in (target (A.view arena.now).words id at) t }
+    ensures inside { IfSome result (LiesIn (A.view arena.now).words) }
+{
+    struct_of(arena, id, at, word)
 }
 
 /// The list that the pointer at a place leads to, of elements as wide as the expected ones, which are
