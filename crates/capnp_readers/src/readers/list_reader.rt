@@ -341,6 +341,24 @@ impl<'a, A: ReaderArena> ListReader<'a, A> {
                 self.struct_size,
                 nesting_limit,
             ),
+            _ => self.plain_element(index, nesting_limit),
+        }
+    }
+
+    // An element that is no struct, as a struct of its bits or of one pointer. It isn't inlined: so a loop over
+    // structs makes one test for each.
+    #[tactic(auto, using(crate::proofs::Sections::elements))]
+    #[cold]
+    #[inline(never)]
+    fn plain_element(&self, index: u32, nesting_limit: i32) -> StructReader<'a, A>
+        requires range { index < self.now.count }
+        requires size { size_number self.now.element_size ≢ 1 }
+        requires plain { size_number self.now.element_size ≤ 6 }
+        ensures source { result.source ≡ self.now.source }
+        ensures element { ShowsElement A.ReaderArena self.now index result }
+        ensures nesting { result.nesting_limit ≡ nesting_limit }
+    {
+        match self.element_size {
             ElementSize::Pointer => StructReader::of_words(
                 self.source,
                 Place {
