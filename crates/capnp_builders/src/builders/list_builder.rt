@@ -19,10 +19,10 @@ use capnp_words::wire_pointer::{ElementSize, data_bits_per_element, pointers_per
 /// A list of a message that is built.
 #[derive(Drop)]
 pub struct ListBuilder<'a, A> {
-    /// The message.
-    pub arena: &'a mut A,
     /// Where the list is. Its elements lie in the message.
     pub place: ListPlace,
+    /// The message.
+    pub arena: &'a mut A,
 }
 
 #[tactic(auto, using(capnp_readers::proofs::Sections::elements))]

@@ -23,10 +23,10 @@ use capnp_words::zero::Zero;
 /// A struct of a message that is built.
 #[derive(Drop)]
 pub struct StructBuilder<'a, A> {
-    /// The message.
-    pub arena: &'a mut A,
     /// Where the struct is. Both sections lie in the message.
     pub place: StructPlace,
+    /// The message.
+    pub arena: &'a mut A,
     ghost aligned: { IsAligned place },
 }
 
