@@ -5,8 +5,8 @@
 
 Each line of a .jsonl file is one run: its arguments, its standard input, and the standard output and exit status
 that are wanted, with standard error where it is wanted too. The answers were made apart from this repository, by a
-model of the format written in Python from its description, and compared with those of Rust's capnp 0.27.3 on the
-same input: worked examples, random values in random layouts, mutated messages, and messages made to be refused.
+model of the format written in Python from its description, and those of canon, check and size compared with those of
+Rust's capnp 0.27.3 on the same input: worked examples, random values in random layouts, mutated messages, and messages made to be refused.
 heavy.jsonl holds short messages that read much, deep.jsonl messages of many levels, and worked.jsonl runs whose answers
 were worked out by hand."""
 import argparse

@@ -10,3 +10,5 @@ pub mod SizeLemmas
 pub mod CheckLemmas
 pub mod CanonicalMessageLemmas
 pub mod CanonicalFrameLemmas
+pub mod FrameLines
+pub mod FrameCommands

@@ -1,5 +1,5 @@
 -- What a run answers follows from what it read.
-use Rattle.std.proofs.Common.{◌≡◌, inl, inr, ℕ, ◌+◌, ◌≤◌, List, Option, Some, None, IfSome, ap, ◌∙◌, subst, arith}
+use Rattle.std.proofs.Common.{◌≡◌, refl, inl, inr, ℕ, ◌+◌, ◌≤◌, List, Option, Some, None, IfSome, sym, ap, ◌∙◌, subst, arith}
 use Rattle.capnp_words.specs.declared.error.ErrorKind.{ErrorKind}
 use Rattle.capnp_words.specs.declared.error.ErrorKind.TheVariants.{AllocationFailed}
 use Rattle.capnp_format.specs.Tree.{Tree}
@@ -11,9 +11,14 @@ use Rattle.capnp_objects.proofs.Refusals.{unreadable}
 use Rattle.capnp_arena.specs.declared.arena.reader_arena_impl.ReaderOptions.{ReaderOptions}
 use Rattle.capnp_layout.specs.declared.tool.args.Args.{Args}
 use Rattle.capnp_layout.specs.declared.tool.args.Args.TheVariants.{Canon}
+use Rattle.capnp_layout.specs.declared.tool.engine.Outcome.{Outcome}
+use Rattle.capnp_layout.specs.declared.tool.engine.Outcome.TheVariants.{Done, Refused as RefusedOutcome, WriteFailed}
 use Rattle.capnp_layout.specs.Lines.{segments_of}
-use Rattle.capnp_layout.specs.Runs.{WritesCountedRefusal}
-use Rattle.capnp_layout.specs.Answers.{AnswersRefusal, HasAnswer, LacksMemoryOr, RefusesMessage, ValueOf}
+use Rattle.capnp_layout.specs.Refusals.{refusal_line}
+use Rattle.capnp_layout.specs.declared.tool.refusal.Refusal.TheVariants.{Layout}
+use Rattle.capnp_layout.specs.Runs.{HasMoreLines, IsBadInput, WhereItIsAnswered, WritesCountedRefusal}
+use Rattle.capnp_layout.specs.Answers.{IsDoneOr, IsRefused, LacksMemoryOr, RefusesMessage, ValueOf}
+use Rattle.capnp_layout.specs.Commands.{AnswersRefusal, HasAnswer, IsWithin, WantsMemory, WhereAnswered}
 use Rattle.capnp_layout.specs.Answers.RefusesMessage.{beyond_limits, at_root, below_root}
 use Rattle.capnp_layout.specs.Answers.RefusesRoot.{no_root, no_budget}
 
@@ -45,9 +50,32 @@ pub only_memory : (options : ReaderOptions) {segments : List (List ℕ)} {old ne
 only_memory options small answered (inl memory) = memory
 only_memory options small (t, value, fits) (inr (refused, same)) = absurd (not_refused options small value fits refused)
 
--- what refuses the message that a text holds refuses the text
-pub text_refused : (text : Option (List ℕ)) (args : Args) (segments : List (List ℕ)) (P : List ℕ → Type 0) {old mid new : ℕ}
-    → IfSome text (λ t. segments_of t ≡ Some segments) → mid ≡ old → AnswersRefusal segments args mid new P → WritesCountedRefusal text args old new P
-text_refused None args segments P held kept refusal = tt
-text_refused (Some text) args segments P held kept (k, inl (named, risen), written) = (k, inl (named, risen ∙ ap one_more kept), written)
-text_refused (Some text) args segments P held kept (k, inr (refused, same), written) = (k, inr (segments, held, refused), written)
+-- what refuses a copy of what segments mean, or the memory that it lacks, is what `canon` and `framed-canon` answer
+pub answers_copy : {lines : List (List ℕ)} {old new : ℕ} {k : ErrorKind} (options : ReaderOptions) (P : List ℕ → Type 0) → LacksMemoryOr old new k (RefusesMessage lines (Canon options) k) → P (refusal_line (Layout k)) → AnswersRefusal lines (Canon options) old new P
+answers_copy options P (inl (named, risen)) written = inl (risen, subst (λ (k : ErrorKind). P (refusal_line (Layout k))) named written)
+answers_copy {k = k} options P (inr (refused, same)) written = inr ((Layout k, (k, refl, refused), written), same)
+
+-- what refuses the lines of a text refuses the text
+pub text_refused : (text : Option (List ℕ)) (args : Args) (lines : List (List ℕ)) (P : List ℕ → Type 0) {old mid new : ℕ}
+    → IfSome text (λ t. segments_of t ≡ Some lines) → mid ≡ old → AnswersRefusal lines args mid new P → WritesCountedRefusal text args old new P
+text_refused None args lines P held kept refusal = tt
+text_refused (Some text) args lines P held kept (inl (risen, written)) = (Layout AllocationFailed, inl (refl, risen ∙ ap one_more kept), written)
+text_refused (Some text) args lines P held kept (inr ((r, why, written), same)) = (r, inr (lines, held, why), written)
+
+-- where the lines of a text have an answer, memory alone is refused
+pub wants_memory : (text : Option (List ℕ)) (args : Args) (lines : List (List ℕ)) (outcome : Outcome) (P : List ℕ → Type 0) {old mid new : ℕ}
+    → IfSome text (λ t. segments_of t ≡ Some lines) → mid ≡ old → WhereAnswered lines args (IsDoneOr outcome (WantsMemory mid new P)) → IsRefused outcome → WhereItIsAnswered text args (WantsMemory old new P)
+wants_memory None args lines outcome P held kept exactly refused = tt
+wants_memory (Some text) args lines outcome P {old} {mid} {new} held kept exactly refused = λ given found within answered.
+    let same : given ≡ lines = (let both : Some given ≡ Some lines = sym found ∙ held in cc) in
+    memory (exactly (subst (IsWithin args) same within) (subst (λ (ls : List (List ℕ)). HasAnswer ls args) same answered))
+  where
+    memory : IsDoneOr outcome (WantsMemory mid new P) → WantsMemory old new P
+    memory (inl done) = absurd (let wrong : RefusedOutcome ≡ Done = sym refused ∙ done in cc)
+    memory (inr (inl failed)) = absurd (let wrong : RefusedOutcome ≡ WriteFailed = sym refused ∙ failed in cc)
+    memory (inr (inr (again, wants))) = (wants.0 ∙ ap one_more kept, wants.1)
+
+-- a text of more lines than a command takes is bad input
+pub bad_lines : (text : Option (List ℕ)) (args : Args) (lines : List (List ℕ)) → IfSome text (λ t. segments_of t ≡ Some lines) → HasMoreLines args lines → IsBadInput text args
+bad_lines None args lines held more = tt
+bad_lines (Some text) args lines held more = inr (lines, held, more)

@@ -1,9 +1,8 @@
--- What the program answers to a message, by its command, and the line that it then prints.
-use Rattle.std.specs.Prelude.{◌≡◌, ◌⊎◌, ℕ, ◌+◌, ◌≤◌, List, [], ◌∷◌, ◌++◌, Bool, true, false, codes, length, Option, Some}
+-- What the program says of a message, and the line that it then prints.
+use Rattle.std.specs.Prelude.{◌≡◌, ◌⊎◌, ℕ, ◌+◌, ◌≤◌, List, [], ◌∷◌, ◌++◌, Bool, true, false, codes, length, Option, Some, None}
 use Rattle.std.specs.Fmt.{decimal}
 use Rattle.std.specs.Int.{to_le_bytes, w64}
 use Rattle.hex.specs.Hex.{encode_lower}
-use Rattle.capnp_words.specs.Names.{name_of}
 use Rattle.capnp_words.specs.declared.error.ErrorKind.{ErrorKind}
 use Rattle.capnp_words.specs.declared.error.ErrorKind.TheVariants.{AllocationFailed, InvalidSegmentId, MessageTooLarge, ReadLimitExceeded}
 use Rattle.capnp_format.specs.Segments.{Segments, IsPlace}
@@ -39,10 +38,6 @@ unfoldable pub digits_of : List ℕ → List ℕ
 digits_of [] = []
 digits_of (w ∷ ws) = word_digits w ++ digits_of ws
 
--- the line that names a refusal
-abbrev pub refusal_line : ErrorKind → List ℕ
-refusal_line k = codes "refused " ++ name_of k ++ 10 ∷ []
-
 -- the line of a value's canonical words
 abbrev pub canonical_line : Tree → List ℕ
 canonical_line t = digits_of (encoding (trim t)) ++ 10 ∷ []
@@ -56,17 +51,19 @@ check_line false = codes "not canonical" ++ 10 ∷ []
 abbrev pub size_line : ℕ → ℕ → List ℕ
 size_line words caps = codes "words " ++ decimal words ++ codes " caps " ++ decimal caps ++ 10 ∷ []
 
--- the levels that the nesting limit leaves
+-- the levels that the nesting limit leaves, where a command reads the value of its lines
 abbrev pub levels_of : Args → ℕ
 levels_of (Canon options) = levels options.nesting_limit
 levels_of (Check options) = levels options.nesting_limit
 levels_of (Size options) = levels options.nesting_limit
+levels_of _ = 0
 
--- the traversal limit in words, if there is one
+-- its traversal limit in words, if there is one
 abbrev pub budget_of : Args → Option ℕ
 budget_of (Canon options) = options.traversal_limit_in_words
 budget_of (Check options) = options.traversal_limit_in_words
 budget_of (Size options) = options.traversal_limit_in_words
+budget_of _ = None
 
 -- whether a refusal says that something would be too large
 abbrev pub is_message_too_large : ErrorKind → Bool
@@ -172,28 +169,13 @@ IsSized segments options =
     CoversRoot (message segments) options.traversal_limit_in_words
     × HasSize (root_of (message segments) (levels options.nesting_limit)) (unused (less options.traversal_limit_in_words 1))
 
--- P holds of the line that a command answers to a message with.
-abbrev pub Answers : List (List ℕ) → Args → (List ℕ → Type 0) → Type 0
-Answers segments (Canon options) P = (t : Tree) × ValueOf segments options t × P (canonical_line t)
-Answers segments (Check options) P = (yes : Bool) × CheckOf segments options yes × P (check_line yes)
-Answers segments (Size options) P = (words : ℕ) × (caps : ℕ) × SizeOf segments options words caps × P (size_line words caps)
-
--- Wherever this holds there is an answer: there is a value whose canonical words fit a segment; canonical words; a size.
-abbrev pub HasAnswer : List (List ℕ) → Args → Type 0
-HasAnswer segments (Canon options) = (t : Tree) × ValueOf segments options t × (1 + word_count (trim t) ≤ max_segment_words)
-HasAnswer segments (Check options) = CheckOf segments options true
-HasAnswer segments (Size options) = IsSized segments options
-
--- P holds wherever a message is within the limits of a reader, and has an answer.
-abbrev pub WhereAnswered : List (List ℕ) → Args → Type 0 → Type 0
-WhereAnswered segments args P = IsSmall segments → HasAnswer segments args → P
-
 -- A command refuses what a root leads to by the name k: the copy is refused, or needs more words than a segment holds; the
 -- test for canonical form stops, or the walk that takes a size is refused.
 abbrev pub RefusesValue : Args → Reading → Option ℕ → ErrorKind → Type 0
 RefusesValue (Canon options) r left k = RefusesCopy r left max_segment_words k
 RefusesValue (Check options) r left k = (m : Meter) × TestStops k r (progress 1 (unused left)) m
 RefusesValue (Size options) r left k = (m : Meter) × SizeRefused r (unused left) m k
+RefusesValue _ r left k = ⊥
 
 -- Why a command refuses a message, by the bytes of its segments, by the name k.
 pub data RefusesMessage (segments : List (List ℕ)) (args : Args) (k : ErrorKind) : Type 0 where
@@ -206,14 +188,6 @@ pub data RefusesMessage (segments : List (List ℕ)) (args : Args) (k : ErrorKin
       CoversRoot (message segments) (budget_of args) →
       RefusesValue args (root_of (message segments) (levels_of args)) (less (budget_of args) 1) k →
       RefusesMessage segments args k
-
--- Memory was refused once more, from a count to another, and P holds of the line that says so.
-abbrev pub WantsMemory : ℕ → ℕ → (List ℕ → Type 0) → Type 0
-WantsMemory old new P = (new ≡ one_more old) × P (refusal_line AllocationFailed)
-
--- A message is refused, or memory was, and P holds of the line that names the refusal.
-abbrev pub AnswersRefusal : List (List ℕ) → Args → ℕ → ℕ → (List ℕ → Type 0) → Type 0
-AnswersRefusal segments args old new P = (k : ErrorKind) × LacksMemoryOr old new k (RefusesMessage segments args k) × P (refusal_line k)
 
 -- The words of a message of one segment are written as a line, of which P holds.
 abbrev pub AnswersWords : View → (List ℕ → Type 0) → Type 0

@@ -2,7 +2,9 @@ pub mod Arguments
 pub mod Lines
 pub mod Messages
 pub mod Answers
+pub mod Refusals
 pub mod Tries
 pub mod Runs
 pub mod CanonicalMessages
 pub mod CanonicalErrors
+pub mod Commands

@@ -25,7 +25,7 @@ fn asked(alloc: Global, rooms: &[u32]) -> Result<Vec<Request>, AllocError> {
 }
 
 /// The first try asks for the words of the input and one more, each further one for twice as many as
-/// the one before, and nothing else is asked for: no segment for a check or a size.
+/// the one before, and nothing else is asked for: no segment for a check, a size or a frame.
 #[test]
 fn rooms(rt: HostRuntime) -> Result<(), AllocError> {
     let options = ReaderOptions::default();
@@ -34,6 +34,8 @@ fn rooms(rt: HostRuntime) -> Result<(), AllocError> {
         (Args::Canon(options), DOUBLED, &[9, 18, 36][..]),
         (Args::Check(options), DOUBLED, &[][..]),
         (Args::Size(options), DOUBLED, &[][..]),
+        (Args::Frame, DOUBLED, &[][..]),
+        (Args::FramedCanon(options), DOUBLED, &[9, 18, 36][..]),
     ] {
         let heap = HeapAllocator::new(rt.alloc(), 0);
         let allocator = NotingAllocator::new(rt.alloc(), heap);

@@ -1,7 +1,8 @@
 //! The words behind the program's name.
 ghost use Rattle.std.specs.Prelude.{◌≡◌, Some, None, IfSome, IsNone, ℤ, ℕ, Option, map, string_bytes};
-ghost use Rattle.capnp_layout.specs.Arguments.{IsNesting, IsBudget, AreArguments};
+ghost use Rattle.capnp_layout.specs.Arguments.{IsNesting, IsBudget, AreArguments, IsNamed, IsNamedAlone};
 ghost use Rattle.capnp_layout.specs.declared.tool.args.Args.{Args};
+ghost use Rattle.capnp_arena.specs.declared.arena.reader_arena_impl.ReaderOptions.{ReaderOptions};
 
 use capnp_arena::arena::ReaderOptions;
 
@@ -16,10 +17,20 @@ pub enum Args {
     /// How many words and capabilities a message has without landing pads ("Structs", "Lists"),
     /// which is read within these limits.
     Size(ReaderOptions),
+    /// The frame of a message ("Serialization Over a Stream").
+    Frame,
+    /// The segments of the message whose frame a line begins with ("Serialization Over a Stream").
+    Unframe,
+    /// The frame of a message's canonical words, in one segment ("Canonicalization"). The message is
+    /// read within these limits.
+    FramedCanon(ReaderOptions),
+    /// Whether the message whose frame a line begins with is canonical as a whole
+    /// ("Canonicalization"), which is tested within these limits.
+    FramedCheck(ReaderOptions),
 }
 
-/// Reads the words behind the program's name, which are `canon NESTING BUDGET`,
-/// `check NESTING BUDGET` or `size NESTING BUDGET`. All else is `None`.
+/// Reads the words behind the program's name, which are `frame`, `unframe`, or `canon NESTING BUDGET`
+/// and so with `check`, `size`, `framed-canon` and `framed-check`. All else is `None`.
 ///
 /// NESTING is the nesting limit, an `i32` in decimal digits with an optional `-`. BUDGET is the
 /// traversal limit in words, a `u64` in decimal digits, or `none`.
@@ -27,19 +38,48 @@ pub fn parse_args(args: &[String]) -> Option<Args>
     ensures read { IfSome result (λ a. AreArguments (map string_bytes args.now) a) }
     ensures none { IsNone result → (a : Args) → AreArguments (map string_bytes args.now) a → ⊥ }
 {
-    let [command, nesting, budget] = args else {
-        return None;
-    };
-    let options = ReaderOptions {
-        nesting_limit: parse_nesting(nesting.as_str())?,
-        traversal_limit_in_words: parse_budget(budget.as_str())?,
-    };
-    if command.as_str() == "canon" {
+    match args {
+        [command] => without_limits(command.as_str()),
+        [command, nesting, budget] => {
+            let options = ReaderOptions {
+                nesting_limit: parse_nesting(nesting.as_str())?,
+                traversal_limit_in_words: parse_budget(budget.as_str())?,
+            };
+            within_limits(command.as_str(), options)
+        }
+        _ => None,
+    }
+}
+
+/// What a command asks for that has no limits.
+fn without_limits(command: &str) -> Option<Args>
+    ensures read { IfSome result (IsNamedAlone command.now) }
+    ensures none { IsNone result → (a : Args) → IsNamedAlone command.now a → ⊥ }
+{
+    if command == "frame" {
+        Some(Args::Frame)
+    } else if command == "unframe" {
+        Some(Args::Unframe)
+    } else {
+        None
+    }
+}
+
+/// What a command asks for within limits.
+fn within_limits(command: &str, options: ReaderOptions) -> Option<Args>
+    ensures read { IfSome result (IsNamed command.now options) }
+    ensures none { IsNone result → (a : Args) (limits : ReaderOptions) → IsNamed command.now limits a → ⊥ }
+{
+    if command == "canon" {
         Some(Args::Canon(options))
-    } else if command.as_str() == "check" {
+    } else if command == "check" {
         Some(Args::Check(options))
-    } else if command.as_str() == "size" {
+    } else if command == "size" {
         Some(Args::Size(options))
+    } else if command == "framed-canon" {
+        Some(Args::FramedCanon(options))
+    } else if command == "framed-check" {
+        Some(Args::FramedCheck(options))
     } else {
         None
     }

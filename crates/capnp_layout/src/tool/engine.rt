@@ -1,22 +1,25 @@
-//! One run of the program: an input is read, and one line is written.
+//! One run of the program: an input is read, and what a command answers is written.
 ghost use Rattle.std.specs.Prelude.{◌≡◌, ◌≢◌, ◌⊎◌, ◌∷◌, ◌++◌, [], ℕ, List, length, ◌≤◌, ◌+◌, true, false, Some, None, IfSome, OnOk, OnErr, IfOk, IfErr};
 ghost use Rattle.std.specs.Io.KnownBytes.{Keeps};
 ghost use Rattle.capnp_arena.specs.Allocations.{one_more};
 ghost use Rattle.capnp_layout.specs.Lines.{segments_of};
 ghost use Rattle.capnp_layout.specs.Messages.{segments_in};
 ghost use Rattle.capnp_arena.specs.Limits.{IsSmall};
-ghost use Rattle.capnp_words.specs.declared.error.ErrorKind.{ErrorKind};
 ghost use Rattle.capnp_words.specs.declared.error.ErrorKind.TheVariants.{AllocationFailed};
-ghost use Rattle.capnp_layout.specs.Answers.{Answers, AnswersRefusal, AnswersWords, IsDone, IsDoneOr, IsRefused, LacksMemoryOr, RefusesMessage, ValueOf, WhereAnswered, WantsMemory, canonical_line, digits_of, refusal_line};
+ghost use Rattle.capnp_layout.specs.Answers.{AnswersWords, IsDone, IsDoneOr, IsRefused, LacksMemoryOr, RefusesMessage, ValueOf, canonical_line, digits_of};
+ghost use Rattle.capnp_layout.specs.Commands.{Answers, AnswersRefusal, IsWithin, NamesRefusal, WantsMemory, WhereAnswered};
+ghost use Rattle.capnp_layout.specs.Refusals.{refusal_line};
 ghost use Rattle.capnp_framing.specs.Writing.{Prints};
-ghost use Rattle.capnp_layout.specs.Runs.{IsNoMessage, WhereItIsAnswered, WritesAnswer, WritesCountedRefusal, WritesRefusal};
+ghost use Rattle.capnp_layout.specs.Runs.{HasMoreLines, IsBadInput, WhereItIsAnswered, WritesAnswer, WritesCountedRefusal, WritesRefusal};
 ghost use Rattle.capnp_format.specs.Bytes.{message, words_of};
 
 use super::args::Args;
 use super::canon::canonical;
 use super::check::is_canonical;
+use super::framed::{frame, framed_canon, framed_check, unframe};
 use super::lines::{InputFault, Message, read_lines};
 use super::reading::read_text;
+use super::refusal::Refusal;
 use super::size::size_of;
 use super::writing::{write_check, write_refusal, write_size, write_words};
 use crate::devices::{DeviceFault, Input, Output};
@@ -32,9 +35,10 @@ use std::alloc::Global;
 pub enum Outcome {
     /// The answer is written.
     Done,
-    /// The message is refused, and the line `refused NAME` is written.
+    /// The lines are refused, and the line `refused NAME` is written.
     Refused,
-    /// A line isn't pairs of hex digits, or the input failed. Nothing is written.
+    /// A line isn't pairs of hex digits, there are more than a command takes, or the input failed.
+    /// Nothing is written.
     BadInput,
     /// The output failed. How much of a line was written isn't said.
     WriteFailed,
@@ -59,14 +63,14 @@ fn read_message<A: Allocator, R: Input>(
 }
 
 /// Writes the line of a refusal.
-fn refuse<W: Output>(output: &mut W, kind: ErrorKind) -> Outcome
+pub(super) fn refuse<W: Output>(output: &mut W, refusal: Refusal) -> Outcome
     requires { W.has_failed output.old ≡ false }
     ensures either { (result ≡ Outcome.Refused) ⊎ (result ≡ Outcome.WriteFailed) }
-    ensures written { result ≡ Outcome.Refused → Prints W.Output output.old output.new (refusal_line kind) }
+    ensures written { result ≡ Outcome.Refused → Prints W.Output output.old output.new (refusal_line refusal) }
     ensures works { result ≡ Outcome.Refused → W.has_failed output.new ≡ false }
     ensures failed { result ≡ Outcome.WriteFailed → W.has_failed output.new ≡ true }
 {
-    match write_refusal(output, kind) {
+    match write_refusal(output, refusal) {
         Ok(()) => Outcome::Refused,
         Err(DeviceFault) => Outcome::WriteFailed,
     }
@@ -122,7 +126,7 @@ fn canon<A: Allocator, W: Output>(
             let outcome = answer(output, &made);
             (outcome, made.into_allocator())
         }
-        Err((kind, allocator)) => (refuse(output, kind), allocator),
+        Err((kind, allocator)) => (refuse(output, Refusal::Layout(kind)), allocator),
     }
 }
 
@@ -132,7 +136,7 @@ fn check<W: Output>(source: Message, options: ReaderOptions, output: &mut W) -> 
     ensures small { result ≡ Outcome.Done → IsSmall (segments_in source) }
     ensures done { result ≡ Outcome.Done → Answers (segments_in source) (Args.Check options) (Prints W.Output output.old output.new) }
     ensures refused { result ≡ Outcome.Refused →
-        (k : ErrorKind) × RefusesMessage (segments_in source) (Args.Check options) k × Prints W.Output output.old output.new (refusal_line k) }
+        NamesRefusal (segments_in source) (Args.Check options) (Prints W.Output output.old output.new) }
     ensures exactly { WhereAnswered (segments_in source) (Args.Check options) (IsDone result ⊎ (result ≡ Outcome.WriteFailed)) }
     ensures input { result ≢ Outcome.BadInput }
     ensures works { result ≢ Outcome.WriteFailed → W.has_failed output.new ≡ false }
@@ -143,7 +147,7 @@ fn check<W: Output>(source: Message, options: ReaderOptions, output: &mut W) -> 
             Ok(()) => Outcome::Done,
             Err(DeviceFault) => Outcome::WriteFailed,
         },
-        Err(kind) => refuse(output, kind),
+        Err(kind) => refuse(output, Refusal::Layout(kind)),
     }
 }
 
@@ -153,7 +157,7 @@ fn size<W: Output>(source: Message, options: ReaderOptions, output: &mut W) -> O
     ensures small { result ≡ Outcome.Done → IsSmall (segments_in source) }
     ensures done { result ≡ Outcome.Done → Answers (segments_in source) (Args.Size options) (Prints W.Output output.old output.new) }
     ensures refused { result ≡ Outcome.Refused →
-        (k : ErrorKind) × RefusesMessage (segments_in source) (Args.Size options) k × Prints W.Output output.old output.new (refusal_line k) }
+        NamesRefusal (segments_in source) (Args.Size options) (Prints W.Output output.old output.new) }
     ensures exactly { WhereAnswered (segments_in source) (Args.Size options) (IsDone result ⊎ (result ≡ Outcome.WriteFailed)) }
     ensures input { result ≢ Outcome.BadInput }
     ensures works { result ≢ Outcome.WriteFailed → W.has_failed output.new ≡ false }
@@ -164,45 +168,53 @@ fn size<W: Output>(source: Message, options: ReaderOptions, output: &mut W) -> O
             Ok(()) => Outcome::Done,
             Err(DeviceFault) => Outcome::WriteFailed,
         },
-        Err(kind) => refuse(output, kind),
+        Err(kind) => refuse(output, Refusal::Layout(kind)),
     }
 }
 
-/// Answers to a message with the line that a command prints, or of its refusal.
+/// Answers to the lines of an input with what a command prints, or with the line of its refusal.
 fn respond<A: Allocator, W: Output>(
     alloc: Global,
     allocator: A,
-    source: Message,
+    lines: Message,
     args: &Args,
     output: &mut W,
 ) -> (Outcome, A)
     requires { W.has_failed output.old ≡ false }
-    ensures small { result.0 ≡ Outcome.Done → IsSmall (segments_in source) }
-    ensures done { result.0 ≡ Outcome.Done → Answers (segments_in source) args.now (Prints W.Output output.old output.new) }
+    ensures within { result.0 ≡ Outcome.Done → IsWithin args.now (segments_in lines) }
+    ensures done { result.0 ≡ Outcome.Done → Answers (segments_in lines) args.now (Prints W.Output output.old output.new) }
     ensures refused { result.0 ≡ Outcome.Refused →
-        AnswersRefusal (segments_in source) args.now (A.refusals allocator) (A.refusals result.1) (Prints W.Output output.old output.new) }
-    ensures exactly { WhereAnswered (segments_in source) args.now
+        AnswersRefusal (segments_in lines) args.now (A.refusals allocator) (A.refusals result.1) (Prints W.Output output.old output.new) }
+    ensures exactly { WhereAnswered (segments_in lines) args.now
         (IsDoneOr result.0 (WantsMemory (A.refusals allocator) (A.refusals result.1) (Prints W.Output output.old output.new))) }
-    ensures input { result.0 ≢ Outcome.BadInput }
+    ensures input { result.0 ≡ Outcome.BadInput → HasMoreLines args.now (segments_in lines) }
+    ensures unwritten { result.0 ≡ Outcome.BadInput → W.contents output.new ≡ W.contents output.old }
     ensures works { result.0 ≢ Outcome.WriteFailed → W.has_failed output.new ≡ false }
     ensures failed { result.0 ≡ Outcome.WriteFailed → W.has_failed output.new ≡ true }
 {
     match *args {
-        Args::Canon(options) => canon(alloc, allocator, source, options, output),
-        Args::Check(options) => (check(source, options, output), allocator),
-        Args::Size(options) => (size(source, options, output), allocator),
+        Args::Canon(options) => canon(alloc, allocator, lines, options, output),
+        Args::Check(options) => (check(lines, options, output), allocator),
+        Args::Size(options) => (size(lines, options, output), allocator),
+        Args::Frame => (frame(lines, output), allocator),
+        Args::Unframe => (unframe(lines, output), allocator),
+        Args::FramedCanon(options) => framed_canon(alloc, allocator, lines, options, output),
+        Args::FramedCheck(options) => (framed_check(lines, options, output), allocator),
     }
 }
 
-/// Reads a message from an input, and writes one line to an output: the answer of a command, or
+/// Reads lines from an input, and writes to an output what a command answers, or a line with
 /// `refused` and the name of the refusal. Segments come from an allocator, which keeps what is read,
 /// too.
 ///
 /// `Canon` answers with the canonical words of what the message means as lower case hex digits, each
 /// word's lowest byte first; `Check` with `canonical` where such words stand at the message's root,
 /// and else `not canonical`; `Size` with `words N caps M`, the numbers of words and capabilities
-/// that the root leads to, without landing pads, in decimal digits. Checks and sizes take no memory
-/// but that for the input. Where a read fails the outcome is `BadInput`, and no other. The refusal
+/// that the root leads to, without landing pads, in decimal digits. `Frame` answers with the frame of
+/// the message as hex digits, `FramedCanon` with that of its canonical words; `Unframe` with a line for
+/// each segment of the message whose frame the only line begins with, and `FramedCheck` with
+/// `canonical message` or `not a canonical message`. Only `Canon` and `FramedCanon` take memory besides
+/// that for the input. Where a read fails the outcome is `BadInput`, and no other. The refusal
 /// `AllocationFailed` is want of memory, which the allocator has counted.
 pub fn run_with<A: Allocator, R: Input, W: Output>(
     alloc: Global,
@@ -220,7 +232,7 @@ pub fn run_with<A: Allocator, R: Input, W: Output>(
         (IsDone result.0 ⊎ (R.has_failed input.new ≡ true) ⊎ (W.has_failed output.new ≡ true) ⊎ IsRefused result.0) }
     ensures memory { IsRefused result.0 → WhereItIsAnswered (R.remaining input.old) args.now
         (WantsMemory (A.refusals allocator) (A.refusals result.1) (Prints W.Output output.old output.new)) }
-    ensures input { result.0 ≡ Outcome.BadInput → (R.has_failed input.new ≡ true) ⊎ IsNoMessage (R.remaining input.old) }
+    ensures input { result.0 ≡ Outcome.BadInput → (R.has_failed input.new ≡ true) ⊎ IsBadInput (R.remaining input.old) args.now }
     ensures read { result.0 ≢ Outcome.BadInput → R.has_failed input.new ≡ false }
     ensures unwritten { result.0 ≡ Outcome.BadInput → W.contents output.new ≡ W.contents output.old }
     ensures works { result.0 ≢ Outcome.WriteFailed → W.has_failed output.new ≡ false }
@@ -230,11 +242,14 @@ pub fn run_with<A: Allocator, R: Input, W: Output>(
     match read_message(alloc, &mut allocator, input) {
         Ok(source) => respond(alloc, allocator, source, args, output),
         Err(InputFault::BadInput) => (Outcome::BadInput, allocator),
-        Err(InputFault::NoMemory) => (refuse(output, ErrorKind::AllocationFailed), allocator),
+        Err(InputFault::NoMemory) => (
+            refuse(output, Refusal::Layout(ErrorKind::AllocationFailed)),
+            allocator,
+        ),
     }
 }
 
-/// Reads a message from an input, and writes one line to an output: the answer of a command, or
+/// Reads lines from an input, and writes to an output what a command answers, or a line with
 /// `refused` and the name of the refusal. `Canon` answers with the canonical words of what the
 /// message means as lower case hex digits, each word's lowest byte first ("Canonicalization");
 /// `Check` with `canonical` where such words stand at the root, the first object right behind the
@@ -248,6 +263,15 @@ pub fn run_with<A: Allocator, R: Input, W: Output>(
 /// says that there are more segments or words than a reader takes, more canonical words than the
 /// 536,870,911 of a segment, or a size whose words don't fit 64 bits or whose capabilities don't fit
 /// 32.
+///
+/// `Frame` answers with the frame of the message as hex digits ("Serialization Over a Stream"); no
+/// segments are `NoSegments`, and more than 512 `TooManySegments`. `FramedCanon` answers with the frame
+/// of the canonical words, in one segment, and is refused as `Canon` is. The other two take one line,
+/// and look at the message whose frame it begins with, of at most 8,388,608 words: `Unframe` answers
+/// with a line for each of its segments, and `FramedCheck` with `canonical message` where it is the
+/// canonical words of a value and nothing else, and else `not a canonical message`. More than one line
+/// is `BadInput`; no line and an empty one are `NoMessage`; a line that begins with no frame is refused
+/// as by `framing::read`.
 pub fn run<R: Input, W: Output>(
     alloc: Global,
     args: &Args,
@@ -261,8 +285,8 @@ pub fn run<R: Input, W: Output>(
     ensures exactly { WhereItIsAnswered (R.remaining input.old) args.now
         (IsDone result ⊎ (R.has_failed input.new ≡ true) ⊎ (W.has_failed output.new ≡ true) ⊎ IsRefused result) }
     ensures memory { IsRefused result → WhereItIsAnswered (R.remaining input.old) args.now
-        (Prints W.Output output.old output.new (refusal_line AllocationFailed)) }
-    ensures input { result ≡ Outcome.BadInput → (R.has_failed input.new ≡ true) ⊎ IsNoMessage (R.remaining input.old) }
+        (Prints W.Output output.old output.new (refusal_line (Refusal.Layout AllocationFailed))) }
+    ensures input { result ≡ Outcome.BadInput → (R.has_failed input.new ≡ true) ⊎ IsBadInput (R.remaining input.old) args.now }
     ensures read { result ≢ Outcome.BadInput → R.has_failed input.new ≡ false }
     ensures unwritten { result ≡ Outcome.BadInput → W.contents output.new ≡ W.contents output.old }
     ensures works { result ≢ Outcome.WriteFailed → W.has_failed output.new ≡ false }

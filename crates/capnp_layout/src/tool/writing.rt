@@ -2,12 +2,14 @@
 ghost use Rattle.std.specs.Prelude.{◌≡◌, ◌+◌, ◌++◌, ◌∷◌, [], false, true, OnOk, OnErr};
 ghost use Rattle.capnp_format.specs.Bytes.{words_of};
 ghost use Rattle.std.specs.Fmt.{decimal};
-ghost use Rattle.capnp_layout.specs.Answers.{check_line, word_digits, digits_of, refusal_line, size_line};
+ghost use Rattle.capnp_layout.specs.Answers.{check_line, word_digits, digits_of, size_line};
+ghost use Rattle.capnp_layout.specs.Commands.{message_line};
+ghost use Rattle.capnp_layout.specs.Refusals.{refusal_line};
 ghost use Rattle.capnp_framing.specs.Writing.{Prints};
 
+use super::refusal::Refusal;
 use crate::devices::{DeviceFault, Output, write_all};
 use capnp_readers::readers::MessageSize;
-use capnp_words::error::ErrorKind;
 use capnp_words::words::word_at;
 
 /// Writes the bytes of a word, the lowest first, as 16 hex digits.
@@ -22,6 +24,19 @@ fn write_word<W: Output>(output: &mut W, word: u64) -> Result<(), DeviceFault>
     write_all(output, &digits)
 }
 
+/// Writes all whole words of a segment as hex digits.
+pub(crate) fn write_digits<W: Output>(output: &mut W, segment: &[u8]) -> Result<(), DeviceFault>
+    requires { W.has_failed output.old ≡ false }
+    ensures written { OnOk result (Prints W.Output output.old output.new (digits_of (words_of segment.now))) }
+    ensures works { OnOk result (W.has_failed output.new ≡ false) }
+    ensures fails { OnErr result (W.has_failed output.new ≡ true) }
+{
+    for at in 0..segment.len() / 8 {
+        write_word(output, word_at(segment, at))?;
+    }
+    Ok(())
+}
+
 /// Writes all whole words of a segment as one line of hex digits.
 pub(crate) fn write_words<W: Output>(output: &mut W, segment: &[u8]) -> Result<(), DeviceFault>
     requires { W.has_failed output.old ≡ false }
@@ -29,9 +44,7 @@ pub(crate) fn write_words<W: Output>(output: &mut W, segment: &[u8]) -> Result<(
     ensures works { OnOk result (W.has_failed output.new ≡ false) }
     ensures fails { OnErr result (W.has_failed output.new ≡ true) }
 {
-    for at in 0..segment.len() / 8 {
-        write_word(output, word_at(segment, at))?;
-    }
+    write_digits(output, segment)?;
     write_all(output, b"\n")
 }
 
@@ -46,6 +59,23 @@ pub(crate) fn write_check<W: Output>(output: &mut W, is_canonical: bool) -> Resu
         write_all(output, b"canonical\n")
     } else {
         write_all(output, b"not canonical\n")
+    }
+}
+
+/// Writes the line that says whether a message is canonical as a whole.
+pub(crate) fn write_message_check<W: Output>(
+    output: &mut W,
+    is_canonical: bool,
+) -> Result<(), DeviceFault>
+    requires { W.has_failed output.old ≡ false }
+    ensures written { OnOk result (Prints W.Output output.old output.new (message_line is_canonical)) }
+    ensures works { OnOk result (W.has_failed output.new ≡ false) }
+    ensures fails { OnErr result (W.has_failed output.new ≡ true) }
+{
+    if is_canonical {
+        write_all(output, b"canonical message\n")
+    } else {
+        write_all(output, b"not a canonical message\n")
     }
 }
 
@@ -77,13 +107,13 @@ pub(crate) fn write_size<W: Output>(output: &mut W, size: MessageSize) -> Result
 }
 
 /// Writes the line that names a refusal.
-pub(crate) fn write_refusal<W: Output>(output: &mut W, kind: ErrorKind) -> Result<(), DeviceFault>
+pub(crate) fn write_refusal<W: Output>(output: &mut W, refusal: Refusal) -> Result<(), DeviceFault>
     requires { W.has_failed output.old ≡ false }
-    ensures written { OnOk result (Prints W.Output output.old output.new (refusal_line kind)) }
+    ensures written { OnOk result (Prints W.Output output.old output.new (refusal_line refusal)) }
     ensures works { OnOk result (W.has_failed output.new ≡ false) }
     ensures fails { OnErr result (W.has_failed output.new ≡ true) }
 {
     write_all(output, b"refused ")?;
-    write_all(output, kind.name().as_bytes())?;
+    write_all(output, refusal.name().as_bytes())?;
     write_all(output, b"\n")
 }

@@ -1,11 +1,11 @@
 use Rattle.std.proofs.Common.{rules, ◌+◌, ℕ, ◌<◌, ◌≤◌, length, arith, ap, sym, ◌∙◌, ◌++◌, drop, List}
-use Rattle.std.proofs.lemmas.Result.{on_ok_weaker}
 use Rattle.capnp_format.specs.Bytes.{words_of}
 use Rattle.capnp_format.proofs.WordsOf.{words}
 use Rattle.capnp_layout.specs.Answers.{word_digits, digits_of}
-use Rattle.capnp_framing.proofs.WritingLemmas.{left_over_less, left_over_none}
+use Rattle.capnp_framing.proofs.WritingLemmas.{left_over_less}
+use Rattle.capnp_layout.proofs.FrameLines.{left_over_end}
 use Rattle.capnp_layout.proofs.WritingLemmas.{digits-drop, digits-end}
-use Rattle.capnp_layout.proofs.tool.writing.write_words.Goals as goal
+use Rattle.capnp_layout.proofs.tool.writing.write_digits.Goals as goal
 
 pub loop-at-preserved : goal.loop-at-preserved
 loop-at-preserved g c =
@@ -19,4 +19,4 @@ loop-at-preserved g c =
 pub returns-clause-written : goal.returns-clause-written
 returns-clause-written g c =
     let all : length (words_of c.args.segment.now) ≤ c.loop-at.at = omega (arith, words c.args.segment.now) in
-    on_ok_weaker c.write_all.result (λ w. left_over_none (record { left_over = c.loop-at.invariant.left_over; appended = w }) (digits-end (words_of c.args.segment.now) c.loop-at.at all)) c.write_all.ensures.written
+    left_over_end (g.W.Output.contents c.args.output.now) (g.W.Output.contents c.loop-at.output) _ _ c.loop-at.invariant.left_over (digits-end (words_of c.args.segment.now) c.loop-at.at all)

@@ -1,0 +1,29 @@
+use Rattle.std.proofs.Common.{rules, ◌≡◌, ◌+◌, ◌<◌, ◌++◌, ◌∙◌, ℕ, List, length, drop, sym, ap, arith}
+use Rattle.std.specs.Int.{to_le_bytes, w32}
+use Rattle.hex.specs.Hex.{encode_lower}
+use Rattle.capnp_framing.specs.Frames.{lengths}
+use Rattle.capnp_format.specs.Bytes.{message, words_of}
+use Rattle.capnp_format.specs.Segments.{Segments, segment}
+use Rattle.capnp_format.proofs.WordsOf.{words}
+use Rattle.capnp_arena.proofs.MessageLemmas.{length-message}
+use Rattle.capnp_framing.proofs.WritingLemmas.{left_over_less}
+use Rattle.capnp_layout.proofs.FrameLines.{left_over_end, lengths-drop, lengths-end}
+use Rattle.capnp_layout.proofs.tool.frames.write_lengths.Goals as goal
+
+pub loop-i-preserved : goal.loop-i-preserved
+loop-i-preserved g c =
+    let bytes : List (List ℕ) = g.S.ReaderSegments.segments c.args.segments.now in
+    let S : Segments = message bytes in
+    let inside : c.loop-i.i < length S = omega (arith, length-message bytes, c.loop-i-test.true) in
+    let same : words_of c.segment_at.result.now ≡ segment S c.loop-i.i = c.segment_at.ensures.words (omega (arith, c.loop-i-test.true)) in
+    record {
+      left_over = left_over_less (encode_lower (lengths (drop (c.loop-i.i + 1) S))) (record { left_over = c.loop-i.invariant.left_over; appended = c.in_ok-write_number.ensures.written })
+          (lengths-drop S c.loop-i.i inside ∙ ap (λ n. encode_lower (to_le_bytes w32 n) ++ encode_lower (lengths (drop (c.loop-i.i + 1) S))) (sym (sym (words c.segment_at.result.now) ∙ ap length same)));
+      works = search rules;
+    }
+
+pub returns-clause-written : goal.returns-clause-written
+returns-clause-written g c =
+    let bytes : List (List ℕ) = g.S.ReaderSegments.segments c.args.segments.now in
+    left_over_end (g.W.Output.contents c.args.output.now) (g.W.Output.contents c.loop-i.output) _ _ c.loop-i.invariant.left_over
+    (lengths-end (message bytes) c.loop-i.i (omega (arith, length-message bytes)))

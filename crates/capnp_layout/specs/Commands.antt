@@ -1,0 +1,142 @@
+-- What each command answers to the lines of its input, as bytes, and why it refuses them. A line is a segment, or holds a frame.
+use Rattle.std.specs.Prelude.{◌≡◌, ◌⊎◌, ◌↔◌, ℕ, ◌+◌, ◌≤◌, List, [], ◌∷◌, ◌++◌, Bool, true, false, IsTrue, codes, length}
+use Rattle.hex.specs.Hex.{encode_lower}
+use Rattle.capnp_words.specs.declared.error.ErrorKind.{ErrorKind}
+use Rattle.capnp_words.specs.declared.error.ErrorKind.TheVariants.{AllocationFailed, MessageTooLarge}
+use Rattle.capnp_words.specs.Meter.{Meter, unused}
+use Rattle.capnp_format.specs.Segments.{Segments}
+use Rattle.capnp_format.specs.Bytes.{message}
+use Rattle.capnp_format.specs.Tree.{Tree}
+use Rattle.capnp_format.specs.Canonical.{encoding, trim, word_count}
+use Rattle.capnp_arena.specs.Allocations.{max_segment_words, one_more}
+use Rattle.capnp_arena.specs.Limits.{IsSmall}
+use Rattle.capnp_arena.specs.View.{View}
+use Rattle.capnp_arena.specs.declared.arena.reader_arena_impl.ReaderOptions.{ReaderOptions}
+use Rattle.capnp_objects.specs.Source.{levels}
+use Rattle.capnp_framing.specs.Flat.{BeginsWithFrame}
+use Rattle.capnp_framing.specs.Frames.{frame, max_segments}
+use Rattle.capnp_framing.specs.Reading.{IsRefusedNumber, NoFrame}
+use Rattle.capnp_framing.specs.declared.framing.frame_error.FrameError.{FrameError}
+use Rattle.capnp_layout.specs.declared.tool.args.Args.{Args}
+use Rattle.capnp_layout.specs.declared.tool.args.Args.TheVariants.{Canon, Check, Size, Frame, Unframe, FramedCanon, FramedCheck}
+use Rattle.capnp_layout.specs.declared.tool.refusal.Refusal.{Refusal}
+use Rattle.capnp_layout.specs.declared.tool.refusal.Refusal.TheVariants.{Layout, Frame as NoFrameFor, NoMessage}
+use Rattle.capnp_layout.specs.Answers.{CheckOf, IsSized, RefusesMessage, SizeOf, ValueOf, canonical_line, check_line, digits_of, size_line}
+use Rattle.capnp_layout.specs.CanonicalMessages.{CanBeTested, IsCanonical, RefusesTest}
+use Rattle.capnp_layout.specs.Refusals.{refusal_line}
+
+-- the line of a message's frame
+abbrev pub frame_line : Segments → List ℕ
+frame_line S = encode_lower (frame S) ++ 10 ∷ []
+
+-- a line for each segment of a message
+abbrev pub segment_lines : Segments → List ℕ
+segment_lines [] = []
+segment_lines (ws ∷ S) = (digits_of ws ++ 10 ∷ []) ++ segment_lines S
+
+-- the line of an answer to whether a message is canonical as a whole
+abbrev pub message_line : Bool → List ℕ
+message_line true = codes "canonical message" ++ 10 ∷ []
+message_line false = codes "not a canonical message" ++ 10 ∷ []
+
+-- the greatest number of words of a message whose frame is read
+abbrev pub max_frame_words : ℕ
+max_frame_words = 8388608
+
+-- The only line begins with the frame of a message, which isn't too long. Bytes behind it are not looked at.
+pub record HoldsFrame (lines : List (List ℕ)) (S : Segments) : Type 0 where
+  pub line : List ℕ
+  pub only : lines ≡ line ∷ []
+  pub begins : BeginsWithFrame line max_frame_words S
+
+-- The only line holds the frame of a message, and the answer tells whether that is canonical as a whole.
+abbrev pub TellsCanonical : List (List ℕ) → Bool → Type 0
+TellsCanonical lines b = (S : Segments) × HoldsFrame lines S × (IsTrue b ↔ IsCanonical S)
+
+-- A command takes one line at most, which holds a frame.
+abbrev pub TakesOneLine : Args → Type 0
+TakesOneLine Unframe = Unit {0}
+TakesOneLine (FramedCheck options) = Unit {0}
+TakesOneLine _ = ⊥
+
+-- Where a command takes lines as segments, these are within the limits of a reader.
+abbrev pub IsWithin : Args → List (List ℕ) → Type 0
+IsWithin Unframe lines = Unit {0}
+IsWithin (FramedCheck options) lines = Unit {0}
+IsWithin _ lines = IsSmall lines
+
+-- P holds of the lines that a command answers with.
+abbrev pub Answers : List (List ℕ) → Args → (List ℕ → Type 0) → Type 0
+Answers lines (Canon options) P = (t : Tree) × ValueOf lines options t × P (canonical_line t)
+Answers lines (Check options) P = (yes : Bool) × CheckOf lines options yes × P (check_line yes)
+Answers lines (Size options) P = (words : ℕ) × (caps : ℕ) × SizeOf lines options words caps × P (size_line words caps)
+Answers lines Frame P = (1 ≤ length lines) × (length lines ≤ max_segments) × P (frame_line (message lines))
+Answers lines Unframe P = (S : Segments) × HoldsFrame lines S × P (segment_lines S)
+Answers lines (FramedCanon options) P = (t : Tree) × ValueOf lines options t × P (frame_line (encoding (trim t) ∷ []))
+Answers lines (FramedCheck options) P = (yes : Bool) × TellsCanonical lines yes × P (message_line yes)
+
+-- The frame of a message that was made is written as a line, of which P holds.
+abbrev pub AnswersFrame : View → (List ℕ → Type 0) → Type 0
+AnswersFrame made P = (S : Segments) → made.words ≡ S → P (frame_line S)
+
+-- Wherever this holds there is an answer: there is a value whose canonical words fit a segment; canonical words; a size; as many
+-- segments as a frame holds; a frame; and, where that is of one segment, a canonical message in it whose test the limits cover.
+abbrev pub HasAnswer : List (List ℕ) → Args → Type 0
+HasAnswer lines (Canon options) = (t : Tree) × ValueOf lines options t × (1 + word_count (trim t) ≤ max_segment_words)
+HasAnswer lines (Check options) = CheckOf lines options true
+HasAnswer lines (Size options) = IsSized lines options
+HasAnswer lines Frame = (1 ≤ length lines) × (length lines ≤ max_segments)
+HasAnswer lines Unframe = (S : Segments) × HoldsFrame lines S
+HasAnswer lines (FramedCanon options) = (t : Tree) × ValueOf lines options t × (1 + word_count (trim t) ≤ max_segment_words)
+HasAnswer lines (FramedCheck options) =
+    (S : Segments) × HoldsFrame lines S × (length S ≡ 1 → CanBeTested S (levels options.nesting_limit) (unused options.traversal_limit_in_words))
+
+-- P holds wherever the lines are within the limits, and have an answer.
+abbrev pub WhereAnswered : List (List ℕ) → Args → Type 0 → Type 0
+WhereAnswered lines args P = IsWithin args lines → HasAnswer lines args → P
+
+-- Segments have no frame: one is too large or there are too many for a reader, or there is none or too many for a frame.
+pub data RefusesToFrame (lines : List (List ℕ)) (r : Refusal) : Type 0 where
+  beyond_limits : (w : ℕ) → r ≡ Layout (MessageTooLarge w) → (IsSmall lines → ⊥) → RefusesToFrame lines r
+  wrong_number : (e : FrameError) → r ≡ NoFrameFor e → IsRefusedNumber (length lines) e → RefusesToFrame lines r
+
+-- No frame is read: there is no line; it is empty; or it begins with no frame, for the first reason that stands.
+pub data RefusesFrame (lines : List (List ℕ)) (r : Refusal) : Type 0 where
+  no_line : r ≡ NoMessage → lines ≡ [] → RefusesFrame lines r
+  empty_line : r ≡ NoMessage → lines ≡ [] ∷ [] → RefusesFrame lines r
+  no_frame : (line : List ℕ) (e : FrameError) → r ≡ NoFrameFor e → lines ≡ line ∷ [] → NoFrame line max_frame_words e → RefusesFrame lines r
+
+-- The message whose frame the only line holds has one segment, and its test is refused.
+pub record RefusesFramedTest (lines : List (List ℕ)) (options : ReaderOptions) (r : Refusal) : Type 0 where
+  pub message : Segments
+  pub kind : ErrorKind
+  pub after : Meter
+  pub holds : HoldsFrame lines message
+  pub named : r ≡ Layout kind
+  pub refused : RefusesTest message (levels options.nesting_limit) (unused options.traversal_limit_in_words) after kind
+
+-- The message is refused as a command refuses it that reads a value.
+abbrev pub RefusesLines : List (List ℕ) → Args → Refusal → Type 0
+RefusesLines lines args r = (k : ErrorKind) × (r ≡ Layout k) × RefusesMessage lines args k
+
+-- Why a command refuses lines. The frame of a canonical copy is refused where the copy is.
+abbrev pub WhyRefused : List (List ℕ) → Args → Refusal → Type 0
+WhyRefused lines (Canon options) r = RefusesLines lines (Canon options) r
+WhyRefused lines (Check options) r = RefusesLines lines (Check options) r
+WhyRefused lines (Size options) r = RefusesLines lines (Size options) r
+WhyRefused lines Frame r = RefusesToFrame lines r
+WhyRefused lines Unframe r = RefusesFrame lines r
+WhyRefused lines (FramedCanon options) r = RefusesLines lines (Canon options) r
+WhyRefused lines (FramedCheck options) r = RefusesFrame lines r ⊎ RefusesFramedTest lines options r
+
+-- Lines are refused, and P holds of the line that names the refusal.
+abbrev pub NamesRefusal : List (List ℕ) → Args → (List ℕ → Type 0) → Type 0
+NamesRefusal lines args P = (r : Refusal) × WhyRefused lines args r × P (refusal_line r)
+
+-- Memory was refused once more, from a count to another, and P holds of the line that says so.
+abbrev pub WantsMemory : ℕ → ℕ → (List ℕ → Type 0) → Type 0
+WantsMemory old new P = (new ≡ one_more old) × P (refusal_line (Layout AllocationFailed))
+
+-- Memory was refused once more, or that is not so, and lines are refused; and P holds of the line that names the refusal.
+abbrev pub AnswersRefusal : List (List ℕ) → Args → ℕ → ℕ → (List ℕ → Type 0) → Type 0
+AnswersRefusal lines args old new P = WantsMemory old new P ⊎ (NamesRefusal lines args P × (new ≡ old))

@@ -1,0 +1,130 @@
+//! Frames and segments as lines of hex digits ("Serialization Over a Stream").
+ghost use Rattle.std.specs.Prelude.{◌≡◌, ◌<◌, ◌≤◌, ◌-◌, ◌/◌, ◌^◌, ◌++◌, false, true, length, replicate, OnOk, OnErr};
+ghost use Rattle.std.specs.Int.{to_le_bytes, w32};
+ghost use Rattle.hex.specs.Hex.{encode_lower};
+ghost use Rattle.capnp_format.specs.Bytes.{message, words_of};
+ghost use Rattle.capnp_format.specs.Segments.{segment};
+ghost use Rattle.capnp_arena.specs.Limits.{IsSmall};
+ghost use Rattle.capnp_framing.specs.Frames.{contents, lengths, max_segments, padding_size};
+ghost use Rattle.capnp_framing.specs.Writing.{Prints};
+ghost use Rattle.capnp_layout.specs.Commands.{frame_line, segment_lines};
+
+use super::writing::{write_digits, write_words};
+use crate::devices::{DeviceFault, Output, write_all};
+use capnp_arena::arena::ReaderSegments;
+
+/// The bytes of a segment. None where there is no such segment.
+fn segment_at<S: ReaderSegments>(segments: &S, id: u32) -> &[u8]
+    requires { IsSmall (S.segments segments.now) }
+    ensures words { id < length (S.segments segments.now) → words_of result.now ≡ segment (message (S.segments segments.now)) id }
+    ensures short { length result.now / 8 < 2 ^ 32 }
+{
+    match segments.get_segment(id) {
+        Some(bytes) => bytes,
+        None => &[],
+    }
+}
+
+/// Writes the bytes of a number, the lowest first, as eight hex digits.
+fn write_number<W: Output>(output: &mut W, number: u32) -> Result<(), DeviceFault>
+    requires { W.has_failed output.old ≡ false }
+    ensures written { OnOk result (Prints W.Output output.old output.new (encode_lower (to_le_bytes w32 number))) }
+    ensures works { OnOk result (W.has_failed output.new ≡ false) }
+    ensures fails { OnErr result (W.has_failed output.new ≡ true) }
+{
+    let mut digits = [0u8; 8];
+    let _ = hex::encode_to_slice(number.to_le_bytes().as_slice(), &mut digits);
+    write_all(output, &digits)
+}
+
+/// Writes the length of each segment in words.
+fn write_lengths<W: Output, S: ReaderSegments>(
+    output: &mut W,
+    segments: &S,
+    count: u32,
+) -> Result<(), DeviceFault>
+    requires works { W.has_failed output.old ≡ false }
+    requires small { IsSmall (S.segments segments.now) }
+    requires count { count ≡ length (S.segments segments.now) }
+    ensures written { OnOk result (Prints W.Output output.old output.new (encode_lower (lengths (message (S.segments segments.now))))) }
+    ensures works { OnOk result (W.has_failed output.new ≡ false) }
+    ensures fails { OnErr result (W.has_failed output.new ≡ true) }
+{
+    for i in 0..count {
+        let words = segment_at(segments, i).len() / 8;
+        write_number(output, words as u32)?;
+    }
+    Ok(())
+}
+
+/// Writes the padding behind so many lengths, which is zero.
+fn write_padding<W: Output>(output: &mut W, count: u32) -> Result<(), DeviceFault>
+    requires works { W.has_failed output.old ≡ false }
+    requires few { count ≤ max_segments }
+    ensures written { OnOk result (Prints W.Output output.old output.new (encode_lower (replicate (padding_size count) 0))) }
+    ensures works { OnOk result (W.has_failed output.new ≡ false) }
+    ensures fails { OnErr result (W.has_failed output.new ≡ true) }
+{
+    if count % 2 == 0 {
+        write_number(output, 0)
+    } else {
+        Ok(())
+    }
+}
+
+/// Writes the words of all segments, one behind the other.
+fn write_contents<W: Output, S: ReaderSegments>(
+    output: &mut W,
+    segments: &S,
+    count: u32,
+) -> Result<(), DeviceFault>
+    requires works { W.has_failed output.old ≡ false }
+    requires small { IsSmall (S.segments segments.now) }
+    requires count { count ≡ length (S.segments segments.now) }
+    ensures written { OnOk result (Prints W.Output output.old output.new (encode_lower (contents (message (S.segments segments.now))))) }
+    ensures works { OnOk result (W.has_failed output.new ≡ false) }
+    ensures fails { OnErr result (W.has_failed output.new ≡ true) }
+{
+    for i in 0..count {
+        write_digits(output, segment_at(segments, i))?;
+    }
+    Ok(())
+}
+
+/// Writes the frame of a message as one line of hex digits. Its padding is zero.
+pub(crate) fn write_frame<W: Output, S: ReaderSegments>(
+    output: &mut W,
+    segments: &S,
+) -> Result<(), DeviceFault>
+    requires works { W.has_failed output.old ≡ false }
+    requires small { IsSmall (S.segments segments.now) }
+    requires some { 1 ≤ length (S.segments segments.now) }
+    requires few { length (S.segments segments.now) ≤ max_segments }
+    ensures written { OnOk result (Prints W.Output output.old output.new (frame_line (message (S.segments segments.now)))) }
+    ensures works { OnOk result (W.has_failed output.new ≡ false) }
+    ensures fails { OnErr result (W.has_failed output.new ≡ true) }
+{
+    let count = segments.len() as u32;
+    write_number(output, count - 1)?;
+    write_lengths(output, segments, count)?;
+    write_padding(output, count)?;
+    write_contents(output, segments, count)?;
+    write_all(output, b"\n")
+}
+
+/// Writes a line of hex digits for each segment of a message.
+pub(crate) fn write_segments<W: Output, S: ReaderSegments>(
+    output: &mut W,
+    segments: &S,
+) -> Result<(), DeviceFault>
+    requires works { W.has_failed output.old ≡ false }
+    requires small { IsSmall (S.segments segments.now) }
+    ensures written { OnOk result (Prints W.Output output.old output.new (segment_lines (message (S.segments segments.now)))) }
+    ensures works { OnOk result (W.has_failed output.new ≡ false) }
+    ensures fails { OnErr result (W.has_failed output.new ≡ true) }
+{
+    for i in 0..segments.len() as u32 {
+        write_words(output, segment_at(segments, i))?;
+    }
+    Ok(())
+}

@@ -1,0 +1,30 @@
+//! Why the program refuses what it is given.
+ghost use Rattle.std.specs.Prelude.{◌≡◌};
+ghost use Rattle.capnp_layout.specs.Refusals.{refusal_name};
+
+use capnp_framing::framing::FrameError;
+use capnp_words::error::ErrorKind;
+
+/// Why a command refuses what it is given.
+#[derive(Clone, Copy, Debug, PartialEq, Eq)]
+pub enum Refusal {
+    /// The segments aren't read, or what they mean isn't.
+    Layout(ErrorKind),
+    /// The frame isn't read, or the segments make none.
+    Frame(FrameError),
+    /// There is no frame to be read: the input has no line, or an empty one.
+    NoMessage,
+}
+
+impl Refusal {
+    /// The name of the refusal.
+    pub fn name(&self) -> &'static str
+        ensures { result.now ≡ refusal_name self.now }
+    {
+        match self {
+            Refusal::Layout(kind) => kind.name(),
+            Refusal::Frame(error) => error.name(),
+            Refusal::NoMessage => "NoMessage",
+        }
+    }
+}
