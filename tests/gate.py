@@ -17,10 +17,12 @@ import subprocess
 import sys
 
 TOP = pathlib.Path(__file__).resolve().parents[1]
-# What is run over a program that `rt ci` built: its name, the script, and the program.
+TOOL, ROWS, RUNS = (TOP / f'crates/{name}/out/{name}' for name in ('layout_tool', 'layout_rows', 'layout_runs'))
+# What is run over programs that `rt ci` built: its name, the script, and the programs.
 OVER_PROGRAMS = (
-    ('vectors', TOP / 'tests/vectors/run.py', TOP / 'crates/layout_tool/out/layout_tool'),
-    ('rows', TOP / 'tests/rows/run.py', TOP / 'crates/layout_rows/out/layout_rows'),
+    ('vectors', TOP / 'tests/vectors/run.py', (TOOL,)),
+    ('rows', TOP / 'tests/rows/run.py', (ROWS,)),
+    ('hostile', TOP / 'tests/hostile/run.py', (RUNS, ROWS)),
 )
 COUNTS = re.compile(r'(\d+) passed, (\d+) failed')
 
@@ -59,11 +61,12 @@ def counted(name, command):
     return passed, failed
 
 
-def over_program(name, script, program):
-    if program.is_file():
-        return counted(name, [sys.executable, str(script), str(program)])
-    say(f'{name}: not run, since no {program.relative_to(TOP)} was built')
-    return 0, 1
+def over_programs(name, script, programs):
+    for program in programs:
+        if not program.is_file():
+            say(f'{name}: not run, since no {program.relative_to(TOP)} was built')
+            return 0, 1
+    return counted(name, [sys.executable, str(script), *map(str, programs)])
 
 
 def main():
@@ -71,9 +74,9 @@ def main():
     sys.stdout.reconfigure(encoding='utf-8', errors='surrogateescape')
     if sys.argv[1:] not in ([], ['--anew']):
         sys.exit(__doc__)
-    for _, _, program in OVER_PROGRAMS:
+    for program in (TOOL, ROWS, RUNS):
         remove(program)
-    parts = [counted('rt ci', ['rt', 'ci', *sys.argv[1:]]), *(over_program(*it) for it in OVER_PROGRAMS)]
+    parts = [counted('rt ci', ['rt', 'ci', *sys.argv[1:]]), *(over_programs(*it) for it in OVER_PROGRAMS)]
     passed, failed = (sum(it) for it in zip(*parts))
     say(f'{passed} passed, {failed} failed')
     return 1 if failed else 0

@@ -1,7 +1,8 @@
-//! The program `layout_rows`: answers rows of reading and building calls, a line of standard input by a
+//! The program `layout_rows`: answers rows of reading and building calls, and audits messages, a line of standard input by a
 //! line of standard output. docs/ROWS.md says what a line holds.
 #![tactic(auto)]
 
+mod audits;
 mod builds;
 mod edits;
 mod elements;
@@ -30,6 +31,8 @@ enum Command {
     Edits,
     /// A message that is built, and calls that build it.
     Builds,
+    /// The segments of a message, which a builder made or not.
+    Audits,
 }
 
 fn main(rt: HostRuntime) -> ExitCode {
@@ -67,6 +70,7 @@ fn asked(rt: &HostRuntime) -> io::Result<Option<Command>> {
         "reads" => Some(Command::Reads),
         "edits" => Some(Command::Edits),
         "builds" => Some(Command::Builds),
+        "audits" => Some(Command::Audits),
         _ => None,
     })
 }
@@ -91,6 +95,7 @@ fn answer(alloc: Global, command: Command, line: &str) -> Result<String, AllocEr
         Command::Reads => reads::answer(alloc, line),
         Command::Edits => edits::answer(alloc, line),
         Command::Builds => builds::answer(alloc, line),
+        Command::Audits => audits::answer(alloc, line),
     };
     match answered {
         Ok(text) => Ok(text),

@@ -94,7 +94,7 @@ impl Reading {
         self.out.text(" ");
         match self.limiter.left() {
             Some(words) => self.out.number(words),
-            None => self.unfit(),
+            None => self.out.text("none"),
         }
         self.out.text(" ");
         self.out.number(self.limiter.followed());

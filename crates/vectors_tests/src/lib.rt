@@ -1,8 +1,6 @@
-//! Tests of layout_vectors, by its public calls: which segments its audit takes for those of a message
-//! that a builder made, and how many segments its allocator hands out.
+//! Tests of layout_vectors, by its public calls: how many segments its allocator hands out. What its audit answers, rows
+//! show.
 #![tactic(auto)]
 
-#[cfg(test)]
-mod audits;
 #[cfg(test)]
 mod limits;

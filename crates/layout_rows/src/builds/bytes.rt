@@ -68,24 +68,38 @@ fn init<A: BuilderArena>(
     first: &[u8],
     out: &mut Output,
 ) -> Result<Option<Place>, Fault> {
-    let pointer = pointer(arena, place)?;
     if first.len() > count as usize {
         return Err(Fault::Unfit);
     }
-    let made = match blob {
-        Blob::Text if count < LIST_LIMIT - 1 => pointer.init_text(count),
-        Blob::Data if count < LIST_LIMIT => pointer.init_data(count),
-        _ => return Err(Fault::Unfit),
-    };
-    match made {
+    match made(arena, place, blob, count)? {
         Ok(bytes) => {
-            for (to, from) in bytes.iter_mut().zip(first) {
-                *to = *from;
-            }
+            write_first(bytes, first);
             out.number(bytes.len());
             Ok(None)
         }
         Err(kind) => refuse(kind, out),
+    }
+}
+
+// The bytes of a text or of data that is made, to be written.
+fn made<'a, A: BuilderArena>(
+    arena: &'a mut A,
+    place: PointerPlace,
+    blob: Blob,
+    count: u32,
+) -> Result<Result<&'a mut [u8], ErrorKind>, Fault> {
+    let pointer = pointer(arena, place)?;
+    match blob {
+        Blob::Text if count < LIST_LIMIT - 1 => Ok(pointer.init_text(count)),
+        Blob::Data if count < LIST_LIMIT => Ok(pointer.init_data(count)),
+        _ => Err(Fault::Unfit),
+    }
+}
+
+// Writes bytes over the first of others.
+fn write_first(bytes: &mut [u8], first: &[u8]) {
+    for (to, from) in bytes.iter_mut().zip(first) {
+        *to = *from;
     }
 }
 
@@ -124,8 +138,8 @@ fn find<A: BuilderArena>(
     };
     match found {
         Ok(bytes) => {
-            let numbers = [bytes.segment, bytes.start, bytes.length];
-            put_numbers(&numbers.map(u64::from), out);
+            let (segment, start, length) = (bytes.segment, bytes.start, bytes.length);
+            put_numbers(&[segment.into(), start.into(), length.into()], out);
             Ok(None)
         }
         Err(kind) => refuse(kind, out),

@@ -160,19 +160,35 @@ fn message_call<'a>(name: &str, arguments: &[&str]) -> Result<Option<Call<'a>>, 
         ("len", []) => MessageCall::Len,
         ("refused", []) => MessageCall::Refused,
         ("size", []) => MessageCall::Size,
+        _ => return segment_call(name, arguments),
+    };
+    Ok(Some(Call::Message(call)))
+}
+
+/// A call of the message that names a segment.
+fn segment_call<'a>(name: &str, arguments: &[&str]) -> Result<Option<Call<'a>>, Fault> {
+    let call = match (name, arguments) {
+        ("pointer_at", [segment, word]) => pointer_at(segment, word)?,
         ("allocated", [segment]) => MessageCall::Allocated(parse::number(segment)?),
-        ("write_allocated", [segment, index, byte]) => MessageCall::WriteAllocated(
-            parse::number(segment)?,
-            parse::number(index)?,
-            parse::number(byte)?,
-        ),
-        ("pointer_at", [segment, word]) => MessageCall::PointerAt(PointerPlace {
-            segment: parse::number(segment)?,
-            word: parse::number(word)?,
-        }),
+        ("write_allocated", [segment, index, byte]) => write_allocated(segment, index, byte)?,
         _ => return Ok(None),
     };
     Ok(Some(Call::Message(call)))
+}
+
+fn pointer_at(segment: &str, word: &str) -> Result<MessageCall, Fault> {
+    Ok(MessageCall::PointerAt(PointerPlace {
+        segment: parse::number(segment)?,
+        word: parse::number(word)?,
+    }))
+}
+
+fn write_allocated(segment: &str, index: &str, byte: &str) -> Result<MessageCall, Fault> {
+    Ok(MessageCall::WriteAllocated(
+        parse::number(segment)?,
+        parse::number(index)?,
+        parse::number(byte)?,
+    ))
 }
 
 /// A call of a pointer.

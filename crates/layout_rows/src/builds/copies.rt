@@ -1,4 +1,5 @@
 //! Calls that copy from another message.
+ghost use Rattle.capnp_builders.specs.Building.{built, IsThere};
 
 use super::call::Copying;
 use super::place::{Place, pointer, structure};
@@ -6,9 +7,11 @@ use crate::output::Output;
 use crate::parse::{self, Fault};
 use crate::source::SourceText;
 use capnp_arena::arena::{BuilderArena, ReaderArena, ReaderArenaImpl, SegmentArray};
+use capnp_builders::builders::PointerBuilder;
 use capnp_readers::readers::{PointerPlace, PointerReader, StructPlace};
 use capnp_words::error::ErrorKind;
 use capnp_words::read_limiter::ReadLimiter;
+use capnp_words::wire_pointer::ElementSize;
 use std::alloc::Global;
 
 /// Where a copy goes.
@@ -110,16 +113,41 @@ fn copy_value<A: BuilderArena, B: ReaderArena>(
     lim: &mut ReadLimiter,
 ) -> Result<Outcome, Fault> {
     let mut pointer = pointer(arena, place)?;
-    match copying {
-        Copying::Value => Ok(Outcome::Copied(pointer.copy_from(root, lim, canonical))),
-        Copying::Struct => match root.get_struct(lim, None) {
-            Ok(value) => Ok(Outcome::Copied(pointer.set_struct(&value, lim, canonical))),
-            Err(kind) => Ok(Outcome::NoSource(kind)),
-        },
-        Copying::List(size) => match root.get_list(lim, size, None) {
-            Ok(value) => Ok(Outcome::Copied(pointer.set_list(&value, lim, canonical))),
-            Err(kind) => Ok(Outcome::NoSource(kind)),
-        },
+    Ok(match copying {
+        Copying::Value => Outcome::Copied(pointer.copy_from(root, lim, canonical)),
+        Copying::Struct => copy_struct(pointer, canonical, root, lim),
+        Copying::List(size) => copy_list(pointer, size, canonical, root, lim),
+    })
+}
+
+// Makes a pointer a copy of the struct that another one leads to.
+fn copy_struct<A: BuilderArena, B: ReaderArena>(
+    mut pointer: PointerBuilder<'_, A>,
+    canonical: bool,
+    root: PointerReader<'_, B>,
+    lim: &mut ReadLimiter,
+) -> Outcome
+    requires { IsThere (built A.view pointer) }
+{
+    match root.get_struct(lim, None) {
+        Ok(value) => Outcome::Copied(pointer.set_struct(&value, lim, canonical)),
+        Err(kind) => Outcome::NoSource(kind),
+    }
+}
+
+// Makes a pointer a copy of the list that another one leads to.
+fn copy_list<A: BuilderArena, B: ReaderArena>(
+    mut pointer: PointerBuilder<'_, A>,
+    size: ElementSize,
+    canonical: bool,
+    root: PointerReader<'_, B>,
+    lim: &mut ReadLimiter,
+) -> Outcome
+    requires { IsThere (built A.view pointer) }
+{
+    match root.get_list(lim, size, None) {
+        Ok(value) => Outcome::Copied(pointer.set_list(&value, lim, canonical)),
+        Err(kind) => Outcome::NoSource(kind),
     }
 }
 

@@ -1,0 +1,26 @@
+//! Whether a message is one that a builder can have made.
+
+use crate::output::Output;
+use crate::parse::{self, Fault};
+use capnp_arena::arena::SegmentArray;
+use layout_vectors::vectors::audit;
+use std::alloc::Global;
+
+/// The answer to a line of segments.
+pub fn answer(alloc: Global, line: &str) -> Result<String, Fault> {
+    let segments = parse::segments(alloc, line, ',', "")?;
+    let segments = parse::slices(alloc, segments.as_slice())?;
+    let segments = segments.as_slice();
+    if SegmentArray::new(segments).is_none() {
+        return Err(Fault::Unfit);
+    }
+    if segments.is_empty() || segments[0].len() < 8 {
+        return Err(Fault::Unfit);
+    }
+    let mut out = Output::new(alloc);
+    match audit(alloc, segments) {
+        Ok(is_built) => out.flag(is_built),
+        Err(kind) => out.refusal(kind),
+    }
+    Ok(out.into_text()?)
+}

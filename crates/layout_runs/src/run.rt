@@ -1,0 +1,129 @@
+//! One run, as a line of text asks for it.
+
+use crate::devices::{Dripping, Narrow};
+use capnp_arena::arena::{Allocator, HeapAllocator};
+use capnp_layout::tool::{self, Args, Outcome};
+use std::alloc::{AllocError, Global};
+use std::cell::Cell;
+use test_support::{Granted, TestAllocator};
+
+/// What a line asks for.
+#[derive(Drop)]
+struct Run<'l> {
+    args: Args,
+    /// How many reads succeed, of a byte each.
+    reads: usize,
+    /// How many writes succeed, of a byte each.
+    writes: usize,
+    /// How many requests for memory are granted.
+    requests: u64,
+    /// The lines of the input, parted by commas.
+    input: &'l str,
+}
+
+/// The answer to a line.
+pub fn answer(alloc: Global, line: &str) -> Result<String, AllocError> {
+    match read_run(alloc, line)? {
+        Some(run) => run_once(alloc, &run),
+        None => String::from_str(alloc, "malformed"),
+    }
+}
+
+/// The run that a line asks for.
+fn read_run(alloc: Global, line: &str) -> Result<Option<Run<'_>>, AllocError> {
+    let mut words = Vec::new(alloc);
+    for word in line.split(' ') {
+        words.push(word)?;
+    }
+    let [args, reads, writes, requests, input] = words.as_slice() else {
+        return Ok(None);
+    };
+    let Some(args) = read_args(alloc, *args)? else {
+        return Ok(None);
+    };
+    Ok(match (count(*reads), count(*writes), count(*requests)) {
+        (Some(reads), Some(writes), Some(requests)) => Some(Run {
+            args,
+            reads: reads as usize,
+            writes: writes as usize,
+            requests,
+            input: *input,
+        }),
+        _ => None,
+    })
+}
+
+/// The words behind the program's name, parted by commas.
+fn read_args(alloc: Global, text: &str) -> Result<Option<Args>, AllocError> {
+    let mut words = Vec::new(alloc);
+    for word in text.split(',') {
+        words.push(String::from_str(alloc, word)?)?;
+    }
+    Ok(tool::parse_args(words.as_slice()))
+}
+
+/// So many, or as many as there are for `none`.
+fn count(text: &str) -> Option<u64> {
+    if text == "none" {
+        Some(u64::MAX)
+    } else {
+        text.parse().ok()
+    }
+}
+
+/// The bytes of an input: its lines, each with its end. `-` is none.
+fn input_of(alloc: Global, text: &str) -> Result<String, AllocError> {
+    let mut lines = String::new(alloc);
+    if text != "-" {
+        for line in text.split(',') {
+            lines.push_str(line)?;
+            lines.push('\n')?;
+        }
+    }
+    Ok(lines)
+}
+
+/// Makes a run, and says how it ends, how many requests were refused, and what was written.
+fn run_once(alloc: Global, run: &Run<'_>) -> Result<String, AllocError> {
+    let lines = input_of(alloc, run.input)?;
+    let returned = Cell::new(0);
+    let heap = HeapAllocator::new(alloc, 0);
+    let allocator = TestAllocator::new(heap, Granted::Requests(run.requests), &returned);
+    let mut input = Dripping {
+        bytes: lines.as_bytes(),
+        reads: run.reads,
+        failed: false,
+    };
+    let mut output = Narrow {
+        bytes: Vec::new(alloc),
+        writes: run.writes,
+        failed: false,
+    };
+    let (outcome, allocator) = tool::run_with(alloc, allocator, &run.args, &mut input, &mut output);
+    let ends = match outcome {
+        Outcome::Done => "done",
+        Outcome::Refused => "refused",
+        Outcome::BadInput => "bad_input",
+        Outcome::WriteFailed => "write_failed",
+    };
+    let refused = allocator.refused();
+    let mut text = format!(in alloc; "{ends} {refused} ")?;
+    put_written(output.bytes.as_slice(), &mut text)?;
+    Ok(text)
+}
+
+/// Adds what was written, with `/` for the end of a line; `-` where that is nothing.
+fn put_written(bytes: &[u8], text: &mut String) -> Result<(), AllocError> {
+    if bytes.is_empty() {
+        return text.push('-');
+    }
+    for byte in bytes {
+        let shown = if *byte == b'\n' {
+            '/'
+        } else {
+            char::from(*byte)
+        };
+        text.push(shown)?;
+    }
+    Ok(())
+}

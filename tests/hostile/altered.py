@@ -1,0 +1,100 @@
+"""Runs of the tool over altered messages, over devices that fail, and under refused memory."""
+import json
+import re
+
+from program import answers
+
+COMMANDS = 'canon', 'check', 'size'
+LIMITS = '64,8388608'
+# A run asks for memory no more than twice as often as its input has bytes, and so often besides.
+MORE_REQUESTS = 40
+REFUSED = re.compile(r'refused 0 refused ([A-Z][A-Za-z]+)/')
+ANSWERED = {
+    'canon': re.compile(r'done 0 ([0-9a-f]{16})+/'),
+    'check': re.compile(r'done 0 (not )?canonical/'),
+    'size': re.compile(r'done 0 words \d+ caps \d+/'),
+}
+# All that a message can be refused by, where memory isn't refused.
+NAMES = {
+    'CantHandleNonStructInlineComposite', 'CannotCreateACanonicalMessageWithACapability', 'InlineCompositeListsElementsOverrunItsWordCount',
+    'InlineCompositeListsOfNonStructTypeAreNotSupported', 'InvalidSegmentId', 'MalformedDoubleFarPointer',
+    'MessageContainsOutOfBoundsPointer', 'MessageIsTooDeeplyNested', 'MessageIsTooDeeplyNestedOrContainsCycles',
+    'MessageTooLarge', 'NestingLimitExceeded', 'ReadLimitExceeded', 'UnknownPointerType',
+}
+
+
+def worked(path):
+    """The worked runs that end with an answer or a refusal: arguments, lines of the input, and the line or lines written."""
+    for line in path.open(encoding='utf-8'):
+        vector = json.loads(line)
+        lines = vector['stdin'].lower()
+        if vector['status'] in (0, 1) and re.fullmatch('([0-9a-f]*\n)*', lines):
+            yield ','.join(vector['args']), lines, vector['stdout'], vector['status']
+
+
+def shown(lines):
+    """An input as a row has it."""
+    return ','.join(lines.split('\n')[:-1]) or ('-' if not lines else '')
+
+
+def alterations(segments):
+    """The message cut behind each byte of each segment, and with each bit turned."""
+    for i, segment in enumerate(segments):
+        for end in range(len(segment)):
+            yield segments[:i] + [segment[:end]] + segments[i + 1:]
+        for bit in range(8 * len(segment)):
+            turned = bytearray(segment)
+            turned[bit // 8] ^= 1 << bit % 8
+            yield segments[:i] + [bytes(turned)] + segments[i + 1:]
+
+
+def row(command, text, reads='none', writes='none', requests='none'):
+    return f'{command} {reads} {writes} {requests} {text}'
+
+
+def altered(program, vectors, counts):
+    """Each message of the worked runs, cut and turned at every place: each command answers, or refuses by a name. What
+    `check` finds canonical `canon` copies as it stands; what `canon` writes `check` finds canonical and `canon` writes again."""
+    messages = {}
+    for lines in sorted({lines for args, lines, _, _ in vectors if args.split(',')[0] in COMMANDS}):
+        segments = [bytes.fromhex(line) for line in lines.split('\n')[:-1]]
+        for changed in alterations(segments):
+            messages[','.join(it.hex() for it in changed)] = None
+    rows = [row(f'{command},{LIMITS}', text) for text in messages for command in COMMANDS]
+    found = iter(answers(program, rows))
+    copies = {}
+    for text in messages:
+        answer = {command: next(found) for command in COMMANDS}
+        for command in COMMANDS:
+            name = REFUSED.fullmatch(answer[command])
+            holds = name[1] in NAMES if name else ANSWERED[command].fullmatch(answer[command])
+            counts.told(holds, command, text, answer[command])
+        copy = answer['canon'][len('done 0 '):-1] if answer['canon'].startswith('done') else None
+        if copy:
+            copies[copy] = None
+        if answer['check'] == 'done 0 canonical/':
+            counts.told(copy and text.split(',')[0].startswith(copy), 'canonical, and copied otherwise', text, copy)
+    again = [row(f'{command},{LIMITS}', copy) for copy in copies for command in ('check', 'canon')]
+    found = iter(answers(program, again))
+    for copy in copies:
+        counts.told(next(found) == 'done 0 canonical/', 'a copy that is not canonical', copy)
+        counts.told(next(found) == f'done 0 {copy}/', 'a copy that is copied otherwise', copy)
+
+
+def failing(program, vectors, counts):
+    """Each worked run with a reader, a writer and an allocator that fail at each call in turn."""
+    strict, granted = [], []
+    for args, lines, stdout, status in vectors:
+        text, answer = shown(lines), f"{'refused' if status else 'done'} 0 {stdout}".replace('\n', '/')
+        strict += [(row(args, text, reads=n), 'bad_input 0 -') for n in range(len(lines) + 1)]
+        strict.append((row(args, text, reads=len(lines) + 1), answer))
+        strict += [(row(args, text, writes=n), f"write_failed 0 {stdout[:n] or '-'}".replace('\n', '/')) for n in range(len(stdout))]
+        strict.append((row(args, text, writes=len(stdout)), answer))
+        requests = 2 * len(lines) + MORE_REQUESTS
+        strict.append((row(args, text, requests=requests), answer))
+        granted += [(row(args, text, requests=n), answer) for n in range(requests)]
+    found = answers(program, [line for line, _ in strict + granted])
+    for (line, wanted), got in zip(strict, found):
+        counts.told(got == wanted, line, wanted, got)
+    for (line, wanted), got in zip(granted, found[len(strict):]):
+        counts.told(got in (wanted, 'refused 1 refused AllocationFailed/'), line, wanted, got)

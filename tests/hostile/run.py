@@ -1,0 +1,44 @@
+#!/usr/bin/env python3
+"""Makes runs under hostile conditions, and prints what goes wrong.
+
+    run.py LAYOUT_RUNS LAYOUT_ROWS [--show N]
+
+LAYOUT_RUNS and LAYOUT_ROWS are the built programs of these names. Each message of the worked vectors is cut behind every
+byte and has every bit turned; its runs meet a reader, a writer and an allocator that fail at each call in turn; and the
+lists of edits and of builder calls of tests/rows are done again with segments refused from every one on. What is wanted
+of each run is said beside it; the values are read back by trees.py, apart from the crates."""
+import argparse
+import pathlib
+import sys
+
+import altered
+import growth
+from program import Counts
+
+TESTS = pathlib.Path(__file__).resolve().parents[1]
+
+
+def main():
+    parser = argparse.ArgumentParser(description=__doc__, formatter_class=argparse.RawDescriptionHelpFormatter)
+    parser.add_argument('runs')
+    parser.add_argument('rows')
+    parser.add_argument('--show', type=int, default=10)
+    options = parser.parse_args()
+    vectors = list(altered.worked(TESTS / 'vectors/worked.jsonl'))
+    rows = TESTS / 'rows'
+    total = Counts(options.show)
+    for name, part in (
+        ('altered messages', lambda: altered.altered([options.runs], vectors, total)),
+        ('devices and memory that fail', lambda: altered.failing([options.runs], vectors, total)),
+        ('edits with segments refused', lambda: growth.edited([options.rows], sorted(rows.glob('edits*.jsonl')), total)),
+        ('levels', lambda: growth.deep([options.rows], total)),
+        ('builder calls with segments refused', lambda: growth.built([options.rows], sorted(rows.glob('builds*.jsonl')), total)),
+    ):
+        before = total.passed + total.failed
+        part()
+        print(f'{name}: {total.passed + total.failed - before} runs')
+    print(f'{total.passed} passed, {total.failed} failed')
+    return 1 if total.failed else 0
+
+
+sys.exit(main())
