@@ -18,7 +18,8 @@ use capnp_words::read_limiter::ReadLimiter;
 #[tactic(auto, using(crate::proofs::Extending::extending))]
 pub fn append<A: BuilderArena>(arena: &mut A, id: u32, word: u64) -> bool
     requires { id < length (A.view arena.old).words }
-    ensures exactly { IsTrue result ↔ (length (segment (A.view arena.old).words id) + 1 ≤ (A.view arena.old).room id) }
+    ensures exactly { IsTrue result
+        ↔ (length (segment (A.view arena.old).words id) + 1 ≤ (A.view arena.old).room id) }
     ensures words { OnTrue result (A.view arena.new ≡ with_more (A.view arena.old) id (word ∷ [])) }
     ensures none { OnFalse result (A.view arena.new ≡ A.view arena.old) }
 {
@@ -35,10 +36,14 @@ pub fn append<A: BuilderArena>(arena: &mut A, id: u32, word: u64) -> bool
 #[tactic(auto, using(crate::proofs::Extending::extending))]
 pub fn append_both<A: BuilderArena>(arena: &mut A, id: u32, first: u64, second: u64) -> bool
     requires { id < length (A.view arena.old).words }
-    ensures exactly { IsTrue result ↔ (length (segment (A.view arena.old).words id) + 2 ≤ (A.view arena.old).room id) }
-    ensures words { OnTrue result (A.view arena.new ≡ with_more (A.view arena.old) id (first ∷ second ∷ [])) }
-    ensures one { length (segment (A.view arena.old).words id) + 1 ≡ (A.view arena.old).room id → A.view arena.new ≡ with_more (A.view arena.old) id (first ∷ []) }
-    ensures none { (A.view arena.old).room id ≤ length (segment (A.view arena.old).words id) → A.view arena.new ≡ A.view arena.old }
+    ensures exactly { IsTrue result
+        ↔ (length (segment (A.view arena.old).words id) + 2 ≤ (A.view arena.old).room id) }
+    ensures words { OnTrue result
+        (A.view arena.new ≡ with_more (A.view arena.old) id (first ∷ second ∷ [])) }
+    ensures one { length (segment (A.view arena.old).words id) + 1 ≡ (A.view arena.old).room id
+        → A.view arena.new ≡ with_more (A.view arena.old) id (first ∷ []) }
+    ensures none { (A.view arena.old).room id ≤ length (segment (A.view arena.old).words id)
+        → A.view arena.new ≡ A.view arena.old }
 {
     append(arena, id, first) && append(arena, id, second)
 }
@@ -46,7 +51,9 @@ pub fn append_both<A: BuilderArena>(arena: &mut A, id: u32, first: u64, second: 
 /// Writes the first two words of a segment.
 pub fn put_two<A: BuilderArena>(arena: &mut A, id: u32, first: u64, second: u64)
     requires { 2 ≤ length (segment (A.view arena.old).words id) }
-    ensures { A.view arena.new ≡ record (A.view arena.old) { words = with_word (with_word (A.view arena.old).words id 0 first) id 1 second } }
+    ensures { A.view arena.new
+        ≡ record (A.view arena.old)
+        { words = with_word (with_word (A.view arena.old).words id 0 first) id 1 second } }
 {
     arena.set_word(id, 0, first);
     arena.set_word(id, 1, second);
@@ -56,7 +63,9 @@ pub fn put_two<A: BuilderArena>(arena: &mut A, id: u32, first: u64, second: u64)
 pub fn put_either<A: BuilderArena>(arena: &mut A, id: u32, word: u64) -> u32
     requires { 2 ≤ length (segment (A.view arena.old).words id) }
     ensures kept { word ≡ 7 → (result ≡ 0) × (A.view arena.new ≡ A.view arena.old) }
-    ensures written { word ≢ 7 → (result ≡ 1) × (A.view arena.new ≡ record (A.view arena.old) { words = with_word (A.view arena.old).words id 1 word }) }
+    ensures written { word ≢ 7 → (result ≡ 1)
+        × (A.view arena.new
+        ≡ record (A.view arena.old) { words = with_word (A.view arena.old).words id 1 word }) }
 {
     if word == 7 {
         return 0;
@@ -69,7 +78,8 @@ pub fn put_either<A: BuilderArena>(arena: &mut A, id: u32, word: u64) -> u32
 #[tactic(auto, using(crate::proofs::Extending::extending))]
 pub fn try_append<A: BuilderArena>(arena: &mut A, id: u32, word: u64) -> Option<u32>
     requires { id < length (A.view arena.old).words }
-    ensures exactly { IsSome result ↔ (length (segment (A.view arena.old).words id) + 1 ≤ (A.view arena.old).room id) }
+    ensures exactly { IsSome result
+        ↔ (length (segment (A.view arena.old).words id) + 1 ≤ (A.view arena.old).room id) }
     ensures position { IfSome result (λ at. at ≡ length (segment (A.view arena.old).words id)) }
     ensures words { IsSome result → A.view arena.new ≡ with_more (A.view arena.old) id (word ∷ []) }
     ensures none { IsNone result → A.view arena.new ≡ A.view arena.old }
@@ -82,8 +92,10 @@ pub fn try_append<A: BuilderArena>(arena: &mut A, id: u32, word: u64) -> Option<
 /// Makes all allocated words of a segment zero.
 pub fn clear<A: BuilderArena>(arena: &mut A, id: u32)
     requires { id < length (A.segments arena.old) }
-    ensures words { A.segments arena.new ≡ slice_set (A.segments arena.old) id (replicate (length (slice_index_or (A.segments arena.old) id [])) 0) }
-    ensures view { A.view arena.new ≡ record (A.view arena.old) { words = (A.view arena.new).words } }
+    ensures words { A.segments arena.new ≡ slice_set (A.segments arena.old) id
+        (replicate (length (slice_index_or (A.segments arena.old) id [])) 0) }
+    ensures view { A.view arena.new
+        ≡ record (A.view arena.old) { words = (A.view arena.new).words } }
 {
     arena.segment_mut(id).fill(0);
 }
@@ -94,11 +106,14 @@ pub fn granted<A: ReaderArena>(
     words: u32,
     lim: &mut ReadLimiter,
 ) -> Result<(), ErrorKind>
-    ensures exactly { IsOk result ↔ Holds (message (A.segments arena.now)) 0 0 words × Affords (A.charging arena.now) lim.old words }
+    ensures exactly { IsOk result ↔ Holds (message (A.segments arena.now)) 0 0 words
+        × Affords (A.charging arena.now) lim.old words }
     ensures left { OnOk result (lim.new ≡ charged (A.charging arena.now) lim.old words) }
     ensures refused { OnErr result (lim.new ≡ lim.old) }
-    ensures outside { IfErr result (λ e. (Holds (message (A.segments arena.now)) 0 0 words → ⊥) → e ≡ misplaced (message (A.segments arena.now)) 0 (A.absent arena.now 0)) }
-    ensures budget { IfErr result (λ e. Holds (message (A.segments arena.now)) 0 0 words → e ≡ ReadLimitExceeded) }
+    ensures outside { IfErr result (λ e. (Holds (message (A.segments arena.now)) 0 0 words → ⊥)
+        → e ≡ misplaced (message (A.segments arena.now)) 0 (A.absent arena.now 0)) }
+    ensures budget { IfErr result (λ e. Holds (message (A.segments arena.now)) 0 0 words
+        → e ≡ ReadLimitExceeded) }
 {
     arena.contains_interval(0, 0, words as usize, lim)
 }

@@ -4,7 +4,7 @@ use Rattle.std.proofs.lemmas.List.{length-replicate}
 use Rattle.capnp_format.specs.Segments.{Segments}
 use Rattle.capnp_format.specs.Tree.{Tree, Null, Struct}
 use Rattle.capnp_format.specs.Forest.{IsForest, target}
-use Rattle.capnp_pointers.specs.declared.wire_pointer.StructSize.{StructSize}
+use Rattle.capnp_words.specs.declared.wire_pointer.StructSize.{StructSize}
 use Rattle.capnp_readers.specs.declared.readers.struct_reader.StructPlace.{StructPlace}
 use Rattle.capnp_making.specs.Made.{zeros, nulls, zero_struct}
 use Rattle.capnp_making.specs.Path.{Child, PathLeads, put_tree, tree_at}

@@ -40,8 +40,12 @@ pub fn two_structs<A: BuilderArena>(arena: &mut A, outer: StructSize, inner: Str
     requires place { IsPlace (A.view arena.old).words 0 0 }
     requires forest { (t : Tree) × IsForest (A.view arena.old).words t }
     requires some { 0 < outer.pointers }
-    ensures both { result ≡ Built.Both → IsForest (A.view arena.new).words (Struct (zeros outer.data_words) (put_tree (nulls outer.pointers) 0 (zero_struct inner))) }
-    ensures root { result ≡ Built.Root → IsForest (A.view arena.new).words (Struct (zeros outer.data_words) (put_tree (nulls outer.pointers) 0 Null)) }
+    ensures both { result ≡ Built.Both
+        → IsForest (A.view arena.new).words
+        (Struct (zeros outer.data_words) (put_tree (nulls outer.pointers) 0 (zero_struct inner))) }
+    ensures root { result ≡ Built.Root
+        → IsForest (A.view arena.new).words
+        (Struct (zeros outer.data_words) (put_tree (nulls outer.pointers) 0 Null)) }
     ensures nothing { result ≡ Built.Nothing → IsForest (A.view arena.new).words Null }
 {
     let place = match root_struct(arena, outer) {
@@ -57,9 +61,11 @@ pub fn two_structs<A: BuilderArena>(arena: &mut A, outer: StructSize, inner: Str
 /// Makes the root a struct.
 fn root_struct<A: BuilderArena>(arena: &mut A, size: StructSize) -> Result<StructPlace, ErrorKind>
     requires { IsPlace (A.view arena.old).words 0 0 }
-    ensures made { OnOk result (Puts (A.view arena.old).words (A.view arena.new).words 0 0 (zero_struct size)) }
+    ensures made { OnOk result (Puts (A.view arena.old).words (A.view arena.new).words 0 0
+        (zero_struct size)) }
     ensures leads { IfOk result (IsStructOf (A.view arena.new).words 0 0 size) }
-    ensures refused { OnErr result (Puts (A.view arena.old).words (A.view arena.new).words 0 0 Null) }
+    ensures refused { OnErr result
+        (Puts (A.view arena.old).words (A.view arena.new).words 0 0 Null) }
 {
     let mut root = PointerBuilder::get_root(arena);
     root.put_struct(size)
@@ -73,8 +79,11 @@ fn field_struct<A: BuilderArena>(
 ) -> Result<StructPlace, ErrorKind>
     requires inside { IsStructPlace (A.view arena.old).words place }
     requires some { 0 < place.pointers }
-    ensures made { OnOk result (Puts (A.view arena.old).words (A.view arena.new).words place.segment place.pointers_at (zero_struct size)) }
-    ensures refused { OnErr result (Puts (A.view arena.old).words (A.view arena.new).words place.segment place.pointers_at Null) }
+    ensures made { OnOk result (Puts (A.view arena.old).words
+        (A.view arena.new).words place.segment place.pointers_at (zero_struct size)) }
+    ensures refused { OnErr result
+        (Puts (A.view arena.old).words (A.view arena.new).words place.segment
+        place.pointers_at Null) }
 {
     let mut field = PointerBuilder {
         arena,
@@ -89,7 +98,9 @@ fn field_struct<A: BuilderArena>(
 pub fn read_back<'a, L: Allocator>(
     built: &'a BuilderArenaImpl<L>,
 ) -> Result<ReaderArenaImpl<OutputSegments<'a>>, ErrorKind>
-    ensures { IfOk result (λ r. MeansTheSame (⟦<BuilderArenaImpl<L> as BuilderArena>⟧.view built.now).words (message (⟦<ReaderArenaImpl<OutputSegments<'a>> as ReaderArena>⟧.segments r))) }
+    ensures { IfOk result (λ r.
+        MeansTheSame (⟦<BuilderArenaImpl<L> as BuilderArena>⟧.view built.now).words
+        (message (⟦<ReaderArenaImpl<OutputSegments<'a>> as ReaderArena>⟧.segments r))) }
 {
     match built.get_segments_for_output() {
         Ok(output) => Ok(ReaderArenaImpl::new(output, ReaderOptions::default())),
@@ -105,7 +116,10 @@ pub fn edited<'a, L: Allocator>(
     outcomes: &mut [Option<ErrorKind>],
 ) -> Result<ReaderArenaImpl<OutputSegments<'a>>, ErrorKind>
     requires { length outcomes.old ≡ length edits.now }
-    ensures { IfOk result (λ r. AreReadBack (⟦<BuilderArenaImpl<L> as BuilderArena>⟧.view built.old).words (⟦<ReaderArenaImpl<OutputSegments<'a>> as ReaderArena>⟧.segments r) edits.now outcomes.new) }
+    ensures { IfOk result (λ r.
+        AreReadBack (⟦<BuilderArenaImpl<L> as BuilderArena>⟧.view built.old).words
+        (⟦<ReaderArenaImpl<OutputSegments<'a>> as ReaderArena>⟧.segments r) edits.now
+        outcomes.new) }
 {
     apply_all(&mut *built, edits, outcomes);
     read_back(built)

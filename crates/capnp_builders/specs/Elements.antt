@@ -4,8 +4,8 @@ use Rattle.capnp_arena.specs.View.{View}
 use Rattle.capnp_format.specs.Segments.{segment}
 use Rattle.capnp_format.specs.Numbers.{element_bits}
 use Rattle.capnp_making.specs.Fields.{field_in}
-use Rattle.capnp_pointers.specs.Sizes.{size_number}
-use Rattle.capnp_pointers.specs.declared.wire_pointer.ElementSize.{ElementSize}
+use Rattle.capnp_words.specs.Sizes.{size_number}
+use Rattle.capnp_words.specs.declared.wire_pointer.ElementSize.{ElementSize}
 use Rattle.capnp_readers.specs.Sections.{step_bits}
 use Rattle.capnp_readers.specs.declared.readers.list_reader.ListPlace.{ListPlace}
 use Rattle.capnp_builders.specs.Places.{Field, field, WritesField}

@@ -3,8 +3,8 @@ use Rattle.std.specs.Prelude.{◌≡◌, ℕ, ◌*◌, List, Option, Some, None,
 use Rattle.std.specs.Borrow.{Bor}
 use Rattle.capnp_format.specs.Forest.{target}
 use Rattle.capnp_format.specs.Tree.{Tree}
-use Rattle.capnp_pointers.specs.declared.wire_pointer.ElementSize.{ElementSize}
-use Rattle.capnp_pointers.specs.declared.wire_pointer.ElementSize.TheVariants.{Void}
+use Rattle.capnp_words.specs.declared.wire_pointer.ElementSize.{ElementSize}
+use Rattle.capnp_words.specs.declared.wire_pointer.ElementSize.TheVariants.{Void}
 use Rattle.capnp_words.specs.declared.error.ErrorKind.{ErrorKind}
 use Rattle.capnp_making.specs.Existing.{list_in, data_in, text_in}
 use Rattle.capnp_making.specs.InPlace.{bytes_of}

@@ -1,6 +1,6 @@
 -- What a reader of a message that is built reads.
 use Rattle.std.specs.Prelude.{◌≡◌, ◌*◌}
-use Rattle.capnp_pointers.specs.declared.wire_pointer.ElementSize.TheVariants.{InlineComposite}
+use Rattle.capnp_words.specs.declared.wire_pointer.ElementSize.TheVariants.{InlineComposite}
 use Rattle.capnp_arena.specs.declared.arena.reader_arena.ReaderArena.{Ghosts}
 use Rattle.capnp_objects.specs.declared.source.Source.{Source}
 use Rattle.capnp_objects.specs.declared.source.Source.TheVariants.{Arena, Default, Nothing}

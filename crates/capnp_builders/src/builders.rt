@@ -7,7 +7,7 @@ ghost use Rattle.capnp_format.specs.Word.{capability_word, struct_word};
 ghost use Rattle.capnp_format.specs.Numbers.{words_for};
 ghost use Rattle.capnp_making.specs.Existing.{AreInside, capability_of};
 ghost use Rattle.capnp_making.specs.InPlace.{bytes_of, rewritten, AreBytes, AreZeroOnce, Overwrites};
-ghost use Rattle.capnp_pointers.specs.Sizes.{size_number};
+ghost use Rattle.capnp_words.specs.Sizes.{size_number};
 ghost use Rattle.capnp_making.specs.Made.{zero_struct, zero_structs, zero_list, list_words};
 ghost use Rattle.capnp_making.specs.Memory.{HasRoom, KeepsMemory, TakesWords, SpendsMemory, IsRefusedFor, CanRefuse, LeavesNull};
 ghost use Rattle.capnp_making.specs.Stored.{ZeroesOld};
@@ -90,7 +90,8 @@ impl<'a, A: BuilderArena> PointerBuilder<'a, A> {
 
     /// The same pointer, for as long as it is borrowed.
     pub fn reborrow(&mut self) -> PointerBuilder<'_, A>
-        ensures* lends { sem 𝓛 (follows (the_row (record { mir = named 1; lft = [] }) A.row) A.row self.entry.ghost_name result.arena.ghost_name (with_arena self.old)) }
+        ensures* lends { sem 𝓛 (follows (the_row (record { mir = named 1; lft = [] }) A.row) A.row
+            self.entry.ghost_name result.arena.ghost_name (with_arena self.old)) }
         ensures now { result.arena.now ≡ self.old.arena.now }
         ensures place { (result.segment ≡ self.old.segment) × (result.at ≡ self.old.at) }
     {
@@ -103,7 +104,8 @@ impl<'a, A: BuilderArena> PointerBuilder<'a, A> {
     /// Whether the pointer is zero.
     pub fn is_null(&self) -> bool
         requires { IsPlace (A.view self.now.arena.now).words self.now.segment self.now.at }
-        ensures { IsTrue result ↔ (word_at (A.view self.now.arena.now).words self.now.segment self.now.at ≡ 0) }
+        ensures { IsTrue result
+            ↔ (word_at (A.view self.now.arena.now).words self.now.segment self.now.at ≡ 0) }
     {
         words::word_at(segment_bytes(&*self.arena, self.segment), self.at as usize) == 0
     }
@@ -111,7 +113,8 @@ impl<'a, A: BuilderArena> PointerBuilder<'a, A> {
     /// The pointer, to be read: nothing is charged, and `i32::MAX` levels may be entered.
     pub fn as_reader(&self) -> PointerReader<'_, A>
         ensures reads { IsArenaOf result.source self.now.arena.now }
-        ensures place { (result.place.segment ≡ self.now.segment) × (result.place.at ≡ self.now.at) }
+        ensures place { (result.place.segment ≡ self.now.segment)
+            × (result.place.at ≡ self.now.at) }
         ensures nesting { result.nesting_limit ≡ i32.MAX }
     {
         reader_at(&*self.arena, self.segment, self.at)
@@ -121,7 +124,8 @@ impl<'a, A: BuilderArena> PointerBuilder<'a, A> {
     /// may be entered.
     pub fn into_reader(self) -> PointerReader<'a, A>
         ensures reads { IsArenaOf result.source self.entry.arena.now }
-        ensures place { (result.place.segment ≡ self.entry.segment) × (result.place.at ≡ self.entry.at) }
+        ensures place { (result.place.segment ≡ self.entry.segment)
+            × (result.place.at ≡ self.entry.at) }
         ensures nesting { result.nesting_limit ≡ i32.MAX }
     {
         let PointerBuilder { arena, segment, at } = self;
@@ -134,7 +138,8 @@ impl<'a, A: BuilderArena> PointerBuilder<'a, A> {
         requires { IsThere (built A.view self.old) }
         ensures cleared { Becomes (built A.view self.old) (built A.view self.new) Null }
         ensures null { IsNull (built A.view self.new) }
-        ensures only { IsPruned (A.view self.old.arena.now).words (A.view self.new.arena.now).words }
+        ensures only { IsPruned (A.view self.old.arena.now).words
+            (A.view self.new.arena.now).words }
         ensures there { IsThere (built A.view self.new) }
         ensures limits { KeepsLimits (A.view self.old.arena.now) (A.view self.new.arena.now) }
         ensures same { self.new.arena.ghost_name ≡ self.old.arena.ghost_name }
@@ -147,7 +152,8 @@ impl<'a, A: BuilderArena> PointerBuilder<'a, A> {
     pub fn set_capability(&mut self, index: u32)
         requires { IsThere (built A.view self.old) }
         ensures made { Becomes (built A.view self.old) (built A.view self.new) (Capability index) }
-        ensures only { IsPrunedBut (A.view self.old.arena.now).words (A.view self.new.arena.now).words self.old.segment self.old.at (capability_word index) }
+        ensures only { IsPrunedBut (A.view self.old.arena.now).words
+            (A.view self.new.arena.now).words self.old.segment self.old.at (capability_word index) }
         ensures there { IsThere (built A.view self.new) }
         ensures limits { KeepsLimits (A.view self.old.arena.now) (A.view self.new.arena.now) }
         ensures same { self.new.arena.ghost_name ≡ self.old.arena.ghost_name }
@@ -164,17 +170,29 @@ impl<'a, A: BuilderArena> PointerBuilder<'a, A> {
     #[inline(always)]
     pub fn put_struct(&mut self, size: StructSize) -> Result<StructPlace, ErrorKind>
         requires { IsThere (built A.view self.old) }
-        ensures made { OnOk result (Becomes (built A.view self.old) (built A.view self.new) (zero_struct size)) }
-        ensures leads { IfOk result (IsStructOf (A.view self.new.arena.now).words self.old.segment self.old.at size) }
-        ensures fits { HasRoom (A.view self.old.arena.now) self.old.segment (size.data_words + size.pointers) → IsOk result }
-        ensures granted { OnOk result (KeepsMemory (A.view self.old.arena.now) (A.view self.new.arena.now)) }
-        ensures taken { OnOk result (TakesWords (A.view self.old.arena.now) (A.view self.new.arena.now) self.old.segment (size.data_words + size.pointers)) }
-        ensures behind { OnOk result (PutsBehind (calling A.view self.old self.new) (size.data_words + size.pointers)) }
-        ensures empty { size.data_words + size.pointers ≡ 0 → OnOk result (HasWord (built A.view self.new) (struct_word (2 ^ 30 - 1) 0 0)) }
-        ensures named { IfErr result (IsRefusedFor (A.view self.old.arena.now) (A.view self.new.arena.now) (size.data_words + size.pointers)) }
-        ensures zeroed { OnOk result (ZeroesOld (A.view self.old.arena.now).words (A.view self.new.arena.now).words self.old.segment self.old.at) }
-        ensures refused { OnErr result (Becomes (built A.view self.old) (built A.view self.new) Null) }
-        ensures only { OnErr result (IsPruned (A.view self.old.arena.now).words (A.view self.new.arena.now).words) }
+        ensures made { OnOk result (Becomes (built A.view self.old) (built A.view self.new)
+            (zero_struct size)) }
+        ensures leads { IfOk result (IsStructOf (A.view self.new.arena.now).words self.old.segment
+            self.old.at size) }
+        ensures fits { HasRoom (A.view self.old.arena.now) self.old.segment
+            (size.data_words + size.pointers) → IsOk result }
+        ensures granted { OnOk result (KeepsMemory (A.view self.old.arena.now)
+            (A.view self.new.arena.now)) }
+        ensures taken { OnOk result (TakesWords (A.view self.old.arena.now)
+            (A.view self.new.arena.now) self.old.segment (size.data_words + size.pointers)) }
+        ensures behind { OnOk result (PutsBehind (calling A.view self.old self.new)
+            (size.data_words + size.pointers)) }
+        ensures empty { size.data_words + size.pointers ≡ 0
+            → OnOk result (HasWord (built A.view self.new) (struct_word (2 ^ 30 - 1) 0 0)) }
+        ensures named { IfErr result
+            (IsRefusedFor (A.view self.old.arena.now) (A.view self.new.arena.now)
+            (size.data_words + size.pointers)) }
+        ensures zeroed { OnOk result (ZeroesOld (A.view self.old.arena.now).words
+            (A.view self.new.arena.now).words self.old.segment self.old.at) }
+        ensures refused { OnErr result
+            (Becomes (built A.view self.old) (built A.view self.new) Null) }
+        ensures only { OnErr result
+            (IsPruned (A.view self.old.arena.now).words (A.view self.new.arena.now).words) }
         ensures same { self.new.arena.ghost_name ≡ self.old.arena.ghost_name }
         ensures builder { (self.new.segment ≡ self.old.segment) × (self.new.at ≡ self.old.at) }
     {
@@ -213,16 +231,29 @@ impl<'a, A: BuilderArena> PointerBuilder<'a, A> {
     pub fn init_struct(mut self, size: StructSize) -> Result<StructBuilder<'a, A>, ErrorKind>
         requires { IsThere (built A.view self) }
         ensures same { IfOk result (λ b. b.arena.ghost_name ≡ self.entry.arena.ghost_name) }
-        ensures made { IfOk result (λ b. Becomes (built A.view self.entry) (built_at A.view self.entry b.arena.now) (zero_struct size)) }
-        ensures leads { IfOk result (λ b. IsStructOf (A.view b.arena.now).words self.entry.segment self.entry.at size b.place) }
-        ensures fits { HasRoom (A.view self.entry.arena.now) self.entry.segment (size.data_words + size.pointers) → IsOk result }
-        ensures granted { IfOk result (λ b. KeepsMemory (A.view self.entry.arena.now) (A.view b.arena.now)) }
-        ensures taken { IfOk result (λ b. TakesWords (A.view self.entry.arena.now) (A.view b.arena.now) self.entry.segment (size.data_words + size.pointers)) }
-        ensures behind { IfOk result (λ b. PutsBehind (calling_last A.view self.entry (A.view b.arena.now)) (size.data_words + size.pointers)) }
-        ensures empty { size.data_words + size.pointers ≡ 0 → IfOk result (λ b. HasWord (built_at A.view self.entry b.arena.now) (struct_word (2 ^ 30 - 1) 0 0)) }
-        ensures zeroed { IfOk result (λ b. ZeroesOld (A.view self.entry.arena.now).words (A.view b.arena.now).words self.entry.segment self.entry.at) }
-        ensures named { IfErr result (CanRefuse (A.view self.entry.arena.now) (size.data_words + size.pointers)) }
-        ensures refused { IfErr result (LeavesNull (A.view self.entry.arena.now) self.entry.segment self.entry.at (size.data_words + size.pointers)) }
+        ensures made { IfOk result (λ b. Becomes (built A.view self.entry)
+            (built_at A.view self.entry b.arena.now) (zero_struct size)) }
+        ensures leads { IfOk result (λ b.
+            IsStructOf (A.view b.arena.now).words self.entry.segment self.entry.at size b.place) }
+        ensures fits { HasRoom (A.view self.entry.arena.now) self.entry.segment
+            (size.data_words + size.pointers) → IsOk result }
+        ensures granted { IfOk result (λ b. KeepsMemory (A.view self.entry.arena.now)
+            (A.view b.arena.now)) }
+        ensures taken { IfOk result (λ b. TakesWords (A.view self.entry.arena.now)
+            (A.view b.arena.now) self.entry.segment (size.data_words + size.pointers)) }
+        ensures behind { IfOk result (λ b.
+            PutsBehind (calling_last A.view self.entry (A.view b.arena.now))
+            (size.data_words + size.pointers)) }
+        ensures empty { size.data_words + size.pointers ≡ 0
+            → IfOk result
+            (λ b. HasWord (built_at A.view self.entry b.arena.now) (struct_word (2 ^ 30 - 1) 0 0)) }
+        ensures zeroed { IfOk result (λ b. ZeroesOld (A.view self.entry.arena.now).words
+            (A.view b.arena.now).words self.entry.segment self.entry.at) }
+        ensures named { IfErr result
+            (CanRefuse (A.view self.entry.arena.now) (size.data_words + size.pointers)) }
+        ensures refused { IfErr result
+            (LeavesNull (A.view self.entry.arena.now) self.entry.segment self.entry.at
+            (size.data_words + size.pointers)) }
     {
         match self.put_struct(size) {
             Ok(place) => Ok(self.into_struct(place)),
@@ -241,17 +272,29 @@ impl<'a, A: BuilderArena> PointerBuilder<'a, A> {
         requires there { IsThere (built A.view self.old) }
         requires few { count < 2 ^ 29 }
         requires plain { size_number size ≤ 6 }
-        ensures made { OnOk result (Becomes (built A.view self.old) (built A.view self.new) (zero_list (size_number size) count)) }
-        ensures leads { IfOk result (IsListOf (A.view self.new.arena.now).words self.old.segment self.old.at size count) }
-        ensures fits { HasRoom (A.view self.old.arena.now) self.old.segment (list_words (size_number size) count) → IsOk result }
-        ensures granted { OnOk result (KeepsMemory (A.view self.old.arena.now) (A.view self.new.arena.now)) }
-        ensures taken { OnOk result (TakesWords (A.view self.old.arena.now) (A.view self.new.arena.now) self.old.segment (list_words (size_number size) count)) }
-        ensures behind { OnOk result (PutsBehind (calling A.view self.old self.new) (list_words (size_number size) count)) }
-        ensures at_end { OnOk result (PutsAtEnd (calling A.view self.old self.new) (list_words (size_number size) count)) }
-        ensures named { IfErr result (IsRefusedFor (A.view self.old.arena.now) (A.view self.new.arena.now) (list_words (size_number size) count)) }
-        ensures zeroed { OnOk result (ZeroesOld (A.view self.old.arena.now).words (A.view self.new.arena.now).words self.old.segment self.old.at) }
-        ensures refused { OnErr result (Becomes (built A.view self.old) (built A.view self.new) Null) }
-        ensures only { OnErr result (IsPruned (A.view self.old.arena.now).words (A.view self.new.arena.now).words) }
+        ensures made { OnOk result (Becomes (built A.view self.old) (built A.view self.new)
+            (zero_list (size_number size) count)) }
+        ensures leads { IfOk result (IsListOf (A.view self.new.arena.now).words self.old.segment
+            self.old.at size count) }
+        ensures fits { HasRoom (A.view self.old.arena.now) self.old.segment
+            (list_words (size_number size) count) → IsOk result }
+        ensures granted { OnOk result (KeepsMemory (A.view self.old.arena.now)
+            (A.view self.new.arena.now)) }
+        ensures taken { OnOk result (TakesWords (A.view self.old.arena.now)
+            (A.view self.new.arena.now) self.old.segment (list_words (size_number size) count)) }
+        ensures behind { OnOk result (PutsBehind (calling A.view self.old self.new)
+            (list_words (size_number size) count)) }
+        ensures at_end { OnOk result (PutsAtEnd (calling A.view self.old self.new)
+            (list_words (size_number size) count)) }
+        ensures named { IfErr result
+            (IsRefusedFor (A.view self.old.arena.now) (A.view self.new.arena.now)
+            (list_words (size_number size) count)) }
+        ensures zeroed { OnOk result (ZeroesOld (A.view self.old.arena.now).words
+            (A.view self.new.arena.now).words self.old.segment self.old.at) }
+        ensures refused { OnErr result
+            (Becomes (built A.view self.old) (built A.view self.new) Null) }
+        ensures only { OnErr result
+            (IsPruned (A.view self.old.arena.now).words (A.view self.new.arena.now).words) }
         ensures same { self.new.arena.ghost_name ≡ self.old.arena.ghost_name }
         ensures builder { (self.new.segment ≡ self.old.segment) × (self.new.at ≡ self.old.at) }
     {
@@ -295,16 +338,30 @@ impl<'a, A: BuilderArena> PointerBuilder<'a, A> {
         requires few { count < 2 ^ 29 }
         requires plain { size_number size ≤ 6 }
         ensures same { IfOk result (λ b. b.arena.ghost_name ≡ self.entry.arena.ghost_name) }
-        ensures made { IfOk result (λ b. Becomes (built A.view self.entry) (built_at A.view self.entry b.arena.now) (zero_list (size_number size) count)) }
-        ensures leads { IfOk result (λ b. IsListOf (A.view b.arena.now).words self.entry.segment self.entry.at size count b.place) }
-        ensures fits { HasRoom (A.view self.entry.arena.now) self.entry.segment (list_words (size_number size) count) → IsOk result }
-        ensures granted { IfOk result (λ b. KeepsMemory (A.view self.entry.arena.now) (A.view b.arena.now)) }
-        ensures taken { IfOk result (λ b. TakesWords (A.view self.entry.arena.now) (A.view b.arena.now) self.entry.segment (list_words (size_number size) count)) }
-        ensures behind { IfOk result (λ b. PutsBehind (calling_last A.view self.entry (A.view b.arena.now)) (list_words (size_number size) count)) }
-        ensures at_end { IfOk result (λ b. PutsAtEnd (calling_last A.view self.entry (A.view b.arena.now)) (list_words (size_number size) count)) }
-        ensures zeroed { IfOk result (λ b. ZeroesOld (A.view self.entry.arena.now).words (A.view b.arena.now).words self.entry.segment self.entry.at) }
-        ensures named { IfErr result (CanRefuse (A.view self.entry.arena.now) (list_words (size_number size) count)) }
-        ensures refused { IfErr result (LeavesNull (A.view self.entry.arena.now) self.entry.segment self.entry.at (list_words (size_number size) count)) }
+        ensures made { IfOk result (λ b. Becomes (built A.view self.entry)
+            (built_at A.view self.entry b.arena.now) (zero_list (size_number size) count)) }
+        ensures leads { IfOk result (λ b.
+            IsListOf (A.view b.arena.now).words self.entry.segment self.entry.at size
+            count b.place) }
+        ensures fits { HasRoom (A.view self.entry.arena.now) self.entry.segment
+            (list_words (size_number size) count) → IsOk result }
+        ensures granted { IfOk result (λ b. KeepsMemory (A.view self.entry.arena.now)
+            (A.view b.arena.now)) }
+        ensures taken { IfOk result (λ b. TakesWords (A.view self.entry.arena.now)
+            (A.view b.arena.now) self.entry.segment (list_words (size_number size) count)) }
+        ensures behind { IfOk result (λ b.
+            PutsBehind (calling_last A.view self.entry (A.view b.arena.now))
+            (list_words (size_number size) count)) }
+        ensures at_end { IfOk result (λ b.
+            PutsAtEnd (calling_last A.view self.entry (A.view b.arena.now))
+            (list_words (size_number size) count)) }
+        ensures zeroed { IfOk result (λ b. ZeroesOld (A.view self.entry.arena.now).words
+            (A.view b.arena.now).words self.entry.segment self.entry.at) }
+        ensures named { IfErr result
+            (CanRefuse (A.view self.entry.arena.now) (list_words (size_number size) count)) }
+        ensures refused { IfErr result
+            (LeavesNull (A.view self.entry.arena.now) self.entry.segment self.entry.at
+            (list_words (size_number size) count)) }
     {
         match self.put_list(size, count) {
             Ok(place) => Ok(self.into_list(place)),
@@ -321,16 +378,28 @@ impl<'a, A: BuilderArena> PointerBuilder<'a, A> {
         requires there { IsThere (built A.view self.old) }
         requires few { count < 2 ^ 30 }
         requires words { count * (size.data_words + size.pointers) < 2 ^ 29 }
-        ensures made { OnOk result (Becomes (built A.view self.old) (built A.view self.new) (zero_structs count size)) }
-        ensures leads { IfOk result (IsStructListOf (A.view self.new.arena.now).words self.old.segment self.old.at count size) }
-        ensures fits { HasRoom (A.view self.old.arena.now) self.old.segment (1 + count * (size.data_words + size.pointers)) → IsOk result }
-        ensures granted { OnOk result (KeepsMemory (A.view self.old.arena.now) (A.view self.new.arena.now)) }
-        ensures taken { OnOk result (TakesWords (A.view self.old.arena.now) (A.view self.new.arena.now) self.old.segment (1 + count * (size.data_words + size.pointers))) }
-        ensures behind { OnOk result (PutsBehind (calling A.view self.old self.new) (1 + count * (size.data_words + size.pointers))) }
-        ensures named { IfErr result (IsRefusedFor (A.view self.old.arena.now) (A.view self.new.arena.now) (1 + count * (size.data_words + size.pointers))) }
-        ensures zeroed { OnOk result (ZeroesOld (A.view self.old.arena.now).words (A.view self.new.arena.now).words self.old.segment self.old.at) }
-        ensures refused { OnErr result (Becomes (built A.view self.old) (built A.view self.new) Null) }
-        ensures only { OnErr result (IsPruned (A.view self.old.arena.now).words (A.view self.new.arena.now).words) }
+        ensures made { OnOk result (Becomes (built A.view self.old) (built A.view self.new)
+            (zero_structs count size)) }
+        ensures leads { IfOk result (IsStructListOf (A.view self.new.arena.now).words
+            self.old.segment self.old.at count size) }
+        ensures fits { HasRoom (A.view self.old.arena.now) self.old.segment
+            (1 + count * (size.data_words + size.pointers)) → IsOk result }
+        ensures granted { OnOk result (KeepsMemory (A.view self.old.arena.now)
+            (A.view self.new.arena.now)) }
+        ensures taken { OnOk result (TakesWords (A.view self.old.arena.now)
+            (A.view self.new.arena.now) self.old.segment
+            (1 + count * (size.data_words + size.pointers))) }
+        ensures behind { OnOk result (PutsBehind (calling A.view self.old self.new)
+            (1 + count * (size.data_words + size.pointers))) }
+        ensures named { IfErr result
+            (IsRefusedFor (A.view self.old.arena.now) (A.view self.new.arena.now)
+            (1 + count * (size.data_words + size.pointers))) }
+        ensures zeroed { OnOk result (ZeroesOld (A.view self.old.arena.now).words
+            (A.view self.new.arena.now).words self.old.segment self.old.at) }
+        ensures refused { OnErr result
+            (Becomes (built A.view self.old) (built A.view self.new) Null) }
+        ensures only { OnErr result
+            (IsPruned (A.view self.old.arena.now).words (A.view self.new.arena.now).words) }
         ensures same { self.new.arena.ghost_name ≡ self.old.arena.ghost_name }
         ensures builder { (self.new.segment ≡ self.old.segment) × (self.new.at ≡ self.old.at) }
     {
@@ -359,15 +428,28 @@ impl<'a, A: BuilderArena> PointerBuilder<'a, A> {
         requires few { count < 2 ^ 30 }
         requires words { count * (size.data_words + size.pointers) < 2 ^ 29 }
         ensures same { IfOk result (λ b. b.arena.ghost_name ≡ self.entry.arena.ghost_name) }
-        ensures made { IfOk result (λ b. Becomes (built A.view self.entry) (built_at A.view self.entry b.arena.now) (zero_structs count size)) }
-        ensures leads { IfOk result (λ b. IsStructListOf (A.view b.arena.now).words self.entry.segment self.entry.at count size b.place) }
-        ensures fits { HasRoom (A.view self.entry.arena.now) self.entry.segment (1 + count * (size.data_words + size.pointers)) → IsOk result }
-        ensures granted { IfOk result (λ b. KeepsMemory (A.view self.entry.arena.now) (A.view b.arena.now)) }
-        ensures taken { IfOk result (λ b. TakesWords (A.view self.entry.arena.now) (A.view b.arena.now) self.entry.segment (1 + count * (size.data_words + size.pointers))) }
-        ensures behind { IfOk result (λ b. PutsBehind (calling_last A.view self.entry (A.view b.arena.now)) (1 + count * (size.data_words + size.pointers))) }
-        ensures zeroed { IfOk result (λ b. ZeroesOld (A.view self.entry.arena.now).words (A.view b.arena.now).words self.entry.segment self.entry.at) }
-        ensures named { IfErr result (CanRefuse (A.view self.entry.arena.now) (1 + count * (size.data_words + size.pointers))) }
-        ensures refused { IfErr result (LeavesNull (A.view self.entry.arena.now) self.entry.segment self.entry.at (1 + count * (size.data_words + size.pointers))) }
+        ensures made { IfOk result (λ b. Becomes (built A.view self.entry)
+            (built_at A.view self.entry b.arena.now) (zero_structs count size)) }
+        ensures leads { IfOk result (λ b. IsStructListOf
+            (A.view b.arena.now).words self.entry.segment self.entry.at count size b.place) }
+        ensures fits { HasRoom (A.view self.entry.arena.now) self.entry.segment
+            (1 + count * (size.data_words + size.pointers)) → IsOk result }
+        ensures granted { IfOk result (λ b. KeepsMemory (A.view self.entry.arena.now)
+            (A.view b.arena.now)) }
+        ensures taken { IfOk result (λ b. TakesWords (A.view self.entry.arena.now)
+            (A.view b.arena.now) self.entry.segment
+            (1 + count * (size.data_words + size.pointers))) }
+        ensures behind { IfOk result (λ b.
+            PutsBehind (calling_last A.view self.entry (A.view b.arena.now))
+            (1 + count * (size.data_words + size.pointers))) }
+        ensures zeroed { IfOk result (λ b. ZeroesOld (A.view self.entry.arena.now).words
+            (A.view b.arena.now).words self.entry.segment self.entry.at) }
+        ensures named { IfErr result
+            (CanRefuse (A.view self.entry.arena.now)
+            (1 + count * (size.data_words + size.pointers))) }
+        ensures refused { IfErr result
+            (LeavesNull (A.view self.entry.arena.now) self.entry.segment self.entry.at
+            (1 + count * (size.data_words + size.pointers))) }
     {
         match self.put_struct_list(count, size) {
             Ok(place) => Ok(self.into_list(place)),
@@ -379,12 +461,16 @@ impl<'a, A: BuilderArena> PointerBuilder<'a, A> {
     pub fn bytes_mut(&mut self, bytes: ExistingBytes) -> &mut [u8]
         requires there { bytes.segment < length (A.view self.old.arena.now).words }
         requires inside { AreInside (A.view self.old.arena.now).words bytes }
-        ensures* lends { sem 𝓛 (follows (the_row (record { mir = named 1; lft = [] }) A.row) (Array byte 0) self.entry.ghost_name result.ghost_name
-            (λ ws. with_arena self.old (rewritten A.with_bytes A.segments self.old.arena.now bytes ws))) }
+        ensures* lends { sem 𝓛 (follows (the_row (record { mir = named 1; lft = [] }) A.row)
+            (Array byte 0) self.entry.ghost_name result.ghost_name
+            (λ ws. with_arena self.old
+            (rewritten A.with_bytes A.segments self.old.arena.now bytes ws))) }
         ensures now { result.now ≡ bytes_of (A.segments self.old.arena.now) bytes }
         ensures count { length result.now ≡ bytes.length }
         ensures written { (ws : List ℕ) → AreBytes bytes.length ws →
-            Overwrites (A.view self.old.arena.now).words (A.view (rewritten A.with_bytes A.segments self.old.arena.now bytes ws)).words bytes ws }
+            Overwrites (A.view self.old.arena.now).words
+            (A.view (rewritten A.with_bytes A.segments self.old.arena.now bytes ws)).words bytes
+            ws }
     {
         let arena = &mut *self.arena;
         lent::bytes_mut(arena, bytes)
@@ -400,10 +486,14 @@ impl<'a, A: BuilderArena> PointerBuilder<'a, A> {
         requires there { IsThere (built A.view self) }
         requires few { size < 2 ^ 29 }
         ensures count { IfOk result (λ bytes. length bytes.now ≡ size) }
-        ensures zero { IfOk result (λ bytes. AreZeroOnce (A.view self.entry.arena.now).words self.entry.segment self.entry.at bytes.now) }
-        ensures fits { HasRoom (A.view self.entry.arena.now) self.entry.segment (words_for 2 size) → IsOk result }
+        ensures zero { IfOk result (λ bytes. AreZeroOnce
+            (A.view self.entry.arena.now).words self.entry.segment self.entry.at bytes.now) }
+        ensures fits { HasRoom (A.view self.entry.arena.now) self.entry.segment (words_for 2 size)
+            → IsOk result }
         ensures named { IfErr result (CanRefuse (A.view self.entry.arena.now) (words_for 2 size)) }
-        ensures refused { IfErr result (LeavesNull (A.view self.entry.arena.now) self.entry.segment self.entry.at (words_for 2 size)) }
+        ensures refused { IfErr result
+            (LeavesNull (A.view self.entry.arena.now) self.entry.segment self.entry.at
+            (words_for 2 size)) }
     {
         let PointerBuilder { arena, segment, at } = self;
         lent::init_data(arena, segment, at, size)
@@ -419,10 +509,15 @@ impl<'a, A: BuilderArena> PointerBuilder<'a, A> {
         requires there { IsThere (built A.view self) }
         requires few { size + 1 < 2 ^ 29 }
         ensures count { IfOk result (λ bytes. length bytes.now ≡ size) }
-        ensures zero { IfOk result (λ bytes. AreZeroOnce (A.view self.entry.arena.now).words self.entry.segment self.entry.at bytes.now) }
-        ensures fits { HasRoom (A.view self.entry.arena.now) self.entry.segment (words_for 2 (size + 1)) → IsOk result }
-        ensures named { IfErr result (CanRefuse (A.view self.entry.arena.now) (words_for 2 (size + 1))) }
-        ensures refused { IfErr result (LeavesNull (A.view self.entry.arena.now) self.entry.segment self.entry.at (words_for 2 (size + 1))) }
+        ensures zero { IfOk result (λ bytes. AreZeroOnce
+            (A.view self.entry.arena.now).words self.entry.segment self.entry.at bytes.now) }
+        ensures fits { HasRoom (A.view self.entry.arena.now) self.entry.segment
+            (words_for 2 (size + 1)) → IsOk result }
+        ensures named { IfErr result
+            (CanRefuse (A.view self.entry.arena.now) (words_for 2 (size + 1))) }
+        ensures refused { IfErr result
+            (LeavesNull (A.view self.entry.arena.now) self.entry.segment self.entry.at
+            (words_for 2 (size + 1))) }
     {
         let PointerBuilder { arena, segment, at } = self;
         lent::init_text(arena, segment, at, size)
@@ -436,16 +531,27 @@ impl<'a, A: BuilderArena> PointerBuilder<'a, A> {
     pub fn set_data(&mut self, bytes: &[u8]) -> Result<(), ErrorKind>
         requires there { IsThere (built A.view self.old) }
         requires few { length bytes.now < 2 ^ 29 }
-        ensures made { OnOk result (Becomes (built A.view self.old) (built A.view self.new) (Flat 2 bytes.now)) }
-        ensures fits { HasRoom (A.view self.old.arena.now) self.old.segment (words_for 2 (length bytes.now)) → IsOk result }
-        ensures granted { OnOk result (KeepsMemory (A.view self.old.arena.now) (A.view self.new.arena.now)) }
-        ensures taken { OnOk result (TakesWords (A.view self.old.arena.now) (A.view self.new.arena.now) self.old.segment (words_for 2 (length bytes.now))) }
-        ensures behind { OnOk result (PutsBehind (calling A.view self.old self.new) (words_for 2 (length bytes.now))) }
-        ensures at_end { OnOk result (PutsAtEnd (calling A.view self.old self.new) (words_for 2 (length bytes.now))) }
-        ensures named { IfErr result (IsRefusedFor (A.view self.old.arena.now) (A.view self.new.arena.now) (words_for 2 (length bytes.now))) }
-        ensures zeroed { OnOk result (ZeroesOld (A.view self.old.arena.now).words (A.view self.new.arena.now).words self.old.segment self.old.at) }
-        ensures refused { OnErr result (Becomes (built A.view self.old) (built A.view self.new) Null) }
-        ensures only { OnErr result (IsPruned (A.view self.old.arena.now).words (A.view self.new.arena.now).words) }
+        ensures made { OnOk result (Becomes (built A.view self.old) (built A.view self.new)
+            (Flat 2 bytes.now)) }
+        ensures fits { HasRoom (A.view self.old.arena.now) self.old.segment
+            (words_for 2 (length bytes.now)) → IsOk result }
+        ensures granted { OnOk result (KeepsMemory (A.view self.old.arena.now)
+            (A.view self.new.arena.now)) }
+        ensures taken { OnOk result (TakesWords (A.view self.old.arena.now)
+            (A.view self.new.arena.now) self.old.segment (words_for 2 (length bytes.now))) }
+        ensures behind { OnOk result (PutsBehind (calling A.view self.old self.new)
+            (words_for 2 (length bytes.now))) }
+        ensures at_end { OnOk result (PutsAtEnd (calling A.view self.old self.new)
+            (words_for 2 (length bytes.now))) }
+        ensures named { IfErr result
+            (IsRefusedFor (A.view self.old.arena.now) (A.view self.new.arena.now)
+            (words_for 2 (length bytes.now))) }
+        ensures zeroed { OnOk result (ZeroesOld (A.view self.old.arena.now).words
+            (A.view self.new.arena.now).words self.old.segment self.old.at) }
+        ensures refused { OnErr result
+            (Becomes (built A.view self.old) (built A.view self.new) Null) }
+        ensures only { OnErr result
+            (IsPruned (A.view self.old.arena.now).words (A.view self.new.arena.now).words) }
         ensures same { self.new.arena.ghost_name ≡ self.old.arena.ghost_name }
         ensures builder { (self.new.segment ≡ self.old.segment) × (self.new.at ≡ self.old.at) }
     {
@@ -461,15 +567,25 @@ impl<'a, A: BuilderArena> PointerBuilder<'a, A> {
     pub fn set_text(&mut self, bytes: &[u8]) -> Result<(), ErrorKind>
         requires there { IsThere (built A.view self.old) }
         requires few { length bytes.now + 1 < 2 ^ 29 }
-        ensures made { OnOk result (Becomes (built A.view self.old) (built A.view self.new) (Flat 2 (bytes.now ++ 0 ∷ []))) }
-        ensures fits { HasRoom (A.view self.old.arena.now) self.old.segment (words_for 2 (length bytes.now + 1)) → IsOk result }
-        ensures granted { OnOk result (KeepsMemory (A.view self.old.arena.now) (A.view self.new.arena.now)) }
-        ensures taken { OnOk result (TakesWords (A.view self.old.arena.now) (A.view self.new.arena.now) self.old.segment (words_for 2 (length bytes.now + 1))) }
-        ensures behind { OnOk result (PutsBehind (calling A.view self.old self.new) (words_for 2 (length bytes.now + 1))) }
-        ensures named { IfErr result (IsRefusedFor (A.view self.old.arena.now) (A.view self.new.arena.now) (words_for 2 (length bytes.now + 1))) }
-        ensures zeroed { OnOk result (ZeroesOld (A.view self.old.arena.now).words (A.view self.new.arena.now).words self.old.segment self.old.at) }
-        ensures refused { OnErr result (Becomes (built A.view self.old) (built A.view self.new) Null) }
-        ensures only { OnErr result (IsPruned (A.view self.old.arena.now).words (A.view self.new.arena.now).words) }
+        ensures made { OnOk result (Becomes (built A.view self.old) (built A.view self.new)
+            (Flat 2 (bytes.now ++ 0 ∷ []))) }
+        ensures fits { HasRoom (A.view self.old.arena.now) self.old.segment
+            (words_for 2 (length bytes.now + 1)) → IsOk result }
+        ensures granted { OnOk result (KeepsMemory (A.view self.old.arena.now)
+            (A.view self.new.arena.now)) }
+        ensures taken { OnOk result (TakesWords (A.view self.old.arena.now)
+            (A.view self.new.arena.now) self.old.segment (words_for 2 (length bytes.now + 1))) }
+        ensures behind { OnOk result (PutsBehind (calling A.view self.old self.new)
+            (words_for 2 (length bytes.now + 1))) }
+        ensures named { IfErr result
+            (IsRefusedFor (A.view self.old.arena.now) (A.view self.new.arena.now)
+            (words_for 2 (length bytes.now + 1))) }
+        ensures zeroed { OnOk result (ZeroesOld (A.view self.old.arena.now).words
+            (A.view self.new.arena.now).words self.old.segment self.old.at) }
+        ensures refused { OnErr result
+            (Becomes (built A.view self.old) (built A.view self.new) Null) }
+        ensures only { OnErr result
+            (IsPruned (A.view self.old.arena.now).words (A.view self.new.arena.now).words) }
         ensures same { self.new.arena.ghost_name ≡ self.old.arena.ghost_name }
         ensures builder { (self.new.segment ≡ self.old.segment) × (self.new.at ≡ self.old.at) }
     {
@@ -483,7 +599,8 @@ impl<'a, A: BuilderArena> PointerBuilder<'a, A> {
     /// `MessageContainsNonCapabilityPointerWhereCapabilityPointerWasExpected`.
     pub fn get_capability(&self) -> Result<u32, ErrorKind>
         requires { IsThere (built A.view self.now) }
-        ensures { result ≡ capability_of (word_at (A.view self.now.arena.now).words self.now.segment self.now.at) }
+        ensures { result ≡ capability_of
+            (word_at (A.view self.now.arena.now).words self.now.segment self.now.at) }
     {
         existing::get_capability(&*self.arena, self.segment, self.at)
     }
@@ -512,19 +629,38 @@ impl<'a, A: BuilderArena> PointerBuilder<'a, A> {
         canonicalize: bool,
     ) -> Result<(), ErrorKind>
         requires place { IsThere (built A.view self.old) }
-        ensures copied { IfOk result (λ _. PutsCopy (reading B.ReaderArena from.entry) (copying A.view canonicalize self.old self.new lim.old lim.new)) }
-        ensures near { IsNull (built A.view self.old) → OnOk result (StandsAsRead (reading B.ReaderArena from.entry) (copying A.view canonicalize self.old self.new lim.old lim.new)) }
-        ensures stands { OnOk result (OnceCleared (StandsAsRead (reading B.ReaderArena from.entry)) (copying A.view canonicalize self.old self.new lim.old lim.new)) }
-        ensures fresh { HasOnlyNull (built A.view self.old) → IfOk result (λ _. FillsSegment (reading B.ReaderArena from.entry) (copying A.view canonicalize self.old self.new lim.old lim.new)) }
-        ensures alone { IsFresh (built A.view self.old) → IfOk result (λ _. FillsMessage (reading B.ReaderArena from.entry) (copying A.view canonicalize self.old self.new lim.old lim.new)) }
-        ensures fits { CopyFits canonicalize (reading B.ReaderArena from.entry) lim.old (built A.view self.old) → IsOk result }
-        ensures refused { IfErr result (RefusesValue (reading B.ReaderArena from.entry) (copying A.view canonicalize self.old self.new lim.old lim.new)) }
-        ensures taken { TakesAtMost result (reading B.ReaderArena from.entry) (copying A.view canonicalize self.old self.new lim.old lim.new) }
-        ensures spent { OnErr result (BreaksOff (form_of canonicalize) (reading B.ReaderArena from.entry) lim.old lim.new) }
-        ensures cleared { OnErr result (Becomes (built A.view self.old) (built A.view self.new) Null) }
+        ensures copied { IfOk result (λ _. PutsCopy (reading B.ReaderArena from.entry)
+            (copying A.view canonicalize self.old self.new lim.old lim.new)) }
+        ensures near { IsNull (built A.view self.old)
+            → OnOk result
+            (StandsAsRead (reading B.ReaderArena from.entry)
+            (copying A.view canonicalize self.old self.new lim.old lim.new)) }
+        ensures stands { OnOk result (OnceCleared (StandsAsRead (reading B.ReaderArena from.entry))
+            (copying A.view canonicalize self.old self.new lim.old lim.new)) }
+        ensures fresh { HasOnlyNull (built A.view self.old)
+            → IfOk result
+            (λ _. FillsSegment (reading B.ReaderArena from.entry)
+            (copying A.view canonicalize self.old self.new lim.old lim.new)) }
+        ensures alone { IsFresh (built A.view self.old)
+            → IfOk result
+            (λ _. FillsMessage (reading B.ReaderArena from.entry)
+            (copying A.view canonicalize self.old self.new lim.old lim.new)) }
+        ensures fits { CopyFits canonicalize (reading B.ReaderArena from.entry) lim.old
+            (built A.view self.old) → IsOk result }
+        ensures refused { IfErr result
+            (RefusesValue (reading B.ReaderArena from.entry)
+            (copying A.view canonicalize self.old self.new lim.old lim.new)) }
+        ensures taken { TakesAtMost result (reading B.ReaderArena from.entry)
+            (copying A.view canonicalize self.old self.new lim.old lim.new) }
+        ensures spent { OnErr result
+            (BreaksOff (form_of canonicalize) (reading B.ReaderArena from.entry) lim.old lim.new) }
+        ensures cleared { OnErr result
+            (Becomes (built A.view self.old) (built A.view self.new) Null) }
         ensures there { IsThere (built A.view self.new) }
-        ensures granted { OnOk result (KeepsMemory (A.view self.old.arena.now) (A.view self.new.arena.now)) }
-        ensures memory { IfErr result (SpendsMemory (A.view self.old.arena.now) (A.view self.new.arena.now)) }
+        ensures granted { OnOk result (KeepsMemory (A.view self.old.arena.now)
+            (A.view self.new.arena.now)) }
+        ensures memory { IfErr result
+            (SpendsMemory (A.view self.old.arena.now) (A.view self.new.arena.now)) }
         ensures same { self.new.arena.ghost_name ≡ self.old.arena.ghost_name }
         ensures builder { (self.new.segment ≡ self.old.segment) × (self.new.at ≡ self.old.at) }
     {
@@ -558,16 +694,27 @@ impl<'a, A: BuilderArena> PointerBuilder<'a, A> {
         canonicalize: bool,
     ) -> Result<(), ErrorKind>
         requires place { IsThere (built A.view self.old) }
-        ensures copied { IfOk result (λ _. PutsStruct B.ReaderArena value.now (copying A.view canonicalize self.old self.new lim.old lim.new)) }
-        ensures stands { OnOk result (OnceCleared (StructStands B.ReaderArena value.now) (copying A.view canonicalize self.old self.new lim.old lim.new)) }
-        ensures fits { StructFits B.ReaderArena value.now (copying A.view canonicalize self.old self.new lim.old lim.new) → IsOk result }
-        ensures refused { IfErr result (RefusesStruct B.ReaderArena value.now (copying A.view canonicalize self.old self.new lim.old lim.new)) }
-        ensures taken { TakesForStruct B.ReaderArena result value.now (copying A.view canonicalize self.old self.new lim.old lim.new) }
-        ensures spent { OnErr result ((lim.new ≡ lim.old) ⊎ BreaksOffAmong (form_of canonicalize) (pointers_read B.ReaderArena value.now) value.now.pointer_count lim.old lim.new) }
-        ensures cleared { OnErr result (Becomes (built A.view self.old) (built A.view self.new) Null) }
+        ensures copied { IfOk result (λ _. PutsStruct B.ReaderArena value.now
+            (copying A.view canonicalize self.old self.new lim.old lim.new)) }
+        ensures stands { OnOk result (OnceCleared (StructStands B.ReaderArena value.now)
+            (copying A.view canonicalize self.old self.new lim.old lim.new)) }
+        ensures fits { StructFits B.ReaderArena value.now
+            (copying A.view canonicalize self.old self.new lim.old lim.new) → IsOk result }
+        ensures refused { IfErr result
+            (RefusesStruct B.ReaderArena value.now
+            (copying A.view canonicalize self.old self.new lim.old lim.new)) }
+        ensures taken { TakesForStruct B.ReaderArena result value.now
+            (copying A.view canonicalize self.old self.new lim.old lim.new) }
+        ensures spent { OnErr result ((lim.new ≡ lim.old)
+            ⊎ BreaksOffAmong (form_of canonicalize)
+            (pointers_read B.ReaderArena value.now) value.now.pointer_count lim.old lim.new) }
+        ensures cleared { OnErr result
+            (Becomes (built A.view self.old) (built A.view self.new) Null) }
         ensures there { IsThere (built A.view self.new) }
-        ensures granted { OnOk result (KeepsMemory (A.view self.old.arena.now) (A.view self.new.arena.now)) }
-        ensures memory { IfErr result (SpendsMemory (A.view self.old.arena.now) (A.view self.new.arena.now)) }
+        ensures granted { OnOk result (KeepsMemory (A.view self.old.arena.now)
+            (A.view self.new.arena.now)) }
+        ensures memory { IfErr result
+            (SpendsMemory (A.view self.old.arena.now) (A.view self.new.arena.now)) }
         ensures same { self.new.arena.ghost_name ≡ self.old.arena.ghost_name }
         ensures builder { (self.new.segment ≡ self.old.segment) × (self.new.at ≡ self.old.at) }
     {
@@ -606,17 +753,30 @@ impl<'a, A: BuilderArena> PointerBuilder<'a, A> {
         canonicalize: bool,
     ) -> Result<(), ErrorKind>
         requires place { IsThere (built A.view self.old) }
-        ensures copied { IfOk result (λ _. PutsList B.ReaderArena value.now (copying A.view canonicalize self.old self.new lim.old lim.new)) }
-        ensures stands { OnOk result (OnceCleared (ListStands (elements_read B.ReaderArena value.now)) (copying A.view canonicalize self.old self.new lim.old lim.new)) }
-        ensures fits { ListFits (elements_read B.ReaderArena value.now) (copying A.view canonicalize self.old self.new lim.old lim.new) → IsOk result }
-        ensures refused { IfErr result (RefusesList B.ReaderArena value.now (copying A.view canonicalize self.old self.new lim.old lim.new)) }
-        ensures taken { TakesForList B.ReaderArena result value.now (copying A.view canonicalize self.old self.new lim.old lim.new) }
-        ensures spent { OnErr result ((lim.new ≡ lim.old) ⊎ BreaksOffList (form_of canonicalize) (elements_read B.ReaderArena value.now) lim.old lim.new) }
-        ensures long { IsTooLong (elements_read B.ReaderArena value.now) → (result ≡ Err (MessageTooLarge (2 ^ 64 - 1))) × (lim.new ≡ lim.old) }
-        ensures cleared { OnErr result (Becomes (built A.view self.old) (built A.view self.new) Null) }
+        ensures copied { IfOk result (λ _. PutsList B.ReaderArena value.now
+            (copying A.view canonicalize self.old self.new lim.old lim.new)) }
+        ensures stands { OnOk result (OnceCleared
+            (ListStands (elements_read B.ReaderArena value.now))
+            (copying A.view canonicalize self.old self.new lim.old lim.new)) }
+        ensures fits { ListFits (elements_read B.ReaderArena value.now)
+            (copying A.view canonicalize self.old self.new lim.old lim.new) → IsOk result }
+        ensures refused { IfErr result
+            (RefusesList B.ReaderArena value.now
+            (copying A.view canonicalize self.old self.new lim.old lim.new)) }
+        ensures taken { TakesForList B.ReaderArena result value.now
+            (copying A.view canonicalize self.old self.new lim.old lim.new) }
+        ensures spent { OnErr result ((lim.new ≡ lim.old)
+            ⊎ BreaksOffList (form_of canonicalize)
+            (elements_read B.ReaderArena value.now) lim.old lim.new) }
+        ensures long { IsTooLong (elements_read B.ReaderArena value.now)
+            → (result ≡ Err (MessageTooLarge (2 ^ 64 - 1))) × (lim.new ≡ lim.old) }
+        ensures cleared { OnErr result
+            (Becomes (built A.view self.old) (built A.view self.new) Null) }
         ensures there { IsThere (built A.view self.new) }
-        ensures granted { OnOk result (KeepsMemory (A.view self.old.arena.now) (A.view self.new.arena.now)) }
-        ensures memory { IfErr result (SpendsMemory (A.view self.old.arena.now) (A.view self.new.arena.now)) }
+        ensures granted { OnOk result (KeepsMemory (A.view self.old.arena.now)
+            (A.view self.new.arena.now)) }
+        ensures memory { IfErr result
+            (SpendsMemory (A.view self.old.arena.now) (A.view self.new.arena.now)) }
         ensures same { self.new.arena.ghost_name ≡ self.old.arena.ghost_name }
         ensures builder { (self.new.segment ≡ self.old.segment) × (self.new.at ≡ self.old.at) }
     {

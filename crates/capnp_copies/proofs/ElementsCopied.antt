@@ -17,7 +17,7 @@ use Rattle.capnp_objects.specs.Reading.{Reading, pointers_of, row}
 use Rattle.capnp_objects.specs.Spending.{pointers_in_all, pointers_in_elements}
 use Rattle.capnp_objects.specs.Wanted.{canonical}
 use Rattle.capnp_objects.proofs.Copies.{with_last_element, count-with_last_element, read_element, pointers_in-with_last_element}
-use Rattle.capnp_pointers.specs.declared.wire_pointer.StructSize.{StructSize}
+use Rattle.capnp_words.specs.declared.wire_pointer.StructSize.{StructSize}
 
 -- widths
 

@@ -2,7 +2,7 @@
 -- the whole is too large for the segment of its pointer.
 use Rattle.std.proofs.Common.{◌≡◌, inl, ℕ, pred, ◌+◌, ◌-◌, ◌*◌, ◌<◌, ◌≤◌, List, length, refl, ap, subst, sym, ◌∙◌, arith}
 use Rattle.capnp_words.specs.Meter.{Meter}
-use Rattle.capnp_pointers.specs.declared.wire_pointer.StructSize.{StructSize}
+use Rattle.capnp_words.specs.declared.wire_pointer.StructSize.{StructSize}
 use Rattle.capnp_format.specs.Segments.{segment, IsPlace}
 use Rattle.capnp_format.specs.Tree.{Tree, Struct, Pointers, Structs, Trees, no_trees, tree, Elements, count, element_count}
 use Rattle.capnp_format.specs.Canonical.{take_trees, word_count, word_count_all, word_count_elements}

@@ -1,7 +1,7 @@
 -- What reading costs until it breaks off: the words that were granted and the pointers that were followed, for the objects that
 -- were read before the one where it stops, and for those on the way to it. That one itself isn't counted.
 use Rattle.std.specs.Prelude.{ℕ, ◌+◌}
-use Rattle.capnp_pointers.specs.declared.wire_pointer.StructSize.{StructSize}
+use Rattle.capnp_words.specs.declared.wire_pointer.StructSize.{StructSize}
 use Rattle.capnp_words.specs.Meter.{Meter}
 use Rattle.capnp_format.specs.Segments.{Target}
 use Rattle.capnp_objects.specs.Demands.{own}

@@ -1,6 +1,6 @@
 -- Where a copy finds no room in a segment.
 use Rattle.std.specs.Prelude.{◌≡◌, ℕ, ◌+◌, ◌<◌}
-use Rattle.capnp_pointers.specs.declared.wire_pointer.StructSize.{StructSize}
+use Rattle.capnp_words.specs.declared.wire_pointer.StructSize.{StructSize}
 use Rattle.capnp_format.specs.Tree.{Tree, Trees, Elements, Struct, Pointers, Structs, count, element_count}
 use Rattle.capnp_format.specs.Canonical.{cut_to, word_count, word_count_all, word_count_elements}
 use Rattle.capnp_objects.specs.Outcomes.{MeansThere, MeanThere, ElementsMean}

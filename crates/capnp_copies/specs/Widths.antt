@@ -1,6 +1,6 @@
 -- How many words of each section a struct uses, and the elements of a list of structs.
 use Rattle.std.specs.Prelude.{ℕ, zero, suc, ◌≡◌, ◌+◌, ◌≤◌, List, take, drop, max}
-use Rattle.capnp_pointers.specs.declared.wire_pointer.StructSize.{StructSize}
+use Rattle.capnp_words.specs.declared.wire_pointer.StructSize.{StructSize}
 use Rattle.capnp_format.specs.Canonical.{used_words}
 use Rattle.capnp_objects.specs.Reading.{Reading, behind, words_from}
 

@@ -49,13 +49,25 @@ pub fn copy_value<A: BuilderArena, B: ReaderArena>(
 ) -> Result<(), ErrorKind>
     requires place { IsPlace (A.view arena.old).words id at }
     requires null { word_at (A.view arena.old).words id at ≡ 0 }
-    ensures copied { IfOk result (λ _. IsCopyOf (reading B.ReaderArena from.entry) (change (form_of canonicalize) id at (A.view arena.old) (A.view arena.new) lim.old lim.new)) }
-    ensures stands { OnOk result (StandsAsRead (reading B.ReaderArena from.entry) (change (form_of canonicalize) id at (A.view arena.old) (A.view arena.new) lim.old lim.new)) }
-    ensures fits { CanBeCopied (form_of canonicalize) (reading B.ReaderArena from.entry) lim.old (length (segment (A.view arena.old).words id)) ((A.view arena.old).room id) → IsOk result }
-    ensures refused { IfErr result (RefusesValue (reading B.ReaderArena from.entry) (change (form_of canonicalize) id at (A.view arena.old) (A.view arena.new) lim.old lim.new)) }
-    ensures cleared { OnErr result (IsReplaced (A.view arena.old).words (A.view arena.new).words id at Null Null) }
-    ensures spent { OnErr result (BreaksOff (form_of canonicalize) (reading B.ReaderArena from.entry) lim.old lim.new) }
-    ensures taken { TakesAtMost result (reading B.ReaderArena from.entry) (change (form_of canonicalize) id at (A.view arena.old) (A.view arena.new) lim.old lim.new) }
+    ensures copied { IfOk result (λ _. IsCopyOf (reading B.ReaderArena from.entry)
+        (change (form_of canonicalize) id at (A.view arena.old)
+        (A.view arena.new) lim.old lim.new)) }
+    ensures stands { OnOk result (StandsAsRead (reading B.ReaderArena from.entry)
+        (change (form_of canonicalize) id at (A.view arena.old)
+        (A.view arena.new) lim.old lim.new)) }
+    ensures fits { CanBeCopied (form_of canonicalize) (reading B.ReaderArena from.entry) lim.old
+        (length (segment (A.view arena.old).words id)) ((A.view arena.old).room id) → IsOk result }
+    ensures refused { IfErr result
+        (RefusesValue (reading B.ReaderArena from.entry)
+        (change (form_of canonicalize) id at (A.view arena.old)
+        (A.view arena.new) lim.old lim.new)) }
+    ensures cleared { OnErr result
+        (IsReplaced (A.view arena.old).words (A.view arena.new).words id at Null Null) }
+    ensures spent { OnErr result
+        (BreaksOff (form_of canonicalize) (reading B.ReaderArena from.entry) lim.old lim.new) }
+    ensures taken { TakesAtMost result (reading B.ReaderArena from.entry)
+        (change (form_of canonicalize) id at (A.view arena.old)
+        (A.view arena.new) lim.old lim.new) }
     ensures granted { OnOk result (KeepsMemory (A.view arena.old) (A.view arena.new)) }
     ensures memory { IfErr result (SpendsMemory (A.view arena.old) (A.view arena.new)) }
 {
@@ -89,13 +101,21 @@ pub fn copy_in_form<A: BuilderArena, B: ReaderArena>(
 ) -> Result<(), ErrorKind>
     requires place { IsPlace (A.view arena.old).words id at }
     requires null { word_at (A.view arena.old).words id at ≡ 0 }
-    ensures copied { IfOk result (λ _. IsCopyOf (reading B.ReaderArena from.entry) (change (form_in form) id at (A.view arena.old) (A.view arena.new) lim.old lim.new)) }
-    ensures stands { OnOk result (StandsAsRead (reading B.ReaderArena from.entry) (change (form_in form) id at (A.view arena.old) (A.view arena.new) lim.old lim.new)) }
-    ensures fits { CanBeCopied (form_in form) (reading B.ReaderArena from.entry) lim.old (length (segment (A.view arena.old).words id)) ((A.view arena.old).room id) → IsOk result }
-    ensures refused { IfErr result (RefusesValue (reading B.ReaderArena from.entry) (change (form_in form) id at (A.view arena.old) (A.view arena.new) lim.old lim.new)) }
-    ensures cleared { OnErr result (IsReplaced (A.view arena.old).words (A.view arena.new).words id at Null Null) }
-    ensures spent { OnErr result (BreaksOff (form_in form) (reading B.ReaderArena from.entry) lim.old lim.new) }
-    ensures taken { TakesAtMost result (reading B.ReaderArena from.entry) (change (form_in form) id at (A.view arena.old) (A.view arena.new) lim.old lim.new) }
+    ensures copied { IfOk result (λ _. IsCopyOf (reading B.ReaderArena from.entry)
+        (change (form_in form) id at (A.view arena.old) (A.view arena.new) lim.old lim.new)) }
+    ensures stands { OnOk result (StandsAsRead (reading B.ReaderArena from.entry)
+        (change (form_in form) id at (A.view arena.old) (A.view arena.new) lim.old lim.new)) }
+    ensures fits { CanBeCopied (form_in form) (reading B.ReaderArena from.entry) lim.old
+        (length (segment (A.view arena.old).words id)) ((A.view arena.old).room id) → IsOk result }
+    ensures refused { IfErr result
+        (RefusesValue (reading B.ReaderArena from.entry)
+        (change (form_in form) id at (A.view arena.old) (A.view arena.new) lim.old lim.new)) }
+    ensures cleared { OnErr result
+        (IsReplaced (A.view arena.old).words (A.view arena.new).words id at Null Null) }
+    ensures spent { OnErr result
+        (BreaksOff (form_in form) (reading B.ReaderArena from.entry) lim.old lim.new) }
+    ensures taken { TakesAtMost result (reading B.ReaderArena from.entry)
+        (change (form_in form) id at (A.view arena.old) (A.view arena.new) lim.old lim.new) }
     ensures granted { OnOk result (KeepsMemory (A.view arena.old) (A.view arena.new)) }
     ensures memory { IfErr result (SpendsMemory (A.view arena.old) (A.view arena.new)) }
 {
@@ -120,9 +140,13 @@ fn copy_object<A: BuilderArena, B: ReaderArena>(
 ) -> Result<(), ErrorKind>
     requires place { IsPlace (A.view arena.old).words id at }
     requires null { word_at (A.view arena.old).words id at ≡ 0 }
-    ensures copied { IfOk result (λ _. CopiesValue (reading B.ReaderArena from.entry) (change (form_in form) id at (A.view arena.old) (A.view arena.new) lim.old lim.new)) }
-    ensures refused { IfErr result (StopsAtValue (reading B.ReaderArena from.entry) (change (form_in form) id at (A.view arena.old) (A.view arena.new) lim.old lim.new)) }
-    ensures taken { TakesAtMost result (reading B.ReaderArena from.entry) (change (form_in form) id at (A.view arena.old) (A.view arena.new) lim.old lim.new) }
+    ensures copied { IfOk result (λ _. CopiesValue (reading B.ReaderArena from.entry)
+        (change (form_in form) id at (A.view arena.old) (A.view arena.new) lim.old lim.new)) }
+    ensures refused { IfErr result
+        (StopsAtValue (reading B.ReaderArena from.entry)
+        (change (form_in form) id at (A.view arena.old) (A.view arena.new) lim.old lim.new)) }
+    ensures taken { TakesAtMost result (reading B.ReaderArena from.entry)
+        (change (form_in form) id at (A.view arena.old) (A.view arena.new) lim.old lim.new) }
 {
     let object = match from.source.read_object(from.place, from.nesting_limit, lim) {
         Ok(object) => object,

@@ -40,7 +40,11 @@ pub(crate) fn put_section<A: BuilderArena>(
     requires long { length bytes.now ≡ bytes_for bits }
     requires few { kept ≤ length (section_words bits bytes.now) }
     requires inside { at + kept ≤ length (segment (A.view arena.old).words id) }
-    ensures { A.view arena.new ≡ record (A.view arena.old) { words = with_words (A.view arena.old).words id at (take kept (section_words bits bytes.now)) } }
+    ensures { A.view arena.new
+        ≡ record (A.view arena.old) {
+          words = with_words (A.view arena.old).words id at
+              (take kept (section_words bits bytes.now));
+        } }
 {
     let whole = bits / 64;
     let kept = u32::from(kept);

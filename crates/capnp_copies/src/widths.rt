@@ -21,9 +21,12 @@ pub(crate) struct ElementSizes {
 /// from a word of a segment on.
 pub(crate) fn least_widths(bytes: &[u8], start: u32, count: u32, size: StructSize) -> StructSize
     requires whole { length bytes.now ≡ 8 * length (words_of bytes.now) }
-    requires inside { start + count * (size.data_words + size.pointers) ≤ length (words_of bytes.now) }
-    ensures data_words { result.data_words ≡ data_used (words_of bytes.now) start size.data_words size.pointers count }
-    ensures pointers { result.pointers ≡ pointers_used (words_of bytes.now) start size.data_words size.pointers count }
+    requires inside { start + count * (size.data_words + size.pointers)
+        ≤ length (words_of bytes.now) }
+    ensures data_words { result.data_words
+        ≡ data_used (words_of bytes.now) start size.data_words size.pointers count }
+    ensures pointers { result.pointers ≡ pointers_used
+        (words_of bytes.now) start size.data_words size.pointers count }
     ensures no_more_data { result.data_words ≤ size.data_words }
     ensures no_more_pointers { result.pointers ≤ size.pointers }
 {

@@ -4,10 +4,10 @@ use lib.IntN.{pos, ◌-ℤ◌}
 use Rattle.capnp_words.specs.Meter.{Meter, Affords}
 use Rattle.capnp_words.specs.declared.error.ErrorKind.{ErrorKind}
 use Rattle.capnp_words.specs.declared.error.ErrorKind.TheVariants.{MessageContainsNonListPointerWhereListPointerWasExpected}
-use Rattle.capnp_pointers.specs.declared.wire_pointer.ElementSize.{ElementSize}
-use Rattle.capnp_pointers.specs.declared.wire_pointer.ElementSize.TheVariants.{Void, Bit, Byte, TwoBytes, FourBytes, EightBytes, Pointer, InlineComposite}
-use Rattle.capnp_pointers.specs.declared.wire_pointer.StructSize.{StructSize}
-use Rattle.capnp_pointers.specs.Sizes.{size_number}
+use Rattle.capnp_words.specs.declared.wire_pointer.ElementSize.{ElementSize}
+use Rattle.capnp_words.specs.declared.wire_pointer.ElementSize.TheVariants.{Void, Bit, Byte, TwoBytes, FourBytes, EightBytes, Pointer, InlineComposite}
+use Rattle.capnp_words.specs.declared.wire_pointer.StructSize.{StructSize}
+use Rattle.capnp_words.specs.Sizes.{size_number}
 use Rattle.capnp_arena.specs.View.{View}
 use Rattle.capnp_arena.specs.declared.arena.reader_arena.ReaderArena.{Ghosts}
 use Rattle.capnp_format.specs.Means.{IsTag, Claims, count_cost}

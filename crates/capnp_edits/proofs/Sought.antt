@@ -6,9 +6,9 @@ use Rattle.std.specs.Borrow.{Bor}
 use Rattle.capnp_words.specs.declared.error.ErrorKind.{ErrorKind}
 use Rattle.capnp_words.specs.declared.error.ErrorKind.TheVariants.{ExistingPointerIsNotAList, FoundBitListWhereStructListWasExpected, MessageContainsNonStructPointerWhereStructPointerWasExpected, MessageContainsOutOfBoundsPointer, NoSuchPlace, UnknownPointerType}
 use Rattle.capnp_words.specs.Meter.{unused}
-use Rattle.capnp_pointers.specs.Sizes.{size_number}
-use Rattle.capnp_pointers.specs.declared.wire_pointer.ElementSize.{ElementSize}
-use Rattle.capnp_pointers.specs.declared.wire_pointer.StructSize.{StructSize}
+use Rattle.capnp_words.specs.Sizes.{size_number}
+use Rattle.capnp_words.specs.declared.wire_pointer.ElementSize.{ElementSize}
+use Rattle.capnp_words.specs.declared.wire_pointer.StructSize.{StructSize}
 use Rattle.capnp_format.specs.Bytes.{words_of}
 use Rattle.capnp_format.specs.Forest.{target}
 use Rattle.capnp_format.specs.Segments.{Segments, Target, segment, word_at, IsPlace}

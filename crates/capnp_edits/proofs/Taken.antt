@@ -3,7 +3,7 @@ use Rattle.std.proofs.Common.{◌≡◌, ℕ, ◌+◌, ◌*◌, true, false, len
 use Rattle.std.proofs.lemmas.Bool.{false≢true}
 use Rattle.std.proofs.lemmas.List.{length-set}
 use Rattle.capnp_words.specs.declared.error.ErrorKind.{ErrorKind}
-use Rattle.capnp_pointers.specs.declared.wire_pointer.ElementSize.{ElementSize}
+use Rattle.capnp_words.specs.declared.wire_pointer.ElementSize.{ElementSize}
 use Rattle.capnp_arena.proofs.WordsOver.{lengths_kept}
 use Rattle.capnp_arena.specs.View.{View}
 use Rattle.capnp_format.specs.Segments.{Segments, segment}
@@ -17,7 +17,7 @@ use Rattle.capnp_objects.specs.Reading.{Reading}
 use Rattle.capnp_copies.specs.Changes.{Change}
 use Rattle.capnp_copies.specs.Growth.{TakesAtMost, TakesForObject, TakesForStructs, TakesForListOf, of_numbers, of_pointers, of_structs, TakesForPointers}
 use Rattle.capnp_copies.specs.ListValues.{ListElements}
-use Rattle.capnp_pointers.specs.declared.wire_pointer.StructSize.{StructSize}
+use Rattle.capnp_words.specs.declared.wire_pointer.StructSize.{StructSize}
 use Rattle.capnp_widening.specs.Opening.{CallAt}
 use Rattle.capnp_edits.specs.declared.edit.Op.{Op}
 use Rattle.capnp_edits.specs.declared.edit.Op.TheVariants.{SetField, SetBool, SetElement, WriteText, WriteData, GetStruct, GetList, GetStructList, GetText, GetData, CopyFrom, SetStruct, SetList, CopyContent}

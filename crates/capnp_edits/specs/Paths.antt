@@ -1,7 +1,7 @@
 -- Where the paths of edits lead, in a value and in a message that holds it.
 use Rattle.std.specs.Prelude.{◌≡◌, ⊤, ℕ, ◌+◌, ◌*◌, ◌<◌, cond, nat_eq, nat_lt, ◌&&◌, List, [], ◌∷◌, ◌++◌, Option, Some, None}
 use Rattle.capnp_format.specs.Segments.{Segments, IsPlace}
-use Rattle.capnp_pointers.specs.Sizes.{size_number}
+use Rattle.capnp_words.specs.Sizes.{size_number}
 use Rattle.capnp_format.specs.Tree.{Tree, Struct, Pointers, Structs, Elements, count, element_count}
 use Rattle.capnp_format.specs.Forest.{target}
 use Rattle.capnp_making.specs.Existing.{LiesIn}

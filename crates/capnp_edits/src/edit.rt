@@ -143,8 +143,10 @@ pub fn apply_all<A: BuilderArena>(
 )
     requires { length outcomes.old ≡ length edits.now }
     ensures steps { AreSteps (A.view arena.old) (A.view arena.new) edits.now outcomes.new }
-    ensures applied { AreApplied (A.view arena.old).words (A.view arena.new).words edits.now outcomes.new }
-    ensures counted { (A.view arena.new).refusals ≡ refusals_after_all outcomes.new (A.view arena.old).refusals }
+    ensures applied { AreApplied (A.view arena.old).words
+        (A.view arena.new).words edits.now outcomes.new }
+    ensures counted { (A.view arena.new).refusals ≡ refusals_after_all outcomes.new
+        (A.view arena.old).refusals }
 {
     for (i, edit) in edits.iter().enumerate() {
         outcomes[i] = match apply(arena, edit) {

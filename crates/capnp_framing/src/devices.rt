@@ -132,7 +132,8 @@ impl Output for MemoryOutput {
 /// Writes all bytes, in as many writes as it takes.
 pub fn write_all<W: Output>(output: &mut W, from: &[u8]) -> Result<(), DeviceFault>
     requires { W.has_failed output.old ≡ false }
-    ensures written { OnOk result (Appends (W.contents output.old) (W.contents output.new) from.now) }
+    ensures written { OnOk result (Appends (W.contents output.old)
+        (W.contents output.new) from.now) }
     ensures works { OnOk result (W.has_failed output.new ≡ false) }
     ensures fails { OnErr result (W.has_failed output.new ≡ true) }
 {

@@ -7,7 +7,7 @@ use Rattle.capnp_format.specs.Numbers.{from_digits}
 use Rattle.capnp_format.specs.Value.{AreBelow}
 use Rattle.capnp_format.proofs.Lies.{pow_pow}
 use Rattle.capnp_format.proofs.WordsOf.{words}
-use Rattle.capnp_pointers.proofs.LittleEndian.{eight_bytes}
+use Rattle.capnp_words.proofs.LittleEndian.{eight_bytes}
 use Rattle.capnp_making.specs.Fields.{with_bits, put_field, with_field}
 use Rattle.capnp_making.proofs.FieldBytes.{cut, low, below_drop, words_of-put_bytes, message_written}
 use Rattle.capnp_making.proofs.WithBits.{within_part}

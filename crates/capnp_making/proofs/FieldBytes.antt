@@ -11,7 +11,7 @@ use Rattle.capnp_format.proofs.Digits.{from_digits-below}
 use Rattle.capnp_format.proofs.Lies.{pow_pow}
 use Rattle.capnp_format.proofs.WordsOf.{words, words_of-append}
 use Rattle.capnp_format.specs.Segments.{Segments, segment}
-use Rattle.capnp_pointers.proofs.LittleEndian.{eight_bytes}
+use Rattle.capnp_words.proofs.LittleEndian.{eight_bytes}
 use Rattle.capnp_making.specs.Fields.{with_bits, put_field, with_field}
 use Rattle.capnp_arena.proofs.MessageLemmas.{segment-message}
 

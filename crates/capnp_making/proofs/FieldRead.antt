@@ -9,7 +9,7 @@ use Rattle.capnp_format.specs.Bytes.{words_of}
 use Rattle.capnp_format.specs.Numbers.{from_digits}
 use Rattle.capnp_format.specs.Value.{AreBelow}
 use Rattle.capnp_format.proofs.Lies.{pow_pow}
-use Rattle.capnp_pointers.proofs.LittleEndian.{eight_bytes}
+use Rattle.capnp_words.proofs.LittleEndian.{eight_bytes}
 use Rattle.capnp_making.specs.Fields.{with_bits, put_field, field_in}
 use Rattle.capnp_making.proofs.FieldBit.{byte_of_word}
 use Rattle.capnp_making.proofs.FieldBytes.{cut, low, high, below_drop}

@@ -7,7 +7,7 @@ use Rattle.capnp_format.specs.Tree.{Tree, Null, Capability, Struct, Flat, Pointe
 use Rattle.capnp_format.specs.Means.{Means, MeansAll, MeansElements, Claims, IsTag}
 pub use Rattle.capnp_format.specs.Forest.{row, PadsInside, object_cover}
 use Rattle.capnp_format.specs.Forest.{Interval, times, cover_all, cover_elements}
-use Rattle.capnp_pointers.specs.declared.wire_pointer.StructSize.{StructSize}
+use Rattle.capnp_words.specs.declared.wire_pointer.StructSize.{StructSize}
 use Rattle.capnp_making.specs.Path.{one_word, extent}
 
 -- From S to R the words in these intervals become zero; all others stay.

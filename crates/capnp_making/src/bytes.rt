@@ -32,16 +32,24 @@ pub fn set_data<A: BuilderArena>(
 ) -> Result<(), ErrorKind>
     requires place { IsPlace (A.view arena.old).words id at }
     requires few { length from.now < 2 ^ 29 }
-    ensures made { OnOk result (Puts (A.view arena.old).words (A.view arena.new).words id at (Flat 2 from.now)) }
-    ensures once_zeroed { OnOk result (PutsOnceZeroed (A.view arena.old).words (A.view arena.new).words id at (Flat 2 from.now)) }
+    ensures made { OnOk result (Puts (A.view arena.old).words (A.view arena.new).words id at
+        (Flat 2 from.now)) }
+    ensures once_zeroed { OnOk result (PutsOnceZeroed (A.view arena.old).words
+        (A.view arena.new).words id at (Flat 2 from.now)) }
     ensures fits { HasRoom (A.view arena.old) id (words_for 2 (length from.now)) → IsOk result }
     ensures granted { OnOk result (KeepsMemory (A.view arena.old) (A.view arena.new)) }
-    ensures taken { OnOk result (TakesWords (A.view arena.old) (A.view arena.new) id (words_for 2 (length from.now))) }
-    ensures behind { OnOk result (LeadsBehind (A.view arena.old) (A.view arena.new) id at (words_for 2 (length from.now))) }
-    ensures at_end { OnOk result (LeadsToEnd (A.view arena.old) (A.view arena.new) id at (words_for 2 (length from.now))) }
-    ensures named { IfErr result (IsRefusedFor (A.view arena.old) (A.view arena.new) (words_for 2 (length from.now))) }
-    ensures zeroed { OnOk result (ZeroesOld (A.view arena.old).words (A.view arena.new).words id at) }
-    ensures refused { OnErr result (Puts (A.view arena.old).words (A.view arena.new).words id at Null) }
+    ensures taken { OnOk result (TakesWords (A.view arena.old) (A.view arena.new) id
+        (words_for 2 (length from.now))) }
+    ensures behind { OnOk result (LeadsBehind (A.view arena.old) (A.view arena.new) id at
+        (words_for 2 (length from.now))) }
+    ensures at_end { OnOk result (LeadsToEnd (A.view arena.old) (A.view arena.new) id at
+        (words_for 2 (length from.now))) }
+    ensures named { IfErr result
+        (IsRefusedFor (A.view arena.old) (A.view arena.new) (words_for 2 (length from.now))) }
+    ensures zeroed { OnOk result (ZeroesOld (A.view arena.old).words
+        (A.view arena.new).words id at) }
+    ensures refused { OnErr result
+        (Puts (A.view arena.old).words (A.view arena.new).words id at Null) }
     ensures only { OnErr result (IsPruned (A.view arena.old).words (A.view arena.new).words) }
 {
     set_bytes(arena, id, at, from, from.len() as u32)
@@ -61,15 +69,22 @@ pub fn set_text<A: BuilderArena>(
 ) -> Result<(), ErrorKind>
     requires place { IsPlace (A.view arena.old).words id at }
     requires few { length from.now + 1 < 2 ^ 29 }
-    ensures made { OnOk result (Puts (A.view arena.old).words (A.view arena.new).words id at (Flat 2 (from.now ++ 0 ∷ []))) }
-    ensures once_zeroed { OnOk result (PutsOnceZeroed (A.view arena.old).words (A.view arena.new).words id at (Flat 2 (from.now ++ 0 ∷ []))) }
+    ensures made { OnOk result (Puts (A.view arena.old).words (A.view arena.new).words id at
+        (Flat 2 (from.now ++ 0 ∷ []))) }
+    ensures once_zeroed { OnOk result (PutsOnceZeroed (A.view arena.old).words
+        (A.view arena.new).words id at (Flat 2 (from.now ++ 0 ∷ []))) }
     ensures fits { HasRoom (A.view arena.old) id (words_for 2 (length from.now + 1)) → IsOk result }
     ensures granted { OnOk result (KeepsMemory (A.view arena.old) (A.view arena.new)) }
-    ensures taken { OnOk result (TakesWords (A.view arena.old) (A.view arena.new) id (words_for 2 (length from.now + 1))) }
-    ensures behind { OnOk result (LeadsBehind (A.view arena.old) (A.view arena.new) id at (words_for 2 (length from.now + 1))) }
-    ensures named { IfErr result (IsRefusedFor (A.view arena.old) (A.view arena.new) (words_for 2 (length from.now + 1))) }
-    ensures zeroed { OnOk result (ZeroesOld (A.view arena.old).words (A.view arena.new).words id at) }
-    ensures refused { OnErr result (Puts (A.view arena.old).words (A.view arena.new).words id at Null) }
+    ensures taken { OnOk result (TakesWords (A.view arena.old) (A.view arena.new) id
+        (words_for 2 (length from.now + 1))) }
+    ensures behind { OnOk result (LeadsBehind (A.view arena.old) (A.view arena.new) id at
+        (words_for 2 (length from.now + 1))) }
+    ensures named { IfErr result
+        (IsRefusedFor (A.view arena.old) (A.view arena.new) (words_for 2 (length from.now + 1))) }
+    ensures zeroed { OnOk result (ZeroesOld (A.view arena.old).words
+        (A.view arena.new).words id at) }
+    ensures refused { OnErr result
+        (Puts (A.view arena.old).words (A.view arena.new).words id at Null) }
     ensures only { OnErr result (IsPruned (A.view arena.old).words (A.view arena.new).words) }
 {
     set_bytes(arena, id, at, from, from.len() as u32 + 1)
@@ -88,16 +103,24 @@ fn set_bytes<A: BuilderArena>(
     requires place { IsPlace (A.view arena.old).words id at }
     requires enough { length from.now ≤ count }
     requires few { count < 2 ^ 29 }
-    ensures made { OnOk result (Puts (A.view arena.old).words (A.view arena.new).words id at (Flat 2 (from.now ++ zeros (count - length from.now)))) }
-    ensures once_zeroed { OnOk result (PutsOnceZeroed (A.view arena.old).words (A.view arena.new).words id at (Flat 2 (from.now ++ zeros (count - length from.now)))) }
+    ensures made { OnOk result (Puts (A.view arena.old).words (A.view arena.new).words id at
+        (Flat 2 (from.now ++ zeros (count - length from.now)))) }
+    ensures once_zeroed { OnOk result (PutsOnceZeroed (A.view arena.old).words
+        (A.view arena.new).words id at (Flat 2 (from.now ++ zeros (count - length from.now)))) }
     ensures fits { HasRoom (A.view arena.old) id (words_for 2 count) → IsOk result }
     ensures granted { OnOk result (KeepsMemory (A.view arena.old) (A.view arena.new)) }
-    ensures taken { OnOk result (TakesWords (A.view arena.old) (A.view arena.new) id (words_for 2 count)) }
-    ensures behind { OnOk result (LeadsBehind (A.view arena.old) (A.view arena.new) id at (words_for 2 count)) }
-    ensures at_end { OnOk result (LeadsToEnd (A.view arena.old) (A.view arena.new) id at (words_for 2 count)) }
-    ensures named { IfErr result (IsRefusedFor (A.view arena.old) (A.view arena.new) (words_for 2 count)) }
-    ensures zeroed { OnOk result (ZeroesOld (A.view arena.old).words (A.view arena.new).words id at) }
-    ensures refused { OnErr result (Puts (A.view arena.old).words (A.view arena.new).words id at Null) }
+    ensures taken { OnOk result (TakesWords (A.view arena.old) (A.view arena.new) id
+        (words_for 2 count)) }
+    ensures behind { OnOk result (LeadsBehind (A.view arena.old) (A.view arena.new) id at
+        (words_for 2 count)) }
+    ensures at_end { OnOk result (LeadsToEnd (A.view arena.old) (A.view arena.new) id at
+        (words_for 2 count)) }
+    ensures named { IfErr result
+        (IsRefusedFor (A.view arena.old) (A.view arena.new) (words_for 2 count)) }
+    ensures zeroed { OnOk result (ZeroesOld (A.view arena.old).words
+        (A.view arena.new).words id at) }
+    ensures refused { OnErr result
+        (Puts (A.view arena.old).words (A.view arena.new).words id at Null) }
     ensures only { OnErr result (IsPruned (A.view arena.old).words (A.view arena.new).words) }
 {
     match init_list(arena, id, at, ElementSize::Byte, count) {
@@ -113,7 +136,8 @@ fn set_bytes<A: BuilderArena>(
 fn write_bytes<A: BuilderArena>(arena: &mut A, start: Start, from: &[u8])
     requires there { start.segment < length (A.view arena.old).words }
     requires inside { HoldsBytes (A.view arena.old).words start (length from.now) }
-    ensures written { 0 < length from.now → A.segments arena.new ≡ bytes_over (A.segments arena.old) start from.now }
+    ensures written { 0 < length from.now → A.segments arena.new
+        ≡ bytes_over (A.segments arena.old) start from.now }
     ensures nothing { length from.now ≡ 0 → arena.new ≡ arena.old }
     ensures limits { KeepsLimits (A.view arena.old) (A.view arena.new) }
 {

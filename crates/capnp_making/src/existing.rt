@@ -7,7 +7,7 @@ ghost use Rattle.capnp_format.specs.Numbers.{words_for};
 ghost use Rattle.capnp_format.specs.Segments.{segment, word_at};
 ghost use Rattle.capnp_format.specs.Tree.{Tree};
 ghost use Rattle.capnp_format.specs.Word.{list_count};
-ghost use Rattle.capnp_pointers.specs.Sizes.{size_number};
+ghost use Rattle.capnp_words.specs.Sizes.{size_number};
 ghost use Rattle.capnp_making.specs.Landings.{target_of};
 ghost use Rattle.capnp_making.specs.Stored.{IsStored};
 ghost use Rattle.capnp_making.specs.Existing.{LieIn, capability_of, capability_in, listed, landing_in, is_unfound, plain_misfit, structs_misfit, unless, plain_list, tagged_list, list_in, data_in, text_in, struct_in, AreInside, LiesIn, bytes_in, ends_in_zero};
@@ -67,7 +67,8 @@ pub struct ExistingStruct {
 /// capability too.
 pub fn get_capability<A: BuilderArena>(arena: &A, id: u32, at: u32) -> Result<u32, ErrorKind>
     ensures word { result ≡ capability_of (word_at (A.view arena.now).words id at) }
-    ensures found { (t : Tree) → IsStored (A.view arena.now).words id at t → result ≡ capability_in (target (A.view arena.now).words id at) t }
+    ensures found { (t : Tree) → IsStored (A.view arena.now).words id at t
+        → result ≡ capability_in (target (A.view arena.now).words id at) t }
 {
     let word = word_of(arena, id, at);
     if word.is_null() {
@@ -83,7 +84,8 @@ pub fn get_capability<A: BuilderArena>(arena: &A, id: u32, at: u32) -> Result<u3
 /// pointer is null, or leads to anything else.
 #[inline(always)]
 pub fn get_struct<A: BuilderArena>(arena: &A, id: u32, at: u32) -> Option<ExistingStruct>
-    ensures found { (t : Tree) → IsStored (A.view arena.now).words id at t → result ≡ struct_in (target (A.view arena.now).words id at) t }
+    ensures found { (t : Tree) → IsStored (A.view arena.now).words id at t
+        → result ≡ struct_in (target (A.view arena.now).words id at) t }
     ensures inside { IfSome result (LiesIn (A.view arena.now).words) }
 {
     let word = word_of(arena, id, at);
@@ -110,7 +112,8 @@ fn struct_of<A: BuilderArena>(
 ) -> Option<ExistingStruct>
     requires is { word.0 ≡ word_at (A.view arena.now).words id at }
     requires some { word.0 ≢ 0 }
-    ensures found { (t : Tree) → IsStored (A.view arena.now).words id at t → result ≡ struct_in (target (A.view arena.now).words id at) t }
+    ensures found { (t : Tree) → IsStored (A.view arena.now).words id at t
+        → result ≡ struct_in (target (A.view arena.now).words id at) t }
     ensures inside { IfSome result (LiesIn (A.view arena.now).words) }
 {
     match landing_of(arena, id, at, word) {
@@ -144,7 +147,8 @@ fn struct_behind_pad<A: BuilderArena>(
 ) -> Option<ExistingStruct>
     requires is { word.0 ≡ word_at (A.view arena.now).words id at }
     requires some { word.0 ≢ 0 }
-    ensures found { (t : Tree) → IsStored (A.view arena.now).words id at t → result ≡ struct_in (target (A.view arena.now).words id at) t }
+    ensures found { (t : Tree) → IsStored (A.view arena.now).words id at t
+        → result ≡ struct_in (target (A.view arena.now).words id at) t }
     ensures inside { IfSome result (LiesIn (A.view arena.now).words) }
 {
     struct_of(arena, id, at, word)
@@ -164,7 +168,8 @@ pub fn get_list<A: BuilderArena>(
     expected: ElementSize,
 ) -> Result<Option<ExistingList>, ErrorKind>
     requires plain { size_number expected ≤ 6 }
-    ensures found { (t : Tree) → IsStored (A.view arena.now).words id at t → result ≡ list_in (target (A.view arena.now).words id at) expected t }
+    ensures found { (t : Tree) → IsStored (A.view arena.now).words id at t
+        → result ≡ list_in (target (A.view arena.now).words id at) expected t }
     ensures named { IfErr result (λ k. is_unfound k ≡ true) }
 {
     match follow_list(arena, id, at) {
@@ -186,7 +191,8 @@ pub fn get_list<A: BuilderArena>(
 /// Anything else is `ExistingPointerIsNotAList`, and a pointer that leads out of the message, which no
 /// stored value has, `MessageContainsOutOfBoundsPointer`.
 fn follow_list<A: BuilderArena>(arena: &A, id: u32, at: u32) -> Result<Option<Landing>, ErrorKind>
-    ensures found { (t : Tree) → IsStored (A.view arena.now).words id at t → listed result ≡ landing_in (target (A.view arena.now).words id at) t }
+    ensures found { (t : Tree) → IsStored (A.view arena.now).words id at t
+        → listed result ≡ landing_in (target (A.view arena.now).words id at) t }
     ensures named { IfErr result (λ k. is_unfound k ≡ true) }
 {
     let word = word_of(arena, id, at);
@@ -211,7 +217,8 @@ fn plain_list_at(
     size: ElementSize,
     expected: ElementSize,
 ) -> Result<Option<ExistingList>, ErrorKind>
-    ensures found { result ≡ unless (plain_misfit expected size) (plain_list (target_of landing) size (list_count landing.word.0)) }
+    ensures found { result ≡ unless (plain_misfit expected size)
+        (plain_list (target_of landing) size (list_count landing.word.0)) }
     ensures named { IfErr result (λ k. is_unfound k ≡ true) }
 {
     if data_bits_per_element(size) < data_bits_per_element(expected)
@@ -237,7 +244,8 @@ fn struct_list_at<A: BuilderArena>(
     landing: Landing,
     expected: ElementSize,
 ) -> Result<Option<ExistingList>, ErrorKind>
-    ensures found { landing.start < length (segment (A.view arena.now).words landing.segment) → result ≡ tagged_list (A.view arena.now).words (target_of landing) expected }
+    ensures found { landing.start < length (segment (A.view arena.now).words landing.segment)
+        → result ≡ tagged_list (A.view arena.now).words (target_of landing) expected }
     ensures named { IfErr result (λ k. is_unfound k ≡ true) }
 {
     match tag_at(arena, landing) {
@@ -260,8 +268,10 @@ fn struct_list_at<A: BuilderArena>(
 
 /// The tag of the list of structs at a landing, if its word lies in the segment.
 fn tag_at<A: BuilderArena>(arena: &A, landing: Landing) -> Option<WirePointer>
-    ensures there { landing.start < length (segment (A.view arena.now).words landing.segment) → IsSome result }
-    ensures word { IfSome result (λ tag. tag.0 ≡ word_at (A.view arena.now).words landing.segment landing.start) }
+    ensures there { landing.start < length (segment (A.view arena.now).words landing.segment)
+        → IsSome result }
+    ensures word { IfSome result
+        (λ tag. tag.0 ≡ word_at (A.view arena.now).words landing.segment landing.start) }
     ensures small { IsSome result → landing.start + 1 < 2 ^ 32 }
 {
     match arena.get_segment(landing.segment) {
@@ -304,7 +314,8 @@ pub fn get_data<A: BuilderArena>(
     id: u32,
     at: u32,
 ) -> Result<Option<ExistingBytes>, ErrorKind>
-    ensures found { (t : Tree) → IsStored (A.view arena.now).words id at t → result ≡ data_in (target (A.view arena.now).words id at) t }
+    ensures found { (t : Tree) → IsStored (A.view arena.now).words id at t
+        → result ≡ data_in (target (A.view arena.now).words id at) t }
     ensures named { IfErr result (λ k. is_unfound k ≡ true) }
 {
     match follow_list(arena, id, at) {
@@ -333,7 +344,8 @@ pub fn get_text<A: BuilderArena>(
     id: u32,
     at: u32,
 ) -> Result<Option<ExistingBytes>, ErrorKind>
-    ensures found { (t : Tree) → IsStored (A.view arena.now).words id at t → result ≡ text_in (target (A.view arena.now).words id at) t }
+    ensures found { (t : Tree) → IsStored (A.view arena.now).words id at t
+        → result ≡ text_in (target (A.view arena.now).words id at) t }
     ensures named { IfErr result (λ k. is_unfound k ≡ true) }
 {
     match get_data(arena, id, at) {
@@ -368,7 +380,9 @@ pub fn are_inside<A: BuilderArena>(arena: &A, bytes: ExistingBytes) -> bool
 /// Whether there is a last byte, and it is 0.
 fn is_terminated<A: BuilderArena>(arena: &A, bytes: ExistingBytes) -> bool
     ensures some { IsTrue result → 0 < bytes.length }
-    ensures ends { AreInside (A.view arena.now).words bytes → result ≡ ends_in_zero (bytes_in (segment (A.view arena.now).words bytes.segment) bytes.start bytes.length) }
+    ensures ends { AreInside (A.view arena.now).words bytes
+        → result ≡ ends_in_zero
+        (bytes_in (segment (A.view arena.now).words bytes.segment) bytes.start bytes.length) }
 {
     match arena.get_segment(bytes.segment) {
         Ok(segment) => last_is_zero(segment, bytes.start, bytes.length),
@@ -379,7 +393,8 @@ fn is_terminated<A: BuilderArena>(arena: &A, bytes: ExistingBytes) -> bool
 /// Whether the last of so many bytes from a word on is there, and 0.
 fn last_is_zero(segment: &[u8], start: u32, count: u32) -> bool
     ensures some { IsTrue result → 0 < count }
-    ensures ends { start + words_for 2 count ≤ length (words_of segment.now) → result ≡ ends_in_zero (bytes_in (words_of segment.now) start count) }
+    ensures ends { start + words_for 2 count ≤ length (words_of segment.now)
+        → result ≡ ends_in_zero (bytes_in (words_of segment.now) start count) }
 {
     if count == 0 {
         return false;

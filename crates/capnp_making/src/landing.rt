@@ -53,7 +53,8 @@ pub fn word_of<A: BuilderArena>(arena: &A, id: u32, at: u32) -> WirePointer
 #[cold]
 #[inline(never)]
 pub(crate) fn follow<A: BuilderArena>(arena: &A, id: u32, at: u32) -> Option<Landing>
-    ensures { (a : Target) → leads (A.view arena.now).words id at ≡ Some a → landed result ≡ Some a }
+    ensures { (a : Target) → leads (A.view arena.now).words id at ≡ Some a
+        → landed result ≡ Some a }
 {
     landing_of(arena, id, at, word_of(arena, id, at))
 }
@@ -67,7 +68,8 @@ pub(crate) fn landing_of<A: BuilderArena>(
     word: WirePointer,
 ) -> Option<Landing>
     requires { word.0 ≡ word_at (A.view arena.now).words id at }
-    ensures { (a : Target) → leads (A.view arena.now).words id at ≡ Some a → landed result ≡ Some a }
+    ensures { (a : Target) → leads (A.view arena.now).words id at ≡ Some a
+        → landed result ≡ Some a }
 {
     if word.kind() == WirePointerKind::Far {
         follow_far(arena, word)
@@ -101,7 +103,8 @@ fn follow_near<A: BuilderArena>(
 #[cold]
 #[inline(never)]
 fn follow_far<A: BuilderArena>(arena: &A, word: WirePointer) -> Option<Landing>
-    ensures { (a : Target) → far (A.view arena.now).words word.0 (is_double word.0) ≡ Some a → landed result ≡ Some a }
+    ensures { (a : Target) → far (A.view arena.now).words word.0 (is_double word.0) ≡ Some a
+        → landed result ≡ Some a }
 {
     let id = word.far_segment_id();
     let at = word.far_position_in_segment();

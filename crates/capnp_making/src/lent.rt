@@ -19,8 +19,11 @@ fn part_of<A: BuilderArena>(arena: &mut A, id: u32, from: usize, end: usize) -> 
     requires there { id < length (A.segments arena.old) }
     requires order { from ≤ end }
     requires inside { end ≤ length (slice_index_or (A.segments arena.old) id []) }
-    ensures* lends { sem 𝓛 (Lends A.row (Array byte 0) arena.entry result (λ ws. A.with_bytes arena.old id (overwritten (slice_index_or (A.segments arena.old) id []) from ws))) }
-    ensures now { result.now ≡ take (end - from) (drop from (slice_index_or (A.segments arena.old) id [])) }
+    ensures* lends { sem 𝓛 (Lends A.row (Array byte 0) arena.entry result
+        (λ ws. A.with_bytes arena.old id
+        (overwritten (slice_index_or (A.segments arena.old) id []) from ws))) }
+    ensures now { result.now ≡ take (end - from)
+        (drop from (slice_index_or (A.segments arena.old) id [])) }
     ensures small { (i : ℕ) → get_or (slice_index_or (A.segments arena.old) id []) i 0 < 2 ^ 8 }
 {
     let bytes = arena.segment_mut(id);
@@ -31,13 +34,16 @@ fn part_of<A: BuilderArena>(arena: &mut A, id: u32, from: usize, end: usize) -> 
 pub fn bytes_mut<A: BuilderArena>(arena: &mut A, bytes: ExistingBytes) -> &mut [u8]
     requires there { bytes.segment < length (A.view arena.old).words }
     requires inside { AreInside (A.view arena.old).words bytes }
-    ensures* lends { sem 𝓛 (Lends A.row (Array byte 0) arena.entry result (rewritten A.with_bytes A.segments arena.old bytes)) }
+    ensures* lends { sem 𝓛 (Lends A.row (Array byte 0) arena.entry result
+        (rewritten A.with_bytes A.segments arena.old bytes)) }
     ensures now { result.now ≡ bytes_of (A.segments arena.old) bytes }
     ensures count { length result.now ≡ bytes.length }
     ensures segments { (ws : List ℕ) → length ws ≡ bytes.length →
-        A.segments (rewritten A.with_bytes A.segments arena.old bytes ws) ≡ segments_with (A.segments arena.old) bytes ws }
+        A.segments (rewritten A.with_bytes A.segments arena.old bytes ws)
+        ≡ segments_with (A.segments arena.old) bytes ws }
     ensures written { (ws : List ℕ) → AreBytes bytes.length ws →
-        Overwrites (A.view arena.old).words (A.view (rewritten A.with_bytes A.segments arena.old bytes ws)).words bytes ws }
+        Overwrites (A.view arena.old).words
+        (A.view (rewritten A.with_bytes A.segments arena.old bytes ws)).words bytes ws }
 {
     let from = 8 * bytes.start as usize;
     let end = from + bytes.length as usize;

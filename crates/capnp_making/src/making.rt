@@ -8,7 +8,7 @@ ghost use Rattle.capnp_format.specs.Canonical.{offset_to, Reaches};
 ghost use Rattle.capnp_format.specs.Segments.{segment, word_at, IsPlace};
 ghost use Rattle.capnp_format.specs.Tree.{Null, Capability};
 ghost use Rattle.capnp_format.specs.Word.{offset_bits, struct_word, capability_word};
-ghost use Rattle.capnp_pointers.specs.Sizes.{size_number};
+ghost use Rattle.capnp_words.specs.Sizes.{size_number};
 ghost use Rattle.capnp_arena.specs.Taking.{IsFirstFit};
 ghost use Rattle.capnp_arena.specs.View.{KeepsLimits};
 ghost use Rattle.capnp_making.specs.Made.{IsShape, IsFew, AsksWords, zero_struct, zero_structs, zero_list, list_words, IsMadeAt, LeadsTo, LieFrom};
@@ -76,13 +76,17 @@ fn put_object<A: BuilderArena>(
     requires few { IsFew shape }
     requires some { AsksWords shape }
     requires small { amount < 2 ^ 31 }
-    ensures made { IfOk result (IsMadeAt (A.view arena.old).words (A.view arena.new).words id at shape amount) }
+    ensures made { IfOk result (IsMadeAt (A.view arena.old).words
+        (A.view arena.new).words id at shape amount) }
     ensures fits { HasRoom (A.view arena.old) id amount → IsOk result }
     ensures granted { OnOk result (KeepsMemory (A.view arena.old) (A.view arena.new)) }
     ensures taken { OnOk result (TakesWords (A.view arena.old) (A.view arena.new) id amount) }
     ensures behind { IfOk result (StandsBehind (A.view arena.old) id amount) }
-    ensures near { HasOwnRoom (A.view arena.old) id amount → OnOk result ((A.view arena.new).words ≡ with_shape (A.view arena.old).words id at shape amount) }
-    ensures at_end { HasOwnRoom (A.view arena.old) id amount → IfOk result (StartsBehind (A.view arena.old).words id) }
+    ensures near { HasOwnRoom (A.view arena.old) id amount
+        → OnOk result
+        ((A.view arena.new).words ≡ with_shape (A.view arena.old).words id at shape amount) }
+    ensures at_end { HasOwnRoom (A.view arena.old) id amount
+        → IfOk result (StartsBehind (A.view arena.old).words id) }
     ensures named { IfErr result (IsRefusedFor (A.view arena.old) (A.view arena.new) amount) }
     ensures refused { OnErr result ((A.view arena.new).words ≡ (A.view arena.old).words) }
 {
@@ -115,7 +119,8 @@ fn put_far<A: BuilderArena>(
     requires place { IsPlace (A.view arena.old).words id at }
     requires few { IsFew shape }
     requires small { amount < 2 ^ 31 }
-    ensures made { IfOk result (IsMadeAt (A.view arena.old).words (A.view arena.new).words id at shape amount) }
+    ensures made { IfOk result (IsMadeAt (A.view arena.old).words
+        (A.view arena.new).words id at shape amount) }
     ensures fits { (k : ℕ) → IsFirstFit (A.view arena.old) (amount + 1) k → IsOk result }
     ensures granted { OnOk result (KeepsMemory (A.view arena.old) (A.view arena.new)) }
     ensures taken { IfOk result (TakesNext (A.view arena.old) (A.view arena.new) (amount + 1)) }
@@ -152,8 +157,10 @@ pub fn clear<A: BuilderArena>(arena: &mut A, id: u32, at: u32)
 pub fn set_capability<A: BuilderArena>(arena: &mut A, id: u32, at: u32, index: u32)
     requires place { IsPlace (A.view arena.old).words id at }
     ensures made { Puts (A.view arena.old).words (A.view arena.new).words id at (Capability index) }
-    ensures lengths { (v : ℕ) → length (segment (A.view arena.new).words v) ≡ length (segment (A.view arena.old).words v) }
-    ensures only { IsPrunedBut (A.view arena.old).words (A.view arena.new).words id at (capability_word index) }
+    ensures lengths { (v : ℕ) → length (segment (A.view arena.new).words v)
+        ≡ length (segment (A.view arena.old).words v) }
+    ensures only { IsPrunedBut (A.view arena.old).words (A.view arena.new).words id at
+        (capability_word index) }
     ensures limits { KeepsLimits (A.view arena.old) (A.view arena.new) }
 {
     zero_object(arena, id, at);
@@ -172,16 +179,25 @@ pub fn make_struct<A: BuilderArena>(
     size: StructSize,
 ) -> Result<Start, ErrorKind>
     requires place { IsPlace (A.view arena.old).words id at }
-    ensures made { OnOk result (IsReplaced (A.view arena.old).words (A.view arena.new).words id at Null (zero_struct size)) }
+    ensures made { OnOk result (IsReplaced (A.view arena.old).words
+        (A.view arena.new).words id at Null (zero_struct size)) }
     ensures start { IfOk result (LeadsTo (A.view arena.new).words id at) }
-    ensures inside { IfOk result (LieFrom (A.view arena.new).words (size.data_words + size.pointers)) }
+    ensures inside { IfOk result (LieFrom (A.view arena.new).words
+        (size.data_words + size.pointers)) }
     ensures fits { HasRoom (A.view arena.old) id (size.data_words + size.pointers) → IsOk result }
     ensures granted { OnOk result (KeepsMemory (A.view arena.old) (A.view arena.new)) }
-    ensures taken { OnOk result (TakesWords (A.view arena.old) (A.view arena.new) id (size.data_words + size.pointers)) }
-    ensures behind { IfOk result (StandsBehind (A.view arena.old) id (size.data_words + size.pointers)) }
-    ensures near { HasStructRoom (A.view arena.old) id size → OnOk result ((A.view arena.new).words ≡ with_struct (A.view arena.old).words id at size) }
-    ensures empty { size.data_words + size.pointers ≡ 0 → OnOk result ((A.view arena.new).words ≡ with_word (A.view arena.old).words id at (struct_word (2 ^ 30 - 1) 0 0)) }
-    ensures named { IfErr result (IsRefusedFor (A.view arena.old) (A.view arena.new) (size.data_words + size.pointers)) }
+    ensures taken { OnOk result (TakesWords (A.view arena.old) (A.view arena.new) id
+        (size.data_words + size.pointers)) }
+    ensures behind { IfOk result (StandsBehind (A.view arena.old) id
+        (size.data_words + size.pointers)) }
+    ensures near { HasStructRoom (A.view arena.old) id size
+        → OnOk result ((A.view arena.new).words ≡ with_struct (A.view arena.old).words id at size) }
+    ensures empty { size.data_words + size.pointers ≡ 0
+        → OnOk result
+        ((A.view arena.new).words ≡ with_word (A.view arena.old).words id at
+        (struct_word (2 ^ 30 - 1) 0 0)) }
+    ensures named { IfErr result
+        (IsRefusedFor (A.view arena.old) (A.view arena.new) (size.data_words + size.pointers)) }
     ensures refused { OnErr result ((A.view arena.new).words ≡ (A.view arena.old).words) }
 {
     let words = size.total();
@@ -203,18 +219,27 @@ pub fn init_struct<A: BuilderArena>(
     size: StructSize,
 ) -> Result<Start, ErrorKind>
     requires place { IsPlace (A.view arena.old).words id at }
-    ensures made { OnOk result (Puts (A.view arena.old).words (A.view arena.new).words id at (zero_struct size)) }
-    ensures once_zeroed { OnOk result (PutsOnceZeroed (A.view arena.old).words (A.view arena.new).words id at (zero_struct size)) }
+    ensures made { OnOk result (Puts (A.view arena.old).words (A.view arena.new).words id at
+        (zero_struct size)) }
+    ensures once_zeroed { OnOk result (PutsOnceZeroed (A.view arena.old).words
+        (A.view arena.new).words id at (zero_struct size)) }
     ensures start { IfOk result (LeadsTo (A.view arena.new).words id at) }
-    ensures inside { IfOk result (LieFrom (A.view arena.new).words (size.data_words + size.pointers)) }
+    ensures inside { IfOk result (LieFrom (A.view arena.new).words
+        (size.data_words + size.pointers)) }
     ensures fits { HasRoom (A.view arena.old) id (size.data_words + size.pointers) → IsOk result }
     ensures granted { OnOk result (KeepsMemory (A.view arena.old) (A.view arena.new)) }
-    ensures taken { OnOk result (TakesWords (A.view arena.old) (A.view arena.new) id (size.data_words + size.pointers)) }
-    ensures behind { IfOk result (StandsBehind (A.view arena.old) id (size.data_words + size.pointers)) }
-    ensures empty { size.data_words + size.pointers ≡ 0 → OnOk result (word_at (A.view arena.new).words id at ≡ struct_word (2 ^ 30 - 1) 0 0) }
-    ensures named { IfErr result (IsRefusedFor (A.view arena.old) (A.view arena.new) (size.data_words + size.pointers)) }
-    ensures zeroed { OnOk result (ZeroesOld (A.view arena.old).words (A.view arena.new).words id at) }
-    ensures refused { OnErr result (Puts (A.view arena.old).words (A.view arena.new).words id at Null) }
+    ensures taken { OnOk result (TakesWords (A.view arena.old) (A.view arena.new) id
+        (size.data_words + size.pointers)) }
+    ensures behind { IfOk result (StandsBehind (A.view arena.old) id
+        (size.data_words + size.pointers)) }
+    ensures empty { size.data_words + size.pointers ≡ 0
+        → OnOk result (word_at (A.view arena.new).words id at ≡ struct_word (2 ^ 30 - 1) 0 0) }
+    ensures named { IfErr result
+        (IsRefusedFor (A.view arena.old) (A.view arena.new) (size.data_words + size.pointers)) }
+    ensures zeroed { OnOk result (ZeroesOld (A.view arena.old).words
+        (A.view arena.new).words id at) }
+    ensures refused { OnErr result
+        (Puts (A.view arena.old).words (A.view arena.new).words id at Null) }
     ensures only { OnErr result (IsPruned (A.view arena.old).words (A.view arena.new).words) }
 {
     zero_object(arena, id, at);
@@ -236,16 +261,26 @@ pub fn make_list<A: BuilderArena>(
     requires place { IsPlace (A.view arena.old).words id at }
     requires few { count < 2 ^ 29 }
     requires plain { size_number size ≤ 6 }
-    ensures made { OnOk result (IsReplaced (A.view arena.old).words (A.view arena.new).words id at Null (zero_list (size_number size) count)) }
+    ensures made { OnOk result (IsReplaced (A.view arena.old).words
+        (A.view arena.new).words id at Null (zero_list (size_number size) count)) }
     ensures start { IfOk result (LeadsTo (A.view arena.new).words id at) }
-    ensures inside { IfOk result (LieFrom (A.view arena.new).words (list_words (size_number size) count)) }
-    ensures fits { HasRoom (A.view arena.old) id (list_words (size_number size) count) → IsOk result }
+    ensures inside { IfOk result (LieFrom (A.view arena.new).words
+        (list_words (size_number size) count)) }
+    ensures fits { HasRoom (A.view arena.old) id (list_words (size_number size) count)
+        → IsOk result }
     ensures granted { OnOk result (KeepsMemory (A.view arena.old) (A.view arena.new)) }
-    ensures taken { OnOk result (TakesWords (A.view arena.old) (A.view arena.new) id (list_words (size_number size) count)) }
-    ensures behind { IfOk result (StandsBehind (A.view arena.old) id (list_words (size_number size) count)) }
-    ensures near { HasOwnRoom (A.view arena.old) id (list_words (size_number size) count) → OnOk result ((A.view arena.new).words ≡ with_list (A.view arena.old).words id at (size_number size) count) }
-    ensures at_end { HasOwnRoom (A.view arena.old) id (list_words (size_number size) count) → IfOk result (StartsBehind (A.view arena.old).words id) }
-    ensures named { IfErr result (IsRefusedFor (A.view arena.old) (A.view arena.new) (list_words (size_number size) count)) }
+    ensures taken { OnOk result (TakesWords (A.view arena.old) (A.view arena.new) id
+        (list_words (size_number size) count)) }
+    ensures behind { IfOk result (StandsBehind (A.view arena.old) id
+        (list_words (size_number size) count)) }
+    ensures near { HasOwnRoom (A.view arena.old) id (list_words (size_number size) count)
+        → OnOk result
+        ((A.view arena.new).words ≡ with_list (A.view arena.old).words id at
+        (size_number size) count) }
+    ensures at_end { HasOwnRoom (A.view arena.old) id (list_words (size_number size) count)
+        → IfOk result (StartsBehind (A.view arena.old).words id) }
+    ensures named { IfErr result
+        (IsRefusedFor (A.view arena.old) (A.view arena.new) (list_words (size_number size) count)) }
     ensures refused { OnErr result ((A.view arena.new).words ≡ (A.view arena.old).words) }
 {
     let words = words_of_list(size, count);
@@ -266,18 +301,28 @@ pub fn init_list<A: BuilderArena>(
     requires place { IsPlace (A.view arena.old).words id at }
     requires few { count < 2 ^ 29 }
     requires plain { size_number size ≤ 6 }
-    ensures made { OnOk result (Puts (A.view arena.old).words (A.view arena.new).words id at (zero_list (size_number size) count)) }
-    ensures once_zeroed { OnOk result (PutsOnceZeroed (A.view arena.old).words (A.view arena.new).words id at (zero_list (size_number size) count)) }
+    ensures made { OnOk result (Puts (A.view arena.old).words (A.view arena.new).words id at
+        (zero_list (size_number size) count)) }
+    ensures once_zeroed { OnOk result (PutsOnceZeroed (A.view arena.old).words
+        (A.view arena.new).words id at (zero_list (size_number size) count)) }
     ensures start { IfOk result (LeadsTo (A.view arena.new).words id at) }
-    ensures inside { IfOk result (LieFrom (A.view arena.new).words (list_words (size_number size) count)) }
-    ensures fits { HasRoom (A.view arena.old) id (list_words (size_number size) count) → IsOk result }
+    ensures inside { IfOk result (LieFrom (A.view arena.new).words
+        (list_words (size_number size) count)) }
+    ensures fits { HasRoom (A.view arena.old) id (list_words (size_number size) count)
+        → IsOk result }
     ensures granted { OnOk result (KeepsMemory (A.view arena.old) (A.view arena.new)) }
-    ensures taken { OnOk result (TakesWords (A.view arena.old) (A.view arena.new) id (list_words (size_number size) count)) }
-    ensures behind { IfOk result (StandsBehind (A.view arena.old) id (list_words (size_number size) count)) }
-    ensures at_end { HasOwnRoom (A.view arena.old) id (list_words (size_number size) count) → IfOk result (StartsBehind (A.view arena.old).words id) }
-    ensures named { IfErr result (IsRefusedFor (A.view arena.old) (A.view arena.new) (list_words (size_number size) count)) }
-    ensures zeroed { OnOk result (ZeroesOld (A.view arena.old).words (A.view arena.new).words id at) }
-    ensures refused { OnErr result (Puts (A.view arena.old).words (A.view arena.new).words id at Null) }
+    ensures taken { OnOk result (TakesWords (A.view arena.old) (A.view arena.new) id
+        (list_words (size_number size) count)) }
+    ensures behind { IfOk result (StandsBehind (A.view arena.old) id
+        (list_words (size_number size) count)) }
+    ensures at_end { HasOwnRoom (A.view arena.old) id (list_words (size_number size) count)
+        → IfOk result (StartsBehind (A.view arena.old).words id) }
+    ensures named { IfErr result
+        (IsRefusedFor (A.view arena.old) (A.view arena.new) (list_words (size_number size) count)) }
+    ensures zeroed { OnOk result (ZeroesOld (A.view arena.old).words
+        (A.view arena.new).words id at) }
+    ensures refused { OnErr result
+        (Puts (A.view arena.old).words (A.view arena.new).words id at Null) }
     ensures only { OnErr result (IsPruned (A.view arena.old).words (A.view arena.new).words) }
 {
     zero_object(arena, id, at);
@@ -311,15 +356,24 @@ pub fn make_struct_list<A: BuilderArena>(
     requires place { IsPlace (A.view arena.old).words id at }
     requires few { count < 2 ^ 30 }
     requires words { count * (size.data_words + size.pointers) < 2 ^ 29 }
-    ensures made { OnOk result (IsReplaced (A.view arena.old).words (A.view arena.new).words id at Null (zero_structs count size)) }
+    ensures made { OnOk result (IsReplaced (A.view arena.old).words
+        (A.view arena.new).words id at Null (zero_structs count size)) }
     ensures start { IfOk result (LeadsTo (A.view arena.new).words id at) }
-    ensures inside { IfOk result (LieFrom (A.view arena.new).words (1 + count * (size.data_words + size.pointers))) }
-    ensures fits { HasRoom (A.view arena.old) id (1 + count * (size.data_words + size.pointers)) → IsOk result }
+    ensures inside { IfOk result (LieFrom (A.view arena.new).words
+        (1 + count * (size.data_words + size.pointers))) }
+    ensures fits { HasRoom (A.view arena.old) id (1 + count * (size.data_words + size.pointers))
+        → IsOk result }
     ensures granted { OnOk result (KeepsMemory (A.view arena.old) (A.view arena.new)) }
-    ensures taken { OnOk result (TakesWords (A.view arena.old) (A.view arena.new) id (1 + count * (size.data_words + size.pointers))) }
-    ensures behind { IfOk result (StandsBehind (A.view arena.old) id (1 + count * (size.data_words + size.pointers))) }
-    ensures near { HasStructsRoom (A.view arena.old) id count size → OnOk result ((A.view arena.new).words ≡ with_struct_list (A.view arena.old).words id at count size) }
-    ensures named { IfErr result (IsRefusedFor (A.view arena.old) (A.view arena.new) (1 + count * (size.data_words + size.pointers))) }
+    ensures taken { OnOk result (TakesWords (A.view arena.old) (A.view arena.new) id
+        (1 + count * (size.data_words + size.pointers))) }
+    ensures behind { IfOk result (StandsBehind (A.view arena.old) id
+        (1 + count * (size.data_words + size.pointers))) }
+    ensures near { HasStructsRoom (A.view arena.old) id count size
+        → OnOk result
+        ((A.view arena.new).words ≡ with_struct_list (A.view arena.old).words id at count size) }
+    ensures named { IfErr result
+        (IsRefusedFor (A.view arena.old) (A.view arena.new)
+        (1 + count * (size.data_words + size.pointers))) }
     ensures refused { OnErr result ((A.view arena.new).words ≡ (A.view arena.old).words) }
 {
     let words = count * size.total();
@@ -347,17 +401,27 @@ pub fn init_struct_list<A: BuilderArena>(
     requires place { IsPlace (A.view arena.old).words id at }
     requires few { count < 2 ^ 30 }
     requires words { count * (size.data_words + size.pointers) < 2 ^ 29 }
-    ensures made { OnOk result (Puts (A.view arena.old).words (A.view arena.new).words id at (zero_structs count size)) }
-    ensures once_zeroed { OnOk result (PutsOnceZeroed (A.view arena.old).words (A.view arena.new).words id at (zero_structs count size)) }
+    ensures made { OnOk result (Puts (A.view arena.old).words (A.view arena.new).words id at
+        (zero_structs count size)) }
+    ensures once_zeroed { OnOk result (PutsOnceZeroed (A.view arena.old).words
+        (A.view arena.new).words id at (zero_structs count size)) }
     ensures start { IfOk result (LeadsTo (A.view arena.new).words id at) }
-    ensures inside { IfOk result (LieFrom (A.view arena.new).words (1 + count * (size.data_words + size.pointers))) }
-    ensures fits { HasRoom (A.view arena.old) id (1 + count * (size.data_words + size.pointers)) → IsOk result }
+    ensures inside { IfOk result (LieFrom (A.view arena.new).words
+        (1 + count * (size.data_words + size.pointers))) }
+    ensures fits { HasRoom (A.view arena.old) id (1 + count * (size.data_words + size.pointers))
+        → IsOk result }
     ensures granted { OnOk result (KeepsMemory (A.view arena.old) (A.view arena.new)) }
-    ensures taken { OnOk result (TakesWords (A.view arena.old) (A.view arena.new) id (1 + count * (size.data_words + size.pointers))) }
-    ensures behind { IfOk result (StandsBehind (A.view arena.old) id (1 + count * (size.data_words + size.pointers))) }
-    ensures named { IfErr result (IsRefusedFor (A.view arena.old) (A.view arena.new) (1 + count * (size.data_words + size.pointers))) }
-    ensures zeroed { OnOk result (ZeroesOld (A.view arena.old).words (A.view arena.new).words id at) }
-    ensures refused { OnErr result (Puts (A.view arena.old).words (A.view arena.new).words id at Null) }
+    ensures taken { OnOk result (TakesWords (A.view arena.old) (A.view arena.new) id
+        (1 + count * (size.data_words + size.pointers))) }
+    ensures behind { IfOk result (StandsBehind (A.view arena.old) id
+        (1 + count * (size.data_words + size.pointers))) }
+    ensures named { IfErr result
+        (IsRefusedFor (A.view arena.old) (A.view arena.new)
+        (1 + count * (size.data_words + size.pointers))) }
+    ensures zeroed { OnOk result (ZeroesOld (A.view arena.old).words
+        (A.view arena.new).words id at) }
+    ensures refused { OnErr result
+        (Puts (A.view arena.old).words (A.view arena.new).words id at Null) }
     ensures only { OnErr result (IsPruned (A.view arena.old).words (A.view arena.new).words) }
 {
     zero_object(arena, id, at);

@@ -13,7 +13,11 @@ use capnp_words::primitive::Primitive;
 pub fn set_number<A: BuilderArena, T: Primitive>(arena: &mut A, id: u32, byte: u64, value: T)
     requires inside { byte + T.BYTES ≤ 8 * length (segment (A.view arena.old).words id) }
     requires aligned { byte % T.BYTES ≡ 0 }
-    ensures written { A.view arena.new ≡ record (A.view arena.old) { words = with_field (A.view arena.old).words id (8 * byte) (8 * T.BYTES) (T.bits_of value) } }
+    ensures written { A.view arena.new
+        ≡ record (A.view arena.old) {
+          words = with_field (A.view arena.old).words id (8 * byte) (8 * T.BYTES)
+              (T.bits_of value);
+        } }
     ensures fits { T.bits_of value < 2 ^ (8 * T.BYTES) }
 {
     let start = byte as usize;
@@ -24,7 +28,9 @@ pub fn set_number<A: BuilderArena, T: Primitive>(arena: &mut A, id: u32, byte: u
 /// Writes a bit of a segment. Its position is in bits, the lowest bit of each byte first.
 pub fn set_bit<A: BuilderArena>(arena: &mut A, id: u32, bit: u64, value: bool)
     requires inside { bit < 64 * length (segment (A.view arena.old).words id) }
-    ensures { A.view arena.new ≡ record (A.view arena.old) { words = with_field (A.view arena.old).words id bit 1 (cond value 1 0) } }
+    ensures { A.view arena.new
+        ≡ record (A.view arena.old)
+        { words = with_field (A.view arena.old).words id bit 1 (cond value 1 0) } }
 {
     let bytes = arena.segment_mut(id);
     let byte = &mut bytes[(bit / 8) as usize];
@@ -41,7 +47,8 @@ pub fn set_bit<A: BuilderArena>(arena: &mut A, id: u32, bit: u64, value: bool)
 pub fn get_number<A: BuilderArena, T: Primitive>(arena: &A, id: u32, byte: u64) -> T
     requires inside { byte + T.BYTES ≤ 8 * length (segment (A.view arena.now).words id) }
     requires aligned { byte % T.BYTES ≡ 0 }
-    ensures { T.bits_of result ≡ field_in (segment (A.view arena.now).words id) (8 * byte) (8 * T.BYTES) }
+    ensures { T.bits_of result ≡ field_in (segment (A.view arena.now).words id) (8 * byte)
+        (8 * T.BYTES) }
 {
     let Ok(bytes) = arena.get_segment(id) else {
         unreachable!()

@@ -17,7 +17,8 @@ use capnp_words::wire_pointer::{
 /// Writes zeros over words that lie in a segment.
 pub fn zero_part<A: BuilderArena>(arena: &mut A, id: u32, start: u32, n: u64)
     requires { n < 2 ^ 63 }
-    ensures zeroed { start + n ≤ length (segment (A.view arena.old).words id) → IsZeroed (A.view arena.old).words (A.view arena.new).words (row id start n ∷ []) }
+    ensures zeroed { start + n ≤ length (segment (A.view arena.old).words id)
+        → IsZeroed (A.view arena.old).words (A.view arena.new).words (row id start n ∷ []) }
     ensures pruned { IsPruned (A.view arena.old).words (A.view arena.new).words }
     ensures limits { KeepsLimits (A.view arena.old) (A.view arena.new) }
 {
@@ -29,14 +30,16 @@ pub fn zero_part<A: BuilderArena>(arena: &mut A, id: u32, start: u32, n: u64)
 /// Whether so many words lie in a segment, and are at least one.
 fn holds_some<A: BuilderArena>(arena: &A, id: u32, start: u32, n: u64) -> bool
     requires { n < 2 ^ 63 }
-    ensures { IsTrue result ↔ ((0 < n) × (start + n ≤ length (segment (A.view arena.now).words id))) }
+    ensures { IsTrue result
+        ↔ ((0 < n) × (start + n ≤ length (segment (A.view arena.now).words id))) }
 {
     n > 0 && u64::from(start) + n <= u64::from(length_of(arena, id))
 }
 
 /// Makes the landing pads of a word zero, if it is a far pointer.
 pub fn zero_pads<A: BuilderArena>(arena: &mut A, word: WirePointer)
-    ensures zeroed { PadsInside (A.view arena.old).words word.0 → IsZeroed (A.view arena.old).words (A.view arena.new).words (pads_of word.0) }
+    ensures zeroed { PadsInside (A.view arena.old).words word.0
+        → IsZeroed (A.view arena.old).words (A.view arena.new).words (pads_of word.0) }
     ensures pruned { IsPruned (A.view arena.old).words (A.view arena.new).words }
     ensures limits { KeepsLimits (A.view arena.old) (A.view arena.new) }
 {
@@ -58,7 +61,9 @@ pub fn zero_pads<A: BuilderArena>(arena: &mut A, word: WirePointer)
 #[inline(always)]
 pub fn zero_object<A: BuilderArena>(arena: &mut A, id: u32, at: u32)
     requires { IsPlace (A.view arena.old).words id at }
-    ensures zeroed { (t : Tree) → IsApart (A.view arena.old).words id at t → IsZeroed (A.view arena.old).words (A.view arena.new).words (extent (A.view arena.old).words id at t) }
+    ensures zeroed { (t : Tree) → IsApart (A.view arena.old).words id at t
+        → IsZeroed (A.view arena.old).words (A.view arena.new).words
+        (extent (A.view arena.old).words id at t) }
     ensures pruned { IsPruned (A.view arena.old).words (A.view arena.new).words }
     ensures null { word_at (A.view arena.new).words id at ≡ 0 }
     ensures limits { KeepsLimits (A.view arena.old) (A.view arena.new) }
@@ -83,7 +88,8 @@ pub fn zero_object<A: BuilderArena>(arena: &mut A, id: u32, at: u32)
 #[cold]
 #[inline(never)]
 fn zero_landed<A: BuilderArena>(arena: &mut A, landing: Landing)
-    ensures zeroed { IsObjectZeroed (A.view arena.old).words (A.view arena.new).words (target_of landing) }
+    ensures zeroed { IsObjectZeroed (A.view arena.old).words (A.view arena.new).words
+        (target_of landing) }
     ensures pruned { IsPruned (A.view arena.old).words (A.view arena.new).words }
     ensures limits { KeepsLimits (A.view arena.old) (A.view arena.new) }
 {
@@ -113,7 +119,8 @@ fn zero_landed<A: BuilderArena>(arena: &mut A, landing: Landing)
 /// Makes a struct zero, and all below it.
 #[cycle(zeroing)]
 fn zero_struct<A: BuilderArena>(arena: &mut A, id: u32, start: u32, size: StructSize)
-    ensures zeroed { IsStructZeroed (A.view arena.old).words (A.view arena.new).words id start size }
+    ensures zeroed { IsStructZeroed (A.view arena.old).words
+        (A.view arena.new).words id start size }
     ensures pruned { IsPruned (A.view arena.old).words (A.view arena.new).words }
     ensures limits { KeepsLimits (A.view arena.old) (A.view arena.new) }
 {
@@ -127,7 +134,8 @@ fn zero_struct<A: BuilderArena>(arena: &mut A, id: u32, start: u32, size: Struct
 /// Makes so many pointers one behind the other zero, and all below them.
 #[cycle(zeroing)]
 fn zero_pointers<A: BuilderArena>(arena: &mut A, id: u32, start: u32, count: u32)
-    ensures zeroed { ArePointersZeroed (A.view arena.old).words (A.view arena.new).words id start count }
+    ensures zeroed { ArePointersZeroed (A.view arena.old).words
+        (A.view arena.new).words id start count }
     ensures pruned { IsPruned (A.view arena.old).words (A.view arena.new).words }
     ensures limits { KeepsLimits (A.view arena.old) (A.view arena.new) }
 {
@@ -158,8 +166,10 @@ fn zero_structs<A: BuilderArena>(arena: &mut A, id: u32, start: u32)
 /// Makes the pointers of elements one behind the other zero, and all below them.
 #[cycle(zeroing)]
 fn zero_elements<A: BuilderArena>(arena: &mut A, id: u32, start: u32, size: StructSize, count: u32)
-    requires { start + count * (size.data_words + size.pointers) ≤ length (segment (A.view arena.old).words id) }
-    ensures zeroed { AreElementsZeroed (A.view arena.old).words (A.view arena.new).words (element_row id start size count) }
+    requires { start + count * (size.data_words + size.pointers)
+        ≤ length (segment (A.view arena.old).words id) }
+    ensures zeroed { AreElementsZeroed (A.view arena.old).words (A.view arena.new).words
+        (element_row id start size count) }
     ensures pruned { IsPruned (A.view arena.old).words (A.view arena.new).words }
     ensures limits { KeepsLimits (A.view arena.old) (A.view arena.new) }
 {

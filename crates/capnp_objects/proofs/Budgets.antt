@@ -6,7 +6,7 @@ use Rattle.capnp_format.specs.Tree.{Tree, Null, Capability, Struct, Flat, Pointe
 use Rattle.capnp_format.specs.Means.{Means, MeansAll, MeansElements}
 use Rattle.capnp_words.specs.Meter.{Meter, FitsIn, less, raised, Affords}
 use Rattle.capnp_objects.specs.Spending.{after, Paid, pointers_in, pointers_in_all, pointers_in_elements}
-use Rattle.capnp_pointers.specs.declared.wire_pointer.StructSize.{StructSize}
+use Rattle.capnp_words.specs.declared.wire_pointer.StructSize.{StructSize}
 use Rattle.capnp_objects.specs.Demands.{own}
 use Rattle.capnp_objects.specs.Outcomes.{Reads, ReadsAll, ReadsElements, Entered}
 use Rattle.capnp_objects.specs.Reading.{Reading, sized}

@@ -11,7 +11,7 @@ use Rattle.capnp_objects.specs.Outcomes.{MeansThere, MeanThere, ElementsMean, Sp
 use Rattle.capnp_objects.proofs.Unreadable.{Unreadable, UnreadableAll, UnreadableElements}
 use Rattle.capnp_objects.specs.Wanted.{Form}
 use Rattle.capnp_objects.specs.Reading.{Reading, behind, pointers_of}
-use Rattle.capnp_pointers.specs.declared.wire_pointer.StructSize.{StructSize}
+use Rattle.capnp_words.specs.declared.wire_pointer.StructSize.{StructSize}
 use Rattle.capnp_format.proofs.Levels.{one_value}
 use Rattle.capnp_format.proofs.Children.{with_last, means_more}
 use Rattle.capnp_format.proofs.Slices.{length_words}

@@ -4,10 +4,10 @@ use Rattle.capnp_words.specs.declared.error.ErrorKind.{ErrorKind}
 use Rattle.capnp_words.specs.Meter.{Meter}
 use Rattle.capnp_format.specs.Word.{kind, data_words, pointer_count, element_size, list_count}
 use Rattle.capnp_format.specs.Segments.{Segments, Target}
-use Rattle.capnp_pointers.specs.declared.wire_pointer.ElementSize.{ElementSize}
-use Rattle.capnp_pointers.specs.declared.wire_pointer.ElementSize.TheVariants.{Void, Bit, Byte, TwoBytes, FourBytes, EightBytes, Pointer, InlineComposite}
-use Rattle.capnp_pointers.specs.declared.wire_pointer.StructSize.{StructSize}
-use Rattle.capnp_pointers.specs.Sizes.{size_number}
+use Rattle.capnp_words.specs.declared.wire_pointer.ElementSize.{ElementSize}
+use Rattle.capnp_words.specs.declared.wire_pointer.ElementSize.TheVariants.{Void, Bit, Byte, TwoBytes, FourBytes, EightBytes, Pointer, InlineComposite}
+use Rattle.capnp_words.specs.declared.wire_pointer.StructSize.{StructSize}
+use Rattle.capnp_words.specs.Sizes.{size_number}
 use Rattle.capnp_objects.specs.declared.object.Expected.{Expected}
 use Rattle.capnp_objects.specs.declared.object.Expected.TheVariants.{Struct, List, Text, Data}
 use Rattle.capnp_objects.specs.declared.object.Object.{Object}

@@ -17,7 +17,7 @@ use Rattle.capnp_objects.specs.declared.source.Source.TheVariants.{Arena, Defaul
 use Rattle.std.specs.Borrow.{Bor}
 use Rattle.capnp_objects.specs.declared.source.Landing.{Landing}
 use Rattle.capnp_objects.specs.declared.object.Place.{Place}
-use Rattle.capnp_pointers.specs.declared.wire_pointer.WirePointer.{WirePointer}
+use Rattle.capnp_words.specs.declared.wire_pointer.WirePointer.{WirePointer}
 use Rattle.capnp_format.specs.Bytes.{words_of, message}
 use Rattle.capnp_arena.specs.Checks.{IsUnknown}
 use Rattle.capnp_arena.proofs.MessageLemmas.{length-message}

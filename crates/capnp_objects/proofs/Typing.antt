@@ -5,7 +5,7 @@ use Rattle.capnp_words.specs.declared.error.ErrorKind.TheVariants.{UnexpectedFar
 use Rattle.capnp_words.specs.Meter.{Meter, Affords}
 use Rattle.capnp_format.specs.Word.{kind}
 use Rattle.capnp_format.specs.Segments.{Target}
-use Rattle.capnp_pointers.specs.declared.wire_pointer.PointerType.{PointerType}
+use Rattle.capnp_words.specs.declared.wire_pointer.PointerType.{PointerType}
 use Rattle.capnp_objects.specs.declared.source.Landing.{Landing}
 use Rattle.capnp_objects.specs.Landings.{target, FollowsPointer}
 use Rattle.capnp_objects.specs.Reading.{Reading, word_of}

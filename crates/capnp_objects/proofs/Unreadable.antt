@@ -1,7 +1,7 @@
 -- What is true where a reading is refused.
 use Rattle.std.proofs.Common.{◌≡◌, ℕ, ◌*◌}
 use Rattle.capnp_words.specs.declared.error.ErrorKind.{ErrorKind}
-use Rattle.capnp_pointers.specs.declared.wire_pointer.StructSize.{StructSize}
+use Rattle.capnp_words.specs.declared.wire_pointer.StructSize.{StructSize}
 use Rattle.capnp_words.specs.Meter.{Meter, Affords}
 use Rattle.capnp_format.specs.Tree.{Tree, Trees, Elements, count, element_count, capabilities, capabilities_all, capabilities_elements}
 use Rattle.capnp_objects.specs.Faults.{Somewhere, Among, AmongElements, one_less, Fails}

@@ -6,7 +6,7 @@ use Rattle.capnp_format.specs.Word.{kind, upper_half, far_position, is_double, o
 use Rattle.capnp_format.specs.Segments.{Segments, segment, Target}
 use Rattle.capnp_format.specs.Means.{Claims}
 use Rattle.capnp_words.specs.Meter.{Meter, Affords, charged}
-use Rattle.capnp_pointers.specs.Sizes.{size_number}
+use Rattle.capnp_words.specs.Sizes.{size_number}
 use Rattle.capnp_objects.specs.declared.object.Place.{Place}
 use Rattle.capnp_objects.specs.Follow.{follow_far}
 use Rattle.capnp_objects.specs.Reading.{Reading, word_of}

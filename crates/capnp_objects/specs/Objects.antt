@@ -4,7 +4,7 @@ use Rattle.capnp_format.specs.Word.{kind, offset_bits, data_words, pointer_count
 use Rattle.capnp_format.specs.Segments.{Segments, segment, Target}
 use Rattle.capnp_words.specs.Meter.{Meter, Affords}
 use Rattle.capnp_format.specs.Bytes.{words_of}
-use Rattle.capnp_pointers.specs.Sizes.{size_number}
+use Rattle.capnp_words.specs.Sizes.{size_number}
 use Rattle.capnp_objects.specs.declared.object.Place.{Place}
 use Rattle.capnp_objects.specs.declared.object.Object.{Object}
 use Rattle.capnp_objects.specs.declared.object.Object.TheVariants.{Null as ObjectNull, Capability as ObjectCapability, Struct as ObjectStruct, Flat as ObjectFlat, Pointers as ObjectPointers, Structs as ObjectStructs}

@@ -1,6 +1,6 @@
 -- What a reading of whole values gives and spends, and what is true where it is refused.
 use Rattle.std.specs.Prelude.{◌≡◌, ℕ, ◌+◌, ◌≤◌, Bool}
-use Rattle.capnp_pointers.specs.declared.wire_pointer.StructSize.{StructSize}
+use Rattle.capnp_words.specs.declared.wire_pointer.StructSize.{StructSize}
 use Rattle.capnp_words.specs.Meter.{Meter, Affords}
 use Rattle.capnp_format.specs.Segments.{Target}
 use Rattle.capnp_format.specs.Tree.{Tree, Trees, Elements, capabilities, capabilities_all, capabilities_elements}

@@ -3,7 +3,7 @@
 use Rattle.std.specs.Prelude.{◌≡◌, ◌≢◌, ◌⊎◌, ℕ, pred, ◌+◌, ◌%◌, ◌^◌, ◌<◌, cond, nat_eq, Option, Some, None, Ok, Err}
 use Rattle.capnp_words.specs.declared.error.ErrorKind.{ErrorKind}
 use Rattle.capnp_words.specs.declared.error.ErrorKind.TheVariants.{InlineCompositeListsElementsOverrunItsWordCount, InlineCompositeListsOfNonStructTypeAreNotSupported, ReadLimitExceeded}
-use Rattle.capnp_pointers.specs.declared.wire_pointer.StructSize.{StructSize}
+use Rattle.capnp_words.specs.declared.wire_pointer.StructSize.{StructSize}
 use Rattle.capnp_words.specs.Meter.{Meter, Affords}
 use Rattle.capnp_format.specs.Word.{kind, offset_bits, data_words, pointer_count, element_size, list_count, is_double}
 use Rattle.capnp_format.specs.Segments.{Segments, Target, pad}

@@ -5,8 +5,8 @@ use Rattle.capnp_words.specs.declared.error.ErrorKind.TheVariants.{MessageContai
 use Rattle.capnp_words.specs.Meter.{Meter, Affords}
 use Rattle.capnp_format.specs.Word.{kind, lower_half}
 use Rattle.capnp_format.specs.Segments.{Target}
-use Rattle.capnp_pointers.specs.declared.wire_pointer.PointerType.{PointerType}
-use Rattle.capnp_pointers.specs.declared.wire_pointer.PointerType.TheVariants.{Null, Struct, List, Capability}
+use Rattle.capnp_words.specs.declared.wire_pointer.PointerType.{PointerType}
+use Rattle.capnp_words.specs.declared.wire_pointer.PointerType.TheVariants.{Null, Struct, List, Capability}
 use Rattle.capnp_objects.specs.Reading.{Reading, word_of}
 use Rattle.capnp_objects.specs.Refusals.{FollowsTo, Unfollowed}
 use Rattle.capnp_objects.specs.Spending.{Paid}

@@ -8,7 +8,7 @@ ghost use Rattle.capnp_words.specs.Meter.{Affords, charged, counted_once};
 ghost use Rattle.capnp_words.specs.declared.error.ErrorKind.TheVariants.{ReadLimitExceeded};
 ghost use Rattle.capnp_objects.specs.Source.{source_segments, source_charging, levels};
 ghost use Rattle.capnp_format.specs.Bytes.{message};
-ghost use Rattle.capnp_pointers.specs.Sizes.{size_number};
+ghost use Rattle.capnp_words.specs.Sizes.{size_number};
 ghost use Rattle.capnp_objects.specs.Demands.{claim};
 ghost use Rattle.capnp_objects.specs.Reading.{reading_at, word_of};
 ghost use Rattle.capnp_objects.specs.Wanted.{plain};
@@ -75,10 +75,14 @@ impl<'a, A: ReaderArena> Source<'a, A> {
         lim: &mut ReadLimiter,
     ) -> Result<Object<'a>, ErrorKind>
         requires held { IsHeld (source_segments A.segments self) place }
-        ensures object { IfOk result (IsObject (reading_at A.ReaderArena self.entry place.entry nesting_limit) lim.old lim.new) }
+        ensures object { IfOk result (IsObject
+            (reading_at A.ReaderArena self.entry place.entry nesting_limit) lim.old lim.new) }
         ensures few { IfOk result IsFew }
-        ensures exactly { IsOk result ↔ CanBeRead (reading_at A.ReaderArena self.entry place.entry nesting_limit) lim.old }
-        ensures refused { IfErr result (Stopped plain (reading_at A.ReaderArena self.entry place.entry nesting_limit) lim.old lim.new) }
+        ensures exactly { IsOk result ↔ CanBeRead
+            (reading_at A.ReaderArena self.entry place.entry nesting_limit) lim.old }
+        ensures refused { IfErr result
+            (Stopped plain (reading_at A.ReaderArena self.entry place.entry nesting_limit)
+            lim.old lim.new) }
     {
         let word = place.word();
         if word.is_null() {
@@ -107,8 +111,12 @@ impl<'a, A: ReaderArena> Source<'a, A> {
         requires small { word.0 < 2 ^ 64 }
         requires some { word.0 ≢ 0 }
         requires is_struct { kind word.0 ≡ 0 }
-        ensures object { IfOk result (λ at. EntersStruct (reading_at A.ReaderArena self.entry place.entry nesting_limit) lim.old lim.new (record place.entry { at = at })) }
-        ensures refused { IfErr result (Stopped plain (reading_at A.ReaderArena self.entry place.entry nesting_limit) lim.old lim.new) }
+        ensures object { IfOk result (λ at. EntersStruct
+            (reading_at A.ReaderArena self.entry place.entry nesting_limit) lim.old lim.new
+            (record place.entry { at = at })) }
+        ensures refused { IfErr result
+            (Stopped plain (reading_at A.ReaderArena self.entry place.entry nesting_limit)
+            lim.old lim.new) }
     {
         self.count(lim);
         let landing = match self.follow(place, word, nesting_limit, lim) {
@@ -142,8 +150,10 @@ impl<'a, A: ReaderArena> Source<'a, A> {
 
     // Charges words, which only an arena does.
     fn charge(self, words: u64, lim: &mut ReadLimiter) -> Result<(), ErrorKind>
-        ensures exactly { IsOk result ↔ Affords (source_charging A.charging self.entry) lim.old words }
-        ensures granted { OnOk result (lim.new ≡ charged (source_charging A.charging self.entry) lim.old words) }
+        ensures exactly { IsOk result ↔ Affords (source_charging A.charging self.entry)
+            lim.old words }
+        ensures granted { OnOk result (lim.new ≡ charged
+            (source_charging A.charging self.entry) lim.old words) }
         ensures refused { OnErr result (lim.new ≡ lim.old) }
         ensures named { IfErr result (λ k. k ≡ ReadLimitExceeded) }
     {
@@ -167,8 +177,11 @@ impl<'a, A: ReaderArena> Source<'a, A> {
         requires held { IsHeld (source_segments A.segments self) place }
         requires there { word.0 ≡ word_at (source_segments A.segments self) place.segment place.at }
         requires small { word.0 < 2 ^ 64 }
-        ensures followed { IfOk result (FollowsPointer (reading_at A.ReaderArena self.entry place.entry nesting_limit) lim.old lim.new) }
-        ensures refused { IfErr result (FailsPointer (reading_at A.ReaderArena self.entry place.entry nesting_limit) lim.old lim.new) }
+        ensures followed { IfOk result (FollowsPointer
+            (reading_at A.ReaderArena self.entry place.entry nesting_limit) lim.old lim.new) }
+        ensures refused { IfErr result
+            (FailsPointer (reading_at A.ReaderArena self.entry place.entry nesting_limit)
+            lim.old lim.new) }
     {
         if word.kind() == WirePointerKind::Far {
             return match self {
@@ -195,9 +208,13 @@ impl<'a, A: ReaderArena> Source<'a, A> {
         lim: &mut ReadLimiter,
     ) -> Result<Object<'a>, ErrorKind>
         requires held { IsHeld (source_segments A.segments self) landing.start }
-        ensures object { IfOk result (λ x. IsOpened (source_segments A.segments self.entry) (source_charging A.charging self.entry) depth (target landing.entry) lim.old lim.new x) }
+        ensures object { IfOk result (λ x. IsOpened (source_segments A.segments self.entry)
+            (source_charging A.charging self.entry) depth
+            (target landing.entry) lim.old lim.new x) }
         ensures few { IfOk result IsFew }
-        ensures refused { IfErr result (NotEntered (source_segments A.segments self.entry) (source_charging A.charging self.entry) depth (target landing.entry) lim.old lim.new) }
+        ensures refused { IfErr result
+            (NotEntered (source_segments A.segments self.entry)
+            (source_charging A.charging self.entry) depth (target landing.entry) lim.old lim.new) }
     {
         match landing.word.kind() {
             WirePointerKind::Struct => self.enter_struct(landing, depth, lim),
@@ -224,8 +241,11 @@ impl<'a, A: ReaderArena> Source<'a, A> {
         requires held { IsHeld (source_segments A.segments self) landing.start }
         requires is_object { kind landing.word.0 < 2 }
         requires claimed { words ≡ claim landing.word.0 }
-        ensures claimed { OnOk result (IsClaimed (source_segments A.segments self.entry) (source_charging A.charging self.entry) depth (target landing.entry) lim.old lim.new) }
-        ensures refused { IfErr result (NotEntered (source_segments A.segments self.entry) (source_charging A.charging self.entry) depth (target landing.entry) lim.old lim.new) }
+        ensures claimed { OnOk result (IsClaimed (source_segments A.segments self.entry)
+            (source_charging A.charging self.entry) depth (target landing.entry) lim.old lim.new) }
+        ensures refused { IfErr result
+            (NotEntered (source_segments A.segments self.entry)
+            (source_charging A.charging self.entry) depth (target landing.entry) lim.old lim.new) }
     {
         if depth == 0 {
             return Err(ErrorKind::MessageIsTooDeeplyNestedOrContainsCycles);
@@ -246,9 +266,13 @@ impl<'a, A: ReaderArena> Source<'a, A> {
     ) -> Result<Object<'a>, ErrorKind>
         requires held { IsHeld (source_segments A.segments self) landing.start }
         requires is_struct { kind landing.word.0 ≡ 0 }
-        ensures object { IfOk result (λ x. IsOpened (source_segments A.segments self.entry) (source_charging A.charging self.entry) depth (target landing.entry) lim.old lim.new x) }
+        ensures object { IfOk result (λ x. IsOpened (source_segments A.segments self.entry)
+            (source_charging A.charging self.entry) depth
+            (target landing.entry) lim.old lim.new x) }
         ensures few { IfOk result IsFew }
-        ensures refused { IfErr result (NotEntered (source_segments A.segments self.entry) (source_charging A.charging self.entry) depth (target landing.entry) lim.old lim.new) }
+        ensures refused { IfErr result
+            (NotEntered (source_segments A.segments self.entry)
+            (source_charging A.charging self.entry) depth (target landing.entry) lim.old lim.new) }
     {
         match self.claim(landing, landing.word.struct_word_size(), depth, lim) {
             Ok(()) => Ok(Object::Struct {
@@ -269,9 +293,13 @@ impl<'a, A: ReaderArena> Source<'a, A> {
     ) -> Result<Object<'a>, ErrorKind>
         requires held { IsHeld (source_segments A.segments self) landing.start }
         requires is_list { kind landing.word.0 ≡ 1 }
-        ensures object { IfOk result (λ x. IsOpened (source_segments A.segments self.entry) (source_charging A.charging self.entry) depth (target landing.entry) lim.old lim.new x) }
+        ensures object { IfOk result (λ x. IsOpened (source_segments A.segments self.entry)
+            (source_charging A.charging self.entry) depth
+            (target landing.entry) lim.old lim.new x) }
         ensures few { IfOk result IsFew }
-        ensures refused { IfErr result (NotEntered (source_segments A.segments self.entry) (source_charging A.charging self.entry) depth (target landing.entry) lim.old lim.new) }
+        ensures refused { IfErr result
+            (NotEntered (source_segments A.segments self.entry)
+            (source_charging A.charging self.entry) depth (target landing.entry) lim.old lim.new) }
     {
         match landing.word.list_element_size() {
             ElementSize::InlineComposite => self.enter_structs(landing, depth, lim),
@@ -292,9 +320,13 @@ impl<'a, A: ReaderArena> Source<'a, A> {
         requires is_list { kind landing.word.0 ≡ 1 }
         requires is_size { size_number size ≡ element_size landing.word.0 }
         requires is_flat { size_number size ≤ 5 }
-        ensures object { IfOk result (λ x. IsOpened (source_segments A.segments self.entry) (source_charging A.charging self.entry) depth (target landing.entry) lim.old lim.new x) }
+        ensures object { IfOk result (λ x. IsOpened (source_segments A.segments self.entry)
+            (source_charging A.charging self.entry) depth
+            (target landing.entry) lim.old lim.new x) }
         ensures few { IfOk result IsFew }
-        ensures refused { IfErr result (NotEntered (source_segments A.segments self.entry) (source_charging A.charging self.entry) depth (target landing.entry) lim.old lim.new) }
+        ensures refused { IfErr result
+            (NotEntered (source_segments A.segments self.entry)
+            (source_charging A.charging self.entry) depth (target landing.entry) lim.old lim.new) }
     {
         let count = landing.word.list_element_count();
         let bits = data_bits_per_element(size);
@@ -323,9 +355,13 @@ impl<'a, A: ReaderArena> Source<'a, A> {
         requires held { IsHeld (source_segments A.segments self) landing.start }
         requires is_list { kind landing.word.0 ≡ 1 }
         requires of_pointers { element_size landing.word.0 ≡ 6 }
-        ensures object { IfOk result (λ x. IsOpened (source_segments A.segments self.entry) (source_charging A.charging self.entry) depth (target landing.entry) lim.old lim.new x) }
+        ensures object { IfOk result (λ x. IsOpened (source_segments A.segments self.entry)
+            (source_charging A.charging self.entry) depth
+            (target landing.entry) lim.old lim.new x) }
         ensures few { IfOk result IsFew }
-        ensures refused { IfErr result (NotEntered (source_segments A.segments self.entry) (source_charging A.charging self.entry) depth (target landing.entry) lim.old lim.new) }
+        ensures refused { IfErr result
+            (NotEntered (source_segments A.segments self.entry)
+            (source_charging A.charging self.entry) depth (target landing.entry) lim.old lim.new) }
     {
         let count = landing.word.list_element_count();
         match self.claim(landing, count, depth, lim) {
@@ -347,9 +383,13 @@ impl<'a, A: ReaderArena> Source<'a, A> {
         requires held { IsHeld (source_segments A.segments self) landing.start }
         requires is_list { kind landing.word.0 ≡ 1 }
         requires of_structs { element_size landing.word.0 ≡ 7 }
-        ensures object { IfOk result (λ x. IsOpened (source_segments A.segments self.entry) (source_charging A.charging self.entry) depth (target landing.entry) lim.old lim.new x) }
+        ensures object { IfOk result (λ x. IsOpened (source_segments A.segments self.entry)
+            (source_charging A.charging self.entry) depth
+            (target landing.entry) lim.old lim.new x) }
         ensures few { IfOk result IsFew }
-        ensures refused { IfErr result (NotEntered (source_segments A.segments self.entry) (source_charging A.charging self.entry) depth (target landing.entry) lim.old lim.new) }
+        ensures refused { IfErr result
+            (NotEntered (source_segments A.segments self.entry)
+            (source_charging A.charging self.entry) depth (target landing.entry) lim.old lim.new) }
     {
         let words = landing.word.list_inline_composite_word_count();
         match self.claim(landing, words + 1, depth, lim) {
@@ -380,8 +420,10 @@ impl<'a, A: ReaderArena> Source<'a, A> {
 
     // Charges the number of a list's elements where these have no width.
     fn charge_count(self, width: u32, count: u32, lim: &mut ReadLimiter) -> Result<(), ErrorKind>
-        ensures exactly { IsOk result ↔ Affords (source_charging A.charging self.entry) lim.old (count_cost width count) }
-        ensures granted { OnOk result (lim.new ≡ charged (source_charging A.charging self.entry) lim.old (count_cost width count)) }
+        ensures exactly { IsOk result ↔ Affords (source_charging A.charging self.entry) lim.old
+            (count_cost width count) }
+        ensures granted { OnOk result (lim.new ≡ charged
+            (source_charging A.charging self.entry) lim.old (count_cost width count)) }
         ensures refused { OnErr result (lim.new ≡ lim.old) }
         ensures named { IfErr result (λ k. k ≡ ReadLimitExceeded) }
     {
@@ -402,8 +444,10 @@ fn follow_far<'a, A: ReaderArena>(
 ) -> Result<Landing<'a>, ErrorKind>
     requires some { 0 < length (message (A.segments arena.now)) }
     requires is_far { kind far.0 ≡ 2 }
-    ensures followed { IfOk result (FollowsFar (message (A.segments arena.now)) (A.charging arena.now) far.0 lim.old lim.new) }
-    ensures refused { IfErr result (FailsFar (message (A.segments arena.now)) (A.charging arena.now) far.0 lim.old lim.new) }
+    ensures followed { IfOk result (FollowsFar (message (A.segments arena.now))
+        (A.charging arena.now) far.0 lim.old lim.new) }
+    ensures refused { IfErr result
+        (FailsFar (message (A.segments arena.now)) (A.charging arena.now) far.0 lim.old lim.new) }
 {
     let pad = match landing_pad(arena, far, lim) {
         Ok(pad) => pad,
@@ -448,8 +492,10 @@ fn landing_pad<'a, A: ReaderArena>(
 ) -> Result<Place<'a>, ErrorKind>
     requires some { 0 < length (message (A.segments arena.now)) }
     requires is_far { kind far.0 ≡ 2 }
-    ensures pad { IfOk result (IsPad (message (A.segments arena.now)) (A.charging arena.now) far.0 lim.old lim.new) }
-    ensures refused { IfErr result (FailsFar (message (A.segments arena.now)) (A.charging arena.now) far.0 lim.old lim.new) }
+    ensures pad { IfOk result (IsPad (message (A.segments arena.now))
+        (A.charging arena.now) far.0 lim.old lim.new) }
+    ensures refused { IfErr result
+        (FailsFar (message (A.segments arena.now)) (A.charging arena.now) far.0 lim.old lim.new) }
 {
     let id = far.far_segment_id();
     let bytes = match arena.get_segment(id) {

@@ -7,7 +7,7 @@ use Rattle.capnp_format.specs.Numbers.{words_for}
 use Rattle.capnp_format.specs.Segments.{Target, segment, words_at}
 use Rattle.capnp_format.specs.Word.{list_count}
 use Rattle.capnp_format.proofs.WordsOf.{words_of-part}
-use Rattle.capnp_pointers.specs.declared.wire_pointer.ElementSize.TheVariants.{Byte}
+use Rattle.capnp_words.specs.declared.wire_pointer.ElementSize.TheVariants.{Byte}
 use Rattle.capnp_objects.specs.Demands.{claim}
 use Rattle.capnp_objects.specs.declared.object.Object.TheVariants.{Flat as ObjectFlat}
 use Rattle.capnp_objects.specs.declared.object.Place.{Place}

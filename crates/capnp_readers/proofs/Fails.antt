@@ -5,9 +5,9 @@ use Rattle.capnp_format.specs.Word.{kind, offset_bits, pointer_count, list_count
 use Rattle.capnp_format.specs.Bytes.{words_of}
 use Rattle.capnp_format.specs.Segments.{Segments}
 use Rattle.capnp_words.specs.Meter.{Meter}
-use Rattle.capnp_pointers.specs.declared.wire_pointer.StructSize.{StructSize}
-use Rattle.capnp_pointers.specs.declared.wire_pointer.ElementSize.{ElementSize}
-use Rattle.capnp_pointers.specs.Sizes.{size_number}
+use Rattle.capnp_words.specs.declared.wire_pointer.StructSize.{StructSize}
+use Rattle.capnp_words.specs.declared.wire_pointer.ElementSize.{ElementSize}
+use Rattle.capnp_words.specs.Sizes.{size_number}
 use Rattle.capnp_objects.specs.declared.object.Object.{Object}
 use Rattle.capnp_objects.specs.declared.object.Object.TheVariants.{Null as ObjectNull, Capability as ObjectCapability, Struct as ObjectStruct, Flat as ObjectFlat, Pointers as ObjectPointers, Structs as ObjectStructs}
 use Rattle.capnp_objects.specs.declared.object.Place.{Place}

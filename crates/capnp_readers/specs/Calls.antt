@@ -9,8 +9,8 @@ use Rattle.capnp_format.specs.Bytes.{words_of}
 use Rattle.capnp_format.specs.Numbers.{words_for}
 use Rattle.capnp_format.specs.Segments.{Target, word_at, words_at}
 use Rattle.capnp_format.specs.Word.{list_count}
-use Rattle.capnp_pointers.specs.declared.wire_pointer.ElementSize.{ElementSize}
-use Rattle.capnp_pointers.specs.declared.wire_pointer.ElementSize.TheVariants.{Void}
+use Rattle.capnp_words.specs.declared.wire_pointer.ElementSize.{ElementSize}
+use Rattle.capnp_words.specs.declared.wire_pointer.ElementSize.TheVariants.{Void}
 use Rattle.capnp_arena.specs.declared.arena.reader_arena.ReaderArena.{Ghosts}
 use Rattle.capnp_objects.specs.declared.object.Expected.{Expected}
 use Rattle.capnp_objects.specs.declared.object.Expected.TheVariants.{Text}

@@ -2,10 +2,10 @@
 use Rattle.std.specs.Prelude.{◌≡◌, ℕ, List, take, drop, length, ◌+◌, ◌*◌, ◌/◌, ◌%◌, ◌^◌, slice_index, slice_range, min, ◌<◌, ◌≤◌}
 use Rattle.capnp_format.specs.Segments.{Segments, segment}
 use Rattle.capnp_format.specs.Numbers.{from_digits, words_for, element_bits}
-use Rattle.capnp_pointers.specs.Sizes.{size_number}
-use Rattle.capnp_pointers.specs.declared.wire_pointer.ElementSize.{ElementSize}
-use Rattle.capnp_pointers.specs.declared.wire_pointer.ElementSize.TheVariants.{Bit, Pointer, InlineComposite}
-use Rattle.capnp_pointers.specs.declared.wire_pointer.StructSize.{StructSize}
+use Rattle.capnp_words.specs.Sizes.{size_number}
+use Rattle.capnp_words.specs.declared.wire_pointer.ElementSize.{ElementSize}
+use Rattle.capnp_words.specs.declared.wire_pointer.ElementSize.TheVariants.{Bit, Pointer, InlineComposite}
+use Rattle.capnp_words.specs.declared.wire_pointer.StructSize.{StructSize}
 use Rattle.capnp_objects.specs.declared.object.Place.{Place}
 
 -- Bytes in which so many bits stand.

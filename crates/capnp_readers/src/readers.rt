@@ -103,11 +103,14 @@ impl<'a, A: ReaderArena> PointerReader<'a, A> {
     /// `InvalidSegmentId(0)`, or `TriedToReadFromNullArena` in a `NullArena`, and where the limiter
     /// doesn't cover a word `ReadLimitExceeded`. A refusal leaves the limiter as it was.
     pub fn get_root_from_arena(arena: &'a A, lim: &mut ReadLimiter) -> Result<Self, ErrorKind>
-        ensures exactly { IsOk result ↔ Holds (message (A.segments arena.now)) 0 0 1 × Affords (A.charging arena.now) lim.old 1 }
+        ensures exactly { IsOk result ↔ Holds (message (A.segments arena.now)) 0 0 1
+            × Affords (A.charging arena.now) lim.old 1 }
         ensures granted { OnOk result (lim.new ≡ charged (A.charging arena.now) lim.old 1) }
         ensures refused { OnErr result (lim.new ≡ lim.old) }
-        ensures outside { IfErr result (λ k. (Holds (message (A.segments arena.now)) 0 0 1 → ⊥) → k ≡ misplaced (message (A.segments arena.now)) 0 (A.absent arena.now 0)) }
-        ensures budget { IfErr result (λ k. Holds (message (A.segments arena.now)) 0 0 1 → k ≡ ReadLimitExceeded) }
+        ensures outside { IfErr result (λ k. (Holds (message (A.segments arena.now)) 0 0 1 → ⊥)
+            → k ≡ misplaced (message (A.segments arena.now)) 0 (A.absent arena.now 0)) }
+        ensures budget { IfErr result (λ k. Holds (message (A.segments arena.now)) 0 0 1
+            → k ≡ ReadLimitExceeded) }
         ensures source { IfOk result (λ r. r.source ≡ Source.Arena arena.entry) }
         ensures place { IfOk result (λ r. (r.place.segment ≡ 0) × (r.place.at ≡ 0)) }
         ensures nesting { IfOk result (λ r. r.nesting_limit ≡ A.nesting arena.now) }
@@ -190,8 +193,10 @@ impl<'a, A: ReaderArena> PointerReader<'a, A> {
     fn default_of(self, expected: Expected, bytes: &'a [u8]) -> Result<Self, ErrorKind>
         requires null { word_of (reading A.ReaderArena self) ≡ 0 }
         requires small { length bytes.now / 8 < 2 ^ 32 }
-        ensures read { IfOk result (λ p. IsRead A.ReaderArena expected self.entry p (Some bytes.entry)) }
-        ensures unread { IfErr result (λ k. IsUnread A.ReaderArena expected self.entry k (Some bytes.entry)) }
+        ensures read { IfOk result (λ p. IsRead A.ReaderArena expected self.entry p
+            (Some bytes.entry)) }
+        ensures unread { IfErr result
+            (λ k. IsUnread A.ReaderArena expected self.entry k (Some bytes.entry)) }
     {
         let default = match Self::from_default(bytes) {
             Ok(default) => default,
@@ -216,7 +221,8 @@ impl<'a, A: ReaderArena> PointerReader<'a, A> {
     fn or_default(self, expected: Expected, default: Option<&'a [u8]>) -> Result<Self, ErrorKind>
         requires small { IfSome default (λ bytes. length bytes.now / 8 < 2 ^ 32) }
         ensures read { IfOk result (λ p. IsRead A.ReaderArena expected self.entry p default.entry) }
-        ensures unread { IfErr result (λ k. IsUnread A.ReaderArena expected self.entry k default.entry) }
+        ensures unread { IfErr result
+            (λ k. IsUnread A.ReaderArena expected self.entry k default.entry) }
     {
         match default {
             None => Ok(self),
@@ -239,12 +245,17 @@ impl<'a, A: ReaderArena> PointerReader<'a, A> {
         default: Option<&'a [u8]>,
     ) -> Result<(Self, Object<'a>), ErrorKind>
         requires small { IfSome default (λ bytes. length bytes.now / 8 < 2 ^ 32) }
-        ensures read { IfOk result (λ x. IsRead A.ReaderArena expected self.entry x.0 default.entry) }
-        ensures object { IfOk result (λ x. IsObject (one_level (reading A.ReaderArena x.0)) lim.old lim.new x.1) }
+        ensures read { IfOk result (λ x.
+            IsRead A.ReaderArena expected self.entry x.0 default.entry) }
+        ensures object { IfOk result (λ x.
+            IsObject (one_level (reading A.ReaderArena x.0)) lim.old lim.new x.1) }
         ensures given { IfOk result (λ x. IsGiven expected (reading A.ReaderArena x.0).levels x.1) }
         ensures few { IfOk result (λ x. IsFew x.1) }
-        ensures exactly { IsOk result ↔ IsAnswered A.ReaderArena (call A.ReaderArena self.entry expected default.entry) lim.old }
-        ensures refused { IfErr result (IsRefused A.ReaderArena (call A.ReaderArena self.entry expected default.entry) lim.old lim.new) }
+        ensures exactly { IsOk result ↔ IsAnswered A.ReaderArena
+            (call A.ReaderArena self.entry expected default.entry) lim.old }
+        ensures refused { IfErr result
+            (IsRefused A.ReaderArena (call A.ReaderArena self.entry expected default.entry)
+            lim.old lim.new) }
     {
         let from = match self.or_default(expected, default) {
             Ok(from) => from,
@@ -278,9 +289,14 @@ impl<'a, A: ReaderArena> PointerReader<'a, A> {
         default: Option<&'a [u8]>,
     ) -> Result<StructReader<'a, A>, ErrorKind>
         requires small { IfSome default (λ bytes. length bytes.now / 8 < 2 ^ 32) }
-        ensures read { IfOk result (λ r. WhereRead A.ReaderArena (call A.ReaderArena self.entry Expected.Struct default.entry) (λ p. IsStructRead A.ReaderArena p lim.old lim.new r)) }
-        ensures exactly { IsOk result ↔ IsAnswered A.ReaderArena (call A.ReaderArena self.entry Expected.Struct default.entry) lim.old }
-        ensures refused { IfErr result (IsRefused A.ReaderArena (call A.ReaderArena self.entry Expected.Struct default.entry) lim.old lim.new) }
+        ensures read { IfOk result (λ r. WhereRead A.ReaderArena
+            (call A.ReaderArena self.entry Expected.Struct default.entry)
+            (λ p. IsStructRead A.ReaderArena p lim.old lim.new r)) }
+        ensures exactly { IsOk result ↔ IsAnswered A.ReaderArena
+            (call A.ReaderArena self.entry Expected.Struct default.entry) lim.old }
+        ensures refused { IfErr result
+            (IsRefused A.ReaderArena (call A.ReaderArena self.entry Expected.Struct default.entry)
+            lim.old lim.new) }
     {
         let (from, object) = match self.expect(Expected::Struct, lim, default) {
             Ok(found) => found,
@@ -315,9 +331,15 @@ impl<'a, A: ReaderArena> PointerReader<'a, A> {
     ) -> Result<ListReader<'a, A>, ErrorKind>
         requires small { IfSome default (λ bytes. length bytes.now / 8 < 2 ^ 32) }
         ensures read { IfOk result (GivesList A.ReaderArena expected_element_size
-            (call A.ReaderArena self.entry (Expected.List expected_element_size) default.entry) lim.old lim.new) }
-        ensures exactly { IsOk result ↔ IsAnswered A.ReaderArena (call A.ReaderArena self.entry (Expected.List expected_element_size) default.entry) lim.old }
-        ensures refused { IfErr result (IsRefused A.ReaderArena (call A.ReaderArena self.entry (Expected.List expected_element_size) default.entry) lim.old lim.new) }
+            (call A.ReaderArena self.entry (Expected.List expected_element_size) default.entry)
+            lim.old lim.new) }
+        ensures exactly { IsOk result ↔ IsAnswered A.ReaderArena
+            (call A.ReaderArena self.entry (Expected.List expected_element_size) default.entry)
+            lim.old }
+        ensures refused { IfErr result
+            (IsRefused A.ReaderArena
+            (call A.ReaderArena self.entry (Expected.List expected_element_size) default.entry)
+            lim.old lim.new) }
     {
         let expected = Expected::List(expected_element_size);
         let (from, object) = match self.expect(expected, lim, default) {
@@ -347,9 +369,14 @@ impl<'a, A: ReaderArena> PointerReader<'a, A> {
         default: Option<&'a [u8]>,
     ) -> Result<&'a [u8], ErrorKind>
         requires small { IfSome default (λ bytes. length bytes.now / 8 < 2 ^ 32) }
-        ensures read { IfOk result (λ bytes. WhereRead A.ReaderArena (call A.ReaderArena self.entry Expected.Text default.entry) (λ p. AreBytesRead A.ReaderArena Expected.Text p lim.old lim.new bytes.now)) }
-        ensures exactly { IsOk result ↔ IsAnswered A.ReaderArena (call A.ReaderArena self.entry Expected.Text default.entry) lim.old }
-        ensures refused { IfErr result (IsRefused A.ReaderArena (call A.ReaderArena self.entry Expected.Text default.entry) lim.old lim.new) }
+        ensures read { IfOk result (λ bytes. WhereRead A.ReaderArena
+            (call A.ReaderArena self.entry Expected.Text default.entry)
+            (λ p. AreBytesRead A.ReaderArena Expected.Text p lim.old lim.new bytes.now)) }
+        ensures exactly { IsOk result ↔ IsAnswered A.ReaderArena
+            (call A.ReaderArena self.entry Expected.Text default.entry) lim.old }
+        ensures refused { IfErr result
+            (IsRefused A.ReaderArena (call A.ReaderArena self.entry Expected.Text default.entry)
+            lim.old lim.new) }
     {
         let (_, object) = match self.expect(Expected::Text, lim, default) {
             Ok(found) => found,
@@ -373,9 +400,14 @@ impl<'a, A: ReaderArena> PointerReader<'a, A> {
         default: Option<&'a [u8]>,
     ) -> Result<&'a [u8], ErrorKind>
         requires small { IfSome default (λ bytes. length bytes.now / 8 < 2 ^ 32) }
-        ensures read { IfOk result (λ bytes. WhereRead A.ReaderArena (call A.ReaderArena self.now Expected.Data default.entry) (λ p. AreBytesRead A.ReaderArena Expected.Data p lim.old lim.new bytes.now)) }
-        ensures exactly { IsOk result ↔ IsAnswered A.ReaderArena (call A.ReaderArena self.now Expected.Data default.entry) lim.old }
-        ensures refused { IfErr result (IsRefused A.ReaderArena (call A.ReaderArena self.now Expected.Data default.entry) lim.old lim.new) }
+        ensures read { IfOk result (λ bytes. WhereRead A.ReaderArena
+            (call A.ReaderArena self.now Expected.Data default.entry)
+            (λ p. AreBytesRead A.ReaderArena Expected.Data p lim.old lim.new bytes.now)) }
+        ensures exactly { IsOk result ↔ IsAnswered A.ReaderArena
+            (call A.ReaderArena self.now Expected.Data default.entry) lim.old }
+        ensures refused { IfErr result
+            (IsRefused A.ReaderArena (call A.ReaderArena self.now Expected.Data default.entry)
+            lim.old lim.new) }
     {
         let (_, object) = match self.expect(Expected::Data, lim, default) {
             Ok(found) => found,
@@ -394,8 +426,10 @@ impl<'a, A: ReaderArena> PointerReader<'a, A> {
     /// `MessageContainsNonCapabilityPointerWhereCapabilityPointerWasExpected`, a far pointer to a
     /// capability too.
     pub fn get_capability(&self) -> Result<u32, ErrorKind>
-        ensures exactly { IsOk result ↔ (lower_half (word_of (reading A.ReaderArena self.now)) ≡ 3) }
-        ensures index { IfOk result (λ i. i ≡ upper_half (word_of (reading A.ReaderArena self.now))) }
+        ensures exactly { IsOk result ↔ (lower_half (word_of (reading A.ReaderArena self.now))
+            ≡ 3) }
+        ensures index { IfOk result (λ i. i ≡ upper_half
+            (word_of (reading A.ReaderArena self.now))) }
         ensures refused { IfErr result (IsNoCapability (word_of (reading A.ReaderArena self.now))) }
     {
         let word = self.place.word();
@@ -419,7 +453,8 @@ impl<'a, A: ReaderArena> PointerReader<'a, A> {
     pub fn get_pointer_type(&self, lim: &mut ReadLimiter) -> Result<PointerType, ErrorKind>
         ensures of_type { IfOk result (IsOfType (reading A.ReaderArena self.now) lim.old lim.new) }
         ensures exactly { IsOk result ↔ HasType (reading A.ReaderArena self.now) lim.old }
-        ensures refused { IfErr result (HasNoType (reading A.ReaderArena self.now) lim.old lim.new) }
+        ensures refused { IfErr result
+            (HasNoType (reading A.ReaderArena self.now) lim.old lim.new) }
     {
         self.source.read_type(self.place, self.nesting_limit, lim)
     }
@@ -434,7 +469,8 @@ impl<'a, A: ReaderArena> PointerReader<'a, A> {
     pub fn next(&self, lim: &mut ReadLimiter) -> Result<Target<'a, A>, ErrorKind>
         ensures target { IfOk result (IsTarget A.ReaderArena self.now lim.old lim.new) }
         ensures exactly { IsOk result ↔ CanBeRead (reading A.ReaderArena self.now) lim.old }
-        ensures refused { IfErr result (Stopped plain (reading A.ReaderArena self.now) lim.old lim.new) }
+        ensures refused { IfErr result
+            (Stopped plain (reading A.ReaderArena self.now) lim.old lim.new) }
     {
         match self.source.read_object(self.place, self.nesting_limit, lim) {
             Ok(object) => Ok(self.target_of(object)),
@@ -445,7 +481,9 @@ impl<'a, A: ReaderArena> PointerReader<'a, A> {
     // An object that the pointer leads to, as readers of the same source with one level less.
     fn target_of(self, object: Object<'a>) -> Target<'a, A>
         requires read { WasRead A.ReaderArena self object }
-        ensures { (m : Meter) (m' : Meter) → IsObject (reading A.ReaderArena self.entry) m m' object.entry → IsTarget A.ReaderArena self.entry m m' result }
+        ensures { (m : Meter) (m' : Meter)
+            → IsObject (reading A.ReaderArena self.entry) m m' object.entry
+            → IsTarget A.ReaderArena self.entry m m' result }
     {
         match object {
             Object::Null => Target::Null,

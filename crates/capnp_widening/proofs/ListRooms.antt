@@ -7,8 +7,8 @@ use Rattle.capnp_format.specs.Segments.{Segments, leads, Target}
 use Rattle.capnp_format.specs.Word.{list_count}
 use Rattle.capnp_format.specs.Tree.{Tree, Structs, count, element_count}
 use Rattle.capnp_format.specs.Forest.{target}
-use Rattle.capnp_pointers.specs.Sizes.{size_number}
-use Rattle.capnp_pointers.specs.declared.wire_pointer.StructSize.{StructSize}
+use Rattle.capnp_words.specs.Sizes.{size_number}
+use Rattle.capnp_words.specs.declared.wire_pointer.StructSize.{StructSize}
 use Rattle.capnp_making.specs.declared.existing.ExistingList.{ExistingList}
 use Rattle.capnp_making.specs.Memory.{HasRoom}
 use Rattle.capnp_making.specs.Near.{HasOwnRoom}

@@ -5,7 +5,7 @@ use Rattle.capnp_format.specs.Segments.{Segments, segment, word_at, Target}
 use Rattle.capnp_format.specs.Tree.{Flat, Pointers, Structs, Trees, count, element_count}
 use Rattle.capnp_format.specs.Means.{Leads, Means, IsTag}
 use Rattle.capnp_format.specs.Forest.{target, target_in, cover, cover_all}
-use Rattle.capnp_pointers.specs.declared.wire_pointer.StructSize.{StructSize}
+use Rattle.capnp_words.specs.declared.wire_pointer.StructSize.{StructSize}
 use Rattle.capnp_making.specs.Made.{zero_elements}
 use Rattle.capnp_making.specs.Path.{one_word}
 use Rattle.capnp_making.specs.Stored.{IsStored}

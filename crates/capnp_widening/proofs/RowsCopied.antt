@@ -4,7 +4,7 @@ use Rattle.std.proofs.lemmas.Bool.{cases_eq}
 use Rattle.capnp_format.specs.Segments.{Segments, segment, word_at}
 use Rattle.capnp_format.specs.Means.{IsTag}
 use Rattle.capnp_format.specs.Forest.{times}
-use Rattle.capnp_pointers.specs.declared.wire_pointer.StructSize.{StructSize}
+use Rattle.capnp_words.specs.declared.wire_pointer.StructSize.{StructSize}
 use Rattle.capnp_making.specs.Made.{IsGrown}
 use Rattle.capnp_making.specs.Zeroed.{row}
 use Rattle.capnp_making.proofs.Below.{split_row}

@@ -1,7 +1,7 @@
 -- How many words a struct takes that is made wider.
 use Rattle.std.proofs.Common.{◌≡◌, ℕ, ◌+◌, max, List, length, Some, None, arith}
 use Rattle.capnp_format.specs.Tree.{Trees, count}
-use Rattle.capnp_pointers.specs.declared.wire_pointer.StructSize.{StructSize}
+use Rattle.capnp_words.specs.declared.wire_pointer.StructSize.{StructSize}
 use Rattle.capnp_making.specs.declared.existing.ExistingStruct.{ExistingStruct}
 use Rattle.capnp_widening.specs.Rooms.{object_words, widened}
 use Rattle.capnp_widening.proofs.Widenings.{length-fill_words, count-fill_trees}

@@ -7,7 +7,7 @@ use Rattle.capnp_format.specs.Segments.{Segments, segment, word_at, Target, IsPl
 use Rattle.capnp_format.specs.Tree.{Tree, Null, Capability, Struct, Flat, Pointers, Structs, Trees, count}
 use Rattle.capnp_format.specs.Means.{Means}
 use Rattle.capnp_format.specs.Forest.{target, target_in}
-use Rattle.capnp_pointers.specs.declared.wire_pointer.StructSize.{StructSize}
+use Rattle.capnp_words.specs.declared.wire_pointer.StructSize.{StructSize}
 use Rattle.capnp_arena.specs.View.{View}
 use Rattle.capnp_making.specs.declared.existing.ExistingStruct.{ExistingStruct}
 use Rattle.capnp_making.specs.declared.making.Start.{Start}

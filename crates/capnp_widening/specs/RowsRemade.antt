@@ -1,6 +1,6 @@
 -- Lists of structs made anew of the elements of other lists, as rows of words ("Lists").
 use Rattle.std.specs.Prelude.{◌≡◌, ◌⊎◌, ℕ, zero, suc, ◌+◌, ◌*◌, ◌<◌, ◌≤◌, Option, Some, None, IfSome, Ok, Err, List, [], ◌∷◌, length}
-use Rattle.capnp_pointers.specs.Sizes.{size_number}
+use Rattle.capnp_words.specs.Sizes.{size_number}
 use Rattle.capnp_words.specs.declared.error.ErrorKind.{ErrorKind}
 use Rattle.capnp_arena.specs.View.{View}
 use Rattle.capnp_format.specs.Numbers.{words_for}
@@ -8,8 +8,8 @@ use Rattle.capnp_format.specs.Segments.{Segments, segment, word_at, Target}
 use Rattle.capnp_format.specs.Tree.{Tree, Flat, Pointers, Structs, count, element_count}
 use Rattle.capnp_format.specs.Means.{IsTag}
 use Rattle.capnp_format.specs.Forest.{times, target}
-use Rattle.capnp_pointers.specs.declared.wire_pointer.StructSize.{StructSize}
-use Rattle.capnp_pointers.specs.declared.wire_pointer.ElementSize.TheVariants.{Void}
+use Rattle.capnp_words.specs.declared.wire_pointer.StructSize.{StructSize}
+use Rattle.capnp_words.specs.declared.wire_pointer.ElementSize.TheVariants.{Void}
 use Rattle.capnp_making.specs.declared.existing.ExistingList.{ExistingList}
 use Rattle.capnp_making.specs.declared.making.Start.{Start}
 use Rattle.capnp_making.specs.Existing.{list_in}

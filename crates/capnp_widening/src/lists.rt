@@ -1,7 +1,7 @@
 //! Lists made lists of structs of at least a wanted size.
 ghost use Rattle.std.specs.Prelude.{◌≡◌, ◌≤◌, ◌+◌, Some, IsOk, IfOk, OnOk, IfErr, OnErr};
 ghost use Rattle.capnp_format.specs.Segments.{IsPlace, leads, Target};
-ghost use Rattle.capnp_pointers.specs.Sizes.{size_number};
+ghost use Rattle.capnp_words.specs.Sizes.{size_number};
 ghost use Rattle.capnp_making.specs.Memory.{KeepsMemory, SpendsMemory};
 ghost use Rattle.capnp_widening.specs.Rooms.{IsWideList, ListFits, TakesForList, ThisListFits, TakesForThisList};
 ghost use Rattle.capnp_widening.specs.RowsRemade.{WidensList, LeadsToList, RefusesWider, WidensTo, LeavesList, RefusesList};
@@ -32,13 +32,17 @@ pub fn get_struct_list<A: BuilderArena>(
     size: StructSize,
 ) -> Result<Option<ExistingList>, ErrorKind>
     requires place { IsPlace (A.view arena.old).words id at }
-    ensures widened { OnOk result (WidensList (A.view arena.old).words (A.view arena.new).words id at size) }
-    ensures leads { IfOk result (LeadsToList (A.view arena.old).words (A.view arena.new).words id at size) }
+    ensures widened { OnOk result (WidensList (A.view arena.old).words
+        (A.view arena.new).words id at size) }
+    ensures leads { IfOk result (LeadsToList (A.view arena.old).words
+        (A.view arena.new).words id at size) }
     ensures granted { OnOk result (KeepsMemory (A.view arena.old) (A.view arena.new)) }
     ensures memory { IfErr result (SpendsMemory (A.view arena.old) (A.view arena.new)) }
-    ensures refused { OnErr result (LeavesAll (A.view arena.old).words (A.view arena.new).words id at) }
+    ensures refused { OnErr result
+        (LeavesAll (A.view arena.old).words (A.view arena.new).words id at) }
     ensures named { IfErr result (RefusesWider (A.view arena.old) (A.view arena.new) id at size) }
-    ensures stays { IsWideList (A.view arena.old).words id at size → IsOk result × (A.view arena.new ≡ A.view arena.old) }
+    ensures stays { IsWideList (A.view arena.old).words id at size
+        → IsOk result × (A.view arena.new ≡ A.view arena.old) }
     ensures fits { ListFits (A.view arena.old) id at size → IsOk result }
     ensures few { TakesForList (A.view arena.old).words (A.view arena.new).words id at size }
 {
@@ -61,14 +65,20 @@ fn widen_list<A: BuilderArena>(
     size: StructSize,
 ) -> Result<ExistingList, ErrorKind>
     requires place { IsPlace (A.view arena.old).words id at }
-    ensures widened { IfOk result (WidensTo (A.view arena.old).words (A.view arena.new).words id at old size) }
+    ensures widened { IfOk result (WidensTo (A.view arena.old).words
+        (A.view arena.new).words id at old size) }
     ensures granted { OnOk result (KeepsMemory (A.view arena.old) (A.view arena.new)) }
     ensures memory { IfErr result (SpendsMemory (A.view arena.old) (A.view arena.new)) }
-    ensures refused { OnErr result (LeavesList (A.view arena.old).words (A.view arena.new).words id at old) }
-    ensures named { IfErr result (RefusesList (A.view arena.old) (A.view arena.new) id at old size) }
-    ensures stays { size_number old.size ≡ 7 → size.data_words ≤ old.struct_size.data_words → size.pointers ≤ old.struct_size.pointers → IsOk result × (A.view arena.new ≡ A.view arena.old) }
+    ensures refused { OnErr result
+        (LeavesList (A.view arena.old).words (A.view arena.new).words id at old) }
+    ensures named { IfErr result
+        (RefusesList (A.view arena.old) (A.view arena.new) id at old size) }
+    ensures stays { size_number old.size ≡ 7 → size.data_words ≤ old.struct_size.data_words
+        → size.pointers ≤ old.struct_size.pointers
+        → IsOk result × (A.view arena.new ≡ A.view arena.old) }
     ensures fits { ThisListFits (A.view arena.old) id at old size → IsOk result }
-    ensures few { TakesForThisList (A.view arena.old).words (A.view arena.new).words id at old size }
+    ensures few { TakesForThisList (A.view arena.old).words
+        (A.view arena.new).words id at old size }
 {
     match old.size {
         ElementSize::Void => widen_void(arena, id, at, old, size),
@@ -97,14 +107,20 @@ fn widen_structs<A: BuilderArena>(
 ) -> Result<ExistingList, ErrorKind>
     requires place { IsPlace (A.view arena.old).words id at }
     requires kind { size_number old.size ≡ 7 }
-    ensures widened { IfOk result (WidensTo (A.view arena.old).words (A.view arena.new).words id at old size) }
+    ensures widened { IfOk result (WidensTo (A.view arena.old).words
+        (A.view arena.new).words id at old size) }
     ensures granted { OnOk result (KeepsMemory (A.view arena.old) (A.view arena.new)) }
     ensures memory { IfErr result (SpendsMemory (A.view arena.old) (A.view arena.new)) }
-    ensures refused { OnErr result (LeavesList (A.view arena.old).words (A.view arena.new).words id at old) }
-    ensures named { IfErr result (RefusesList (A.view arena.old) (A.view arena.new) id at old size) }
-    ensures stays { size.data_words ≤ old.struct_size.data_words → size.pointers ≤ old.struct_size.pointers → IsOk result × (A.view arena.new ≡ A.view arena.old) }
+    ensures refused { OnErr result
+        (LeavesList (A.view arena.old).words (A.view arena.new).words id at old) }
+    ensures named { IfErr result
+        (RefusesList (A.view arena.old) (A.view arena.new) id at old size) }
+    ensures stays { size.data_words ≤ old.struct_size.data_words
+        → size.pointers ≤ old.struct_size.pointers
+        → IsOk result × (A.view arena.new ≡ A.view arena.old) }
     ensures fits { ThisListFits (A.view arena.old) id at old size → IsOk result }
-    ensures few { TakesForThisList (A.view arena.old).words (A.view arena.new).words id at old size }
+    ensures few { TakesForThisList (A.view arena.old).words
+        (A.view arena.new).words id at old size }
 {
     let had = old.struct_size;
     if size.data_words <= had.data_words && size.pointers <= had.pointers {
@@ -135,13 +151,17 @@ fn widen_pointers<A: BuilderArena>(
 ) -> Result<ExistingList, ErrorKind>
     requires place { IsPlace (A.view arena.old).words id at }
     requires kind { size_number old.size ≡ 6 }
-    ensures widened { IfOk result (WidensTo (A.view arena.old).words (A.view arena.new).words id at old size) }
+    ensures widened { IfOk result (WidensTo (A.view arena.old).words
+        (A.view arena.new).words id at old size) }
     ensures granted { OnOk result (KeepsMemory (A.view arena.old) (A.view arena.new)) }
     ensures memory { IfErr result (SpendsMemory (A.view arena.old) (A.view arena.new)) }
-    ensures refused { OnErr result (LeavesList (A.view arena.old).words (A.view arena.new).words id at old) }
-    ensures named { IfErr result (RefusesList (A.view arena.old) (A.view arena.new) id at old size) }
+    ensures refused { OnErr result
+        (LeavesList (A.view arena.old).words (A.view arena.new).words id at old) }
+    ensures named { IfErr result
+        (RefusesList (A.view arena.old) (A.view arena.new) id at old size) }
     ensures fits { ThisListFits (A.view arena.old) id at old size → IsOk result }
-    ensures few { TakesForThisList (A.view arena.old).words (A.view arena.new).words id at old size }
+    ensures few { TakesForThisList (A.view arena.old).words
+        (A.view arena.new).words id at old size }
 {
     let rows = ElementRows {
         segment: old.segment,
@@ -171,13 +191,17 @@ fn widen_void<A: BuilderArena>(
 ) -> Result<ExistingList, ErrorKind>
     requires place { IsPlace (A.view arena.old).words id at }
     requires kind { size_number old.size ≡ 0 }
-    ensures widened { IfOk result (WidensTo (A.view arena.old).words (A.view arena.new).words id at old size) }
+    ensures widened { IfOk result (WidensTo (A.view arena.old).words
+        (A.view arena.new).words id at old size) }
     ensures granted { OnOk result (KeepsMemory (A.view arena.old) (A.view arena.new)) }
     ensures memory { IfErr result (SpendsMemory (A.view arena.old) (A.view arena.new)) }
-    ensures refused { OnErr result (LeavesList (A.view arena.old).words (A.view arena.new).words id at old) }
-    ensures named { IfErr result (RefusesList (A.view arena.old) (A.view arena.new) id at old size) }
+    ensures refused { OnErr result
+        (LeavesList (A.view arena.old).words (A.view arena.new).words id at old) }
+    ensures named { IfErr result
+        (RefusesList (A.view arena.old) (A.view arena.new) id at old size) }
     ensures fits { ThisListFits (A.view arena.old) id at old size → IsOk result }
-    ensures few { TakesForThisList (A.view arena.old).words (A.view arena.new).words id at old size }
+    ensures few { TakesForThisList (A.view arena.old).words
+        (A.view arena.new).words id at old size }
 {
     let rows = ElementRows {
         segment: old.segment,

@@ -29,7 +29,8 @@ use capnp_words::wire_pointer::{WirePointer, WirePointerKind};
 pub fn move_pointer<A: BuilderArena>(arena: &mut A, from: Start, to: Start) -> Result<(), ErrorKind>
     requires from { IsPlace (A.view arena.old).words from.segment from.at }
     requires to { IsPlace (A.view arena.old).words to.segment to.at }
-    ensures moved { OnOk result (Moves (A.view arena.old).words (A.view arena.new).words (a_move from.segment from.at to.segment to.at ∷ [])) }
+    ensures moved { OnOk result (Moves (A.view arena.old).words (A.view arena.new).words
+        (a_move from.segment from.at to.segment to.at ∷ [])) }
     ensures granted { OnOk result (KeepsMemory (A.view arena.old) (A.view arena.new)) }
     ensures only { OnOk result (WritesOnly (A.view arena.old).words (A.view arena.new).words to) }
     ensures longer { Grows (A.view arena.old).words (A.view arena.new).words }
@@ -83,7 +84,8 @@ fn point_to<A: BuilderArena>(
     requires there { object.segment < length (A.view arena.old).words }
     requires inside { object.at ≤ length (segment (A.view arena.old).words object.segment) }
     requires few { IsFew shape }
-    ensures points { OnOk result (PointsTo (A.view arena.old).words (A.view arena.new).words shape object to) }
+    ensures points { OnOk result (PointsTo (A.view arena.old).words
+        (A.view arena.new).words shape object to) }
     ensures granted { OnOk result (KeepsMemory (A.view arena.old) (A.view arena.new)) }
     ensures longer { Grows (A.view arena.old).words (A.view arena.new).words }
     ensures memory { IfErr result (SpendsMemory (A.view arena.old) (A.view arena.new)) }
@@ -169,8 +171,11 @@ pub fn move_row<A: BuilderArena>(
 ) -> Result<(), ErrorKind>
     requires from { from.at + count ≤ length (segment (A.view arena.old).words from.segment) }
     requires to { to.at + count ≤ length (segment (A.view arena.old).words to.segment) }
-    ensures moved { OnOk result (Moves (A.view arena.old).words (A.view arena.new).words (row_of_moves from.segment from.at to.segment to.at count)) }
-    ensures some { OnErr result (MovesSome (A.view arena.old).words (A.view arena.new).words (row_of_moves from.segment from.at to.segment to.at count)) }
+    ensures moved { OnOk result (Moves (A.view arena.old).words (A.view arena.new).words
+        (row_of_moves from.segment from.at to.segment to.at count)) }
+    ensures some { OnErr result
+        (MovesSome (A.view arena.old).words (A.view arena.new).words
+        (row_of_moves from.segment from.at to.segment to.at count)) }
     ensures longer { Grows (A.view arena.old).words (A.view arena.new).words }
     ensures granted { OnOk result (KeepsMemory (A.view arena.old) (A.view arena.new)) }
     ensures memory { IfErr result (SpendsMemory (A.view arena.old) (A.view arena.new)) }
@@ -200,7 +205,8 @@ pub fn move_row<A: BuilderArena>(
 pub fn unmove_row<A: BuilderArena>(arena: &mut A, from: Start, to: Start, count: u32)
     requires from { from.at + count ≤ length (segment (A.view arena.old).words from.segment) }
     requires to { to.at + count ≤ length (segment (A.view arena.old).words to.segment) }
-    ensures zeroed { Unmoves (A.view arena.old).words (A.view arena.new).words (row_of_moves from.segment from.at to.segment to.at count) }
+    ensures zeroed { Unmoves (A.view arena.old).words (A.view arena.new).words
+        (row_of_moves from.segment from.at to.segment to.at count) }
     ensures pruned { IsPruned (A.view arena.old).words (A.view arena.new).words }
     ensures limits { KeepsLimits (A.view arena.old) (A.view arena.new) }
 {
@@ -212,7 +218,8 @@ pub fn unmove_row<A: BuilderArena>(arena: &mut A, from: Start, to: Start, count:
 /// Makes the landing pads zero that were written for a moved pointer. Of one that was copied as it is,
 /// they are the old pointer's still.
 fn unmove_pointer<A: BuilderArena>(arena: &mut A, id: u32, at: u32, to_id: u32, to_at: u32)
-    ensures zeroed { Unmoves (A.view arena.old).words (A.view arena.new).words (a_move id at to_id to_at ∷ []) }
+    ensures zeroed { Unmoves (A.view arena.old).words (A.view arena.new).words
+        (a_move id at to_id to_at ∷ []) }
     ensures pruned { IsPruned (A.view arena.old).words (A.view arena.new).words }
     ensures limits { KeepsLimits (A.view arena.old) (A.view arena.new) }
 {
@@ -243,16 +250,22 @@ pub fn move_rows<A: BuilderArena>(
     pointers: u32,
     count: u32,
 ) -> Result<(), ErrorKind>
-    requires from { from.at + count * from.step + pointers ≤ length (segment (A.view arena.old).words from.segment) + from.step }
-    requires to { to.at + count * to.step + pointers ≤ length (segment (A.view arena.old).words to.segment) + to.step }
+    requires from { from.at + count * from.step + pointers
+        ≤ length (segment (A.view arena.old).words from.segment) + from.step }
+    requires to { to.at + count * to.step + pointers
+        ≤ length (segment (A.view arena.old).words to.segment) + to.step }
     requires small { (from.step < 2 ^ 18) × (to.step < 2 ^ 18) }
-    ensures moved { OnOk result (Moves (A.view arena.old).words (A.view arena.new).words (rows_of_moves from.segment from.at from.step to.segment to.at to.step pointers count)) }
-    ensures some { OnErr result (MovesSome (A.view arena.old).words (A.view arena.new).words (rows_of_moves from.segment from.at from.step to.segment to.at to.step pointers count)) }
+    ensures moved { OnOk result (Moves (A.view arena.old).words (A.view arena.new).words
+        (rows_of_moves from.segment from.at from.step to.segment to.at to.step pointers count)) }
+    ensures some { OnErr result
+        (MovesSome (A.view arena.old).words (A.view arena.new).words
+        (rows_of_moves from.segment from.at from.step to.segment to.at to.step pointers count)) }
     ensures longer { Grows (A.view arena.old).words (A.view arena.new).words }
     ensures granted { OnOk result (KeepsMemory (A.view arena.old) (A.view arena.new)) }
     ensures memory { IfErr result (SpendsMemory (A.view arena.old) (A.view arena.new)) }
     ensures full { IfErr result (RefusesGrowth (A.view arena.old) (A.view arena.new)) }
-    ensures few { TakesAtMost (A.view arena.old).words (A.view arena.new).words (2 * (count * pointers)) }
+    ensures few { TakesAtMost (A.view arena.old).words (A.view arena.new).words
+        (2 * (count * pointers)) }
     ensures fits { HasSomeRoom (A.view arena.old) (2 * (count * pointers)) → IsOk result }
     ensures near { from.segment ≡ to.segment → IsOk result }
 {
@@ -279,10 +292,13 @@ pub fn move_rows<A: BuilderArena>(
 
 /// Makes the landing pads zero that were written for the moved pointers of so many rows.
 pub fn unmove_rows<A: BuilderArena>(arena: &mut A, from: Rows, to: Rows, pointers: u32, count: u32)
-    requires from { from.at + count * from.step + pointers ≤ length (segment (A.view arena.old).words from.segment) + from.step }
-    requires to { to.at + count * to.step + pointers ≤ length (segment (A.view arena.old).words to.segment) + to.step }
+    requires from { from.at + count * from.step + pointers
+        ≤ length (segment (A.view arena.old).words from.segment) + from.step }
+    requires to { to.at + count * to.step + pointers
+        ≤ length (segment (A.view arena.old).words to.segment) + to.step }
     requires small { (from.step < 2 ^ 18) × (to.step < 2 ^ 18) }
-    ensures zeroed { Unmoves (A.view arena.old).words (A.view arena.new).words (rows_of_moves from.segment from.at from.step to.segment to.at to.step pointers count) }
+    ensures zeroed { Unmoves (A.view arena.old).words (A.view arena.new).words
+        (rows_of_moves from.segment from.at from.step to.segment to.at to.step pointers count) }
     ensures pruned { IsPruned (A.view arena.old).words (A.view arena.new).words }
     ensures limits { KeepsLimits (A.view arena.old) (A.view arena.new) }
 {

@@ -3,7 +3,7 @@ ghost use Rattle.std.specs.Prelude.{◌≡◌, ◌↔◌, ◌<◌, ◌≤◌, �
 ghost use Rattle.capnp_arena.specs.View.{KeepsLimits};
 ghost use Rattle.capnp_format.specs.Numbers.{element_bits, words_for};
 ghost use Rattle.capnp_format.specs.Segments.{segment, IsPlace};
-ghost use Rattle.capnp_pointers.specs.Sizes.{size_number};
+ghost use Rattle.capnp_words.specs.Sizes.{size_number};
 ghost use Rattle.capnp_making.specs.Fields.{field_in};
 ghost use Rattle.capnp_making.specs.Memory.{HasRoom, KeepsMemory, SpendsMemory, RefusesGrowth};
 ghost use Rattle.capnp_widening.specs.Rooms.{TakesAtMost, structs_words, ThisListFits, TakesForThisList};
@@ -30,13 +30,17 @@ pub(crate) fn widen_numbers<A: BuilderArena>(
 ) -> Result<ExistingList, ErrorKind>
     requires place { IsPlace (A.view arena.old).words id at }
     requires kind { (2 ≤ size_number old.size) × (size_number old.size ≤ 5) }
-    ensures widened { IfOk result (WidensTo (A.view arena.old).words (A.view arena.new).words id at old size) }
+    ensures widened { IfOk result (WidensTo (A.view arena.old).words
+        (A.view arena.new).words id at old size) }
     ensures granted { OnOk result (KeepsMemory (A.view arena.old) (A.view arena.new)) }
     ensures memory { IfErr result (SpendsMemory (A.view arena.old) (A.view arena.new)) }
-    ensures refused { OnErr result (LeavesList (A.view arena.old).words (A.view arena.new).words id at old) }
-    ensures named { IfErr result (RefusesList (A.view arena.old) (A.view arena.new) id at old size) }
+    ensures refused { OnErr result
+        (LeavesList (A.view arena.old).words (A.view arena.new).words id at old) }
+    ensures named { IfErr result
+        (RefusesList (A.view arena.old) (A.view arena.new) id at old size) }
     ensures fits { ThisListFits (A.view arena.old) id at old size → IsOk result }
-    ensures few { TakesForThisList (A.view arena.old).words (A.view arena.new).words id at old size }
+    ensures few { TakesForThisList (A.view arena.old).words
+        (A.view arena.new).words id at old size }
 {
     let wide = StructSize {
         data_words: greater(1, size.data_words),
@@ -81,12 +85,14 @@ fn remake_numbers<A: BuilderArena>(
     requires inside { NumbersInside (A.view arena.old).words old }
     requires data { 0 < size.data_words }
     requires small { old.count * (size.data_words + size.pointers) < 2 ^ 29 }
-    ensures remade { IfOk result (RemakesList (A.view arena.old).words (A.view arena.new).words id at old size) }
+    ensures remade { IfOk result (RemakesList (A.view arena.old).words
+        (A.view arena.new).words id at old size) }
     ensures granted { OnOk result (KeepsMemory (A.view arena.old) (A.view arena.new)) }
     ensures refused { OnErr result ((A.view arena.new).words ≡ (A.view arena.old).words) }
     ensures memory { IfErr result (SpendsMemory (A.view arena.old) (A.view arena.new)) }
     ensures full { IfErr result (RefusesGrowth (A.view arena.old) (A.view arena.new)) }
-    ensures few { TakesAtMost (A.view arena.old).words (A.view arena.new).words (structs_words old.count size + 1) }
+    ensures few { TakesAtMost (A.view arena.old).words (A.view arena.new).words
+        (structs_words old.count size + 1) }
     ensures fits { HasRoom (A.view arena.old) id (structs_words old.count size) → IsOk result }
 {
     let pointer = word_of(arena, id, at);
@@ -118,9 +124,12 @@ fn copy_numbers<A: BuilderArena>(arena: &mut A, old: ExistingList, to: Start, st
     requires kind { (2 ≤ size_number old.size) × (size_number old.size ≤ 5) }
     requires inside { NumbersInside (A.view arena.old).words old }
     requires to { to.at + old.count * step ≤ length (segment (A.view arena.old).words to.segment) }
-    requires apart { old.segment ≡ to.segment → old.start + words_for (size_number old.size) old.count ≤ to.at }
+    requires apart { old.segment ≡ to.segment
+        → old.start + words_for (size_number old.size) old.count ≤ to.at }
     requires some { 0 < step }
-    ensures copied { AreNumbersCopied (A.view arena.old).words (A.view arena.new).words old.segment old.start (element_bits (size_number old.size)) to.segment to.at step old.count }
+    ensures copied { AreNumbersCopied (A.view arena.old).words
+        (A.view arena.new).words old.segment old.start
+        (element_bits (size_number old.size)) to.segment to.at step old.count }
     ensures limits { KeepsLimits (A.view arena.old) (A.view arena.new) }
 {
     let mut place = to.at;
@@ -136,7 +145,9 @@ fn number_at<A: BuilderArena>(arena: &A, list: ExistingList, index: u32) -> u64
     requires kind { (2 ≤ size_number list.size) × (size_number list.size ≤ 5) }
     requires index { index < list.count }
     requires inside { NumbersInside (A.view arena.now).words list }
-    ensures { result ≡ field_in (segment (A.view arena.now).words list.segment) (64 * list.start + element_bits (size_number list.size) * index) (element_bits (size_number list.size)) }
+    ensures { result ≡ field_in (segment (A.view arena.now).words list.segment)
+        (64 * list.start + element_bits (size_number list.size) * index)
+        (element_bits (size_number list.size)) }
 {
     let bits = data_bits_per_element(list.size);
     let first = u64::from(bits) * u64::from(index);

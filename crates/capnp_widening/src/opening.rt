@@ -35,14 +35,19 @@ pub fn open_struct<A: BuilderArena>(
     size: StructSize,
 ) -> Result<ExistingStruct, ErrorKind>
     requires place { IsPlace (A.view arena.old).words id at }
-    ensures opened { (t : Tree) → IsStored (A.view arena.old).words id at t → OpensStruct size result (call_at id at (A.view arena.old) (A.view arena.new)) t }
+    ensures opened { (t : Tree) → IsStored (A.view arena.old).words id at t
+        → OpensStruct size result (call_at id at (A.view arena.old) (A.view arena.new)) t }
     ensures wide { IfOk result (IsAtLeast size) }
     ensures granted { OnOk result (KeepsMemory (A.view arena.old) (A.view arena.new)) }
     ensures memory { IfErr result (SpendsMemory (A.view arena.old) (A.view arena.new)) }
-    ensures named { (word_at (A.view arena.old).words id at ≡ 0 → ⊥) → IfErr result (IsNoWider (A.view arena.old) (A.view arena.new) id at) }
+    ensures named { (word_at (A.view arena.old).words id at ≡ 0 → ⊥)
+        → IfErr result (IsNoWider (A.view arena.old) (A.view arena.new) id at) }
     ensures fits { OpeningFits (A.view arena.old) id at size → IsOk result }
-    ensures taken { word_at (A.view arena.old).words id at ≡ 0 → OnOk result (TakesWords (A.view arena.old) (A.view arena.new) id (size.data_words + size.pointers)) }
-    ensures refused { word_at (A.view arena.old).words id at ≡ 0 → OnErr result ((A.view arena.new).words ≡ (A.view arena.old).words) }
+    ensures taken { word_at (A.view arena.old).words id at ≡ 0
+        → OnOk result
+        (TakesWords (A.view arena.old) (A.view arena.new) id (size.data_words + size.pointers)) }
+    ensures refused { word_at (A.view arena.old).words id at ≡ 0
+        → OnErr result ((A.view arena.new).words ≡ (A.view arena.old).words) }
 {
     match existing::get_struct(arena, id, at) {
         Some(old) => {
@@ -70,12 +75,14 @@ fn new_struct<A: BuilderArena>(
 ) -> Result<ExistingStruct, ErrorKind>
     requires place { IsPlace (A.view arena.old).words id at }
     requires null { word_at (A.view arena.old).words id at ≡ 0 }
-    ensures opened { OpensStruct size result (call_at id at (A.view arena.old) (A.view arena.new)) Null }
+    ensures opened { OpensStruct size result
+        (call_at id at (A.view arena.old) (A.view arena.new)) Null }
     ensures wide { IfOk result (IsAtLeast size) }
     ensures granted { OnOk result (KeepsMemory (A.view arena.old) (A.view arena.new)) }
     ensures memory { IfErr result (SpendsMemory (A.view arena.old) (A.view arena.new)) }
     ensures fits { HasRoom (A.view arena.old) id (size.data_words + size.pointers) → IsOk result }
-    ensures taken { OnOk result (TakesWords (A.view arena.old) (A.view arena.new) id (size.data_words + size.pointers)) }
+    ensures taken { OnOk result (TakesWords (A.view arena.old) (A.view arena.new) id
+        (size.data_words + size.pointers)) }
     ensures refused { OnErr result ((A.view arena.new).words ≡ (A.view arena.old).words) }
 {
     match make_struct(arena, id, at, size) {
@@ -99,9 +106,13 @@ fn widen_struct<A: BuilderArena>(
 ) -> Result<ExistingStruct, ErrorKind>
     requires place { IsPlace (A.view arena.old).words id at }
     requires inside { LiesIn (A.view arena.old).words old }
-    requires known { (t : Tree) → IsStored (A.view arena.old).words id at t → struct_in (target (A.view arena.old).words id at) t ≡ Some old }
-    requires narrow { size.data_words ≤ old.size.data_words → size.pointers ≤ old.size.pointers → ⊥ }
-    ensures opened { (t : Tree) → IsStored (A.view arena.old).words id at t → struct_in (target (A.view arena.old).words id at) t ≡ Some old → OpensStruct size result (call_at id at (A.view arena.old) (A.view arena.new)) t }
+    requires known { (t : Tree) → IsStored (A.view arena.old).words id at t
+        → struct_in (target (A.view arena.old).words id at) t ≡ Some old }
+    requires narrow { size.data_words ≤ old.size.data_words
+        → size.pointers ≤ old.size.pointers → ⊥ }
+    ensures opened { (t : Tree) → IsStored (A.view arena.old).words id at t
+        → struct_in (target (A.view arena.old).words id at) t ≡ Some old
+        → OpensStruct size result (call_at id at (A.view arena.old) (A.view arena.new)) t }
     ensures wide { IfOk result (IsAtLeast size) }
     ensures granted { OnOk result (KeepsMemory (A.view arena.old) (A.view arena.new)) }
     ensures memory { IfErr result (SpendsMemory (A.view arena.old) (A.view arena.new)) }
@@ -120,7 +131,8 @@ fn widen_struct<A: BuilderArena>(
 
 /// Whether both sections are as large as wanted.
 fn is_wide(size: StructSize, wanted: StructSize) -> bool
-    ensures { IsTrue result ↔ ((wanted.data_words ≤ size.data_words) × (wanted.pointers ≤ size.pointers)) }
+    ensures { IsTrue result
+        ↔ ((wanted.data_words ≤ size.data_words) × (wanted.pointers ≤ size.pointers)) }
 {
     wanted.data_words <= size.data_words && wanted.pointers <= size.pointers
 }
@@ -150,7 +162,8 @@ pub fn open_struct_list<A: BuilderArena>(
     size: StructSize,
 ) -> Result<Option<ExistingList>, ErrorKind>
     requires place { IsPlace (A.view arena.old).words id at }
-    ensures opened { (t : Tree) → IsStored (A.view arena.old).words id at t → OpensList size result (call_at id at (A.view arena.old) (A.view arena.new)) t }
+    ensures opened { (t : Tree) → IsStored (A.view arena.old).words id at t
+        → OpensList size result (call_at id at (A.view arena.old) (A.view arena.new)) t }
     ensures granted { OnOk result (KeepsMemory (A.view arena.old) (A.view arena.new)) }
     ensures memory { IfErr result (SpendsMemory (A.view arena.old) (A.view arena.new)) }
     ensures named { IfErr result (RefusesWider (A.view arena.old) (A.view arena.new) id at size) }

@@ -35,11 +35,14 @@ pub struct ElementRows {
 
 /// Copies the first words of each of so many rows over those of other rows.
 fn copy_rows<A: BuilderArena>(arena: &mut A, from: Rows, to: Rows, words: u32, count: u32)
-    requires from { from.at + count * from.step ≤ length (segment (A.view arena.old).words from.segment) }
+    requires from { from.at + count * from.step ≤ length
+        (segment (A.view arena.old).words from.segment) }
     requires to { to.at + count * to.step ≤ length (segment (A.view arena.old).words to.segment) }
     requires apart { from.segment ≡ to.segment → from.at + count * from.step ≤ to.at }
     requires within { (words ≤ from.step) × (words ≤ to.step) }
-    ensures copied { AreRowsCopied (A.view arena.old).words (A.view arena.new).words from.segment from.at from.step to.segment to.at to.step words count }
+    ensures copied { AreRowsCopied (A.view arena.old).words
+        (A.view arena.new).words from.segment from.at from.step to.segment to.at
+        to.step words count }
     ensures limits { KeepsLimits (A.view arena.old) (A.view arena.new) }
 {
     if words == 0 {
@@ -72,14 +75,18 @@ pub(crate) fn begin_list<A: BuilderArena>(
     requires there { id < length (A.view arena.old).words }
     requires few { size.data_words + size.pointers ≡ 0 → count < 2 ^ 30 }
     requires small { count * (size.data_words + size.pointers) < 2 ^ 29 }
-    ensures begun { IfOk result (BeginsList (A.view arena.old).words (A.view arena.new).words id count size) }
+    ensures begun { IfOk result (BeginsList (A.view arena.old).words
+        (A.view arena.new).words id count size) }
     ensures granted { OnOk result (KeepsMemory (A.view arena.old) (A.view arena.new)) }
     ensures memory { IfErr result (SpendsMemory (A.view arena.old) (A.view arena.new)) }
     ensures full { IfErr result (RefusesGrowth (A.view arena.old) (A.view arena.new)) }
     ensures refused { OnErr result ((A.view arena.new).words ≡ (A.view arena.old).words) }
-    ensures few { TakesAtMost (A.view arena.old).words (A.view arena.new).words (structs_words count size + 1) }
-    ensures fits { (n : ℕ) → HasRoom (A.view arena.old) id (structs_words count size + n) → IsOk result × HasSomeRoom (A.view arena.new) n }
-    ensures near { HasOwnRoom (A.view arena.old) id (structs_words count size) → IsOk result × IfOk result (λ r. r.segment ≡ id) }
+    ensures few { TakesAtMost (A.view arena.old).words (A.view arena.new).words
+        (structs_words count size + 1) }
+    ensures fits { (n : ℕ) → HasRoom (A.view arena.old) id (structs_words count size + n)
+        → IsOk result × HasSomeRoom (A.view arena.new) n }
+    ensures near { HasOwnRoom (A.view arena.old) id (structs_words count size)
+        → IsOk result × IfOk result (λ r. r.segment ≡ id) }
 {
     let words = count * size.total();
     match take(arena, id, 1 + words) {
@@ -103,18 +110,24 @@ fn fill_rows<A: BuilderArena>(
     size: StructSize,
 ) -> Result<(), ErrorKind>
     requires from { RowsInside (A.view arena.old).words old }
-    requires to { first.at + old.count * (size.data_words + size.pointers) ≤ length (segment (A.view arena.old).words first.segment) }
-    requires apart { old.segment ≡ first.segment → old.at + (old.tag + old.count * (old.size.data_words + old.size.pointers)) ≤ first.at }
+    requires to { first.at + old.count * (size.data_words + size.pointers)
+        ≤ length (segment (A.view arena.old).words first.segment) }
+    requires apart { old.segment ≡ first.segment
+        → old.at + (old.tag + old.count * (old.size.data_words + old.size.pointers)) ≤ first.at }
     requires data { old.size.data_words ≤ size.data_words }
     requires pointers { old.size.pointers ≤ size.pointers }
-    ensures filled { OnOk result (FillsRows (A.view arena.old).words (A.view arena.new).words old first size) }
-    ensures undone { OnErr result (UnfillsRows (A.view arena.old).words (A.view arena.new).words old first size) }
+    ensures filled { OnOk result (FillsRows (A.view arena.old).words
+        (A.view arena.new).words old first size) }
+    ensures undone { OnErr result
+        (UnfillsRows (A.view arena.old).words (A.view arena.new).words old first size) }
     ensures longer { Grows (A.view arena.old).words (A.view arena.new).words }
     ensures granted { OnOk result (KeepsMemory (A.view arena.old) (A.view arena.new)) }
     ensures memory { IfErr result (SpendsMemory (A.view arena.old) (A.view arena.new)) }
     ensures full { IfErr result (RefusesGrowth (A.view arena.old) (A.view arena.new)) }
-    ensures few { TakesAtMost (A.view arena.old).words (A.view arena.new).words (2 * (old.count * old.size.pointers)) }
-    ensures fits { HasSomeRoom (A.view arena.old) (2 * (old.count * old.size.pointers)) → IsOk result }
+    ensures few { TakesAtMost (A.view arena.old).words (A.view arena.new).words
+        (2 * (old.count * old.size.pointers)) }
+    ensures fits { HasSomeRoom (A.view arena.old) (2 * (old.count * old.size.pointers))
+        → IsOk result }
     ensures near { old.segment ≡ first.segment → IsOk result }
 {
     let rows = Rows {
@@ -172,14 +185,18 @@ pub(crate) fn widen_rows<A: BuilderArena>(
     requires few { size.data_words + size.pointers ≡ 0 → old.count < 2 ^ 30 }
     requires data { old.size.data_words ≤ size.data_words }
     requires pointers { old.size.pointers ≤ size.pointers }
-    ensures remade { IfOk result (RemakesRows (A.view arena.old).words (A.view arena.new).words id at old size) }
+    ensures remade { IfOk result (RemakesRows (A.view arena.old).words
+        (A.view arena.new).words id at old size) }
     ensures small { OnOk result (old.count * (size.data_words + size.pointers) < 2 ^ 29) }
     ensures granted { OnOk result (KeepsMemory (A.view arena.old) (A.view arena.new)) }
     ensures memory { IfErr result (SpendsMemory (A.view arena.old) (A.view arena.new)) }
-    ensures refused { OnErr result (LeavesRows (A.view arena.old).words (A.view arena.new).words id at old) }
-    ensures named { IfErr result (RefusesRows (A.view arena.old) (A.view arena.new) id at old size) }
+    ensures refused { OnErr result
+        (LeavesRows (A.view arena.old).words (A.view arena.new).words id at old) }
+    ensures named { IfErr result
+        (RefusesRows (A.view arena.old) (A.view arena.new) id at old size) }
     ensures few { TakesForRows (A.view arena.old).words (A.view arena.new).words old size }
-    ensures fits { RowsInside (A.view arena.old).words old → RowsFit (A.view arena.old) id old size → IsOk result }
+    ensures fits { RowsInside (A.view arena.old).words old → RowsFit (A.view arena.old) id old size
+        → IsOk result }
 {
     let words = u64::from(old.count) * u64::from(size.total());
     if words >= 0x2000_0000 {
@@ -214,9 +231,11 @@ fn remake_rows<A: BuilderArena>(
     requires small { old.count * (size.data_words + size.pointers) < 2 ^ 29 }
     requires data { old.size.data_words ≤ size.data_words }
     requires pointers { old.size.pointers ≤ size.pointers }
-    ensures remade { IfOk result (RemakesRows (A.view arena.old).words (A.view arena.new).words id at old size) }
+    ensures remade { IfOk result (RemakesRows (A.view arena.old).words
+        (A.view arena.new).words id at old size) }
     ensures granted { OnOk result (KeepsMemory (A.view arena.old) (A.view arena.new)) }
-    ensures refused { OnErr result (LeavesRows (A.view arena.old).words (A.view arena.new).words id at old) }
+    ensures refused { OnErr result
+        (LeavesRows (A.view arena.old).words (A.view arena.new).words id at old) }
     ensures memory { IfErr result (SpendsMemory (A.view arena.old) (A.view arena.new)) }
     ensures full { IfErr result (RefusesGrowth (A.view arena.old) (A.view arena.new)) }
     ensures few { TakesForRows (A.view arena.old).words (A.view arena.new).words old size }

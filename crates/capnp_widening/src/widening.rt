@@ -42,14 +42,17 @@ pub struct Room {
 pub(crate) fn take<A: BuilderArena>(arena: &mut A, id: u32, amount: u32) -> Result<Room, ErrorKind>
     requires there { id < length (A.view arena.old).words }
     requires small { amount < 2 ^ 31 }
-    ensures taken { IfOk result (IsRoom (A.view arena.old).words (A.view arena.new).words id amount) }
+    ensures taken { IfOk result (IsRoom (A.view arena.old).words
+        (A.view arena.new).words id amount) }
     ensures granted { OnOk result (KeepsMemory (A.view arena.old) (A.view arena.new)) }
     ensures memory { IfErr result (SpendsMemory (A.view arena.old) (A.view arena.new)) }
     ensures full { IfErr result (RefusesWords (A.view arena.old) (A.view arena.new) amount) }
     ensures refused { OnErr result ((A.view arena.new).words ≡ (A.view arena.old).words) }
     ensures few { TakesAtMost (A.view arena.old).words (A.view arena.new).words (amount + 1) }
-    ensures fits { (n : ℕ) → HasRoom (A.view arena.old) id (amount + n) → IsOk result × HasSomeRoom (A.view arena.new) n }
-    ensures near { HasOwnRoom (A.view arena.old) id amount → IsOk result × IfOk result (λ r. r.segment ≡ id) }
+    ensures fits { (n : ℕ) → HasRoom (A.view arena.old) id (amount + n)
+        → IsOk result × HasSomeRoom (A.view arena.new) n }
+    ensures near { HasOwnRoom (A.view arena.old) id amount
+        → IsOk result × IfOk result (λ r. r.segment ≡ id) }
 {
     match arena.allocate(id, amount) {
         Some(at) => Ok(Room {
@@ -73,7 +76,8 @@ pub(crate) fn copy_words<A: BuilderArena>(arena: &mut A, from: Start, to: Start,
     requires from { from.at + count ≤ length (segment (A.view arena.old).words from.segment) }
     requires to { to.at + count ≤ length (segment (A.view arena.old).words to.segment) }
     requires apart { from.segment ≡ to.segment → from.at + count ≤ to.at }
-    ensures copied { AreCopied (A.view arena.old).words (A.view arena.new).words from.segment from.at to.segment to.at count }
+    ensures copied { AreCopied (A.view arena.old).words
+        (A.view arena.new).words from.segment from.at to.segment to.at count }
     ensures limits { KeepsLimits (A.view arena.old) (A.view arena.new) }
 {
     arena.move_words(from.segment, from.at, to.segment, to.at, count);
@@ -114,13 +118,17 @@ pub fn get_struct<A: BuilderArena>(
     size: StructSize,
 ) -> Result<ExistingStruct, ErrorKind>
     requires place { IsPlace (A.view arena.old).words id at }
-    ensures widened { OnOk result (WidensStruct (A.view arena.old).words (A.view arena.new).words id at size) }
-    ensures leads { IfOk result (LeadsToStruct (A.view arena.old).words (A.view arena.new).words id at) }
+    ensures widened { OnOk result (WidensStruct (A.view arena.old).words
+        (A.view arena.new).words id at size) }
+    ensures leads { IfOk result (LeadsToStruct (A.view arena.old).words
+        (A.view arena.new).words id at) }
     ensures wide { IfOk result (IsAtLeast size) }
     ensures granted { OnOk result (KeepsMemory (A.view arena.old) (A.view arena.new)) }
-    ensures refused { OnErr result (LeavesAll (A.view arena.old).words (A.view arena.new).words id at) }
+    ensures refused { OnErr result
+        (LeavesAll (A.view arena.old).words (A.view arena.new).words id at) }
     ensures named { IfErr result (IsNoWider (A.view arena.old) (A.view arena.new) id at) }
-    ensures stays { IsWideStruct (A.view arena.old).words id at size → IsOk result × (A.view arena.new ≡ A.view arena.old) }
+    ensures stays { IsWideStruct (A.view arena.old).words id at size
+        → IsOk result × (A.view arena.new ≡ A.view arena.old) }
     ensures fits { StructFits (A.view arena.old) id at size → IsOk result }
     ensures few { TakesForStruct (A.view arena.old).words (A.view arena.new).words id at size }
 {
@@ -150,12 +158,17 @@ pub(crate) fn widen_known<A: BuilderArena>(
 ) -> Result<ExistingStruct, ErrorKind>
     requires place { IsPlace (A.view arena.old).words id at }
     requires inside { LiesIn (A.view arena.old).words old }
-    requires known { (t : Tree) → IsStored (A.view arena.old).words id at t → struct_in (target (A.view arena.old).words id at) t ≡ Some old }
-    requires narrow { size.data_words ≤ old.size.data_words → size.pointers ≤ old.size.pointers → ⊥ }
-    ensures widened { OnOk result (WidensStruct (A.view arena.old).words (A.view arena.new).words id at size) }
-    ensures leads { IfOk result (LeadsToStruct (A.view arena.old).words (A.view arena.new).words id at) }
+    requires known { (t : Tree) → IsStored (A.view arena.old).words id at t
+        → struct_in (target (A.view arena.old).words id at) t ≡ Some old }
+    requires narrow { size.data_words ≤ old.size.data_words
+        → size.pointers ≤ old.size.pointers → ⊥ }
+    ensures widened { OnOk result (WidensStruct (A.view arena.old).words
+        (A.view arena.new).words id at size) }
+    ensures leads { IfOk result (LeadsToStruct (A.view arena.old).words
+        (A.view arena.new).words id at) }
     ensures granted { OnOk result (KeepsMemory (A.view arena.old) (A.view arena.new)) }
-    ensures refused { OnErr result (LeavesAll (A.view arena.old).words (A.view arena.new).words id at) }
+    ensures refused { OnErr result
+        (LeavesAll (A.view arena.old).words (A.view arena.new).words id at) }
     ensures named { IfErr result (IsNoWider (A.view arena.old) (A.view arena.new) id at) }
     ensures fits { StructFits (A.view arena.old) id at size → IsOk result }
     ensures few { TakesForStruct (A.view arena.old).words (A.view arena.new).words id at size }
@@ -187,16 +200,22 @@ fn widen_struct<A: BuilderArena>(
     requires data { old.size.data_words ≤ size.data_words }
     requires pointers { old.size.pointers ≤ size.pointers }
     requires some { 0 < size.data_words + size.pointers }
-    ensures widened { OnOk result (Rehouses (A.view arena.old).words (A.view arena.new).words id at old size) }
-    ensures leads { IfOk result (HousesAt (A.view arena.old).words (A.view arena.new).words id at old) }
+    ensures widened { OnOk result (Rehouses (A.view arena.old).words
+        (A.view arena.new).words id at old size) }
+    ensures leads { IfOk result (HousesAt (A.view arena.old).words
+        (A.view arena.new).words id at old) }
     ensures size { IfOk result (λ e. e.size ≡ size) }
     ensures granted { OnOk result (KeepsMemory (A.view arena.old) (A.view arena.new)) }
-    ensures refused { OnErr result (LeavesStruct (A.view arena.old).words (A.view arena.new).words id at old) }
+    ensures refused { OnErr result
+        (LeavesStruct (A.view arena.old).words (A.view arena.new).words id at old) }
     ensures memory { IfErr result (SpendsMemory (A.view arena.old) (A.view arena.new)) }
     ensures full { IfErr result (RefusesGrowth (A.view arena.old) (A.view arena.new)) }
-    ensures few { TakesAtMost (A.view arena.old).words (A.view arena.new).words (size.data_words + size.pointers + 1 + 2 * old.size.pointers) }
-    ensures fits { HasRoom (A.view arena.old) id (size.data_words + size.pointers + 2 * old.size.pointers) → IsOk result }
-    ensures near { old.segment ≡ id → HasOwnRoom (A.view arena.old) id (size.data_words + size.pointers) → IsOk result }
+    ensures few { TakesAtMost (A.view arena.old).words (A.view arena.new).words
+        (size.data_words + size.pointers + 1 + 2 * old.size.pointers) }
+    ensures fits { HasRoom (A.view arena.old) id
+        (size.data_words + size.pointers + 2 * old.size.pointers) → IsOk result }
+    ensures near { old.segment ≡ id
+        → HasOwnRoom (A.view arena.old) id (size.data_words + size.pointers) → IsOk result }
 {
     let pointer = word_of(arena, id, at);
     match take(arena, id, size.total()) {

@@ -1,3 +1,4 @@
 pub mod LaneLemmas
+pub mod LittleEndian
 pub mod Masks
 pub mod WordsPut

@@ -1,2 +1,3 @@
 pub mod Meter
 pub mod Names
+pub mod Sizes

@@ -5,9 +5,11 @@
 pub mod error;
 pub mod lanes;
 pub mod mask;
+pub mod primitive;
 pub mod read_limiter;
+pub mod units;
+pub mod wire_pointer;
 pub mod words;
 pub mod zero;
 
 pub use capnp_format::laws;
-pub use capnp_pointers::{primitive, units, wire_pointer};

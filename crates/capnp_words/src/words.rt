@@ -43,7 +43,8 @@ pub fn put_word(bytes: &mut [u8], at: usize, word: u64)
 pub fn copy_words(bytes: &mut [u8], at: usize, from: &[u8])
     requires whole { length from.now ≡ 8 * length (words_of from.now) }
     requires room { 8 * (at + length (words_of from.now)) ≤ length bytes.old }
-    ensures { words_of bytes.new ≡ put_mid at (length (words_of from.now)) (words_of bytes.old) (words_of from.now) }
+    ensures { words_of bytes.new ≡ put_mid at (length (words_of from.now)) (words_of bytes.old)
+        (words_of from.now) }
 {
     let start = 8 * at;
     lanes::copy(from, &mut bytes[start..start + from.len()]);
@@ -101,7 +102,8 @@ pub fn used_part(bytes: &[u8], at: usize, n: usize) -> usize
 pub fn move_words(bytes: &mut [u8], from: usize, to: usize, n: usize)
     requires there { 8 * (from + n) ≤ length bytes.old }
     requires room { 8 * (to + n) ≤ length bytes.old }
-    ensures { words_of bytes.new ≡ put_mid to n (words_of bytes.old) (take n (drop from (words_of bytes.old))) }
+    ensures { words_of bytes.new ≡ put_mid to n (words_of bytes.old)
+        (take n (drop from (words_of bytes.old))) }
 {
     if from + n <= to {
         let (front, back) = bytes.split_at_mut(8 * to);

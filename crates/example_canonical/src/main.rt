@@ -43,7 +43,8 @@ type Built = BuilderArenaImpl<HeapAllocator>;
 /// words of the value that the root, word 0 of segment 0, leads to within 64 levels.
 fn canonical(alloc: Global, segments: &[&[u8]]) -> Result<Built, ErrorKind>
     ensures { let from = message (map (λ s. s.now) segments.now) in
-        IfOk result (λ b. (t : Tree) × (c : ℕ) × Means from 64 0 0 t c × ((⟦<Built as BuilderArena>⟧.view b).words ≡ encoding (trim t) ∷ [])) }
+        IfOk result (λ b. (t : Tree) × (c : ℕ) × Means from 64 0 0 t c
+        × ((⟦<Built as BuilderArena>⟧.view b).words ≡ encoding (trim t) ∷ [])) }
 {
     // The message is read in place: at most 8,388,608 words of it, and 64 levels deep.
     let options = ReaderOptions::default();

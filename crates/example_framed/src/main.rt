@@ -32,7 +32,8 @@ fn write_message<W: Output>(
     requires small { IsSmall (⟦<OwnedSegments as ReaderSegments>⟧.segments segments) }
     requires works { W.has_failed output.old ≡ false }
     ensures { let from = message (⟦<OwnedSegments as ReaderSegments>⟧.segments segments) in
-        OnOk result ((t : Tree) × (c : ℕ) × Means from 64 0 0 t c × Prints W.Output output.old output.new (frame (encoding (trim t) ∷ []))) }
+        OnOk result ((t : Tree) × (c : ℕ) × Means from 64 0 0 t c
+        × Prints W.Output output.old output.new (frame (encoding (trim t) ∷ []))) }
 {
     // The message is read in place: at most 8,388,608 words of it, and 64 levels deep.
     let options = ReaderOptions::default();

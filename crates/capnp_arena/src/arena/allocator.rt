@@ -20,7 +20,8 @@ pub trait Segment {
 
     /// All its bytes, to be written.
     fn bytes_mut(&mut self) -> &mut [u8]
-        ensures* lends { sem 𝓛 (Lends Self.row (Array byte 0) self.entry result (with_content self.old)) }
+        ensures* lends { sem 𝓛 (Lends Self.row (Array byte 0) self.entry result
+            (with_content self.old)) }
         ensures now { result.now ≡ content self.old };
 }
 
@@ -44,10 +45,14 @@ pub trait Allocator: Drop {
     fn allocate_segment(&mut self, min_words: u32) -> Result<Self::Segment, ErrorKind>
         ensures fresh { IfOk result (λ s. IsFresh min_words (Self.Segment.content s)) }
         ensures sure { IsTrue (grants self.old min_words) → IsOk result }
-        ensures size { IfOk result (λ s. IsTrue (offers self.old min_words (length (Self.Segment.content s) / 8))) }
+        ensures size { IfOk result (λ s.
+            IsTrue (offers self.old min_words (length (Self.Segment.content s) / 8))) }
         ensures counted { OnOk result (refusals self.new ≡ refusals self.old) }
-        ensures too_large { max_segment_words < min_words → (result ≡ Err (MessageTooLarge min_words)) × (refusals self.new ≡ refusals self.old) }
-        ensures refused { min_words ≤ max_segment_words → IfErr result (λ e. (e ≡ AllocationFailed) × (refusals self.new ≡ one_more (refusals self.old))) }
+        ensures too_large { max_segment_words < min_words
+            → (result ≡ Err (MessageTooLarge min_words)) × (refusals self.new ≡ refusals self.old) }
+        ensures refused { min_words ≤ max_segment_words
+            → IfErr result (λ e. (e ≡ AllocationFailed)
+            × (refusals self.new ≡ one_more (refusals self.old))) }
         ensures offers { offers self.new ≡ offers self.old };
 
     /// Gives a segment back, of which the first `used_words` words were allocated. All words behind
@@ -60,8 +65,10 @@ pub trait Allocator: Drop {
 
     /// Puts a row last in a list. Where there is no memory for it, gives the row back, leaves the list as it was, and counts in `refused`.
     fn keep<T>(&mut self, list: &mut Vec<T>, row: T) -> Option<T>
-        ensures kept { IsNone result → (list.new.items ≡ list.old.items ++ row ∷ []) × (refusals self.new ≡ refusals self.old) }
-        ensures given_back { IfSome result (λ r. (r ≡ row) × (list.new.items ≡ list.old.items) × (refusals self.new ≡ one_more (refusals self.old))) }
+        ensures kept { IsNone result → (list.new.items ≡ list.old.items ++ row ∷ [])
+            × (refusals self.new ≡ refusals self.old) }
+        ensures given_back { IfSome result (λ r. (r ≡ row) × (list.new.items ≡ list.old.items)
+            × (refusals self.new ≡ one_more (refusals self.old))) }
         ensures offers { offers self.new ≡ offers self.old };
 
     /// How often memory was refused: one for each `AllocationFailed` and each row given back, up to the greatest u64.

@@ -27,7 +27,8 @@ pub trait BuilderArena: ReaderArena + sealed::Closed {
     /// Lends the allocated words of a segment, as bytes, to be written. Whatever is written, the words behind them stay zero.
     fn segment_mut(&mut self, id: u32) -> &mut [u8]
         requires { id < length (Self.segments self.old) }
-        ensures* lends { sem 𝓛 (Lends Self.row (Array byte 0) self.entry result (with_bytes self.old id)) }
+        ensures* lends { sem 𝓛 (Lends Self.row (Array byte 0) self.entry result
+            (with_bytes self.old id)) }
         ensures bytes { slice_get (Self.segments self.old) id ≡ Some result.now };
 
     /// Lends the allocated words of a segment, as bytes, to be written; `None` exactly where `id` is not below the number of segments,
@@ -40,29 +41,40 @@ pub trait BuilderArena: ReaderArena + sealed::Closed {
     /// Writes a word.
     fn set_word(&mut self, id: u32, at: u32, word: u64)
         requires { IsPlace (view self.old).words id at }
-        ensures { view self.new ≡ record (view self.old) { words = with_word (view self.old).words id at word } };
+        ensures { view self.new
+            ≡ record (view self.old) { words = with_word (view self.old).words id at word } };
 
     /// Writes words over others. There may be none, and then nothing changes.
     fn copy_words(&mut self, id: u32, at: u32, from: &[u8])
         requires whole { length from.now ≡ 8 * length (words_of from.now) }
-        requires inside { at + length (words_of from.now) ≤ length (segment (view self.old).words id) }
-        ensures { view self.new ≡ record (view self.old) { words = with_words (view self.old).words id at (words_of from.now) } };
+        requires inside { at + length (words_of from.now)
+            ≤ length (segment (view self.old).words id) }
+        ensures { view self.new
+            ≡ record (view self.old)
+            { words = with_words (view self.old).words id at (words_of from.now) } };
 
     /// Copies `n` words over others of the same segment or of another one, as they were before. Where `n` is 0, nothing changes.
     fn move_words(&mut self, from: u32, from_at: u32, to: u32, to_at: u32, n: u32)
         requires there { from_at + n ≤ length (segment (view self.old).words from) }
         requires inside { to_at + n ≤ length (segment (view self.old).words to) }
-        ensures { view self.new ≡ record (view self.old) { words = with_words (view self.old).words to to_at (words_at (view self.old).words from from_at n) } };
+        ensures { view self.new
+            ≡ record (view self.old) {
+              words = with_words (view self.old).words to to_at
+                  (words_at (view self.old).words from from_at n);
+            } };
 
     /// Writes `n` words of zero over others. Where `n` is 0, nothing changes.
     fn zero_words(&mut self, id: u32, at: u32, n: u32)
         requires { at + n ≤ length (segment (view self.old).words id) }
-        ensures { view self.new ≡ record (view self.old) { words = with_words (view self.old).words id at (replicate n 0) } };
+        ensures { view self.new
+            ≡ record (view self.old)
+            { words = with_words (view self.old).words id at (replicate n 0) } };
 
     /// Takes words at the end of what is allocated of a segment; they are zero.
     fn allocate(&mut self, id: u32, amount: u32) -> Option<u32>
         requires { id < length (view self.old).words }
-        ensures exactly { IsSome result ↔ (length (segment (view self.old).words id) + amount ≤ (view self.old).room id) }
+        ensures exactly { IsSome result
+            ↔ (length (segment (view self.old).words id) + amount ≤ (view self.old).room id) }
         ensures taken { IfSome result (GrowsSegment (view self.old) (view self.new) amount id) }
         ensures none { IsNone result → view self.new ≡ view self.old };
 
@@ -70,15 +82,26 @@ pub trait BuilderArena: ReaderArena + sealed::Closed {
     ///
     /// Where no segment has room, `MessageTooLarge(usize::MAX)` says that there are 4,294,967,295 segments, else `MessageTooLarge(amount)` that `amount` is above 536,870,911. `AllocationFailed` is want of memory. A refusal changes nothing but `refused`.
     fn allocate_anywhere(&mut self, amount: u32) -> Result<(SegmentId, u32), ErrorKind>
-        ensures taken { IfOk result (λ r. IsTaken (view self.old).words (view self.new).words amount r.0 r.1) }
-        ensures first { (k : ℕ) → IsFirstFit (view self.old) amount k → IsOkAnd result (λ r. (r.0 ≡ k) × GrowsSegment (view self.old) (view self.new) amount k r.1) }
-        ensures another { IsFull (view self.old) amount → IfOk result (λ r. GainsSegment (view self.old) (view self.new) amount r.0 r.1) }
-        ensures room { SameRoomBelow (length (view self.old).words) (view self.old).room (view self.new).room }
-        ensures granted { OnOk result (view self.new ≡ record (view self.old) { words = (view self.new).words; room = (view self.new).room }) }
-        ensures many { IsFull (view self.old) amount → length (view self.old).words ≡ max_segments → result ≡ Err (MessageTooLarge usize.MAX) }
-        ensures large { max_segment_words < amount → length (view self.old).words < max_segments → result ≡ Err (MessageTooLarge amount) }
-        ensures named { IfErr result (λ e. IsAllocationRefusal (view self.old) (view self.new) (length (view self.old).words) amount e) }
-        ensures refused { OnErr result (view self.new ≡ record (view self.old) { refusals = (view self.new).refusals }) };
+        ensures taken { IfOk result (λ r. IsTaken (view self.old).words
+            (view self.new).words amount r.0 r.1) }
+        ensures first { (k : ℕ) → IsFirstFit (view self.old) amount k
+            → IsOkAnd result
+            (λ r. (r.0 ≡ k) × GrowsSegment (view self.old) (view self.new) amount k r.1) }
+        ensures another { IsFull (view self.old) amount
+            → IfOk result (λ r. GainsSegment (view self.old) (view self.new) amount r.0 r.1) }
+        ensures room { SameRoomBelow (length (view self.old).words) (view self.old).room
+            (view self.new).room }
+        ensures granted { OnOk result (view self.new ≡ record
+            (view self.old) { words = (view self.new).words; room = (view self.new).room }) }
+        ensures many { IsFull (view self.old) amount → length (view self.old).words ≡ max_segments
+            → result ≡ Err (MessageTooLarge usize.MAX) }
+        ensures large { max_segment_words < amount → length (view self.old).words < max_segments
+            → result ≡ Err (MessageTooLarge amount) }
+        ensures named { IfErr result
+            (λ e. IsAllocationRefusal (view self.old) (view self.new)
+            (length (view self.old).words) amount e) }
+        ensures refused { OnErr result
+            (view self.new ≡ record (view self.old) { refusals = (view self.new).refusals }) };
 
     /// The arena itself, to be read.
     fn as_reader(&self) -> &Self

@@ -58,7 +58,8 @@ fn put_behind<A: Allocator>(
     ensures granted { OnOk result (A.refusals allocator.new ≡ A.refusals allocator.old) }
     ensures named { IfErr result (λ e. e ≡ AllocationFailed) }
     ensures refused { OnErr result (rows.new.items ≡ rows.old.items) }
-    ensures counted { OnErr result (A.refusals allocator.new ≡ one_more (A.refusals allocator.old)) }
+    ensures counted { OnErr result
+        (A.refusals allocator.new ≡ one_more (A.refusals allocator.old)) }
     ensures offers { A.offers allocator.new ≡ A.offers allocator.old }
 {
     match allocator.keep(rows, Row::new(segment)) {
@@ -83,7 +84,9 @@ fn copy_across<S: Segment>(rows: &mut [Row<S>], from: Place, to: Place, n: u32)
     requires apart { from.row ≢ to.row }
     requires there { from.at + n ≤ length (segment (message (shown S.Segment rows.old)) from.row) }
     requires inside { to.at + n ≤ length (segment (message (shown S.Segment rows.old)) to.row) }
-    ensures words { message (shown S.Segment rows.new) ≡ with_words (message (shown S.Segment rows.old)) to.row to.at (words_at (message (shown S.Segment rows.old)) from.row from.at n) }
+    ensures words { message (shown S.Segment rows.new)
+        ≡ with_words (message (shown S.Segment rows.old)) to.row to.at
+        (words_at (message (shown S.Segment rows.old)) from.row from.at n) }
     ensures room { capacity_at S.Segment rows.new ≡ capacity_at S.Segment rows.old }
 {
     if from.row < to.row {
@@ -173,10 +176,14 @@ impl<A: Allocator> BuilderArenaImpl<A> {
     ///
     /// Dropping the arena while it is out drops the segments: they don't go back to the allocator.
     pub fn without_allocator(self) -> (BuilderArenaImpl<NullAllocator<A>>, A)
-        ensures segments { ⟦<BuilderArenaImpl<NullAllocator<A>> as ReaderArena>⟧.segments result.0 ≡ ⟦<Self as ReaderArena>⟧.segments self }
-        ensures room { (⟦<BuilderArenaImpl<NullAllocator<A>> as BuilderArena>⟧.view result.0).room ≡ (⟦<Self as BuilderArena>⟧.view self).room }
-        ensures refusals { (⟦<BuilderArenaImpl<NullAllocator<A>> as BuilderArena>⟧.view result.0).refusals ≡ 0 }
-        ensures offers { (⟦<BuilderArenaImpl<NullAllocator<A>> as BuilderArena>⟧.view result.0).offers ≡ (λ _ _. false) }
+        ensures segments { ⟦<BuilderArenaImpl<NullAllocator<A>> as ReaderArena>⟧.segments result.0
+            ≡ ⟦<Self as ReaderArena>⟧.segments self }
+        ensures room { (⟦<BuilderArenaImpl<NullAllocator<A>> as BuilderArena>⟧.view result.0).room
+            ≡ (⟦<Self as BuilderArena>⟧.view self).room }
+        ensures refusals { (⟦<BuilderArenaImpl<NullAllocator<A>> as BuilderArena>⟧.view
+            result.0).refusals ≡ 0 }
+        ensures offers { (⟦<BuilderArenaImpl<NullAllocator<A>> as BuilderArena>⟧.view
+            result.0).offers ≡ (λ _ _. false) }
         ensures allocator { result.1 ≡ self.allocator }
     {
         let BuilderArenaImpl {
@@ -197,17 +204,35 @@ impl<A: Allocator> BuilderArenaImpl<A> {
     /// `MessageTooLarge(usize::MAX)` says that there are 4,294,967,295 segments, else `MessageTooLarge(min)` that `min` is above 536,870,911; `AllocationFailed` is want of memory. A refusal changes nothing but `refused`.
     #[tactic(auto, using(crate::proofs::RowsLemmas::counting))]
     pub fn allocate_segment(&mut self, min: u32) -> Result<(), ErrorKind>
-        ensures made { OnOk result (⟦<Self as ReaderArena>⟧.segments self.new ≡ ⟦<Self as ReaderArena>⟧.segments self.old ++ [] ∷ []) }
-        ensures least { OnOk result (min ≤ (⟦<Self as BuilderArena>⟧.view self.new).room (length (⟦<Self as ReaderArena>⟧.segments self.old))) }
-        ensures size { OnOk result (IsTrue ((⟦<Self as BuilderArena>⟧.view self.old).offers min ((⟦<Self as BuilderArena>⟧.view self.new).room (length (⟦<Self as ReaderArena>⟧.segments self.old))))) }
-        ensures granted { OnOk result ((⟦<Self as BuilderArena>⟧.view self.new).refusals ≡ (⟦<Self as BuilderArena>⟧.view self.old).refusals) }
-        ensures room { SameRoomBelow (length (⟦<Self as ReaderArena>⟧.segments self.old)) (⟦<Self as BuilderArena>⟧.view self.old).room (⟦<Self as BuilderArena>⟧.view self.new).room }
-        ensures many { length (⟦<Self as ReaderArena>⟧.segments self.old) ≡ max_segments → result ≡ Err (MessageTooLarge usize.MAX) }
-        ensures large { length (⟦<Self as ReaderArena>⟧.segments self.old) < max_segments → max_segment_words < min → result ≡ Err (MessageTooLarge min) }
-        ensures named { IfErr result (IsAllocationRefusal (⟦<Self as BuilderArena>⟧.view self.old) (⟦<Self as BuilderArena>⟧.view self.new) (length (⟦<Self as ReaderArena>⟧.segments self.old)) min) }
-        ensures refused { OnErr result (⟦<Self as ReaderArena>⟧.segments self.new ≡ ⟦<Self as ReaderArena>⟧.segments self.old) }
-        ensures refused_room { OnErr result ((⟦<Self as BuilderArena>⟧.view self.new).room ≡ (⟦<Self as BuilderArena>⟧.view self.old).room) }
-        ensures offers { (⟦<Self as BuilderArena>⟧.view self.new).offers ≡ (⟦<Self as BuilderArena>⟧.view self.old).offers }
+        ensures made { OnOk result (⟦<Self as ReaderArena>⟧.segments self.new
+            ≡ ⟦<Self as ReaderArena>⟧.segments self.old ++ [] ∷ []) }
+        ensures least { OnOk result (min ≤ (⟦<Self as BuilderArena>⟧.view self.new).room
+            (length (⟦<Self as ReaderArena>⟧.segments self.old))) }
+        ensures size { OnOk result (IsTrue
+            ((⟦<Self as BuilderArena>⟧.view self.old).offers min
+            ((⟦<Self as BuilderArena>⟧.view self.new).room
+            (length (⟦<Self as ReaderArena>⟧.segments self.old))))) }
+        ensures granted { OnOk result ((⟦<Self as BuilderArena>⟧.view self.new).refusals
+            ≡ (⟦<Self as BuilderArena>⟧.view self.old).refusals) }
+        ensures room { SameRoomBelow (length (⟦<Self as ReaderArena>⟧.segments self.old))
+            (⟦<Self as BuilderArena>⟧.view self.old).room
+            (⟦<Self as BuilderArena>⟧.view self.new).room }
+        ensures many { length (⟦<Self as ReaderArena>⟧.segments self.old) ≡ max_segments
+            → result ≡ Err (MessageTooLarge usize.MAX) }
+        ensures large { length (⟦<Self as ReaderArena>⟧.segments self.old) < max_segments
+            → max_segment_words < min → result ≡ Err (MessageTooLarge min) }
+        ensures named { IfErr result
+            (IsAllocationRefusal (⟦<Self as BuilderArena>⟧.view self.old)
+            (⟦<Self as BuilderArena>⟧.view self.new)
+            (length (⟦<Self as ReaderArena>⟧.segments self.old)) min) }
+        ensures refused { OnErr result
+            (⟦<Self as ReaderArena>⟧.segments self.new
+            ≡ ⟦<Self as ReaderArena>⟧.segments self.old) }
+        ensures refused_room { OnErr result
+            ((⟦<Self as BuilderArena>⟧.view self.new).room
+            ≡ (⟦<Self as BuilderArena>⟧.view self.old).room) }
+        ensures offers { (⟦<Self as BuilderArena>⟧.view self.new).offers
+            ≡ (⟦<Self as BuilderArena>⟧.view self.old).offers }
     {
         if self.rows.len() >= MAX_SEGMENTS {
             return Err(ErrorKind::MessageTooLarge(usize::MAX));
@@ -218,9 +243,11 @@ impl<A: Allocator> BuilderArenaImpl<A> {
 
     /// The allocated words of each segment, within the limits of a reader. It takes memory where there is not exactly one segment, and want of it is `AllocationFailed`.
     pub fn get_segments_for_output(&self) -> Result<OutputSegments<'_>, ErrorKind>
-        ensures bytes { IfOk result (λ o. output_bytes o ≡ ⟦<Self as ReaderArena>⟧.segments self.now) }
+        ensures bytes { IfOk result (λ o. output_bytes o
+            ≡ ⟦<Self as ReaderArena>⟧.segments self.now) }
         ensures small { IfOk result (λ o. IsSmall (output_bytes o)) }
-        ensures single { IfOk result (λ o. IsTrue (is_single o) ↔ (length (⟦<Self as ReaderArena>⟧.segments self.now) ≡ 1)) }
+        ensures single { IfOk result (λ o. IsTrue (is_single o)
+            ↔ (length (⟦<Self as ReaderArena>⟧.segments self.now) ≡ 1)) }
         ensures one { length (⟦<Self as ReaderArena>⟧.segments self.now) ≡ 1 → IsOk result }
         ensures named { IfErr result (λ e. e ≡ AllocationFailed) }
     {
@@ -236,8 +263,11 @@ impl<A: Allocator> BuilderArenaImpl<A> {
     /// Whether a segment has room for so many words more.
     fn has_room(&self, id: u32, amount: u32) -> bool
         requires { id < length (⟦<Self as ReaderArena>⟧.segments self.now) }
-        ensures room { IsTrue result ↔ (length (segment (⟦<Self as BuilderArena>⟧.view self.now).words id) + amount ≤ (⟦<Self as BuilderArena>⟧.view self.now).room id) }
-        ensures small { length (segment (⟦<Self as BuilderArena>⟧.view self.now).words id) < 2 ^ 29 }
+        ensures room { IsTrue result
+            ↔ (length (segment (⟦<Self as BuilderArena>⟧.view self.now).words id) + amount
+            ≤ (⟦<Self as BuilderArena>⟧.view self.now).room id) }
+        ensures small { length (segment (⟦<Self as BuilderArena>⟧.view self.now).words id)
+            < 2 ^ 29 }
     {
         self.rows[id as usize].has_room(amount)
     }
@@ -245,7 +275,8 @@ impl<A: Allocator> BuilderArenaImpl<A> {
     /// The first segment that has room for so many words more.
     #[tactic(auto, using(crate::proofs::RowsLemmas::counting))]
     fn first_fit(&self, amount: u32) -> Option<u32>
-        ensures fit { IfSome result (λ k. IsFirstFit (⟦<Self as BuilderArena>⟧.view self.now) amount k) }
+        ensures fit { IfSome result
+            (λ k. IsFirstFit (⟦<Self as BuilderArena>⟧.view self.now) amount k) }
         ensures full { IsNone result → IsFull (⟦<Self as BuilderArena>⟧.view self.now) amount }
     {
         for id in 0..self.rows.len() as u32 {
@@ -260,9 +291,11 @@ impl<A: Allocator> BuilderArenaImpl<A> {
     #[tactic(auto, using(crate::proofs::RowsLemmas::rows_written))]
     fn take(&mut self, id: u32, amount: u32) -> u32
         requires there { id < length (⟦<Self as ReaderArena>⟧.segments self.old) }
-        requires fits { length (segment (⟦<Self as BuilderArena>⟧.view self.old).words id) + amount ≤ (⟦<Self as BuilderArena>⟧.view self.old).room id }
+        requires fits { length (segment (⟦<Self as BuilderArena>⟧.view self.old).words id) + amount
+            ≤ (⟦<Self as BuilderArena>⟧.view self.old).room id }
         ensures at { result ≡ length (segment (⟦<Self as BuilderArena>⟧.view self.old).words id) }
-        ensures taken { ⟦<Self as BuilderArena>⟧.view self.new ≡ with_more (⟦<Self as BuilderArena>⟧.view self.old) id (replicate amount 0) }
+        ensures taken { ⟦<Self as BuilderArena>⟧.view self.new
+            ≡ with_more (⟦<Self as BuilderArena>⟧.view self.old) id (replicate amount 0) }
         ensures small { result + amount < 2 ^ 29 }
     {
         let row = &mut self.rows[id as usize];
@@ -273,17 +306,34 @@ impl<A: Allocator> BuilderArenaImpl<A> {
     #[tactic(auto, using(crate::proofs::TakingLemmas::another))]
     fn take_another(&mut self, amount: u32) -> Result<u32, ErrorKind>
         ensures number { IfOk result (λ k. k ≡ length (⟦<Self as ReaderArena>⟧.segments self.old)) }
-        ensures taken { OnOk result (message (⟦<Self as ReaderArena>⟧.segments self.new) ≡ with_another (⟦<Self as BuilderArena>⟧.view self.old).words amount) }
-        ensures least { IfOk result (λ k. amount ≤ (⟦<Self as BuilderArena>⟧.view self.new).room k) }
-        ensures size { IfOk result (λ k. IsTrue ((⟦<Self as BuilderArena>⟧.view self.old).offers amount ((⟦<Self as BuilderArena>⟧.view self.new).room k))) }
-        ensures granted { OnOk result ((⟦<Self as BuilderArena>⟧.view self.new).refusals ≡ (⟦<Self as BuilderArena>⟧.view self.old).refusals) }
-        ensures room { SameRoomBelow (length (⟦<Self as ReaderArena>⟧.segments self.old)) (⟦<Self as BuilderArena>⟧.view self.old).room (⟦<Self as BuilderArena>⟧.view self.new).room }
-        ensures many { length (⟦<Self as ReaderArena>⟧.segments self.old) ≡ max_segments → result ≡ Err (MessageTooLarge usize.MAX) }
-        ensures large { length (⟦<Self as ReaderArena>⟧.segments self.old) < max_segments → max_segment_words < amount → result ≡ Err (MessageTooLarge amount) }
-        ensures named { IfErr result (IsAllocationRefusal (⟦<Self as BuilderArena>⟧.view self.old) (⟦<Self as BuilderArena>⟧.view self.new) (length (⟦<Self as ReaderArena>⟧.segments self.old)) amount) }
-        ensures refused { OnErr result (⟦<Self as ReaderArena>⟧.segments self.new ≡ ⟦<Self as ReaderArena>⟧.segments self.old) }
-        ensures refused_room { OnErr result ((⟦<Self as BuilderArena>⟧.view self.new).room ≡ (⟦<Self as BuilderArena>⟧.view self.old).room) }
-        ensures offers { (⟦<Self as BuilderArena>⟧.view self.new).offers ≡ (⟦<Self as BuilderArena>⟧.view self.old).offers }
+        ensures taken { OnOk result (message (⟦<Self as ReaderArena>⟧.segments self.new)
+            ≡ with_another (⟦<Self as BuilderArena>⟧.view self.old).words amount) }
+        ensures least { IfOk result (λ k.
+            amount ≤ (⟦<Self as BuilderArena>⟧.view self.new).room k) }
+        ensures size { IfOk result (λ k.
+            IsTrue ((⟦<Self as BuilderArena>⟧.view self.old).offers amount
+            ((⟦<Self as BuilderArena>⟧.view self.new).room k))) }
+        ensures granted { OnOk result ((⟦<Self as BuilderArena>⟧.view self.new).refusals
+            ≡ (⟦<Self as BuilderArena>⟧.view self.old).refusals) }
+        ensures room { SameRoomBelow (length (⟦<Self as ReaderArena>⟧.segments self.old))
+            (⟦<Self as BuilderArena>⟧.view self.old).room
+            (⟦<Self as BuilderArena>⟧.view self.new).room }
+        ensures many { length (⟦<Self as ReaderArena>⟧.segments self.old) ≡ max_segments
+            → result ≡ Err (MessageTooLarge usize.MAX) }
+        ensures large { length (⟦<Self as ReaderArena>⟧.segments self.old) < max_segments
+            → max_segment_words < amount → result ≡ Err (MessageTooLarge amount) }
+        ensures named { IfErr result
+            (IsAllocationRefusal (⟦<Self as BuilderArena>⟧.view self.old)
+            (⟦<Self as BuilderArena>⟧.view self.new)
+            (length (⟦<Self as ReaderArena>⟧.segments self.old)) amount) }
+        ensures refused { OnErr result
+            (⟦<Self as ReaderArena>⟧.segments self.new
+            ≡ ⟦<Self as ReaderArena>⟧.segments self.old) }
+        ensures refused_room { OnErr result
+            ((⟦<Self as BuilderArena>⟧.view self.new).room
+            ≡ (⟦<Self as BuilderArena>⟧.view self.old).room) }
+        ensures offers { (⟦<Self as BuilderArena>⟧.view self.new).offers
+            ≡ (⟦<Self as BuilderArena>⟧.view self.old).offers }
     {
         let id = self.rows.len();
         self.allocate_segment(amount)?;
@@ -296,10 +346,14 @@ impl<A: Allocator> BuilderArenaImpl<A> {
 impl<A: Allocator> BuilderArenaImpl<NullAllocator<A>> {
     /// Puts an allocator in, in place of the one that gives nothing: it gives further segments from now on, and those that are there go back to it. The segments, their words and their room stay.
     pub fn with_allocator(self, allocator: A) -> BuilderArenaImpl<A>
-        ensures segments { ⟦<BuilderArenaImpl<A> as ReaderArena>⟧.segments result ≡ ⟦<Self as ReaderArena>⟧.segments self }
-        ensures room { (⟦<BuilderArenaImpl<A> as BuilderArena>⟧.view result).room ≡ (⟦<Self as BuilderArena>⟧.view self).room }
-        ensures refusals { (⟦<BuilderArenaImpl<A> as BuilderArena>⟧.view result).refusals ≡ A.refusals allocator }
-        ensures offers { (⟦<BuilderArenaImpl<A> as BuilderArena>⟧.view result).offers ≡ A.offers allocator }
+        ensures segments { ⟦<BuilderArenaImpl<A> as ReaderArena>⟧.segments result
+            ≡ ⟦<Self as ReaderArena>⟧.segments self }
+        ensures room { (⟦<BuilderArenaImpl<A> as BuilderArena>⟧.view result).room
+            ≡ (⟦<Self as BuilderArena>⟧.view self).room }
+        ensures refusals { (⟦<BuilderArenaImpl<A> as BuilderArena>⟧.view result).refusals
+            ≡ A.refusals allocator }
+        ensures offers { (⟦<BuilderArenaImpl<A> as BuilderArena>⟧.view result).offers
+            ≡ A.offers allocator }
     {
         let BuilderArenaImpl {
             alloc,

@@ -32,8 +32,10 @@ pub trait ReaderArena {
     fn get_segment(&self, id: u32) -> Result<&[u8], ErrorKind>
         ensures there { IsOk result ↔ (id < length (segments self.now)) }
         ensures bytes { IfOk result (λ s. slice_get (segments self.now) id ≡ Some s.now) }
-        ensures words { IfOk result (λ s. words_of s.now ≡ segment (message (segments self.now)) id) }
-        ensures whole { IfOk result (λ s. length s.now ≡ 8 * length (segment (message (segments self.now)) id)) }
+        ensures words { IfOk result (λ s. words_of s.now
+            ≡ segment (message (segments self.now)) id) }
+        ensures whole { IfOk result (λ s. length s.now ≡ 8
+            * length (segment (message (segments self.now)) id)) }
         ensures small { IfOk result (λ s. length s.now < 8 * 2 ^ 32) }
         ensures named { IfErr result (λ e. e ≡ absent self.now id) };
 
@@ -56,7 +58,8 @@ pub trait ReaderArena {
     fn check_offset(&self, id: u32, start: u32, offset: i32) -> Result<u32, ErrorKind>
         ensures exactly { IsOk result ↔ LeadsInside (message (segments self.now)) id start offset }
         ensures value { IfOk result (λ r. pos r ≡ pos start +ℤ offset) }
-        ensures named { IfErr result (λ e. e ≡ misplaced (message (segments self.now)) id (absent self.now id)) }
+        ensures named { IfErr result
+            (λ e. e ≡ misplaced (message (segments self.now)) id (absent self.now id)) }
     {
         let length = self.get_segment(id)?.len() / 8;
         match position_within(length, start, offset) {
@@ -92,11 +95,14 @@ pub trait ReaderArena {
         size: usize,
         lim: &mut ReadLimiter,
     ) -> Result<(), ErrorKind>
-        ensures exactly { IsOk result ↔ Holds (message (segments self.now)) id start size × Affords (charging self.now) lim.old size }
+        ensures exactly { IsOk result ↔ Holds (message (segments self.now)) id start size
+            × Affords (charging self.now) lim.old size }
         ensures granted { OnOk result (lim.new ≡ charged (charging self.now) lim.old size) }
         ensures refused { OnErr result (lim.new ≡ lim.old) }
-        ensures outside { IfErr result (λ e. (Holds (message (segments self.now)) id start size → ⊥) → e ≡ misplaced (message (segments self.now)) id (absent self.now id)) }
-        ensures budget { IfErr result (λ e. Holds (message (segments self.now)) id start size → e ≡ ReadLimitExceeded) }
+        ensures outside { IfErr result (λ e. (Holds (message (segments self.now)) id start size → ⊥)
+            → e ≡ misplaced (message (segments self.now)) id (absent self.now id)) }
+        ensures budget { IfErr result (λ e. Holds (message (segments self.now)) id start size
+            → e ≡ ReadLimitExceeded) }
     {
         let length = self.get_segment(id)?.len() / 8;
         if is_within(length, start, size) {

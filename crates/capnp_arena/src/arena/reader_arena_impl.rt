@@ -45,7 +45,8 @@ impl<S: ReaderSegments> ReaderArenaImpl<S> {
     pub fn new(segments: S, options: ReaderOptions) -> Self
         requires { IsSmall (S.segments segments) }
         ensures segments { result.segments ≡ segments }
-        ensures words { message (⟦<Self as ReaderArena>⟧.segments result) ≡ message (S.segments segments) }
+        ensures words { message (⟦<Self as ReaderArena>⟧.segments result)
+            ≡ message (S.segments segments) }
         ensures nesting { result.nesting_limit ≡ options.nesting_limit }
     {
         let mut words = 0;

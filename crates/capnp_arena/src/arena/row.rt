@@ -13,7 +13,8 @@ use capnp_words::words;
 fn put_below(bytes: &mut [u8], end: usize, at: usize, word: u64)
     requires inside { at < end }
     requires room { 8 * end ≤ length bytes.old }
-    ensures words { words_of (take (8 * end) bytes.new) ≡ slice_set (words_of (take (8 * end) bytes.old)) at word }
+    ensures words { words_of (take (8 * end) bytes.new)
+        ≡ slice_set (words_of (take (8 * end) bytes.old)) at word }
     ensures rest { drop (8 * end) bytes.new ≡ drop (8 * end) bytes.old }
 {
     words::put_word(&mut bytes[..8 * end], at, word);
@@ -25,7 +26,8 @@ fn copy_below(bytes: &mut [u8], end: usize, at: usize, from: &[u8])
     requires whole { length from.now ≡ 8 * length (words_of from.now) }
     requires inside { at + length (words_of from.now) ≤ end }
     requires room { 8 * end ≤ length bytes.old }
-    ensures words { words_of (take (8 * end) bytes.new) ≡ overwritten (words_of (take (8 * end) bytes.old)) at (words_of from.now) }
+    ensures words { words_of (take (8 * end) bytes.new)
+        ≡ overwritten (words_of (take (8 * end) bytes.old)) at (words_of from.now) }
     ensures rest { drop (8 * end) bytes.new ≡ drop (8 * end) bytes.old }
 {
     words::copy_words(&mut bytes[..8 * end], at, from);
@@ -36,7 +38,8 @@ fn copy_below(bytes: &mut [u8], end: usize, at: usize, from: &[u8])
 fn zero_below(bytes: &mut [u8], end: usize, at: usize, n: usize)
     requires inside { at + n ≤ end }
     requires room { 8 * end ≤ length bytes.old }
-    ensures words { words_of (take (8 * end) bytes.new) ≡ overwritten (words_of (take (8 * end) bytes.old)) at (replicate n 0) }
+    ensures words { words_of (take (8 * end) bytes.new)
+        ≡ overwritten (words_of (take (8 * end) bytes.old)) at (replicate n 0) }
     ensures rest { drop (8 * end) bytes.new ≡ drop (8 * end) bytes.old }
 {
     words::zero_words(&mut bytes[..8 * end], at, n);
@@ -48,7 +51,9 @@ fn move_below(bytes: &mut [u8], end: usize, from: usize, to: usize, n: usize)
     requires there { from + n ≤ end }
     requires inside { to + n ≤ end }
     requires room { 8 * end ≤ length bytes.old }
-    ensures words { words_of (take (8 * end) bytes.new) ≡ with_copied (words_of (take (8 * end) bytes.old)) to (words_of (take (8 * end) bytes.old)) from n }
+    ensures words { words_of (take (8 * end) bytes.new)
+        ≡ with_copied (words_of (take (8 * end) bytes.old)) to
+        (words_of (take (8 * end) bytes.old)) from n }
     ensures rest { drop (8 * end) bytes.new ≡ drop (8 * end) bytes.old }
 {
     words::move_words(&mut bytes[..8 * end], from, to, n);
@@ -57,7 +62,8 @@ fn move_below(bytes: &mut [u8], end: usize, from: usize, to: usize, n: usize)
 /// Lends the first `n` bytes of a segment; the others stay.
 fn front_of<S: Segment>(segment: &mut S, n: usize) -> &mut [u8]
     requires { n ≤ length (S.content segment.old) }
-    ensures* lends { sem 𝓛 (Lends S.row (Array byte 0) segment.entry result (λ ws. S.with_content segment.old (with_front n (S.content segment.old) ws))) }
+    ensures* lends { sem 𝓛 (Lends S.row (Array byte 0) segment.entry result
+        (λ ws. S.with_content segment.old (with_front n (S.content segment.old) ws))) }
     ensures now { result.now ≡ take n (S.content segment.old) }
 {
     let bytes = segment.bytes_mut();
@@ -83,7 +89,8 @@ impl<S: Segment> Row<S> {
 
     /// Lends the allocated words, to be written.
     pub(crate) fn allocated_mut(&mut self) -> &mut [u8]
-        ensures* lends { sem 𝓛 (Lends (the_row S.row S.Segment) (Array byte 0) self.entry result (with_allocated S.Segment self.old)) }
+        ensures* lends { sem 𝓛 (Lends (the_row S.row S.Segment) (Array byte 0) self.entry result
+            (with_allocated S.Segment self.old)) }
         ensures now { result.now ≡ allocated S.Segment self.old }
     {
         let n = 8 * self.used as usize;
@@ -112,7 +119,8 @@ impl<S: Segment> Row<S> {
     pub(crate) fn take(&mut self, amount: u32) -> u32
         requires { self.old.used + amount ≤ capacity S.Segment self.old }
         ensures at { result ≡ self.old.used }
-        ensures taken { words_of (allocated S.Segment self.new) ≡ words_of (allocated S.Segment self.old) ++ replicate amount 0 }
+        ensures taken { words_of (allocated S.Segment self.new)
+            ≡ words_of (allocated S.Segment self.old) ++ replicate amount 0 }
         ensures used { self.new.used ≡ self.old.used + amount }
         ensures capacity { capacity S.Segment self.new ≡ capacity S.Segment self.old }
     {
@@ -124,7 +132,8 @@ impl<S: Segment> Row<S> {
     #[tactic(auto, using(crate::proofs::RowLemmas::written))]
     pub(crate) fn set_word(&mut self, at: u32, word: u64)
         requires { at < self.old.used }
-        ensures words { words_of (allocated S.Segment self.new) ≡ slice_set (words_of (allocated S.Segment self.old)) at word }
+        ensures words { words_of (allocated S.Segment self.new)
+            ≡ slice_set (words_of (allocated S.Segment self.old)) at word }
         ensures used { self.new.used ≡ self.old.used }
         ensures capacity { capacity S.Segment self.new ≡ capacity S.Segment self.old }
     {
@@ -136,7 +145,8 @@ impl<S: Segment> Row<S> {
     pub(crate) fn copy_words(&mut self, at: u32, from: &[u8])
         requires whole { length from.now ≡ 8 * length (words_of from.now) }
         requires inside { at + length (words_of from.now) ≤ self.old.used }
-        ensures words { words_of (allocated S.Segment self.new) ≡ overwritten (words_of (allocated S.Segment self.old)) at (words_of from.now) }
+        ensures words { words_of (allocated S.Segment self.new)
+            ≡ overwritten (words_of (allocated S.Segment self.old)) at (words_of from.now) }
         ensures used { self.new.used ≡ self.old.used }
         ensures capacity { capacity S.Segment self.new ≡ capacity S.Segment self.old }
     {
@@ -148,7 +158,9 @@ impl<S: Segment> Row<S> {
     pub(crate) fn move_words(&mut self, from: u32, to: u32, n: u32)
         requires there { from + n ≤ self.old.used }
         requires inside { to + n ≤ self.old.used }
-        ensures words { words_of (allocated S.Segment self.new) ≡ with_copied (words_of (allocated S.Segment self.old)) to (words_of (allocated S.Segment self.old)) from n }
+        ensures words { words_of (allocated S.Segment self.new)
+            ≡ with_copied (words_of (allocated S.Segment self.old)) to
+            (words_of (allocated S.Segment self.old)) from n }
         ensures used { self.new.used ≡ self.old.used }
         ensures capacity { capacity S.Segment self.new ≡ capacity S.Segment self.old }
     {
@@ -167,7 +179,9 @@ impl<S: Segment> Row<S> {
     pub(crate) fn copy_from(&mut self, at: u32, row: &Row<S>, from: u32, n: u32)
         requires there { from + n ≤ row.now.used }
         requires inside { at + n ≤ self.old.used }
-        ensures words { words_of (allocated S.Segment self.new) ≡ with_copied (words_of (allocated S.Segment self.old)) at (words_of (allocated S.Segment row.now)) from n }
+        ensures words { words_of (allocated S.Segment self.new)
+            ≡ with_copied (words_of (allocated S.Segment self.old)) at
+            (words_of (allocated S.Segment row.now)) from n }
         ensures used { self.new.used ≡ self.old.used }
         ensures capacity { capacity S.Segment self.new ≡ capacity S.Segment self.old }
     {
@@ -178,7 +192,8 @@ impl<S: Segment> Row<S> {
     #[tactic(auto, using(crate::proofs::RowLemmas::written))]
     pub(crate) fn zero_words(&mut self, at: u32, n: u32)
         requires { at + n ≤ self.old.used }
-        ensures words { words_of (allocated S.Segment self.new) ≡ overwritten (words_of (allocated S.Segment self.old)) at (replicate n 0) }
+        ensures words { words_of (allocated S.Segment self.new)
+            ≡ overwritten (words_of (allocated S.Segment self.old)) at (replicate n 0) }
         ensures used { self.new.used ≡ self.old.used }
         ensures capacity { capacity S.Segment self.new ≡ capacity S.Segment self.old }
     {

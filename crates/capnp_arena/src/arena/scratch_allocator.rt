@@ -144,8 +144,10 @@ impl<'a> ScratchSpaceHeapAllocator<'a> {
     /// 536,870,911.
     pub fn new(alloc: Global, scratch: &'a mut [u8], words: u32) -> Self
         requires { words ≤ max_segment_words }
-        ensures grants { (asked : ℕ) → IsTrue (⟦<Self as Allocator>⟧.grants result asked) ↔ ((0 < whole_words scratch.old) × (asked ≤ whole_words scratch.old)) }
-        ensures offers { ⟦<Self as Allocator>⟧.offers result ≡ offered (λ asked given. given == max words asked) (whole_words scratch.old) }
+        ensures grants { (asked : ℕ) → IsTrue (⟦<Self as Allocator>⟧.grants result asked)
+            ↔ ((0 < whole_words scratch.old) × (asked ≤ whole_words scratch.old)) }
+        ensures offers { ⟦<Self as Allocator>⟧.offers result
+            ≡ offered (λ asked given. given == max words asked) (whole_words scratch.old) }
         ensures refusals { ⟦<Self as Allocator>⟧.refusals result ≡ 0 }
         ensures scratch_words { result.scratch_words ≡ whole_words scratch.old }
     {
@@ -161,7 +163,8 @@ impl<'a> ScratchSpaceHeapAllocator<'a> {
     /// The scratch space, where it isn't out and can hold so many words.
     fn lend(&mut self, min_words: u32) -> Option<&'a mut [u8]>
         ensures exactly { IsSome result ↔ IsTrue (lends self.old min_words) }
-        ensures fresh { IfSome result (λ s. IsFresh min_words s.now × (length s.now / 8 ≡ self.old.scratch_words)) }
+        ensures fresh { IfSome result (λ s. IsFresh min_words s.now
+            × (length s.now / 8 ≡ self.old.scratch_words)) }
         ensures out { IsSome result → IsFalse self.new.here }
         ensures kept { IsNone result → self.new.here ≡ self.old.here }
         ensures words { self.new.scratch_words ≡ self.old.scratch_words }
@@ -204,11 +207,17 @@ impl<'a> Allocator for ScratchSpaceHeapAllocator<'a> {
         min_words: u32,
     ) -> Result<ScratchSegment<&'a mut [u8]>, ErrorKind>
         ensures fresh { IfOk result (λ s. IsFresh min_words (bytes_of s)) }
-        ensures size { IfOk result (λ s. IsTrue (⟦<Self as Allocator>⟧.offers self.old min_words (length (bytes_of s) / 8))) }
+        ensures size { IfOk result (λ s.
+            IsTrue (⟦<Self as Allocator>⟧.offers self.old min_words (length (bytes_of s) / 8))) }
         ensures counted { OnOk result (self.new.heap.refused ≡ self.old.heap.refused) }
-        ensures too_large { max_segment_words < min_words → (result ≡ Err (MessageTooLarge min_words)) × (self.new.heap.refused ≡ self.old.heap.refused) }
-        ensures refused { min_words ≤ max_segment_words → IfErr result (λ e. (e ≡ AllocationFailed) × (self.new.heap.refused ≡ one_more self.old.heap.refused)) }
-        ensures offers { ⟦<Self as Allocator>⟧.offers self.new ≡ ⟦<Self as Allocator>⟧.offers self.old }
+        ensures too_large { max_segment_words < min_words
+            → (result ≡ Err (MessageTooLarge min_words))
+            × (self.new.heap.refused ≡ self.old.heap.refused) }
+        ensures refused { min_words ≤ max_segment_words
+            → IfErr result (λ e. (e ≡ AllocationFailed)
+            × (self.new.heap.refused ≡ one_more self.old.heap.refused)) }
+        ensures offers { ⟦<Self as Allocator>⟧.offers self.new
+            ≡ ⟦<Self as Allocator>⟧.offers self.old }
         ensures sure { IsTrue (lends self.old min_words) → IsOk result }
         ensures lent { IsTrue (lends self.old min_words) → IsOkAnd result IsBorrowed }
         ensures no_memory { IsTrue (lends self.old min_words) → self.new.heap ≡ self.old.heap }
@@ -229,8 +238,10 @@ impl<'a> Allocator for ScratchSpaceHeapAllocator<'a> {
         requires within { 8 * used_words ≤ length (bytes_of segment) }
         requires clear { IsClearFrom used_words (bytes_of segment) }
         ensures refusals { self.new.heap.refused ≡ self.old.heap.refused }
-        ensures offers { ⟦<Self as Allocator>⟧.offers self.new ≡ ⟦<Self as Allocator>⟧.offers self.old }
-        ensures back { IsBorrowed segment.entry → length (bytes_of segment.entry) ≡ 8 * self.old.scratch_words → IsTrue self.new.here }
+        ensures offers { ⟦<Self as Allocator>⟧.offers self.new
+            ≡ ⟦<Self as Allocator>⟧.offers self.old }
+        ensures back { IsBorrowed segment.entry → length (bytes_of segment.entry)
+            ≡ 8 * self.old.scratch_words → IsTrue self.new.here }
     {
         match segment {
             ScratchSegment::Borrowed(bytes) => self.take_back(bytes, used_words),

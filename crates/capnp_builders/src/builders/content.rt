@@ -22,7 +22,9 @@ pub(crate) fn write_content<A: BuilderArena>(
 )
     requires inside { IsStructPlace (A.view arena.old).words place }
     requires long { length bytes.now ≡ bytes_for bits }
-    ensures { A.view arena.new ≡ record (A.view arena.old) { words = with_content (A.view arena.old).words place bits bytes.now } }
+    ensures { A.view arena.new
+        ≡ record (A.view arena.old)
+        { words = with_content (A.view arena.old).words place bits bytes.now } }
 {
     let whole = place.bits / 8;
     write_bytes(arena, place.segment, place.byte, whole, bytes, bits);
@@ -58,7 +60,11 @@ fn write_bytes<A: BuilderArena>(
 )
     requires inside { start + count ≤ 8 * length (segment (A.view arena.old).words id) }
     requires long { length bytes.now ≡ bytes_for bits }
-    ensures { A.view arena.new ≡ record (A.view arena.old) { words = with_fields (A.view arena.old).words id (8 * start) 8 (content_byte bits bytes.now) count } }
+    ensures { A.view arena.new
+        ≡ record (A.view arena.old) {
+          words = with_fields (A.view arena.old).words id (8 * start) 8
+              (content_byte bits bytes.now) count;
+        } }
 {
     let both = count.min(bits / 8);
     copy_bytes(arena, id, start, &bytes[..both as usize]);
@@ -73,7 +79,11 @@ fn write_bytes<A: BuilderArena>(
 /// Writes bytes over as many of a segment.
 fn copy_bytes<A: BuilderArena>(arena: &mut A, id: u32, start: u64, from: &[u8])
     requires inside { start + length from.now ≤ 8 * length (segment (A.view arena.old).words id) }
-    ensures { A.view arena.new ≡ record (A.view arena.old) { words = with_fields (A.view arena.old).words id (8 * start) 8 (slice_index from.now) (length from.now) } }
+    ensures { A.view arena.new
+        ≡ record (A.view arena.old) {
+          words = with_fields (A.view arena.old).words id (8 * start) 8 (slice_index from.now)
+              (length from.now);
+        } }
 {
     if !from.is_empty() {
         let first = start as usize;
@@ -86,7 +96,9 @@ fn copy_bytes<A: BuilderArena>(arena: &mut A, id: u32, start: u64, from: &[u8])
 /// Writes so many zero bytes over those of a segment.
 fn zero_bytes<A: BuilderArena>(arena: &mut A, id: u32, start: u64, count: u32)
     requires inside { start + count ≤ 8 * length (segment (A.view arena.old).words id) }
-    ensures { A.view arena.new ≡ record (A.view arena.old) { words = with_fields (A.view arena.old).words id (8 * start) 8 (λ i. 0) count } }
+    ensures { A.view arena.new
+        ≡ record (A.view arena.old)
+        { words = with_fields (A.view arena.old).words id (8 * start) 8 (λ i. 0) count } }
 {
     if count > 0 {
         let first = start as usize;
@@ -100,7 +112,9 @@ fn zero_bytes<A: BuilderArena>(arena: &mut A, id: u32, start: u64, count: u32)
 fn write_bits<A: BuilderArena>(arena: &mut A, id: u32, start: u64, count: u32, byte: u8)
     requires inside { start + count ≤ 64 * length (segment (A.view arena.old).words id) }
     requires few { count < 8 }
-    ensures { A.view arena.new ≡ record (A.view arena.old) { words = with_fields (A.view arena.old).words id start 1 (λ j. byte / 2 ^ j % 2) count } }
+    ensures { A.view arena.new
+        ≡ record (A.view arena.old)
+        { words = with_fields (A.view arena.old).words id start 1 (λ j. byte / 2 ^ j % 2) count } }
 {
     for j in 0..count {
         set_bit(arena, id, start + u64::from(j), byte >> j & 1 == 1);

@@ -36,12 +36,17 @@ pub fn copy_default<A: BuilderArena>(
     requires null { word_at (A.view arena.old).words id at ≡ 0 }
     requires some { 8 ≤ length default.now }
     requires few { length default.now / 8 < 2 ^ 32 }
-    ensures copied { OnOk result (StandsForNull default.now (A.view arena.old).words (A.view arena.new).words id at) }
-    ensures stands { OnOk result (StandsAsRead (default_root default.now) (default_copy id at (A.view arena.old) (A.view arena.new))) }
+    ensures copied { OnOk result (StandsForNull default.now (A.view arena.old).words
+        (A.view arena.new).words id at) }
+    ensures stands { OnOk result (StandsAsRead (default_root default.now)
+        (default_copy id at (A.view arena.old) (A.view arena.new))) }
     ensures fits { DefaultCopyFits default.now (A.view arena.old) id → IsOk result }
-    ensures refused { OnErr result (IsReplaced (A.view arena.old).words (A.view arena.new).words id at Null Null) }
-    ensures named { IfErr result (RefusesDefault default.now (default_copy id at (A.view arena.old) (A.view arena.new))) }
-    ensures taken { TakesAtMost result (default_root default.now) (default_copy id at (A.view arena.old) (A.view arena.new)) }
+    ensures refused { OnErr result
+        (IsReplaced (A.view arena.old).words (A.view arena.new).words id at Null Null) }
+    ensures named { IfErr result
+        (RefusesDefault default.now (default_copy id at (A.view arena.old) (A.view arena.new))) }
+    ensures taken { TakesAtMost result (default_root default.now)
+        (default_copy id at (A.view arena.old) (A.view arena.new)) }
     ensures granted { OnOk result (KeepsMemory (A.view arena.old) (A.view arena.new)) }
     ensures memory { IfErr result (SpendsMemory (A.view arena.old) (A.view arena.new)) }
 {
@@ -66,8 +71,11 @@ pub(crate) fn put_default<A: BuilderArena>(
 ) -> Result<(), ErrorKind>
     requires place { IsPlace (A.view arena.old).words id at }
     requires few { IsFew default }
-    ensures put { (t : Tree) → IsStored (A.view arena.old).words id at t → PutsDefaultOver (object_default default.entry t) (call_at id at (A.view arena.old) (A.view arena.new)) t result }
-    ensures stays { (word_at (A.view arena.old).words id at ≡ 0 → ⊥) → IsOk result × (A.view arena.new ≡ A.view arena.old) }
+    ensures put { (t : Tree) → IsStored (A.view arena.old).words id at t
+        → PutsDefaultOver (object_default default.entry t)
+        (call_at id at (A.view arena.old) (A.view arena.new)) t result }
+    ensures stays { (word_at (A.view arena.old).words id at ≡ 0 → ⊥)
+        → IsOk result × (A.view arena.new ≡ A.view arena.old) }
     ensures none { IsNone default.entry → IsOk result × (A.view arena.new ≡ A.view arena.old) }
     ensures fits { DefaultFits default.entry (A.view arena.old) id → IsOk result }
     ensures longer { Grows (A.view arena.old).words (A.view arena.new).words }
@@ -99,8 +107,11 @@ pub(crate) fn put_blob_default<A: BuilderArena>(
 ) -> Result<(), ErrorKind>
     requires place { IsPlace (A.view arena.old).words id at }
     requires few { IsFew default }
-    ensures put { (t : Tree) → IsStored (A.view arena.old).words id at t → PutsDefaultOver (blob_default default.entry t) (call_at id at (A.view arena.old) (A.view arena.new)) t result }
-    ensures stays { (word_at (A.view arena.old).words id at ≡ 0 → ⊥) → IsOk result × (A.view arena.new ≡ A.view arena.old) }
+    ensures put { (t : Tree) → IsStored (A.view arena.old).words id at t
+        → PutsDefaultOver (blob_default default.entry t)
+        (call_at id at (A.view arena.old) (A.view arena.new)) t result }
+    ensures stays { (word_at (A.view arena.old).words id at ≡ 0 → ⊥)
+        → IsOk result × (A.view arena.new ≡ A.view arena.old) }
     ensures longer { Grows (A.view arena.old).words (A.view arena.new).words }
     ensures granted { OnOk result (KeepsMemory (A.view arena.old) (A.view arena.new)) }
     ensures memory { IfErr result (SpendsMemory (A.view arena.old) (A.view arena.new)) }

@@ -4,7 +4,7 @@ ghost use Rattle.std.specs.Prelude.{◌≡◌, ◌+◌, ◌*◌, ◌^◌, ◌<�
 ghost use Rattle.capnp_making.specs.declared.existing.ExistingBytes.{ExistingBytes};
 ghost use Rattle.capnp_making.specs.Existing.{LieIn, is_unfound};
 ghost use Rattle.capnp_making.specs.Memory.{KeepsMemory, SpendsMemory};
-ghost use Rattle.capnp_pointers.specs.Sizes.{size_number};
+ghost use Rattle.capnp_words.specs.Sizes.{size_number};
 ghost use Rattle.capnp_readers.specs.Readers.{IsListPlace};
 ghost use Rattle.capnp_widening.specs.RowsRemade.{RefusesWider};
 ghost use Rattle.capnp_widening.specs.Widened.{IsNoWider};
@@ -41,12 +41,19 @@ impl<'a, A: BuilderArena> PointerBuilder<'a, A> {
     pub fn put_default(&mut self, default: Option<&[u8]>) -> Result<(), ErrorKind>
         requires there { IsThere (built A.view self.old) }
         requires few { IsFew default }
-        ensures put { OfStored (built A.view self.old) (λ t. PutsDefaultOver (object_default default.entry t) (calling A.view self.old self.new) t result) }
-        ensures stays { (IsNull (built A.view self.old) → ⊥) → IsOk result × (A.view self.new.arena.now ≡ A.view self.old.arena.now) }
-        ensures none { IsNone default.entry → IsOk result × (A.view self.new.arena.now ≡ A.view self.old.arena.now) }
-        ensures fits { DefaultFits default.entry (A.view self.old.arena.now) self.old.segment → IsOk result }
-        ensures granted { OnOk result (KeepsMemory (A.view self.old.arena.now) (A.view self.new.arena.now)) }
-        ensures memory { IfErr result (SpendsMemory (A.view self.old.arena.now) (A.view self.new.arena.now)) }
+        ensures put { OfStored (built A.view self.old)
+            (λ t. PutsDefaultOver (object_default default.entry t)
+            (calling A.view self.old self.new) t result) }
+        ensures stays { (IsNull (built A.view self.old) → ⊥)
+            → IsOk result × (A.view self.new.arena.now ≡ A.view self.old.arena.now) }
+        ensures none { IsNone default.entry → IsOk result
+            × (A.view self.new.arena.now ≡ A.view self.old.arena.now) }
+        ensures fits { DefaultFits default.entry (A.view self.old.arena.now) self.old.segment
+            → IsOk result }
+        ensures granted { OnOk result (KeepsMemory (A.view self.old.arena.now)
+            (A.view self.new.arena.now)) }
+        ensures memory { IfErr result
+            (SpendsMemory (A.view self.old.arena.now) (A.view self.new.arena.now)) }
         ensures there { IsThere (built A.view self.new) }
         ensures same { self.new.arena.ghost_name ≡ self.old.arena.ghost_name }
         ensures builder { (self.new.segment ≡ self.old.segment) × (self.new.at ≡ self.old.at) }
@@ -64,15 +71,24 @@ impl<'a, A: BuilderArena> PointerBuilder<'a, A> {
     ) -> Result<StructPlace, ErrorKind>
         requires there { IsThere (built A.view self.old) }
         requires few { IsFew default }
-        ensures found { OfStored (built A.view self.old) (FindsStruct size default.entry result (calling A.view self.old self.new)) }
-        ensures fits { StructFindFits size default.entry (A.view self.old.arena.now) self.old.segment self.old.at → IsOk result }
-        ensures taken { IsNull (built A.view self.old) → LeavesNull default.entry → OnOk result (TakesForNewStruct size (calling A.view self.old self.new)) }
-        ensures refused { IsNull (built A.view self.old) → LeavesNull default.entry → OnErr result ((A.view self.new.arena.now).words ≡ (A.view self.old.arena.now).words) }
+        ensures found { OfStored (built A.view self.old)
+            (FindsStruct size default.entry result (calling A.view self.old self.new)) }
+        ensures fits { StructFindFits size default.entry
+            (A.view self.old.arena.now) self.old.segment self.old.at → IsOk result }
+        ensures taken { IsNull (built A.view self.old) → LeavesNull default.entry
+            → OnOk result (TakesForNewStruct size (calling A.view self.old self.new)) }
+        ensures refused { IsNull (built A.view self.old) → LeavesNull default.entry
+            → OnErr result ((A.view self.new.arena.now).words ≡ (A.view self.old.arena.now).words) }
         ensures wide { IfOk result (IsStructAtLeast size) }
         ensures aligned { IfOk result IsAligned }
-        ensures set { (IsNull (built A.view self.old) → ⊥) → IfErr result (IsNoWider (A.view self.old.arena.now) (A.view self.new.arena.now) self.old.segment self.old.at) }
-        ensures granted { OnOk result (KeepsMemory (A.view self.old.arena.now) (A.view self.new.arena.now)) }
-        ensures memory { IfErr result (SpendsMemory (A.view self.old.arena.now) (A.view self.new.arena.now)) }
+        ensures set { (IsNull (built A.view self.old) → ⊥)
+            → IfErr result
+            (IsNoWider (A.view self.old.arena.now)
+            (A.view self.new.arena.now) self.old.segment self.old.at) }
+        ensures granted { OnOk result (KeepsMemory (A.view self.old.arena.now)
+            (A.view self.new.arena.now)) }
+        ensures memory { IfErr result
+            (SpendsMemory (A.view self.old.arena.now) (A.view self.new.arena.now)) }
         ensures there { OfStored (built A.view self.old) (λ t. IsThere (built A.view self.new)) }
         ensures same { self.new.arena.ghost_name ≡ self.old.arena.ghost_name }
         ensures builder { (self.new.segment ≡ self.old.segment) × (self.new.at ≡ self.old.at) }
@@ -105,11 +121,18 @@ impl<'a, A: BuilderArena> PointerBuilder<'a, A> {
         requires there { IsThere (built A.view self) }
         requires few { IsFew default }
         ensures same { IfOk result (λ b. b.arena.ghost_name ≡ self.entry.arena.ghost_name) }
-        ensures found { OfStored (built A.view self.entry) (λ t. Leaves (λ b. A.view b.arena.now) (λ b. b.place) (λ new r. FindsStruct size default.entry r (calling_last A.view self.entry new) t) result) }
-        ensures fits { StructFindFits size default.entry (A.view self.entry.arena.now) self.entry.segment self.entry.at → IsOk result }
-        ensures taken { IsNull (built A.view self.entry) → LeavesNull default.entry → IfOk result (λ b. TakesForNewStruct size (calling_last A.view self.entry (A.view b.arena.now))) }
+        ensures found { OfStored (built A.view self.entry)
+            (λ t. Leaves (λ b. A.view b.arena.now) (λ b. b.place)
+            (λ new r. FindsStruct size default.entry r (calling_last A.view self.entry new) t)
+            result) }
+        ensures fits { StructFindFits size default.entry
+            (A.view self.entry.arena.now) self.entry.segment self.entry.at → IsOk result }
+        ensures taken { IsNull (built A.view self.entry) → LeavesNull default.entry
+            → IfOk result
+            (λ b. TakesForNewStruct size (calling_last A.view self.entry (A.view b.arena.now))) }
         ensures wide { IfOk result (λ b. IsStructAtLeast size b.place) }
-        ensures granted { IfOk result (λ b. KeepsMemory (A.view self.entry.arena.now) (A.view b.arena.now)) }
+        ensures granted { IfOk result (λ b. KeepsMemory (A.view self.entry.arena.now)
+            (A.view b.arena.now)) }
     {
         match self.find_struct(size, default) {
             Ok(place) => Ok(self.into_struct(place)),
@@ -126,11 +149,18 @@ impl<'a, A: BuilderArena> PointerBuilder<'a, A> {
     ) -> Result<ListPlace, ErrorKind>
         requires there { IsThere (built A.view self.old) }
         requires few { IsFew default }
-        ensures found { OfStored (built A.view self.old) (FindsStructs size default.entry result (calling A.view self.old self.new)) }
-        ensures fits { StructsFindFits size default.entry (A.view self.old.arena.now) self.old.segment self.old.at → IsOk result }
-        ensures set { (IsNull (built A.view self.old) → ⊥) → IfErr result (RefusesWider (A.view self.old.arena.now) (A.view self.new.arena.now) self.old.segment self.old.at size) }
-        ensures granted { OnOk result (KeepsMemory (A.view self.old.arena.now) (A.view self.new.arena.now)) }
-        ensures memory { IfErr result (SpendsMemory (A.view self.old.arena.now) (A.view self.new.arena.now)) }
+        ensures found { OfStored (built A.view self.old)
+            (FindsStructs size default.entry result (calling A.view self.old self.new)) }
+        ensures fits { StructsFindFits size default.entry
+            (A.view self.old.arena.now) self.old.segment self.old.at → IsOk result }
+        ensures set { (IsNull (built A.view self.old) → ⊥)
+            → IfErr result
+            (RefusesWider (A.view self.old.arena.now)
+            (A.view self.new.arena.now) self.old.segment self.old.at size) }
+        ensures granted { OnOk result (KeepsMemory (A.view self.old.arena.now)
+            (A.view self.new.arena.now)) }
+        ensures memory { IfErr result
+            (SpendsMemory (A.view self.old.arena.now) (A.view self.new.arena.now)) }
         ensures there { OfStored (built A.view self.old) (λ t. IsThere (built A.view self.new)) }
         ensures same { self.new.arena.ghost_name ≡ self.old.arena.ghost_name }
         ensures builder { (self.new.segment ≡ self.old.segment) × (self.new.at ≡ self.old.at) }
@@ -164,9 +194,14 @@ impl<'a, A: BuilderArena> PointerBuilder<'a, A> {
         requires there { IsThere (built A.view self) }
         requires few { IsFew default }
         ensures same { IfOk result (λ b. b.arena.ghost_name ≡ self.entry.arena.ghost_name) }
-        ensures found { OfStored (built A.view self.entry) (λ t. Leaves (λ b. A.view b.arena.now) (λ b. b.place) (λ new r. FindsStructs size default.entry r (calling_last A.view self.entry new) t) result) }
-        ensures fits { StructsFindFits size default.entry (A.view self.entry.arena.now) self.entry.segment self.entry.at → IsOk result }
-        ensures granted { IfOk result (λ b. KeepsMemory (A.view self.entry.arena.now) (A.view b.arena.now)) }
+        ensures found { OfStored (built A.view self.entry)
+            (λ t. Leaves (λ b. A.view b.arena.now) (λ b. b.place)
+            (λ new r. FindsStructs size default.entry r (calling_last A.view self.entry new) t)
+            result) }
+        ensures fits { StructsFindFits size default.entry
+            (A.view self.entry.arena.now) self.entry.segment self.entry.at → IsOk result }
+        ensures granted { IfOk result (λ b. KeepsMemory (A.view self.entry.arena.now)
+            (A.view b.arena.now)) }
     {
         match self.find_struct_list(size, default) {
             Ok(place) => Ok(self.into_list(place)),
@@ -185,11 +220,17 @@ impl<'a, A: BuilderArena> PointerBuilder<'a, A> {
         requires there { IsThere (built A.view self.old) }
         requires few { IsFew default }
         requires plain { size_number size ≤ 6 }
-        ensures found { OfStored (built A.view self.old) (FindsList size default.entry result (calling A.view self.old self.new)) }
-        ensures inside { OfStored (built A.view self.old) (λ t. IfOk result (IsListPlace (A.view self.new.arena.now).words)) }
-        ensures set { (IsNull (built A.view self.old) → ⊥) → (A.view self.new.arena.now ≡ A.view self.old.arena.now) × IfErr result (λ k. is_unfound k ≡ true) }
-        ensures granted { OnOk result (KeepsMemory (A.view self.old.arena.now) (A.view self.new.arena.now)) }
-        ensures memory { IfErr result (SpendsMemory (A.view self.old.arena.now) (A.view self.new.arena.now)) }
+        ensures found { OfStored (built A.view self.old)
+            (FindsList size default.entry result (calling A.view self.old self.new)) }
+        ensures inside { OfStored (built A.view self.old)
+            (λ t. IfOk result (IsListPlace (A.view self.new.arena.now).words)) }
+        ensures set { (IsNull (built A.view self.old) → ⊥)
+            → (A.view self.new.arena.now ≡ A.view self.old.arena.now)
+            × IfErr result (λ k. is_unfound k ≡ true) }
+        ensures granted { OnOk result (KeepsMemory (A.view self.old.arena.now)
+            (A.view self.new.arena.now)) }
+        ensures memory { IfErr result
+            (SpendsMemory (A.view self.old.arena.now) (A.view self.new.arena.now)) }
         ensures there { IsThere (built A.view self.new) }
         ensures same { self.new.arena.ghost_name ≡ self.old.arena.ghost_name }
         ensures builder { (self.new.segment ≡ self.old.segment) × (self.new.at ≡ self.old.at) }
@@ -217,9 +258,14 @@ impl<'a, A: BuilderArena> PointerBuilder<'a, A> {
         requires few { IsFew default }
         requires plain { size_number size ≤ 6 }
         ensures same { IfOk result (λ b. b.arena.ghost_name ≡ self.entry.arena.ghost_name) }
-        ensures found { OfStored (built A.view self.entry) (λ t. Leaves (λ b. A.view b.arena.now) (λ b. b.place) (λ new r. FindsList size default.entry r (calling_last A.view self.entry new) t) result) }
-        ensures inside { OfStored (built A.view self.entry) (λ t. IfOk result (λ b. IsListPlace (A.view b.arena.now).words b.place)) }
-        ensures granted { IfOk result (λ b. KeepsMemory (A.view self.entry.arena.now) (A.view b.arena.now)) }
+        ensures found { OfStored (built A.view self.entry)
+            (λ t. Leaves (λ b. A.view b.arena.now) (λ b. b.place)
+            (λ new r. FindsList size default.entry r (calling_last A.view self.entry new) t)
+            result) }
+        ensures inside { OfStored (built A.view self.entry)
+            (λ t. IfOk result (λ b. IsListPlace (A.view b.arena.now).words b.place)) }
+        ensures granted { IfOk result (λ b. KeepsMemory (A.view self.entry.arena.now)
+            (A.view b.arena.now)) }
     {
         match self.find_list(size, default) {
             Ok(place) => Ok(self.into_list(place)),
@@ -232,11 +278,16 @@ impl<'a, A: BuilderArena> PointerBuilder<'a, A> {
     pub fn find_data(&mut self, default: Option<&[u8]>) -> Result<ExistingBytes, ErrorKind>
         requires there { IsThere (built A.view self.old) }
         requires few { IsFew default }
-        ensures found { OfStored (built A.view self.old) (FindsData default.entry result (calling A.view self.old self.new)) }
+        ensures found { OfStored (built A.view self.old)
+            (FindsData default.entry result (calling A.view self.old self.new)) }
         ensures inside { IfOk result (LieIn (A.view self.new.arena.now).words) }
-        ensures set { (IsNull (built A.view self.old) → ⊥) → (A.view self.new.arena.now ≡ A.view self.old.arena.now) × IfErr result (λ k. is_unfound k ≡ true) }
-        ensures granted { OnOk result (KeepsMemory (A.view self.old.arena.now) (A.view self.new.arena.now)) }
-        ensures memory { IfErr result (SpendsMemory (A.view self.old.arena.now) (A.view self.new.arena.now)) }
+        ensures set { (IsNull (built A.view self.old) → ⊥)
+            → (A.view self.new.arena.now ≡ A.view self.old.arena.now)
+            × IfErr result (λ k. is_unfound k ≡ true) }
+        ensures granted { OnOk result (KeepsMemory (A.view self.old.arena.now)
+            (A.view self.new.arena.now)) }
+        ensures memory { IfErr result
+            (SpendsMemory (A.view self.old.arena.now) (A.view self.new.arena.now)) }
         ensures there { IsThere (built A.view self.new) }
         ensures same { self.new.arena.ghost_name ≡ self.old.arena.ghost_name }
         ensures builder { (self.new.segment ≡ self.old.segment) × (self.new.at ≡ self.old.at) }
@@ -257,7 +308,10 @@ impl<'a, A: BuilderArena> PointerBuilder<'a, A> {
     pub fn get_data(mut self, default: Option<&[u8]>) -> Result<&'a mut [u8], ErrorKind>
         requires there { IsThere (built A.view self) }
         requires few { IsFew default }
-        ensures found { OfStored (built A.view self.entry) (λ t. (now : A) × (r : Result ExistingBytes ErrorKind) × FindsData default.entry r (calling_last A.view self.entry (A.view now)) t × IsLent (λ s. s.now) (A.segments now) r result) }
+        ensures found { OfStored (built A.view self.entry)
+            (λ t. (now : A) × (r : Result ExistingBytes ErrorKind)
+            × FindsData default.entry r (calling_last A.view self.entry (A.view now)) t
+            × IsLent (λ s. s.now) (A.segments now) r result) }
     {
         match self.find_data(default) {
             Ok(bytes) => {
@@ -277,11 +331,16 @@ impl<'a, A: BuilderArena> PointerBuilder<'a, A> {
     pub fn find_text(&mut self, default: Option<&[u8]>) -> Result<ExistingBytes, ErrorKind>
         requires there { IsThere (built A.view self.old) }
         requires few { IsFew default }
-        ensures found { OfStored (built A.view self.old) (FindsText default.entry result (calling A.view self.old self.new)) }
+        ensures found { OfStored (built A.view self.old)
+            (FindsText default.entry result (calling A.view self.old self.new)) }
         ensures inside { IfOk result (LieIn (A.view self.new.arena.now).words) }
-        ensures set { (IsNull (built A.view self.old) → ⊥) → (A.view self.new.arena.now ≡ A.view self.old.arena.now) × IfErr result (λ k. is_unfound k ≡ true) }
-        ensures granted { OnOk result (KeepsMemory (A.view self.old.arena.now) (A.view self.new.arena.now)) }
-        ensures memory { IfErr result (SpendsMemory (A.view self.old.arena.now) (A.view self.new.arena.now)) }
+        ensures set { (IsNull (built A.view self.old) → ⊥)
+            → (A.view self.new.arena.now ≡ A.view self.old.arena.now)
+            × IfErr result (λ k. is_unfound k ≡ true) }
+        ensures granted { OnOk result (KeepsMemory (A.view self.old.arena.now)
+            (A.view self.new.arena.now)) }
+        ensures memory { IfErr result
+            (SpendsMemory (A.view self.old.arena.now) (A.view self.new.arena.now)) }
         ensures there { IsThere (built A.view self.new) }
         ensures same { self.new.arena.ghost_name ≡ self.old.arena.ghost_name }
         ensures builder { (self.new.segment ≡ self.old.segment) × (self.new.at ≡ self.old.at) }
@@ -302,7 +361,10 @@ impl<'a, A: BuilderArena> PointerBuilder<'a, A> {
     pub fn get_text(mut self, default: Option<&[u8]>) -> Result<&'a mut [u8], ErrorKind>
         requires there { IsThere (built A.view self) }
         requires few { IsFew default }
-        ensures found { OfStored (built A.view self.entry) (λ t. (now : A) × (r : Result ExistingBytes ErrorKind) × FindsText default.entry r (calling_last A.view self.entry (A.view now)) t × IsLent (λ s. s.now) (A.segments now) r result) }
+        ensures found { OfStored (built A.view self.entry)
+            (λ t. (now : A) × (r : Result ExistingBytes ErrorKind)
+            × FindsText default.entry r (calling_last A.view self.entry (A.view now)) t
+            × IsLent (λ s. s.now) (A.segments now) r result) }
     {
         match self.find_text(default) {
             Ok(bytes) => {
@@ -320,7 +382,8 @@ impl<'a, A: BuilderArena> PointerBuilder<'a, A> {
 
 /// The place of a struct that was opened.
 fn struct_place(opened: ExistingStruct) -> StructPlace
-    ensures starts { opened.start + opened.size.data_words < 2 ^ 32 → StartsAt result opened.segment opened.start opened.size.data_words opened.size.pointers }
+    ensures starts { opened.start + opened.size.data_words < 2 ^ 32
+        → StartsAt result opened.segment opened.start opened.size.data_words opened.size.pointers }
     ensures bits { result.bits ≡ 64 * opened.size.data_words }
     ensures pointers { result.pointers ≡ opened.size.pointers }
     ensures aligned { IsAligned result }

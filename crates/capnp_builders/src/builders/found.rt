@@ -5,7 +5,7 @@ ghost use Rattle.capnp_format.specs.Segments.{IsPlace};
 ghost use Rattle.capnp_format.specs.Tree.{Tree};
 ghost use Rattle.capnp_making.specs.Existing.{LieIn, is_unfound, list_in, data_in, text_in};
 ghost use Rattle.capnp_making.specs.Stored.{IsStored};
-ghost use Rattle.capnp_pointers.specs.Sizes.{size_number};
+ghost use Rattle.capnp_words.specs.Sizes.{size_number};
 ghost use Rattle.capnp_readers.specs.Readers.{IsListPlace};
 ghost use Rattle.capnp_builders.specs.Found.{list_given, bytes_given, no_bytes};
 
@@ -48,8 +48,10 @@ pub(crate) fn look_for_list<A: BuilderArena>(
 ) -> Result<ListPlace, ErrorKind>
     requires place { IsPlace (A.view arena.now).words id at }
     requires plain { size_number size ≤ 6 }
-    ensures found { (t : Tree) → IsStored (A.view arena.now).words id at t → result ≡ list_given id (list_in (target (A.view arena.now).words id at) size t) }
-    ensures inside { (t : Tree) → IsStored (A.view arena.now).words id at t → IfOk result (IsListPlace (A.view arena.now).words) }
+    ensures found { (t : Tree) → IsStored (A.view arena.now).words id at t
+        → result ≡ list_given id (list_in (target (A.view arena.now).words id at) size t) }
+    ensures inside { (t : Tree) → IsStored (A.view arena.now).words id at t
+        → IfOk result (IsListPlace (A.view arena.now).words) }
     ensures named { IfErr result (λ k. is_unfound k ≡ true) }
 {
     match existing::get_list(arena, id, at, size) {
@@ -65,7 +67,8 @@ pub(crate) fn look_for_data<A: BuilderArena>(
     at: u32,
 ) -> Result<ExistingBytes, ErrorKind>
     requires { IsPlace (A.view arena.now).words id at }
-    ensures found { (t : Tree) → IsStored (A.view arena.now).words id at t → result ≡ bytes_given id (data_in (target (A.view arena.now).words id at) t) }
+    ensures found { (t : Tree) → IsStored (A.view arena.now).words id at t
+        → result ≡ bytes_given id (data_in (target (A.view arena.now).words id at) t) }
     ensures inside { IfOk result (LieIn (A.view arena.now).words) }
     ensures named { IfErr result (λ k. is_unfound k ≡ true) }
 {
@@ -82,7 +85,8 @@ pub(crate) fn look_for_text<A: BuilderArena>(
     at: u32,
 ) -> Result<ExistingBytes, ErrorKind>
     requires { IsPlace (A.view arena.now).words id at }
-    ensures found { (t : Tree) → IsStored (A.view arena.now).words id at t → result ≡ bytes_given id (text_in (target (A.view arena.now).words id at) t) }
+    ensures found { (t : Tree) → IsStored (A.view arena.now).words id at t
+        → result ≡ bytes_given id (text_in (target (A.view arena.now).words id at) t) }
     ensures inside { IfOk result (LieIn (A.view arena.now).words) }
     ensures named { IfErr result (λ k. is_unfound k ≡ true) }
 {

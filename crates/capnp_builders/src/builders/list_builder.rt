@@ -1,7 +1,7 @@
 //! Lists of a message that is built ("Lists").
 ghost use Rattle.std.specs.Prelude.{◌≡◌, ◌≢◌, ◌↔◌, ◌+◌, ◌*◌, ◌/◌, ◌%◌, ◌<◌, ◌≤◌, ◌^◌, [], IsTrue, cond};
 ghost use Rattle.capnp_format.specs.Numbers.{element_bits};
-ghost use Rattle.capnp_pointers.specs.Sizes.{size_number};
+ghost use Rattle.capnp_words.specs.Sizes.{size_number};
 ghost use Rattle.capnp_readers.specs.Readers.{IsStructPlace, IsListPlace};
 ghost use Rattle.capnp_format.specs.Segments.{IsPlace};
 ghost use Rattle.capnp_readers.specs.Sections.{HoldsPointer, pointers_behind, list_words, step_bits, data_bits};
@@ -31,7 +31,8 @@ pub struct ListBuilder<'a, A> {
 fn element_place(list: ListPlace, index: u32) -> StructPlace
     requires range { index < list.count }
     requires whole { size_number list.size ≢ 1 }
-    requires inside { list.byte / 8 + list_words list.size list.count (list.struct_size.data_words + list.struct_size.pointers) < 2 ^ 29 }
+    requires inside { list.byte / 8 + list_words list.size list.count
+        (list.struct_size.data_words + list.struct_size.pointers) < 2 ^ 29 }
     requires aligned { list.byte % 8 ≡ 0 }
     ensures place { IsElement list index result }
     ensures aligned { IsAligned result }
@@ -73,7 +74,8 @@ fn element_place(list: ListPlace, index: u32) -> StructPlace
 fn element_pointer(list: ListPlace, index: u32) -> u32
     requires range { index < list.count }
     requires pointers { HoldsPointer list.size list.struct_size }
-    requires inside { list.byte / 8 + list_words list.size list.count (list.struct_size.data_words + list.struct_size.pointers) < 2 ^ 29 }
+    requires inside { list.byte / 8 + list_words list.size list.count
+        (list.struct_size.data_words + list.struct_size.pointers) < 2 ^ 29 }
     ensures { result ≡ list.byte / 8 + pointers_behind list.size list.struct_size index }
 {
     let start = (list.byte / 8) as u32;
@@ -103,7 +105,8 @@ impl<'a, A: BuilderArena> ListBuilder<'a, A> {
 
     /// The same list, for as long as it is borrowed.
     pub fn reborrow(&mut self) -> ListBuilder<'_, A>
-        ensures* lends { sem 𝓛 (follows (the_row (record { mir = named 1; lft = [] }) A.row) A.row self.entry.ghost_name result.arena.ghost_name (with_list_arena self.old)) }
+        ensures* lends { sem 𝓛 (follows (the_row (record { mir = named 1; lft = [] }) A.row) A.row
+            self.entry.ghost_name result.arena.ghost_name (with_list_arena self.old)) }
         ensures now { result.arena.now ≡ self.old.arena.now }
         ensures place { result.place ≡ self.old.place }
     {
@@ -183,7 +186,9 @@ impl<'a, A: BuilderArena> ListBuilder<'a, A> {
         requires pointers { HoldsPointer self.place.size self.place.struct_size }
         ensures same { result.arena.ghost_name ≡ self.entry.arena.ghost_name }
         ensures now { result.arena.now ≡ self.entry.arena.now }
-        ensures place { (result.segment ≡ self.entry.place.segment) × (result.at ≡ self.entry.place.byte / 8 + pointers_behind self.entry.place.size self.entry.place.struct_size index) }
+        ensures place { (result.segment ≡ self.entry.place.segment)
+            × (result.at ≡ self.entry.place.byte / 8
+            + pointers_behind self.entry.place.size self.entry.place.struct_size index) }
         ensures inside { IsPlace (A.view result.arena.now).words result.segment result.at }
     {
         let ListBuilder { arena, place } = self;
@@ -199,7 +204,8 @@ impl<'a, A: BuilderArena> ListBuilder<'a, A> {
         requires inside { IsListPlace (A.view self.now.arena.now).words self.now.place }
         requires range { index < self.now.place.count }
         requires wide { 8 * T.BYTES ≤ data_bits self.now.place.size self.now.place.struct_size }
-        ensures { HasElement (A.view self.now.arena.now) self.now.place (lowest_bits self.now.place index (8 * T.BYTES) (T.bits_of result)) }
+        ensures { HasElement (A.view self.now.arena.now) self.now.place
+            (lowest_bits self.now.place index (8 * T.BYTES) (T.bits_of result)) }
     {
         let step = u64::from(step_bits(self.place) / 8);
         let byte = self.place.byte + u64::from(index) * step;
@@ -211,7 +217,8 @@ impl<'a, A: BuilderArena> ListBuilder<'a, A> {
         requires inside { IsListPlace (A.view self.now.arena.now).words self.now.place }
         requires range { index < self.now.place.count }
         requires wide { 1 ≤ data_bits self.now.place.size self.now.place.struct_size }
-        ensures { HasElement (A.view self.now.arena.now) self.now.place (lowest_bits self.now.place index 1 (cond result 1 0)) }
+        ensures { HasElement (A.view self.now.arena.now) self.now.place
+            (lowest_bits self.now.place index 1 (cond result 1 0)) }
     {
         let step = u64::from(step_bits(self.place));
         let bit = 8 * self.place.byte + u64::from(index) * step;
@@ -223,7 +230,9 @@ impl<'a, A: BuilderArena> ListBuilder<'a, A> {
         requires inside { IsListPlace (A.view self.old.arena.now).words self.old.place }
         requires range { index < self.old.place.count }
         requires wide { 8 * T.BYTES ≤ data_bits self.old.place.size self.old.place.struct_size }
-        ensures written { WritesElement (A.view self.old.arena.now) (A.view self.new.arena.now) self.old.place (lowest_bits self.old.place index (8 * T.BYTES) (T.bits_of value)) }
+        ensures written { WritesElement (A.view self.old.arena.now)
+            (A.view self.new.arena.now) self.old.place
+            (lowest_bits self.old.place index (8 * T.BYTES) (T.bits_of value)) }
         ensures inside { IsListPlace (A.view self.new.arena.now).words self.new.place }
         ensures same { self.new.arena.ghost_name ≡ self.old.arena.ghost_name }
         ensures place { self.new.place ≡ self.old.place }
@@ -238,7 +247,9 @@ impl<'a, A: BuilderArena> ListBuilder<'a, A> {
         requires inside { IsListPlace (A.view self.old.arena.now).words self.old.place }
         requires range { index < self.old.place.count }
         requires wide { 1 ≤ data_bits self.old.place.size self.old.place.struct_size }
-        ensures written { WritesElement (A.view self.old.arena.now) (A.view self.new.arena.now) self.old.place (lowest_bits self.old.place index 1 (cond value 1 0)) }
+        ensures written { WritesElement (A.view self.old.arena.now)
+            (A.view self.new.arena.now) self.old.place
+            (lowest_bits self.old.place index 1 (cond value 1 0)) }
         ensures inside { IsListPlace (A.view self.new.arena.now).words self.new.place }
         ensures same { self.new.arena.ghost_name ≡ self.old.arena.ghost_name }
         ensures place { self.new.place ≡ self.old.place }

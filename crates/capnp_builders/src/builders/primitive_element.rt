@@ -2,9 +2,9 @@
 //! ("Lists").
 ghost use Rattle.std.specs.Prelude.{◌≡◌, ◌<◌, ◌≤◌, ℕ, List, cond};
 ghost use Rattle.capnp_format.specs.Numbers.{element_bits};
-ghost use Rattle.capnp_pointers.specs.Sizes.{size_number};
-ghost use Rattle.capnp_pointers.specs.declared.wire_pointer.ElementSize.{ElementSize};
-ghost use Rattle.capnp_pointers.specs.declared.wire_pointer.ElementSize.TheVariants.{Void, Bit, Byte, TwoBytes, FourBytes, EightBytes};
+ghost use Rattle.capnp_words.specs.Sizes.{size_number};
+ghost use Rattle.capnp_words.specs.declared.wire_pointer.ElementSize.{ElementSize};
+ghost use Rattle.capnp_words.specs.declared.wire_pointer.ElementSize.TheVariants.{Void, Bit, Byte, TwoBytes, FourBytes, EightBytes};
 ghost use Rattle.capnp_readers.specs.Sections.{data_bits};
 ghost use Rattle.capnp_readers.specs.Readers.{IsListPlace, element_start};
 ghost use Rattle.capnp_builders.specs.Elements.{value_bits, WritesElement, HasElement};
@@ -33,16 +33,20 @@ pub trait PrimitiveElement {
     /// that became a list of structs reads as before ("Lists").
     fn get<A: ReaderArena>(list: &ListReader<'_, A>, index: u32) -> Self
         requires range { 0 < element_bits (size_number size) → index < list.now.count }
-        requires wide { element_bits (size_number size) ≤ data_bits list.now.element_size list.now.struct_size }
-        ensures { result ≡ value_at list.now.content.now (element_start A.ReaderArena list.now index) };
+        requires wide { element_bits (size_number size)
+            ≤ data_bits list.now.element_size list.now.struct_size }
+        ensures { result ≡ value_at list.now.content.now
+            (element_start A.ReaderArena list.now index) };
 
     /// An element of a list that is built: the lowest bits of the element's data, as many as the value
     /// has. What `get` asks of the list is asked here too.
     fn get_from_builder<A: BuilderArena>(list: &ListBuilder<'_, A>, index: u32) -> Self
         requires inside { IsListPlace (A.view list.now.arena.now).words list.now.place }
         requires range { 0 < element_bits (size_number size) → index < list.now.place.count }
-        requires wide { element_bits (size_number size) ≤ data_bits list.now.place.size list.now.place.struct_size }
-        ensures { HasElement (A.view list.now.arena.now) list.now.place (value_bits list.now.place index size (bits_of result)) };
+        requires wide { element_bits (size_number size)
+            ≤ data_bits list.now.place.size list.now.place.struct_size }
+        ensures { HasElement (A.view list.now.arena.now) list.now.place
+            (value_bits list.now.place index size (bits_of result)) };
 
     /// Writes an element of a list: the lowest bits of its data, as many as the value has. There are more
     /// elements than `index`, and each has at least as many bits of data as the value; `()` asks for
@@ -50,9 +54,13 @@ pub trait PrimitiveElement {
     fn set<A: BuilderArena>(list: &mut ListBuilder<'_, A>, index: u32, value: Self)
         requires inside { IsListPlace (A.view list.old.arena.now).words list.old.place }
         requires range { 0 < element_bits (size_number size) → index < list.old.place.count }
-        requires wide { element_bits (size_number size) ≤ data_bits list.old.place.size list.old.place.struct_size }
-        ensures written { 0 < element_bits (size_number size) → WritesElement (A.view list.old.arena.now) (A.view list.new.arena.now) list.old.place (value_bits list.old.place index size (bits_of value)) }
-        ensures nothing { element_bits (size_number size) ≡ 0 → list.new.arena.now ≡ list.old.arena.now }
+        requires wide { element_bits (size_number size)
+            ≤ data_bits list.old.place.size list.old.place.struct_size }
+        ensures written { 0 < element_bits (size_number size)
+            → WritesElement (A.view list.old.arena.now) (A.view list.new.arena.now) list.old.place
+            (value_bits list.old.place index size (bits_of value)) }
+        ensures nothing { element_bits (size_number size) ≡ 0
+            → list.new.arena.now ≡ list.old.arena.now }
         ensures inside { IsListPlace (A.view list.new.arena.now).words list.new.place }
         ensures same { list.new.arena.ghost_name ≡ list.old.arena.ghost_name }
         ensures place { list.new.place ≡ list.old.place };

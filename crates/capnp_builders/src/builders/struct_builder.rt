@@ -38,7 +38,8 @@ impl<'a, A: BuilderArena> StructBuilder<'a, A> {
 
     /// The same struct, for as long as it is borrowed.
     pub fn reborrow(&mut self) -> StructBuilder<'_, A>
-        ensures* lends { sem 𝓛 (follows (the_row (record { mir = named 1; lft = [] }) A.row) A.row self.entry.ghost_name result.arena.ghost_name (with_struct_arena self.old)) }
+        ensures* lends { sem 𝓛 (follows (the_row (record { mir = named 1; lft = [] }) A.row) A.row
+            self.entry.ghost_name result.arena.ghost_name (with_struct_arena self.old)) }
         ensures now { result.arena.now ≡ self.old.arena.now }
         ensures place { result.place ≡ self.old.place }
     {
@@ -75,7 +76,8 @@ impl<'a, A: BuilderArena> StructBuilder<'a, A> {
         requires field { index < self.place.pointers }
         ensures same { result.arena.ghost_name ≡ self.entry.arena.ghost_name }
         ensures now { result.arena.now ≡ self.entry.arena.now }
-        ensures place { (result.segment ≡ self.entry.place.segment) × (result.at ≡ self.entry.place.pointers_at + index) }
+        ensures place { (result.segment ≡ self.entry.place.segment)
+            × (result.at ≡ self.entry.place.pointers_at + index) }
         ensures inside { IsPlace (A.view result.arena.now).words result.segment result.at }
     {
         let StructBuilder { arena, place } = self;
@@ -102,10 +104,19 @@ impl<'a, A: BuilderArena> StructBuilder<'a, A> {
         lim: &mut ReadLimiter,
     ) -> Result<(), ErrorKind>
         requires inside { IsStructPlace (A.view self.old.arena.now).words self.old.place }
-        ensures copied { IfOk result (λ _. TakesContent B.ReaderArena value.now self.old.place (pointers_copied self.old.place (A.view self.old.arena.now) (A.view self.new.arena.now) lim.old lim.new)) }
-        ensures refused { IfErr result (StopsAtContent B.ReaderArena value.now self.old.place (pointers_copied self.old.place (A.view self.old.arena.now) (A.view self.new.arena.now) lim.old lim.new)) }
-        ensures fits { ContentFits B.ReaderArena value.now self.old.place (pointers_copied self.old.place (A.view self.old.arena.now) (A.view self.new.arena.now) lim.old lim.new) → IsOk result }
-        ensures taken { TakesForContent B.ReaderArena result value.now self.old.place (pointers_copied self.old.place (A.view self.old.arena.now) (A.view self.new.arena.now) lim.old lim.new) }
+        ensures copied { IfOk result (λ _. TakesContent B.ReaderArena value.now self.old.place
+            (pointers_copied self.old.place (A.view self.old.arena.now)
+            (A.view self.new.arena.now) lim.old lim.new)) }
+        ensures refused { IfErr result
+            (StopsAtContent B.ReaderArena value.now self.old.place
+            (pointers_copied self.old.place (A.view self.old.arena.now)
+            (A.view self.new.arena.now) lim.old lim.new)) }
+        ensures fits { ContentFits B.ReaderArena value.now self.old.place
+            (pointers_copied self.old.place (A.view self.old.arena.now)
+            (A.view self.new.arena.now) lim.old lim.new) → IsOk result }
+        ensures taken { TakesForContent B.ReaderArena result value.now self.old.place
+            (pointers_copied self.old.place (A.view self.old.arena.now)
+            (A.view self.new.arena.now) lim.old lim.new) }
         ensures inside { IsStructPlace (A.view self.new.arena.now).words self.new.place }
         ensures same { self.new.arena.ghost_name ≡ self.old.arena.ghost_name }
         ensures place { self.new.place ≡ self.old.place }
@@ -127,7 +138,9 @@ impl<'a, A: BuilderArena> StructBuilder<'a, A> {
     pub fn is_pointer_field_null(&self, index: usize) -> bool
         requires inside { IsStructPlace (A.view self.now.arena.now).words self.now.place }
         requires field { index < self.now.place.pointers }
-        ensures { IsTrue result ↔ (word_at (A.view self.now.arena.now).words self.now.place.segment (self.now.place.pointers_at + index) ≡ 0) }
+        ensures { IsTrue result
+            ↔ (word_at (A.view self.now.arena.now).words self.now.place.segment
+            (self.now.place.pointers_at + index) ≡ 0) }
     {
         self.as_reader().is_pointer_field_null(index)
     }
@@ -137,7 +150,9 @@ impl<'a, A: BuilderArena> StructBuilder<'a, A> {
     pub fn set_data_field<T: Primitive + Zero>(&mut self, offset: usize, value: T)
         requires inside { IsStructPlace (A.view self.old.arena.now).words self.old.place }
         requires field { IsInside self.old.place.bits (8 * T.BYTES) offset }
-        ensures written { WritesField (A.view self.old.arena.now) (A.view self.new.arena.now) self.old.place.segment self.old.place.byte (number_field T.BYTES offset (T.bits_of value)) }
+        ensures written { WritesField (A.view self.old.arena.now)
+            (A.view self.new.arena.now) self.old.place.segment self.old.place.byte
+            (number_field T.BYTES offset (T.bits_of value)) }
         ensures inside { IsStructPlace (A.view self.new.arena.now).words self.new.place }
         ensures same { self.new.arena.ghost_name ≡ self.old.arena.ghost_name }
         ensures place { self.new.place ≡ self.old.place }
@@ -156,7 +171,9 @@ impl<'a, A: BuilderArena> StructBuilder<'a, A> {
     )
         requires inside { IsStructPlace (A.view self.old.arena.now).words self.old.place }
         requires field { IsInside self.old.place.bits (8 * T.BYTES) offset }
-        ensures written { WritesField (A.view self.old.arena.now) (A.view self.new.arena.now) self.old.place.segment self.old.place.byte (number_field T.BYTES offset (T.bits_of (T.masked value mask))) }
+        ensures written { WritesField (A.view self.old.arena.now)
+            (A.view self.new.arena.now) self.old.place.segment self.old.place.byte
+            (number_field T.BYTES offset (T.bits_of (T.masked value mask))) }
         ensures inside { IsStructPlace (A.view self.new.arena.now).words self.new.place }
         ensures same { self.new.arena.ghost_name ≡ self.old.arena.ghost_name }
         ensures place { self.new.place ≡ self.old.place }
@@ -169,7 +186,9 @@ impl<'a, A: BuilderArena> StructBuilder<'a, A> {
     pub fn set_bool_field(&mut self, offset: usize, value: bool)
         requires inside { IsStructPlace (A.view self.old.arena.now).words self.old.place }
         requires field { offset < self.old.place.bits }
-        ensures written { WritesField (A.view self.old.arena.now) (A.view self.new.arena.now) self.old.place.segment self.old.place.byte (field offset 1 (cond value 1 0)) }
+        ensures written { WritesField (A.view self.old.arena.now)
+            (A.view self.new.arena.now) self.old.place.segment self.old.place.byte
+            (field offset 1 (cond value 1 0)) }
         ensures inside { IsStructPlace (A.view self.new.arena.now).words self.new.place }
         ensures same { self.new.arena.ghost_name ≡ self.old.arena.ghost_name }
         ensures place { self.new.place ≡ self.old.place }
@@ -183,7 +202,9 @@ impl<'a, A: BuilderArena> StructBuilder<'a, A> {
     pub fn set_bool_field_mask(&mut self, offset: usize, value: bool, mask: bool)
         requires inside { IsStructPlace (A.view self.old.arena.now).words self.old.place }
         requires field { offset < self.old.place.bits }
-        ensures written { WritesField (A.view self.old.arena.now) (A.view self.new.arena.now) self.old.place.segment self.old.place.byte (field offset 1 (cond mask (cond value 0 1) (cond value 1 0))) }
+        ensures written { WritesField (A.view self.old.arena.now)
+            (A.view self.new.arena.now) self.old.place.segment self.old.place.byte
+            (field offset 1 (cond mask (cond value 0 1) (cond value 1 0))) }
         ensures inside { IsStructPlace (A.view self.new.arena.now).words self.new.place }
         ensures same { self.new.arena.ghost_name ≡ self.old.arena.ghost_name }
         ensures place { self.new.place ≡ self.old.place }
@@ -195,7 +216,8 @@ impl<'a, A: BuilderArena> StructBuilder<'a, A> {
     pub fn get_data_field<T: Primitive + Zero>(&self, offset: usize) -> T
         requires inside { IsStructPlace (A.view self.now.arena.now).words self.now.place }
         requires field { IsInside self.now.place.bits (8 * T.BYTES) offset }
-        ensures { T.bits_of result ≡ field_behind (A.view self.now.arena.now).words self.now.place (8 * (offset * T.BYTES)) (8 * T.BYTES) }
+        ensures { T.bits_of result ≡ field_behind (A.view self.now.arena.now).words self.now.place
+            (8 * (offset * T.BYTES)) (8 * T.BYTES) }
     {
         let byte = self.place.byte + (offset * T::BYTES) as u64;
         numbers::get_number(&*self.arena, self.place.segment, byte)
@@ -209,7 +231,9 @@ impl<'a, A: BuilderArena> StructBuilder<'a, A> {
     ) -> T
         requires inside { IsStructPlace (A.view self.now.arena.now).words self.now.place }
         requires field { IsInside self.now.place.bits (8 * T.BYTES) offset }
-        ensures { (raw : T) × (T.bits_of raw ≡ field_behind (A.view self.now.arena.now).words self.now.place (8 * (offset * T.BYTES)) (8 * T.BYTES)) × (result ≡ T.masked raw mask) }
+        ensures { (raw : T) × (T.bits_of raw ≡ field_behind
+            (A.view self.now.arena.now).words self.now.place (8 * (offset * T.BYTES)) (8 * T.BYTES))
+            × (result ≡ T.masked raw mask) }
     {
         T::mask(self.get_data_field(offset), mask)
     }
@@ -218,7 +242,8 @@ impl<'a, A: BuilderArena> StructBuilder<'a, A> {
     pub fn get_bool_field(&self, offset: usize) -> bool
         requires inside { IsStructPlace (A.view self.now.arena.now).words self.now.place }
         requires field { offset < self.now.place.bits }
-        ensures { IsTrue result ↔ (field_behind (A.view self.now.arena.now).words self.now.place offset 1 ≡ 1) }
+        ensures { IsTrue result
+            ↔ (field_behind (A.view self.now.arena.now).words self.now.place offset 1 ≡ 1) }
     {
         let bit = 8 * self.place.byte + offset as u64;
         numbers::get_bit(&*self.arena, self.place.segment, bit)
@@ -228,8 +253,11 @@ impl<'a, A: BuilderArena> StructBuilder<'a, A> {
     pub fn get_bool_field_mask(&self, offset: usize, mask: bool) -> bool
         requires inside { IsStructPlace (A.view self.now.arena.now).words self.now.place }
         requires field { offset < self.now.place.bits }
-        ensures plain { mask ≡ false → (IsTrue result ↔ (field_behind (A.view self.now.arena.now).words self.now.place offset 1 ≡ 1)) }
-        ensures turned { mask ≡ true → (IsTrue result ↔ (field_behind (A.view self.now.arena.now).words self.now.place offset 1 ≡ 1 → ⊥)) }
+        ensures plain { mask ≡ false
+            → (IsTrue result
+            ↔ (field_behind (A.view self.now.arena.now).words self.now.place offset 1 ≡ 1)) }
+        ensures turned { mask ≡ true → (IsTrue result
+            ↔ (field_behind (A.view self.now.arena.now).words self.now.place offset 1 ≡ 1 → ⊥)) }
     {
         self.get_bool_field(offset) != mask
     }

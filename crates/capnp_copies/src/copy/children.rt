@@ -29,9 +29,13 @@ pub(crate) fn copy_children<A: BuilderArena, B: ReaderArena>(
     requires room { at + count ≤ length (segment (A.view arena.old).words id) }
     requires null { (i : ℕ) → i < count → word_at (A.view arena.old).words id (at + i) ≡ 0 }
     requires inside { from.place.at + count ≤ length (row (reading B.ReaderArena from)) }
-    ensures copied { IfOk result (λ _. CopiesChildren (reading B.ReaderArena from.entry) count (change (form_in form) id at (A.view arena.old) (A.view arena.new) lim.old lim.new)) }
-    ensures refused { IfErr result (StopsAtChildren (reading B.ReaderArena from.entry) count (change (form_in form) id at (A.view arena.old) (A.view arena.new) lim.old lim.new)) }
-    ensures taken { TakesForPointers result (reading B.ReaderArena from.entry) count (change (form_in form) id at (A.view arena.old) (A.view arena.new) lim.old lim.new) }
+    ensures copied { IfOk result (λ _. CopiesChildren (reading B.ReaderArena from.entry) count
+        (change (form_in form) id at (A.view arena.old) (A.view arena.new) lim.old lim.new)) }
+    ensures refused { IfErr result
+        (StopsAtChildren (reading B.ReaderArena from.entry) count
+        (change (form_in form) id at (A.view arena.old) (A.view arena.new) lim.old lim.new)) }
+    ensures taken { TakesForPointers result (reading B.ReaderArena from.entry) count
+        (change (form_in form) id at (A.view arena.old) (A.view arena.new) lim.old lim.new) }
 {
     for i in 0..count {
         let child = PointerReader {

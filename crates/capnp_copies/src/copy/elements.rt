@@ -32,15 +32,25 @@ pub(crate) fn copy_elements<A: BuilderArena, B: ReaderArena>(
     lim: &mut ReadLimiter,
     form: CopyForm,
 ) -> Result<(), ErrorKind>
-    requires room { to.at + count * (sizes.kept.data_words + sizes.kept.pointers) ≤ length (segment (A.view arena.old).words to.segment) }
-    requires zero { (i : ℕ) → i < count * (sizes.kept.data_words + sizes.kept.pointers) → word_at (A.view arena.old).words to.segment (to.at + i) ≡ 0 }
-    requires inside { from.place.at + count * (sizes.source.data_words + sizes.source.pointers) ≤ length (row (reading B.ReaderArena from)) }
+    requires room { to.at + count * (sizes.kept.data_words + sizes.kept.pointers)
+        ≤ length (segment (A.view arena.old).words to.segment) }
+    requires zero { (i : ℕ) → i < count * (sizes.kept.data_words + sizes.kept.pointers)
+        → word_at (A.view arena.old).words to.segment (to.at + i) ≡ 0 }
+    requires inside { from.place.at + count * (sizes.source.data_words + sizes.source.pointers)
+        ≤ length (row (reading B.ReaderArena from)) }
     requires less_data { sizes.kept.data_words ≤ sizes.source.data_words }
     requires less_pointers { sizes.kept.pointers ≤ sizes.source.pointers }
     requires pointers { KeepsPointers (form_in form) (reading B.ReaderArena from) sizes count }
-    ensures copied { IfOk result (λ _. CopiesElements (reading B.ReaderArena from.entry) sizes count (change (form_in form) to.segment to.at (A.view arena.old) (A.view arena.new) lim.old lim.new)) }
-    ensures refused { IfErr result (StopsAtElements (reading B.ReaderArena from.entry) sizes count (change (form_in form) to.segment to.at (A.view arena.old) (A.view arena.new) lim.old lim.new)) }
-    ensures taken { TakesForRows result (reading B.ReaderArena from.entry) sizes.source count (change (form_in form) to.segment to.at (A.view arena.old) (A.view arena.new) lim.old lim.new) }
+    ensures copied { IfOk result (λ _. CopiesElements (reading B.ReaderArena from.entry) sizes count
+        (change (form_in form) to.segment to.at (A.view arena.old)
+        (A.view arena.new) lim.old lim.new)) }
+    ensures refused { IfErr result
+        (StopsAtElements (reading B.ReaderArena from.entry) sizes count
+        (change (form_in form) to.segment to.at (A.view arena.old)
+        (A.view arena.new) lim.old lim.new)) }
+    ensures taken { TakesForRows result (reading B.ReaderArena from.entry) sizes.source count
+        (change (form_in form) to.segment to.at (A.view arena.old)
+        (A.view arena.new) lim.old lim.new) }
 {
     let source_words = sizes.source.total();
     let kept_words = sizes.kept.total();
@@ -79,14 +89,24 @@ fn copy_element<A: BuilderArena, B: ReaderArena>(
     lim: &mut ReadLimiter,
     form: CopyForm,
 ) -> Result<(), ErrorKind>
-    requires room { to.at + (sizes.kept.data_words + sizes.kept.pointers) ≤ length (segment (A.view arena.old).words to.segment) }
-    requires null { (i : ℕ) → i < sizes.kept.pointers → word_at (A.view arena.old).words to.segment (to.at + sizes.kept.data_words + i) ≡ 0 }
-    requires inside { from.place.at + (sizes.source.data_words + sizes.source.pointers) ≤ length (row (reading B.ReaderArena from)) }
+    requires room { to.at + (sizes.kept.data_words + sizes.kept.pointers)
+        ≤ length (segment (A.view arena.old).words to.segment) }
+    requires null { (i : ℕ) → i < sizes.kept.pointers
+        → word_at (A.view arena.old).words to.segment (to.at + sizes.kept.data_words + i) ≡ 0 }
+    requires inside { from.place.at + (sizes.source.data_words + sizes.source.pointers)
+        ≤ length (row (reading B.ReaderArena from)) }
     requires less_data { sizes.kept.data_words ≤ sizes.source.data_words }
     requires less_pointers { sizes.kept.pointers ≤ sizes.source.pointers }
-    ensures copied { IfOk result (λ _. CopiesElement (reading B.ReaderArena from.entry) sizes (change (form_in form) to.segment to.at (A.view arena.old) (A.view arena.new) lim.old lim.new)) }
-    ensures refused { IfErr result (StopsAtElement (reading B.ReaderArena from.entry) sizes (change (form_in form) to.segment to.at (A.view arena.old) (A.view arena.new) lim.old lim.new)) }
-    ensures taken { TakesForElement result (reading B.ReaderArena from.entry) sizes (change (form_in form) to.segment to.at (A.view arena.old) (A.view arena.new) lim.old lim.new) }
+    ensures copied { IfOk result (λ _. CopiesElement (reading B.ReaderArena from.entry) sizes
+        (change (form_in form) to.segment to.at (A.view arena.old)
+        (A.view arena.new) lim.old lim.new)) }
+    ensures refused { IfErr result
+        (StopsAtElement (reading B.ReaderArena from.entry) sizes
+        (change (form_in form) to.segment to.at (A.view arena.old)
+        (A.view arena.new) lim.old lim.new)) }
+    ensures taken { TakesForElement result (reading B.ReaderArena from.entry) sizes
+        (change (form_in form) to.segment to.at (A.view arena.old)
+        (A.view arena.new) lim.old lim.new) }
 {
     let data_words = usize::from(sizes.kept.data_words);
     let data = part(from.place.bytes, from.place.at as usize, data_words);
@@ -108,11 +128,17 @@ fn copy_element<A: BuilderArena, B: ReaderArena>(
 /// Writes words over others, if there are any to write.
 pub(crate) fn put_words<A: BuilderArena>(arena: &mut A, id: u32, at: u32, words: &[u8])
     requires whole { length words.now ≡ 8 * length (words_of words.now) }
-    requires inside { at + length (words_of words.now) ≤ length (segment (A.view arena.old).words id) }
-    ensures words { A.view arena.new ≡ record (A.view arena.old) { words = with_words (A.view arena.old).words id at (words_of words.now) } }
-    ensures behind { (i : ℕ) → at + length (words_of words.now) ≤ i → word_at (A.view arena.new).words id i ≡ word_at (A.view arena.old).words id i }
-    ensures length { length (segment (A.view arena.new).words id) ≡ length (segment (A.view arena.old).words id) }
-    ensures none_more { message_words (A.view arena.new).words ≤ message_words (A.view arena.old).words }
+    requires inside { at + length (words_of words.now)
+        ≤ length (segment (A.view arena.old).words id) }
+    ensures words { A.view arena.new
+        ≡ record (A.view arena.old)
+        { words = with_words (A.view arena.old).words id at (words_of words.now) } }
+    ensures behind { (i : ℕ) → at + length (words_of words.now) ≤ i
+        → word_at (A.view arena.new).words id i ≡ word_at (A.view arena.old).words id i }
+    ensures length { length (segment (A.view arena.new).words id)
+        ≡ length (segment (A.view arena.old).words id) }
+    ensures none_more { message_words (A.view arena.new).words
+        ≤ message_words (A.view arena.old).words }
 {
     if count(words) == 0 {
         return;

@@ -10,7 +10,7 @@ ghost use Rattle.capnp_format.specs.Tree.{Null, Flat};
 ghost use Rattle.capnp_making.specs.Memory.{KeepsMemory, SpendsMemory, RefusesWords};
 ghost use Rattle.capnp_making.specs.Near.{HasOwnRoom};
 ghost use Rattle.capnp_making.specs.Stored.{IsReplaced};
-ghost use Rattle.capnp_pointers.specs.Sizes.{size_number};
+ghost use Rattle.capnp_words.specs.Sizes.{size_number};
 ghost use Rattle.capnp_copies.specs.Changes.{IsCopiedInRoom};
 
 use capnp_arena::arena::BuilderArena;
@@ -34,12 +34,18 @@ pub(crate) fn copy_flat<A: BuilderArena>(
     requires few { count < 2 ^ 29 }
     requires whole { length elements.now ≡ 8 * length (words_of elements.now) }
     requires all { length (words_of elements.now) ≡ words_for (size_number size) count }
-    ensures copied { OnOk result (IsReplaced (A.view arena.old).words (A.view arena.new).words id at Null (Flat (size_number size) (unpacked (size_number size) count (words_of elements.now)))) }
-    ensures stands { OnOk result (IsCopiedInRoom (A.view arena.old) (A.view arena.new) id at (Flat (size_number size) (unpacked (size_number size) count (words_of elements.now)))) }
-    ensures fits { HasOwnRoom (A.view arena.old) id (words_for (size_number size) count) → IsOk result }
-    ensures taken { message_words (A.view arena.new).words ≤ message_words (A.view arena.old).words + (words_for (size_number size) count + 1) }
+    ensures copied { OnOk result (IsReplaced (A.view arena.old).words
+        (A.view arena.new).words id at Null
+        (Flat (size_number size) (unpacked (size_number size) count (words_of elements.now)))) }
+    ensures stands { OnOk result (IsCopiedInRoom (A.view arena.old) (A.view arena.new) id at
+        (Flat (size_number size) (unpacked (size_number size) count (words_of elements.now)))) }
+    ensures fits { HasOwnRoom (A.view arena.old) id (words_for (size_number size) count)
+        → IsOk result }
+    ensures taken { message_words (A.view arena.new).words
+        ≤ message_words (A.view arena.old).words + (words_for (size_number size) count + 1) }
     ensures granted { OnOk result (KeepsMemory (A.view arena.old) (A.view arena.new)) }
-    ensures refused { IfErr result (RefusesWords (A.view arena.old) (A.view arena.new) (words_for (size_number size) count)) }
+    ensures refused { IfErr result
+        (RefusesWords (A.view arena.old) (A.view arena.new) (words_for (size_number size) count)) }
     ensures kept { OnErr result ((A.view arena.new).words ≡ (A.view arena.old).words) }
     ensures memory { IfErr result (SpendsMemory (A.view arena.old) (A.view arena.new)) }
 {
@@ -56,9 +62,14 @@ pub(crate) fn copy_flat<A: BuilderArena>(
 /// Writes elements of so many bits together over words of a segment, with padding of zero.
 fn put_elements<A: BuilderArena>(arena: &mut A, id: u32, start: u32, elements: &[u8], bits: u64)
     requires whole { length elements.now ≡ 8 * length (words_of elements.now) }
-    requires inside { start + length (words_of elements.now) ≤ length (segment (A.view arena.old).words id) }
+    requires inside { start + length (words_of elements.now)
+        ≤ length (segment (A.view arena.old).words id) }
     requires all { (bits + 63) / 64 ≡ length (words_of elements.now) }
-    ensures { A.view arena.new ≡ record (A.view arena.old) { words = with_words (A.view arena.old).words id start (low_bits (words_of elements.now) bits) } }
+    ensures { A.view arena.new
+        ≡ record (A.view arena.old) {
+          words = with_words (A.view arena.old).words id start
+              (low_bits (words_of elements.now) bits);
+        } }
 {
     arena.copy_words(id, start, elements);
     let used = bits % 64;

@@ -44,14 +44,29 @@ pub fn copy_list<A: BuilderArena, B: ReaderArena>(
 ) -> Result<(), ErrorKind>
     requires place { IsPlace (A.view arena.old).words id at }
     requires null { word_at (A.view arena.old).words id at ≡ 0 }
-    ensures copied { IfOk result (λ _. IsListCopy B.ReaderArena value.entry (change (form_of canonicalize) id at (A.view arena.old) (A.view arena.new) lim.old lim.new)) }
-    ensures stands { OnOk result (ListStands (elements_read B.ReaderArena value.entry) (change (form_of canonicalize) id at (A.view arena.old) (A.view arena.new) lim.old lim.new)) }
-    ensures fits { ListFits (elements_read B.ReaderArena value.entry) (change (form_of canonicalize) id at (A.view arena.old) (A.view arena.new) lim.old lim.new) → IsOk result }
-    ensures refused { IfErr result (RefusesList B.ReaderArena value.entry (change (form_of canonicalize) id at (A.view arena.old) (A.view arena.new) lim.old lim.new)) }
-    ensures cleared { OnErr result (IsReplaced (A.view arena.old).words (A.view arena.new).words id at Null Null) }
-    ensures spent { OnErr result ((lim.new ≡ lim.old) ⊎ BreaksOffList (form_of canonicalize) (elements_read B.ReaderArena value.entry) lim.old lim.new) }
-    ensures long { IsTooLong (elements_read B.ReaderArena value.entry) → (result ≡ Err (MessageTooLarge (2 ^ 64 - 1))) × (lim.new ≡ lim.old) }
-    ensures taken { TakesForList B.ReaderArena result value.entry (change (form_of canonicalize) id at (A.view arena.old) (A.view arena.new) lim.old lim.new) }
+    ensures copied { IfOk result (λ _. IsListCopy B.ReaderArena value.entry
+        (change (form_of canonicalize) id at (A.view arena.old)
+        (A.view arena.new) lim.old lim.new)) }
+    ensures stands { OnOk result (ListStands (elements_read B.ReaderArena value.entry)
+        (change (form_of canonicalize) id at (A.view arena.old)
+        (A.view arena.new) lim.old lim.new)) }
+    ensures fits { ListFits (elements_read B.ReaderArena value.entry)
+        (change (form_of canonicalize) id at (A.view arena.old) (A.view arena.new) lim.old lim.new)
+        → IsOk result }
+    ensures refused { IfErr result
+        (RefusesList B.ReaderArena value.entry
+        (change (form_of canonicalize) id at (A.view arena.old)
+        (A.view arena.new) lim.old lim.new)) }
+    ensures cleared { OnErr result
+        (IsReplaced (A.view arena.old).words (A.view arena.new).words id at Null Null) }
+    ensures spent { OnErr result ((lim.new ≡ lim.old)
+        ⊎ BreaksOffList (form_of canonicalize)
+        (elements_read B.ReaderArena value.entry) lim.old lim.new) }
+    ensures long { IsTooLong (elements_read B.ReaderArena value.entry)
+        → (result ≡ Err (MessageTooLarge (2 ^ 64 - 1))) × (lim.new ≡ lim.old) }
+    ensures taken { TakesForList B.ReaderArena result value.entry
+        (change (form_of canonicalize) id at (A.view arena.old)
+        (A.view arena.new) lim.old lim.new) }
     ensures granted { OnOk result (KeepsMemory (A.view arena.old) (A.view arena.new)) }
     ensures memory { IfErr result (SpendsMemory (A.view arena.old) (A.view arena.new)) }
 {
@@ -75,10 +90,18 @@ fn copy_elements_read<A: BuilderArena, B: ReaderArena>(
 ) -> Result<(), ErrorKind>
     requires place { IsPlace (A.view arena.old).words id at }
     requires null { word_at (A.view arena.old).words id at ≡ 0 }
-    ensures copied { IfOk result (λ _. CopiesList (elements_read B.ReaderArena value.entry) (change (form_of canonicalize) id at (A.view arena.old) (A.view arena.new) lim.old lim.new)) }
-    ensures refused { IfErr result (StopsAtList (elements_read B.ReaderArena value.entry) (change (form_of canonicalize) id at (A.view arena.old) (A.view arena.new) lim.old lim.new)) }
-    ensures long { IsTooLong (elements_read B.ReaderArena value.entry) → (result ≡ Err (MessageTooLarge (2 ^ 64 - 1))) × (lim.new ≡ lim.old) }
-    ensures taken { TakesForList B.ReaderArena result value.entry (change (form_of canonicalize) id at (A.view arena.old) (A.view arena.new) lim.old lim.new) }
+    ensures copied { IfOk result (λ _. CopiesList (elements_read B.ReaderArena value.entry)
+        (change (form_of canonicalize) id at (A.view arena.old)
+        (A.view arena.new) lim.old lim.new)) }
+    ensures refused { IfErr result
+        (StopsAtList (elements_read B.ReaderArena value.entry)
+        (change (form_of canonicalize) id at (A.view arena.old)
+        (A.view arena.new) lim.old lim.new)) }
+    ensures long { IsTooLong (elements_read B.ReaderArena value.entry)
+        → (result ≡ Err (MessageTooLarge (2 ^ 64 - 1))) × (lim.new ≡ lim.old) }
+    ensures taken { TakesForList B.ReaderArena result value.entry
+        (change (form_of canonicalize) id at (A.view arena.old)
+        (A.view arena.new) lim.old lim.new) }
 {
     let count = value.count;
     if !fits_list_pointer(value.element_size, value.struct_size, count) {

@@ -33,9 +33,13 @@ pub(crate) fn copy_pointers<A: BuilderArena, B: ReaderArena>(
     requires null { word_at (A.view arena.old).words id at ≡ 0 }
     requires few { count < 2 ^ 29 }
     requires inside { from.place.at + count ≤ length (row (reading B.ReaderArena from)) }
-    ensures copied { IfOk result (λ _. CopiesPointers (reading B.ReaderArena from.entry) count (change (form_in form) id at (A.view arena.old) (A.view arena.new) lim.old lim.new)) }
-    ensures refused { IfErr result (StopsAtPointers (reading B.ReaderArena from.entry) count (change (form_in form) id at (A.view arena.old) (A.view arena.new) lim.old lim.new)) }
-    ensures taken { TakesForObject result (reading B.ReaderArena from.entry) count (count + 1) (change (form_in form) id at (A.view arena.old) (A.view arena.new) lim.old lim.new) }
+    ensures copied { IfOk result (λ _. CopiesPointers (reading B.ReaderArena from.entry) count
+        (change (form_in form) id at (A.view arena.old) (A.view arena.new) lim.old lim.new)) }
+    ensures refused { IfErr result
+        (StopsAtPointers (reading B.ReaderArena from.entry) count
+        (change (form_in form) id at (A.view arena.old) (A.view arena.new) lim.old lim.new)) }
+    ensures taken { TakesForObject result (reading B.ReaderArena from.entry) count (count + 1)
+        (change (form_in form) id at (A.view arena.old) (A.view arena.new) lim.old lim.new) }
 {
     match make_list(arena, id, at, ElementSize::Pointer, count) {
         Ok(start) => copy_children(arena, start.segment, start.at, from, count, lim, form),
@@ -60,10 +64,15 @@ pub(crate) fn copy_structs<A: BuilderArena, B: ReaderArena>(
     requires null { word_at (A.view arena.old).words id at ≡ 0 }
     requires few { count < 2 ^ 30 }
     requires words { count * (size.data_words + size.pointers) < 2 ^ 29 }
-    requires inside { from.place.at + count * (size.data_words + size.pointers) ≤ length (row (reading B.ReaderArena from)) }
-    ensures copied { IfOk result (λ _. CopiesStructs (reading B.ReaderArena from.entry) size count (change (form_in form) id at (A.view arena.old) (A.view arena.new) lim.old lim.new)) }
-    ensures refused { IfErr result (StopsAtStructs (reading B.ReaderArena from.entry) size count (change (form_in form) id at (A.view arena.old) (A.view arena.new) lim.old lim.new)) }
-    ensures taken { TakesForStructs result (reading B.ReaderArena from.entry) size count (change (form_in form) id at (A.view arena.old) (A.view arena.new) lim.old lim.new) }
+    requires inside { from.place.at + count * (size.data_words + size.pointers)
+        ≤ length (row (reading B.ReaderArena from)) }
+    ensures copied { IfOk result (λ _. CopiesStructs (reading B.ReaderArena from.entry) size count
+        (change (form_in form) id at (A.view arena.old) (A.view arena.new) lim.old lim.new)) }
+    ensures refused { IfErr result
+        (StopsAtStructs (reading B.ReaderArena from.entry) size count
+        (change (form_in form) id at (A.view arena.old) (A.view arena.new) lim.old lim.new)) }
+    ensures taken { TakesForStructs result (reading B.ReaderArena from.entry) size count
+        (change (form_in form) id at (A.view arena.old) (A.view arena.new) lim.old lim.new) }
 {
     let kept = kept_widths(from, size, count, form);
     let sizes = ElementSizes { source: size, kept };
@@ -87,7 +96,8 @@ fn kept_widths<B: ReaderArena>(
     count: u32,
     form: CopyForm,
 ) -> StructSize
-    requires inside { from.place.at + count * (size.data_words + size.pointers) ≤ length (row (reading B.ReaderArena from)) }
+    requires inside { from.place.at + count * (size.data_words + size.pointers)
+        ≤ length (row (reading B.ReaderArena from)) }
     ensures kept { KeepsWidths (form_in form) (reading B.ReaderArena from.entry) size count result }
     ensures less_data { result.data_words ≤ size.data_words }
     ensures less_pointers { result.pointers ≤ size.pointers }

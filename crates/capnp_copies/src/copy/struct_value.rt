@@ -46,13 +46,27 @@ pub fn copy_struct_value<A: BuilderArena, B: ReaderArena>(
 ) -> Result<(), ErrorKind>
     requires place { IsPlace (A.view arena.old).words id at }
     requires null { word_at (A.view arena.old).words id at ≡ 0 }
-    ensures copied { IfOk result (λ _. IsStructCopy B.ReaderArena value.entry (change (form_of canonicalize) id at (A.view arena.old) (A.view arena.new) lim.old lim.new)) }
-    ensures stands { OnOk result (StructStands B.ReaderArena value.entry (change (form_of canonicalize) id at (A.view arena.old) (A.view arena.new) lim.old lim.new)) }
-    ensures fits { StructFits B.ReaderArena value.entry (change (form_of canonicalize) id at (A.view arena.old) (A.view arena.new) lim.old lim.new) → IsOk result }
-    ensures refused { IfErr result (RefusesStruct B.ReaderArena value.entry (change (form_of canonicalize) id at (A.view arena.old) (A.view arena.new) lim.old lim.new)) }
-    ensures cleared { OnErr result (IsReplaced (A.view arena.old).words (A.view arena.new).words id at Null Null) }
-    ensures spent { OnErr result ((lim.new ≡ lim.old) ⊎ BreaksOffAmong (form_of canonicalize) (pointers_read B.ReaderArena value.entry) value.entry.pointer_count lim.old lim.new) }
-    ensures taken { TakesForStruct B.ReaderArena result value.entry (change (form_of canonicalize) id at (A.view arena.old) (A.view arena.new) lim.old lim.new) }
+    ensures copied { IfOk result (λ _. IsStructCopy B.ReaderArena value.entry
+        (change (form_of canonicalize) id at (A.view arena.old)
+        (A.view arena.new) lim.old lim.new)) }
+    ensures stands { OnOk result (StructStands B.ReaderArena value.entry
+        (change (form_of canonicalize) id at (A.view arena.old)
+        (A.view arena.new) lim.old lim.new)) }
+    ensures fits { StructFits B.ReaderArena value.entry
+        (change (form_of canonicalize) id at (A.view arena.old) (A.view arena.new) lim.old lim.new)
+        → IsOk result }
+    ensures refused { IfErr result
+        (RefusesStruct B.ReaderArena value.entry
+        (change (form_of canonicalize) id at (A.view arena.old)
+        (A.view arena.new) lim.old lim.new)) }
+    ensures cleared { OnErr result
+        (IsReplaced (A.view arena.old).words (A.view arena.new).words id at Null Null) }
+    ensures spent { OnErr result ((lim.new ≡ lim.old)
+        ⊎ BreaksOffAmong (form_of canonicalize)
+        (pointers_read B.ReaderArena value.entry) value.entry.pointer_count lim.old lim.new) }
+    ensures taken { TakesForStruct B.ReaderArena result value.entry
+        (change (form_of canonicalize) id at (A.view arena.old)
+        (A.view arena.new) lim.old lim.new) }
     ensures granted { OnOk result (KeepsMemory (A.view arena.old) (A.view arena.new)) }
     ensures memory { IfErr result (SpendsMemory (A.view arena.old) (A.view arena.new)) }
 {
@@ -76,9 +90,16 @@ fn copy_sections<A: BuilderArena, B: ReaderArena>(
 ) -> Result<(), ErrorKind>
     requires place { IsPlace (A.view arena.old).words id at }
     requires null { word_at (A.view arena.old).words id at ≡ 0 }
-    ensures copied { IfOk result (λ _. CopiesStructRead B.ReaderArena value.entry (change (form_of canonicalize) id at (A.view arena.old) (A.view arena.new) lim.old lim.new)) }
-    ensures refused { IfErr result (StopsAtStructRead B.ReaderArena value.entry (change (form_of canonicalize) id at (A.view arena.old) (A.view arena.new) lim.old lim.new)) }
-    ensures taken { TakesForStruct B.ReaderArena result value.entry (change (form_of canonicalize) id at (A.view arena.old) (A.view arena.new) lim.old lim.new) }
+    ensures copied { IfOk result (λ _. CopiesStructRead B.ReaderArena value.entry
+        (change (form_of canonicalize) id at (A.view arena.old)
+        (A.view arena.new) lim.old lim.new)) }
+    ensures refused { IfErr result
+        (StopsAtStructRead B.ReaderArena value.entry
+        (change (form_of canonicalize) id at (A.view arena.old)
+        (A.view arena.new) lim.old lim.new)) }
+    ensures taken { TakesForStruct B.ReaderArena result value.entry
+        (change (form_of canonicalize) id at (A.view arena.old)
+        (A.view arena.new) lim.old lim.new) }
 {
     let kept = match kept_sections(value, canonicalize) {
         Ok(kept) => kept,
@@ -116,9 +137,12 @@ fn kept_sections<B: ReaderArena>(
     value: StructReader<'_, B>,
     canonicalize: bool,
 ) -> Result<StructSize, ErrorKind>
-    ensures data { IfOk result (λ size. size.data_words ≡ kept_count (form_of canonicalize) (data_of B.ReaderArena value.entry)) }
-    ensures pointers { IfOk result (λ size. size.pointers ≡ kept_count (form_of canonicalize) (pointer_words B.ReaderArena value.entry)) }
-    ensures wide { IfErr result (IsTooWide (kept_count (form_of canonicalize) (data_of B.ReaderArena value.entry))) }
+    ensures data { IfOk result (λ size. size.data_words
+        ≡ kept_count (form_of canonicalize) (data_of B.ReaderArena value.entry)) }
+    ensures pointers { IfOk result (λ size. size.pointers
+        ≡ kept_count (form_of canonicalize) (pointer_words B.ReaderArena value.entry)) }
+    ensures wide { IfErr result
+        (IsTooWide (kept_count (form_of canonicalize) (data_of B.ReaderArena value.entry))) }
 {
     let data_words = kept_words(value.content, value.bits, canonicalize);
     if data_words > usize::from(u16::MAX) {

@@ -33,11 +33,16 @@ pub(crate) fn copy_struct<A: BuilderArena, B: ReaderArena>(
     form: CopyForm,
 ) -> Result<(), ErrorKind>
     requires place { IsPlace (A.view arena.old).words id at }
-    requires inside { from.place.at + (size.data_words + size.pointers) ≤ length (row (reading B.ReaderArena from)) }
+    requires inside { from.place.at + (size.data_words + size.pointers)
+        ≤ length (row (reading B.ReaderArena from)) }
     requires null { word_at (A.view arena.old).words id at ≡ 0 }
-    ensures copied { IfOk result (λ _. CopiesStruct (reading B.ReaderArena from.entry) size (change (form_in form) id at (A.view arena.old) (A.view arena.new) lim.old lim.new)) }
-    ensures refused { IfErr result (StopsAtStruct (reading B.ReaderArena from.entry) size (change (form_in form) id at (A.view arena.old) (A.view arena.new) lim.old lim.new)) }
-    ensures taken { TakesForSections result (reading B.ReaderArena from.entry) size (change (form_in form) id at (A.view arena.old) (A.view arena.new) lim.old lim.new) }
+    ensures copied { IfOk result (λ _. CopiesStruct (reading B.ReaderArena from.entry) size
+        (change (form_in form) id at (A.view arena.old) (A.view arena.new) lim.old lim.new)) }
+    ensures refused { IfErr result
+        (StopsAtStruct (reading B.ReaderArena from.entry) size
+        (change (form_in form) id at (A.view arena.old) (A.view arena.new) lim.old lim.new)) }
+    ensures taken { TakesForSections result (reading B.ReaderArena from.entry) size
+        (change (form_in form) id at (A.view arena.old) (A.view arena.new) lim.old lim.new) }
 {
     let kept = kept_sections(from, size, form);
     let start = match make_struct(arena, id, at, kept) {
@@ -68,7 +73,8 @@ fn kept_sections<B: ReaderArena>(
     size: StructSize,
     form: CopyForm,
 ) -> StructSize
-    requires inside { from.place.at + (size.data_words + size.pointers) ≤ length (row (reading B.ReaderArena from)) }
+    requires inside { from.place.at + (size.data_words + size.pointers)
+        ≤ length (row (reading B.ReaderArena from)) }
     ensures kept { KeepsSections (form_in form) (reading B.ReaderArena from.entry) size result }
     ensures less_data { result.data_words ≤ size.data_words }
     ensures less_pointers { result.pointers ≤ size.pointers }
@@ -82,7 +88,8 @@ fn kept_sections<B: ReaderArena>(
 /// How much of a struct's sections is used, of which `from` is the first word: the words of each up
 /// to the last that is not zero.
 fn used_sections<B: ReaderArena>(from: PointerReader<'_, B>, size: StructSize) -> StructSize
-    requires inside { from.place.at + (size.data_words + size.pointers) ≤ length (row (reading B.ReaderArena from)) }
+    requires inside { from.place.at + (size.data_words + size.pointers)
+        ≤ length (row (reading B.ReaderArena from)) }
     ensures { Uses (reading B.ReaderArena from.entry) size result }
 {
     let bytes = from.place.bytes;

@@ -63,7 +63,8 @@ pub(crate) type SourceReader<'a> = PointerReader<'a, ReaderArenaImpl<SegmentArra
 pub(crate) fn open_source<'a>(
     source: Source<'a>,
 ) -> Result<(SourceReader<'a>, ReadLimiter), ErrorKind>
-    ensures found { IfOk result (λ r. IsOpened ⟦<ReaderArenaImpl<SegmentArray<'a>> as ReaderArena>⟧ source.entry r.0 r.1) }
+    ensures found { IfOk result (λ r.
+        IsOpened ⟦<ReaderArenaImpl<SegmentArray<'a>> as ReaderArena>⟧ source.entry r.0 r.1) }
     ensures refused { IfErr result (IsRootless source.entry) }
 {
     let mut lim = ReadLimiter::new(source.budget);
@@ -80,11 +81,17 @@ fn copy_root<A: BuilderArena>(
 ) -> Result<(), ErrorKind>
     requires there { IsThere (built A.view pointer.old) }
     requires whole { is_whole copying.wanted ≡ true }
-    ensures done { CopiesRoot (A.view pointer.old.arena.now).words (A.view pointer.new.arena.now).words (place_of pointer.old) copying.entry (refusal_of result) }
-    ensures counted { (A.view pointer.new.arena.now).refusals ≡ refusals_after (refusal_of result) (A.view pointer.old.arena.now).refusals }
-    ensures named { IfErr result (IsWholeRefused (calling A.view pointer.old pointer.new) copying.entry) }
-    ensures taken { TakesForWhole (calling A.view pointer.old pointer.new) copying.entry (refusal_of result) }
-    ensures fits { FitsBehind (A.view pointer.old.arena.now) pointer.old.segment copying.entry → IsOk result }
+    ensures done { CopiesRoot (A.view pointer.old.arena.now).words
+        (A.view pointer.new.arena.now).words (place_of pointer.old) copying.entry
+        (refusal_of result) }
+    ensures counted { (A.view pointer.new.arena.now).refusals
+        ≡ refusals_after (refusal_of result) (A.view pointer.old.arena.now).refusals }
+    ensures named { IfErr result
+        (IsWholeRefused (calling A.view pointer.old pointer.new) copying.entry) }
+    ensures taken { TakesForWhole (calling A.view pointer.old pointer.new) copying.entry
+        (refusal_of result) }
+    ensures fits { FitsBehind (A.view pointer.old.arena.now) pointer.old.segment copying.entry
+        → IsOk result }
     ensures same { pointer.new.arena.ghost_name ≡ pointer.old.arena.ghost_name }
 {
     let (root, mut lim) = match open_source(copying.source) {
@@ -113,10 +120,14 @@ pub(crate) fn edit_source<A: BuilderArena>(
 ) -> Result<(), ErrorKind>
     requires there { IsPlace (A.view arena.old).words place.segment place.word }
     requires whole { is_whole copying.wanted ≡ true }
-    ensures done { CopiesRoot (A.view arena.old).words (A.view arena.new).words place copying.entry (refusal_of result) }
-    ensures counted { (A.view arena.new).refusals ≡ refusals_after (refusal_of result) (A.view arena.old).refusals }
-    ensures named { IfErr result (IsWholeRefused (call_to place (A.view arena.old) (A.view arena.new)) copying.entry) }
-    ensures taken { TakesForWhole (call_to place (A.view arena.old) (A.view arena.new)) copying.entry (refusal_of result) }
+    ensures done { CopiesRoot (A.view arena.old).words (A.view arena.new).words place copying.entry
+        (refusal_of result) }
+    ensures counted { (A.view arena.new).refusals ≡ refusals_after (refusal_of result)
+        (A.view arena.old).refusals }
+    ensures named { IfErr result
+        (IsWholeRefused (call_to place (A.view arena.old) (A.view arena.new)) copying.entry) }
+    ensures taken { TakesForWhole (call_to place (A.view arena.old) (A.view arena.new))
+        copying.entry (refusal_of result) }
     ensures fits { FitsBehind (A.view arena.old) place.segment copying.entry → IsOk result }
 {
     let mut pointer = PointerBuilder {

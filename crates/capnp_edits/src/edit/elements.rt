@@ -4,7 +4,7 @@ ghost use Rattle.capnp_arena.specs.View.{KeepsLimits};
 ghost use Rattle.capnp_format.specs.Numbers.{element_bits};
 ghost use Rattle.capnp_format.specs.Segments.{IsPlace};
 ghost use Rattle.capnp_making.specs.Existing.{is_unfound};
-ghost use Rattle.capnp_pointers.specs.Sizes.{size_number};
+ghost use Rattle.capnp_words.specs.Sizes.{size_number};
 ghost use Rattle.capnp_readers.specs.Readers.{IsListPlace};
 ghost use Rattle.capnp_readers.specs.Sections.{data_bits, list_words};
 ghost use Rattle.capnp_builders.specs.Elements.{value_bits, WritesElement};
@@ -38,7 +38,8 @@ fn place_of(list: ExistingList) -> ListPlace
 
 /// How many words the elements of a list take, its tag aside.
 fn words_of(list: ExistingList) -> u64
-    ensures { result ≡ list_words list.size list.count (list.struct_size.data_words + list.struct_size.pointers) }
+    ensures { result ≡ list_words list.size list.count
+        (list.struct_size.data_words + list.struct_size.pointers) }
 {
     let count = u64::from(list.count);
     match list.size {
@@ -67,8 +68,11 @@ fn has_element<A: BuilderArena>(
 ) -> bool
     ensures inside { IsTrue result → IsListPlace (A.view arena.now).words (list_place list) }
     ensures there { IsTrue result → index < list.count }
-    ensures wide { IsTrue result → element_bits (size_number size) ≤ data_bits list.size list.struct_size }
-    ensures past { IsListPlace (A.view arena.now).words (list_place list) → element_bits (size_number size) ≤ data_bits list.size list.struct_size → index < list.count → IsTrue result }
+    ensures wide { IsTrue result → element_bits (size_number size)
+        ≤ data_bits list.size list.struct_size }
+    ensures past { IsListPlace (A.view arena.now).words (list_place list)
+        → element_bits (size_number size) ≤ data_bits list.size list.struct_size
+        → index < list.count → IsTrue result }
 {
     index < list.count
         && data_bits_per_element(size) <= bits_of(list)
@@ -85,9 +89,11 @@ fn put_element<A: BuilderArena>(
 )
     requires inside { IsListPlace (A.view list.old.arena.now).words list.old.place }
     requires there { index < list.old.place.count }
-    requires wide { element_bits (size_number size) ≤ data_bits list.old.place.size list.old.place.struct_size }
+    requires wide { element_bits (size_number size)
+        ≤ data_bits list.old.place.size list.old.place.struct_size }
     requires number { is_number_from 1 size value ≡ true }
-    ensures written { WritesElement (A.view list.old.arena.now) (A.view list.new.arena.now) list.old.place (value_bits list.old.place index size value) }
+    ensures written { WritesElement (A.view list.old.arena.now)
+        (A.view list.new.arena.now) list.old.place (value_bits list.old.place index size value) }
     ensures same { list.new.arena.ghost_name ≡ list.old.arena.ghost_name }
 {
     match size {
@@ -111,7 +117,8 @@ fn put_element_at<A: BuilderArena>(
     requires there { index < place.count }
     requires wide { element_bits (size_number size) ≤ data_bits place.size place.struct_size }
     requires number { is_number_from 1 size value ≡ true }
-    ensures { WritesElement (A.view arena.old) (A.view arena.new) place (value_bits place index size value) }
+    ensures { WritesElement (A.view arena.old) (A.view arena.new) place
+        (value_bits place index size value) }
 {
     put_element(&mut ListBuilder { arena, place }, size, index, value);
 }
@@ -126,7 +133,8 @@ fn set_element<A: BuilderArena>(
 ) -> Result<(), ErrorKind>
     requires number { is_number_from 1 size value ≡ true }
     requires looked { IfErr found (λ k. is_unfound k ≡ true) }
-    ensures put { PutsElement (A.view arena.old).words (A.view arena.new).words found size index value (refusal_of result) }
+    ensures put { PutsElement (A.view arena.old).words
+        (A.view arena.new).words found size index value (refusal_of result) }
     ensures limits { KeepsLimits (A.view arena.old) (A.view arena.new) }
     ensures named { IfErr result (λ k. is_of_place k ≡ true) }
     ensures kept { OnErr result (A.view arena.new ≡ A.view arena.old) }
@@ -150,7 +158,8 @@ fn write_byte<A: BuilderArena>(
 ) -> Result<(), ErrorKind>
     requires { IfErr found (λ k. is_unfound k ≡ true) }
     ensures byte { value < 256 }
-    ensures put { PutsByte (A.view arena.old).words (A.view arena.new).words found index value (refusal_of result) }
+    ensures put { PutsByte (A.view arena.old).words (A.view arena.new).words found index value
+        (refusal_of result) }
     ensures limits { KeepsLimits (A.view arena.old) (A.view arena.new) }
     ensures named { IfErr result (λ k. is_of_place k ≡ true) }
     ensures kept { OnErr result (A.view arena.new ≡ A.view arena.old) }
@@ -175,7 +184,8 @@ pub(crate) fn edit_content<A: BuilderArena>(
     requires there { IsPlace (A.view arena.old).words place.segment place.word }
     requires range { is_in_range op ≡ true }
     requires content { is_content op ≡ true }
-    ensures done { Does (A.view arena.old).words (A.view arena.new).words place op.entry (refusal_of result) }
+    ensures done { Does (A.view arena.old).words (A.view arena.new).words place op.entry
+        (refusal_of result) }
     ensures lengths { KeepsLengths (A.view arena.old).words (A.view arena.new).words }
     ensures limits { KeepsLimits (A.view arena.old) (A.view arena.new) }
     ensures named { IfErr result (λ k. is_of_place k ≡ true) }

@@ -45,7 +45,8 @@ fn put_number<A: BuilderArena, T: Primitive + Drop>(
     value: T,
 ) -> Result<(), ErrorKind>
     requires { LiesIn (A.view arena.old).words parent }
-    ensures put { PutsBits (A.view arena.old).words (A.view arena.new).words parent (number_field T.BYTES index (T.bits_of value)) (refusal_of result) }
+    ensures put { PutsBits (A.view arena.old).words (A.view arena.new).words parent
+        (number_field T.BYTES index (T.bits_of value)) (refusal_of result) }
     ensures limits { KeepsLimits (A.view arena.old) (A.view arena.new) }
     ensures named { IfErr result (λ k. k ≡ NoSuchPlace) }
     ensures kept { OnErr result (A.view arena.new ≡ A.view arena.old) }
@@ -73,7 +74,8 @@ fn put_field<A: BuilderArena>(
     value: u64,
 ) -> Result<(), ErrorKind>
     requires { LiesIn (A.view arena.old).words parent }
-    ensures put { WritesAt (A.view arena.old).words (A.view arena.new).words parent (SetField size index value) (refusal_of result) }
+    ensures put { WritesAt (A.view arena.old).words (A.view arena.new).words parent
+        (SetField size index value) (refusal_of result) }
     ensures limits { KeepsLimits (A.view arena.old) (A.view arena.new) }
     ensures named { IfErr result (λ k. k ≡ NoSuchPlace) }
     ensures kept { OnErr result (A.view arena.new ≡ A.view arena.old) }
@@ -98,7 +100,8 @@ fn put_bit<A: BuilderArena>(
     value: bool,
 ) -> Result<(), ErrorKind>
     requires { LiesIn (A.view arena.old).words parent }
-    ensures put { PutsBits (A.view arena.old).words (A.view arena.new).words parent (bit_at index value) (refusal_of result) }
+    ensures put { PutsBits (A.view arena.old).words (A.view arena.new).words parent
+        (bit_at index value) (refusal_of result) }
     ensures limits { KeepsLimits (A.view arena.old) (A.view arena.new) }
     ensures named { IfErr result (λ k. k ≡ NoSuchPlace) }
     ensures kept { OnErr result (A.view arena.new ≡ A.view arena.old) }
@@ -118,7 +121,8 @@ pub(crate) fn edit_struct<A: BuilderArena>(
     op: Op<'_>,
 ) -> Result<(), ErrorKind>
     requires { LiesIn (A.view arena.old).words parent }
-    ensures written { WritesAt (A.view arena.old).words (A.view arena.new).words parent op.entry (refusal_of result) }
+    ensures written { WritesAt (A.view arena.old).words (A.view arena.new).words parent op.entry
+        (refusal_of result) }
     ensures limits { KeepsLimits (A.view arena.old) (A.view arena.new) }
     ensures named { IfErr result (λ k. k ≡ NoSuchPlace) }
     ensures kept { OnErr result (A.view arena.new ≡ A.view arena.old) }

@@ -50,10 +50,16 @@ fn copy_over<A: BuilderArena, B: ReaderArena>(
 ) -> Result<(), ErrorKind>
     requires inside { IsStructPlace (A.view arena.old).words place }
     requires aligned { IsAligned place }
-    ensures copied { IfOk result (λ _. TakesContent B.ReaderArena value.now place (pointers_copied place (A.view arena.old) (A.view arena.new) lim.old lim.new)) }
-    ensures fits { ContentFits B.ReaderArena value.now place (pointers_copied place (A.view arena.old) (A.view arena.new) lim.old lim.new) → IsOk result }
-    ensures refused { IfErr result (StopsAtContent B.ReaderArena value.now place (pointers_copied place (A.view arena.old) (A.view arena.new) lim.old lim.new)) }
-    ensures taken { TakesForCopy B.ReaderArena result value.now place (pointers_copied place (A.view arena.old) (A.view arena.new) lim.old lim.new) }
+    ensures copied { IfOk result (λ _. TakesContent B.ReaderArena value.now place
+        (pointers_copied place (A.view arena.old) (A.view arena.new) lim.old lim.new)) }
+    ensures fits { ContentFits B.ReaderArena value.now place
+        (pointers_copied place (A.view arena.old) (A.view arena.new) lim.old lim.new)
+        → IsOk result }
+    ensures refused { IfErr result
+        (StopsAtContent B.ReaderArena value.now place
+        (pointers_copied place (A.view arena.old) (A.view arena.new) lim.old lim.new)) }
+    ensures taken { TakesForCopy B.ReaderArena result value.now place
+        (pointers_copied place (A.view arena.old) (A.view arena.new) lim.old lim.new) }
 {
     let mut builder = StructBuilder { arena, place };
     builder.copy_content_from(value, lim)
@@ -66,11 +72,16 @@ pub(crate) fn fill<A: BuilderArena>(
     source: Source<'_>,
 ) -> Result<(), ErrorKind>
     requires { LiesIn (A.view arena.old).words parent }
-    ensures filled { FillsAt (A.view arena.old).words (A.view arena.new).words (sections parent) source.entry (refusal_of result) }
-    ensures counted { (A.view arena.new).refusals ≡ refusals_after (refusal_of result) (A.view arena.old).refusals }
-    ensures named { IfErr result (IsContentRefused (A.view arena.old) (A.view arena.new) (sections parent) source.entry) }
-    ensures taken { TakesForContent (A.view arena.old) (A.view arena.new) (sections parent) source.entry (refusal_of result) }
-    ensures fits { ContentFitsBehind (A.view arena.old) parent.segment source.entry parent.size.pointers → IsOk result }
+    ensures filled { FillsAt (A.view arena.old).words (A.view arena.new).words
+        (sections parent) source.entry (refusal_of result) }
+    ensures counted { (A.view arena.new).refusals ≡ refusals_after (refusal_of result)
+        (A.view arena.old).refusals }
+    ensures named { IfErr result
+        (IsContentRefused (A.view arena.old) (A.view arena.new) (sections parent) source.entry) }
+    ensures taken { TakesForContent (A.view arena.old) (A.view arena.new)
+        (sections parent) source.entry (refusal_of result) }
+    ensures fits { ContentFitsBehind (A.view arena.old) parent.segment source.entry
+        parent.size.pointers → IsOk result }
 {
     let (root, mut lim) = match open_source(source) {
         Ok(opened) => opened,
@@ -93,11 +104,16 @@ pub(crate) fn edit_element<A: BuilderArena>(
     op: Op<'_>,
 ) -> Result<(), ErrorKind>
     requires { LiesIn (A.view arena.old).words parent }
-    ensures done { FillsOrWrites (A.view arena.old).words (A.view arena.new).words parent op.entry (refusal_of result) }
-    ensures counted { (A.view arena.new).refusals ≡ refusals_after (refusal_of result) (A.view arena.old).refusals }
-    ensures named { IfErr result (λ k. IsOfPlace (A.view arena.old) (A.view arena.new) k ⊎ IsElementRefused (A.view arena.old) (A.view arena.new) parent op.entry k) }
-    ensures fits { ElementFits (A.view arena.old) parent op.entry → IfErr result (λ k. is_of_place k ≡ true) }
-    ensures taken { TakesForElement (A.view arena.old) (A.view arena.new) parent op.entry (refusal_of result) }
+    ensures done { FillsOrWrites (A.view arena.old).words (A.view arena.new).words parent op.entry
+        (refusal_of result) }
+    ensures counted { (A.view arena.new).refusals ≡ refusals_after (refusal_of result)
+        (A.view arena.old).refusals }
+    ensures named { IfErr result (λ k. IsOfPlace (A.view arena.old) (A.view arena.new) k
+        ⊎ IsElementRefused (A.view arena.old) (A.view arena.new) parent op.entry k) }
+    ensures fits { ElementFits (A.view arena.old) parent op.entry
+        → IfErr result (λ k. is_of_place k ≡ true) }
+    ensures taken { TakesForElement (A.view arena.old) (A.view arena.new) parent op.entry
+        (refusal_of result) }
     ensures nowhere { refusal_of result ≡ Some NoSuchPlace → A.view arena.new ≡ A.view arena.old }
 {
     match op {

@@ -18,7 +18,8 @@ fn look<A: BuilderArena>(pointer: &mut PointerBuilder<'_, A>, op: Op<'_>) -> Res
     requires there { IsThere (built A.view pointer.old) }
     requires range { is_in_range op ≡ true }
     requires search { is_search op ≡ true }
-    ensures sought { IsSought (A.view pointer.old.arena.now) (A.view pointer.new.arena.now) (place_of pointer.old) op.entry (refusal_of result) }
+    ensures sought { IsSought (A.view pointer.old.arena.now) (A.view pointer.new.arena.now)
+        (place_of pointer.old) op.entry (refusal_of result) }
     ensures same { pointer.new.arena.ghost_name ≡ pointer.old.arena.ghost_name }
 {
     match op {
@@ -55,11 +56,16 @@ pub(crate) fn edit_search<A: BuilderArena>(
     requires there { IsPlace (A.view arena.old).words place.segment place.word }
     requires range { is_in_range op ≡ true }
     requires search { is_search op ≡ true }
-    ensures done { Does (A.view arena.old).words (A.view arena.new).words place op.entry (refusal_of result) }
-    ensures counted { (A.view arena.new).refusals ≡ refusals_after (refusal_of result) (A.view arena.old).refusals }
-    ensures named { IfErr result (IsRefusedAs (call_to place (A.view arena.old) (A.view arena.new)) op.entry) }
-    ensures taken { TakesFor (call_to place (A.view arena.old) (A.view arena.new)) op.entry (refusal_of result) }
-    ensures fits { OpFits (A.view arena.old) place op.entry → IfErr result (λ k. is_of_place k ≡ true) }
+    ensures done { Does (A.view arena.old).words (A.view arena.new).words place op.entry
+        (refusal_of result) }
+    ensures counted { (A.view arena.new).refusals ≡ refusals_after (refusal_of result)
+        (A.view arena.old).refusals }
+    ensures named { IfErr result
+        (IsRefusedAs (call_to place (A.view arena.old) (A.view arena.new)) op.entry) }
+    ensures taken { TakesFor (call_to place (A.view arena.old) (A.view arena.new)) op.entry
+        (refusal_of result) }
+    ensures fits { OpFits (A.view arena.old) place op.entry
+        → IfErr result (λ k. is_of_place k ≡ true) }
     ensures nowhere { refusal_of result ≡ Some NoSuchPlace → A.view arena.new ≡ A.view arena.old }
 {
     look_at(arena, place, op)

@@ -34,7 +34,8 @@ pub(crate) fn has_words<A: BuilderArena>(arena: &A, id: u32, words: u64) -> bool
 
 /// Where a pointer of a struct is, by its index.
 fn child_of<A: BuilderArena>(arena: &A, parent: ExistingStruct, i: u16) -> Option<Place>
-    ensures exactly { LieThereIf (A.view arena.now).words (child_in parent i) → result ≡ child_in parent i }
+    ensures exactly { LieThereIf (A.view arena.now).words (child_in parent i)
+        → result ≡ child_in parent i }
     ensures inside { IfSome result (LieThere (A.view arena.now).words) }
 {
     let at = u64::from(parent.start) + u64::from(parent.size.data_words) + u64::from(i);
@@ -50,7 +51,8 @@ fn child_of<A: BuilderArena>(arena: &A, parent: ExistingStruct, i: u16) -> Optio
 
 /// Where an element of a list is, by its index, if it is a pointer or a struct.
 fn element_of<A: BuilderArena>(arena: &A, list: ExistingList, i: u32) -> Option<Place>
-    ensures exactly { LieThereIf (A.view arena.now).words (element_in list i) → result ≡ element_in list i }
+    ensures exactly { LieThereIf (A.view arena.now).words (element_in list i)
+        → result ≡ element_in list i }
     ensures inside { IfSome result (LieThere (A.view arena.now).words) }
 {
     match list.size {
@@ -108,7 +110,8 @@ fn step_from<A: BuilderArena>(arena: &A, here: Place, step: Step) -> Option<Plac
 /// Where a path leads from the root, if anywhere.
 pub(crate) fn find<A: BuilderArena>(arena: &A, path: &[Step]) -> Option<Place>
     requires { IsPlace (A.view arena.now).words 0 0 }
-    ensures found { (t : Tree) → IsStored (A.view arena.now).words 0 0 t → IsFound (A.view arena.now).words 0 0 t (path_of path.now) result }
+    ensures found { (t : Tree) → IsStored (A.view arena.now).words 0 0 t
+        → IsFound (A.view arena.now).words 0 0 t (path_of path.now) result }
     ensures inside { IfSome result (LieThere (A.view arena.now).words) }
 {
     let mut here = Place::Pointer(PointerPlace {

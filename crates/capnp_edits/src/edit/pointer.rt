@@ -115,7 +115,8 @@ fn set<A: BuilderArena>(pointer: &mut PointerBuilder<'_, A>, op: Op<'_>) -> Resu
     requires made { is_search op ≡ false }
     requires uncopied { copied_by op ≡ None }
     requires set { is_init op ≡ false }
-    ensures put { IsPut (A.view pointer.old.arena.now) (A.view pointer.new.arena.now) (place_of pointer.old) op.entry (refusal_of result) }
+    ensures put { IsPut (A.view pointer.old.arena.now) (A.view pointer.new.arena.now)
+        (place_of pointer.old) op.entry (refusal_of result) }
     ensures same { pointer.new.arena.ghost_name ≡ pointer.old.arena.ghost_name }
 {
     match op {
@@ -141,7 +142,8 @@ fn put<A: BuilderArena>(pointer: &mut PointerBuilder<'_, A>, op: Op<'_>) -> Resu
     requires new { is_content op ≡ false }
     requires made { is_search op ≡ false }
     requires uncopied { copied_by op ≡ None }
-    ensures put { IsPut (A.view pointer.old.arena.now) (A.view pointer.new.arena.now) (place_of pointer.old) op.entry (refusal_of result) }
+    ensures put { IsPut (A.view pointer.old.arena.now) (A.view pointer.new.arena.now)
+        (place_of pointer.old) op.entry (refusal_of result) }
     ensures same { pointer.new.arena.ghost_name ≡ pointer.old.arena.ghost_name }
 {
     match op {
@@ -179,11 +181,17 @@ pub(crate) fn edit_pointer<A: BuilderArena>(
     op: Op<'_>,
 ) -> Result<(), ErrorKind>
     requires { IsPlace (A.view arena.old).words place.segment place.word }
-    ensures done { Does (A.view arena.old).words (A.view arena.new).words place op.entry (refusal_of result) }
-    ensures counted { (A.view arena.new).refusals ≡ refusals_after (refusal_of result) (A.view arena.old).refusals }
-    ensures named { IfErr result (IsRefusedAs (call_to place (A.view arena.old) (A.view arena.new)) op.entry) }
-    ensures taken { (refusal_of result ≡ Some NoSuchPlace → ⊥) → TakesFor (call_to place (A.view arena.old) (A.view arena.new)) op.entry (refusal_of result) }
-    ensures fits { OpFits (A.view arena.old) place op.entry → IfErr result (λ k. is_of_place k ≡ true) }
+    ensures done { Does (A.view arena.old).words (A.view arena.new).words place op.entry
+        (refusal_of result) }
+    ensures counted { (A.view arena.new).refusals ≡ refusals_after (refusal_of result)
+        (A.view arena.old).refusals }
+    ensures named { IfErr result
+        (IsRefusedAs (call_to place (A.view arena.old) (A.view arena.new)) op.entry) }
+    ensures taken { (refusal_of result ≡ Some NoSuchPlace → ⊥)
+        → TakesFor (call_to place (A.view arena.old) (A.view arena.new)) op.entry
+        (refusal_of result) }
+    ensures fits { OpFits (A.view arena.old) place op.entry
+        → IfErr result (λ k. is_of_place k ≡ true) }
     ensures nowhere { refusal_of result ≡ Some NoSuchPlace → A.view arena.new ≡ A.view arena.old }
 {
     if is_on_field(op) {

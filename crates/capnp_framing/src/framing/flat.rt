@@ -66,8 +66,10 @@ pub fn read_from_flat_slice(
 ) -> Result<Option<FrameSegments<'_>>, FrameError>
     ensures end { result ≡ Ok None → bytes.now ≡ [] }
     ensures read { IfOk result (λ m. IfSome m (λ f.
-        BeginsWithFrame bytes.now max_words (message (⟦<FrameSegments<'static> as ReaderSegments>⟧.segments f)))) }
-    ensures small { IfOk result (λ m. IfSome m (λ f. IsSmall (⟦<FrameSegments<'static> as ReaderSegments>⟧.segments f))) }
+        BeginsWithFrame bytes.now max_words
+        (message (⟦<FrameSegments<'static> as ReaderSegments>⟧.segments f)))) }
+    ensures small { IfOk result (λ m.
+        IfSome m (λ f. IsSmall (⟦<FrameSegments<'static> as ReaderSegments>⟧.segments f))) }
     ensures refused { IfErr result (NoFrame bytes.now max_words) }
 {
     if bytes.is_empty() {

@@ -26,7 +26,8 @@ const TABLE_BYTES: usize = 2052;
 fn read_up_to<R: Input>(input: &mut R, to: &mut [u8]) -> Result<usize, DeviceFault>
     requires { R.has_failed input.old ≡ false }
     ensures within { IfOk result (λ n. n ≤ length to.new) }
-    ensures bytes { IfOk result (λ n. Consumes (R.remaining input.old) (R.remaining input.new) (take n to.new)) }
+    ensures bytes { IfOk result (λ n. Consumes (R.remaining input.old) (R.remaining input.new)
+        (take n to.new)) }
     ensures end { IfOk result (λ n. n < length to.new → IsAtEnd (R.remaining input.new)) }
     ensures long { length to.new ≡ length to.old }
     ensures works { OnOk result (R.has_failed input.new ≡ false) }
@@ -62,10 +63,12 @@ fn fill<R: Input>(input: &mut R, to: &mut [u8]) -> Result<(), FrameError>
 /// Reads so many bytes.
 fn read_segment<R: Input>(alloc: Global, input: &mut R, size: usize) -> Result<Vec<u8>, FrameError>
     requires { R.has_failed input.old ≡ false }
-    ensures bytes { IfOk result (λ v. Consumes (R.remaining input.old) (R.remaining input.new) v.items) }
+    ensures bytes { IfOk result (λ v. Consumes (R.remaining input.old)
+        (R.remaining input.new) v.items) }
     ensures long { IfOk result (λ v. length v.items ≡ size) }
     ensures works { OnOk result (R.has_failed input.new ≡ false) }
-    ensures refused { IfErr result (λ e. (e ≡ AllocationFailed) ⊎ WhyUnread R.Input input.old input.new size e) }
+    ensures refused { IfErr result (λ e. (e ≡ AllocationFailed)
+        ⊎ WhyUnread R.Input input.old input.new size e) }
     ensures failed { IfErr result (λ e. R.has_failed input.new ≡ true → e ≡ ReadFailed) }
 {
     let mut bytes = Vec::new(alloc);
@@ -127,14 +130,19 @@ fn read_segments<R: Input>(
     requires works { R.has_failed input.old ≡ false }
     requires inside { 4 * count ≤ length table.now }
     requires few { count ≤ 512 }
-    ensures bytes { IfOk result (λ v. Consumes (R.remaining input.old) (R.remaining input.new) (contents (message (map vec_items v.items)))) }
-    ensures lengths { IfOk result (λ v. lengths (message (map vec_items v.items)) ≡ take (4 * count) table.now) }
+    ensures bytes { IfOk result (λ v. Consumes (R.remaining input.old) (R.remaining input.new)
+        (contents (message (map vec_items v.items)))) }
+    ensures lengths { IfOk result (λ v. lengths (message (map vec_items v.items))
+        ≡ take (4 * count) table.now) }
     ensures count { IfOk result (λ v. length (message (map vec_items v.items)) ≡ count) }
     ensures words { IfOk result (λ v. All AreWords (message (map vec_items v.items))) }
-    ensures short { IfOk result (λ v. All (λ ws. length ws < 2 ^ 32) (message (map vec_items v.items))) }
-    ensures total { IfOk result (λ v. total (message (map vec_items v.items)) ≡ words_told count table.now) }
+    ensures short { IfOk result (λ v. All (λ ws. length ws < 2 ^ 32)
+        (message (map vec_items v.items))) }
+    ensures total { IfOk result (λ v. total (message (map vec_items v.items))
+        ≡ words_told count table.now) }
     ensures works { OnOk result (R.has_failed input.new ≡ false) }
-    ensures refused { IfErr result (λ e. (e ≡ AllocationFailed) ⊎ WhyUnread R.Input input.old input.new (8 * words_told count table.now) e) }
+    ensures refused { IfErr result (λ e. (e ≡ AllocationFailed)
+        ⊎ WhyUnread R.Input input.old input.new (8 * words_told count table.now) e) }
     ensures failed { IfErr result (λ e. R.has_failed input.new ≡ true → e ≡ ReadFailed) }
 {
     let mut segments = Vec::new(alloc);
@@ -170,11 +178,18 @@ pub fn read<R: Input>(
 ) -> Result<Option<OwnedSegments>, FrameError>
     requires { R.has_failed input.old ≡ false }
     ensures end { result ≡ Ok None → IsAtEnd (R.remaining input.old) }
-    ensures read { IfOk result (λ m. IfSome m (λ owned. IsFrameRead R.Input input.old input.new (message (⟦<OwnedSegments as ReaderSegments>⟧.segments owned)))) }
-    ensures most { IfOk result (λ m. IfSome m (λ owned. total (message (⟦<OwnedSegments as ReaderSegments>⟧.segments owned)) ≤ max_words)) }
-    ensures small { IfOk result (λ m. IfSome m (λ owned. IsSmall (⟦<OwnedSegments as ReaderSegments>⟧.segments owned))) }
+    ensures read { IfOk result (λ m.
+        IfSome m (λ owned. IsFrameRead R.Input input.old input.new
+        (message (⟦<OwnedSegments as ReaderSegments>⟧.segments owned)))) }
+    ensures most { IfOk result (λ m.
+        IfSome m (λ owned. total (message (⟦<OwnedSegments as ReaderSegments>⟧.segments owned))
+        ≤ max_words)) }
+    ensures small { IfOk result (λ m.
+        IfSome m (λ owned. IsSmall (⟦<OwnedSegments as ReaderSegments>⟧.segments owned))) }
     ensures works { OnOk result (R.has_failed input.new ≡ false) }
-    ensures refused { IfErr result (λ e. (e ≡ AllocationFailed) ⊎ ((e ≡ ReadFailed) × (R.has_failed input.new ≡ true)) ⊎ IfSome (R.remaining input.old) (λ bytes. NoFrame bytes max_words e)) }
+    ensures refused { IfErr result (λ e. (e ≡ AllocationFailed)
+        ⊎ ((e ≡ ReadFailed) × (R.has_failed input.new ≡ true))
+        ⊎ IfSome (R.remaining input.old) (λ bytes. NoFrame bytes max_words e)) }
     ensures failed { IfErr result (λ e. R.has_failed input.new ≡ true → e ≡ ReadFailed) }
 {
     let mut first = [0u8; 4];

@@ -22,7 +22,8 @@ const TABLE_BYTES: usize = 2056;
 /// The whole words of a segment. None where there is no such segment.
 fn words_in<S: ReaderSegments>(segments: &S, id: u32) -> &[u8]
     requires small { IsSmall (S.segments segments.now) }
-    ensures words { id < length (S.segments segments.now) → words_of result.now ≡ segment (message (S.segments segments.now)) id }
+    ensures words { id < length (S.segments segments.now)
+        → words_of result.now ≡ segment (message (S.segments segments.now)) id }
     ensures whole { length result.now ≡ 8 * length (words_of result.now) }
     ensures short { length (words_of result.now) < 2 ^ 32 }
 {
@@ -47,7 +48,8 @@ fn put_table<S: ReaderSegments>(segments: &S, count: u32, to: &mut [u8])
     requires some { 1 ≤ count }
     requires few { count ≤ max_segments }
     requires zeros { to.old ≡ replicate 2056 0 }
-    ensures { to.new ≡ to_le_bytes w32 (count - 1) ++ (lengths (message (S.segments segments.now)) ++ replicate (2052 - 4 * count) 0) }
+    ensures { to.new ≡ to_le_bytes w32 (count - 1)
+        ++ (lengths (message (S.segments segments.now)) ++ replicate (2052 - 4 * count) 0) }
 {
     put_number(to, 0, count - 1);
     for i in 0..count {
@@ -67,7 +69,9 @@ fn write_table<W: Output, S: ReaderSegments>(
     requires count { count ≡ length (S.segments segments.now) }
     requires some { 1 ≤ count }
     requires few { count ≤ max_segments }
-    ensures written { OnOk result (Prints W.Output output.old output.new (to_le_bytes w32 (count - 1) ++ (lengths (message (S.segments segments.now)) ++ replicate (padding_size count) 0))) }
+    ensures written { OnOk result (Prints W.Output output.old output.new
+        (to_le_bytes w32 (count - 1)
+        ++ (lengths (message (S.segments segments.now)) ++ replicate (padding_size count) 0))) }
     ensures works { OnOk result (W.has_failed output.new ≡ false) }
     ensures fails { OnErr result (W.has_failed output.new ≡ true) }
 {
@@ -80,7 +84,8 @@ fn write_table<W: Output, S: ReaderSegments>(
 fn write_words<W: Output>(output: &mut W, words: &[u8]) -> Result<(), DeviceFault>
     requires works { W.has_failed output.old ≡ false }
     requires whole { length words.now ≡ 8 * length (words_of words.now) }
-    ensures written { OnOk result (Prints W.Output output.old output.new (bytes_of_words (words_of words.now))) }
+    ensures written { OnOk result (Prints W.Output output.old output.new
+        (bytes_of_words (words_of words.now))) }
     ensures words { AreWords (words_of words.now) }
     ensures works { OnOk result (W.has_failed output.new ≡ false) }
     ensures fails { OnErr result (W.has_failed output.new ≡ true) }
@@ -97,7 +102,8 @@ fn write_contents<W: Output, S: ReaderSegments>(
     requires works { W.has_failed output.old ≡ false }
     requires small { IsSmall (S.segments segments.now) }
     requires count { count ≡ length (S.segments segments.now) }
-    ensures written { OnOk result (Prints W.Output output.old output.new (contents (message (S.segments segments.now)))) }
+    ensures written { OnOk result (Prints W.Output output.old output.new
+        (contents (message (S.segments segments.now)))) }
     ensures words { OnOk result (All AreWords (message (S.segments segments.now))) }
     ensures works { OnOk result (W.has_failed output.new ≡ false) }
     ensures fails { OnErr result (W.has_failed output.new ≡ true) }
@@ -116,10 +122,13 @@ fn write_contents<W: Output, S: ReaderSegments>(
 pub fn write<W: Output, S: ReaderSegments>(output: &mut W, segments: &S) -> Result<(), FrameError>
     requires works { W.has_failed output.old ≡ false }
     requires small { IsSmall (S.segments segments.now) }
-    ensures written { OnOk result (Prints W.Output output.old output.new (frame (message (S.segments segments.now)))) }
+    ensures written { OnOk result (Prints W.Output output.old output.new
+        (frame (message (S.segments segments.now)))) }
     ensures framed { OnOk result (CanBeFramed (message (S.segments segments.now))) }
     ensures works { OnOk result (W.has_failed output.new ≡ false) }
-    ensures refused { IfErr result (λ e. (e ≡ WriteFailed) ⊎ (IsRefusedNumber (length (S.segments segments.now)) e × IsUnwritten W.Output output.old output.new)) }
+    ensures refused { IfErr result (λ e. (e ≡ WriteFailed)
+        ⊎ (IsRefusedNumber (length (S.segments segments.now)) e
+        × IsUnwritten W.Output output.old output.new)) }
     ensures failed { result ≡ Err WriteFailed → W.has_failed output.new ≡ true }
 {
     let count = segments.len();

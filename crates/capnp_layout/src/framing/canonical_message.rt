@@ -24,11 +24,15 @@ fn read_root<'a, S: ReaderSegments>(
     arena: &'a ReaderArenaImpl<S>,
     lim: &mut ReadLimiter,
 ) -> Result<PointerReader<'a, ReaderArenaImpl<S>>, ErrorKind>
-    ensures exactly { IsOk result ↔ CoversRoot (message (⟦<ReaderArenaImpl<S> as ReaderArena>⟧.segments arena.now)) lim.old.left }
+    ensures exactly { IsOk result ↔ CoversRoot
+        (message (⟦<ReaderArenaImpl<S> as ReaderArena>⟧.segments arena.now)) lim.old.left }
     ensures place { IfOk result (λ root. reading ⟦<ReaderArenaImpl<S> as ReaderArena>⟧ root
-        ≡ root_of (message (⟦<ReaderArenaImpl<S> as ReaderArena>⟧.segments arena.now)) (levels arena.now.nesting_limit)) }
+        ≡ root_of (message (⟦<ReaderArenaImpl<S> as ReaderArena>⟧.segments arena.now))
+        (levels arena.now.nesting_limit)) }
     ensures charged { OnOk result (lim.new ≡ spent lim.old 1) }
-    ensures refused { IfErr result (λ k. RefusesRoot (message (⟦<ReaderArenaImpl<S> as ReaderArena>⟧.segments arena.now)) lim.old.left k
+    ensures refused { IfErr result
+        (λ k. RefusesRoot (message (⟦<ReaderArenaImpl<S> as ReaderArena>⟧.segments arena.now))
+        lim.old.left k
         × (lim.new ≡ lim.old)) }
 {
     PointerReader::get_root_from_arena(arena, lim)
@@ -43,14 +47,19 @@ fn is_canonical_segment<S: ReaderSegments>(
     ensures exactly { IfOk result (λ yes. IsTrue yes
         ↔ IsCanonical (message (⟦<ReaderArenaImpl<S> as ReaderArena>⟧.segments arena.now))) }
     ensures paid { result ≡ Ok true →
-        IsPaid (message (⟦<ReaderArenaImpl<S> as ReaderArena>⟧.segments arena.now)) lim.old lim.new }
-    ensures answered { CanBeTested (message (⟦<ReaderArenaImpl<S> as ReaderArena>⟧.segments arena.now)) (levels arena.now.nesting_limit) lim.old
+        IsPaid (message (⟦<ReaderArenaImpl<S> as ReaderArena>⟧.segments arena.now))
+        lim.old lim.new }
+    ensures answered { CanBeTested (message
+        (⟦<ReaderArenaImpl<S> as ReaderArena>⟧.segments arena.now))
+        (levels arena.now.nesting_limit) lim.old
         → IsOk result }
     ensures failed { result ≡ Ok false →
-        MessageTestFails (message (⟦<ReaderArenaImpl<S> as ReaderArena>⟧.segments arena.now)) (levels arena.now.nesting_limit)
+        MessageTestFails (message (⟦<ReaderArenaImpl<S> as ReaderArena>⟧.segments arena.now))
+        (levels arena.now.nesting_limit)
         lim.old lim.new }
     ensures refused { IfErr result (
-        RefusesTest (message (⟦<ReaderArenaImpl<S> as ReaderArena>⟧.segments arena.now)) (levels arena.now.nesting_limit)
+        RefusesTest (message (⟦<ReaderArenaImpl<S> as ReaderArena>⟧.segments arena.now))
+        (levels arena.now.nesting_limit)
         lim.old lim.new) }
 {
     let root = read_root(arena, lim)?;
@@ -78,14 +87,20 @@ pub fn is_canonical_message<S: ReaderSegments>(
     ensures unread { (length (⟦<ReaderArenaImpl<S> as ReaderArena>⟧.segments arena.now) ≡ 1 → ⊥)
         → (result ≡ Ok false) × (lim.new ≡ lim.old) }
     ensures paid { result ≡ Ok true →
-        IsPaid (message (⟦<ReaderArenaImpl<S> as ReaderArena>⟧.segments arena.now)) lim.old lim.new }
-    ensures answered { CanBeTested (message (⟦<ReaderArenaImpl<S> as ReaderArena>⟧.segments arena.now)) (levels arena.now.nesting_limit) lim.old
+        IsPaid (message (⟦<ReaderArenaImpl<S> as ReaderArena>⟧.segments arena.now))
+        lim.old lim.new }
+    ensures answered { CanBeTested (message
+        (⟦<ReaderArenaImpl<S> as ReaderArena>⟧.segments arena.now))
+        (levels arena.now.nesting_limit) lim.old
         → IsOk result }
-    ensures failed { result ≡ Ok false → length (⟦<ReaderArenaImpl<S> as ReaderArena>⟧.segments arena.now) ≡ 1 →
-        MessageTestFails (message (⟦<ReaderArenaImpl<S> as ReaderArena>⟧.segments arena.now)) (levels arena.now.nesting_limit)
+    ensures failed { result ≡ Ok false
+        → length (⟦<ReaderArenaImpl<S> as ReaderArena>⟧.segments arena.now) ≡ 1 →
+        MessageTestFails (message (⟦<ReaderArenaImpl<S> as ReaderArena>⟧.segments arena.now))
+        (levels arena.now.nesting_limit)
         lim.old lim.new }
     ensures refused { IfErr result (
-        RefusesTest (message (⟦<ReaderArenaImpl<S> as ReaderArena>⟧.segments arena.now)) (levels arena.now.nesting_limit)
+        RefusesTest (message (⟦<ReaderArenaImpl<S> as ReaderArena>⟧.segments arena.now))
+        (levels arena.now.nesting_limit)
         lim.old lim.new) }
 {
     if has_one_segment(arena) {

@@ -52,11 +52,13 @@ fn write_segment<W: Output>(
     made: &BuilderArenaImpl<HeapAllocator>,
 ) -> Result<(), CanonicalError>
     requires works { W.has_failed output.old ≡ false }
-    requires single { length (⟦<BuilderArenaImpl<HeapAllocator> as ReaderArena>⟧.segments made.now) ≡ 1 }
+    requires single { length (⟦<BuilderArenaImpl<HeapAllocator> as ReaderArena>⟧.segments made.now)
+        ≡ 1 }
     ensures written { OnOk result (Prints W.Output output.old output.new
         (frame (⟦<BuilderArenaImpl<HeapAllocator> as BuilderArena>⟧.view made.now).words)) }
     ensures works { OnOk result (W.has_failed output.new ≡ false) }
-    ensures refused { IfErr result (λ e. (e ≡ CanonicalError.Frame WriteFailed) × (W.has_failed output.new ≡ true)) }
+    ensures refused { IfErr result (λ e. (e ≡ CanonicalError.Frame WriteFailed)
+        × (W.has_failed output.new ≡ true)) }
 {
     match made.get_segments_for_output() {
         Ok(segments) => match write(output, &segments) {
@@ -85,7 +87,8 @@ pub fn write_canonical<W: Output, B: ReaderArena>(
         × Prints W.Output output.old output.new (frame (encoding (trim t) ∷ []))) }
     ensures works { OnOk result (W.has_failed output.new ≡ false) }
     ensures layout { IfErr result (λ e. (k : ErrorKind) → e ≡ CanonicalError.Layout k →
-        ((k ≡ AllocationFailed) ⊎ RefusesCopy (reading B.ReaderArena from.entry) lim.old.left max_segment_words k)
+        ((k ≡ AllocationFailed)
+        ⊎ RefusesCopy (reading B.ReaderArena from.entry) lim.old.left max_segment_words k)
         × IsUnwritten W.Output output.old output.new) }
     ensures frame { IfErr result (λ e. (f : FrameError) → e ≡ CanonicalError.Frame f →
         (f ≡ WriteFailed) × (W.has_failed output.new ≡ true)) }

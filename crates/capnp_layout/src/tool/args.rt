@@ -68,7 +68,8 @@ fn without_limits(command: &str) -> Option<Args>
 /// What a command asks for within limits.
 fn within_limits(command: &str, options: ReaderOptions) -> Option<Args>
     ensures read { IfSome result (IsNamed command.now options) }
-    ensures none { IsNone result → (a : Args) (limits : ReaderOptions) → IsNamed command.now limits a → ⊥ }
+    ensures none { IsNone result → (a : Args) (limits : ReaderOptions)
+        → IsNamed command.now limits a → ⊥ }
 {
     if command == "canon" {
         Some(Args::Canon(options))

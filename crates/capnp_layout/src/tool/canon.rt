@@ -48,10 +48,14 @@ fn copy_root<A: BuilderArena, B: ReaderArena>(
     left: Option<usize>,
 ) -> Result<Option<usize>, ErrorKind>
     requires root { (A.view arena.old).words ≡ (0 ∷ []) ∷ [] }
-    ensures copied { IfOk result (λ after. (t : Tree) × IsRead (reading B.ReaderArena from.entry) left after t × IsMadeWhereAlone (A.view arena.new) t) }
+    ensures copied { IfOk result (λ after. (t : Tree)
+        × IsRead (reading B.ReaderArena from.entry) left after t
+        × IsMadeWhereAlone (A.view arena.new) t) }
     ensures room { OnOk result ((A.view arena.new).room 0 ≡ (A.view arena.old).room 0) }
-    ensures alone { OnOk result (IsAloneOr (A.view arena.new) (IsTooLarge canonical (reading B.ReaderArena from.entry) 1 ((A.view arena.old).room 0))) }
-    ensures refused { IfErr result (RefusesCopyAnywhere (reading B.ReaderArena from.entry) left ((A.view arena.old).room 0)) }
+    ensures alone { OnOk result (IsAloneOr (A.view arena.new)
+        (IsTooLarge canonical (reading B.ReaderArena from.entry) 1 ((A.view arena.old).room 0))) }
+    ensures refused { IfErr result
+        (RefusesCopyAnywhere (reading B.ReaderArena from.entry) left ((A.view arena.old).room 0)) }
 {
     let mut lim = ReadLimiter::new(left);
     let mut root = PointerBuilder::get_root(arena);
@@ -71,8 +75,11 @@ fn copy_to_segment<A: Allocator, B: ReaderArena>(
 ) -> Result<Option<usize>, ErrorKind>
     requires root { (⟦<BuilderArenaImpl<A> as BuilderArena>⟧.view arena.old).words ≡ (0 ∷ []) ∷ [] }
     requires room { room ≤ (⟦<BuilderArenaImpl<A> as BuilderArena>⟧.view arena.old).room 0 }
-    ensures copied { IfOk result (λ after. (t : Tree) × IsRead (reading B.ReaderArena from.entry) left after t × IsMade (⟦<BuilderArenaImpl<A> as BuilderArena>⟧.view arena.new) t) }
-    ensures room { OnOk result ((⟦<BuilderArenaImpl<A> as BuilderArena>⟧.view arena.new).room 0 ≡ (⟦<BuilderArenaImpl<A> as BuilderArena>⟧.view arena.old).room 0) }
+    ensures copied { IfOk result (λ after. (t : Tree)
+        × IsRead (reading B.ReaderArena from.entry) left after t
+        × IsMade (⟦<BuilderArenaImpl<A> as BuilderArena>⟧.view arena.new) t) }
+    ensures room { OnOk result ((⟦<BuilderArenaImpl<A> as BuilderArena>⟧.view arena.new).room 0
+        ≡ (⟦<BuilderArenaImpl<A> as BuilderArena>⟧.view arena.old).room 0) }
     ensures refused { IfErr result (RefusesCopy (reading B.ReaderArena from.entry) left room) }
 {
     let too_large = ErrorKind::MessageTooLarge(room as usize);
@@ -103,13 +110,20 @@ fn make_message<A: Allocator>(
 ) -> Result<BuilderArenaImpl<A>, (ErrorKind, A)>
     requires some { 1 ≤ room }
     requires most { room ≤ max_segment_words }
-    ensures root { IfOk result (λ made. (⟦<BuilderArenaImpl<A> as BuilderArena>⟧.view made).words ≡ (0 ∷ []) ∷ []) }
-    ensures room { IfOk result (λ made. room ≤ (⟦<BuilderArenaImpl<A> as BuilderArena>⟧.view made).room 0) }
-    ensures asked { IfOk result (λ made. IsTrue (A.offers allocator room ((⟦<BuilderArenaImpl<A> as BuilderArena>⟧.view made).room 0))) }
-    ensures granted { IfOk result (λ made. (⟦<BuilderArenaImpl<A> as BuilderArena>⟧.view made).refusals ≡ A.refusals allocator) }
-    ensures offers { IfOk result (λ made. (⟦<BuilderArenaImpl<A> as BuilderArena>⟧.view made).offers ≡ A.offers allocator) }
+    ensures root { IfOk result (λ made. (⟦<BuilderArenaImpl<A> as BuilderArena>⟧.view made).words
+        ≡ (0 ∷ []) ∷ []) }
+    ensures room { IfOk result (λ made.
+        room ≤ (⟦<BuilderArenaImpl<A> as BuilderArena>⟧.view made).room 0) }
+    ensures asked { IfOk result (λ made.
+        IsTrue (A.offers allocator room
+        ((⟦<BuilderArenaImpl<A> as BuilderArena>⟧.view made).room 0))) }
+    ensures granted { IfOk result (λ made.
+        (⟦<BuilderArenaImpl<A> as BuilderArena>⟧.view made).refusals ≡ A.refusals allocator) }
+    ensures offers { IfOk result (λ made. (⟦<BuilderArenaImpl<A> as BuilderArena>⟧.view made).offers
+        ≡ A.offers allocator) }
     ensures given_back { IfErr result (λ e. A.offers e.1 ≡ A.offers allocator) }
-    ensures refused { IfErr result (λ e. (e.0 ≡ AllocationFailed) × (A.refusals e.1 ≡ one_more (A.refusals allocator))) }
+    ensures refused { IfErr result (λ e. (e.0 ≡ AllocationFailed)
+        × (A.refusals e.1 ≡ one_more (A.refusals allocator))) }
 {
     let mut made = BuilderArenaImpl::new(alloc, allocator);
     match made.allocate_segment(room) {
@@ -133,11 +147,18 @@ fn copy_to_message<A: Allocator, B: ReaderArena>(
 ) -> Result<(BuilderArenaImpl<A>, Option<usize>), (ErrorKind, A)>
     requires some { 1 ≤ room }
     requires most { room ≤ max_segment_words }
-    ensures copied { IfOk result (λ x. (t : Tree) × IsRead (reading B.ReaderArena from.entry) left x.1 t × IsMade (⟦<BuilderArenaImpl<A> as BuilderArena>⟧.view x.0) t) }
-    ensures asked { IfOk result (λ x. IsTrue (A.offers allocator room ((⟦<BuilderArenaImpl<A> as BuilderArena>⟧.view x.0).room 0))) }
-    ensures granted { IfOk result (λ x. (⟦<BuilderArenaImpl<A> as BuilderArena>⟧.view x.0).refusals ≡ A.refusals allocator) }
+    ensures copied { IfOk result (λ x. (t : Tree)
+        × IsRead (reading B.ReaderArena from.entry) left x.1 t
+        × IsMade (⟦<BuilderArenaImpl<A> as BuilderArena>⟧.view x.0) t) }
+    ensures asked { IfOk result (λ x.
+        IsTrue (A.offers allocator room
+        ((⟦<BuilderArenaImpl<A> as BuilderArena>⟧.view x.0).room 0))) }
+    ensures granted { IfOk result (λ x. (⟦<BuilderArenaImpl<A> as BuilderArena>⟧.view x.0).refusals
+        ≡ A.refusals allocator) }
     ensures given_back { IfErr result (λ e. A.offers e.1 ≡ A.offers allocator) }
-    ensures refused { IfErr result (λ e. LacksMemoryOr (A.refusals allocator) (A.refusals e.1) e.0 (RefusesCopy (reading B.ReaderArena from.entry) left room e.0)) }
+    ensures refused { IfErr result
+        (λ e. LacksMemoryOr (A.refusals allocator) (A.refusals e.1) e.0
+        (RefusesCopy (reading B.ReaderArena from.entry) left room e.0)) }
 {
     let made = make_message(alloc, allocator, room)?;
     let (mut segments, allocator) = made.without_allocator();
@@ -185,11 +206,17 @@ pub(crate) fn copy_in_tries<A: Allocator, B: ReaderArena>(
     left: Option<usize>,
     words: usize,
 ) -> Result<(BuilderArenaImpl<A>, Option<usize>), (ErrorKind, A)>
-    ensures copied { IfOk result (λ x. (t : Tree) × IsRead (reading B.ReaderArena from.entry) left x.1 t × IsMade (⟦<BuilderArenaImpl<A> as BuilderArena>⟧.view x.0) t) }
-    ensures tries { IfOk result (λ x. IsMadeByFirstTry (reading B.ReaderArena from.entry) words (A.offers allocator)
+    ensures copied { IfOk result (λ x. (t : Tree)
+        × IsRead (reading B.ReaderArena from.entry) left x.1 t
+        × IsMade (⟦<BuilderArenaImpl<A> as BuilderArena>⟧.view x.0) t) }
+    ensures tries { IfOk result (λ x. IsMadeByFirstTry (reading B.ReaderArena from.entry) words
+        (A.offers allocator)
         ((⟦<BuilderArenaImpl<A> as BuilderArena>⟧.view x.0).room 0)) }
-    ensures granted { IfOk result (λ x. (⟦<BuilderArenaImpl<A> as BuilderArena>⟧.view x.0).refusals ≡ A.refusals allocator) }
-    ensures refused { IfErr result (λ e. LacksMemoryOr (A.refusals allocator) (A.refusals e.1) e.0 (RefusesCopy (reading B.ReaderArena from.entry) left max_segment_words e.0)) }
+    ensures granted { IfOk result (λ x. (⟦<BuilderArenaImpl<A> as BuilderArena>⟧.view x.0).refusals
+        ≡ A.refusals allocator) }
+    ensures refused { IfErr result
+        (λ e. LacksMemoryOr (A.refusals allocator) (A.refusals e.1) e.0
+        (RefusesCopy (reading B.ReaderArena from.entry) left max_segment_words e.0)) }
 {
     let mut room = first_room(words);
     let mut unused = allocator;
@@ -215,11 +242,17 @@ fn make_in_tries<A: Allocator, B: ReaderArena>(
     left: Option<usize>,
     words: usize,
 ) -> Result<BuilderArenaImpl<A>, (ErrorKind, A)>
-    ensures copied { IfOk result (λ made. (after : Option ℕ) × (t : Tree) × IsRead (reading B.ReaderArena from.entry) left after t × IsMade (⟦<BuilderArenaImpl<A> as BuilderArena>⟧.view made) t) }
-    ensures tries { IfOk result (λ made. IsMadeByFirstTry (reading B.ReaderArena from.entry) words (A.offers allocator)
+    ensures copied { IfOk result (λ made. (after : Option ℕ) × (t : Tree)
+        × IsRead (reading B.ReaderArena from.entry) left after t
+        × IsMade (⟦<BuilderArenaImpl<A> as BuilderArena>⟧.view made) t) }
+    ensures tries { IfOk result (λ made. IsMadeByFirstTry (reading B.ReaderArena from.entry) words
+        (A.offers allocator)
         ((⟦<BuilderArenaImpl<A> as BuilderArena>⟧.view made).room 0)) }
-    ensures granted { IfOk result (λ made. (⟦<BuilderArenaImpl<A> as BuilderArena>⟧.view made).refusals ≡ A.refusals allocator) }
-    ensures refused { IfErr result (λ e. LacksMemoryOr (A.refusals allocator) (A.refusals e.1) e.0 (RefusesCopy (reading B.ReaderArena from.entry) left max_segment_words e.0)) }
+    ensures granted { IfOk result (λ made.
+        (⟦<BuilderArenaImpl<A> as BuilderArena>⟧.view made).refusals ≡ A.refusals allocator) }
+    ensures refused { IfErr result
+        (λ e. LacksMemoryOr (A.refusals allocator) (A.refusals e.1) e.0
+        (RefusesCopy (reading B.ReaderArena from.entry) left max_segment_words e.0)) }
 {
     match copy_in_tries(alloc, allocator, from, left, words) {
         Ok((made, _)) => Ok(made),
@@ -236,12 +269,17 @@ pub(crate) fn canonical<A: Allocator>(
     options: ReaderOptions,
 ) -> Result<BuilderArenaImpl<A>, (ErrorKind, A)>
     ensures small { OnOk result (IsSmall (segments_in source)) }
-    ensures value { IfOk result (λ made. (t : Tree) × ValueOf (segments_in source) options t × IsMade (⟦<BuilderArenaImpl<A> as BuilderArena>⟧.view made) t) }
+    ensures value { IfOk result (λ made. (t : Tree) × ValueOf (segments_in source) options t
+        × IsMade (⟦<BuilderArenaImpl<A> as BuilderArena>⟧.view made) t) }
     ensures tries { IfOk result (λ made.
-        IsMadeByFirstTry (root_of (message (segments_in source)) (levels options.nesting_limit)) (total (message (segments_in source)))
+        IsMadeByFirstTry (root_of (message (segments_in source)) (levels options.nesting_limit))
+        (total (message (segments_in source)))
         (A.offers allocator) ((⟦<BuilderArenaImpl<A> as BuilderArena>⟧.view made).room 0)) }
-    ensures granted { IfOk result (λ made. (⟦<BuilderArenaImpl<A> as BuilderArena>⟧.view made).refusals ≡ A.refusals allocator) }
-    ensures refused { IfErr result (λ e. LacksMemoryOr (A.refusals allocator) (A.refusals e.1) e.0 (RefusesMessage (segments_in source) (Args.Canon options) e.0)) }
+    ensures granted { IfOk result (λ made.
+        (⟦<BuilderArenaImpl<A> as BuilderArena>⟧.view made).refusals ≡ A.refusals allocator) }
+    ensures refused { IfErr result
+        (λ e. LacksMemoryOr (A.refusals allocator) (A.refusals e.1) e.0
+        (RefusesMessage (segments_in source) (Args.Canon options) e.0)) }
 {
     let arena = match open(source, options) {
         Ok(arena) => arena,

@@ -15,7 +15,8 @@ use capnp_words::error::ErrorKind;
 pub(crate) fn is_canonical(source: Message, options: ReaderOptions) -> Result<bool, ErrorKind>
     ensures small { OnOk result (IsSmall (segments_in source)) }
     ensures check { IfOk result (CheckOf (segments_in source) options) }
-    ensures answered { IsSmall (segments_in source) → CheckOf (segments_in source) options true → IsOk result }
+    ensures answered { IsSmall (segments_in source) → CheckOf (segments_in source) options true
+        → IsOk result }
     ensures refused { IfErr result (RefusesMessage (segments_in source) (Args.Check options)) }
 {
     let arena = match open(source, options) {

@@ -51,12 +51,17 @@ fn read_message<A: Allocator, R: Input>(
     input: &mut R,
 ) -> Result<Message, InputFault>
     requires { R.has_failed input.old ≡ false }
-    ensures segments { IfOk result (λ m. IfSome (R.remaining input.old) (λ text. segments_of text ≡ Some (segments_in m))) }
+    ensures segments { IfOk result (λ m. IfSome (R.remaining input.old)
+        (λ text. segments_of text ≡ Some (segments_in m))) }
     ensures kept { OnOk result (A.refusals allocator.new ≡ A.refusals allocator.old) }
-    ensures bad { IfErr result (λ e. e ≡ InputFault.BadInput → (R.has_failed input.new ≡ true) ⊎ IfSome (R.remaining input.old) (λ text. segments_of text ≡ None)) }
-    ensures memory { IfErr result (λ e. e ≡ InputFault.NoMemory → A.refusals allocator.new ≡ one_more (A.refusals allocator.old)) }
+    ensures bad { IfErr result (λ e. e ≡ InputFault.BadInput
+        → (R.has_failed input.new ≡ true)
+        ⊎ IfSome (R.remaining input.old) (λ text. segments_of text ≡ None)) }
+    ensures memory { IfErr result (λ e. e ≡ InputFault.NoMemory
+        → A.refusals allocator.new ≡ one_more (A.refusals allocator.old)) }
     ensures works { OnOk result (R.has_failed input.new ≡ false) }
-    ensures unfailed { IfErr result (λ e. e ≡ InputFault.NoMemory → R.has_failed input.new ≡ false) }
+    ensures unfailed { IfErr result (λ e. e ≡ InputFault.NoMemory
+        → R.has_failed input.new ≡ false) }
 {
     let text = read_text(alloc, allocator, input)?;
     read_lines(alloc, allocator, text.as_slice())
@@ -66,7 +71,8 @@ fn read_message<A: Allocator, R: Input>(
 pub(super) fn refuse<W: Output>(output: &mut W, refusal: Refusal) -> Outcome
     requires { W.has_failed output.old ≡ false }
     ensures either { (result ≡ Outcome.Refused) ⊎ (result ≡ Outcome.WriteFailed) }
-    ensures written { result ≡ Outcome.Refused → Prints W.Output output.old output.new (refusal_line refusal) }
+    ensures written { result ≡ Outcome.Refused
+        → Prints W.Output output.old output.new (refusal_line refusal) }
     ensures works { result ≡ Outcome.Refused → W.has_failed output.new ≡ false }
     ensures failed { result ≡ Outcome.WriteFailed → W.has_failed output.new ≡ true }
 {
@@ -79,7 +85,8 @@ pub(super) fn refuse<W: Output>(output: &mut W, refusal: Refusal) -> Outcome
 /// The words of a message of one segment.
 fn only_segment<A: Allocator>(made: &BuilderArenaImpl<A>) -> &[u8]
     requires { length (⟦<BuilderArenaImpl<A> as ReaderArena>⟧.segments made.now) ≡ 1 }
-    ensures { message (⟦<BuilderArenaImpl<A> as ReaderArena>⟧.segments made.now) ≡ words_of result.now ∷ [] }
+    ensures { message (⟦<BuilderArenaImpl<A> as ReaderArena>⟧.segments made.now)
+        ≡ words_of result.now ∷ [] }
 {
     match made.get_segments_for_output() {
         Ok(OutputSegments::SingleSegment(segment)) => segment,
@@ -92,7 +99,9 @@ fn answer<A: Allocator, W: Output>(output: &mut W, made: &BuilderArenaImpl<A>) -
     requires works { W.has_failed output.old ≡ false }
     requires single { length (⟦<BuilderArenaImpl<A> as ReaderArena>⟧.segments made.now) ≡ 1 }
     ensures either { (result ≡ Outcome.Done) ⊎ (result ≡ Outcome.WriteFailed) }
-    ensures written { result ≡ Outcome.Done → AnswersWords (⟦<BuilderArenaImpl<A> as BuilderArena>⟧.view made.now) (Prints W.Output output.old output.new) }
+    ensures written { result ≡ Outcome.Done
+        → AnswersWords (⟦<BuilderArenaImpl<A> as BuilderArena>⟧.view made.now)
+        (Prints W.Output output.old output.new) }
     ensures works { result ≡ Outcome.Done → W.has_failed output.new ≡ false }
     ensures failed { result ≡ Outcome.WriteFailed → W.has_failed output.new ≡ true }
 {
@@ -112,11 +121,16 @@ fn canon<A: Allocator, W: Output>(
 ) -> (Outcome, A)
     requires { W.has_failed output.old ≡ false }
     ensures small { result.0 ≡ Outcome.Done → IsSmall (segments_in source) }
-    ensures done { result.0 ≡ Outcome.Done → Answers (segments_in source) (Args.Canon options) (Prints W.Output output.old output.new) }
+    ensures done { result.0 ≡ Outcome.Done
+        → Answers (segments_in source) (Args.Canon options)
+        (Prints W.Output output.old output.new) }
     ensures refused { result.0 ≡ Outcome.Refused →
-        AnswersRefusal (segments_in source) (Args.Canon options) (A.refusals allocator) (A.refusals result.1) (Prints W.Output output.old output.new) }
+        AnswersRefusal (segments_in source) (Args.Canon options) (A.refusals allocator)
+        (A.refusals result.1) (Prints W.Output output.old output.new) }
     ensures exactly { WhereAnswered (segments_in source) (Args.Canon options)
-        (IsDoneOr result.0 (WantsMemory (A.refusals allocator) (A.refusals result.1) (Prints W.Output output.old output.new))) }
+        (IsDoneOr result.0
+        (WantsMemory (A.refusals allocator) (A.refusals result.1)
+        (Prints W.Output output.old output.new))) }
     ensures input { result.0 ≢ Outcome.BadInput }
     ensures works { result.0 ≢ Outcome.WriteFailed → W.has_failed output.new ≡ false }
     ensures failed { result.0 ≡ Outcome.WriteFailed → W.has_failed output.new ≡ true }
@@ -134,10 +148,14 @@ fn canon<A: Allocator, W: Output>(
 fn check<W: Output>(source: Message, options: ReaderOptions, output: &mut W) -> Outcome
     requires { W.has_failed output.old ≡ false }
     ensures small { result ≡ Outcome.Done → IsSmall (segments_in source) }
-    ensures done { result ≡ Outcome.Done → Answers (segments_in source) (Args.Check options) (Prints W.Output output.old output.new) }
+    ensures done { result ≡ Outcome.Done
+        → Answers (segments_in source) (Args.Check options)
+        (Prints W.Output output.old output.new) }
     ensures refused { result ≡ Outcome.Refused →
-        NamesRefusal (segments_in source) (Args.Check options) (Prints W.Output output.old output.new) }
-    ensures exactly { WhereAnswered (segments_in source) (Args.Check options) (IsDone result ⊎ (result ≡ Outcome.WriteFailed)) }
+        NamesRefusal (segments_in source) (Args.Check options)
+        (Prints W.Output output.old output.new) }
+    ensures exactly { WhereAnswered (segments_in source) (Args.Check options)
+        (IsDone result ⊎ (result ≡ Outcome.WriteFailed)) }
     ensures input { result ≢ Outcome.BadInput }
     ensures works { result ≢ Outcome.WriteFailed → W.has_failed output.new ≡ false }
     ensures failed { result ≡ Outcome.WriteFailed → W.has_failed output.new ≡ true }
@@ -155,10 +173,13 @@ fn check<W: Output>(source: Message, options: ReaderOptions, output: &mut W) -> 
 fn size<W: Output>(source: Message, options: ReaderOptions, output: &mut W) -> Outcome
     requires { W.has_failed output.old ≡ false }
     ensures small { result ≡ Outcome.Done → IsSmall (segments_in source) }
-    ensures done { result ≡ Outcome.Done → Answers (segments_in source) (Args.Size options) (Prints W.Output output.old output.new) }
+    ensures done { result ≡ Outcome.Done
+        → Answers (segments_in source) (Args.Size options) (Prints W.Output output.old output.new) }
     ensures refused { result ≡ Outcome.Refused →
-        NamesRefusal (segments_in source) (Args.Size options) (Prints W.Output output.old output.new) }
-    ensures exactly { WhereAnswered (segments_in source) (Args.Size options) (IsDone result ⊎ (result ≡ Outcome.WriteFailed)) }
+        NamesRefusal (segments_in source) (Args.Size options)
+        (Prints W.Output output.old output.new) }
+    ensures exactly { WhereAnswered (segments_in source) (Args.Size options)
+        (IsDone result ⊎ (result ≡ Outcome.WriteFailed)) }
     ensures input { result ≢ Outcome.BadInput }
     ensures works { result ≢ Outcome.WriteFailed → W.has_failed output.new ≡ false }
     ensures failed { result ≡ Outcome.WriteFailed → W.has_failed output.new ≡ true }
@@ -182,13 +203,18 @@ fn respond<A: Allocator, W: Output>(
 ) -> (Outcome, A)
     requires { W.has_failed output.old ≡ false }
     ensures within { result.0 ≡ Outcome.Done → IsWithin args.now (segments_in lines) }
-    ensures done { result.0 ≡ Outcome.Done → Answers (segments_in lines) args.now (Prints W.Output output.old output.new) }
+    ensures done { result.0 ≡ Outcome.Done
+        → Answers (segments_in lines) args.now (Prints W.Output output.old output.new) }
     ensures refused { result.0 ≡ Outcome.Refused →
-        AnswersRefusal (segments_in lines) args.now (A.refusals allocator) (A.refusals result.1) (Prints W.Output output.old output.new) }
+        AnswersRefusal (segments_in lines) args.now (A.refusals allocator) (A.refusals result.1)
+        (Prints W.Output output.old output.new) }
     ensures exactly { WhereAnswered (segments_in lines) args.now
-        (IsDoneOr result.0 (WantsMemory (A.refusals allocator) (A.refusals result.1) (Prints W.Output output.old output.new))) }
+        (IsDoneOr result.0
+        (WantsMemory (A.refusals allocator) (A.refusals result.1)
+        (Prints W.Output output.old output.new))) }
     ensures input { result.0 ≡ Outcome.BadInput → HasMoreLines args.now (segments_in lines) }
-    ensures unwritten { result.0 ≡ Outcome.BadInput → W.contents output.new ≡ W.contents output.old }
+    ensures unwritten { result.0 ≡ Outcome.BadInput → W.contents output.new
+        ≡ W.contents output.old }
     ensures works { result.0 ≢ Outcome.WriteFailed → W.has_failed output.new ≡ false }
     ensures failed { result.0 ≡ Outcome.WriteFailed → W.has_failed output.new ≡ true }
 {
@@ -225,16 +251,22 @@ pub fn run_with<A: Allocator, R: Input, W: Output>(
 ) -> (Outcome, A)
     requires input { R.has_failed input.old ≡ false }
     requires output { W.has_failed output.old ≡ false }
-    ensures done { result.0 ≡ Outcome.Done → WritesAnswer (R.remaining input.old) args.now (Prints W.Output output.old output.new) }
+    ensures done { result.0 ≡ Outcome.Done
+        → WritesAnswer (R.remaining input.old) args.now (Prints W.Output output.old output.new) }
     ensures refused { result.0 ≡ Outcome.Refused →
-        WritesCountedRefusal (R.remaining input.old) args.now (A.refusals allocator) (A.refusals result.1) (Prints W.Output output.old output.new) }
+        WritesCountedRefusal (R.remaining input.old) args.now (A.refusals allocator)
+        (A.refusals result.1) (Prints W.Output output.old output.new) }
     ensures exactly { WhereItIsAnswered (R.remaining input.old) args.now
-        (IsDone result.0 ⊎ (R.has_failed input.new ≡ true) ⊎ (W.has_failed output.new ≡ true) ⊎ IsRefused result.0) }
+        (IsDone result.0 ⊎ (R.has_failed input.new ≡ true) ⊎ (W.has_failed output.new ≡ true)
+        ⊎ IsRefused result.0) }
     ensures memory { IsRefused result.0 → WhereItIsAnswered (R.remaining input.old) args.now
-        (WantsMemory (A.refusals allocator) (A.refusals result.1) (Prints W.Output output.old output.new)) }
-    ensures input { result.0 ≡ Outcome.BadInput → (R.has_failed input.new ≡ true) ⊎ IsBadInput (R.remaining input.old) args.now }
+        (WantsMemory (A.refusals allocator) (A.refusals result.1)
+        (Prints W.Output output.old output.new)) }
+    ensures input { result.0 ≡ Outcome.BadInput → (R.has_failed input.new ≡ true)
+        ⊎ IsBadInput (R.remaining input.old) args.now }
     ensures read { result.0 ≢ Outcome.BadInput → R.has_failed input.new ≡ false }
-    ensures unwritten { result.0 ≡ Outcome.BadInput → W.contents output.new ≡ W.contents output.old }
+    ensures unwritten { result.0 ≡ Outcome.BadInput → W.contents output.new
+        ≡ W.contents output.old }
     ensures works { result.0 ≢ Outcome.WriteFailed → W.has_failed output.new ≡ false }
     ensures failed { result.0 ≡ Outcome.WriteFailed → W.has_failed output.new ≡ true }
 {
@@ -280,13 +312,17 @@ pub fn run<R: Input, W: Output>(
 ) -> Outcome
     requires input { R.has_failed input.old ≡ false }
     requires output { W.has_failed output.old ≡ false }
-    ensures done { result ≡ Outcome.Done → WritesAnswer (R.remaining input.old) args.now (Prints W.Output output.old output.new) }
-    ensures refused { result ≡ Outcome.Refused → WritesRefusal (R.remaining input.old) args.now (Prints W.Output output.old output.new) }
+    ensures done { result ≡ Outcome.Done
+        → WritesAnswer (R.remaining input.old) args.now (Prints W.Output output.old output.new) }
+    ensures refused { result ≡ Outcome.Refused
+        → WritesRefusal (R.remaining input.old) args.now (Prints W.Output output.old output.new) }
     ensures exactly { WhereItIsAnswered (R.remaining input.old) args.now
-        (IsDone result ⊎ (R.has_failed input.new ≡ true) ⊎ (W.has_failed output.new ≡ true) ⊎ IsRefused result) }
+        (IsDone result ⊎ (R.has_failed input.new ≡ true) ⊎ (W.has_failed output.new ≡ true)
+        ⊎ IsRefused result) }
     ensures memory { IsRefused result → WhereItIsAnswered (R.remaining input.old) args.now
         (Prints W.Output output.old output.new (refusal_line (Refusal.Layout AllocationFailed))) }
-    ensures input { result ≡ Outcome.BadInput → (R.has_failed input.new ≡ true) ⊎ IsBadInput (R.remaining input.old) args.now }
+    ensures input { result ≡ Outcome.BadInput → (R.has_failed input.new ≡ true)
+        ⊎ IsBadInput (R.remaining input.old) args.now }
     ensures read { result ≢ Outcome.BadInput → R.has_failed input.new ≡ false }
     ensures unwritten { result ≡ Outcome.BadInput → W.contents output.new ≡ W.contents output.old }
     ensures works { result ≢ Outcome.WriteFailed → W.has_failed output.new ≡ false }

@@ -32,8 +32,10 @@ const MAX_FRAME_WORDS: u64 = 8_388_608;
 /// The message whose frame the only line begins with.
 fn frame_in(lines: &Message) -> Result<FrameSegments<'_>, Refusal>
     requires { length (segments_in lines.now) ≤ 1 }
-    ensures holds { IfOk result (λ f. HoldsFrame (segments_in lines.now) (message (⟦<FrameSegments<'static> as ReaderSegments>⟧.segments f))) }
-    ensures small { IfOk result (λ f. IsSmall (⟦<FrameSegments<'static> as ReaderSegments>⟧.segments f)) }
+    ensures holds { IfOk result (λ f. HoldsFrame (segments_in lines.now)
+        (message (⟦<FrameSegments<'static> as ReaderSegments>⟧.segments f))) }
+    ensures small { IfOk result (λ f.
+        IsSmall (⟦<FrameSegments<'static> as ReaderSegments>⟧.segments f)) }
     ensures refused { IfErr result (RefusesFrame (segments_in lines.now)) }
 {
     let Some(line) = lines.get_segment(0) else {
@@ -88,9 +90,12 @@ fn count_of(source: &Message) -> Result<usize, Refusal>
 pub(crate) fn frame<W: Output>(source: Message, output: &mut W) -> Outcome
     requires { W.has_failed output.old ≡ false }
     ensures small { result ≡ Outcome.Done → IsSmall (segments_in source) }
-    ensures done { result ≡ Outcome.Done → Answers (segments_in source) Args.Frame (Prints W.Output output.old output.new) }
-    ensures refused { result ≡ Outcome.Refused → NamesRefusal (segments_in source) Args.Frame (Prints W.Output output.old output.new) }
-    ensures exactly { WhereAnswered (segments_in source) Args.Frame (IsDone result ⊎ (result ≡ Outcome.WriteFailed)) }
+    ensures done { result ≡ Outcome.Done
+        → Answers (segments_in source) Args.Frame (Prints W.Output output.old output.new) }
+    ensures refused { result ≡ Outcome.Refused
+        → NamesRefusal (segments_in source) Args.Frame (Prints W.Output output.old output.new) }
+    ensures exactly { WhereAnswered (segments_in source) Args.Frame
+        (IsDone result ⊎ (result ≡ Outcome.WriteFailed)) }
     ensures input { result ≢ Outcome.BadInput }
     ensures works { result ≢ Outcome.WriteFailed → W.has_failed output.new ≡ false }
     ensures failed { result ≡ Outcome.WriteFailed → W.has_failed output.new ≡ true }
@@ -108,9 +113,12 @@ pub(crate) fn frame<W: Output>(source: Message, output: &mut W) -> Outcome
 /// refusal. More than one line is bad input.
 pub(crate) fn unframe<W: Output>(lines: Message, output: &mut W) -> Outcome
     requires { W.has_failed output.old ≡ false }
-    ensures done { result ≡ Outcome.Done → Answers (segments_in lines) Args.Unframe (Prints W.Output output.old output.new) }
-    ensures refused { result ≡ Outcome.Refused → NamesRefusal (segments_in lines) Args.Unframe (Prints W.Output output.old output.new) }
-    ensures exactly { WhereAnswered (segments_in lines) Args.Unframe (IsDone result ⊎ (result ≡ Outcome.WriteFailed)) }
+    ensures done { result ≡ Outcome.Done
+        → Answers (segments_in lines) Args.Unframe (Prints W.Output output.old output.new) }
+    ensures refused { result ≡ Outcome.Refused
+        → NamesRefusal (segments_in lines) Args.Unframe (Prints W.Output output.old output.new) }
+    ensures exactly { WhereAnswered (segments_in lines) Args.Unframe
+        (IsDone result ⊎ (result ≡ Outcome.WriteFailed)) }
     ensures input { result ≡ Outcome.BadInput → HasMoreLines Args.Unframe (segments_in lines) }
     ensures unwritten { result ≡ Outcome.BadInput → W.contents output.new ≡ W.contents output.old }
     ensures works { result ≢ Outcome.WriteFailed → W.has_failed output.new ≡ false }
@@ -151,7 +159,9 @@ fn answer_frame<A: Allocator, W: Output>(output: &mut W, made: &BuilderArenaImpl
     requires works { W.has_failed output.old ≡ false }
     requires single { length (⟦<BuilderArenaImpl<A> as ReaderArena>⟧.segments made.now) ≡ 1 }
     ensures either { (result ≡ Outcome.Done) ⊎ (result ≡ Outcome.WriteFailed) }
-    ensures written { result ≡ Outcome.Done → AnswersFrame (⟦<BuilderArenaImpl<A> as BuilderArena>⟧.view made.now) (Prints W.Output output.old output.new) }
+    ensures written { result ≡ Outcome.Done
+        → AnswersFrame (⟦<BuilderArenaImpl<A> as BuilderArena>⟧.view made.now)
+        (Prints W.Output output.old output.new) }
     ensures works { result ≡ Outcome.Done → W.has_failed output.new ≡ false }
     ensures failed { result ≡ Outcome.WriteFailed → W.has_failed output.new ≡ true }
 {
@@ -171,11 +181,16 @@ pub(crate) fn framed_canon<A: Allocator, W: Output>(
 ) -> (Outcome, A)
     requires { W.has_failed output.old ≡ false }
     ensures small { result.0 ≡ Outcome.Done → IsSmall (segments_in source) }
-    ensures done { result.0 ≡ Outcome.Done → Answers (segments_in source) (Args.FramedCanon options) (Prints W.Output output.old output.new) }
+    ensures done { result.0 ≡ Outcome.Done
+        → Answers (segments_in source) (Args.FramedCanon options)
+        (Prints W.Output output.old output.new) }
     ensures refused { result.0 ≡ Outcome.Refused →
-        AnswersRefusal (segments_in source) (Args.FramedCanon options) (A.refusals allocator) (A.refusals result.1) (Prints W.Output output.old output.new) }
+        AnswersRefusal (segments_in source) (Args.FramedCanon options) (A.refusals allocator)
+        (A.refusals result.1) (Prints W.Output output.old output.new) }
     ensures exactly { WhereAnswered (segments_in source) (Args.FramedCanon options)
-        (IsDoneOr result.0 (WantsMemory (A.refusals allocator) (A.refusals result.1) (Prints W.Output output.old output.new))) }
+        (IsDoneOr result.0
+        (WantsMemory (A.refusals allocator) (A.refusals result.1)
+        (Prints W.Output output.old output.new))) }
     ensures input { result.0 ≢ Outcome.BadInput }
     ensures works { result.0 ≢ Outcome.WriteFailed → W.has_failed output.new ≡ false }
     ensures failed { result.0 ≡ Outcome.WriteFailed → W.has_failed output.new ≡ true }
@@ -197,11 +212,16 @@ pub(crate) fn framed_check<W: Output>(
     output: &mut W,
 ) -> Outcome
     requires { W.has_failed output.old ≡ false }
-    ensures done { result ≡ Outcome.Done → Answers (segments_in lines) (Args.FramedCheck options) (Prints W.Output output.old output.new) }
+    ensures done { result ≡ Outcome.Done
+        → Answers (segments_in lines) (Args.FramedCheck options)
+        (Prints W.Output output.old output.new) }
     ensures refused { result ≡ Outcome.Refused →
-        NamesRefusal (segments_in lines) (Args.FramedCheck options) (Prints W.Output output.old output.new) }
-    ensures exactly { WhereAnswered (segments_in lines) (Args.FramedCheck options) (IsDone result ⊎ (result ≡ Outcome.WriteFailed)) }
-    ensures input { result ≡ Outcome.BadInput → HasMoreLines (Args.FramedCheck options) (segments_in lines) }
+        NamesRefusal (segments_in lines) (Args.FramedCheck options)
+        (Prints W.Output output.old output.new) }
+    ensures exactly { WhereAnswered (segments_in lines) (Args.FramedCheck options)
+        (IsDone result ⊎ (result ≡ Outcome.WriteFailed)) }
+    ensures input { result ≡ Outcome.BadInput
+        → HasMoreLines (Args.FramedCheck options) (segments_in lines) }
     ensures unwritten { result ≡ Outcome.BadInput → W.contents output.new ≡ W.contents output.old }
     ensures works { result ≢ Outcome.WriteFailed → W.has_failed output.new ≡ false }
     ensures failed { result ≡ Outcome.WriteFailed → W.has_failed output.new ≡ true }

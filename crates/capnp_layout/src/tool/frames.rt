@@ -16,7 +16,8 @@ use capnp_arena::arena::ReaderSegments;
 /// The bytes of a segment. None where there is no such segment.
 fn segment_at<S: ReaderSegments>(segments: &S, id: u32) -> &[u8]
     requires { IsSmall (S.segments segments.now) }
-    ensures words { id < length (S.segments segments.now) → words_of result.now ≡ segment (message (S.segments segments.now)) id }
+    ensures words { id < length (S.segments segments.now)
+        → words_of result.now ≡ segment (message (S.segments segments.now)) id }
     ensures short { length result.now / 8 < 2 ^ 32 }
 {
     match segments.get_segment(id) {
@@ -28,7 +29,8 @@ fn segment_at<S: ReaderSegments>(segments: &S, id: u32) -> &[u8]
 /// Writes the bytes of a number, the lowest first, as eight hex digits.
 fn write_number<W: Output>(output: &mut W, number: u32) -> Result<(), DeviceFault>
     requires { W.has_failed output.old ≡ false }
-    ensures written { OnOk result (Prints W.Output output.old output.new (encode_lower (to_le_bytes w32 number))) }
+    ensures written { OnOk result (Prints W.Output output.old output.new
+        (encode_lower (to_le_bytes w32 number))) }
     ensures works { OnOk result (W.has_failed output.new ≡ false) }
     ensures fails { OnErr result (W.has_failed output.new ≡ true) }
 {
@@ -46,7 +48,8 @@ fn write_lengths<W: Output, S: ReaderSegments>(
     requires works { W.has_failed output.old ≡ false }
     requires small { IsSmall (S.segments segments.now) }
     requires count { count ≡ length (S.segments segments.now) }
-    ensures written { OnOk result (Prints W.Output output.old output.new (encode_lower (lengths (message (S.segments segments.now))))) }
+    ensures written { OnOk result (Prints W.Output output.old output.new
+        (encode_lower (lengths (message (S.segments segments.now))))) }
     ensures works { OnOk result (W.has_failed output.new ≡ false) }
     ensures fails { OnErr result (W.has_failed output.new ≡ true) }
 {
@@ -61,7 +64,8 @@ fn write_lengths<W: Output, S: ReaderSegments>(
 fn write_padding<W: Output>(output: &mut W, count: u32) -> Result<(), DeviceFault>
     requires works { W.has_failed output.old ≡ false }
     requires few { count ≤ max_segments }
-    ensures written { OnOk result (Prints W.Output output.old output.new (encode_lower (replicate (padding_size count) 0))) }
+    ensures written { OnOk result (Prints W.Output output.old output.new
+        (encode_lower (replicate (padding_size count) 0))) }
     ensures works { OnOk result (W.has_failed output.new ≡ false) }
     ensures fails { OnErr result (W.has_failed output.new ≡ true) }
 {
@@ -81,7 +85,8 @@ fn write_contents<W: Output, S: ReaderSegments>(
     requires works { W.has_failed output.old ≡ false }
     requires small { IsSmall (S.segments segments.now) }
     requires count { count ≡ length (S.segments segments.now) }
-    ensures written { OnOk result (Prints W.Output output.old output.new (encode_lower (contents (message (S.segments segments.now))))) }
+    ensures written { OnOk result (Prints W.Output output.old output.new
+        (encode_lower (contents (message (S.segments segments.now))))) }
     ensures works { OnOk result (W.has_failed output.new ≡ false) }
     ensures fails { OnErr result (W.has_failed output.new ≡ true) }
 {
@@ -100,7 +105,8 @@ pub(crate) fn write_frame<W: Output, S: ReaderSegments>(
     requires small { IsSmall (S.segments segments.now) }
     requires some { 1 ≤ length (S.segments segments.now) }
     requires few { length (S.segments segments.now) ≤ max_segments }
-    ensures written { OnOk result (Prints W.Output output.old output.new (frame_line (message (S.segments segments.now)))) }
+    ensures written { OnOk result (Prints W.Output output.old output.new
+        (frame_line (message (S.segments segments.now)))) }
     ensures works { OnOk result (W.has_failed output.new ≡ false) }
     ensures fails { OnErr result (W.has_failed output.new ≡ true) }
 {
@@ -119,7 +125,8 @@ pub(crate) fn write_segments<W: Output, S: ReaderSegments>(
 ) -> Result<(), DeviceFault>
     requires works { W.has_failed output.old ≡ false }
     requires small { IsSmall (S.segments segments.now) }
-    ensures written { OnOk result (Prints W.Output output.old output.new (segment_lines (message (S.segments segments.now)))) }
+    ensures written { OnOk result (Prints W.Output output.old output.new
+        (segment_lines (message (S.segments segments.now)))) }
     ensures works { OnOk result (W.has_failed output.new ≡ false) }
     ensures fails { OnErr result (W.has_failed output.new ≡ true) }
 {

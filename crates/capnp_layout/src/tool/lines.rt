@@ -69,8 +69,10 @@ pub(crate) fn keep_bytes<A: Allocator>(
     list: &mut Vec<u8>,
     bytes: &[u8],
 ) -> Result<(), InputFault>
-    ensures kept { OnOk result ((list.new.items ≡ list.old.items ++ bytes.now) × (A.refusals allocator.new ≡ A.refusals allocator.old)) }
-    ensures named { IfErr result (λ e. (e ≡ InputFault.NoMemory) × (A.refusals allocator.new ≡ one_more (A.refusals allocator.old))) }
+    ensures kept { OnOk result ((list.new.items ≡ list.old.items ++ bytes.now)
+        × (A.refusals allocator.new ≡ A.refusals allocator.old)) }
+    ensures named { IfErr result (λ e. (e ≡ InputFault.NoMemory)
+        × (A.refusals allocator.new ≡ one_more (A.refusals allocator.old))) }
 {
     for byte in bytes {
         if allocator.keep(list, *byte).is_some() {
@@ -122,7 +124,8 @@ fn read_line<A: Allocator>(
     ensures bytes { IfOk result (λ v. decode_of line.now ≡ Ok v.items) }
     ensures kept { OnOk result (A.refusals allocator.new ≡ A.refusals allocator.old) }
     ensures bad { IfErr result (λ e. e ≡ InputFault.BadInput → IsErr (decode_of line.now)) }
-    ensures memory { IfErr result (λ e. e ≡ InputFault.NoMemory → A.refusals allocator.new ≡ one_more (A.refusals allocator.old)) }
+    ensures memory { IfErr result (λ e. e ≡ InputFault.NoMemory
+        → A.refusals allocator.new ≡ one_more (A.refusals allocator.old)) }
 {
     let mut bytes = Vec::new(alloc);
     for _ in 0..line.len() / 2 {
@@ -142,10 +145,12 @@ pub fn read_lines<A: Allocator>(
     allocator: &mut A,
     text: &[u8],
 ) -> Result<Message, InputFault>
-    ensures segments { IfOk result (λ m. segments_of text.now ≡ Some (⟦<Message as ReaderSegments>⟧.segments m)) }
+    ensures segments { IfOk result (λ m. segments_of text.now
+        ≡ Some (⟦<Message as ReaderSegments>⟧.segments m)) }
     ensures kept { OnOk result (A.refusals allocator.new ≡ A.refusals allocator.old) }
     ensures bad { IfErr result (λ e. e ≡ InputFault.BadInput → segments_of text.now ≡ None) }
-    ensures memory { IfErr result (λ e. e ≡ InputFault.NoMemory → A.refusals allocator.new ≡ one_more (A.refusals allocator.old)) }
+    ensures memory { IfErr result (λ e. e ≡ InputFault.NoMemory
+        → A.refusals allocator.new ≡ one_more (A.refusals allocator.old)) }
 {
     let mut segments = Vec::new(alloc);
     let mut rest = text;

@@ -21,7 +21,8 @@ pub(crate) type MessageArena = ReaderArenaImpl<Message>;
 /// The arena of a message within the limits of a reader. A message beyond them is `MessageTooLarge`.
 pub(crate) fn open(source: Message, options: ReaderOptions) -> Result<MessageArena, ErrorKind>
     ensures small { IsOk result ↔ IsSmall (segments_in source) }
-    ensures words { IfOk result (λ arena. message (⟦<MessageArena as ReaderArena>⟧.segments arena) ≡ message (segments_in source)) }
+    ensures words { IfOk result (λ arena. message (⟦<MessageArena as ReaderArena>⟧.segments arena)
+        ≡ message (segments_in source)) }
     ensures nesting { IfOk result (λ arena. arena.nesting_limit ≡ options.nesting_limit) }
     ensures named { IfErr result (λ k. k ≡ MessageTooLarge (2 ^ 64 - 1)) }
 {
@@ -36,10 +37,14 @@ pub(crate) fn read_root<'a>(
     arena: &'a MessageArena,
     budget: Option<usize>,
 ) -> Result<(PointerReader<'a, MessageArena>, ReadLimiter), ErrorKind>
-    ensures exactly { IsOk result ↔ CoversRoot (message (⟦<MessageArena as ReaderArena>⟧.segments arena.now)) budget }
-    ensures place { IfOk result (λ x. reading ⟦<MessageArena as ReaderArena>⟧ x.0 ≡ root_of (message (⟦<MessageArena as ReaderArena>⟧.segments arena.now)) (levels arena.now.nesting_limit)) }
+    ensures exactly { IsOk result ↔ CoversRoot
+        (message (⟦<MessageArena as ReaderArena>⟧.segments arena.now)) budget }
+    ensures place { IfOk result (λ x. reading ⟦<MessageArena as ReaderArena>⟧ x.0
+        ≡ root_of (message (⟦<MessageArena as ReaderArena>⟧.segments arena.now))
+        (levels arena.now.nesting_limit)) }
     ensures left { IfOk result (λ x. x.1 ≡ unused (less budget 1)) }
-    ensures refused { IfErr result (RefusesRoot (message (⟦<MessageArena as ReaderArena>⟧.segments arena.now)) budget) }
+    ensures refused { IfErr result
+        (RefusesRoot (message (⟦<MessageArena as ReaderArena>⟧.segments arena.now)) budget) }
 {
     let mut lim = ReadLimiter::new(budget);
     match PointerReader::get_root_from_arena(arena, &mut lim) {

@@ -13,7 +13,8 @@ use capnp_words::error::ErrorKind;
 
 /// The words and capabilities that the root of a message leads to, without landing pads.
 pub(crate) fn size_of(source: Message, options: ReaderOptions) -> Result<MessageSize, ErrorKind>
-    ensures exactly { IsOk result ↔ IsSmall (segments_in source) × IsSized (segments_in source) options }
+    ensures exactly { IsOk result ↔ IsSmall (segments_in source)
+        × IsSized (segments_in source) options }
     ensures size { IfOk result (λ z. SizeOf (segments_in source) options z.word_count z.cap_count) }
     ensures refused { IfErr result (RefusesMessage (segments_in source) (Args.Size options)) }
 {

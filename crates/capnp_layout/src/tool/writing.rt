@@ -27,7 +27,8 @@ fn write_word<W: Output>(output: &mut W, word: u64) -> Result<(), DeviceFault>
 /// Writes all whole words of a segment as hex digits.
 pub(crate) fn write_digits<W: Output>(output: &mut W, segment: &[u8]) -> Result<(), DeviceFault>
     requires { W.has_failed output.old ≡ false }
-    ensures written { OnOk result (Prints W.Output output.old output.new (digits_of (words_of segment.now))) }
+    ensures written { OnOk result (Prints W.Output output.old output.new
+        (digits_of (words_of segment.now))) }
     ensures works { OnOk result (W.has_failed output.new ≡ false) }
     ensures fails { OnErr result (W.has_failed output.new ≡ true) }
 {
@@ -40,7 +41,8 @@ pub(crate) fn write_digits<W: Output>(output: &mut W, segment: &[u8]) -> Result<
 /// Writes all whole words of a segment as one line of hex digits.
 pub(crate) fn write_words<W: Output>(output: &mut W, segment: &[u8]) -> Result<(), DeviceFault>
     requires { W.has_failed output.old ≡ false }
-    ensures written { OnOk result (Prints W.Output output.old output.new (digits_of (words_of segment.now) ++ 10 ∷ [])) }
+    ensures written { OnOk result (Prints W.Output output.old output.new
+        (digits_of (words_of segment.now) ++ 10 ∷ [])) }
     ensures works { OnOk result (W.has_failed output.new ≡ false) }
     ensures fails { OnErr result (W.has_failed output.new ≡ true) }
 {
@@ -51,7 +53,8 @@ pub(crate) fn write_words<W: Output>(output: &mut W, segment: &[u8]) -> Result<(
 /// Writes the line that says whether a message is canonical.
 pub(crate) fn write_check<W: Output>(output: &mut W, is_canonical: bool) -> Result<(), DeviceFault>
     requires { W.has_failed output.old ≡ false }
-    ensures written { OnOk result (Prints W.Output output.old output.new (check_line is_canonical)) }
+    ensures written { OnOk result (Prints W.Output output.old output.new
+        (check_line is_canonical)) }
     ensures works { OnOk result (W.has_failed output.new ≡ false) }
     ensures fails { OnErr result (W.has_failed output.new ≡ true) }
 {
@@ -68,7 +71,8 @@ pub(crate) fn write_message_check<W: Output>(
     is_canonical: bool,
 ) -> Result<(), DeviceFault>
     requires { W.has_failed output.old ≡ false }
-    ensures written { OnOk result (Prints W.Output output.old output.new (message_line is_canonical)) }
+    ensures written { OnOk result (Prints W.Output output.old output.new
+        (message_line is_canonical)) }
     ensures works { OnOk result (W.has_failed output.new ≡ false) }
     ensures fails { OnErr result (W.has_failed output.new ≡ true) }
 {
@@ -95,7 +99,8 @@ fn write_number<W: Output>(output: &mut W, n: u64) -> Result<(), DeviceFault>
 /// Writes the line of a size.
 pub(crate) fn write_size<W: Output>(output: &mut W, size: MessageSize) -> Result<(), DeviceFault>
     requires { W.has_failed output.old ≡ false }
-    ensures written { OnOk result (Prints W.Output output.old output.new (size_line size.word_count size.cap_count)) }
+    ensures written { OnOk result (Prints W.Output output.old output.new
+        (size_line size.word_count size.cap_count)) }
     ensures works { OnOk result (W.has_failed output.new ≡ false) }
     ensures fails { OnErr result (W.has_failed output.new ≡ true) }
 {

@@ -1,7 +1,7 @@
 //! One object that a call expects to be of a kind: a struct, a list of elements that are wide enough, a text, or data.
 ghost use Rattle.std.specs.Prelude.{◌≡◌, ◌<◌, ◌≤◌, ◌+◌, ◌-◌, ◌*◌, ◌^◌, ◌↔◌, ℕ, IsTrue, IsOk, IfOk, IfErr, length};
 ghost use Rattle.capnp_format.specs.Numbers.{words_for};
-ghost use Rattle.capnp_pointers.specs.Sizes.{size_number};
+ghost use Rattle.capnp_words.specs.Sizes.{size_number};
 ghost use Rattle.capnp_objects.specs.Source.{source_segments, source_charging};
 ghost use Rattle.capnp_objects.specs.Reading.{reading_at};
 ghost use Rattle.capnp_objects.specs.Objects.{IsObject, IsHeld, IsFew};
@@ -38,11 +38,17 @@ impl<'a, A: ReaderArena> Source<'a, A> {
         lim: &mut ReadLimiter,
     ) -> Result<Object<'a>, ErrorKind>
         requires held { IsHeld (source_segments A.segments self) place }
-        ensures object { IfOk result (IsObject (one_level (reading_at A.ReaderArena self.entry place.entry nesting_limit)) lim.old lim.new) }
-        ensures given { IfOk result (IsGiven expected (reading_at A.ReaderArena self.entry place.entry nesting_limit).levels) }
+        ensures object { IfOk result (IsObject
+            (one_level (reading_at A.ReaderArena self.entry place.entry nesting_limit))
+            lim.old lim.new) }
+        ensures given { IfOk result (IsGiven expected
+            (reading_at A.ReaderArena self.entry place.entry nesting_limit).levels) }
         ensures few { IfOk result IsFew }
-        ensures exactly { IsOk result ↔ CanBeGiven expected (reading_at A.ReaderArena self.entry place.entry nesting_limit) lim.old }
-        ensures refused { IfErr result (Withheld expected (reading_at A.ReaderArena self.entry place.entry nesting_limit) lim.old lim.new) }
+        ensures exactly { IsOk result ↔ CanBeGiven expected
+            (reading_at A.ReaderArena self.entry place.entry nesting_limit) lim.old }
+        ensures refused { IfErr result
+            (Withheld expected (reading_at A.ReaderArena self.entry place.entry nesting_limit)
+            lim.old lim.new) }
     {
         let word = place.word();
         if word.is_null() {
@@ -68,10 +74,13 @@ impl<'a, A: ReaderArena> Source<'a, A> {
         lim: &mut ReadLimiter,
     ) -> Result<Object<'a>, ErrorKind>
         requires held { IsHeld (source_segments A.segments self) landing.start }
-        ensures object { IfOk result (IsOpened (source_segments A.segments self.entry) (source_charging A.charging self.entry) 1 (target landing.entry) lim.old lim.new) }
+        ensures object { IfOk result (IsOpened (source_segments A.segments self.entry)
+            (source_charging A.charging self.entry) 1 (target landing.entry) lim.old lim.new) }
         ensures fits { IfOk result (IsFitting expected (target landing.entry)) }
         ensures few { IfOk result IsFew }
-        ensures refused { IfErr result (IsUnsuited expected (source_segments A.segments self.entry) (source_charging A.charging self.entry) (target landing.entry) lim.old lim.new) }
+        ensures refused { IfErr result
+            (IsUnsuited expected (source_segments A.segments self.entry)
+            (source_charging A.charging self.entry) (target landing.entry) lim.old lim.new) }
     {
         match name_of_kind(expected, landing.word) {
             Some(kind) => return Err(kind),

@@ -1,7 +1,7 @@
 //! One object of a message, read for its size alone.
 ghost use Rattle.std.specs.Prelude.{◌≡◌, ◌≢◌, ◌<◌, ◌≤◌, ◌^◌, ◌↔◌, ℕ, IfOk, IsOk, OnOk, IfErr};
 ghost use Rattle.capnp_format.specs.Word.{kind, element_size};
-ghost use Rattle.capnp_pointers.specs.Sizes.{size_number};
+ghost use Rattle.capnp_words.specs.Sizes.{size_number};
 ghost use Rattle.capnp_objects.specs.Source.{source_segments};
 ghost use Rattle.capnp_objects.specs.Demands.{claim, IsStructList};
 ghost use Rattle.capnp_objects.specs.Reading.{reading_at, word_of};
@@ -41,10 +41,14 @@ impl<'a, A: ReaderArena> Source<'a, A> {
         lim: &mut ReadLimiter,
     ) -> Result<Object<'a>, ErrorKind>
         requires held { IsHeld (source_segments A.segments self) place }
-        ensures object { IfOk result (IsMeasured (reading_at A.ReaderArena self.entry place.entry nesting_limit) lim.old lim.new) }
+        ensures object { IfOk result (IsMeasured
+            (reading_at A.ReaderArena self.entry place.entry nesting_limit) lim.old lim.new) }
         ensures few { IfOk result IsFew }
-        ensures exactly { IsOk result ↔ CanBeMeasured (reading_at A.ReaderArena self.entry place.entry nesting_limit) lim.old }
-        ensures refused { IfErr result (NotMeasured (reading_at A.ReaderArena self.entry place.entry nesting_limit) lim.old lim.new) }
+        ensures exactly { IsOk result ↔ CanBeMeasured
+            (reading_at A.ReaderArena self.entry place.entry nesting_limit) lim.old }
+        ensures refused { IfErr result
+            (NotMeasured (reading_at A.ReaderArena self.entry place.entry nesting_limit)
+            lim.old lim.new) }
     {
         let word = place.word();
         if word.is_null() {
@@ -76,8 +80,11 @@ impl<'a, A: ReaderArena> Source<'a, A> {
         requires of_bits { IsVoidList word.0 → ⊥ }
         requires untagged { IsStructList word.0 → ⊥ }
         requires claimed { words ≡ claim word.0 }
-        ensures object { IfOk result (MeasuredNear (reading_at A.ReaderArena self.entry place.entry nesting_limit) lim.old lim.new) }
-        ensures refused { IfErr result (NotMeasured (reading_at A.ReaderArena self.entry place.entry nesting_limit) lim.old lim.new) }
+        ensures object { IfOk result (MeasuredNear
+            (reading_at A.ReaderArena self.entry place.entry nesting_limit) lim.old lim.new) }
+        ensures refused { IfErr result
+            (NotMeasured (reading_at A.ReaderArena self.entry place.entry nesting_limit)
+            lim.old lim.new) }
     {
         let landing = match self.reach(place, word, nesting_limit, lim) {
             Ok(landing) => landing,
@@ -102,8 +109,11 @@ impl<'a, A: ReaderArena> Source<'a, A> {
         requires there { word.0 ≡ word_of (reading_at A.ReaderArena self place nesting_limit) }
         requires small { word.0 < 2 ^ 64 }
         requires some { word.0 ≢ 0 }
-        ensures reached { IfOk result (IsReached (reading_at A.ReaderArena self.entry place.entry nesting_limit) lim.old lim.new) }
-        ensures refused { IfErr result (NotMeasured (reading_at A.ReaderArena self.entry place.entry nesting_limit) lim.old lim.new) }
+        ensures reached { IfOk result (IsReached
+            (reading_at A.ReaderArena self.entry place.entry nesting_limit) lim.old lim.new) }
+        ensures refused { IfErr result
+            (NotMeasured (reading_at A.ReaderArena self.entry place.entry nesting_limit)
+            lim.old lim.new) }
     {
         if depth_of(nesting_limit) == 0 {
             return Err(ErrorKind::MessageIsTooDeeplyNested);
@@ -115,9 +125,11 @@ impl<'a, A: ReaderArena> Source<'a, A> {
     // Measures what a pointer leads to.
     fn measure(self, landing: Landing<'a>, lim: &mut ReadLimiter) -> Result<Object<'a>, ErrorKind>
         requires held { IsHeld (source_segments A.segments self) landing.start }
-        ensures object { IfOk result (OpensMeasure (step A.ReaderArena self.entry lim.old lim.new) (target landing.entry)) }
+        ensures object { IfOk result (OpensMeasure (step A.ReaderArena self.entry lim.old lim.new)
+            (target landing.entry)) }
         ensures few { IfOk result IsFew }
-        ensures refused { IfErr result (FailsMeasure (step A.ReaderArena self.entry lim.old lim.new) (target landing.entry)) }
+        ensures refused { IfErr result
+            (FailsMeasure (step A.ReaderArena self.entry lim.old lim.new) (target landing.entry)) }
     {
         match landing.word.kind() {
             WirePointerKind::Struct => self.measure_struct(landing, lim),
@@ -144,8 +156,10 @@ impl<'a, A: ReaderArena> Source<'a, A> {
         requires is_object { kind landing.word.0 < 2 }
         requires some { IsVoidList landing.word.0 → ⊥ }
         requires claimed { words ≡ claim landing.word.0 }
-        ensures claimed { OnOk result (PaysClaim (step A.ReaderArena self.entry lim.old lim.new) (target landing.entry)) }
-        ensures refused { IfErr result (FailsMeasure (step A.ReaderArena self.entry lim.old lim.new) (target landing.entry)) }
+        ensures claimed { OnOk result (PaysClaim (step A.ReaderArena self.entry lim.old lim.new)
+            (target landing.entry)) }
+        ensures refused { IfErr result
+            (FailsMeasure (step A.ReaderArena self.entry lim.old lim.new) (target landing.entry)) }
     {
         let end = u64::from(landing.start.at) + u64::from(words);
         if end > u64::from(landing.start.length()) {
@@ -162,9 +176,11 @@ impl<'a, A: ReaderArena> Source<'a, A> {
     ) -> Result<Object<'a>, ErrorKind>
         requires held { IsHeld (source_segments A.segments self) landing.start }
         requires is_struct { kind landing.word.0 ≡ 0 }
-        ensures object { IfOk result (OpensMeasure (step A.ReaderArena self.entry lim.old lim.new) (target landing.entry)) }
+        ensures object { IfOk result (OpensMeasure (step A.ReaderArena self.entry lim.old lim.new)
+            (target landing.entry)) }
         ensures few { IfOk result IsFew }
-        ensures refused { IfErr result (FailsMeasure (step A.ReaderArena self.entry lim.old lim.new) (target landing.entry)) }
+        ensures refused { IfErr result
+            (FailsMeasure (step A.ReaderArena self.entry lim.old lim.new) (target landing.entry)) }
     {
         match self.claim_words(landing, landing.word.struct_word_size(), lim) {
             Ok(()) => Ok(Object::Struct {
@@ -183,9 +199,11 @@ impl<'a, A: ReaderArena> Source<'a, A> {
     ) -> Result<Object<'a>, ErrorKind>
         requires held { IsHeld (source_segments A.segments self) landing.start }
         requires is_list { kind landing.word.0 ≡ 1 }
-        ensures object { IfOk result (OpensMeasure (step A.ReaderArena self.entry lim.old lim.new) (target landing.entry)) }
+        ensures object { IfOk result (OpensMeasure (step A.ReaderArena self.entry lim.old lim.new)
+            (target landing.entry)) }
         ensures few { IfOk result IsFew }
-        ensures refused { IfErr result (FailsMeasure (step A.ReaderArena self.entry lim.old lim.new) (target landing.entry)) }
+        ensures refused { IfErr result
+            (FailsMeasure (step A.ReaderArena self.entry lim.old lim.new) (target landing.entry)) }
     {
         match landing.word.list_element_size() {
             ElementSize::InlineComposite => self.measure_structs(landing, lim),
@@ -211,9 +229,11 @@ impl<'a, A: ReaderArena> Source<'a, A> {
         requires is_size { size_number size ≡ element_size landing.word.0 }
         requires some { 0 < size_number size }
         requires is_flat { size_number size ≤ 5 }
-        ensures object { IfOk result (OpensMeasure (step A.ReaderArena self.entry lim.old lim.new) (target landing.entry)) }
+        ensures object { IfOk result (OpensMeasure (step A.ReaderArena self.entry lim.old lim.new)
+            (target landing.entry)) }
         ensures few { IfOk result IsFew }
-        ensures refused { IfErr result (FailsMeasure (step A.ReaderArena self.entry lim.old lim.new) (target landing.entry)) }
+        ensures refused { IfErr result
+            (FailsMeasure (step A.ReaderArena self.entry lim.old lim.new) (target landing.entry)) }
     {
         let count = landing.word.list_element_count();
         let bits = data_bits_per_element(size);
@@ -237,9 +257,11 @@ impl<'a, A: ReaderArena> Source<'a, A> {
         requires held { IsHeld (source_segments A.segments self) landing.start }
         requires is_list { kind landing.word.0 ≡ 1 }
         requires of_pointers { element_size landing.word.0 ≡ 6 }
-        ensures object { IfOk result (OpensMeasure (step A.ReaderArena self.entry lim.old lim.new) (target landing.entry)) }
+        ensures object { IfOk result (OpensMeasure (step A.ReaderArena self.entry lim.old lim.new)
+            (target landing.entry)) }
         ensures few { IfOk result IsFew }
-        ensures refused { IfErr result (FailsMeasure (step A.ReaderArena self.entry lim.old lim.new) (target landing.entry)) }
+        ensures refused { IfErr result
+            (FailsMeasure (step A.ReaderArena self.entry lim.old lim.new) (target landing.entry)) }
     {
         let count = landing.word.list_element_count();
         match self.claim_words(landing, count, lim) {
@@ -260,9 +282,11 @@ impl<'a, A: ReaderArena> Source<'a, A> {
         requires held { IsHeld (source_segments A.segments self) landing.start }
         requires is_list { kind landing.word.0 ≡ 1 }
         requires of_structs { element_size landing.word.0 ≡ 7 }
-        ensures object { IfOk result (OpensMeasure (step A.ReaderArena self.entry lim.old lim.new) (target landing.entry)) }
+        ensures object { IfOk result (OpensMeasure (step A.ReaderArena self.entry lim.old lim.new)
+            (target landing.entry)) }
         ensures few { IfOk result IsFew }
-        ensures refused { IfErr result (FailsMeasure (step A.ReaderArena self.entry lim.old lim.new) (target landing.entry)) }
+        ensures refused { IfErr result
+            (FailsMeasure (step A.ReaderArena self.entry lim.old lim.new) (target landing.entry)) }
     {
         let words = landing.word.list_inline_composite_word_count();
         match self.claim_words(landing, words + 1, lim) {

@@ -27,9 +27,13 @@ impl<'a, A: ReaderArena> Source<'a, A> {
         lim: &mut ReadLimiter,
     ) -> Result<PointerType, ErrorKind>
         requires held { IsHeld (source_segments A.segments self) place }
-        ensures of_type { IfOk result (IsOfType (reading_at A.ReaderArena self.entry place.entry nesting_limit) lim.old lim.new) }
-        ensures exactly { IsOk result ↔ HasType (reading_at A.ReaderArena self.entry place.entry nesting_limit) lim.old }
-        ensures refused { IfErr result (HasNoType (reading_at A.ReaderArena self.entry place.entry nesting_limit) lim.old lim.new) }
+        ensures of_type { IfOk result (IsOfType
+            (reading_at A.ReaderArena self.entry place.entry nesting_limit) lim.old lim.new) }
+        ensures exactly { IsOk result ↔ HasType
+            (reading_at A.ReaderArena self.entry place.entry nesting_limit) lim.old }
+        ensures refused { IfErr result
+            (HasNoType (reading_at A.ReaderArena self.entry place.entry nesting_limit)
+            lim.old lim.new) }
     {
         let word = place.word();
         if word.is_null() {

@@ -3,7 +3,7 @@ ghost use Rattle.std.specs.Prelude.{ℕ, ◌≡◌, ◌≢◌, ◌<◌, ◌≤�
 ghost use Rattle.capnp_format.specs.Bytes.{words_of};
 ghost use Rattle.capnp_format.specs.Word.{kind};
 ghost use Rattle.capnp_format.specs.Numbers.{words_for};
-ghost use Rattle.capnp_pointers.specs.Sizes.{size_number};
+ghost use Rattle.capnp_words.specs.Sizes.{size_number};
 ghost use Rattle.capnp_objects.specs.Reading.{row, word_of};
 ghost use Rattle.capnp_objects.specs.Source.{levels};
 ghost use Rattle.capnp_readers.specs.Readers.{reading};
@@ -44,10 +44,16 @@ impl<'a, A: ReaderArena> PointerReader<'a, A> {
     /// before it stays charged. So it is with a no: it is said at the first place that isn't
     /// canonical, and what was charged until then stays charged.
     pub fn is_canonical(&self, lim: &mut ReadLimiter, head: &mut u32) -> Result<bool, ErrorKind>
-        ensures exactly { IfOk result (λ b. IsTrue b ↔ IsCanonicalAt (reading A.ReaderArena self.now) head.old) }
-        ensures found { IfOk result (λ b. IsTrue b → IsFound (reading A.ReaderArena self.now) (progress head.old lim.old) (progress head.new lim.new)) }
-        ensures refused { IfErr result (λ k. TestStops k (reading A.ReaderArena self.now) (progress head.old lim.old) lim.new) }
-        ensures failed { result ≡ Ok false → TestFails (reading A.ReaderArena self.now) (progress head.old lim.old) lim.new }
+        ensures exactly { IfOk result (λ b. IsTrue b
+            ↔ IsCanonicalAt (reading A.ReaderArena self.now) head.old) }
+        ensures found { IfOk result (λ b. IsTrue b
+            → IsFound (reading A.ReaderArena self.now) (progress head.old lim.old)
+            (progress head.new lim.new)) }
+        ensures refused { IfErr result
+            (λ k. TestStops k (reading A.ReaderArena self.now)
+            (progress head.old lim.old) lim.new) }
+        ensures failed { result ≡ Ok false
+            → TestFails (reading A.ReaderArena self.now) (progress head.old lim.old) lim.new }
         ensures kept { (result ≡ Ok true → ⊥) → head.new ≡ head.old }
     {
         match test_place(self, self.place.at, self.nesting_limit, *head, lim) {
@@ -81,16 +87,27 @@ impl<'a, A: ReaderArena> StructReader<'a, A> {
         data_trunc: &mut bool,
         ptr_trunc: &mut bool,
     ) -> Result<bool, ErrorKind>
-        ensures exactly { IfOk result (λ b. IsTrue b ↔ IsCanonicalStruct A.ReaderArena self.now read_head.old ptr_head.old) }
-        ensures found { IfOk result (λ b. IsTrue b → ArePointersFound A.ReaderArena self.now (progress ptr_head.old lim.old) (progress ptr_head.new lim.new)) }
-        ensures behind { IfOk result (λ b. IsTrue b → read_head.new ≡ head_behind A.ReaderArena self.now read_head.old) }
-        ensures data { IfOk result (λ b. IsTrue b → IsTrue data_trunc.new ↔ IsDataUsed A.ReaderArena self.now) }
-        ensures pointers { IfOk result (λ b. IsTrue b → IsTrue ptr_trunc.new ↔ ArePointersUsed A.ReaderArena self.now) }
+        ensures exactly { IfOk result (λ b. IsTrue b
+            ↔ IsCanonicalStruct A.ReaderArena self.now read_head.old ptr_head.old) }
+        ensures found { IfOk result (λ b. IsTrue b
+            → ArePointersFound A.ReaderArena self.now (progress ptr_head.old lim.old)
+            (progress ptr_head.new lim.new)) }
+        ensures behind { IfOk result (λ b. IsTrue b → read_head.new
+            ≡ head_behind A.ReaderArena self.now read_head.old) }
+        ensures data { IfOk result (λ b. IsTrue b → IsTrue data_trunc.new
+            ↔ IsDataUsed A.ReaderArena self.now) }
+        ensures pointers { IfOk result (λ b. IsTrue b → IsTrue ptr_trunc.new
+            ↔ ArePointersUsed A.ReaderArena self.now) }
         ensures started { IfErr result (λ k. StartsWhole A.ReaderArena self.now read_head.old) }
-        ensures refused { IfErr result (PointerTestsStop A.ReaderArena self.now (progress ptr_head.old lim.old) lim.new) }
-        ensures failed { result ≡ Ok false → StructTestFails A.ReaderArena self.now read_head.old (progress ptr_head.old lim.old) lim.new }
-        ensures kept { (result ≡ Ok true → ⊥) → (read_head.new ≡ read_head.old) × (ptr_head.new ≡ ptr_head.old) }
-        ensures flags { (result ≡ Ok true → ⊥) → (data_trunc.new ≡ data_trunc.old) × (ptr_trunc.new ≡ ptr_trunc.old) }
+        ensures refused { IfErr result
+            (PointerTestsStop A.ReaderArena self.now (progress ptr_head.old lim.old) lim.new) }
+        ensures failed { result ≡ Ok false
+            → StructTestFails A.ReaderArena self.now read_head.old
+            (progress ptr_head.old lim.old) lim.new }
+        ensures kept { (result ≡ Ok true → ⊥) → (read_head.new ≡ read_head.old)
+            × (ptr_head.new ≡ ptr_head.old) }
+        ensures flags { (result ≡ Ok true → ⊥) → (data_trunc.new ≡ data_trunc.old)
+            × (ptr_trunc.new ≡ ptr_trunc.old) }
     {
         if !self.begins_somewhere() {
             return Ok(false);
@@ -133,15 +150,27 @@ impl<'a, A: ReaderArena> StructReader<'a, A> {
         data_trunc: &mut bool,
         ptr_trunc: &mut bool,
     ) -> Result<bool, ErrorKind>
-        ensures exactly { IfOk result (λ b. IsTrue b ↔ IsCanonicalStruct A.ReaderArena self.now head.old (head_behind A.ReaderArena self.now head.old)) }
-        ensures found { IfOk result (λ b. IsTrue b → ArePointersFound A.ReaderArena self.now (progress (head_behind A.ReaderArena self.now head.old) lim.old) (progress head.new lim.new)) }
-        ensures data { IfOk result (λ b. IsTrue b → IsTrue data_trunc.new ↔ IsDataUsed A.ReaderArena self.now) }
-        ensures pointers { IfOk result (λ b. IsTrue b → IsTrue ptr_trunc.new ↔ ArePointersUsed A.ReaderArena self.now) }
+        ensures exactly { IfOk result (λ b. IsTrue b
+            ↔ IsCanonicalStruct A.ReaderArena self.now head.old
+            (head_behind A.ReaderArena self.now head.old)) }
+        ensures found { IfOk result (λ b. IsTrue b
+            → ArePointersFound A.ReaderArena self.now
+            (progress (head_behind A.ReaderArena self.now head.old) lim.old)
+            (progress head.new lim.new)) }
+        ensures data { IfOk result (λ b. IsTrue b → IsTrue data_trunc.new
+            ↔ IsDataUsed A.ReaderArena self.now) }
+        ensures pointers { IfOk result (λ b. IsTrue b → IsTrue ptr_trunc.new
+            ↔ ArePointersUsed A.ReaderArena self.now) }
         ensures started { IfErr result (λ k. StartsWhole A.ReaderArena self.now head.old) }
-        ensures refused { IfErr result (PointerTestsStop A.ReaderArena self.now (progress (head_behind A.ReaderArena self.now head.old) lim.old) lim.new) }
-        ensures failed { result ≡ Ok false → StructTestFails A.ReaderArena self.now head.old (progress (head_behind A.ReaderArena self.now head.old) lim.old) lim.new }
+        ensures refused { IfErr result
+            (PointerTestsStop A.ReaderArena self.now
+            (progress (head_behind A.ReaderArena self.now head.old) lim.old) lim.new) }
+        ensures failed { result ≡ Ok false
+            → StructTestFails A.ReaderArena self.now head.old
+            (progress (head_behind A.ReaderArena self.now head.old) lim.old) lim.new }
         ensures kept { (result ≡ Ok true → ⊥) → head.new ≡ head.old }
-        ensures flags { (result ≡ Ok true → ⊥) → (data_trunc.new ≡ data_trunc.old) × (ptr_trunc.new ≡ ptr_trunc.old) }
+        ensures flags { (result ≡ Ok true → ⊥) → (data_trunc.new ≡ data_trunc.old)
+            × (ptr_trunc.new ≡ ptr_trunc.old) }
     {
         if self.bits % 64 != 0 || self.byte != 8 * u64::from(*head) {
             return Ok(false);
@@ -180,9 +209,14 @@ fn test_place<A: ReaderArena>(
     head: u32,
     lim: &mut ReadLimiter,
 ) -> Result<Option<u32>, ErrorKind>
-    ensures tells { IfOk result (Tells (reading_on A.ReaderArena from.now at nesting_limit) (progress head lim.old) lim.new) }
-    ensures refused { IfErr result (λ k. TestStops k (reading_on A.ReaderArena from.now at nesting_limit) (progress head lim.old) lim.new) }
-    ensures failed { IfOk result (λ o. IfNone o (TestFails (reading_on A.ReaderArena from.now at nesting_limit) (progress head lim.old) lim.new)) }
+    ensures tells { IfOk result (Tells (reading_on A.ReaderArena from.now at nesting_limit)
+        (progress head lim.old) lim.new) }
+    ensures refused { IfErr result
+        (λ k. TestStops k (reading_on A.ReaderArena from.now at nesting_limit)
+        (progress head lim.old) lim.new) }
+    ensures failed { IfOk result (λ o.
+        IfNone o (TestFails (reading_on A.ReaderArena from.now at nesting_limit)
+        (progress head lim.old) lim.new)) }
 {
     let word = Place { at, ..from.place }.word();
     if at as usize >= whole_words(from.place.bytes) {
@@ -212,9 +246,14 @@ fn test_children<A: ReaderArena>(
     lim: &mut ReadLimiter,
 ) -> Result<Option<u32>, ErrorKind>
     requires inside { at + count ≤ length (row (reading A.ReaderArena from.now)) }
-    ensures tells { IfOk result (TellsAll (reading_on A.ReaderArena from.now at nesting_limit) count (progress first lim.old) lim.new) }
-    ensures refused { IfErr result (TestsStop (reading_on A.ReaderArena from.now at nesting_limit) count (progress first lim.old) lim.new) }
-    ensures failed { IfOk result (λ o. IfNone o (TestsFail (reading_on A.ReaderArena from.now at nesting_limit) count (progress first lim.old) lim.new)) }
+    ensures tells { IfOk result (TellsAll (reading_on A.ReaderArena from.now at nesting_limit) count
+        (progress first lim.old) lim.new) }
+    ensures refused { IfErr result
+        (TestsStop (reading_on A.ReaderArena from.now at nesting_limit) count
+        (progress first lim.old) lim.new) }
+    ensures failed { IfOk result (λ o.
+        IfNone o (TestsFail (reading_on A.ReaderArena from.now at nesting_limit) count
+        (progress first lim.old) lim.new)) }
 {
     let mut head = first;
     for i in 0..count {
@@ -242,9 +281,14 @@ fn test_struct<A: ReaderArena>(
     requires there { word.0 ≡ word_of (reading_on A.ReaderArena from.now at nesting_limit) }
     requires some { word.0 ≢ 0 }
     requires is_struct { kind word.0 ≡ 0 }
-    ensures tells { IfOk result (Tells (reading_on A.ReaderArena from.now at nesting_limit) (progress head lim.old) lim.new) }
-    ensures refused { IfErr result (λ k. TestStops k (reading_on A.ReaderArena from.now at nesting_limit) (progress head lim.old) lim.new) }
-    ensures failed { IfOk result (λ o. IfNone o (TestFails (reading_on A.ReaderArena from.now at nesting_limit) (progress head lim.old) lim.new)) }
+    ensures tells { IfOk result (Tells (reading_on A.ReaderArena from.now at nesting_limit)
+        (progress head lim.old) lim.new) }
+    ensures refused { IfErr result
+        (λ k. TestStops k (reading_on A.ReaderArena from.now at nesting_limit)
+        (progress head lim.old) lim.new) }
+    ensures failed { IfOk result (λ o.
+        IfNone o (TestFails (reading_on A.ReaderArena from.now at nesting_limit)
+        (progress head lim.old) lim.new)) }
 {
     let place = Place { at, ..from.place };
     let start = match from
@@ -274,10 +318,16 @@ fn test_sections<A: ReaderArena>(
     nesting_limit: i32,
     lim: &mut ReadLimiter,
 ) -> Result<Option<u32>, ErrorKind>
-    requires inside { start + (size.data_words + size.pointers) ≤ length (row (reading A.ReaderArena from.now)) }
-    ensures tells { IfOk result (TellsStruct (reading_on A.ReaderArena from.now start nesting_limit) size lim.old lim.new) }
-    ensures refused { IfErr result (StructTestStops (reading_on A.ReaderArena from.now start nesting_limit) size lim.old lim.new) }
-    ensures failed { IfOk result (λ o. IfNone o (SectionsFail (reading_on A.ReaderArena from.now start nesting_limit) size lim.old lim.new)) }
+    requires inside { start + (size.data_words + size.pointers)
+        ≤ length (row (reading A.ReaderArena from.now)) }
+    ensures tells { IfOk result (TellsStruct (reading_on A.ReaderArena from.now start nesting_limit)
+        size lim.old lim.new) }
+    ensures refused { IfErr result
+        (StructTestStops (reading_on A.ReaderArena from.now start nesting_limit) size
+        lim.old lim.new) }
+    ensures failed { IfOk result (λ o.
+        IfNone o (SectionsFail (reading_on A.ReaderArena from.now start nesting_limit) size
+        lim.old lim.new)) }
 {
     let data_words = u32::from(size.data_words);
     let pointers = u32::from(size.pointers);
@@ -307,9 +357,14 @@ fn test_list<A: ReaderArena>(
     requires tested { IsTested (reading_on A.ReaderArena from.now at nesting_limit) }
     requires there { word.0 ≡ word_of (reading_on A.ReaderArena from.now at nesting_limit) }
     requires is_list { kind word.0 ≡ 1 }
-    ensures tells { IfOk result (Tells (reading_on A.ReaderArena from.now at nesting_limit) (progress head lim.old) lim.new) }
-    ensures refused { IfErr result (λ k. TestStops k (reading_on A.ReaderArena from.now at nesting_limit) (progress head lim.old) lim.new) }
-    ensures failed { IfOk result (λ o. IfNone o (TestFails (reading_on A.ReaderArena from.now at nesting_limit) (progress head lim.old) lim.new)) }
+    ensures tells { IfOk result (Tells (reading_on A.ReaderArena from.now at nesting_limit)
+        (progress head lim.old) lim.new) }
+    ensures refused { IfErr result
+        (λ k. TestStops k (reading_on A.ReaderArena from.now at nesting_limit)
+        (progress head lim.old) lim.new) }
+    ensures failed { IfOk result (λ o.
+        IfNone o (TestFails (reading_on A.ReaderArena from.now at nesting_limit)
+        (progress head lim.old) lim.new)) }
 {
     let place = Place { at, ..from.place };
     let object = match from.source.read_object(place, nesting_limit, lim) {
@@ -346,10 +401,16 @@ fn test_structs<A: ReaderArena>(
     lim: &mut ReadLimiter,
 ) -> Result<Option<u32>, ErrorKind>
     requires inside { start + claimed ≤ length (row (reading A.ReaderArena from.now)) }
-    ensures tells { IfOk result (TellsClaimed (reading_on A.ReaderArena from.now start nesting_limit) size count claimed lim.old lim.new) }
+    ensures tells { IfOk result (TellsClaimed
+        (reading_on A.ReaderArena from.now start nesting_limit) size count claimed
+        lim.old lim.new) }
     ensures exact { OnErr result (count * (size.data_words + size.pointers) ≡ claimed) }
-    ensures refused { IfErr result (RowTestsStop (reading_on A.ReaderArena from.now start nesting_limit) size count (progress (start + claimed) lim.old) lim.new) }
-    ensures failed { IfOk result (λ o. IfNone o (ClaimedFails (reading_on A.ReaderArena from.now start nesting_limit) size count claimed lim.old lim.new)) }
+    ensures refused { IfErr result
+        (RowTestsStop (reading_on A.ReaderArena from.now start nesting_limit) size count
+        (progress (start + claimed) lim.old) lim.new) }
+    ensures failed { IfOk result (λ o.
+        IfNone o (ClaimedFails (reading_on A.ReaderArena from.now start nesting_limit) size count
+        claimed lim.old lim.new)) }
 {
     if u64::from(count) * u64::from(size.total()) != u64::from(claimed) {
         return Ok(None);
@@ -371,10 +432,16 @@ fn test_rows<A: ReaderArena>(
     nesting_limit: i32,
     lim: &mut ReadLimiter,
 ) -> Result<Option<u32>, ErrorKind>
-    requires inside { start + count * (size.data_words + size.pointers) ≤ length (row (reading A.ReaderArena from.now)) }
-    ensures tells { IfOk result (TellsRows (reading_on A.ReaderArena from.now start nesting_limit) size count (progress (start + count * (size.data_words + size.pointers)) lim.old) lim.new) }
-    ensures refused { IfErr result (RowTestsStop (reading_on A.ReaderArena from.now start nesting_limit) size count (progress (start + count * (size.data_words + size.pointers)) lim.old) lim.new) }
-    ensures failed { IfOk result (λ o. IfNone o (RowsFail (reading_on A.ReaderArena from.now start nesting_limit) size count lim.old lim.new)) }
+    requires inside { start + count * (size.data_words + size.pointers)
+        ≤ length (row (reading A.ReaderArena from.now)) }
+    ensures tells { IfOk result (TellsRows (reading_on A.ReaderArena from.now start nesting_limit)
+        size count (progress (start + count * (size.data_words + size.pointers)) lim.old) lim.new) }
+    ensures refused { IfErr result
+        (RowTestsStop (reading_on A.ReaderArena from.now start nesting_limit) size count
+        (progress (start + count * (size.data_words + size.pointers)) lim.old) lim.new) }
+    ensures failed { IfOk result (λ o.
+        IfNone o (RowsFail (reading_on A.ReaderArena from.now start nesting_limit) size count
+        lim.old lim.new)) }
 {
     let data_words = u32::from(size.data_words);
     let pointers = u32::from(size.pointers);
@@ -412,9 +479,14 @@ fn test_row<A: ReaderArena>(
     lim: &mut ReadLimiter,
 ) -> Result<Option<u32>, ErrorKind>
     requires inside { at + count ≤ length (row (reading A.ReaderArena from.now)) }
-    ensures tells { IfOk result (TellsAll (reading_on A.ReaderArena from.now at nesting_limit) count (progress first lim.old) lim.new) }
-    ensures refused { IfErr result (TestsStop (reading_on A.ReaderArena from.now at nesting_limit) count (progress first lim.old) lim.new) }
-    ensures failed { IfOk result (λ o. IfNone o (TestsFail (reading_on A.ReaderArena from.now at nesting_limit) count (progress first lim.old) lim.new)) }
+    ensures tells { IfOk result (TellsAll (reading_on A.ReaderArena from.now at nesting_limit) count
+        (progress first lim.old) lim.new) }
+    ensures refused { IfErr result
+        (TestsStop (reading_on A.ReaderArena from.now at nesting_limit) count
+        (progress first lim.old) lim.new) }
+    ensures failed { IfOk result (λ o.
+        IfNone o (TestsFail (reading_on A.ReaderArena from.now at nesting_limit) count
+        (progress first lim.old) lim.new)) }
 {
     if count == 0 {
         return Ok(Some(first));
@@ -462,7 +534,8 @@ fn whole_words(bytes: &[u8]) -> usize
 /// Whether there are none of so many words from a position on, or the last isn't zero.
 fn ends_used(place: Place, at: u32, count: u32) -> bool
     requires { at + count < 2 ^ 32 }
-    ensures { IsTrue result ↔ (count ≡ 0) ⊎ (slice_index (words_of place.entry.bytes.now) (at + count - 1) ≢ 0) }
+    ensures { IsTrue result
+        ↔ (count ≡ 0) ⊎ (slice_index (words_of place.entry.bytes.now) (at + count - 1) ≢ 0) }
 {
     if count == 0 {
         return true;

@@ -2,9 +2,9 @@
 ghost use Rattle.std.specs.Prelude.{◌≡◌, ◌≢◌, ◌<◌, ◌≤◌, ◌+◌, ◌*◌, ◌/◌, ◌^◌, ◌↔◌, ℕ, pos, [], ⊤, IsTrue, length, take, drop, slice_range, nat_eq};
 ghost use Rattle.capnp_format.specs.Bytes.{message};
 ghost use Rattle.capnp_format.specs.Segments.{word_at, segment};
-ghost use Rattle.capnp_pointers.specs.declared.wire_pointer.ElementSize.TheVariants.{Void, InlineComposite};
+ghost use Rattle.capnp_words.specs.declared.wire_pointer.ElementSize.TheVariants.{Void, InlineComposite};
 ghost use Rattle.capnp_format.specs.Numbers.{element_bits, from_digits};
-ghost use Rattle.capnp_pointers.specs.Sizes.{size_number};
+ghost use Rattle.capnp_words.specs.Sizes.{size_number};
 ghost use Rattle.capnp_objects.specs.Source.{source_segments};
 ghost use Rattle.capnp_objects.specs.Objects.{IsHeld};
 ghost use Rattle.capnp_readers.specs.Sections.{IsPart, HasRoom, IsSized, HoldsPointer, list_words, pointers_behind, bit_at, step_bits, data_bits, low_data};
@@ -118,7 +118,8 @@ impl<'a, A: ReaderArena> ListReader<'a, A> {
         ensures source { result.source ≡ Source.Arena arena.entry }
         ensures elements { (result.element_size ≡ place.size) × (result.count ≡ place.count) }
         ensures sections { place.size ≡ InlineComposite → result.struct_size ≡ place.struct_size }
-        ensures start { (result.start.segment ≡ place.segment) × (8 * result.start.at ≡ place.byte) }
+        ensures start { (result.start.segment ≡ place.segment)
+            × (8 * result.start.at ≡ place.byte) }
         ensures nesting { result.nesting_limit ≡ nesting_limit }
     {
         let Ok(bytes) = arena.get_segment(place.segment) else {
@@ -154,11 +155,13 @@ impl<'a, A: ReaderArena> ListReader<'a, A> {
         nesting_limit: i32,
     ) -> Self
         requires held { IsHeld (source_segments A.segments source) start }
-        requires room { HasRoom (source_segments A.segments source) start (list_words element_size count (struct_size.data_words + struct_size.pointers)) }
+        requires room { HasRoom (source_segments A.segments source) start
+            (list_words element_size count (struct_size.data_words + struct_size.pointers)) }
         requires sized { IsSized element_size struct_size }
         ensures source { result.source ≡ source.entry }
         ensures size { result.element_size ≡ element_size }
-        ensures shows { ShowsList A.ReaderArena (source_segments A.segments source.entry) result start.entry.segment start.entry.at count struct_size.data_words struct_size.pointers }
+        ensures shows { ShowsList A.ReaderArena (source_segments A.segments source.entry) result
+            start.entry.segment start.entry.at count struct_size.data_words struct_size.pointers }
         ensures nesting { result.nesting_limit ≡ nesting_limit }
     {
         let first = 8 * start.at as usize;
@@ -198,7 +201,8 @@ impl<'a, A: ReaderArena> ListReader<'a, A> {
     /// The two sections of each element of a struct list, else 0 and 0.
     pub fn struct_size(&self) -> StructSize
         ensures value { result ≡ self.now.struct_size }
-        ensures none { size_number self.now.element_size < 7 → (result.data_words ≡ 0) × (result.pointers ≡ 0) }
+        ensures none { size_number self.now.element_size < 7
+            → (result.data_words ≡ 0) × (result.pointers ≡ 0) }
     {
         self.struct_size
     }
@@ -221,7 +225,8 @@ impl<'a, A: ReaderArena> ListReader<'a, A> {
     /// first data word, and 0 where an element has no data. There are more elements than `index`.
     pub fn element_data(&self, index: u32) -> u64
         requires { index < self.now.count }
-        ensures { result ≡ low_data self.now.element_size self.now.struct_size self.now.content.now index }
+        ensures { result ≡ low_data self.now.element_size self.now.struct_size
+            self.now.content.now index }
     {
         match self.element_size {
             ElementSize::Bit => u64::from(self.bit_at(index)),
@@ -255,8 +260,11 @@ impl<'a, A: ReaderArena> ListReader<'a, A> {
     pub(crate) fn number_at<T: Primitive>(&self, index: u32) -> T
         requires range { index < self.now.count }
         requires wide { 8 * T.BYTES ≤ data_bits self.now.element_size self.now.struct_size }
-        ensures value { let start = element_start A.ReaderArena self.now index / 8 in result ≡ T.value_of (slice_range self.now.content.now start (start + T.BYTES)) }
-        ensures little_endian { let start = element_start A.ReaderArena self.now index / 8 in T.bits_of result ≡ from_digits 256 (slice_range self.now.content.now start (start + T.BYTES)) }
+        ensures value { let start = element_start A.ReaderArena self.now index / 8 in result
+            ≡ T.value_of (slice_range self.now.content.now start (start + T.BYTES)) }
+        ensures little_endian { let start = element_start A.ReaderArena self.now index / 8 in
+            T.bits_of result
+            ≡ from_digits 256 (slice_range self.now.content.now start (start + T.BYTES)) }
     {
         let n = T::BYTES;
         let step = self.step_bits() / 8;
@@ -268,7 +276,8 @@ impl<'a, A: ReaderArena> ListReader<'a, A> {
     pub(crate) fn bit_at(&self, index: u32) -> bool
         requires range { index < self.now.count }
         requires wide { 1 ≤ data_bits self.now.element_size self.now.struct_size }
-        ensures { result ≡ nat_eq (bit_at self.now.content.now (element_start A.ReaderArena self.now index)) 1 }
+        ensures { result ≡ nat_eq
+            (bit_at self.now.content.now (element_start A.ReaderArena self.now index)) 1 }
     {
         let at = index as usize * self.step_bits() as usize;
         self.content[at / 8] >> (at % 8) & 1 == 1
@@ -281,7 +290,9 @@ impl<'a, A: ReaderArena> ListReader<'a, A> {
         requires range { index < self.count }
         requires pointers { HoldsPointer self.element_size self.struct_size }
         ensures source { result.source ≡ self.entry.source }
-        ensures place { (result.place.segment ≡ self.entry.start.segment) × (result.place.at ≡ self.entry.start.at + pointers_behind self.entry.element_size self.entry.struct_size index) }
+        ensures place { (result.place.segment ≡ self.entry.start.segment)
+            × (result.place.at ≡ self.entry.start.at
+            + pointers_behind self.entry.element_size self.entry.struct_size index) }
         ensures nesting { result.nesting_limit ≡ self.entry.nesting_limit }
     {
         let behind = match self.element_size {
@@ -380,7 +391,8 @@ impl<'a, A: ReaderArena> ListReader<'a, A> {
         ensures source { result.source ≡ self.now.source }
         ensures bits { result.bits ≡ element_bits (size_number self.now.element_size) }
         ensures byte { result.byte ≡ 8 * self.now.start.at + index * (result.bits / 8) }
-        ensures content { result.content.now ≡ slice_range self.now.content.now (index * (result.bits / 8)) (index * (result.bits / 8) + result.bits / 8) }
+        ensures content { result.content.now ≡ slice_range self.now.content.now
+            (index * (result.bits / 8)) (index * (result.bits / 8) + result.bits / 8) }
         ensures pointers { result.pointer_count ≡ 0 }
         ensures nesting { result.nesting_limit ≡ nesting_limit }
     {

@@ -1,9 +1,9 @@
 //! Elements of lists that are numbers, bits or nothing.
 ghost use Rattle.std.specs.Prelude.{◌≡◌, ◌<◌, ◌≤◌, ◌+◌, ◌/◌, ℕ, List, nat_eq, slice_range};
 ghost use Rattle.capnp_format.specs.Numbers.{element_bits};
-ghost use Rattle.capnp_pointers.specs.Sizes.{size_number};
-ghost use Rattle.capnp_pointers.specs.declared.wire_pointer.ElementSize.{ElementSize};
-ghost use Rattle.capnp_pointers.specs.declared.wire_pointer.ElementSize.TheVariants.{Void, Bit, Byte, TwoBytes, FourBytes, EightBytes};
+ghost use Rattle.capnp_words.specs.Sizes.{size_number};
+ghost use Rattle.capnp_words.specs.declared.wire_pointer.ElementSize.{ElementSize};
+ghost use Rattle.capnp_words.specs.declared.wire_pointer.ElementSize.TheVariants.{Void, Bit, Byte, TwoBytes, FourBytes, EightBytes};
 ghost use Rattle.capnp_readers.specs.Sections.{bit_at, data_bits};
 ghost use Rattle.capnp_readers.specs.Readers.{element_start};
 
@@ -26,8 +26,10 @@ pub trait PrimitiveElement {
     /// list of structs reads as before ("Lists").
     fn get<A: ReaderArena>(list: &ListReader<'_, A>, index: u32) -> Self
         requires range { 0 < element_bits (size_number size) → index < list.now.count }
-        requires wide { element_bits (size_number size) ≤ data_bits list.now.element_size list.now.struct_size }
-        ensures { result ≡ value_at list.now.content.now (element_start A.ReaderArena list.now index) };
+        requires wide { element_bits (size_number size)
+            ≤ data_bits list.now.element_size list.now.struct_size }
+        ensures { result ≡ value_at list.now.content.now
+            (element_start A.ReaderArena list.now index) };
 
     /// The element size of a list of such elements: by the number of bytes, `Bit` for a `bool`, `Void`
     /// for `()` ("Lists").

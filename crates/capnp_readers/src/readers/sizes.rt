@@ -2,7 +2,7 @@
 ghost use Rattle.std.specs.Prelude.{◌≡◌, ◌≢◌, ◌<◌, ◌≤◌, ◌+◌, ◌*◌, ◌-◌, ◌^◌, ◌↔◌, length, IsTrue, MatchOption, IsOk, IfOk, OnOk, IfErr};
 ghost use Rattle.capnp_format.specs.Word.{kind, element_size, list_count};
 ghost use Rattle.capnp_format.specs.Numbers.{words_for};
-ghost use Rattle.capnp_pointers.specs.Sizes.{size_number};
+ghost use Rattle.capnp_words.specs.Sizes.{size_number};
 ghost use Rattle.capnp_words.specs.declared.error.ErrorKind.TheVariants.{MessageTooLarge};
 ghost use Rattle.capnp_objects.specs.Objects.{IsFew};
 ghost use Rattle.capnp_objects.specs.Reading.{row, sized, word_of};
@@ -44,9 +44,11 @@ impl<'a, A: ReaderArena> PointerReader<'a, A> {
     /// pointer of a default, `ReadLimitExceeded`, or `MessageTooLarge(usize::MAX)` where the words
     /// don't fit 64 bits or the capabilities 32. It keeps what was charged.
     pub fn total_size(&self, lim: &mut ReadLimiter) -> Result<MessageSize, ErrorKind>
-        ensures sized { IfOk result (λ z. Totals (reading A.ReaderArena self.now) lim.old lim.new z.word_count z.cap_count) }
+        ensures sized { IfOk result (λ z.
+            Totals (reading A.ReaderArena self.now) lim.old lim.new z.word_count z.cap_count) }
         ensures exactly { IsOk result ↔ HasSize (reading A.ReaderArena self.now) lim.old }
-        ensures refused { IfErr result (SizeRefused (reading A.ReaderArena self.now) lim.old lim.new) }
+        ensures refused { IfErr result
+            (SizeRefused (reading A.ReaderArena self.now) lim.old lim.new) }
     {
         let mut total = MessageSize {
             word_count: 0,
@@ -67,9 +69,14 @@ impl<'a, A: ReaderArena> StructReader<'a, A> {
     /// charged, and take no level. Each pointer is counted, charged and refused as
     /// `PointerReader::total_size` does it, in order, with the sums begun at the struct's own words.
     pub fn total_size(&self, lim: &mut ReadLimiter) -> Result<MessageSize, ErrorKind>
-        ensures sized { IfOk result (λ z. WalksPointers (pointers_read A.ReaderArena self.now) self.now.pointer_count (begun A.ReaderArena self.now lim.old) (so_far z lim.new)) }
-        ensures exactly { IsOk result ↔ HaveSizes (pointers_read A.ReaderArena self.now) self.now.pointer_count (begun A.ReaderArena self.now lim.old) }
-        ensures refused { IfErr result (SizesStop (pointers_read A.ReaderArena self.now) self.now.pointer_count (begun A.ReaderArena self.now lim.old) lim.new) }
+        ensures sized { IfOk result (λ z. WalksPointers
+            (pointers_read A.ReaderArena self.now) self.now.pointer_count
+            (begun A.ReaderArena self.now lim.old) (so_far z lim.new)) }
+        ensures exactly { IsOk result ↔ HaveSizes (pointers_read A.ReaderArena self.now)
+            self.now.pointer_count (begun A.ReaderArena self.now lim.old) }
+        ensures refused { IfErr result
+            (SizesStop (pointers_read A.ReaderArena self.now) self.now.pointer_count
+            (begun A.ReaderArena self.now lim.old) lim.new) }
     {
         let first = PointerReader {
             source: self.source,
@@ -93,7 +100,8 @@ impl MessageSize {
     // Adds words.
     fn add_words(&mut self, words: u64) -> Result<(), ErrorKind>
         ensures exactly { IsOk result ↔ (self.old.word_count + words < 2 ^ 64) }
-        ensures sum { OnOk result ((self.new.word_count ≡ self.old.word_count + words) × (self.new.cap_count ≡ self.old.cap_count)) }
+        ensures sum { OnOk result ((self.new.word_count ≡ self.old.word_count + words)
+            × (self.new.cap_count ≡ self.old.cap_count)) }
         ensures named { IfErr result (λ k. k ≡ MessageTooLarge (2 ^ 64 - 1)) }
     {
         match self.word_count.checked_add(words) {
@@ -108,7 +116,8 @@ impl MessageSize {
     // Adds a capability.
     fn add_capability(&mut self) -> Result<(), ErrorKind>
         ensures exactly { IsOk result ↔ (self.old.cap_count + 1 < 2 ^ 32) }
-        ensures sum { OnOk result ((self.new.word_count ≡ self.old.word_count) × (self.new.cap_count ≡ self.old.cap_count + 1)) }
+        ensures sum { OnOk result ((self.new.word_count ≡ self.old.word_count)
+            × (self.new.cap_count ≡ self.old.cap_count + 1)) }
         ensures named { IfErr result (λ k. k ≡ MessageTooLarge (2 ^ 64 - 1)) }
     {
         match self.cap_count.checked_add(1) {
@@ -148,9 +157,12 @@ fn add_pointers<A: ReaderArena>(
 ) -> Result<(), ErrorKind>
     requires inside { at + count ≤ length (row (reading A.ReaderArena from.now)) }
     requires fits { FitSize total.old.word_count total.old.cap_count }
-    ensures sized { OnOk result (WalksPointers (reading_on A.ReaderArena from.now at nesting_limit) count (so_far total.old lim.old) (so_far total.new lim.new)) }
+    ensures sized { OnOk result (WalksPointers (reading_on A.ReaderArena from.now at nesting_limit)
+        count (so_far total.old lim.old) (so_far total.new lim.new)) }
     ensures fits { OnOk result (FitSize total.new.word_count total.new.cap_count) }
-    ensures refused { IfErr result (SizesStop (reading_on A.ReaderArena from.now at nesting_limit) count (so_far total.old lim.old) lim.new) }
+    ensures refused { IfErr result
+        (SizesStop (reading_on A.ReaderArena from.now at nesting_limit) count
+        (so_far total.old lim.old) lim.new) }
 {
     for i in 0..count {
         match add_pointer(from, at + i, nesting_limit, total, lim) {
@@ -172,9 +184,12 @@ fn add_pointer<A: ReaderArena>(
     lim: &mut ReadLimiter,
 ) -> Result<(), ErrorKind>
     requires fits { FitSize total.old.word_count total.old.cap_count }
-    ensures sized { OnOk result (WalksPlace (reading_on A.ReaderArena from.now at nesting_limit) (so_far total.old lim.old) (so_far total.new lim.new)) }
+    ensures sized { OnOk result (WalksPlace (reading_on A.ReaderArena from.now at nesting_limit)
+        (so_far total.old lim.old) (so_far total.new lim.new)) }
     ensures fits { OnOk result (FitSize total.new.word_count total.new.cap_count) }
-    ensures refused { IfErr result (λ k. SizeStops k (reading_on A.ReaderArena from.now at nesting_limit) (so_far total.old lim.old) lim.new) }
+    ensures refused { IfErr result
+        (λ k. SizeStops k (reading_on A.ReaderArena from.now at nesting_limit)
+        (so_far total.old lim.old) lim.new) }
 {
     let word = Place { at, ..from.place }.word();
     if word.is_null() {
@@ -205,9 +220,12 @@ fn add_struct<A: ReaderArena>(
     requires some { word.0 ≢ 0 }
     requires is_struct { kind word.0 ≡ 0 }
     requires fits { FitSize total.old.word_count total.old.cap_count }
-    ensures sized { OnOk result (WalksPlace (reading_on A.ReaderArena from.now at nesting_limit) (so_far total.old lim.old) (so_far total.new lim.new)) }
+    ensures sized { OnOk result (WalksPlace (reading_on A.ReaderArena from.now at nesting_limit)
+        (so_far total.old lim.old) (so_far total.new lim.new)) }
     ensures fits { OnOk result (FitSize total.new.word_count total.new.cap_count) }
-    ensures refused { IfErr result (λ k. SizeStops k (reading_on A.ReaderArena from.now at nesting_limit) (so_far total.old lim.old) lim.new) }
+    ensures refused { IfErr result
+        (λ k. SizeStops k (reading_on A.ReaderArena from.now at nesting_limit)
+        (so_far total.old lim.old) lim.new) }
 {
     let place = Place { at, ..from.place };
     let words = word.struct_word_size();
@@ -244,9 +262,12 @@ fn add_flat<A: ReaderArena>(
     requires is_list { kind word.0 ≡ 1 }
     requires of_bits { (0 < element_size word.0) × (element_size word.0 ≤ 5) }
     requires fits { FitSize total.old.word_count total.old.cap_count }
-    ensures sized { OnOk result (WalksPlace (reading_on A.ReaderArena from.now at nesting_limit) (so_far total.old lim.old) (so_far total.new lim.new)) }
+    ensures sized { OnOk result (WalksPlace (reading_on A.ReaderArena from.now at nesting_limit)
+        (so_far total.old lim.old) (so_far total.new lim.new)) }
     ensures fits { OnOk result (FitSize total.new.word_count total.new.cap_count) }
-    ensures refused { IfErr result (λ k. SizeStops k (reading_on A.ReaderArena from.now at nesting_limit) (so_far total.old lim.old) lim.new) }
+    ensures refused { IfErr result
+        (λ k. SizeStops k (reading_on A.ReaderArena from.now at nesting_limit)
+        (so_far total.old lim.old) lim.new) }
 {
     let place = Place { at, ..from.place };
     let words = flat_words(word.list_element_size(), word.list_element_count());
@@ -271,9 +292,12 @@ fn add_object<A: ReaderArena>(
     lim: &mut ReadLimiter,
 ) -> Result<(), ErrorKind>
     requires fits { FitSize total.old.word_count total.old.cap_count }
-    ensures sized { OnOk result (WalksPlace (reading_on A.ReaderArena from.now at nesting_limit) (so_far total.old lim.old) (so_far total.new lim.new)) }
+    ensures sized { OnOk result (WalksPlace (reading_on A.ReaderArena from.now at nesting_limit)
+        (so_far total.old lim.old) (so_far total.new lim.new)) }
     ensures fits { OnOk result (FitSize total.new.word_count total.new.cap_count) }
-    ensures refused { IfErr result (λ k. SizeStops k (reading_on A.ReaderArena from.now at nesting_limit) (so_far total.old lim.old) lim.new) }
+    ensures refused { IfErr result
+        (λ k. SizeStops k (reading_on A.ReaderArena from.now at nesting_limit)
+        (so_far total.old lim.old) lim.new) }
 {
     let place = Place { at, ..from.place };
     let object = match from.source.measure_object(place, nesting_limit, lim) {
@@ -316,11 +340,15 @@ fn add_rows<A: ReaderArena>(
     total: &mut MessageSize,
     lim: &mut ReadLimiter,
 ) -> Result<(), ErrorKind>
-    requires inside { from.now.place.at + count * (data_words + pointers) ≤ length (row (reading A.ReaderArena from.now)) }
+    requires inside { from.now.place.at + count * (data_words + pointers)
+        ≤ length (row (reading A.ReaderArena from.now)) }
     requires fits { FitSize total.old.word_count total.old.cap_count }
-    ensures sized { OnOk result (WalksRows (reading A.ReaderArena from.now) (sized data_words pointers) count (so_far total.old lim.old) (so_far total.new lim.new)) }
+    ensures sized { OnOk result (WalksRows (reading A.ReaderArena from.now)
+        (sized data_words pointers) count (so_far total.old lim.old) (so_far total.new lim.new)) }
     ensures fits { OnOk result (FitSize total.new.word_count total.new.cap_count) }
-    ensures refused { IfErr result (RowsStop (reading A.ReaderArena from.now) (sized data_words pointers) count (so_far total.old lim.old) lim.new) }
+    ensures refused { IfErr result
+        (RowsStop (reading A.ReaderArena from.now) (sized data_words pointers) count
+        (so_far total.old lim.old) lim.new) }
 {
     if pointers == 0 {
         return Ok(());

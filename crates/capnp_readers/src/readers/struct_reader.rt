@@ -94,7 +94,8 @@ impl<'a, A: ReaderArena> StructReader<'a, A> {
         requires { IsStructPlace (message (A.segments arena.now)) place }
         ensures source { result.source ≡ Source.Arena arena.entry }
         ensures data_at { (result.byte ≡ place.byte) × (result.bits ≡ place.bits) }
-        ensures pointers { (result.pointers.segment ≡ place.segment) × (result.pointers.at ≡ place.pointers_at) × (result.pointer_count ≡ place.pointers) }
+        ensures pointers { (result.pointers.segment ≡ place.segment)
+            × (result.pointers.at ≡ place.pointers_at) × (result.pointer_count ≡ place.pointers) }
         ensures nesting { result.nesting_limit ≡ nesting_limit }
     {
         let Ok(bytes) = arena.get_segment(place.segment) else {
@@ -126,9 +127,11 @@ impl<'a, A: ReaderArena> StructReader<'a, A> {
         nesting_limit: i32,
     ) -> Self
         requires held { IsHeld (source_segments A.segments source) start }
-        requires room { HasRoom (source_segments A.segments source) start (size.data_words + size.pointers) }
+        requires room { HasRoom (source_segments A.segments source) start
+            (size.data_words + size.pointers) }
         ensures source { result.source ≡ source.entry }
-        ensures shows { ShowsStruct A.ReaderArena (source_segments A.segments source.entry) result start.entry.segment start.entry.at size.data_words size.pointers }
+        ensures shows { ShowsStruct A.ReaderArena (source_segments A.segments source.entry) result
+            start.entry.segment start.entry.at size.data_words size.pointers }
         ensures nesting { result.nesting_limit ≡ nesting_limit }
     {
         let first = 8 * start.at as usize;
@@ -164,9 +167,13 @@ impl<'a, A: ReaderArena> StructReader<'a, A> {
     /// A pointer of the pointer section, and from nothing where it doesn't have so many.
     pub fn get_pointer_field(&self, index: usize) -> PointerReader<'a, A>
         ensures source { index < self.now.pointer_count → result.source ≡ self.now.source }
-        ensures place { index < self.now.pointer_count → (result.place.segment ≡ self.now.pointers.segment) × (result.place.at ≡ self.now.pointers.at + index) }
-        ensures nesting { index < self.now.pointer_count → result.nesting_limit ≡ self.now.nesting_limit }
-        ensures nothing { self.now.pointer_count ≤ index → (result.source ≡ Source.Nothing) × (result.nesting_limit ≡ i32.MAX) }
+        ensures place { index < self.now.pointer_count
+            → (result.place.segment ≡ self.now.pointers.segment)
+            × (result.place.at ≡ self.now.pointers.at + index) }
+        ensures nesting { index < self.now.pointer_count
+            → result.nesting_limit ≡ self.now.nesting_limit }
+        ensures nothing { self.now.pointer_count ≤ index
+            → (result.source ≡ Source.Nothing) × (result.nesting_limit ≡ i32.MAX) }
     {
         if index >= usize::from(self.pointer_count) {
             return PointerReader::new_default();
@@ -187,7 +194,8 @@ impl<'a, A: ReaderArena> StructReader<'a, A> {
     pub fn get_pointer_section_as_list(&self) -> ListReader<'a, A>
         ensures source { result.source ≡ self.now.source }
         ensures size { result.element_size ≡ ElementSize.Pointer }
-        ensures shows { ShowsList A.ReaderArena (source_segments A.segments self.now.source) result self.now.pointers.segment self.now.pointers.at self.now.pointer_count 0 0 }
+        ensures shows { ShowsList A.ReaderArena (source_segments A.segments self.now.source) result
+            self.now.pointers.segment self.now.pointers.at self.now.pointer_count 0 0 }
         ensures nesting { result.nesting_limit ≡ self.now.nesting_limit }
     {
         ListReader::of_words(
@@ -202,7 +210,10 @@ impl<'a, A: ReaderArena> StructReader<'a, A> {
 
     /// Whether a pointer of the pointer section is zero, or the section doesn't have so many.
     pub fn is_pointer_field_null(&self, index: usize) -> bool
-        ensures { IsTrue result ↔ (index < self.now.pointer_count → word_at (source_segments A.segments self.now.source) self.now.pointers.segment (self.now.pointers.at + index) ≡ 0) }
+        ensures { IsTrue result
+            ↔ (index < self.now.pointer_count
+            → word_at (source_segments A.segments self.now.source) self.now.pointers.segment
+            (self.now.pointers.at + index) ≡ 0) }
     {
         self.get_pointer_field(index).is_null()
     }
@@ -210,7 +221,9 @@ impl<'a, A: ReaderArena> StructReader<'a, A> {
     /// A field of the data section, by its offset in values of `T`; zero where the field doesn't lie
     /// wholly in the section.
     pub fn get_data_field<T: Primitive + Zero>(&self, offset: usize) -> T
-        ensures inside { IsInside self.now.bits (8 * T.BYTES) offset → result ≡ T.value_of (slice_range self.now.content.now (offset * T.BYTES) (offset * T.BYTES + T.BYTES)) }
+        ensures inside { IsInside self.now.bits (8 * T.BYTES) offset
+            → result ≡ T.value_of
+            (slice_range self.now.content.now (offset * T.BYTES) (offset * T.BYTES + T.BYTES)) }
         ensures outside { (IsInside self.now.bits (8 * T.BYTES) offset → ⊥) → result ≡ T.nought }
     {
         let n = T::BYTES;
@@ -228,23 +241,31 @@ impl<'a, A: ReaderArena> StructReader<'a, A> {
         offset: usize,
         mask: <T as Mask>::T,
     ) -> T
-        ensures inside { IsInside self.now.bits (8 * T.BYTES) offset → result ≡ T.masked (T.value_of (slice_range self.now.content.now (offset * T.BYTES) (offset * T.BYTES + T.BYTES))) mask }
-        ensures outside { (IsInside self.now.bits (8 * T.BYTES) offset → ⊥) → result ≡ T.masked T.nought mask }
+        ensures inside { IsInside self.now.bits (8 * T.BYTES) offset
+            → result ≡ T.masked
+            (T.value_of (slice_range self.now.content.now (offset * T.BYTES)
+            (offset * T.BYTES + T.BYTES))) mask }
+        ensures outside { (IsInside self.now.bits (8 * T.BYTES) offset → ⊥)
+            → result ≡ T.masked T.nought mask }
     {
         T::mask(self.get_data_field(offset), mask)
     }
 
     /// A bit of the data section, by its offset in bits; false behind the section.
     pub fn get_bool_field(&self, offset: usize) -> bool
-        ensures { IsTrue result ↔ (offset < self.now.bits) × (bit_at self.now.content.now offset ≡ 1) }
+        ensures { IsTrue result ↔ (offset < self.now.bits)
+            × (bit_at self.now.content.now offset ≡ 1) }
     {
         offset < self.bits as usize && self.content[offset / 8] >> (offset % 8) & 1 == 1
     }
 
     /// A bit of the data section under a mask, its default, where `get_bool_field` is false too.
     pub fn get_bool_field_mask(&self, offset: usize, mask: bool) -> bool
-        ensures plain { mask ≡ false → (IsTrue result ↔ (offset < self.now.bits) × (bit_at self.now.content.now offset ≡ 1)) }
-        ensures turned { mask ≡ true → (IsTrue result ↔ ((offset < self.now.bits) × (bit_at self.now.content.now offset ≡ 1) → ⊥)) }
+        ensures plain { mask ≡ false
+            → (IsTrue result ↔ (offset < self.now.bits)
+            × (bit_at self.now.content.now offset ≡ 1)) }
+        ensures turned { mask ≡ true → (IsTrue result
+            ↔ ((offset < self.now.bits) × (bit_at self.now.content.now offset ≡ 1) → ⊥)) }
     {
         self.get_bool_field(offset) != mask
     }

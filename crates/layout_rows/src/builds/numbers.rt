@@ -1,7 +1,7 @@
 //! Numbers of the data section of a struct, and of the elements of a list.
 ghost use Rattle.std.specs.Prelude.{◌≡◌, ◌<◌, ◌≤◌, IsTrue};
 ghost use Rattle.capnp_format.specs.Numbers.{element_bits};
-ghost use Rattle.capnp_pointers.specs.Sizes.{size_number};
+ghost use Rattle.capnp_words.specs.Sizes.{size_number};
 ghost use Rattle.capnp_readers.specs.Sections.{IsInside, data_bits};
 
 use super::place::{list, structure};
@@ -108,7 +108,8 @@ pub fn element<A: BuilderArena, T: PrimitiveElement>(
 // no data.
 fn is_element(place: ListPlace, size: ElementSize, index: u32) -> bool
     ensures range { IsTrue result → 0 < element_bits (size_number size) → index < place.count }
-    ensures wide { IsTrue result → element_bits (size_number size) ≤ data_bits place.size place.struct_size }
+    ensures wide { IsTrue result → element_bits (size_number size)
+        ≤ data_bits place.size place.struct_size }
 {
     let bits = match place.size {
         ElementSize::InlineComposite => 64 * u32::from(place.struct_size.data_words),

@@ -158,7 +158,8 @@ fn read_list<A: BuilderArena>(
 
 // How many words a segment has, if it is there.
 fn words_in<A: BuilderArena>(arena: &A, id: u32) -> Option<u64>
-    ensures there { IfSome result (λ n. (id < length (A.view arena.now).words) × (n ≡ length (segment (A.view arena.now).words id))) }
+    ensures there { IfSome result (λ n. (id < length (A.view arena.now).words)
+        × (n ≡ length (segment (A.view arena.now).words id))) }
     ensures small { IfSome result (λ n. n < 2 ^ 32) }
 {
     match arena.get_segment(id) {

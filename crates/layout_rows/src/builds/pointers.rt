@@ -1,6 +1,6 @@
 //! Calls of a pointer.
 ghost use Rattle.std.specs.Prelude.{◌≤◌};
-ghost use Rattle.capnp_pointers.specs.Sizes.{size_number};
+ghost use Rattle.capnp_words.specs.Sizes.{size_number};
 ghost use Rattle.capnp_builders.specs.Building.{built, IsThere};
 ghost use Rattle.capnp_builders.specs.Defaults.{IsFew};
 

@@ -78,7 +78,8 @@ impl Marks {
     pub(crate) fn take(&mut self, id: u32, start: u32, n: u32) -> bool
         ensures inside { IsTrue result → start + n ≤ length (segment (rows_of self.old) id) }
         ensures taken { IsTrue result → Takes (rows_of self.old) (rows_of self.new) id start n }
-        ensures refused { result ≡ false → start + n ≤ length (segment (rows_of self.old) id) → IsMarkedWithin (segment (rows_of self.old) id) start n }
+        ensures refused { result ≡ false → start + n ≤ length (segment (rows_of self.old) id)
+            → IsMarkedWithin (segment (rows_of self.old) id) start n }
     {
         if start as usize + n as usize > self.length_of(id) {
             return false;

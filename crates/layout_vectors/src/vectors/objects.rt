@@ -5,7 +5,7 @@ ghost use Rattle.capnp_format.specs.Numbers.{words_for};
 ghost use Rattle.capnp_format.specs.Segments.{segment};
 ghost use Rattle.capnp_format.specs.Segments.{HasSmallWords};
 ghost use Rattle.capnp_format.specs.Word.{kind, element_size, list_count};
-ghost use Rattle.capnp_pointers.specs.Sizes.{size_number};
+ghost use Rattle.capnp_words.specs.Sizes.{size_number};
 ghost use Rattle.capnp_format.specs.Padding.{IsPadded};
 ghost use Rattle.capnp_words.specs.declared.error.ErrorKind.TheVariants.{AllocationFailed};
 ghost use Rattle.layout_vectors.specs.Landings.{target_of};
@@ -29,8 +29,12 @@ pub(crate) fn take_object<A: ReaderArena>(
     landing: Landing,
 ) -> Result<bool, ErrorKind>
     requires { FitsMarks (message (A.segments arena.now)) marks.old }
-    ensures goes { IfOk result (λ b. IsTrue b → TakesObject (message (A.segments arena.now)) (target_of landing) (walk marks.old pending.old) (walk marks.new pending.new)) }
-    ensures fails { IfOk result (λ b. b ≡ false → HasNoObject (message (A.segments arena.now)) (target_of landing) (walk marks.old pending.old)) }
+    ensures goes { IfOk result (λ b. IsTrue b
+        → TakesObject (message (A.segments arena.now)) (target_of landing)
+        (walk marks.old pending.old) (walk marks.new pending.new)) }
+    ensures fails { IfOk result (λ b. b ≡ false
+        → HasNoObject (message (A.segments arena.now)) (target_of landing)
+        (walk marks.old pending.old)) }
     ensures named { IfErr result (λ e. e ≡ AllocationFailed) }
 {
     match landing.word.kind() {
@@ -54,8 +58,12 @@ fn take_struct<A: ReaderArena>(
 ) -> Result<bool, ErrorKind>
     requires fits { FitsMarks (message (A.segments arena.now)) marks.old }
     requires is_struct { kind landing.word.0 ≡ 0 }
-    ensures goes { IfOk result (λ b. IsTrue b → TakesObject (message (A.segments arena.now)) (target_of landing) (walk marks.old pending.old) (walk marks.new pending.new)) }
-    ensures fails { IfOk result (λ b. b ≡ false → HasNoObject (message (A.segments arena.now)) (target_of landing) (walk marks.old pending.old)) }
+    ensures goes { IfOk result (λ b. IsTrue b
+        → TakesObject (message (A.segments arena.now)) (target_of landing)
+        (walk marks.old pending.old) (walk marks.new pending.new)) }
+    ensures fails { IfOk result (λ b. b ≡ false
+        → HasNoObject (message (A.segments arena.now)) (target_of landing)
+        (walk marks.old pending.old)) }
     ensures named { IfErr result (λ e. e ≡ AllocationFailed) }
 {
     let size = landing.word.struct_size();
@@ -77,8 +85,12 @@ fn take_pointers<A: ReaderArena>(
     requires fits { FitsMarks (message (A.segments arena.now)) marks.old }
     requires is_list { kind landing.word.0 ≡ 1 }
     requires of_pointers { element_size landing.word.0 ≡ 6 }
-    ensures goes { IfOk result (λ b. IsTrue b → TakesObject (message (A.segments arena.now)) (target_of landing) (walk marks.old pending.old) (walk marks.new pending.new)) }
-    ensures fails { IfOk result (λ b. b ≡ false → HasNoObject (message (A.segments arena.now)) (target_of landing) (walk marks.old pending.old)) }
+    ensures goes { IfOk result (λ b. IsTrue b
+        → TakesObject (message (A.segments arena.now)) (target_of landing)
+        (walk marks.old pending.old) (walk marks.new pending.new)) }
+    ensures fails { IfOk result (λ b. b ≡ false
+        → HasNoObject (message (A.segments arena.now)) (target_of landing)
+        (walk marks.old pending.old)) }
     ensures named { IfErr result (λ e. e ≡ AllocationFailed) }
 {
     let count = landing.word.list_element_count();
@@ -101,8 +113,12 @@ fn take_flat<A: ReaderArena>(
     requires is_list { kind landing.word.0 ≡ 1 }
     requires is_size { size_number size ≡ element_size landing.word.0 }
     requires is_flat { size_number size ≤ 5 }
-    ensures goes { IsTrue result → TakesObject (message (A.segments arena.now)) (target_of landing) (walk marks.old pending.old) (walk marks.new pending.new) }
-    ensures fails { result ≡ false → HasNoObject (message (A.segments arena.now)) (target_of landing) (walk marks.old pending.old) }
+    ensures goes { IsTrue result
+        → TakesObject (message (A.segments arena.now)) (target_of landing)
+        (walk marks.old pending.old) (walk marks.new pending.new) }
+    ensures fails { result ≡ false
+        → HasNoObject (message (A.segments arena.now)) (target_of landing)
+        (walk marks.old pending.old) }
     ensures kept { pending.new ≡ pending.old }
 {
     let count = landing.word.list_element_count();
@@ -120,10 +136,13 @@ fn flat_words(size: ElementSize, count: u32) -> u32
 
 /// Whether the bits behind the elements of a list are zero, whose words lie in their segment.
 fn has_padding<A: ReaderArena>(arena: &A, landing: Landing, size: ElementSize, count: u32) -> bool
-    requires inside { landing.start + words_for (size_number size) count ≤ length (segment (message (A.segments arena.now)) landing.segment) }
+    requires inside { landing.start + words_for (size_number size) count
+        ≤ length (segment (message (A.segments arena.now)) landing.segment) }
     requires is_flat { size_number size ≤ 5 }
     requires few { count < 2 ^ 29 }
-    ensures exactly { IsTrue result ↔ IsPadded (message (A.segments arena.now)) landing.segment landing.start (size_number size) count }
+    ensures exactly { IsTrue result
+        ↔ IsPadded (message (A.segments arena.now)) landing.segment landing.start
+        (size_number size) count }
     ensures small { HasSmallWords (message (A.segments arena.now)) landing.segment }
 {
     match arena.get_segment(landing.segment) {
@@ -175,8 +194,12 @@ fn take_structs<A: ReaderArena>(
     requires fits { FitsMarks (message (A.segments arena.now)) marks.old }
     requires is_list { kind landing.word.0 ≡ 1 }
     requires of_structs { element_size landing.word.0 ≡ 7 }
-    ensures goes { IfOk result (λ b. IsTrue b → TakesObject (message (A.segments arena.now)) (target_of landing) (walk marks.old pending.old) (walk marks.new pending.new)) }
-    ensures fails { IfOk result (λ b. b ≡ false → HasNoObject (message (A.segments arena.now)) (target_of landing) (walk marks.old pending.old)) }
+    ensures goes { IfOk result (λ b. IsTrue b
+        → TakesObject (message (A.segments arena.now)) (target_of landing)
+        (walk marks.old pending.old) (walk marks.new pending.new)) }
+    ensures fails { IfOk result (λ b. b ≡ false
+        → HasNoObject (message (A.segments arena.now)) (target_of landing)
+        (walk marks.old pending.old)) }
     ensures named { IfErr result (λ e. e ≡ AllocationFailed) }
 {
     let words = landing.word.list_inline_composite_word_count();

@@ -33,7 +33,8 @@ pub(crate) fn put_pointers(
     count: u32,
 ) -> Result<(), ErrorKind>
     requires { start + count < 2 ^ 32 }
-    ensures pushed { OnOk result (pending.new.items ≡ pending.old.items ++ spots segment start count) }
+    ensures pushed { OnOk result (pending.new.items ≡ pending.old.items
+        ++ spots segment start count) }
     ensures named { IfErr result (λ e. e ≡ AllocationFailed) }
 {
     for i in 0..count {
@@ -55,7 +56,8 @@ pub(crate) fn put_elements(
     count: u32,
 ) -> Result<(), ErrorKind>
     requires { start + count * (size.data_words + size.pointers) < 2 ^ 32 }
-    ensures pushed { OnOk result (pending.new.items ≡ pending.old.items ++ element_spots segment start size.data_words size.pointers count) }
+    ensures pushed { OnOk result (pending.new.items ≡ pending.old.items
+        ++ element_spots segment start size.data_words size.pointers count) }
     ensures named { IfErr result (λ e. e ≡ AllocationFailed) }
 {
     if size.pointers == 0 {

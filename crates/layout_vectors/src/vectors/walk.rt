@@ -31,7 +31,8 @@ use std::alloc::Global;
 pub fn audit(alloc: Global, segments: &[&[u8]]) -> Result<bool, ErrorKind>
     requires small { AreSmall segments.now }
     requires root { IsPlace (message (map (λ s. s.now) segments.now)) 0 0 }
-    ensures exactly { IfOk result (λ b. IsTrue b ↔ ((t : Tree) × IsForest (message (map (λ s. s.now) segments.now)) t)) }
+    ensures exactly { IfOk result (λ b. IsTrue b
+        ↔ ((t : Tree) × IsForest (message (map (λ s. s.now) segments.now)) t)) }
     ensures named { IfErr result (λ e. e ≡ AllocationFailed) }
 {
     let marks = Marks::new(alloc, segments)?;
@@ -52,7 +53,8 @@ fn walk_from_root<A: ReaderArena>(
 ) -> Result<bool, ErrorKind>
     requires fits { FitsMarks (message (A.segments arena.now)) marks }
     requires blank { (u q : ℕ) → word_at (rows_of marks) u q ≡ 0 }
-    ensures exactly { IfOk result (λ b. IsTrue b ↔ ((t : Tree) × IsForest (message (A.segments arena.now)) t)) }
+    ensures exactly { IfOk result (λ b. IsTrue b
+        ↔ ((t : Tree) × IsForest (message (A.segments arena.now)) t)) }
     ensures named { IfErr result (λ e. e ≡ AllocationFailed) }
 {
     let mut pending = Vec::new(alloc);
@@ -77,8 +79,11 @@ fn walk_pointer<A: ReaderArena>(
     spot: Spot,
 ) -> Result<bool, ErrorKind>
     requires { FitsMarks (message (A.segments arena.now)) marks.old }
-    ensures goes { IfOk result (λ b. IsTrue b → Goes (message (A.segments arena.now)) spot (walk marks.old pending.old) (walk marks.new pending.new)) }
-    ensures fails { IfOk result (λ b. b ≡ false → Fails (message (A.segments arena.now)) spot (walk marks.old pending.old)) }
+    ensures goes { IfOk result (λ b. IsTrue b
+        → Goes (message (A.segments arena.now)) spot (walk marks.old pending.old)
+        (walk marks.new pending.new)) }
+    ensures fails { IfOk result (λ b. b ≡ false
+        → Fails (message (A.segments arena.now)) spot (walk marks.old pending.old)) }
     ensures named { IfErr result (λ e. e ≡ AllocationFailed) }
 {
     let word = word_of(arena, spot.segment, spot.at);

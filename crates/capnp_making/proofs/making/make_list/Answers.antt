@@ -1,5 +1,5 @@
 use Rattle.capnp_format.specs.Segments.{Segments}
-use Rattle.capnp_pointers.specs.Sizes.{size_number}
+use Rattle.capnp_words.specs.Sizes.{size_number}
 use Rattle.capnp_making.proofs.PlacedLists.{list_made}
 use Rattle.capnp_making.proofs.Outcomes.{on_ok_so}
 use Rattle.capnp_making.proofs.making.make_list.Goals as goal

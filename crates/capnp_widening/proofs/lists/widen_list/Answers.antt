@@ -1,6 +1,6 @@
 use Rattle.std.proofs.Common.{inl, refl, ap}
 use Rattle.capnp_format.specs.Segments.{Segments}
-use Rattle.capnp_pointers.specs.Sizes.{size_number}
+use Rattle.capnp_words.specs.Sizes.{size_number}
 use Rattle.capnp_widening.proofs.AnyList.{bits_refused}
 use Rattle.capnp_widening.proofs.ListRooms.{not_refused}
 use Rattle.capnp_widening.proofs.StructSteps.{nothing_grown}

@@ -1,7 +1,7 @@
 use Rattle.std.proofs.Common.{◌≡◌, ℕ, ◌+◌, ◌*◌, ◌<◌, length, refl, ap, subst, arith, rules}
 use Rattle.capnp_format.specs.Numbers.{element_bits}
 use Rattle.capnp_format.specs.Segments.{Segments, segment}
-use Rattle.capnp_pointers.specs.Sizes.{size_number}
+use Rattle.capnp_words.specs.Sizes.{size_number}
 use Rattle.capnp_making.proofs.BelowElements.{element_within, next_place}
 use Rattle.capnp_making.proofs.Memory.{words_in}
 use Rattle.capnp_widening.specs.RowsRemade.{AreNumbersCopied}

@@ -1,7 +1,7 @@
 use Rattle.std.proofs.Common.{◌≡◌, ◌+◌, ◌*◌}
 use Rattle.capnp_arena.specs.View.{KeepsLimits}
 use Rattle.capnp_format.specs.Numbers.{element_bits}
-use Rattle.capnp_pointers.specs.Sizes.{size_number}
+use Rattle.capnp_words.specs.Sizes.{size_number}
 use Rattle.capnp_widening.specs.RowsRemade.{AreNumbersCopied}
 use Rattle.capnp_widening.proofs.numbers.copy_numbers.Given as goal
 

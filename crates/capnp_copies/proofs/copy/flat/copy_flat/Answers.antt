@@ -14,7 +14,7 @@ use Rattle.capnp_making.specs.Stored.{IsReplaced}
 use Rattle.capnp_making.proofs.FillingMade.{IsBegun, flat_whole}
 use Rattle.capnp_making.proofs.Memory.{words_in, made_refused}
 use Rattle.capnp_making.proofs.WordsPut.{words_put}
-use Rattle.capnp_pointers.specs.Sizes.{size_number}
+use Rattle.capnp_words.specs.Sizes.{size_number}
 use Rattle.capnp_format.specs.Word.{list_word}
 use Rattle.capnp_making.specs.Near.{HasOwnRoom, offset_behind, with_object}
 use Rattle.capnp_copies.proofs.Growth.{takes_words, words_over, words_same}

@@ -5,7 +5,7 @@ use Rattle.capnp_format.specs.Bytes.{words_of}
 use Rattle.capnp_format.specs.Numbers.{words_for, unpacked}
 use Rattle.capnp_format.specs.Tree.{Flat}
 use Rattle.capnp_objects.specs.Source.{source_segments}
-use Rattle.capnp_pointers.specs.Sizes.{size_number}
+use Rattle.capnp_words.specs.Sizes.{size_number}
 use Rattle.capnp_copies.specs.Changes.{Change, change}
 use Rattle.capnp_copies.specs.Forms.{form_of}
 use Rattle.capnp_copies.specs.Growth.{of_numbers, of_pointers, of_structs}

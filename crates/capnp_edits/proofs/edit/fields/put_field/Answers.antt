@@ -1,5 +1,5 @@
 use Rattle.std.proofs.Common.{true, refl, sym, ap, ◌≡◌, ◌∙◌, ◌<◌, arith}
-use Rattle.capnp_pointers.specs.Sizes.{size_number}
+use Rattle.capnp_words.specs.Sizes.{size_number}
 use Rattle.capnp_format.specs.Numbers.{element_bits}
 use Rattle.capnp_edits.specs.Edits.{is_number_from}
 use Rattle.capnp_edits.proofs.Fields.{number_put, number_small, eight_bytes}

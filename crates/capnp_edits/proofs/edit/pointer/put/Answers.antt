@@ -1,6 +1,6 @@
 use Rattle.std.proofs.Common.{ap, sym, ◌+◌, ◌*◌}
 use Rattle.capnp_making.specs.Made.{list_words, zero_list, zero_struct, zero_structs}
-use Rattle.capnp_pointers.specs.Sizes.{size_number}
+use Rattle.capnp_words.specs.Sizes.{size_number}
 use Rattle.capnp_edits.specs.Edits.{made_at, takes_memory, words_taken}
 use Rattle.capnp_edits.specs.Paths.{PointerTo}
 use Rattle.capnp_edits.proofs.Applied.{made_is_put}

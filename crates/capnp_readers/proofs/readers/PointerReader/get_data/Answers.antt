@@ -1,5 +1,5 @@
 use Rattle.std.proofs.Common.{◌≡◌, inl, inr, refl}
-use Rattle.capnp_pointers.specs.declared.wire_pointer.ElementSize.TheVariants.{Byte}
+use Rattle.capnp_words.specs.declared.wire_pointer.ElementSize.TheVariants.{Byte}
 use Rattle.capnp_objects.specs.declared.object.Object.TheVariants.{Flat}
 use Rattle.capnp_objects.proofs.Expecting.{IsReadAt, no_data}
 use Rattle.capnp_readers.specs.Readers.{reading}

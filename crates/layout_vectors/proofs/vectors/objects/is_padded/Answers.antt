@@ -2,7 +2,7 @@ use Rattle.std.proofs.Common.{refl, ◌≡◌, ◌*◌, ℕ, [], ◌∷◌, ap�
 use Rattle.std.proofs.lemmas.Bool.{false≢true}
 use Rattle.capnp_format.specs.Bytes.{words_of}
 use Rattle.capnp_format.specs.Numbers.{element_bits}
-use Rattle.capnp_pointers.specs.Sizes.{size_number}
+use Rattle.capnp_words.specs.Sizes.{size_number}
 use Rattle.capnp_format.proofs.WordsOf.{words, small_word}
 use Rattle.capnp_format.proofs.Padding.{no_rest, some_rest}
 use Rattle.layout_vectors.proofs.vectors.objects.is_padded.Goals as goal

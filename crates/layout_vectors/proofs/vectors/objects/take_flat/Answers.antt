@@ -3,7 +3,7 @@ use Rattle.capnp_format.specs.Bytes.{message}
 use Rattle.capnp_format.specs.Segments.{Segments, word_at, Target}
 use Rattle.layout_vectors.specs.Landings.{target_of}
 use Rattle.layout_vectors.specs.Walks.{Walk, walk}
-use Rattle.capnp_pointers.specs.Sizes.{size_number}
+use Rattle.capnp_words.specs.Sizes.{size_number}
 use Rattle.layout_vectors.proofs.Steps.{flat_taken, flat_words, not_padded, object_refused}
 use Rattle.layout_vectors.proofs.vectors.objects.take_flat.Goals as goal
 

@@ -1,9 +1,9 @@
 -- The numbers of element sizes and of kinds of pointers.
 use Rattle.std.specs.Prelude.{ℕ}
-use Rattle.capnp_pointers.specs.declared.wire_pointer.ElementSize.{ElementSize}
-use Rattle.capnp_pointers.specs.declared.wire_pointer.ElementSize.TheVariants.{Void, Bit, Byte, TwoBytes, FourBytes, EightBytes, Pointer, InlineComposite}
-use Rattle.capnp_pointers.specs.declared.wire_pointer.WirePointerKind.{WirePointerKind}
-use Rattle.capnp_pointers.specs.declared.wire_pointer.WirePointerKind.TheVariants.{Struct, List, Far, Other}
+use Rattle.capnp_words.specs.declared.wire_pointer.ElementSize.{ElementSize}
+use Rattle.capnp_words.specs.declared.wire_pointer.ElementSize.TheVariants.{Void, Bit, Byte, TwoBytes, FourBytes, EightBytes, Pointer, InlineComposite}
+use Rattle.capnp_words.specs.declared.wire_pointer.WirePointerKind.{WirePointerKind}
+use Rattle.capnp_words.specs.declared.wire_pointer.WirePointerKind.TheVariants.{Struct, List, Far, Other}
 
 abbrev pub size_number : ElementSize → ℕ
 size_number Void = 0

@@ -4,7 +4,7 @@ ghost use Rattle.std.specs.Prelude.{◌≡◌, ◌<◌, ◌+◌, ◌*◌, ◌-�
 ghost use Rattle.capnp_format.specs.Canonical.{offset_to, Reaches};
 ghost use Rattle.capnp_format.specs.Numbers.{element_bits};
 ghost use Rattle.capnp_format.specs.Segments.{offset_leads};
-ghost use Rattle.capnp_pointers.specs.Sizes.{size_number, pointers_per_element, kind_number};
+ghost use Rattle.capnp_words.specs.Sizes.{size_number, pointers_per_element, kind_number};
 ghost use Rattle.capnp_format.specs.Word.{kind, offset_bits, signed, offset_field, IsOffset, lower_half, upper_half, data_words, pointer_count, element_size, list_count, is_double, far_position, struct_word, list_word, far_word, capability_word};
 
 pub use self::ElementSize::{
