@@ -1,7 +1,8 @@
-"""Runs of the tool over altered messages, over devices that fail, and under refused memory."""
+"""Runs of the tool over altered messages and frames, over devices that fail, and under refused memory."""
 import json
 import re
 
+from frames import MOST_SEGMENTS, framed, parted, refusal
 from program import answers
 
 COMMANDS = 'canon', 'check', 'size'
@@ -13,6 +14,7 @@ ANSWERED = {
     'canon': re.compile(r'done 0 ([0-9a-f]{16})+/'),
     'check': re.compile(r'done 0 (not )?canonical/'),
     'size': re.compile(r'done 0 words \d+ caps \d+/'),
+    'framed-check': re.compile(r'done 0 (not a )?canonical message/'),
 }
 # All that a message can be refused by, where memory isn't refused.
 NAMES = {
@@ -56,7 +58,7 @@ def altered(program, vectors, counts):
     """Each message of the worked runs, cut and turned at every place: each command answers, or refuses by a name. What
     `check` finds canonical `canon` copies as it stands; what `canon` writes `check` finds canonical and `canon` writes again."""
     messages = {}
-    for lines in sorted({lines for args, lines, _, _ in vectors if args.split(',')[0] in COMMANDS}):
+    for lines in messages_of(vectors, COMMANDS):
         segments = [bytes.fromhex(line) for line in lines.split('\n')[:-1]]
         for changed in alterations(segments):
             messages[','.join(it.hex() for it in changed)] = None
@@ -79,6 +81,59 @@ def altered(program, vectors, counts):
     for copy in copies:
         counts.told(next(found) == 'done 0 canonical/', 'a copy that is not canonical', copy)
         counts.told(next(found) == f'done 0 {copy}/', 'a copy that is copied otherwise', copy)
+
+
+def messages_of(vectors, commands):
+    """The lines of the worked runs of these commands, each once."""
+    return sorted({lines for args, lines, _, _ in vectors if args.split(',')[0] in commands})
+
+
+def reframed(program, vectors, counts):
+    """Each message of the worked runs, cut and turned at every place: `frame` writes its frame, and `framed-canon` that of
+    what `canon` writes, or refuses it as `canon` does."""
+    texts = {}
+    for lines in messages_of(vectors, {'canon', 'frame', 'framed-canon'}):
+        for changed in alterations([bytes.fromhex(line) for line in lines.split('\n')[:-1]]):
+            texts[','.join(it.hex() for it in changed)] = changed
+    commands = 'frame', f'framed-canon,{LIMITS}', f'canon,{LIMITS}'
+    found = iter(answers(program, [row(command, text) for text in texts for command in commands]))
+    for text, segments in texts.items():
+        frame, framed_copy, copy = next(found), next(found), next(found)
+        few = len(segments) <= MOST_SEGMENTS
+        wanted = f'done 0 {framed(segments)}/' if few else 'refused 0 refused TooManySegments/'
+        counts.told(frame == wanted, 'frame', text, wanted, frame)
+        if copy.startswith('done 0 '):
+            copy = f"done 0 {framed([bytes.fromhex(copy[len('done 0 '):-1])])}/"
+        counts.told(framed_copy == copy, 'framed-canon', text, copy, framed_copy)
+
+
+def unframed(program, vectors, counts):
+    """Each frame of the worked runs, cut and turned at every place: `unframe` gives the segments that stand there, or refuses
+    it by the name of what is amiss first. Where `framed-check` finds the canonical message of a value, its only segment is
+    one that `canon` copies as it stands; and it finds one in the frame of every copy."""
+    frames = {}
+    for lines in messages_of(vectors, {'unframe', 'framed-check'}):
+        for line in lines.split('\n')[:-1]:
+            for (changed,) in alterations([bytes.fromhex(line)]):
+                frames[changed] = None
+    commands = 'unframe', f'framed-check,{LIMITS}'
+    found = iter(answers(program, [row(command, frame.hex()) for frame in frames for command in commands]))
+    alone = {}
+    for frame in frames:
+        lines, checked = next(found), next(found)
+        name = refusal(frame)
+        wanted = f'refused 0 refused {name}/' if name else f"done 0 {''.join(it.hex() + '/' for it in parted(frame))}"
+        counts.told(lines == wanted, 'unframe', frame.hex(), wanted, lines)
+        refused = REFUSED.fullmatch(checked)
+        holds = refused[1] == (name or refused[1]) if refused else not name and ANSWERED['framed-check'].fullmatch(checked)
+        counts.told(holds and (name or not refused or refused[1] in NAMES), 'framed-check', frame.hex(), checked)
+        if not name and len(parted(frame)) == 1:
+            alone[parted(frame)[0].hex()] = checked == 'done 0 canonical message/'
+        elif not name:
+            counts.told(checked == 'done 0 not a canonical message/', 'several segments', frame.hex(), checked)
+    found = answers(program, [row(f'canon,{LIMITS}', text) for text in alone])
+    for (text, canonical), copy in zip(alone.items(), found):
+        counts.told(canonical == (copy == f'done 0 {text}/'), 'framed-check and canon', text, canonical, copy)
 
 
 def failing(program, vectors, counts):

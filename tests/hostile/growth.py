@@ -46,6 +46,18 @@ def run_edits(program, lines):
     return [parted(answer) for answer in answers([*program, 'edits'], lines)]
 
 
+def lent(line):
+    """A line whose first segment is in scratch space, of as many words as it would have on the heap."""
+    words, rest = line.split(' ', 1)
+    return f'{words}/{words} {rest}'
+
+
+def same_lent(program, command, lines, found, counts):
+    """Whether the same is answered where the first segment is in memory that the caller lends, whatever that memory held."""
+    for line, wanted, got in zip(lines, found, answers([*program, command], [lent(line) for line in lines])):
+        counts.told(got == wanted, 'other answers in scratch space', line, wanted, got)
+
+
 def is_small(text):
     """Whether no number in a list of edits or calls is so large that the machine's memory might not suffice."""
     return not re.search(r'[,\s]\d{5,11}(?![0-9a-f])', text)
@@ -70,7 +82,10 @@ def is_told(choice, answer):
 def edited(program, paths, counts):
     """Lists of edits, with segments refused: each refused edit leaves what it says, and the others do as they do else."""
     runs = [(f'{words} {segments} ', edits) for edits in lists(paths) for words in WORDS for segments in SEGMENTS]
-    found = run_edits(program, [start + edits for start, edits in runs])
+    lines = [start + edits for start, edits in runs]
+    found = answers([*program, 'edits'], lines)
+    same_lent(program, 'edits', lines, found, counts)
+    found = [parted(answer) for answer in found]
     runs = [(start, edits.split(';'), *answer) for (start, edits), answer in zip(runs, found) if REFUSED in answer[0]]
     # content that is refused leaves some of it: the list up to there is looked at by itself
     parts, whole = [], []
@@ -136,6 +151,7 @@ def built(program, paths, counts):
                 calls[rest[0]] = None
     runs = [f'{words} {segments} {rest}' for rest in calls for words in WORDS for segments in SEGMENTS]
     found = answers([*program, 'builds'], runs)
+    same_lent(program, 'builds', runs, found, counts)
     audited(program, [(run, answer.rpartition(';')[2]) for run, answer in zip(runs, found) if REFUSED in answer], counts)
 
 

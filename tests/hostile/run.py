@@ -4,9 +4,10 @@
     run.py LAYOUT_RUNS LAYOUT_ROWS [--show N]
 
 LAYOUT_RUNS and LAYOUT_ROWS are the built programs of these names. Each message of the worked vectors is cut behind every
-byte and has every bit turned; its runs meet a reader, a writer and an allocator that fail at each call in turn; and the
-lists of edits and of builder calls of tests/rows are done again with segments refused from every one on. What is wanted
-of each run is said beside it; the values are read back by trees.py, apart from the crates."""
+byte and has every bit turned, and so has each frame; its runs meet a reader, a writer and an allocator that fail at each
+call in turn; and the lists of edits and of builder calls of tests/rows are done again with segments refused from every one
+on, in segments of the heap and with the first one in scratch space. What is wanted of each run is said beside it; values
+are read back by trees.py, and frames by frames.py, apart from the crates."""
 import argparse
 import pathlib
 import sys
@@ -29,6 +30,8 @@ def main():
     total = Counts(options.show)
     for name, part in (
         ('altered messages', lambda: altered.altered([options.runs], vectors, total)),
+        ('messages framed', lambda: altered.reframed([options.runs], vectors, total)),
+        ('altered frames', lambda: altered.unframed([options.runs], vectors, total)),
         ('devices and memory that fail', lambda: altered.failing([options.runs], vectors, total)),
         ('edits with segments refused', lambda: growth.edited([options.rows], sorted(rows.glob('edits*.jsonl')), total)),
         ('levels', lambda: growth.deep([options.rows], total)),

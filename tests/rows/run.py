@@ -5,8 +5,9 @@
 
 Runs the files of rows beside this one, or those named. The part of a file's name before the first `_` or `.` is the
 program's command; each line of the file is an object with a line of standard input and the line of standard output
-that is wanted, and all lines of a file go to one run. The row language stands in docs/ROWS.md. The answers were made
-apart from this repository."""
+that is wanted, and all lines of a file go to one run. A row that builds a message is run a second time, with the first
+segment in scratch space of as many words as it has on the heap, and the same is wanted. The row language stands in
+docs/ROWS.md. The answers were made apart from this repository."""
 import argparse
 import itertools
 import json
@@ -29,10 +30,21 @@ def answers(binary, command, rows, limit):
     return lines, ''
 
 
+def lent(row):
+    """The same row with its first segment in scratch space; None where it builds no message, or one of very large segments."""
+    words, _, rest = row['stdin'].partition(' ')
+    if not re.fullmatch(r'\d{1,5}', words) or not rest:
+        return None
+    return {**row, 'stdin': f'{words}/{max(int(words), 1)} {rest}'}
+
+
 def tried(binary, path, options):
     """How many rows of a file passed, and how many failed; shows the first that failed."""
     rows = [(number, json.loads(line)) for number, line in enumerate(path.open(encoding='utf-8'), 1)]
-    lines, wrong = answers(binary, re.split('[_.]', path.name)[0], [row for _, row in rows], options.limit)
+    command = re.split('[_.]', path.name)[0]
+    if command in ('builds', 'edits'):
+        rows += [(number, again) for number, row in rows if (again := lent(row))]
+    lines, wrong = answers(binary, command, [row for _, row in rows], options.limit)
     failed = 0
     for (number, row), line in itertools.zip_longest(rows, lines[:len(rows)], fillvalue='(no line)'):
         if line != row['stdout']:

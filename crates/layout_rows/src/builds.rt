@@ -11,10 +11,10 @@ mod structs;
 
 use self::call::{Call, MessageCall};
 use self::place::Place;
-use crate::memory::{self, Built};
+use crate::memory::{self, Memory};
 use crate::output::Output;
 use crate::parse::{self, Fault};
-use capnp_arena::arena::{BuilderArena, ReaderArena};
+use capnp_arena::arena::{Allocator, BuilderArena, BuilderArenaImpl, ReaderArena};
 use capnp_readers::readers::PointerPlace;
 use std::alloc::Global;
 
@@ -24,7 +24,15 @@ pub fn answer(alloc: Global, line: &str) -> Result<String, Fault> {
     let [words, segments, calls @ ..] = parts.as_slice() else {
         return Err(Fault::Malformed);
     };
-    let allocator = memory::allocator(alloc, words, segments)?;
+    let memory = Memory::new(words, segments)?;
+    match memory.scratch(alloc)? {
+        Some(mut scratch) => built_with(alloc, memory.over(alloc, scratch.as_mut_slice()), calls),
+        None => built_with(alloc, memory.limited(alloc), calls),
+    }
+}
+
+/// The answer to calls, by an allocator.
+fn built_with<A: Allocator>(alloc: Global, allocator: A, calls: &[&str]) -> Result<String, Fault> {
     let mut out = Output::new(alloc);
     match memory::built(alloc, allocator) {
         Ok(mut arena) => {
@@ -40,9 +48,9 @@ pub fn answer(alloc: Global, line: &str) -> Result<String, Fault> {
 }
 
 /// Makes calls in order, and adds the answer of each with a `;` behind it.
-fn put_answers(
+fn put_answers<A: Allocator>(
     alloc: Global,
-    arena: &mut Built,
+    arena: &mut BuilderArenaImpl<A>,
     calls: &[&str],
     out: &mut Output,
 ) -> Result<(), Fault> {
@@ -78,9 +86,9 @@ fn keep(kept: &mut Vec<Place>, place: Place) -> Result<(), Fault> {
 }
 
 /// Makes a call and adds its answer. Gives the place that is to be kept, if there is one.
-fn call_once(
+fn call_once<A: Allocator>(
     alloc: Global,
-    arena: &mut Built,
+    arena: &mut BuilderArenaImpl<A>,
     kept: &[Place],
     text: &str,
     out: &mut Output,
@@ -120,8 +128,8 @@ fn made_of<'a>(kept: &[Place], text: &'a str) -> (Option<Place>, &'a str) {
 }
 
 /// Makes a call of the message itself.
-fn message_call(
-    arena: &mut Built,
+fn message_call<A: Allocator>(
+    arena: &mut BuilderArenaImpl<A>,
     call: MessageCall,
     out: &mut Output,
 ) -> Result<Option<Place>, Fault> {

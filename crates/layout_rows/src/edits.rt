@@ -1,10 +1,10 @@
 //! Edits of a message that is built, and what becomes of each.
 
-use crate::memory;
+use crate::memory::{self, Memory};
 use crate::output::Output;
 use crate::parse::{self, Fault};
 use crate::source::SourceText;
-use capnp_arena::arena::{BuilderArena, ReaderArenaImpl, ReaderOptions, SegmentArray};
+use capnp_arena::arena::{Allocator, BuilderArena, ReaderArenaImpl, ReaderOptions, SegmentArray};
 use capnp_edits::edit::{Edit, Op, Source, Step, apply};
 use capnp_words::error::ErrorKind;
 use std::alloc::Global;
@@ -15,7 +15,15 @@ pub fn answer(alloc: Global, line: &str) -> Result<String, Fault> {
     let [words, segments, edits] = parts.as_slice() else {
         return Err(Fault::Malformed);
     };
-    let allocator = memory::allocator(alloc, words, segments)?;
+    let memory = Memory::new(words, segments)?;
+    match memory.scratch(alloc)? {
+        Some(mut scratch) => built_with(alloc, memory.over(alloc, scratch.as_mut_slice()), edits),
+        None => built_with(alloc, memory.limited(alloc), edits),
+    }
+}
+
+/// The answer to edits, by an allocator.
+fn built_with<A: Allocator>(alloc: Global, allocator: A, edits: &str) -> Result<String, Fault> {
     let mut out = Output::new(alloc);
     match memory::built(alloc, allocator) {
         Ok(mut arena) => {

@@ -1,31 +1,76 @@
 //! The memory of a message that is built, and its words once it is built.
+ghost use Rattle.std.specs.Prelude.{◌≤◌};
+ghost use Rattle.capnp_arena.specs.Allocations.{max_segment_words};
+
 use crate::output::Output;
 use crate::parse::{self, Fault};
-use capnp_arena::arena::{BuilderArena, BuilderArenaImpl, MAX_SEGMENT_WORDS, ReaderArena};
+use capnp_arena::arena::{
+    Allocator, BuilderArena, BuilderArenaImpl, MAX_SEGMENT_WORDS, ReaderArena,
+    ScratchSpaceHeapAllocator,
+};
 use capnp_words::error::ErrorKind;
 use layout_vectors::vectors::LimitedAllocator;
 use std::alloc::Global;
 
-/// A message that is built.
-pub type Built = BuilderArenaImpl<LimitedAllocator>;
+/// Which memory a message is built in.
+#[derive(Clone, Copy)]
+pub struct Memory {
+    words: u32,
+    segments: u32,
+    scratch_words: Option<u32>,
+    ghost small: { words ≤ max_segment_words },
+}
 
-/// An allocator whose segments have at least `words` words, and which grants `segments` of them, or any
-/// number where that is `none`.
-pub fn allocator(alloc: Global, words: &str, segments: &str) -> Result<LimitedAllocator, Fault> {
-    let words: u32 = parse::number(words)?;
-    if words > MAX_SEGMENT_WORDS {
-        return Err(Fault::Unfit);
+impl Memory {
+    /// Segments of at least `words` words, of which `segments` are granted, or any number where that is `none`.
+    /// Behind a `/` in `words` stand the words of a scratch space, if there is one.
+    pub fn new(words: &str, segments: &str) -> Result<Self, Fault> {
+        let (words, scratch_words) = match words.split_once('/') {
+            Some((words, scratch)) => (words, Some(parse::number(scratch)?)),
+            None => (words, None),
+        };
+        let words = parse::number(words)?;
+        if words > MAX_SEGMENT_WORDS {
+            return Err(Fault::Unfit);
+        }
+        let segments = if segments == "none" {
+            u32::MAX
+        } else {
+            parse::number(segments)?
+        };
+        Ok(Memory {
+            words,
+            segments,
+            scratch_words,
+        })
     }
-    let segments = if segments == "none" {
-        u32::MAX
-    } else {
-        parse::number(segments)?
-    };
-    Ok(LimitedAllocator::new(alloc, words, segments))
+
+    /// The bytes of the scratch space, none of which is zero, if there is one.
+    pub fn scratch(&self, alloc: Global) -> Result<Option<Vec<u8>>, Fault> {
+        match self.scratch_words {
+            Some(words) => Ok(Some(Vec::from_elem(alloc, 0xff, 8 * words as usize)?)),
+            None => Ok(None),
+        }
+    }
+
+    /// The allocator where there is no scratch space.
+    pub fn limited(&self, alloc: Global) -> LimitedAllocator {
+        LimitedAllocator::new(alloc, self.words, self.segments)
+    }
+
+    /// The allocator over a scratch space.
+    pub fn over<'a>(
+        &self,
+        alloc: Global,
+        scratch: &'a mut [u8],
+    ) -> LimitedAllocator<ScratchSpaceHeapAllocator<'a>> {
+        let inner = ScratchSpaceHeapAllocator::new(alloc, scratch, self.words);
+        LimitedAllocator::over(inner, self.segments)
+    }
 }
 
 /// A message of one segment, in which a word for the root is allocated.
-pub fn built(alloc: Global, allocator: LimitedAllocator) -> Result<Built, ErrorKind> {
+pub fn built<A: Allocator>(alloc: Global, allocator: A) -> Result<BuilderArenaImpl<A>, ErrorKind> {
     let mut arena = BuilderArenaImpl::new(alloc, allocator);
     arena.allocate_segment(1)?;
     let _root = arena.allocate(0, 1);

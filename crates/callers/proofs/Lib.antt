@@ -1,2 +1,3 @@
+pub mod Extending
 pub mod Fields
 pub mod ReadBack

@@ -1,7 +1,5 @@
 //! Callers of builders that know their contracts alone, generic over the arena: they show that a
 //! message's value can be followed from call to call, whether a call is granted or refused.
-#![tactic(auto)]
-
 ghost use Rattle.std.specs.Prelude.{◌≡◌, ◌<◌, length, IfOk, OnOk, OnErr};
 ghost use Rattle.capnp_builders.specs.Places.{IsStructOf};
 ghost use Rattle.capnp_making.specs.Stored.{Puts};
@@ -12,7 +10,7 @@ ghost use Rattle.capnp_format.specs.Segments.{IsPlace};
 ghost use Rattle.capnp_format.specs.Tree.{Tree, Null, Struct};
 ghost use Rattle.capnp_making.specs.Made.{zeros, nulls, zero_struct};
 ghost use Rattle.capnp_making.specs.Path.{put_tree};
-ghost use Rattle.builder_callers.specs.Meaning.{MeansTheSame, AreReadBack};
+ghost use Rattle.callers.specs.Meaning.{MeansTheSame, AreReadBack};
 
 use capnp_arena::arena::{
     Allocator, BuilderArena, BuilderArenaImpl, OutputSegments, ReaderArena, ReaderArenaImpl,

@@ -1,5 +1,5 @@
-use Rattle.builder_callers.proofs.Fields.{root_put, field_put}
-use Rattle.builder_callers.proofs.two_structs.Goals as goal
+use Rattle.callers.proofs.Fields.{root_put, field_put}
+use Rattle.callers.proofs.builders.two_structs.Goals as goal
 
 -- Nothing is made: the root is null.
 pub returns-in-Err-clause-nothing : goal.returns-in-Err-clause-nothing

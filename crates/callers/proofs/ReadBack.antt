@@ -5,7 +5,7 @@ use Rattle.capnp_format.specs.Bytes.{message}
 use Rattle.capnp_format.specs.Segments.{Segments}
 use Rattle.capnp_edits.specs.declared.edit.Edit.{Edit}
 use Rattle.capnp_edits.specs.Edits.{AreApplied}
-use Rattle.builder_callers.specs.Meaning.{MeansTheSame, AreReadBack}
+use Rattle.callers.specs.Meaning.{MeansTheSame, AreReadBack}
 
 pub read_after : {A E : Type 0} (result : Result A E) (S M : Segments) (segments : A → List (List ℕ)) (edits : List Edit) (outcomes : List (Option ErrorKind)) → AreApplied S M edits outcomes → IfOk result (λ r. MeansTheSame M (message (segments r))) →
     IfOk result (λ r. AreReadBack S (segments r) edits outcomes)

@@ -1,6 +1,4 @@
 //! Callers that know an arena by its contracts alone.
-#![tactic(auto)]
-
 ghost use Rattle.std.specs.Prelude.{◌≡◌, ◌≢◌, ◌<◌, ◌≤◌, ◌+◌, ◌^◌, ◌↔◌, ◌++◌, ◌∷◌, [], length, IsTrue, IsOk, IsSome, IsNone, IfSome, IfErr, OnOk, OnErr, slice_set, slice_index_or, replicate};
 ghost use Rattle.std.specs.Bool.{OnTrue, OnFalse};
 ghost use Rattle.capnp_format.specs.Bytes.{message};

@@ -1,0 +1,5 @@
+//! Callers that know an arena, or builders, by their contracts alone.
+#![tactic(auto)]
+
+pub mod arena;
+pub mod builders;

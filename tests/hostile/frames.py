@@ -1,0 +1,57 @@
+"""Frames of messages, by the encoding's own description ("Serialization Over a Stream"), apart from the crates."""
+
+MOST_SEGMENTS = 512
+MOST_WORDS = 8_388_608
+
+
+def whole_words(segment):
+    return segment[:len(segment) // 8 * 8]
+
+
+def number_at(frame, at):
+    """The number of four bytes, or None where they aren't all there."""
+    return int.from_bytes(frame[at:at + 4], 'little') if at + 4 <= len(frame) else None
+
+
+def framed(segments):
+    """The hex digits of a message's frame."""
+    segments = [whole_words(it) for it in segments]
+    table = [len(segments) - 1, *(len(it) // 8 for it in segments)]
+    padding = bytes(4 * (len(table) % 2))
+    return b''.join([*(it.to_bytes(4, 'little') for it in table), padding, *segments]).hex()
+
+
+def table_of(frame):
+    """The lengths of a frame's segments in words, and where their words begin, or the name of what is amiss."""
+    if not frame:
+        return 'NoMessage'
+    count = number_at(frame, 0)
+    if count is None:
+        return 'Truncated'
+    if count + 1 > MOST_SEGMENTS:
+        return 'TooManySegments'
+    start = (4 * (count + 2) + 7) // 8 * 8
+    if len(frame) < start:
+        return 'Truncated'
+    return [number_at(frame, 4 * i + 4) for i in range(count + 1)], start
+
+
+def refusal(frame):
+    """The name by which a frame is refused, or None where a message stands there."""
+    table = table_of(frame)
+    if isinstance(table, str):
+        return table
+    lengths, start = table
+    if sum(lengths) > MOST_WORDS:
+        return 'MessageTooLong'
+    return 'Truncated' if len(frame) < start + 8 * sum(lengths) else None
+
+
+def parted(frame):
+    """The segments of a frame that isn't refused."""
+    lengths, at = table_of(frame)
+    segments = []
+    for length in lengths:
+        segments.append(frame[at:at + 8 * length])
+        at += 8 * length
+    return segments
