@@ -1,6 +1,8 @@
 -- Segments that stand one behind the other are those of a frame.
-use Rattle.std.proofs.Common.{◌≡◌, ℕ, zero, suc, ◌+◌, ◌-◌, ◌*◌, ◌^◌, ◌<◌, ◌≤◌, List, [], ◌∷◌, ◌++◌, length, get_or, take, drop, refl, sym, ap, ap₂, ◌∙◌, subst, arith, length-take, length-drop, get_or-drop, append_assoc, take-add, drop-drop, take-append-drop, slice_get, Some}
+use Rattle.std.proofs.Common.{◌≡◌, ℕ, zero, suc, ◌+◌, ◌-◌, ◌*◌, ◌^◌, ◌<◌, ◌≤◌, List, [], ◌∷◌, ◌++◌, length, get_or, take, drop, refl, sym, ap, ap₂, ◌∙◌, subst, arith, length-take, length-drop, get_or-drop, append_assoc, take-add, drop-drop, take-append-drop, slice_get, slice_index, slice_set, Some}
 use Rattle.std.specs.List.{All}
+use Rattle.std.proofs.lemmas.List.{get_or-set_same, get_or-set_other}
+use borrow.Author.Count.{below_more}
 use Rattle.std.specs.Int.{from_le_bytes, w32}
 use Rattle.std.proofs.lemmas.List.Elements.{All-nil, All-cons, All-from_get_or}
 use Rattle.std.proofs.lemmas.Nat.{le_bytes_4}
@@ -10,7 +12,7 @@ use Rattle.capnp_format.proofs.WordsOf.{small_word, words}
 use Rattle.capnp_arena.specs.Limits.{IsSmall}
 use Rattle.capnp_framing.specs.Flat.{BeginsWithFrame, first_told, part_at, parts}
 use Rattle.capnp_framing.specs.Frames.{AreWords, contents, lengths, padding_size}
-use Rattle.capnp_framing.specs.Reading.{total, words_told}
+use Rattle.capnp_framing.specs.Reading.{max_length, total, words_told}
 use Rattle.capnp_framing.proofs.ReadingLemmas.{AtTable, frame_read, small_from_short}
 use Rattle.capnp_framing.proofs.TableLemmas.{below_take, bytes-words}
 
@@ -28,6 +30,18 @@ parts-get (suc n) (suc id) table bytes h =
     ∙ ap₂ (λ (ts bs : List ℕ). Some (take (8 * first_told ts) bs))
     (drop-drop (4 * id) 4 table ∙ ap (λ k. drop k table) (let e : 4 + 4 * id ≡ 4 * suc id = omega arith in e))
     (drop-drop (8 * words_told id (drop 4 table)) m bytes ∙ ap (λ k. drop k bytes) (let e : m + 8 * words_told id (drop 4 table) ≡ 8 * words_told (suc id) table = omega arith in e))
+
+-- One start more is kept.
+pub kept_more :
+    (table starts : List ℕ) (k sum : ℕ) → k < length starts → sum ≡ words_told (32 * k) table → sum ≤ max_length * (32 * k) →
+    ((j : ℕ) → j < k → (slice_index starts j ≡ words_told (32 * j) table) × (slice_index starts j ≤ max_length * (32 * j))) →
+    (j : ℕ) → j < k + 1 → (slice_index (slice_set starts k sum) j ≡ words_told (32 * j) table) × (slice_index (slice_set starts k sum) j ≤ max_length * (32 * j))
+kept_more table starts k sum there is small kept =
+    below_more (λ j. (slice_index (slice_set starts k sum) j ≡ words_told (32 * j) table) × (slice_index (slice_set starts k sum) j ≤ max_length * (32 * j))) k
+    (λ j less.
+    (let other = get_or-set_other starts k j sum 0 (λ e. absurd (omega (arith, e, less))) in
+    let (at, low) = kept j less in (other ∙ at, omega (arith, other, low))))
+    (let same = get_or-set_same starts k sum 0 there in (same ∙ is, omega (arith, same, small)))
 
 -- What n segments say of the table and the bytes that they were cut from.
 pub record AreParts (n : ℕ) (table bytes : List ℕ) (S : Segments) : Type 0 where

@@ -1,9 +1,9 @@
 -- Frames that stand in memory as a whole.
-use Rattle.std.specs.Prelude.{◌≡◌, ℕ, ◌*◌, ◌≤◌, List, [], ◌∷◌, ◌++◌, take, drop, zero, suc}
+use Rattle.std.specs.Prelude.{◌≡◌, ℕ, ◌*◌, ◌<◌, ◌≤◌, List, [], ◌∷◌, ◌++◌, take, drop, slice_index, zero, suc}
 use Rattle.std.specs.Int.{from_le_bytes, w32}
 use Rattle.capnp_format.specs.Segments.{Segments}
 use Rattle.capnp_framing.specs.Frames.{IsFrameOf}
-use Rattle.capnp_framing.specs.Reading.{total, words_told}
+use Rattle.capnp_framing.specs.Reading.{max_length, total, words_told}
 
 -- The length in words that the first bytes of a table tell.
 abbrev pub first_told : List ℕ → ℕ
@@ -17,6 +17,12 @@ parts (suc n) table bytes = take (8 * first_told table) bytes ∷ parts n (drop 
 -- That of these with the number id.
 abbrev pub part_at : ℕ → List ℕ → List ℕ → List ℕ
 part_at id table bytes = take (8 * first_told (drop (4 * id) table)) (drop (8 * words_told id table) bytes)
+
+-- So many words stand before every 32nd of n segments of which a table tells the lengths.
+abbrev pub AreStarts : ℕ → List ℕ → List ℕ → Type 0
+AreStarts n table starts =
+    (k : ℕ) → 32 * k < n →
+    (slice_index starts k ≡ words_told (32 * k) table) × (slice_index starts k ≤ max_length * (32 * k))
 
 -- Bytes begin with a frame of a message of at most so many words.
 pub record BeginsWithFrame (bytes : List ℕ) (most : ℕ) (S : Segments) : Type 0 where

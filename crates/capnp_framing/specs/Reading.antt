@@ -20,6 +20,10 @@ segments_told bytes = from_le_bytes w32 (take 4 bytes) + 1
 abbrev pub table_size : ℕ → ℕ
 table_size n = 4 + 4 * n + padding_size n
 
+-- The greatest length in words that four bytes tell.
+abbrev pub max_length : ℕ
+max_length = 4294967295
+
 -- The sum of the n lengths that bytes tell.
 abbrev pub words_told : ℕ → List ℕ → ℕ
 words_told zero bytes = 0

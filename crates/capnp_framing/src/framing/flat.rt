@@ -2,13 +2,19 @@
 ghost use Rattle.std.specs.Prelude.{◌≡◌, ◌+◌, ◌*◌, ◌<◌, ◌≤◌, [], Ok, None, IfSome, IfOk, IfErr, length};
 ghost use Rattle.capnp_format.specs.Bytes.{message};
 ghost use Rattle.capnp_arena.specs.Limits.{IsSmall};
-ghost use Rattle.capnp_framing.specs.Flat.{BeginsWithFrame, part_at, parts};
-ghost use Rattle.capnp_framing.specs.Reading.{NoFrame, words_told};
+ghost use Rattle.capnp_framing.specs.Flat.{AreStarts, BeginsWithFrame, part_at, parts};
+ghost use Rattle.capnp_framing.specs.Reading.{NoFrame, max_length, words_told};
 
 use super::MAX_SEGMENTS;
 use super::frame_error::FrameError;
-use super::reading::{number_at, sum_of};
+use super::reading::{number_at, sum_from};
 use capnp_arena::arena::ReaderSegments;
+
+/// How many segments there are from one whose start is kept to the next.
+const STEP: usize = 32;
+
+/// How many starts are kept.
+const STARTS: usize = MAX_SEGMENTS / STEP;
 
 /// The segments of a message, where its frame stands in memory.
 #[derive(Clone, Copy)]
@@ -18,19 +24,41 @@ pub struct FrameSegments<'a> {
     table: &'a [u8],
     // The words of the segments, and what stands behind them.
     words: &'a [u8],
+    // How many words stand before every 32nd segment.
+    starts: [u64; STARTS],
     ghost few: { count ≤ 512 },
     ghost told: { 4 * count ≤ length table.now },
     ghost whole: { 8 * words_told count table.now ≤ length words.now },
+    ghost kept: { AreStarts count table.now starts },
 }
 
-/// The segment with this number, of as many as a table tells.
-fn segment_at<'a>(table: &[u8], words: &'a [u8], id: usize) -> &'a [u8]
+/// How many words stand before every 32nd segment of those that a table tells, and how many in all.
+fn starts_of(table: &[u8], count: usize) -> ([u64; STARTS], u64)
+    requires inside { 4 * count ≤ length table.now }
+    requires few { count ≤ 512 }
+    ensures kept { AreStarts count table.now result.0 }
+    ensures sum { result.1 ≡ words_told count table.now }
+{
+    let mut starts = [0; STARTS];
+    let mut sum = 0;
+    for k in 0..(count + STEP - 1) / STEP {
+        starts[k] = sum;
+        sum = sum_from(table, STEP * k, sum, count.min(STEP * k + STEP));
+    }
+    (starts, sum)
+}
+
+/// The segment with this number, of as many as a table tells. Before one that is no later stand so many words.
+fn segment_at<'a>(table: &[u8], words: &'a [u8], first: usize, before: u64, id: usize) -> &'a [u8]
     requires few { id < 512 }
+    requires order { first ≤ id }
+    requires before { before ≡ words_told first table.now }
+    requires small { before ≤ max_length * first }
     requires told { 4 * (id + 1) ≤ length table.now }
     requires whole { 8 * words_told (id + 1) table.now ≤ length words.now }
     ensures { result.now ≡ part_at id table.now words.now }
 {
-    let at = 8 * sum_of(table, id) as usize;
+    let at = 8 * sum_from(table, first, before, id) as usize;
     let size = 8 * number_at(table, 4 * id) as usize;
     &words[at..at + size]
 }
@@ -41,7 +69,8 @@ impl ReaderSegments for FrameSegments<'_> {
     fn get_segment(&self, id: u32) -> Option<&[u8]> {
         let id = id as usize;
         if id < self.count {
-            Some(segment_at(self.table, self.words, id))
+            let k = id / STEP;
+            Some(segment_at(self.table, self.words, STEP * k, self.starts[k], id))
         } else {
             None
         }
@@ -87,7 +116,7 @@ pub fn read_from_flat_slice(
     if bytes.len() < size {
         return Err(FrameError::Truncated);
     }
-    let words = sum_of(&bytes[4..], count);
+    let (starts, words) = starts_of(&bytes[4..], count);
     if words > max_words {
         return Err(FrameError::MessageTooLong(words));
     }
@@ -99,5 +128,6 @@ pub fn read_from_flat_slice(
         count,
         table: &bytes[4..],
         words: &bytes[size..],
+        starts,
     }))
 }

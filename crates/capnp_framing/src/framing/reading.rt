@@ -5,7 +5,7 @@ ghost use Rattle.std.specs.Io.KnownBytes.{Consumes, IsAtEnd};
 ghost use Rattle.capnp_format.specs.Bytes.{message, words_of};
 ghost use Rattle.capnp_arena.specs.Limits.{IsSmall};
 ghost use Rattle.capnp_framing.specs.Frames.{AreWords, bytes_of_words, contents, lengths};
-ghost use Rattle.capnp_framing.specs.Reading.{IsFrameRead, NoFrame, WhyUnread, total, words_told};
+ghost use Rattle.capnp_framing.specs.Reading.{IsFrameRead, NoFrame, WhyUnread, max_length, total, words_told};
 ghost use Rattle.capnp_framing.specs.declared.framing.frame_error.FrameError.TheVariants.{AllocationFailed, ReadFailed, Truncated};
 
 use super::MAX_SEGMENTS;
@@ -94,17 +94,30 @@ pub(super) fn number_at(table: &[u8], at: usize) -> u32
     u32::from_le_bytes([table[at], table[at + 1], table[at + 2], table[at + 3]])
 }
 
+/// The sum of so many lengths, from that of those before one of them.
+pub(super) fn sum_from(table: &[u8], first: usize, before: u64, count: usize) -> u64
+    requires inside { 4 * count ≤ length table.now }
+    requires few { count ≤ 512 }
+    requires order { first ≤ count }
+    requires before { before ≡ words_told first table.now }
+    requires small { before ≤ max_length * first }
+    ensures sum { result ≡ words_told count table.now }
+    ensures small { result ≤ max_length * count }
+{
+    let mut sum = before;
+    for i in first..count {
+        sum += u64::from(number_at(table, 4 * i));
+    }
+    sum
+}
+
 /// The sum of so many lengths.
-pub(super) fn sum_of(table: &[u8], count: usize) -> u64
+fn sum_of(table: &[u8], count: usize) -> u64
     requires inside { 4 * count ≤ length table.now }
     requires few { count ≤ 512 }
     ensures { result ≡ words_told count table.now }
 {
-    let mut sum = 0u64;
-    for i in 0..count {
-        sum += u64::from(number_at(table, 4 * i));
-    }
-    sum
+    sum_from(table, 0, 0, count)
 }
 
 /// Each byte is below 256. It does nothing; its contract says so.

@@ -16,11 +16,11 @@ returns c =
       room = omega (arith, c.if-bytes-size.false);
       table_is = take_all (length bytes - 4) (drop 4 bytes) (omega (arith, length-drop 4 bytes));
       rest_is = take_all (length bytes - size) (drop size bytes) (omega (arith, length-drop size bytes));
-      whole = (let there = length-take (length bytes - size) (drop size bytes) in omega (arith, there, length-drop size bytes, c.if-words-there.false, c.sum_of-words.ensures, c.if-bytes-size.false));
+      whole = (let there = length-take (length bytes - size) (drop size bytes) in omega (arith, there, length-drop size bytes, c.if-words-there.false, c.starts_of-words.ensures.sum, c.if-bytes-size.false));
     } in
     record {
       end = search rules;
-      read = flat_frame c.args.max_words at (omega (arith, c.if-words-max_words.false, c.sum_of-words.ensures));
+      read = flat_frame c.args.max_words at (omega (arith, c.if-words-max_words.false, c.starts_of-words.ensures.sum));
       small = flat_small at;
       refused = search rules;
     }
