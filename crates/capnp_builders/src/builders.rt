@@ -620,8 +620,8 @@ impl<'a, A: BuilderArena> PointerBuilder<'a, A> {
     ///
     /// After a refusal the pointer is null, the words that were taken are zero and stay allocated, and
     /// what was charged stays charged. At most as many words are taken as reading the value costs, or what
-    /// was read of it before the object where a refused copy breaks off, and a landing pad for each pointer
-    /// that was followed.
+    /// was read of it before the object where a refused copy breaks off. Only landing pads come on top: one
+    /// of each object for which the segment of its pointer has no room.
     pub fn copy_from<B: ReaderArena>(
         &mut self,
         from: PointerReader<'_, B>,

@@ -43,15 +43,16 @@ cut-with_last : (e r : ℕ) (es : Elements) (ws : List ℕ) (us : Trees) → cut
 cut-with_last e r no_elements ws us = refl
 cut-with_last e r (element vs ts es) ws us = ap (element (take e vs) (take_trees r (trim_each ts))) (cut-with_last e r es ws us)
 
--- elements that were read, with one more of which the first pointers were, at a cost that with the pointers is n
-pub record Another (r : Reading) (size least : StructSize) (m m' : Meter) (es : Elements) (ts : Trees) (n : ℕ) : Type 0 where
+-- elements that were read, with one more of which the first pointers were, at a cost of n words and k pointers
+pub record Another (r : Reading) (size least : StructSize) (m m' : Meter) (es : Elements) (ts : Trees) (n k : ℕ) : Type 0 where
   pub all : Elements
   pub counts : element_count all ≡ suc (element_count es)
   pub are_read : ReadsElements canonical r size m m' all
   pub shape :
       cut_to least.data_words least.pointers (trim_elements all)
       ≡ with_last_element (cut_to least.data_words least.pointers (trim_elements es)) (take least.data_words (words_at r.segments r.segment (r.at + element_count es * (size.data_words + size.pointers)) size.data_words)) (trim_each ts)
-  pub costs : are_read.cost + pointers_in_elements all ≡ n
+  pub costs : are_read.cost ≡ n
+  pub follows : pointers_in_elements all ≡ k
 
 -- The n elements lie in the segment, and the pointers of this size that are kept of each are all that are used.
 pub record SourceFits (r : Reading) (size least : StructSize) (n : ℕ) : Type 0 where
@@ -64,7 +65,7 @@ row_ends : (j i w : ℕ) → j < i → j * w + w ≤ i * w
 row_ends j i w less = let f : suc j * w ≤ i * w = grind arith in omega (arith, f)
 
 pub another : {r : Reading} {size least : StructSize} {i : ℕ} {m m' m'' : Meter} {es : Elements} {ts : Trees} → SourceFits r size least i → (read : ReadsElements canonical r size m m' es) → element_count es < i → count ts ≡ least.pointers →
-    (last : ReadsAll canonical (pointers_of r size (element_count es)) m' m'' ts) → Another r size least m m'' es ts (read.cost + pointers_in_elements es + (last.cost + pointers_in_all ts))
+    (last : ReadsAll canonical (pointers_of r size (element_count es)) m' m'' ts) → Another r size least m m'' es ts (read.cost + last.cost) (pointers_in_elements es + pointers_in_all ts)
 unfolding read_element
 another {r} {size} {least} {i} {m} {m'} {m''} {es} {ts} fits all less len one =
     let d : ℕ = size.data_words in
@@ -81,7 +82,8 @@ another {r} {size} {least} {i} {m} {m'} {m''} {es} {ts} fits all less len one =
       shape =
           cut-with_last least.data_words least.pointers es ws f.all
           ∙ ap (with_last_element (cut_to least.data_words least.pointers (trim_elements es)) (take least.data_words ws)) (take_trees-trim least.pointers f.all ∙ ap trim_each (ap (λ k. take_trees k f.all) (sym len) ∙ f.first));
-      costs = omega (arith, f.costs, pointers_in-with_last_element es ws f.all);
+      costs = omega (arith, f.costs);
+      follows = omega (arith, f.follows, pointers_in-with_last_element es ws f.all);
     }
 
 -- what stands where elements are laid

@@ -35,17 +35,18 @@ use Rattle.capnp_copies.proofs.TooLarge.{ObjectMade, sections_too_large}
 use Rattle.capnp_copies.proofs.TightObjects.{StructMade, struct_tight}
 use Rattle.capnp_copies.proofs.UsedChildren.{used_children, trim-struct, fill_nulls, null_behind}
 
--- The kept children of a struct were read, and so were all of them, at a cost that with the pointers is n; and a struct of them is
+-- The kept children of a struct were read, and so were all of them, at a cost of n words and k pointers; and a struct of them is
 -- kept so.
-pub record SectionsKept (b : Form) (ws : List ℕ) (r : Reading) (q : ℕ) (m m' : Meter) (ts : Trees) (n : ℕ) : Type 0 where
+pub record SectionsKept (b : Form) (ws : List ℕ) (r : Reading) (q : ℕ) (m m' : Meter) (ts : Trees) (n k : ℕ) : Type 0 where
   pub all : Trees
   pub counts : count all ≡ q
   pub are_read : ReadsAll b r m m' all
   pub form : kept b (Struct ws all) ≡ Struct (take (kept_count b ws) ws) (kept_each b ts)
-  pub costs : are_read.cost + pointers_in_all all ≡ n
+  pub costs : are_read.cost ≡ n
+  pub follows : pointers_in_all all ≡ k
 
 pub sections_kept : (b : Form) (ws : List ℕ) (r : Reading) (q : ℕ) (m m' : Meter) (ts : Trees) → r.at + q ≤ length (row r) → count ts ≡ kept_count b (words_from r q) → (read : ReadsAll b r m m' ts) →
-    SectionsKept b ws r q m m' ts (read.cost + pointers_in_all ts)
+    SectionsKept b ws r q m m' ts read.cost (pointers_in_all ts)
 sections_kept canonical ws r q m m' ts inside len all =
     let few : count ts ≤ q = omega (arith, kept_count-le canonical (words_from r q), length_words r.segments r.segment r.at q inside, len) in
     let f = fill_nulls q all few (λ i a b. null_behind r q i (omega (arith, len, a)) b) in
@@ -57,9 +58,10 @@ sections_kept canonical ws r q m m' ts inside len all =
           trim-struct ws f.all ∙ ap (λ i. Struct (take (used_words ws) ws) (trim_each (take_trees i f.all))) (used_children r f.all f.are_read.cost inside f.counts f.are_read.means ∙ sym len)
           ∙ ap (λ us. Struct (take (used_words ws) ws) (trim_each us)) f.first;
       costs = f.costs;
+      follows = f.follows;
     }
 sections_kept _ ws r q m m' ts inside len all =
-    record { all = ts; counts = len ∙ length_words r.segments r.segment r.at q inside; are_read = all; form = ap (λ xs. Struct xs ts) (sym (take_all (length ws) ws (omega arith))); costs = refl }
+    record { all = ts; counts = len ∙ length_words r.segments r.segment r.at q inside; are_read = all; form = ap (λ xs. Struct xs ts) (sym (take_all (length ws) ws (omega arith))); costs = refl; follows = refl }
 
 -- A struct is made and starts at h, and the data words that are kept are written.
 pub record SectionsBegun (b : Form) (ws : List ℕ) (r : Reading) (q : ℕ) (least : StructSize) (s p : ℕ) (old made mid : View) (h : Start) : Type 0 where

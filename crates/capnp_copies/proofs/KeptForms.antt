@@ -34,24 +34,25 @@ use Rattle.capnp_copies.proofs.UsedChildren.{used_children, means_taken, trim-st
 unfoldable pub stops_sooner : {form : Form} {P : Reading → Meter → Meter → Type 0} {r : Reading} {m m' : Meter} {q used : ℕ} → used ≤ q → StopsAmong form P r used m m' → StopsAmong form P r q m m'
 stops_sooner le h = record { first = h.first; fewer = omega (arith, h.fewer, le); mid = h.mid; are_read = h.are_read; stops = h.stops }
 
--- a struct, of which the kept pointers were read, at a cost that with the pointers is n
+-- a struct, of which the kept pointers were read, at a cost of n words and k pointers
 
-pub record StructKept (b : Form) (r : Reading) (size least : StructSize) (m m' : Meter) (ts : Trees) (n : ℕ) : Type 0 where
+pub record StructKept (b : Form) (r : Reading) (size least : StructSize) (m m' : Meter) (ts : Trees) (n k : ℕ) : Type 0 where
   pub all : Trees
   pub counts : count all ≡ size.pointers
   pub are_read : ReadsAll b (behind r size.data_words) m m' all
   pub form : kept b (Struct (words_from r size.data_words) all) ≡ Struct (words_from r least.data_words) (kept_each b ts)
-  pub costs : are_read.cost + pointers_in_all all ≡ n
+  pub costs : are_read.cost ≡ n
+  pub follows : pointers_in_all all ≡ k
 
 pub struct_kept : (b : Form) (r : Reading) (size least : StructSize) (m m' : Meter) (ts : Trees) → r.at + (size.data_words + size.pointers) ≤ length (row r) → KeepsSections b r size least → count ts ≡ least.pointers →
-    (read : ReadsAll b (behind r size.data_words) m m' ts) → StructKept b r size least m m' ts (read.cost + pointers_in_all ts)
+    (read : ReadsAll b (behind r size.data_words) m m' ts) → StructKept b r size least m m' ts read.cost (pointers_in_all ts)
 struct_kept canonical r size least m m' ts inside uses len all =
     let f = struct_filled inside uses len all in
     let ws : List ℕ = words_from r size.data_words in
     let section : take (used_words ws) ws ≡ words_from r least.data_words = ap (λ i. take i ws) (sym uses.of_data) ∙ words_taken r.segments r.segment r.at least.data_words size.data_words uses.less_data in
-    record { all = f.all; counts = f.counts; are_read = f.are_read; form = f.form ∙ ap (λ xs. Struct xs (trim_each ts)) section; costs = f.costs }
+    record { all = f.all; counts = f.counts; are_read = f.are_read; form = f.form ∙ ap (λ xs. Struct xs (trim_each ts)) section; costs = f.costs; follows = f.follows }
 struct_kept _ r size least m m' ts inside same len all =
-    record { all = ts; counts = len ∙ ap (λ s. s.pointers) same; are_read = all; form = ap (λ s. Struct (words_from r s.data_words) ts) (sym same); costs = refl }
+    record { all = ts; counts = len ∙ ap (λ s. s.pointers) same; are_read = all; form = ap (λ s. Struct (words_from r s.data_words) ts) (sym same); costs = refl; follows = refl }
 
 take_count : (ts : Trees) → take_trees (count ts) ts ≡ ts
 take_count no_trees = refl
@@ -141,22 +142,23 @@ row_kept _ r sizes n j us c fits less len all =
 abbrev pub element_words : Reading → ElementSizes → ℕ → List ℕ
 element_words r sizes j = words_at r.segments r.segment (r.at + j * (sizes.source.data_words + sizes.source.pointers)) sizes.kept.data_words
 
--- elements that were read, with one more of which the kept pointers were, at a cost that with the pointers is n
-pub record OneMore (b : Form) (r : Reading) (sizes : ElementSizes) (m m' : Meter) (es : Elements) (ts : Trees) (n : ℕ) : Type 0 where
+-- elements that were read, with one more of which the kept pointers were, at a cost of n words and k pointers
+pub record OneMore (b : Form) (r : Reading) (sizes : ElementSizes) (m m' : Meter) (es : Elements) (ts : Trees) (n k : ℕ) : Type 0 where
   pub all : Elements
   pub counts : element_count all ≡ suc (element_count es)
   pub are_read : ReadsElements b r sizes.source m m' all
   pub shape :
       cut_to sizes.kept.data_words sizes.kept.pointers (kept_elements b all)
       ≡ with_last_element (cut_to sizes.kept.data_words sizes.kept.pointers (kept_elements b es)) (element_words r sizes (element_count es)) (kept_each b ts)
-  pub costs : are_read.cost + pointers_in_elements all ≡ n
+  pub costs : are_read.cost ≡ n
+  pub follows : pointers_in_elements all ≡ k
 
 cut-last : (e q : ℕ) (es : Elements) (ws : List ℕ) (us : Trees) → cut_to e q (with_last_element es ws us) ≡ with_last_element (cut_to e q es) (take e ws) (take_trees q us)
 cut-last e q no_elements ws us = refl
 cut-last e q (element vs ts es) ws us = ap (element (take e vs) (take_trees q ts)) (cut-last e q es ws us)
 
 pub one_more : (b : Form) (r : Reading) (sizes : ElementSizes) (n : ℕ) (m m' m'' : Meter) (es : Elements) (ts : Trees) → SourceKept b r sizes n → (read : ReadsElements b r sizes.source m m' es) → element_count es < n → count ts ≡ sizes.kept.pointers →
-    (last : ReadsAll b (pointers_of r sizes.source (element_count es)) m' m'' ts) → OneMore b r sizes m m'' es ts (read.cost + pointers_in_elements es + (last.cost + pointers_in_all ts))
+    (last : ReadsAll b (pointers_of r sizes.source (element_count es)) m' m'' ts) → OneMore b r sizes m m'' es ts (read.cost + last.cost) (pointers_in_elements es + pointers_in_all ts)
 unfolding read_element
 one_more canonical r sizes n m m' m'' es ts fits all less len one =
     let source_fits : SourceFits r sizes.source sizes.kept n = record { inside = fits.inside; used = fits.used; less = fits.less_pointers } in
@@ -169,6 +171,7 @@ one_more canonical r sizes n m m' m'' es ts fits all less len one =
       shape =
           a.shape ∙ ap (λ xs. with_last_element (cut_to sizes.kept.data_words sizes.kept.pointers (trim_elements es)) xs (trim_each ts)) (words_taken r.segments r.segment at sizes.kept.data_words sizes.source.data_words fits.less_data);
       costs = a.costs;
+      follows = a.follows;
     }
 one_more _ r sizes n m m' m'' es ts fits all less len one =
     let d : ℕ = sizes.source.data_words in
@@ -185,7 +188,8 @@ one_more _ r sizes n m m' m'' es ts fits all less len one =
           cut-last sizes.kept.data_words sizes.kept.pointers es ws ts
           ∙ ap₂ (λ (xs : List ℕ) us. with_last_element (cut_to sizes.kept.data_words sizes.kept.pointers es) xs us)
           (words_taken r.segments r.segment (r.at + j * (d + q)) sizes.kept.data_words d fits.less_data) (ap (λ i. take_trees i ts) (sym len) ∙ take_count ts);
-      costs = omega (arith, pointers_in-with_last_element es ws ts);
+      costs = omega arith;
+      follows = omega (arith, pointers_in-with_last_element es ws ts);
     }
 
 -- elements of which no section is kept
@@ -194,15 +198,16 @@ pub record Blank (b : Form) (r : Reading) (sizes : ElementSizes) (j : ℕ) (m : 
   pub all : Elements
   pub counts : element_count all ≡ j
   pub are_read : ReadsElements b r sizes.source m m all
-  pub costs : are_read.cost + pointers_in_elements all ≡ 0
+  pub costs : are_read.cost ≡ 0
+  pub follows : pointers_in_elements all ≡ 0
 
 pub blank_elements : (b : Form) (r : Reading) (sizes : ElementSizes) (n : ℕ) (m : Meter) (j : ℕ) → j ≤ n → SourceKept b r sizes n → sizes.kept.pointers ≡ 0 → Blank b r sizes j m
 unfolding read_no_element read_none
-blank_elements b r sizes n m zero le fits none = record { all = no_elements; counts = refl; are_read = read_no_element b r sizes.source m; costs = refl }
+blank_elements b r sizes n m zero le fits none = record { all = no_elements; counts = refl; are_read = read_no_element b r sizes.source m; costs = refl; follows = refl }
 blank_elements b r sizes n m (suc j) le fits none =
     let x = blank_elements b r sizes n m j (omega arith) fits none in
     let a = one_more b r sizes n m m m x.all no_trees fits x.are_read (omega (arith, x.counts)) (sym none) (read_none b (pointers_of r sizes.source (element_count x.all)) m) in
-    record { all = a.all; counts = a.counts ∙ ap suc x.counts; are_read = a.are_read; costs = omega (arith, a.costs, x.costs) }
+    record { all = a.all; counts = a.counts ∙ ap suc x.counts; are_read = a.are_read; costs = omega (arith, a.costs, x.costs); follows = omega (arith, a.follows, x.follows) }
 
 pub nothing_filled : (S : Segments) (s p : ℕ) (es : Elements) → AreElementsFilled S S s p 0 0 (cut_to 0 0 es)
 nothing_filled S s p no_elements = refl

@@ -50,15 +50,16 @@ trimmed_struct {r} {size} {used} us c inside uses len all =
     trim-struct ws us
     ∙ ap (λ i. Struct (take (used_words ws) ws) (trim_each (take_trees i us))) (used_children (behind r size.data_words) us c (omega arith) len all ∙ sym uses.of_pointers)
 
--- the children that were read, at a cost that with the pointers is n, and Nulls behind them
-pub record FilledStruct (r : Reading) (size : StructSize) (m m' : Meter) (ts : Trees) (n : ℕ) : Type 0 where
+-- the children that were read, at a cost of n words and k pointers, and Nulls behind them
+pub record FilledStruct (r : Reading) (size : StructSize) (m m' : Meter) (ts : Trees) (n k : ℕ) : Type 0 where
   pub all : Trees
   pub counts : count all ≡ size.pointers
   pub are_read : ReadsAll canonical (behind r size.data_words) m m' all
   pub form : trim (Struct (words_from r size.data_words) all) ≡ Struct (take (used_words (words_from r size.data_words)) (words_from r size.data_words)) (trim_each ts)
-  pub costs : are_read.cost + pointers_in_all all ≡ n
+  pub costs : are_read.cost ≡ n
+  pub follows : pointers_in_all all ≡ k
 
-pub struct_filled : {r : Reading} {size used : StructSize} {m m' : Meter} {ts : Trees} → r.at + (size.data_words + size.pointers) ≤ length (row r) → Uses r size used → count ts ≡ used.pointers → (read : ReadsAll canonical (behind r size.data_words) m m' ts) → FilledStruct r size m m' ts (read.cost + pointers_in_all ts)
+pub struct_filled : {r : Reading} {size used : StructSize} {m m' : Meter} {ts : Trees} → r.at + (size.data_words + size.pointers) ≤ length (row r) → Uses r size used → count ts ≡ used.pointers → (read : ReadsAll canonical (behind r size.data_words) m m' ts) → FilledStruct r size m m' ts read.cost (pointers_in_all ts)
 struct_filled {r} {size} {used} {m} {m'} {ts} inside uses len all =
     let ws : List ℕ = words_from r size.data_words in
     let f = fill_nulls size.pointers all (omega (arith, uses.less_pointers)) (λ i a b. null_behind (behind r size.data_words) size.pointers i (omega (arith, uses.of_pointers, len)) b) in
@@ -70,6 +71,7 @@ struct_filled {r} {size} {used} {m} {m'} {ts} inside uses len all =
           trimmed_struct f.all f.are_read.cost inside uses f.counts f.are_read.means
           ∙ ap (λ vs. Struct (take (used_words ws) ws) (trim_each vs)) (ap (λ i. take_trees i f.all) (sym len) ∙ f.first);
       costs = f.costs;
+      follows = f.follows;
     }
 
 -- The words of a struct are taken: these data words, and pointers, which are null.

@@ -121,15 +121,16 @@ take_first : (ts us : Trees) → take_trees (count ts) (append_trees ts us) ≡ 
 take_first no_trees us = refl
 take_first (tree t ts) us = ap (tree t) (take_first ts us)
 
--- children of which the first ones are read, at a cost that with the pointers is n, and the others Null
-pub record Filled (r : Reading) (q : ℕ) (m m' : Meter) (ts : Trees) (n : ℕ) : Type 0 where
+-- children of which the first ones are read, at a cost of n words and k pointers, and the others Null
+pub record Filled (r : Reading) (q : ℕ) (m m' : Meter) (ts : Trees) (n k : ℕ) : Type 0 where
   pub all : Trees
   pub counts : count all ≡ q
   pub are_read : ReadsAll canonical r m m' all
   pub first : take_trees (count ts) all ≡ ts
-  pub costs : are_read.cost + pointers_in_all all ≡ n
+  pub costs : are_read.cost ≡ n
+  pub follows : pointers_in_all all ≡ k
 
-pub fill_nulls : {r : Reading} {m m' : Meter} {ts : Trees} (q : ℕ) (read : ReadsAll canonical r m m' ts) → count ts ≤ q → ((i : ℕ) → count ts ≤ i → i < q → word_at r.segments r.segment (r.at + i) ≡ 0) → Filled r q m m' ts (read.cost + pointers_in_all ts)
+pub fill_nulls : {r : Reading} {m m' : Meter} {ts : Trees} (q : ℕ) (read : ReadsAll canonical r m m' ts) → count ts ≤ q → ((i : ℕ) → count ts ≤ i → i < q → word_at r.segments r.segment (r.at + i) ≡ 0) → Filled r q m m' ts read.cost (pointers_in_all ts)
 fill_nulls {r} {m} {m'} {ts} q read l z =
     let S : Segments = r.segments in
     let s : ℕ = r.segment in
@@ -147,5 +148,6 @@ fill_nulls {r} {m} {m'} {ts} q read l z =
         spent = read.spent ∙ ap (after r.charging m read.cost) (sym (pointers_in-nulls ts rest));
       };
       first = take_first ts (nulls rest);
-      costs = ap (λ i. read.cost + i) (pointers_in-nulls ts rest);
+      costs = refl;
+      follows = pointers_in-nulls ts rest;
     }

@@ -82,9 +82,9 @@ pub fn copy_value<A: BuilderArena, B: ReaderArena>(
 /// the pointer. As it stands, these are all words of the sections and elements; in canonical form, the
 /// trimmed ones.
 ///
-/// A copy takes at most as many words as reading the value costs, and a landing pad for each pointer that
-/// is followed; a refused one, for what was read before the object where it breaks off. So it is without
-/// a budget too, and where nothing is charged.
+/// A copy takes at most as many words as reading the value costs; a refused one, as what was read before
+/// the object where it breaks off. Only landing pads come on top: one of each object for which the
+/// segment of its pointer has no room. So it is without a budget too, and where nothing is charged.
 ///
 /// A refusal of the arena is `AllocationFailed` or `MessageTooLarge`, and comes only where the words
 /// don't fit behind those of the pointer's segment; a capability that the form doesn't take is refused

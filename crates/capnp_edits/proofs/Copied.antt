@@ -170,7 +170,7 @@ value_tried result c r m m' old new place is is_r is_m has done refused taken = 
 struct_tried : {A : Type 0} (result : Result A ErrorKind) (c : Copying) (s : Sections) (m' : Meter) (old new : View) (place : PointerPlace) → c.wanted ≡ AStruct → HasRoot c.source → LeadsToStruct (root_of c.source) (once_at_root c.source) s →
     IfOk result (λ x. KeepsSections s (change (form_of c.canonicalize) place.segment place.word old new s.limiter m')) →
     IfErr result (RefusesSections s.words s.first s.pointers (change (form_of c.canonicalize) place.segment place.word old new s.limiter m')) →
-    TakesForObject result s.first s.pointers (length s.words + s.pointers + 1) (change (form_of c.canonicalize) place.segment place.word old new s.limiter m') → Tried result c old new place
+    TakesForObject result s.first s.pointers (length s.words + s.pointers) (change (form_of c.canonicalize) place.segment place.word old new s.limiter m') → Tried result c old new place
 struct_tried result c s m' old new place is has leads done refused taken = record { root = has; after = m'; done = good result done; refused = bad result refused; taken = takes }
   where
     good : {A : Type 0} (q : Result A ErrorKind) → IfOk q (λ x. KeepsSections s (change (form_of c.canonicalize) place.segment place.word old new s.limiter m')) → IfOk q (λ x. IsDone c m' old.words new.words place)
@@ -229,7 +229,7 @@ struct_copied result c g from v m n m' old new place is here long read done refu
     let s : Sections = record { words = data_of g v; first = pointers_read g v; pointers = v.pointer_count; limiter = n } in
     let there : IsStructRead g from m n v = where_read g ExpectedStruct from (λ p. IsStructRead g p m n v) read in
     let leads : LeadsToStruct (reading g from) m s = struct_at g from m n v long there in
-    let own : own_words g v + 1 ≡ length (data_of g v) + v.pointer_count + 1 = ap (λ x. x + 1) (own_long g from m n v long there) in
+    let own : own_words g v ≡ length (data_of g v) + v.pointer_count = own_long g from m n v long there in
     struct_tried result c s m' old new place is here.root (subst (λ y. LeadsToStruct (root_of c.source) y s) here.once (subst (λ r. LeadsToStruct r m s) here.reads leads)) done refused
     (subst (λ x. TakesForObject result s.first s.pointers x (change (form_of c.canonicalize) place.segment place.word old new n m')) own taken)
 

@@ -40,6 +40,7 @@ use Rattle.capnp_readers.specs.declared.readers.PointerReader.{PointerReader}
 use Rattle.capnp_readers.specs.declared.readers.struct_reader.StructPlace.{StructPlace}
 use Rattle.capnp_readers.specs.declared.readers.struct_reader.StructReader.{StructReader}
 use Rattle.capnp_copies.specs.StructValues.{data_of}
+use Rattle.capnp_copies.proofs.Growth.{none_taken, all_taken}
 use Rattle.capnp_builders.specs.Content.{TakesContent, StopsAtContent, ContentFits, TakesForContent as TakesForCopy, pointers_copied}
 use Rattle.capnp_builders.specs.Laws.{up_to}
 use Rattle.capnp_builders.specs.Places.{IsAligned}
@@ -193,7 +194,7 @@ nothing_taken g source from v m n old e opened long read empty =
       record { words = words_of v.content.now; first = pointers_read g v; pointers = v.pointer_count; limiter = n },
       n,
       s.leads,
-      record { children = no_trees; counts = omega (arith, no_pointers); are_read = read_none plain (pointers_read g v) n; words = omega arith },
+      all_taken (omega (arith, no_pointers)) (none_taken (pointers_read g v) plain (sections e).segment (sections e).pointers_at old n),
     )
 
 -- how a call on content does its operation, at a pointer and at an element

@@ -178,7 +178,7 @@ abbrev pub TakesForWanted : Wanted → Option ErrorKind → Source → Change �
 TakesForWanted Value r source c = TakesAtMost (result_of r) (root_of source) c
 TakesForWanted AStruct r source c =
     (s : Sections) × LeadsToStruct (root_of source) c.before s
-    × TakesForObject (result_of r) s.first s.pointers (length s.words + s.pointers + 1) (record c { before = s.limiter })
+    × TakesForObject (result_of r) s.first s.pointers (length s.words + s.pointers) (record c { before = s.limiter })
 TakesForWanted AList r source c =
     (l : ListElements) × (m : Meter) × LeadsToList (root_of source) c.before m l × TakesForListOf (result_of r) l (record c { before = m })
 TakesForWanted Content r source c = ⊥

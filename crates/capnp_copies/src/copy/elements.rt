@@ -5,7 +5,7 @@ ghost use Rattle.capnp_format.specs.Segments.{segment, word_at};
 ghost use Rattle.capnp_arena.specs.Written.{with_words};
 ghost use Rattle.capnp_objects.specs.Reading.{row};
 ghost use Rattle.capnp_readers.specs.Readers.{reading};
-ghost use Rattle.capnp_copies.specs.Growth.{message_words, TakesForElement, TakesForRows};
+ghost use Rattle.capnp_copies.specs.Growth.{TakesNone, TakesForElement, TakesForRows};
 ghost use Rattle.capnp_copies.specs.Changes.{change, CopiesElement, StopsAtElement, CopiesElements, StopsAtElements, KeepsPointers};
 ghost use Rattle.capnp_copies.specs.Forms.{form_in};
 
@@ -137,8 +137,7 @@ pub(crate) fn put_words<A: BuilderArena>(arena: &mut A, id: u32, at: u32, words:
         → word_at (A.view arena.new).words id i ≡ word_at (A.view arena.old).words id i }
     ensures length { length (segment (A.view arena.new).words id)
         ≡ length (segment (A.view arena.old).words id) }
-    ensures none_more { message_words (A.view arena.new).words
-        ≤ message_words (A.view arena.old).words }
+    ensures taken { TakesNone (A.view arena.old) (A.view arena.new) }
 {
     if count(words) == 0 {
         return;

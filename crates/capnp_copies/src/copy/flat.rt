@@ -4,7 +4,7 @@ ghost use Rattle.capnp_format.specs.Bytes.{words_of};
 ghost use Rattle.capnp_format.specs.Numbers.{words_for, unpacked};
 ghost use Rattle.capnp_format.specs.Segments.{segment, IsPlace};
 ghost use Rattle.capnp_arena.specs.Written.{with_words};
-ghost use Rattle.capnp_copies.specs.Growth.{message_words};
+ghost use Rattle.capnp_copies.specs.Growth.{TakesForNumbers};
 ghost use Rattle.capnp_copies.specs.Copied.{low_bits};
 ghost use Rattle.capnp_format.specs.Tree.{Null, Flat};
 ghost use Rattle.capnp_making.specs.Memory.{KeepsMemory, SpendsMemory, RefusesWords};
@@ -41,8 +41,8 @@ pub(crate) fn copy_flat<A: BuilderArena>(
         (Flat (size_number size) (unpacked (size_number size) count (words_of elements.now)))) }
     ensures fits { HasOwnRoom (A.view arena.old) id (words_for (size_number size) count)
         → IsOk result }
-    ensures taken { message_words (A.view arena.new).words
-        ≤ message_words (A.view arena.old).words + (words_for (size_number size) count + 1) }
+    ensures taken { TakesForNumbers result id (words_for (size_number size) count)
+        (A.view arena.old) (A.view arena.new) }
     ensures granted { OnOk result (KeepsMemory (A.view arena.old) (A.view arena.new)) }
     ensures refused { IfErr result
         (RefusesWords (A.view arena.old) (A.view arena.new) (words_for (size_number size) count)) }

@@ -38,7 +38,7 @@ pub(crate) fn copy_pointers<A: BuilderArena, B: ReaderArena>(
     ensures refused { IfErr result
         (StopsAtPointers (reading B.ReaderArena from.entry) count
         (change (form_in form) id at (A.view arena.old) (A.view arena.new) lim.old lim.new)) }
-    ensures taken { TakesForObject result (reading B.ReaderArena from.entry) count (count + 1)
+    ensures taken { TakesForObject result (reading B.ReaderArena from.entry) count count
         (change (form_in form) id at (A.view arena.old) (A.view arena.new) lim.old lim.new) }
 {
     match make_list(arena, id, at, ElementSize::Pointer, count) {

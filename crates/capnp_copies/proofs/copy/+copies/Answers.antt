@@ -11,9 +11,7 @@ use Rattle.capnp_making.specs.Made.{zero_structs, nulls}
 use Rattle.capnp_making.specs.Memory.{HasRoom}
 use Rattle.capnp_making.proofs.FillingMade.{IsBegun, pointers_ready, structs_ready}
 use Rattle.capnp_objects.specs.Reading.{Reading, row, words_from}
-use Rattle.capnp_arena.specs.View.{View}
 use Rattle.capnp_readers.specs.Readers.{reading}
-use Rattle.capnp_copies.specs.Growth.{message_words}
 use Rattle.capnp_copies.specs.Changes.{KeepsPointers}
 use Rattle.capnp_copies.specs.Forms.{form_in}
 use Rattle.capnp_copies.proofs.FlatRead.{ok_so, err_so, one_level_in, flat_words}
@@ -21,7 +19,8 @@ use Rattle.capnp_copies.proofs.FilledChildren.{no_child, children_grow, child_ah
 use Rattle.capnp_copies.proofs.FilledElements.{DataWritten, element_copied, element_stops, no_row, no_width, AtRow, row_end, next_room, next_null, next_inside, row_copied, row_stops}
 use Rattle.capnp_copies.proofs.FilledObjects.{nothing_made, StructBegun, struct_fits, struct_null, struct_copied, struct_stops, ObjectBegun, pointers_copied, pointers_stop, widths_keep, structs_copied, structs_stop}
 use Rattle.capnp_copies.proofs.FilledValues.{read_stops, null_copied, capability_copied, capability_stops, default_stops, struct_value, struct_value_stops, pointers_value, pointers_value_stops, structs_value, structs_value_stops, FlatOutcome, flat_value, flat_stops}
-use Rattle.capnp_copies.proofs.Growth.{taken_so, taken_as, none_taken, one_taken, stop_taken, all_taken, no_row_taken, blank_taken, row_taken, row_stop_taken, rows_taken, for_all, among, for_elements, among_elements, nothing_taken, sections_taken, takes_words, word_over, no_wider, read_stop_taken, null_takes, capability_takes, capability_stop_takes, default_stop_takes, struct_takes, struct_stop_takes, flat_takes, flat_stop_takes, pointers_take, pointers_stop_take, structs_take, structs_stop_take}
+use Rattle.capnp_copies.proofs.Copying.{there}
+use Rattle.capnp_copies.proofs.Growth.{none_itself, none_word, none_refused, Begins, struct_begins, taken_so, none_taken, one_taken, stop_taken, all_taken, no_row_taken, blank_taken, row_taken, row_stop_taken, rows_taken, all_within, among_within, all_behind, among_behind, elements_behind, among_elements_behind, nothing_taken, sections_taken, no_wider, read_stop_taken, null_takes, capability_takes, capability_stop_takes, default_stop_takes, struct_takes, struct_stop_takes, flat_takes, flat_stop_takes, pointers_take, pointers_stop_take, structs_take, structs_stop_take}
 use Rattle.capnp_copies.proofs.KeptForms.{SourceKept}
 use Rattle.capnp_copies.proofs.TightElements.{all_rows}
 use Rattle.capnp_copies.proofs.TooLarge.{no_struct_room, no_pointers_room, no_structs_room}
@@ -120,9 +119,9 @@ copy_object-returns-in-Plain-clause-copied g t c =
 
 pub copy_object-returns-in-Plain-clause-taken : goal.copy_object-returns-in-Plain-clause-taken
 copy_object-returns-in-Plain-clause-taken g t c =
-    let words : message_words (g.A.BuilderArena.view c.set_word.new.self).words ≤ message_words (g.A.BuilderArena.view c.args.arena.now).words = omega (arith, ap (λ (v : View). message_words v.words) c.set_word.ensures, word_over (g.A.BuilderArena.view c.args.arena.now).words c.args.id c.args.at c.new_capability.result.0) in
+    let none = none_word (g.A.BuilderArena.view c.args.arena.now) (g.A.BuilderArena.view c.set_word.new.self) c.args.id c.args.at c.new_capability.result.0 c.set_word.ensures in
     let object = rw c.in-Capability.is at c.in-Ok.ensures.object in
-    rw c.in-Plain.is (capability_takes object words)
+    rw c.in-Plain.is (capability_takes object none)
 
 pub copy_object-returns-in-Struct-clause-copied : goal.copy_object-returns-in-Struct-clause-copied
 copy_object-returns-in-Struct-clause-copied g t c =
@@ -165,7 +164,7 @@ pub copy_object-returns-in-Flat-clause-taken : goal.copy_object-returns-in-Flat-
 copy_object-returns-in-Flat-clause-taken g t c =
     let nl = to_z-of_z w32 c.args.from.nesting_limit (search rules) in
     let object = rw (c.in-Flat.is, nl) at c.in-Ok.ensures.object in
-    taken_as c.copy_flat.result _ _ _ (flat_takes c.in-Flat.size c.in-Flat.start object c.copy_flat.ensures.taken) (λ kept. flat_stop_takes c.in-Flat.size c.in-Flat.start object kept) c.copy_flat.ensures.kept
+    taken_so c.copy_flat.result _ _ _ _ (λ made. flat_takes c.in-Flat.size c.in-Flat.start object made) (λ none. flat_stop_takes c.in-Flat.size c.in-Flat.start object none) c.copy_flat.ensures.taken
 
 pub copy_object-returns-in-Pointers-clause-copied : goal.copy_object-returns-in-Pointers-clause-copied
 copy_object-returns-in-Pointers-clause-copied g t c =
@@ -234,8 +233,9 @@ elements::copy_element-returns-clause-refused g t c =
 pub elements::copy_element-returns-clause-taken : goal.elements::copy_element-returns-clause-taken
 elements::copy_element-returns-clause-taken g t c =
     let nl = to_z-of_z w32 c.args.from.nesting_limit (search rules) in
-    let none = c.put_words.ensures.none_more in
-    taken_so c.copy_children.result _ _ _ _ (λ x. for_all (omega (arith, none)) (omega arith) x) (λ x. among (omega arith) (omega (arith, none)) (omega arith) x) (rw (c.from.ensures, c.from-2.ensures, c.from-pointers.ensures, nl) at c.copy_children.ensures.taken)
+    let none = c.put_words.ensures.taken in
+    let last = none_itself (g.A.BuilderArena.view c.copy_children.new.arena) in
+    taken_so c.copy_children.result _ _ _ _ (λ x. all_within none last x) (λ x. among_within (omega arith) none last x) (rw (c.from.ensures, c.from-2.ensures, c.from-pointers.ensures, nl) at c.copy_children.ensures.taken)
 
 pub elements::copy_elements-returns-then-kept_words-eq0-clause-copied : goal.elements::copy_elements-returns-then-kept_words-eq0-clause-copied
 elements::copy_elements-returns-then-kept_words-eq0-clause-copied g t c =
@@ -355,8 +355,9 @@ lists::copy_pointers-returns-in-Ok-clause-refused g t c =
 
 pub lists::copy_pointers-returns-in-Ok-clause-taken : goal.lists::copy_pointers-returns-in-Ok-clause-taken
 lists::copy_pointers-returns-in-Ok-clause-taken g t c =
-    let made = takes_words (g.A.BuilderArena.view c.args.arena.now) (g.A.BuilderArena.view c.make_list.new.arena) c.args.id c.args.count c.in-Ok.ensures.taken in
-    taken_so c.copy_children.result _ _ _ _ (λ x. for_all (omega (arith, made)) (omega arith) x) (λ x. inr (among (omega arith) (omega (arith, made)) (omega arith) x)) c.copy_children.ensures.taken
+    let begun : Begins c.args.id c.in-Ok.start.segment c.args.count (g.A.BuilderArena.view c.args.arena.now) (g.A.BuilderArena.view c.make_list.new.arena) =
+    record { there = there (g.A.BuilderArena.view c.args.arena.now).words c.args.id c.args.at c.requires.place; taken = c.in-Ok.ensures.taken; memory = c.in-Ok.ensures.granted; near = λ room. (c.in-Ok.ensures.at_end room).0; far = λ full. (c.in-Ok.ensures.behind.far full).0 } in
+    taken_so c.copy_children.result _ _ _ _ (λ x. all_behind begun (omega arith) x) (λ x. inr (among_behind (omega arith) begun (omega arith) x)) c.copy_children.ensures.taken
 
 pub lists::copy_pointers-returns-in-Err-clause-refused : goal.lists::copy_pointers-returns-in-Err-clause-refused
 lists::copy_pointers-returns-in-Err-clause-refused g t c =
@@ -369,7 +370,7 @@ lists::copy_pointers-returns-in-Err-clause-refused g t c =
 
 pub lists::copy_pointers-returns-in-Err-clause-taken : goal.lists::copy_pointers-returns-in-Err-clause-taken
 lists::copy_pointers-returns-in-Err-clause-taken g t c =
-    inl (nothing_taken c.in-Err.ensures.refused)
+    inl (nothing_taken (none_refused (g.A.BuilderArena.view c.args.arena.now) (g.A.BuilderArena.view c.make_list.new.arena) c.args.count c.in-Err.k c.in-Err.ensures.named c.in-Err.ensures.refused))
 
 pub lists::copy_structs-copy_elements-requires : goal.lists::copy_structs-copy_elements-requires
 lists::copy_structs-copy_elements-requires g t c κs within =
@@ -401,8 +402,9 @@ pub lists::copy_structs-returns-in-Ok-clause-taken : goal.lists::copy_structs-re
 lists::copy_structs-returns-in-Ok-clause-taken g t c =
     let least = c.kept_widths-kept.result in
     let less = no_wider c.args.count least.data_words least.pointers c.args.size.data_words c.args.size.pointers c.kept_widths-kept.ensures.less_data c.kept_widths-kept.ensures.less_pointers in
-    let made = takes_words (g.A.BuilderArena.view c.args.arena.now) (g.A.BuilderArena.view c.make_struct_list.new.arena) c.args.id (1 + c.args.count * (least.data_words + least.pointers)) c.in-Ok.ensures.taken in
-    taken_so c.copy_elements.result _ _ _ _ (λ x. for_elements (omega (arith, made, less)) (omega arith) x) (λ x. inr (among_elements (omega (arith, made, less)) (omega arith) x)) c.copy_elements.ensures.taken
+    let begun : Begins c.args.id c.in-Ok.list.segment (1 + c.args.count * (least.data_words + least.pointers)) (g.A.BuilderArena.view c.args.arena.now) (g.A.BuilderArena.view c.make_struct_list.new.arena) =
+    record { there = there (g.A.BuilderArena.view c.args.arena.now).words c.args.id c.args.at c.requires.place; taken = c.in-Ok.ensures.taken; memory = c.in-Ok.ensures.granted; near = λ room. (c.in-Ok.ensures.behind.near (omega arith) room).0; far = λ full. (c.in-Ok.ensures.behind.far full).0 } in
+    taken_so c.copy_elements.result _ _ _ _ (λ x. elements_behind begun (omega (arith, less)) x) (λ x. inr (among_elements_behind begun (omega (arith, less)) x)) c.copy_elements.ensures.taken
 
 pub lists::copy_structs-returns-in-Err-clause-refused : goal.lists::copy_structs-returns-in-Err-clause-refused
 lists::copy_structs-returns-in-Err-clause-refused g t c =
@@ -416,7 +418,8 @@ lists::copy_structs-returns-in-Err-clause-refused g t c =
 
 pub lists::copy_structs-returns-in-Err-clause-taken : goal.lists::copy_structs-returns-in-Err-clause-taken
 lists::copy_structs-returns-in-Err-clause-taken g t c =
-    inl (nothing_taken c.in-Err.ensures.refused)
+    let least = c.kept_widths-kept.result in
+    inl (nothing_taken (none_refused (g.A.BuilderArena.view c.args.arena.now) (g.A.BuilderArena.view c.make_struct_list.new.arena) (1 + c.args.count * (least.data_words + least.pointers)) c.in-Err.k c.in-Err.ensures.named c.in-Err.ensures.refused))
 
 pub structs::copy_struct-returns-in-Err-clause-refused : goal.structs::copy_struct-returns-in-Err-clause-refused
 structs::copy_struct-returns-in-Err-clause-refused g t c =
@@ -428,7 +431,8 @@ structs::copy_struct-returns-in-Err-clause-refused g t c =
 
 pub structs::copy_struct-returns-in-Err-clause-taken : goal.structs::copy_struct-returns-in-Err-clause-taken
 structs::copy_struct-returns-in-Err-clause-taken g t c =
-    inl (nothing_taken c.in-Err.ensures.refused)
+    let least = c.kept_sections-kept.result in
+    inl (nothing_taken (none_refused (g.A.BuilderArena.view c.args.arena.now) (g.A.BuilderArena.view c.make_struct.new.arena) (least.data_words + least.pointers) c.in-Err.k c.in-Err.ensures.named c.in-Err.ensures.refused))
 
 pub structs::copy_struct-returns-clause-copied : goal.structs::copy_struct-returns-clause-copied
 structs::copy_struct-returns-clause-copied g t c =
@@ -479,11 +483,13 @@ structs::copy_struct-returns-clause-refused g t c =
 pub structs::copy_struct-returns-clause-taken : goal.structs::copy_struct-returns-clause-taken
 structs::copy_struct-returns-clause-taken g t c =
     let least = c.kept_sections-kept.result in
-    let words = takes_words (g.A.BuilderArena.view c.args.arena.now) (g.A.BuilderArena.view c.make_struct.new.arena) c.args.id (least.data_words + least.pointers) c.in-Ok.ensures.taken in
+    let made = struct_begins c.args.id c.args.at least (g.A.BuilderArena.view c.args.arena.now) (g.A.BuilderArena.view c.make_struct.new.arena) c.in-Ok.start c.requires.place c.in-Ok.ensures.taken c.in-Ok.ensures.granted c.in-Ok.ensures.behind c.in-Ok.ensures.start c.in-Ok.ensures.empty in
     let nl = to_z-of_z w32 c.args.from.nesting_limit (search rules) in
+    let put = c.put_words.ensures.taken in
+    let last = none_itself (g.A.BuilderArena.view c.copy_children.new.arena) in
     let fewer = c.kept_sections-kept.ensures.less_pointers in
-    let made : message_words (g.A.BuilderArena.view c.put_words.new.arena).words ≤ message_words (g.A.BuilderArena.view c.args.arena.now).words + (c.args.size.data_words + c.args.size.pointers + 1) = omega (arith, words, c.put_words.ensures.none_more, c.kept_sections-kept.ensures.less_data, fewer) in
-    taken_so c.copy_children.result _ _ _ _ (λ x. sections_taken (reading g.B.ReaderArena c.args.from) c.args.size least c.requires.inside c.kept_sections-kept.ensures.kept (omega (arith, made)) x) (λ x. inr (among fewer (omega (arith, made)) (omega arith) x))
+    let less : least.data_words + least.pointers ≤ c.args.size.data_words + c.args.size.pointers = omega (arith, c.kept_sections-kept.ensures.less_data, fewer) in
+    taken_so c.copy_children.result _ _ _ _ (λ x. sections_taken (reading g.B.ReaderArena c.args.from) c.args.size least {p' = 0} c.requires.inside c.kept_sections-kept.ensures.kept made less (all_within put last x)) (λ x. inr (among_behind {p = 0} fewer made less (among_within (omega arith) put last x)))
     (rw (c.from.ensures, c.from-2.ensures, c.from-pointers.ensures, nl) at c.copy_children.ensures.taken)
 
 pub structs::copy_struct-copy_children-requires : goal.structs::copy_struct-copy_children-requires

@@ -1,6 +1,6 @@
-use Rattle.std.proofs.Common.{inl, inr, arith}
+use Rattle.std.proofs.Common.{inl, inr}
 use Rattle.capnp_making.proofs.Memory.{words_refused_before}
-use Rattle.capnp_copies.proofs.Growth.{until_within, words_pruned}
+use Rattle.capnp_copies.proofs.Growth.{none_itself, none_pruned, until_within}
 use Rattle.capnp_copies.proofs.FilledValues.{stands_as_read, stops_rightly}
 use Rattle.capnp_copies.proofs.copy.copy_in_form.Goals as goal
 
@@ -12,7 +12,7 @@ returns-in-Err-clause-refused g c = elim c.in-Err.ensures.refused.why [
 
 pub returns-in-Err-clause-taken : goal.returns-in-Err-clause-taken
 returns-in-Err-clause-taken g c =
-    until_within (omega arith) (words_pruned (g.A.BuilderArena.view c.copy_object.new.arena) (g.A.BuilderArena.view c.clear.new.arena) c.clear.ensures.only) c.in-Err.ensures.taken
+    until_within (none_itself (g.A.BuilderArena.view c.args.arena.now)) (none_pruned (g.A.BuilderArena.view c.copy_object.new.arena) (g.A.BuilderArena.view c.clear.new.arena) c.clear.ensures.limits c.clear.ensures.only) c.in-Err.ensures.taken
 
 pub returns-in-Err-clause-fits : goal.returns-in-Err-clause-fits
 returns-in-Err-clause-fits g c = λ can. absurd (stops_rightly c.in-Err.ensures.refused can)

@@ -9,7 +9,7 @@ use Rattle.capnp_readers.specs.Readers.{reading}
 use Rattle.capnp_copies.specs.Changes.{change, StandsAsRead}
 use Rattle.capnp_copies.specs.Forms.{form_of, kept}
 use Rattle.capnp_making.specs.Stored.{IsReplaced}
-use Rattle.capnp_copies.proofs.Growth.{taken_so, value_within, until_within, words_pruned}
+use Rattle.capnp_copies.proofs.Growth.{none_itself, none_pruned, taken_so, value_within, until_within}
 use Rattle.capnp_copies.proofs.FlatRead.{ok_so, err_so}
 use Rattle.capnp_builders.proofs.CopiesHeld.{null_replaced, null_cleared, fresh_copied, alone_copied, stands_once, nothing_zeroed, either_way, words_refused_later, beyond_before}
 use Rattle.capnp_builders.proofs.builders.PointerBuilder.copy_from.Goals as goal
@@ -93,5 +93,6 @@ returns-clause-there g c =
 
 pub returns-clause-taken : goal.returns-clause-taken
 returns-clause-taken g c =
-    let before = words_pruned (g.A.BuilderArena.view c.args.self.now.arena.now) (g.A.BuilderArena.view c.clear.new.arena) c.clear.ensures.only in
-    taken_so c.copy_value-2.result _ _ _ _ (λ x. value_within before (omega arith) x) (λ x. until_within before (omega arith) x) c.copy_value-2.ensures.taken
+    let before = none_pruned (g.A.BuilderArena.view c.args.self.now.arena.now) (g.A.BuilderArena.view c.clear.new.arena) c.clear.ensures.limits c.clear.ensures.only in
+    let last = none_itself (g.A.BuilderArena.view c.copy_value-2.new.arena) in
+    taken_so c.copy_value-2.result _ _ _ _ (λ x. value_within before last x) (λ x. until_within before last x) c.copy_value-2.ensures.taken

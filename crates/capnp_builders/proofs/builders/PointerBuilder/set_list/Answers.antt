@@ -5,7 +5,7 @@ use Rattle.capnp_making.proofs.Replaced.{replaced_again}
 use Rattle.capnp_copies.specs.Changes.{change}
 use Rattle.capnp_copies.specs.Forms.{form_of}
 use Rattle.capnp_copies.specs.ListValues.{ListStands, elements_read}
-use Rattle.capnp_copies.proofs.Growth.{list_within, words_pruned}
+use Rattle.capnp_copies.proofs.Growth.{none_itself, none_pruned, list_within}
 use Rattle.capnp_copies.proofs.FlatRead.{ok_so, err_so}
 use Rattle.capnp_builders.proofs.CopiesHeld.{stands_once, either_way, words_refused_later, exceeds_before, room_later}
 use Rattle.capnp_builders.proofs.builders.PointerBuilder.set_list.Goals as goal
@@ -26,7 +26,8 @@ returns-clause-refused g c =
     ])
 
 pub returns-clause-taken : goal.returns-clause-taken
-returns-clause-taken g c = list_within (words_pruned (g.A.BuilderArena.view c.args.self.now.arena.now) (g.A.BuilderArena.view c.clear.new.arena) c.clear.ensures.only) (omega arith) c.copy_list.ensures.taken
+returns-clause-taken g c =
+    list_within (none_pruned (g.A.BuilderArena.view c.args.self.now.arena.now) (g.A.BuilderArena.view c.clear.new.arena) c.clear.ensures.limits c.clear.ensures.only) (none_itself (g.A.BuilderArena.view c.copy_list.new.arena)) c.copy_list.ensures.taken
 
 pub returns-clause-memory : goal.returns-clause-memory
 returns-clause-memory g c =

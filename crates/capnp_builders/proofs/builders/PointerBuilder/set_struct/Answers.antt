@@ -4,7 +4,7 @@ use Rattle.capnp_making.proofs.Replaced.{replaced_again}
 use Rattle.capnp_copies.specs.Changes.{change}
 use Rattle.capnp_copies.specs.Forms.{form_of}
 use Rattle.capnp_copies.specs.StructValues.{StructStands}
-use Rattle.capnp_copies.proofs.Growth.{taken_so, for_all, either_within, words_pruned}
+use Rattle.capnp_copies.proofs.Growth.{none_itself, none_pruned, taken_so, all_within, either_within}
 use Rattle.capnp_copies.proofs.FlatRead.{ok_so, err_so}
 use Rattle.capnp_builders.proofs.CopiesHeld.{stands_once, either_way, words_refused_later, exceeds_before, room_later}
 use Rattle.capnp_builders.proofs.builders.PointerBuilder.set_struct.Goals as goal
@@ -28,8 +28,9 @@ returns-clause-refused g c =
 
 pub returns-clause-taken : goal.returns-clause-taken
 returns-clause-taken g c =
-    let before = words_pruned (g.A.BuilderArena.view c.args.self.now.arena.now) (g.A.BuilderArena.view c.clear.new.arena) c.clear.ensures.only in
-    taken_so c.copy_struct_value.result _ _ _ _ (λ x. for_all (omega (arith, before)) (omega arith) x) (λ x. either_within before (omega arith) x) c.copy_struct_value.ensures.taken
+    let before = none_pruned (g.A.BuilderArena.view c.args.self.now.arena.now) (g.A.BuilderArena.view c.clear.new.arena) c.clear.ensures.limits c.clear.ensures.only in
+    let last = none_itself (g.A.BuilderArena.view c.copy_struct_value.new.arena) in
+    taken_so c.copy_struct_value.result _ _ _ _ (λ x. all_within before last x) (λ x. either_within before last x) c.copy_struct_value.ensures.taken
 
 pub returns-clause-there : goal.returns-clause-there
 returns-clause-there g c =

@@ -1,13 +1,13 @@
 use Rattle.std.proofs.Common.{ap, rules}
 use Rattle.capnp_format.specs.Bytes.{words_of}
 use Rattle.capnp_arena.specs.View.{View}
-use Rattle.capnp_copies.proofs.Growth.{words_over}
+use Rattle.capnp_copies.proofs.Growth.{none_written}
 use Rattle.capnp_copies.proofs.SegmentsWritten.{WrittenOver, behind_over}
 use Rattle.capnp_copies.proofs.copy.elements.put_words.Goals as goal
 
-pub returns-clause-none_more : goal.returns-clause-none_more
-returns-clause-none_more g c =
-    words_over (g.A.BuilderArena.view c.args.arena.now) (g.A.BuilderArena.view c.copy_words.new.self) c.args.id c.args.at (words_of c.args.words.now) c.requires.inside (ap (λ (v : View). v.words) c.copy_words.ensures)
+pub returns-clause-taken : goal.returns-clause-taken
+returns-clause-taken g c =
+    none_written (g.A.BuilderArena.view c.args.arena.now) (g.A.BuilderArena.view c.copy_words.new.self) c.args.id c.args.at (words_of c.args.words.now) c.requires.inside c.copy_words.ensures
 
 pub returns-clause-behind : goal.returns-clause-behind
 returns-clause-behind g c = λ i l.

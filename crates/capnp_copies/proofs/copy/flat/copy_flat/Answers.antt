@@ -17,7 +17,8 @@ use Rattle.capnp_making.proofs.WordsPut.{words_put}
 use Rattle.capnp_words.specs.Sizes.{size_number}
 use Rattle.capnp_format.specs.Word.{list_word}
 use Rattle.capnp_making.specs.Near.{HasOwnRoom, offset_behind, with_object}
-use Rattle.capnp_copies.proofs.Growth.{takes_words, words_over, words_same}
+use Rattle.capnp_copies.proofs.Copying.{there}
+use Rattle.capnp_copies.proofs.Growth.{none_written, none_refused, Begins, made_none, made_more, made_object}
 use Rattle.capnp_copies.proofs.StayingNear.{stay_fewer, own_room}
 use Rattle.capnp_copies.proofs.TightFlat.{flat_near}
 use Rattle.capnp_copies.proofs.Padding.{packed_again}
@@ -87,11 +88,15 @@ returns-in-Ok-clause-taken g c =
     let D : List ℕ = digits (2 ^ 64) (length ws) (from_digits (2 ^ 64) ws % 2 ^ (c.from.result * c.from-in-Ok.result)) in
     let other = ne_eqb size 6 (λ e. omega (arith, c.requires.flat)) in
     let list : list_words size n ≡ words_for size n = ap (λ x. cond x n (words_for size n)) other in
-    let over = words_over mid new c.in-Ok.start.segment c.in-Ok.start.at D (omega (arith, c.in-Ok.ensures.inside.1, length-digits (2 ^ 64) (length ws) (from_digits (2 ^ 64) ws % 2 ^ (c.from.result * c.from-in-Ok.result)), c.requires.all, list)) (ap words_in c.put_elements.ensures) in
-    omega (arith, over, takes_words old mid c.args.id (list_words size n) c.in-Ok.ensures.taken, list)
+    let start = c.in-Ok.start in
+    let e = c.in-Ok.ensures in
+    let over = none_written mid new start.segment start.at D (omega (arith, e.inside.1, length-digits (2 ^ 64) (length ws) (from_digits (2 ^ 64) ws % 2 ^ (c.from.result * c.from-in-Ok.result)), c.requires.all, list)) c.put_elements.ensures in
+    let begun : Begins c.args.id start.segment (list_words size n) old mid = record { there = there old.words c.args.id c.args.at c.requires.place; taken = e.taken; memory = e.granted; near = λ room. (e.at_end room).0; far = λ full. (e.behind.far full).0 } in
+    made_more (omega (arith, list)) (omega arith) (made_object begun (made_none over))
 
 pub returns-in-Err-clause-taken : goal.returns-in-Err-clause-taken
-returns-in-Err-clause-taken g c = omega (arith, words_same (g.A.BuilderArena.view c.args.arena.now) (g.A.BuilderArena.view c.make_list.new.arena) c.in-Err.ensures.refused)
+returns-in-Err-clause-taken g c =
+    none_refused (g.A.BuilderArena.view c.args.arena.now) (g.A.BuilderArena.view c.make_list.new.arena) (list_words (size_number c.args.size) c.args.count) c.in-Err.k c.in-Err.ensures.named c.in-Err.ensures.refused
 
 pub returns-in-Err-clause-refused : goal.returns-in-Err-clause-refused
 returns-in-Err-clause-refused g c =

@@ -12,7 +12,7 @@ use Rattle.capnp_copies.specs.Growth.{of_numbers, of_pointers, of_structs}
 use Rattle.capnp_copies.specs.ListValues.{ListElements, FitsListPointer, elements_read}
 use Rattle.capnp_copies.proofs.FilledValues.{FlatOutcome}
 use Rattle.capnp_copies.proofs.FlatRead.{ok_so, err_so, flat_words}
-use Rattle.capnp_copies.proofs.Growth.{nothing_taken, nothing_for_list, numbers_take}
+use Rattle.capnp_copies.proofs.Growth.{none_itself, nothing_taken, nothing_for_list, numbers_take}
 use Rattle.capnp_copies.proofs.ListValues.{too_long, number_size, few_numbers, numbers_held, numbers_copied, numbers_stop, pointers_list_copied, structs_list_copied, pointers_list_stops, structs_list_stops}
 use Rattle.capnp_copies.proofs.copy.list_value.copy_elements_read.Goals as goal
 
@@ -44,7 +44,7 @@ returns-in_default g c =
     let list : ListElements = elements_read g.B.ReaderArena value in
     record {
       long = λ long. absurd (long (c.fits_list_pointer.ensures.0 (search rules)));
-      taken = of_numbers flat (numbers_take c.copy_flat.result list.first (words_for size value.count + 1) (form_of c.args.canonicalize) c.args.id c.args.at (g.A.BuilderArena.view c.args.arena.now) (g.A.BuilderArena.view c.copy_flat.new.arena) c.args.lim.now c.copy_flat.ensures.taken c.copy_flat.ensures.kept);
+      taken = of_numbers flat (numbers_take c.copy_flat.result list.first (words_for size value.count) (form_of c.args.canonicalize) c.args.id c.args.at (g.A.BuilderArena.view c.args.arena.now) (g.A.BuilderArena.view c.copy_flat.new.arena) c.args.lim.now c.copy_flat.ensures.taken);
       copied = numbers_copied list call value.content.now c.copy_flat.result flat held.stand refl outcome;
       refused = numbers_stop list call value.content.now c.copy_flat.result flat held.stand (c.requires.place, c.requires.null) refl outcome;
     }
@@ -67,7 +67,7 @@ returns-in-Pointer-clause-refused g c =
     err_so c.copy_pointers.result _ _ c.copy_pointers.ensures.refused (λ k stop. pointers_list_stops c.in-Pointer.is (rw (nl, c.of-form.ensures) at stop))
 
 pub returns-then-not-fits_list_pointer-clause-taken : goal.returns-then-not-fits_list_pointer-clause-taken
-returns-then-not-fits_list_pointer-clause-taken g c = nothing_for_list refl (nothing_taken refl)
+returns-then-not-fits_list_pointer-clause-taken g c = nothing_for_list refl (nothing_taken (none_itself (g.A.BuilderArena.view c.args.arena.now)))
 
 pub returns-in-Pointer-clause-taken : goal.returns-in-Pointer-clause-taken
 returns-in-Pointer-clause-taken g c =

@@ -1,8 +1,8 @@
-use Rattle.std.proofs.Common.{inl, inr, arith}
+use Rattle.std.proofs.Common.{inl, inr}
 use Rattle.capnp_format.specs.Tree.{Null}
 use Rattle.capnp_making.proofs.Memory.{words_refused_before}
 use Rattle.capnp_making.proofs.Replaced.{replaced_again}
-use Rattle.capnp_copies.proofs.Growth.{list_within, words_pruned}
+use Rattle.capnp_copies.proofs.Growth.{none_itself, none_pruned, list_within}
 use Rattle.capnp_copies.proofs.OneReading.{list_refused_rightly, list_stands}
 use Rattle.capnp_copies.proofs.copy.list_value.copy_list.Goals as goal
 
@@ -19,7 +19,7 @@ returns-in-Err-clause-cleared g c =
 
 pub returns-in-Err-clause-taken : goal.returns-in-Err-clause-taken
 returns-in-Err-clause-taken g c =
-    list_within (omega arith) (words_pruned (g.A.BuilderArena.view c.copy_elements_read.new.arena) (g.A.BuilderArena.view c.clear.new.arena) c.clear.ensures.only) c.in-Err.ensures.taken
+    list_within (none_itself (g.A.BuilderArena.view c.args.arena.now)) (none_pruned (g.A.BuilderArena.view c.copy_elements_read.new.arena) (g.A.BuilderArena.view c.clear.new.arena) c.clear.ensures.limits c.clear.ensures.only) c.in-Err.ensures.taken
 
 -- A reading gives one value.
 pub returns-in-Ok-clause-stands : goal.returns-in-Ok-clause-stands

@@ -7,7 +7,6 @@ use Rattle.capnp_arena.specs.View.{View}
 use Rattle.capnp_objects.specs.Reading.{Reading, words_from}
 use Rattle.capnp_readers.specs.Sizes.{pointers_read}
 use Rattle.capnp_copies.specs.Forms.{form_of}
-use Rattle.capnp_copies.specs.Growth.{message_words}
 use Rattle.capnp_copies.specs.StructValues.{data_of}
 use Rattle.capnp_copies.proofs.DataSections.{kept_count-le, section_long}
 use Rattle.capnp_copies.proofs.FilledObjects.{nothing_made, nothing_left}
@@ -18,7 +17,7 @@ use Rattle.capnp_making.specs.Memory.{HasRoom, refusals_for}
 use Rattle.capnp_copies.proofs.FlatRead.{ok_so, err_so}
 use Rattle.capnp_making.proofs.Memory.{keeps_itself, spends_nothing}
 use Rattle.capnp_format.specs.Tree.{Null}
-use Rattle.capnp_copies.proofs.Growth.{taken_so, nothing_taken, among, cut_taken, takes_words, words_over}
+use Rattle.capnp_copies.proofs.Growth.{none_itself, none_written, none_refused, struct_begins, taken_so, nothing_taken, all_within, among_within, among_behind, cut_taken}
 use Rattle.capnp_copies.proofs.copy.struct_value.copy_sections.Goals as goal
 
 -- A struct of more data words than a struct can have, and one that the arena refuses.
@@ -83,11 +82,12 @@ copy_children-requires g c =
 -- What is taken.
 
 pub returns-in-Err-clause-taken : goal.returns-in-Err-clause-taken
-returns-in-Err-clause-taken g c = inl (nothing_taken refl)
+returns-in-Err-clause-taken g c = inl (nothing_taken (none_itself (g.A.BuilderArena.view c.args.arena.now)))
 
 pub returns-in-Err-make_struct-clause-taken : goal.returns-in-Err-make_struct-clause-taken
 returns-in-Err-make_struct-clause-taken g c =
-    inl (nothing_taken c.in-Err-make_struct.ensures.refused)
+    let least = c.in-Ok.kept in
+    inl (nothing_taken (none_refused (g.A.BuilderArena.view c.args.arena.now) (g.A.BuilderArena.view c.make_struct.new.arena) (least.data_words + least.pointers) c.in-Err-make_struct.k c.in-Err-make_struct.ensures.named c.in-Err-make_struct.ensures.refused))
 
 -- The copy of its pointers ends it.
 
@@ -103,10 +103,14 @@ returns g c =
     let pointers_kept : size.pointers ≤ value.pointer_count =
     omega (arith, c.in-Ok.ensures.pointers, kept_count-le (form_of c.args.canonicalize) (words_from r value.pointer_count), length_words r.segments r.segment r.at value.pointer_count value.inside) in
     let long = section_long value.bits value.content.now (search rules) in
-    let words = takes_words (g.A.BuilderArena.view c.args.arena.now) made c.args.id (size.data_words + size.pointers) c.in-Ok-make_struct.ensures.taken in
-    let over = words_over made put c.in-Ok-make_struct.start.segment c.in-Ok-make_struct.start.at (take size.data_words ws) (omega (arith, c.in-Ok-make_struct.ensures.inside.1, length-take size.data_words ws)) (ap (λ (v : View). v.words) c.put_section.ensures) in
+    let start = c.in-Ok-make_struct.start in
+    let old : View = g.A.BuilderArena.view c.args.arena.now in
+    let e = c.in-Ok-make_struct.ensures in
+    let begins = struct_begins c.args.id c.args.at size old made start c.requires.place e.taken e.granted e.behind e.start e.empty in
+    let over = none_written made put start.segment start.at (take size.data_words ws) (omega (arith, e.inside.1, length-take size.data_words ws)) c.put_section.ensures in
+    let last = none_itself (g.A.BuilderArena.view c.copy_children.new.arena) in
     let nl = to_z-of_z w32 value.nesting_limit (search rules) in
-    let made : message_words put.words ≤ message_words (g.A.BuilderArena.view c.args.arena.now).words + ((value.bits + 63) / 64 + value.pointer_count + 1) = omega (arith, words, over, words_kept, pointers_kept, long) in
+    let less : size.data_words + size.pointers ≤ (value.bits + 63) / 64 + value.pointer_count = omega (arith, words_kept, pointers_kept, long) in
     let begun : SectionsBegun (form_of c.args.canonicalize) (data_of g.B.ReaderArena c.args.value) (pointers_read g.B.ReaderArena c.args.value) c.args.value.pointer_count c.in-Ok.kept c.args.id c.args.at (g.A.BuilderArena.view c.args.arena.now) (g.A.BuilderArena.view c.make_struct.new.arena)
     (g.A.BuilderArena.view c.put_section.new.arena) c.in-Ok-make_struct.start = record {
       cut = record { inside = c.args.value.inside; of_data = c.in-Ok.ensures.data; of_pointers = c.in-Ok.ensures.pointers };
@@ -123,5 +127,5 @@ returns g c =
     record {
       copied = ok_so c.copy_children.result _ _ c.copy_children.ensures.copied (λ x made. sections_copied begun (rw (c.from.ensures, c.from-pointers.ensures, nl, c.of-form.ensures) at made));
       refused = err_so c.copy_children.result _ _ c.copy_children.ensures.refused (λ k stop. sections_stop begun (rw (c.from.ensures, c.from-pointers.ensures, nl, c.of-form.ensures) at stop));
-      taken = taken_so c.copy_children.result _ _ _ _ (λ x. cut_taken value.inside c.in-Ok.ensures.pointers (omega (arith, made)) x) (λ x. inr (among pointers_kept (omega (arith, made)) (omega arith) x)) (rw (c.from.ensures, c.from-pointers.ensures, nl, c.of-form.ensures) at c.copy_children.ensures.taken);
+      taken = taken_so c.copy_children.result _ _ _ _ (λ x. cut_taken {p' = 0} value.inside c.in-Ok.ensures.pointers begins less (all_within over last x)) (λ x. inr (among_behind {p = 0} pointers_kept begins less (among_within (omega arith) over last x))) (rw (c.from.ensures, c.from-pointers.ensures, nl, c.of-form.ensures) at c.copy_children.ensures.taken);
     }

@@ -1,6 +1,8 @@
-use Rattle.std.proofs.Common.{inl, inr, arith}
+use Rattle.std.proofs.Common.{inl, inr}
+use Rattle.capnp_format.specs.Tree.{Null}
 use Rattle.capnp_making.proofs.Memory.{words_refused_before}
-use Rattle.capnp_copies.proofs.Growth.{either_within, words_pruned}
+use Rattle.capnp_making.proofs.Replaced.{replaced_again}
+use Rattle.capnp_copies.proofs.Growth.{none_itself, none_pruned, either_within}
 use Rattle.capnp_copies.proofs.OneReading.{sections_refused_rightly, sections_stand}
 use Rattle.capnp_copies.proofs.copy.struct_value.copy_struct_value.Goals as goal
 
@@ -10,9 +12,14 @@ returns-in-Err-clause-refused g c = elim c.in-Err.ensures.refused.why [
   | inr x ↦ inr x
 ]
 
+pub returns-in-Err-clause-cleared : goal.returns-in-Err-clause-cleared
+returns-in-Err-clause-cleared g c =
+    let (t, made) = c.in-Err.ensures.refused.left.0 in
+    replaced_again _ _ _ c.args.id c.args.at Null t Null made (c.clear.ensures.cleared t made.stored)
+
 pub returns-in-Err-clause-taken : goal.returns-in-Err-clause-taken
 returns-in-Err-clause-taken g c =
-    either_within (omega arith) (words_pruned (g.A.BuilderArena.view c.copy_sections.new.arena) (g.A.BuilderArena.view c.clear.new.arena) c.clear.ensures.only) c.in-Err.ensures.taken
+    either_within (none_itself (g.A.BuilderArena.view c.args.arena.now)) (none_pruned (g.A.BuilderArena.view c.copy_sections.new.arena) (g.A.BuilderArena.view c.clear.new.arena) c.clear.ensures.limits c.clear.ensures.only) c.in-Err.ensures.taken
 
 -- A reading gives one value.
 pub returns-in-Ok-clause-stands : goal.returns-in-Ok-clause-stands

@@ -8,10 +8,11 @@ use Rattle.capnp_making.specs.Near.{HasOwnRoom}
 use Rattle.capnp_making.specs.Zeroed.{IsPruned}
 use Rattle.capnp_readers.specs.declared.readers.struct_reader.StructPlace.{StructPlace}
 use Rattle.capnp_builders.specs.Content.{with_content, AreCleared, TakesData}
+use Rattle.capnp_copies.specs.Growth.{TakesNone}
 use Rattle.capnp_copies.proofs.FlatRead.{err_so}
-use Rattle.capnp_copies.proofs.Growth.{no_longer, taken_so, for_all, among, words_pruned}
+use Rattle.capnp_copies.proofs.Growth.{none_itself, none_both, none_pruned, taken_so, all_within, among_within}
 use Rattle.capnp_builders.proofs.CopiesHeld.{room_later}
-use Rattle.capnp_builders.proofs.ContentWritten.{content_long, each_grows, content_inside}
+use Rattle.capnp_builders.proofs.ContentWritten.{content_long, content_many, each_grows, content_inside}
 use Rattle.capnp_builders.proofs.builders.struct_builder.StructBuilder.copy_content_from.Goals as goal
 
 pub clear_pointers-requires : goal.clear_pointers-requires
@@ -45,11 +46,16 @@ returns-clause-taken g c =
     let put : View = g.A.BuilderArena.view c.write_content.new.arena in
     let mid : View = g.A.BuilderArena.view c.clear_pointers.new.arena in
     let place : StructPlace = c.args.self.now.place in
-    let same : put.words ≡ with_content old.words place c.args.value.now.bits c.args.value.now.content.now = ap (λ (v : View). v.words) c.write_content.ensures in
-    let written = no_longer old.words put.words (λ v. omega (arith, ap (λ (T : Segments). length (segment T v)) same, content_long old.words place c.args.value.now.bits c.args.value.now.content.now v)) in
+    let bits : ℕ = c.args.value.now.bits in
+    let written : TakesNone old put = record {
+      segments = ap (λ (v : View). length v.words) c.write_content.ensures ∙ content_many old.words place bits c.args.value.now.content.now;
+      words = λ j. ap (λ (v : View). length (segment v.words j)) c.write_content.ensures ∙ content_long old.words place bits c.args.value.now.content.now j;
+      room = λ j l. ap (λ (v : View). v.room j) c.write_content.ensures;
+    } in
     let nl = to_z-of_z w32 c.args.value.now.nesting_limit (search rules) in
-    let pruned = words_pruned put mid c.clear_pointers.ensures.only in
-    taken_so c.copy_each.result _ _ _ _ (λ x. for_all (omega (arith, pruned, written)) (omega arith) x) (λ x. among (omega arith) (omega (arith, pruned, written)) (omega arith) x) (rw (nl, c.from-count.ensures, c.min.ensures) at c.copy_each.ensures.taken)
+    let before = none_both written (none_pruned put mid c.clear_pointers.ensures.limits c.clear_pointers.ensures.only) in
+    let last = none_itself (g.A.BuilderArena.view c.copy_each.new.arena) in
+    taken_so c.copy_each.result _ _ _ _ (λ x. all_within before last x) (λ x. among_within (omega arith) before last x) (rw (nl, c.from-count.ensures, c.min.ensures) at c.copy_each.ensures.taken)
 
 pub returns-clause-refused : goal.returns-clause-refused
 returns-clause-refused g c =
