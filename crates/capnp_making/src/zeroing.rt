@@ -3,6 +3,7 @@ ghost use Rattle.std.specs.Prelude.{◌≡◌, ℕ, ◌<◌, ◌≤◌, ◌+◌,
 ghost use Rattle.capnp_arena.specs.View.{KeepsLimits};
 ghost use Rattle.capnp_format.specs.Segments.{segment, word_at, IsPlace};
 ghost use Rattle.capnp_format.specs.Tree.{Tree};
+ghost use Rattle.capnp_format.specs.Word.{kind};
 ghost use Rattle.capnp_format.specs.Forest.{pads_of, row, PadsInside};
 ghost use Rattle.capnp_making.specs.Path.{extent};
 ghost use Rattle.capnp_making.specs.Landings.{target_of};
@@ -44,14 +45,27 @@ pub fn zero_pads<A: BuilderArena>(arena: &mut A, word: WirePointer)
     ensures limits { KeepsLimits (A.view arena.old) (A.view arena.new) }
 {
     if word.kind() == WirePointerKind::Far {
-        let words = if word.is_double_far() { 2 } else { 1 };
-        zero_part(
-            arena,
-            word.far_segment_id(),
-            word.far_position_in_segment(),
-            words,
-        );
+        zero_far_pads(arena, word);
     }
+}
+
+/// Makes the landing pads of a far pointer zero. It isn't inlined: most pointers are near.
+#[cold]
+#[inline(never)]
+fn zero_far_pads<A: BuilderArena>(arena: &mut A, word: WirePointer)
+    requires { kind word.0 ≡ 2 }
+    ensures zeroed { PadsInside (A.view arena.old).words word.0
+        → IsZeroed (A.view arena.old).words (A.view arena.new).words (pads_of word.0) }
+    ensures pruned { IsPruned (A.view arena.old).words (A.view arena.new).words }
+    ensures limits { KeepsLimits (A.view arena.old) (A.view arena.new) }
+{
+    let words = if word.is_double_far() { 2 } else { 1 };
+    zero_part(
+        arena,
+        word.far_segment_id(),
+        word.far_position_in_segment(),
+        words,
+    );
 }
 
 /// Makes zero what the pointer at a place holds: its object, all below it, its landing pads and the

@@ -3,8 +3,9 @@ use Rattle.std.proofs.Common.{◌≡◌, ℕ, ◌+◌, ◌<◌, ◌≤◌, [], �
 use Rattle.capnp_format.specs.Segments.{Segments, segment, word_at, words_at}
 use Rattle.capnp_format.specs.Forest.{times}
 use Rattle.capnp_format.proofs.Slices.{length_words}
-use Rattle.capnp_arena.specs.Written.{with_words}
+use Rattle.capnp_arena.specs.Written.{with_word, with_words}
 use Rattle.capnp_making.specs.Zeroed.{row}
+use Rattle.capnp_making.proofs.MadeWords.{word_put}
 use Rattle.capnp_making.proofs.WordsPut.{words_put}
 use Rattle.capnp_widening.specs.Housed.{AreCopied}
 
@@ -24,3 +25,18 @@ copied_at_once S R s p v r n there inside e =
       here = λ i l. sym (word_in_part R v r n i l) ∙ ap (λ xs. get_or xs i 0) now ∙ word_in_part S s p n i l;
       kept = λ x y h. put.kept x y (subst (λ m. times (row v r m ∷ []) x y ≡ 0) (sym long) h);
     }
+
+-- one word by itself
+pub word_copied : (S R : Segments) (s p v r x n : ℕ) → n ≡ 1 → r + n ≤ length (segment S v) → x ≡ word_at S s p → R ≡ with_word S v r x → AreCopied S R s p v r n
+word_copied S R s p v r x n one inside read e =
+    let put = word_put S R v r x (omega (arith, one, inside)) e in
+    subst (λ m. AreCopied S R s p v r m) (sym one) (record {
+      segments = put.segments;
+      words = put.words;
+      here = λ i l.
+          (let first : i ≡ 0 = omega (arith, l) in
+          let there : r + i ≡ r = omega (arith, first) in
+          let from : p ≡ p + i = omega (arith, first) in
+          ap (word_at R v) there ∙ put.here ∙ read ∙ ap (word_at S s) from);
+      kept = put.kept;
+    })

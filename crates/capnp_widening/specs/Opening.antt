@@ -11,6 +11,7 @@ use Rattle.capnp_words.specs.declared.wire_pointer.ElementSize.TheVariants.{Void
 use Rattle.capnp_words.specs.declared.wire_pointer.StructSize.{StructSize}
 use Rattle.capnp_making.specs.declared.existing.ExistingList.{ExistingList}
 use Rattle.capnp_making.specs.declared.existing.ExistingStruct.{ExistingStruct}
+use Rattle.capnp_making.specs.declared.making.Start.{Start}
 use Rattle.capnp_making.specs.Existing.{list_in, struct_in, LiesIn}
 use Rattle.capnp_making.specs.Made.{zero_struct}
 use Rattle.capnp_making.specs.Memory.{KeepsMemory, SpendsMemory, RefusesGrowth}
@@ -28,6 +29,10 @@ pub record CallAt : Type 0 where
 
 abbrev pub call_at : ℕ → ℕ → View → View → CallAt
 call_at s p old new = record { segment = s; at = p; old = old; new = new }
+
+-- The struct whose sections start at a place.
+abbrev pub struct_at : Start → StructSize → ExistingStruct
+struct_at start size = record { segment = start.segment; start = start.at; size = size }
 
 -- What a value becomes where a struct of at least a size is opened, or by what name that is refused. Null becomes a new one.
 abbrev pub struct_opened : StructSize → Tree → Result Tree ErrorKind

@@ -26,6 +26,7 @@ use capnp_words::wire_pointer::{WirePointer, WirePointerKind};
 /// Writes the pointer at a place anew at another one, which is null, to what it leads to.
 ///
 /// A refusal is that of memory for two words, and changes nothing but `refused`.
+#[inline(always)]
 pub fn move_pointer<A: BuilderArena>(arena: &mut A, from: Start, to: Start) -> Result<(), ErrorKind>
     requires from { IsPlace (A.view arena.old).words from.segment from.at }
     requires to { IsPlace (A.view arena.old).words to.segment to.at }
@@ -74,6 +75,7 @@ fn shape_of(word: WirePointer) -> Shape
 }
 
 /// Writes a pointer at a place to the object at another one. The place isn't looked at.
+#[inline(always)]
 fn point_to<A: BuilderArena>(
     arena: &mut A,
     shape: Shape,
@@ -163,7 +165,65 @@ fn tag_of(shape: Shape) -> WirePointer
 /// Writes so many pointers one behind the other anew at other places, which are null.
 ///
 /// A refusal is that of memory for two words; then some of the first pointers are written.
+#[inline(always)]
 pub fn move_row<A: BuilderArena>(
+    arena: &mut A,
+    from: Start,
+    to: Start,
+    count: u32,
+) -> Result<(), ErrorKind>
+    requires from { from.at + count ≤ length (segment (A.view arena.old).words from.segment) }
+    requires to { to.at + count ≤ length (segment (A.view arena.old).words to.segment) }
+    ensures moved { OnOk result (Moves (A.view arena.old).words (A.view arena.new).words
+        (row_of_moves from.segment from.at to.segment to.at count)) }
+    ensures some { OnErr result
+        (MovesSome (A.view arena.old).words (A.view arena.new).words
+        (row_of_moves from.segment from.at to.segment to.at count)) }
+    ensures longer { Grows (A.view arena.old).words (A.view arena.new).words }
+    ensures granted { OnOk result (KeepsMemory (A.view arena.old) (A.view arena.new)) }
+    ensures memory { IfErr result (SpendsMemory (A.view arena.old) (A.view arena.new)) }
+    ensures full { IfErr result (RefusesGrowth (A.view arena.old) (A.view arena.new)) }
+    ensures few { TakesAtMost (A.view arena.old).words (A.view arena.new).words (2 * count) }
+    ensures fits { HasSomeRoom (A.view arena.old) (2 * count) → IsOk result }
+    ensures near { from.segment ≡ to.segment → IsOk result }
+{
+    if from.segment == to.segment {
+        move_each(arena, from, to, count)
+    } else {
+        move_row_apart(arena, from, to, count)
+    }
+}
+
+/// The same into another segment. It isn't inlined: most objects stay in their segment.
+#[cold]
+#[inline(never)]
+fn move_row_apart<A: BuilderArena>(
+    arena: &mut A,
+    from: Start,
+    to: Start,
+    count: u32,
+) -> Result<(), ErrorKind>
+    requires from { from.at + count ≤ length (segment (A.view arena.old).words from.segment) }
+    requires to { to.at + count ≤ length (segment (A.view arena.old).words to.segment) }
+    ensures moved { OnOk result (Moves (A.view arena.old).words (A.view arena.new).words
+        (row_of_moves from.segment from.at to.segment to.at count)) }
+    ensures some { OnErr result
+        (MovesSome (A.view arena.old).words (A.view arena.new).words
+        (row_of_moves from.segment from.at to.segment to.at count)) }
+    ensures longer { Grows (A.view arena.old).words (A.view arena.new).words }
+    ensures granted { OnOk result (KeepsMemory (A.view arena.old) (A.view arena.new)) }
+    ensures memory { IfErr result (SpendsMemory (A.view arena.old) (A.view arena.new)) }
+    ensures full { IfErr result (RefusesGrowth (A.view arena.old) (A.view arena.new)) }
+    ensures few { TakesAtMost (A.view arena.old).words (A.view arena.new).words (2 * count) }
+    ensures fits { HasSomeRoom (A.view arena.old) (2 * count) → IsOk result }
+    ensures near { from.segment ≡ to.segment → IsOk result }
+{
+    move_each(arena, from, to, count)
+}
+
+/// The same, each pointer in turn. It is inlined twice: within a segment no pointer becomes far.
+#[inline(always)]
+fn move_each<A: BuilderArena>(
     arena: &mut A,
     from: Start,
     to: Start,
@@ -202,6 +262,8 @@ pub fn move_row<A: BuilderArena>(
 }
 
 /// Makes the landing pads zero that were written for so many moved pointers.
+#[cold]
+#[inline(never)]
 pub fn unmove_row<A: BuilderArena>(arena: &mut A, from: Start, to: Start, count: u32)
     requires from { from.at + count ≤ length (segment (A.view arena.old).words from.segment) }
     requires to { to.at + count ≤ length (segment (A.view arena.old).words to.segment) }

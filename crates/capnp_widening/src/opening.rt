@@ -6,7 +6,7 @@ ghost use Rattle.capnp_format.specs.Tree.{Tree, Null};
 ghost use Rattle.capnp_making.specs.Existing.{LiesIn, struct_in};
 ghost use Rattle.capnp_making.specs.Memory.{HasRoom, KeepsMemory, SpendsMemory, TakesWords};
 ghost use Rattle.capnp_making.specs.Stored.{IsStored};
-ghost use Rattle.capnp_widening.specs.Opening.{call_at, HasWideStructs, OpensStruct, OpensList, refusal_of_elements};
+ghost use Rattle.capnp_widening.specs.Opening.{call_at, HasWideStructs, OpensStruct, OpensList, refusal_of_elements, struct_at};
 ghost use Rattle.capnp_widening.specs.Rooms.{ListFits, OpeningFits, StructFits};
 ghost use Rattle.capnp_widening.specs.RowsRemade.{RefusesWider};
 ghost use Rattle.capnp_widening.specs.Widened.{IsAtLeast, IsNoWider};
@@ -17,7 +17,7 @@ use crate::widening::{greater, widen_known};
 use capnp_arena::arena::BuilderArena;
 use capnp_making::existing::{self, ExistingList, ExistingStruct};
 use capnp_making::landing::word_of;
-use capnp_making::making::make_struct;
+use capnp_making::making::{Start, make_struct};
 use capnp_words::error::ErrorKind;
 use capnp_words::wire_pointer::{ElementSize, StructSize};
 
@@ -54,7 +54,11 @@ pub fn open_struct<A: BuilderArena>(
             if is_wide(old.size, size) {
                 return Ok(old);
             }
-            widen_struct(arena, id, at, old, size)
+            let start = Start {
+                segment: old.segment,
+                at: old.start,
+            };
+            widen_struct(arena, id, at, start, old.size, size)
         }
         None => {
             if !word_of(arena, id, at).is_null() {
@@ -95,23 +99,23 @@ fn new_struct<A: BuilderArena>(
     }
 }
 
-/// A struct that is too small, made wider.
+/// A struct that is too small, made wider. It is given by its numbers, which go in registers.
 #[inline(never)]
 fn widen_struct<A: BuilderArena>(
     arena: &mut A,
     id: u32,
     at: u32,
-    old: ExistingStruct,
+    start: Start,
+    narrow: StructSize,
     size: StructSize,
 ) -> Result<ExistingStruct, ErrorKind>
     requires place { IsPlace (A.view arena.old).words id at }
-    requires inside { LiesIn (A.view arena.old).words old }
+    requires inside { LiesIn (A.view arena.old).words (struct_at start narrow) }
     requires known { (t : Tree) → IsStored (A.view arena.old).words id at t
-        → struct_in (target (A.view arena.old).words id at) t ≡ Some old }
-    requires narrow { size.data_words ≤ old.size.data_words
-        → size.pointers ≤ old.size.pointers → ⊥ }
+        → struct_in (target (A.view arena.old).words id at) t ≡ Some (struct_at start narrow) }
+    requires narrow { size.data_words ≤ narrow.data_words → size.pointers ≤ narrow.pointers → ⊥ }
     ensures opened { (t : Tree) → IsStored (A.view arena.old).words id at t
-        → struct_in (target (A.view arena.old).words id at) t ≡ Some old
+        → struct_in (target (A.view arena.old).words id at) t ≡ Some (struct_at start narrow)
         → OpensStruct size result (call_at id at (A.view arena.old) (A.view arena.new)) t }
     ensures wide { IfOk result (IsAtLeast size) }
     ensures granted { OnOk result (KeepsMemory (A.view arena.old) (A.view arena.new)) }
@@ -119,11 +123,16 @@ fn widen_struct<A: BuilderArena>(
     ensures named { IfErr result (IsNoWider (A.view arena.old) (A.view arena.new) id at) }
     ensures fits { StructFits (A.view arena.old) id at size → IsOk result }
 {
+    let old = ExistingStruct {
+        segment: start.segment,
+        start: start.at,
+        size: narrow,
+    };
     match widen_known(arena, id, at, old, size) {
         Ok(wide) => Ok(ExistingStruct {
             segment: wide.segment,
             start: wide.start,
-            size: greater_size(old.size, size),
+            size: greater_size(narrow, size),
         }),
         Err(k) => Err(k),
     }

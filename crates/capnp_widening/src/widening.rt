@@ -71,7 +71,9 @@ pub(crate) fn take<A: BuilderArena>(arena: &mut A, id: u32, amount: u32) -> Resu
     }
 }
 
-/// Copies words one behind the other over others, in one copy.
+/// Copies words one behind the other over others: one word by itself, which most data sections are, and
+/// more in one copy.
+#[inline(always)]
 pub(crate) fn copy_words<A: BuilderArena>(arena: &mut A, from: Start, to: Start, count: u32)
     requires from { from.at + count ≤ length (segment (A.view arena.old).words from.segment) }
     requires to { to.at + count ≤ length (segment (A.view arena.old).words to.segment) }
@@ -80,10 +82,28 @@ pub(crate) fn copy_words<A: BuilderArena>(arena: &mut A, from: Start, to: Start,
         (A.view arena.new).words from.segment from.at to.segment to.at count }
     ensures limits { KeepsLimits (A.view arena.old) (A.view arena.new) }
 {
+    if count == 1 {
+        let word = word_of(arena, from.segment, from.at);
+        arena.set_word(to.segment, to.at, word.0);
+    } else {
+        copy_many(arena, from, to, count);
+    }
+}
+
+/// Copies words one behind the other over others, in one copy.
+#[inline(never)]
+fn copy_many<A: BuilderArena>(arena: &mut A, from: Start, to: Start, count: u32)
+    requires from { from.at + count ≤ length (segment (A.view arena.old).words from.segment) }
+    requires to { to.at + count ≤ length (segment (A.view arena.old).words to.segment) }
+    ensures copied { AreCopied (A.view arena.old).words
+        (A.view arena.new).words from.segment from.at to.segment to.at count }
+    ensures limits { KeepsLimits (A.view arena.old) (A.view arena.new) }
+{
     arena.move_words(from.segment, from.at, to.segment, to.at, count);
 }
 
 /// Sets the pointer at a place to an object that stands in a room, and writes its landing pad, if any.
+#[inline(always)]
 pub(crate) fn settle<A: BuilderArena>(arena: &mut A, id: u32, at: u32, room: Room, shape: Shape)
     requires place { IsPlace (A.view arena.old).words id at }
     requires inside { room.at + room.pads < length (segment (A.view arena.old).words room.segment) }

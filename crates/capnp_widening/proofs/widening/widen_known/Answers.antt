@@ -1,4 +1,4 @@
-use Rattle.std.proofs.Common.{inl, inr, subst, ◌≡◌, ◌+◌, ◌*◌, ◌≤◌, sym, ap, ◌∙◌, arith, rules}
+use Rattle.std.proofs.Common.{inl, inr, subst, ◌≡◌, ◌+◌, ◌*◌, sym, ap, ◌∙◌, arith}
 use Rattle.capnp_format.specs.Segments.{Segments}
 use Rattle.capnp_format.specs.Tree.{Struct, count}
 use Rattle.capnp_arena.specs.View.{View}

@@ -5,7 +5,7 @@ use Rattle.capnp_widening.specs.Moved.{row_of_moves, Moves}
 use Rattle.capnp_widening.specs.Rooms.{all_words}
 use Rattle.capnp_widening.proofs.Movings.{none_moved, moves_next, moves_some}
 use Rattle.capnp_widening.proofs.Rooms.{room_left, less_room}
-use Rattle.capnp_widening.proofs.moving.move_row.Goals as goal
+use Rattle.capnp_widening.proofs.moving.move_each.Goals as goal
 
 pub loop-i-init : goal.loop-i-init
 loop-i-init g c =

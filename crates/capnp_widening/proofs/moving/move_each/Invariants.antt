@@ -3,7 +3,7 @@ use Rattle.capnp_format.specs.Segments.{Grows}
 use Rattle.capnp_making.specs.Memory.{KeepsMemory}
 use Rattle.capnp_widening.specs.Moved.{row_of_moves, Moves}
 use Rattle.capnp_widening.specs.Rooms.{TakesAtMost}
-use Rattle.capnp_widening.proofs.moving.move_row.Given as goal
+use Rattle.capnp_widening.proofs.moving.move_each.Given as goal
 
 abbrev pub invariant-loop-i : goal.invariant-loop-i
 invariant-loop-i g l = record {
