@@ -1,6 +1,8 @@
+pub mod BoundsLemmas
 pub mod Fronts
 pub mod LentLemmas
 pub mod MessageLemmas
+pub mod RangeLemmas
 pub mod RowLemmas
 pub mod RowsCopied
 pub mod RowsLemmas

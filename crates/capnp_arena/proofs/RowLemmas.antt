@@ -68,5 +68,5 @@ row_once : (used : ℕ) (bytes : List ℕ) (x y : IsRow used bytes) → x ≡ y
 row_once used bytes x y = λ i. (le_prop x.0 y.0 i, le_prop x.1 y.1 i, is_set ℕ_set (drop (8 * used) bytes) (replicate (length bytes - 8 * used) 0) x.2 y.2 i)
 
 module _ {S : Type 0} (g : Ghosts S) where
-  pub same_rows : (s : S) (used : ℕ) (x y : IsRow used (g.content s)) → (let R : Type 0 = Row S g in ◌≡◌ {A = R} (record { segment = s; used = used; clear = x }) (record { segment = s; used = used; clear = y }))
-  same_rows s used x y = λ i. record { segment = s; used = used; clear = row_once used (g.content s) x y i }
+  pub same_rows : (s : S) (used bound : ℕ) (x y : IsRow used (g.content s)) → (let R : Type 0 = Row S g in ◌≡◌ {A = R} (record { segment = s; used = used; bound = bound; clear = x }) (record { segment = s; used = used; bound = bound; clear = y }))
+  same_rows s used bound x y = λ i. record { segment = s; used = used; bound = bound; clear = row_once used (g.content s) x y i }

@@ -1,5 +1,5 @@
 -- Words of one row copied over those of another, where the rows are cut in two between them.
-use Rattle.std.proofs.Common.{◌≡◌, ℕ, zero, suc, ◌-◌, ◌<◌, ◌≤◌, List, [], ◌∷◌, ◌++◌, length, get_or, set, refl, sym, ap, ap₂, ◌∙◌, arith}
+use Rattle.std.proofs.Common.{◌≡◌, ℕ, zero, suc, ◌-◌, ◌<◌, ◌≤◌, List, [], ◌∷◌, ◌++◌, length, get_or, set, refl, sym, ap, ap₂, ◌∙◌, arith, subst}
 use Rattle.std.proofs.lemmas.List.{get_or_append_left, get_or-append_right}
 use Rattle.capnp_format.specs.Bytes.{words_of, message}
 use Rattle.capnp_format.specs.Segments.{segment, words_at}
@@ -7,6 +7,8 @@ use Rattle.capnp_arena.specs.Row.{allocated, capacity, shown, capacity_at}
 use Rattle.capnp_arena.specs.Written.{with_segment, with_words, with_copied}
 use Rattle.capnp_arena.specs.declared.arena.allocator.Segment.{Ghosts}
 use Rattle.capnp_arena.specs.declared.arena.row.Row.{Row}
+use Rattle.capnp_arena.specs.Bounds.{HasBounds}
+use Rattle.capnp_arena.proofs.BoundsLemmas.{bounded_same}
 use Rattle.capnp_arena.proofs.RowsLemmas.{row_changed, row_is, row_old, room_same}
 
 -- an element replaced in either part
@@ -77,3 +79,16 @@ module _ {S : Type 0} (g : Ghosts S) where
       capacity_at g (set front j new ++ back) ≡ capacity_at g rows
   kept_front rows front back i j r new cut l f h =
       ap (capacity_at g) (set_front front back j new (omega (arith, cut.long)) ∙ ap (λ xs. set xs j new) (sym cut.parts)) ∙ room_same g rows j r new (in_front j r cut l f) (h ∙ ap (capacity g) (sym f))
+
+  -- and the bounds of all rows stay
+  pub bounded_back : (rows front back : List (Row S g)) (j : ℕ) (r new : Row S g) → IsCut rows front back j → r ≡ get_or back 0 r → capacity g new ≡ capacity g (get_or back 0 r) → new.used ≡ (get_or back 0 r).used →
+      new.bound ≡ (get_or back 0 r).bound → HasBounds g rows → HasBounds g (front ++ set back 0 new)
+  bounded_back rows front back j r new cut f h used bound b =
+      subst (HasBounds g) (sym (set_back front back new ∙ ap₂ (λ xs k. set xs k new) (sym cut.parts) cut.long))
+      (bounded_same g rows j r new (in_back r cut f) (h ∙ ap (capacity g) (sym f)) (used ∙ ap (λ (q : Row S g). q.used) (sym f)) (bound ∙ ap (λ (q : Row S g). q.bound) (sym f)) b)
+
+  pub bounded_front : (rows front back : List (Row S g)) (i j : ℕ) (r new : Row S g) → IsCut rows front back i → j < i → r ≡ get_or front j r → capacity g new ≡ capacity g (get_or front j r) → new.used ≡ (get_or front j r).used →
+      new.bound ≡ (get_or front j r).bound → HasBounds g rows → HasBounds g (set front j new ++ back)
+  bounded_front rows front back i j r new cut l f h used bound b =
+      subst (HasBounds g) (sym (set_front front back j new (omega (arith, cut.long)) ∙ ap (λ xs. set xs j new) (sym cut.parts)))
+      (bounded_same g rows j r new (in_front j r cut l f) (h ∙ ap (capacity g) (sym f)) (used ∙ ap (λ (q : Row S g). q.used) (sym f)) (bound ∙ ap (λ (q : Row S g). q.bound) (sym f)) b)

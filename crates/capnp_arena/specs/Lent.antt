@@ -19,16 +19,17 @@ module _ {S : Type 0} (g : Ghosts S) where
   pub allocated_whole : (r : Row S g) → length (allocated g r) ≡ 8 * r.used
   allocated_whole r = omega (arith, length-take (8 * r.used) (g.content r.segment), r.clear.0)
 
-  capacities_same : (rows : List (Row S g)) (i : ℕ) (old new : Row S g) → old ≡ get_or rows i old → capacity g new ≡ capacity g old → map (capacity g) (set rows i new) ≡ map (capacity g) rows
-  capacities_same [] i old new e same = refl
-  capacities_same (q ∷ rows) zero old new e same = ap (λ n. n ∷ map (capacity g) rows) (same ∙ ap (capacity g) e)
-  capacities_same (q ∷ rows) (suc i) old new e same = ap (λ xs. capacity g q ∷ xs) (capacities_same rows i old new e same)
+  -- a row replaced by one that is the same in some way leaves each the same in it
+  pub each_same : {A : Type 0} (f : Row S g → A) (rows : List (Row S g)) (i : ℕ) (old new : Row S g) → old ≡ get_or rows i old → f new ≡ f old → map f (set rows i new) ≡ map f rows
+  each_same f [] i old new e same = refl
+  each_same f (q ∷ rows) zero old new e same = ap (λ x. x ∷ map f rows) (same ∙ ap f e)
+  each_same f (q ∷ rows) (suc i) old new e same = ap (λ xs. f q ∷ xs) (each_same f rows i old new e same)
 
   -- a row replaced by one as large leaves the room of each
   pub room_same : (rows : List (Row S g)) (i : ℕ) (old new : Row S g) → old ≡ get_or rows i old → capacity g new ≡ capacity g old → capacity_at g (set rows i new) ≡ capacity_at g rows
   room_same rows i old new e same =
       let at : List ℕ → ℕ → ℕ = λ xs k. get_or xs k 0 in
-      ap at (capacities_same rows i old new e same)
+      ap at (each_same (capacity g) rows i old new e same)
 
   content_over : (r : Row S g) (ws : List ℕ) → g.content (with_allocated g r ws).segment ≡ with_front (8 * r.used) (g.content r.segment) ws
   content_over r ws = g.holds r.segment (with_front (8 * r.used) (g.content r.segment) ws) (length-with_front (8 * r.used) (g.content r.segment) ws r.clear.0)
@@ -36,7 +37,7 @@ module _ {S : Type 0} (g : Ghosts S) where
   over : (r : Row S g) (ws : List ℕ) → length ws ≡ length (allocated g r) → allocated g (with_allocated g r ws) ≡ ws
   over r ws l = ap (take (8 * r.used)) (content_over r ws) ∙ front_taken (8 * r.used) (g.content r.segment) ws (l ∙ allocated_whole r)
 
-  same_capacity : (r : Row S g) (ws : List ℕ) → capacity g (with_allocated g r ws) ≡ capacity g r
+  pub same_capacity : (r : Row S g) (ws : List ℕ) → capacity g (with_allocated g r ws) ≡ capacity g r
   same_capacity r ws = ap (λ xs. length xs / 8) (content_over r ws) ∙ ap (λ n. n / 8) (length-with_front (8 * r.used) (g.content r.segment) ws r.clear.0)
 
   shown_set : (rows : List (Row S g)) (i : ℕ) (r : Row S g) → shown g (slice_set rows i r) ≡ slice_set (shown g rows) i (allocated g r)
@@ -54,7 +55,7 @@ module _ {S : Type 0} (g : Ghosts S) where
   shown_none (q ∷ rows) zero e = cc
   shown_none (q ∷ rows) (suc i) e = shown_none rows i e
 
-  found_at : (rows : List (Row S g)) (i : ℕ) (r : Row S g) → slice_get rows i ≡ Some r → r ≡ get_or rows i r
+  pub found_at : (rows : List (Row S g)) (i : ℕ) (r : Row S g) → slice_get rows i ≡ Some r → r ≡ get_or rows i r
   found_at [] i r e = cc
   found_at (q ∷ rows) zero r e = cc
   found_at (q ∷ rows) (suc i) r e = found_at rows i r e

@@ -1,4 +1,5 @@
 pub mod Allocations
+pub mod Bounds
 pub mod Checks
 pub mod Heap
 pub mod Lent

@@ -1,6 +1,7 @@
 //! What a message is for everything above: segments of whole words, checked and charged, read or written.
 
 mod allocator;
+mod bounds;
 mod builder_arena;
 mod builder_arena_impl;
 mod heap_allocator;

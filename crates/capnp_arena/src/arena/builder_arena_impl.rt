@@ -5,6 +5,7 @@ ghost use Rattle.capnp_format.specs.Bytes.{message};
 ghost use Rattle.capnp_format.specs.Segments.{segment, words_at};
 ghost use Rattle.capnp_words.specs.declared.error.ErrorKind.TheVariants.{AllocationFailed, InvalidSegmentId, MessageTooLarge};
 ghost use Rattle.capnp_arena.specs.Allocations.{IsFresh, max_segments, max_segment_words, one_more};
+ghost use Rattle.capnp_arena.specs.Bounds.{HasBounds, bounded_with_row};
 ghost use Rattle.capnp_arena.specs.View.{view_of, same_room};
 ghost use Rattle.capnp_arena.specs.Limits.{IsSmall};
 ghost use Rattle.capnp_arena.specs.Output.{output_bytes, is_single};
@@ -18,7 +19,7 @@ use crate::arena::builder_arena::sealed::Closed;
 use crate::arena::row::Row;
 use crate::arena::{
     Allocator, BuilderArena, MAX_SEGMENTS, NullAllocator, OutputSegments, ReaderArena, Segment,
-    SegmentId,
+    SegmentId, bounds,
 };
 use capnp_words::error::ErrorKind;
 use std::alloc::Global;
@@ -31,6 +32,20 @@ pub struct BuilderArenaImpl<A: Allocator> {
     allocator: A,
     rows: Vec<Row<A::Segment>>,
     ghost few: { length rows.items ≤ max_segments },
+    ghost bounded: { HasBounds A.Segment.Segment rows.items },
+}
+
+/// Gives the segment of a row back to the allocator.
+fn deallocate<A: Allocator>(allocator: &mut A, row: Row<A::Segment>)
+    ensures refusals { A.refusals allocator.new ≡ A.refusals allocator.old }
+    ensures offers { A.offers allocator.new ≡ A.offers allocator.old }
+{
+    let Row {
+        segment,
+        used,
+        bound: _,
+    } = row;
+    allocator.deallocate_segment(segment, used);
 }
 
 /// Gives each segment back to the allocator once, in order of number.
@@ -39,15 +54,15 @@ fn give_back<A: Allocator>(allocator: &mut A, mut rows: Vec<Row<A::Segment>>)
     ensures offers { A.offers allocator.new ≡ A.offers allocator.old }
 {
     rows.reverse();
-    while let Some(Row { segment, used }) = rows.pop() {
-        allocator.deallocate_segment(segment, used);
+    while let Some(row) = rows.pop() {
+        deallocate(allocator, row);
     }
     rows.destroy_empty();
 }
 
 /// Puts a segment behind the others, with none of its words allocated. Where there is no memory for
 /// its row, it goes back to the allocator.
-#[tactic(auto, using(crate::proofs::TakingLemmas::pushed))]
+#[tactic(auto, using(crate::proofs::TakingLemmas::pushed, crate::proofs::BoundsLemmas::bounded_pushed))]
 fn put_behind<A: Allocator>(
     allocator: &mut A,
     rows: &mut Vec<Row<A::Segment>>,
@@ -61,11 +76,13 @@ fn put_behind<A: Allocator>(
     ensures counted { OnErr result
         (A.refusals allocator.new ≡ one_more (A.refusals allocator.old)) }
     ensures offers { A.offers allocator.new ≡ A.offers allocator.old }
+    ensures bounded { HasBounds A.Segment.Segment rows.old.items
+        → HasBounds A.Segment.Segment rows.new.items }
 {
     match allocator.keep(rows, Row::new(segment)) {
         None => Ok(()),
-        Some(Row { segment, used }) => {
-            allocator.deallocate_segment(segment, used);
+        Some(row) => {
+            deallocate(allocator, row);
             Err(ErrorKind::AllocationFailed)
         }
     }
@@ -88,6 +105,7 @@ fn copy_across<S: Segment>(rows: &mut [Row<S>], from: Place, to: Place, n: u32)
         ≡ with_words (message (shown S.Segment rows.old)) to.row to.at
         (words_at (message (shown S.Segment rows.old)) from.row from.at n) }
     ensures room { capacity_at S.Segment rows.new ≡ capacity_at S.Segment rows.old }
+    ensures bounded { HasBounds S.Segment rows.old → HasBounds S.Segment rows.new }
 {
     if from.row < to.row {
         let (front, back) = rows.split_at_mut(to.row);
@@ -273,18 +291,16 @@ impl<A: Allocator> BuilderArenaImpl<A> {
     }
 
     /// The first segment that has room for so many words more.
-    #[tactic(auto, using(crate::proofs::RowsLemmas::counting))]
-    fn first_fit(&self, amount: u32) -> Option<u32>
+    fn first_fit(&mut self, amount: u32) -> Option<u32>
         ensures fit { IfSome result
-            (λ k. IsFirstFit (⟦<Self as BuilderArena>⟧.view self.now) amount k) }
-        ensures full { IsNone result → IsFull (⟦<Self as BuilderArena>⟧.view self.now) amount }
+            (λ k. IsFirstFit (⟦<Self as BuilderArena>⟧.view self.old) amount k) }
+        ensures full { IsNone result → IsFull (⟦<Self as BuilderArena>⟧.view self.old) amount }
+        ensures segments { ⟦<Self as ReaderArena>⟧.segments self.new
+            ≡ ⟦<Self as ReaderArena>⟧.segments self.old }
+        ensures same { ⟦<Self as BuilderArena>⟧.view self.new
+            ≡ ⟦<Self as BuilderArena>⟧.view self.old }
     {
-        for id in 0..self.rows.len() as u32 {
-            if self.has_room(id, amount) {
-                return Some(id);
-            }
-        }
-        None
+        bounds::first_fit(&mut self.rows, amount)
     }
 
     /// Takes words at the end of a segment that has room for them.
@@ -419,7 +435,7 @@ impl<A: Allocator> BuilderArena for BuilderArenaImpl<A> {
 
     ghost small = { λ b. rows_small A.Segment.Segment b.rows.items };
 
-    ghost with_bytes = { λ b id ws. record b { rows = with_row A.Segment.Segment b.rows id ws; few = few_with_row A.Segment.Segment b.rows id ws b.few } };
+    ghost with_bytes = { λ b id ws. record b { rows = with_row A.Segment.Segment b.rows id ws; few = few_with_row A.Segment.Segment b.rows id ws b.few; bounded = bounded_with_row A.Segment.Segment b.rows id ws b.bounded } };
 
     ghost with_bytes_segments = { λ b. with_row_shown A.Segment.Segment b.rows };
 

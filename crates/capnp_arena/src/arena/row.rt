@@ -5,7 +5,7 @@ ghost use Rattle.capnp_arena.specs.Allocations.{IsRow, max_segment_words, zeros}
 ghost use Rattle.capnp_arena.specs.Written.{overwritten, with_copied, with_front};
 ghost use Rattle.std.specs.Borrow.{sem, Lends, Array, u8 as byte};
 
-use crate::arena::Segment;
+use crate::arena::{MAX_SEGMENT_WORDS, Segment};
 use capnp_words::words;
 
 /// Writes a word below the first `end` words.
@@ -74,10 +74,13 @@ fn front_of<S: Segment>(segment: &mut S, n: usize) -> &mut [u8]
 pub(crate) struct Row<S: Segment> {
     pub(crate) segment: S,
     pub(crate) used: u32,
+    /// At least the room of each row of the range that ends with this one (`bounds`).
+    pub(crate) bound: u32,
     ghost clear: { IsRow used (S.content segment) },
 }
 
 impl<S: Segment> Row<S> {
+    ghost use Rattle.capnp_arena.specs.Bounds.{room};
     ghost use Rattle.capnp_arena.specs.Row.{allocated, capacity, with_allocated};
     ghost use Rattle.capnp_arena.specs.contracts.arena.row.Row.{the_row};
 
@@ -102,9 +105,21 @@ impl<S: Segment> Row<S> {
         requires small { length (S.content segment) / 8 ≤ max_segment_words }
         ensures none { allocated S.Segment result ≡ [] }
         ensures used { result.used ≡ 0 }
+        ensures bound { result.bound ≡ max_segment_words }
         ensures segment { result.segment ≡ segment }
     {
-        Row { segment, used: 0 }
+        Row {
+            segment,
+            used: 0,
+            bound: MAX_SEGMENT_WORDS,
+        }
+    }
+
+    /// How many words more can be taken.
+    pub(crate) fn room(&self) -> u32
+        ensures { result ≡ room S.Segment self.now }
+    {
+        (self.segment.bytes().len() / 8) as u32 - self.used
     }
 
     /// Whether so many words more can be taken.
@@ -122,6 +137,7 @@ impl<S: Segment> Row<S> {
         ensures taken { words_of (allocated S.Segment self.new)
             ≡ words_of (allocated S.Segment self.old) ++ replicate amount 0 }
         ensures used { self.new.used ≡ self.old.used + amount }
+        ensures bound { self.new.bound ≡ self.old.bound }
         ensures capacity { capacity S.Segment self.new ≡ capacity S.Segment self.old }
     {
         let at = self.used;
@@ -135,6 +151,7 @@ impl<S: Segment> Row<S> {
         ensures words { words_of (allocated S.Segment self.new)
             ≡ slice_set (words_of (allocated S.Segment self.old)) at word }
         ensures used { self.new.used ≡ self.old.used }
+        ensures bound { self.new.bound ≡ self.old.bound }
         ensures capacity { capacity S.Segment self.new ≡ capacity S.Segment self.old }
     {
         let end = self.used as usize;
@@ -148,6 +165,7 @@ impl<S: Segment> Row<S> {
         ensures words { words_of (allocated S.Segment self.new)
             ≡ overwritten (words_of (allocated S.Segment self.old)) at (words_of from.now) }
         ensures used { self.new.used ≡ self.old.used }
+        ensures bound { self.new.bound ≡ self.old.bound }
         ensures capacity { capacity S.Segment self.new ≡ capacity S.Segment self.old }
     {
         let end = self.used as usize;
@@ -162,6 +180,7 @@ impl<S: Segment> Row<S> {
             ≡ with_copied (words_of (allocated S.Segment self.old)) to
             (words_of (allocated S.Segment self.old)) from n }
         ensures used { self.new.used ≡ self.old.used }
+        ensures bound { self.new.bound ≡ self.old.bound }
         ensures capacity { capacity S.Segment self.new ≡ capacity S.Segment self.old }
     {
         let end = self.used as usize;
@@ -183,6 +202,7 @@ impl<S: Segment> Row<S> {
             ≡ with_copied (words_of (allocated S.Segment self.old)) at
             (words_of (allocated S.Segment row.now)) from n }
         ensures used { self.new.used ≡ self.old.used }
+        ensures bound { self.new.bound ≡ self.old.bound }
         ensures capacity { capacity S.Segment self.new ≡ capacity S.Segment self.old }
     {
         let words = words::part(row.allocated(), from as usize, n as usize);
@@ -195,6 +215,7 @@ impl<S: Segment> Row<S> {
         ensures words { words_of (allocated S.Segment self.new)
             ≡ overwritten (words_of (allocated S.Segment self.old)) at (replicate n 0) }
         ensures used { self.new.used ≡ self.old.used }
+        ensures bound { self.new.bound ≡ self.old.bound }
         ensures capacity { capacity S.Segment self.new ≡ capacity S.Segment self.old }
     {
         let end = self.used as usize;

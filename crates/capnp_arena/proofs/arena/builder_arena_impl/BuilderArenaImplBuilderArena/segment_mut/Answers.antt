@@ -1,8 +1,20 @@
 use Rattle.std.proofs.Common.{◌≡◌, ◌<◌, length, get_or, Some, refl, sym, ap, ◌∙◌, arith}
-use Rattle.capnp_arena.specs.Row.{allocated}
+use Rattle.std.proofs.lemmas.List.{length-set}
+use Rattle.capnp_arena.specs.Row.{allocated, with_allocated}
+use Rattle.capnp_arena.specs.Lent.{same_capacity}
+use Rattle.capnp_arena.proofs.BoundsLemmas.{bounded_same}
 use Rattle.capnp_arena.proofs.RowsLemmas.{length_shown, shown_at}
 use Rattle.capnp_arena.proofs.LentLemmas.{lent_arena}
 use Rattle.capnp_arena.proofs.arena.builder_arena_impl.BuilderArenaImplBuilderArena.segment_mut.Goals as goal
+
+pub invariant_of-self-lent : goal.invariant_of-self-lent
+invariant_of-self-lent g c w =
+    let seg = g.A.Segment.Segment in
+    let rows = c.args.self.now.rows.items in
+    let row = c.index_mut-row.result.now in (
+      omega (arith, c.args.self.now.few, length-set rows c.args.id (with_allocated seg row w)),
+      (bounded_same seg rows c.args.id row (with_allocated seg row w) c.index_mut-row.ensures.value (same_capacity seg row w) refl refl c.args.self.now.bounded, tt),
+    )
 
 pub returns : goal.returns
 returns g c =
@@ -11,6 +23,6 @@ returns g c =
     let row = c.index_mut-row.result.now in
     let there : c.args.id < length rows.items = omega (arith, length_shown seg rows.items, c.requires) in
     let e : row ≡ get_or rows.items c.args.id row = c.index_mut-row.ensures.value in (
-      (refl, λ w. lent_arena g.A.Allocator seg c.args.self.now c.args.id w there e _),
+      (refl, λ w. lent_arena g.A.Allocator seg c.args.self.now c.args.id w there e _ _),
       record { lends = tt; bytes = shown_at seg rows.items c.args.id row there ∙ ap (λ q. Some (allocated seg q)) (sym e) ∙ ap Some (sym c.allocated_mut.ensures.now) },
     )

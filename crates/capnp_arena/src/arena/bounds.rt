@@ -1,0 +1,115 @@
+//! Which row is the first with room for so many words more, found without a look at each.
+//!
+//! The rows are cut into ranges as in a Fenwick tree: counted from 1, row i is the last of a range of as many rows
+//! as the greatest power of two that divides i. So all rows before any one are as many ranges as its number has
+//! binary digits, at most. Each row holds a bound, which no row of its range has more room than: a range without room
+//! is passed over by one look at it.
+//!
+//! Rooms only shrink. So words are taken, and rows put behind the others, without a look at bounds. One that has come
+//! to be too great leads to a row without room, and is lowered then.
+ghost use Rattle.std.specs.Prelude.{◌≡◌, ◌<◌, ◌≤◌, ◌+◌, ◌-◌, ℕ, length, IfSome, IsNone, slice_index_or};
+ghost use Rattle.capnp_format.specs.Bytes.{message};
+ghost use Rattle.capnp_arena.specs.Allocations.{max_segments};
+ghost use Rattle.capnp_arena.specs.Bounds.{HasBounds, HaveNoRoom, IsBoundAt, rooms, view_of_rows};
+ghost use Rattle.capnp_arena.specs.Row.{shown, capacity_at};
+ghost use Rattle.capnp_arena.specs.Taking.{IsFirstFit, IsFull};
+
+use crate::arena::Segment;
+use crate::arena::row::Row;
+
+/// The first row from `from` on of which no bound says that it has no room for so many words.
+fn first_allowed<S: Segment>(rows: &[Row<S>], from: usize, amount: u32) -> Option<usize>
+    requires few { length rows.now ≤ max_segments }
+    requires bounded { HasBounds S.Segment rows.now }
+    requires inside { from ≤ length rows.now }
+    ensures there { IfSome result (λ at. (from ≤ at) × (at < length rows.now)) }
+    ensures passed { IfSome result (λ at. HaveNoRoom (rooms S.Segment rows.now) from at amount) }
+    ensures none { IsNone result
+        → HaveNoRoom (rooms S.Segment rows.now) from (length rows.now) amount }
+{
+    // The ranges that begin at `from` are narrower than the greatest power of two that divides it.
+    let mut rest = from;
+    let mut width = 1;
+    'widen: while width <= rows.len() && rest % 2 == 0 {
+        rest /= 2;
+        width *= 2;
+    }
+    let mut at = from;
+    'narrow: while width > 1 {
+        width /= 2;
+        if width <= rows.len() - at && rows[at + width - 1].bound < amount {
+            at += width;
+        }
+    }
+    if at < rows.len() { Some(at) } else { None }
+}
+
+/// What no row of the range that ends with row `at` has more room than: the room of `at` itself, and the bounds of the
+/// ranges that make up the others.
+fn greatest_room<S: Segment>(rows: &[Row<S>], at: usize) -> u32
+    requires there { at < length rows.now }
+    requires bounded { HasBounds S.Segment rows.now }
+    ensures { IsBoundAt (rooms S.Segment rows.now) at result }
+{
+    let mut greatest = rows[at].room();
+    let mut rest = at + 1;
+    let mut width = 1;
+    'widen: while rest % 2 == 0 {
+        greatest = greatest.max(rows[at - width].bound);
+        rest /= 2;
+        width *= 2;
+    }
+    greatest
+}
+
+/// Lowers the bound of row `at` as far as the bounds of its range allow.
+fn lower<S: Segment>(rows: &mut [Row<S>], at: usize)
+    requires there { at < length rows.old }
+    requires bounded { HasBounds S.Segment rows.old }
+    ensures bounded { HasBounds S.Segment rows.new }
+    ensures segments { shown S.Segment rows.new ≡ shown S.Segment rows.old }
+    ensures capacity { capacity_at S.Segment rows.new ≡ capacity_at S.Segment rows.old }
+{
+    let greatest = greatest_room(rows, at);
+    let row = &mut rows[at];
+    row.bound = greatest;
+}
+
+/// The first row that has room for so many words more, by the bounds.
+#[inline(never)]
+fn first_by_bounds<S: Segment>(rows: &mut [Row<S>], amount: u32) -> Option<u32>
+    requires few { length rows.old ≤ max_segments }
+    requires bounded { HasBounds S.Segment rows.old }
+    ensures fit { IfSome result (λ k. IsFirstFit (view_of_rows S.Segment rows.old) amount k) }
+    ensures full { IsNone result → IsFull (view_of_rows S.Segment rows.old) amount }
+    ensures bounded { HasBounds S.Segment rows.new }
+    ensures segments { shown S.Segment rows.new ≡ shown S.Segment rows.old }
+    ensures capacity { capacity_at S.Segment rows.new ≡ capacity_at S.Segment rows.old }
+{
+    let mut from = 0;
+    while let Some(at) = first_allowed(rows, from, amount) {
+        if rows[at].has_room(amount) {
+            return Some(at as u32);
+        }
+        lower(rows, at);
+        from = at + 1;
+    }
+    None
+}
+
+/// The first row that has room for so many words more. Where it is row 0, as in most messages, no bound is looked at.
+#[inline(always)]
+pub(crate) fn first_fit<S: Segment>(rows: &mut [Row<S>], amount: u32) -> Option<u32>
+    requires few { length rows.old ≤ max_segments }
+    requires bounded { HasBounds S.Segment rows.old }
+    ensures fit { IfSome result (λ k. IsFirstFit (view_of_rows S.Segment rows.old) amount k) }
+    ensures full { IsNone result → IsFull (view_of_rows S.Segment rows.old) amount }
+    ensures bounded { HasBounds S.Segment rows.new }
+    ensures segments { shown S.Segment rows.new ≡ shown S.Segment rows.old }
+    ensures capacity { capacity_at S.Segment rows.new ≡ capacity_at S.Segment rows.old }
+{
+    if !rows.is_empty() && rows[0].has_room(amount) {
+        return Some(0);
+    }
+    first_by_bounds(rows, amount)
+}
