@@ -22,10 +22,10 @@ use std::alloc::AllocError;
 pub struct StructPlace {
     /// The number of the segment.
     pub segment: u32,
-    /// Where the data section starts, in bytes.
-    pub byte: u64,
     /// The data section, in bits.
     pub bits: u32,
+    /// Where the data section starts, in bytes.
+    pub byte: u64,
     /// Where the pointer section starts, in words.
     pub pointers_at: u32,
     /// The pointer section, in pointers.
