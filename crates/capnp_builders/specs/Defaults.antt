@@ -47,7 +47,7 @@ pub data DefaultUse : Type 0 where
   denied : ErrorKind → DefaultUse
   copied : List ℕ → DefaultUse
 
--- So where null stands, by the words of the default; and where its first word is null.
+-- What a call that finds null does with a default of these words; `of_null` is for one whose first word is null.
 abbrev pub use_of_words : DefaultUse → List ℕ → List ℕ → DefaultUse
 use_of_words of_null bytes [] = denied MessageContainsOutOfBoundsPointer
 use_of_words of_null bytes (x ∷ xs) = cond (nat_eq x 0) of_null (copied bytes)
@@ -102,7 +102,7 @@ WithDefault (copied bytes) c t P result = OnDefault bytes c P ⊎ IsErrAnd resul
 abbrev pub DefaultCopyFits : List ℕ → View → ℕ → Type 0
 DefaultCopyFits bytes v id = CanBeCopied of_default (default_root bytes) (unused None) (length (segment v.words id)) (v.room id)
 
--- So of a default, which has a first word.
+-- A default, if there is one, has a first word and no fault, and its words fit behind those of segment id.
 abbrev pub DefaultFits : Option (Bor (List ℕ)) → View → ℕ → Type 0
 DefaultFits default v id = IfSome default (λ d. (8 ≤ length d.now) × DefaultCopyFits d.now v id)
 

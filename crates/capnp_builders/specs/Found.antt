@@ -47,7 +47,7 @@ GivesData result c t = (result ≡ bytes_given c.segment (data_in (target c.old.
 abbrev pub GivesText : Result ExistingBytes ErrorKind → CallAt → Tree → Type 0
 GivesText result c t = (result ≡ bytes_given c.segment (text_in (target c.old.words c.segment c.at) t)) × (c.new ≡ c.old)
 
--- So it does with what stands once its default is put in place of null.
+-- A call puts its default in place of null, and then gives the list that stands; or the data, or the text.
 abbrev pub FindsList : ElementSize → Option (Bor (List ℕ)) → Result ListPlace ErrorKind → CallAt → Tree → Type 0
 FindsList size default result c t = WithDefault (object_default default t) c t (GivesList size result) result
 

@@ -34,7 +34,8 @@ ContentTaken =
     → AreFilled M R place.segment place.pointers_at us → count us ≤ count ts
     → (vs : List ℕ) × HoldContent vs (length ws) bits bytes × IsReplaced S R s p (Struct ws ts) (Struct vs (up_to (count ts) us)) × (target R s p ≡ target S s p)
 
--- So it is where the copy behind the first ones is refused, which leaves its pointer null.
+-- A struct that takes content stores these data words, copies and nulls also where the copy behind the first ones is refused,
+-- which leaves its pointer null.
 abbrev pub ContentStopped : Type 0
 ContentStopped =
     (S M F R : Segments) (s p : ℕ) (ws : List ℕ) (ts us : Trees) (place : StructPlace) (bits : ℕ) (bytes : List ℕ) → IsStored S s p (Struct ws ts)
@@ -42,7 +43,8 @@ ContentStopped =
     → AreFilled M F place.segment place.pointers_at us → count us < count ts → IsReplaced F R place.segment (place.pointers_at + count us) Null Null
     → (vs : List ℕ) × HoldContent vs (length ws) bits bytes × IsReplaced S R s p (Struct ws ts) (Struct vs (up_to (count ts) us)) × (target R s p ≡ target S s p)
 
--- So for a struct that is an element of a list: the pointer to the list stores that with the element, which has the content.
+-- Where a struct that takes content is an element of a list, the pointer to the list stores the list with that element, which
+-- has the content.
 abbrev pub ElementContentTaken : Type 0
 ElementContentTaken =
     (S M R : Segments) (s p d q : ℕ) (es : Elements) (i : ℕ) (ws : List ℕ) (ts us : Trees) (place : StructPlace) (bits : ℕ) (bytes : List ℕ) → IsStored S s p (Structs d q es)

@@ -38,7 +38,7 @@ abbrev pub OpensList : StructSize → Result ListPlace ErrorKind → CallAt → 
 OpensList size result c Null = (result ≡ Ok (void_list c.segment)) × (c.new ≡ c.old)
 OpensList size result c t = Opens size IsListGiven c t (list_widened size.data_words size.pointers t) result
 
--- So it does with what stands once its default is put in place of null.
+-- A call puts its default in place of null, and then opens the struct that stands; or the list.
 abbrev pub FindsStruct : StructSize → Option (Bor (List ℕ)) → Result StructPlace ErrorKind → CallAt → Tree → Type 0
 FindsStruct size default result c t = WithDefault (object_default default t) c t (OpensStruct size result) result
 

@@ -22,7 +22,8 @@ pub fn element_content_taken()
     ensures { ElementContentTaken }
 {}
 
-/// So it is where the copy of a pointer is refused: the copies made before stand, and nulls behind them.
+/// Where the copy of a pointer of the element is refused, the pointer that leads to the list stores it with
+/// that element, which has the copies made before, and nulls behind them.
 pub fn element_content_stopped()
     ensures { ElementContentStopped }
 {}

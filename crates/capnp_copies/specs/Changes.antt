@@ -160,7 +160,7 @@ pub record StopsAtValue (r : Reading) (c : Change) (k : ErrorKind) : Type 0 wher
   pub off : BreaksOff c.form r c.before c.after
   pub left : Leaves c k
 
--- So of i pointers from a place on.
+-- A call copies what i pointers from a place on mean.
 pub record CopiesChildren (r : Reading) (i : ℕ) (c : Change) : Type 0 where
   pub children : Trees
   pub counts : count children ≡ i
@@ -177,7 +177,7 @@ pub record StopsAtChildren (r : Reading) (i : ℕ) (c : Change) (k : ErrorKind) 
   pub made : AreFilled c.old.words c.new.words c.segment c.at left
   pub memory : SpendsMemory c.old c.new k
 
--- So of the list of i pointers from a place on.
+-- A call copies the list of i pointers from a place on.
 pub record CopiesPointers (r : Reading) (i : ℕ) (c : Change) : Type 0 where
   pub children : Trees
   pub counts : count children ≡ i
@@ -190,7 +190,7 @@ pub record StopsAtPointers (r : Reading) (i : ℕ) (c : Change) (k : ErrorKind) 
   pub off : (c.after ≡ c.before) ⊎ BreaksOffAmong c.form r i c.before c.after
   pub left : Leaves c k
 
--- So of the struct of this size at a place.
+-- A call copies the struct of this size at a place.
 pub record CopiesStruct (r : Reading) (size : StructSize) (c : Change) : Type 0 where
   pub children : Trees
   pub counts : count children ≡ size.pointers
@@ -214,7 +214,7 @@ pub record StopsAtStruct (r : Reading) (size : StructSize) (c : Change) (k : Err
   pub off : (c.after ≡ c.before) ⊎ BreaksOffAmong c.form (behind r size.data_words) size.pointers c.before c.after
   pub left : Leaves c k
 
--- So of the list of i structs of this size from a place on.
+-- A call copies the list of i structs of this size from a place on.
 pub record CopiesStructs (r : Reading) (size : StructSize) (i : ℕ) (c : Change) : Type 0 where
   pub elements : Elements
   pub counts : element_count elements ≡ i
@@ -227,7 +227,8 @@ pub record StopsAtStructs (r : Reading) (size : StructSize) (i : ℕ) (c : Chang
   pub off : (c.after ≡ c.before) ⊎ BreaksOffAmongElements c.form r size i c.before c.after
   pub left : Leaves c k
 
--- So of its elements, cut to the sections that are kept, where the rows of so many others are still to come.
+-- A call copies i elements of a list of structs, cut to the sections that are kept, where the rows of so many others are still to
+-- come.
 pub record CopiesRows (r : Reading) (sizes : ElementSizes) (i left : ℕ) (c : Change) : Type 0 where
   pub elements : Elements
   pub counts : element_count elements ≡ i
@@ -255,7 +256,7 @@ pub record StopsAtElements (r : Reading) (sizes : ElementSizes) (i : ℕ) (c : C
   pub left : ArePartlyFilled c.old.words c.new.words c.segment c.at sizes.kept.data_words sizes.kept.pointers i
   pub memory : SpendsMemory c.old c.new k
 
--- So of one element, of which the kept sections are copied.
+-- A call copies the kept sections of one element of a list of structs.
 pub record CopiesElement (r : Reading) (sizes : ElementSizes) (c : Change) : Type 0 where
   pub children : Trees
   pub counts : count children ≡ sizes.kept.pointers

@@ -15,7 +15,7 @@ use Rattle.capnp_copies.specs.Copied.{copied, with_children}
 abbrev pub IsCopied : Segments → Segments → ℕ → ℕ → Tree → Type 0
 IsCopied M M' id at t = M' ≡ with_segment M id (copied (segment M id) at t)
 
--- So do those of children, and their pointers from position at on.
+-- The words of children stand behind the words of segment id, and their pointers from position at of it on.
 abbrev pub AreCopied : Segments → Segments → ℕ → ℕ → Trees → Type 0
 AreCopied M M' id at ts = M' ≡ with_segment M id (with_children (segment M id) at ts)
 

@@ -21,7 +21,8 @@ abbrev pub cost_until : {form : Form} {P : Reading → Meter → Meter → Type 
 cost_until (here stops) = 0
 cost_until {r = r} (below a q entered before rest) = own r.segments a + (cost_before before + cost_until rest)
 
--- So among pointers one behind the other, and among those of elements.
+-- What is read of pointers one behind the other, before the object where their reading stops, costs so much; and of the pointers
+-- of elements.
 abbrev pub cost_among : {form : Form} {P : Reading → Meter → Meter → Type 0} {r : Reading} {i : ℕ} {m m' : Meter} → StopsAmong form P r i m m' → ℕ
 cost_among x = x.are_read.cost + cost_until x.stops
 

@@ -62,7 +62,7 @@ pub data Makes : ℕ → View → View → ℕ → ℕ → Type 0 where
       Makes id mid new more_words more_pads →
       Makes id old new (words + more_words) (pads + more_pads)
 
--- So objects of at most n words in all, with at most p landing pads.
+-- From old to new objects of at most n words in all are made for pointers of segment id, with at most p landing pads.
 pub record MakesAtMost (id n p : ℕ) (old new : View) : Type 0 where
   pub words : ℕ
   pub pads : ℕ
@@ -89,7 +89,8 @@ pub record TakesUntilStop (r : Reading) (c : Change) : Type 0 where
 abbrev pub TakesAtMost : {A E : Type 0} → Result A E → Reading → Change → Type 0
 TakesAtMost result r c = MatchResult result (λ _. TakesForValue r c) (λ _. TakesUntilStop r c)
 
--- So for i pointers from a place on, with n words and p pads on top: all of them are read; or reading them is broken off.
+-- What a copy takes for i pointers from a place on, with n words and p pads on top: all of them are read; or reading them is
+-- broken off.
 pub record TakesForAll (r : Reading) (i n p : ℕ) (c : Change) : Type 0 where
   pub children : Trees
   pub counts : count children ≡ i
@@ -103,11 +104,11 @@ pub record TakesAmong (r : Reading) (i n p : ℕ) (c : Change) : Type 0 where
 abbrev pub TakesForPointers : {A E : Type 0} → Result A E → Reading → ℕ → Change → Type 0
 TakesForPointers result r i c = MatchResult result (λ _. TakesForAll r i 0 0 c) (λ _. TakesAmong r i 0 0 c)
 
--- So for the pointers that are kept of one element.
+-- What a copy takes for the pointers that are kept of one element.
 abbrev pub TakesForElement : {A E : Type 0} → Result A E → Reading → ElementSizes → Change → Type 0
 TakesForElement result r sizes c = TakesForPointers result (behind r sizes.source.data_words) sizes.kept.pointers c
 
--- So for the pointers of i structs of this size from a place on.
+-- What a copy takes for the pointers of i structs of this size from a place on, with n words and p pads on top.
 pub record TakesForElements (r : Reading) (size : StructSize) (i n p : ℕ) (c : Change) : Type 0 where
   pub elements : Elements
   pub counts : element_count elements ≡ i
@@ -134,7 +135,7 @@ pub record TakesNothing (c : Change) : Type 0 where
 abbrev pub TakesForObject : {A E : Type 0} → Result A E → Reading → ℕ → ℕ → Change → Type 0
 TakesForObject result r i n c = MatchResult result (λ _. TakesForAll r i n 1 c) (λ _. TakesNothing c ⊎ TakesAmong r i n 1 c)
 
--- So a struct of this size, and a list of i such structs.
+-- What a copy takes for a struct of this size; and for a list of i such structs.
 abbrev pub TakesForSections : {A E : Type 0} → Result A E → Reading → StructSize → Change → Type 0
 TakesForSections result r size c = TakesForObject result (behind r size.data_words) size.pointers (size.data_words + size.pointers) c
 
@@ -146,7 +147,7 @@ abbrev pub TakesForStructs : {A E : Type 0} → Result A E → Reading → Struc
 TakesForStructs result r size i c =
     MatchResult result (λ _. TakesForElements r size i (structs_words size i) 1 c) (λ _. TakesNothing c ⊎ TakesAmongElements r size i (structs_words size i) 1 c)
 
--- So a list that is read.
+-- What a copy takes for a list that is read.
 pub data TakesForListOf {A E : Type 0} (result : Result A E) (list : ListElements) (c : Change) : Type 0 where
   of_numbers : size_number list.size ≤ 5 → TakesForObject result list.first 0 (words_for (size_number list.size) list.count) c → TakesForListOf result list c
   of_pointers : list.size ≡ Pointer → TakesForObject result list.first list.count list.count c → TakesForListOf result list c

@@ -14,20 +14,21 @@ use Rattle.capnp_copies.specs.declared.widths.ElementSizes.{ElementSizes}
 abbrev pub IsTooLarge : Form → Reading → ℕ → ℕ → Type 0
 IsTooLarge form r used room = (t : Tree) (c : ℕ) → MeansThere r t c → room < used + word_count (kept form t)
 
--- So has what i pointers from a place on mean; and the list of these pointers.
+-- What i pointers from a place on mean, or the list of these pointers, has more words to be kept than fit there.
 abbrev pub AreTooLarge : Form → Reading → ℕ → ℕ → ℕ → Type 0
 AreTooLarge form r i used room = (ts : Trees) (c : ℕ) → count ts ≡ i → MeanThere r ts c → room < used + word_count_all (kept_each form ts)
 
 abbrev pub IsTooLargePointers : Form → Reading → ℕ → ℕ → ℕ → Type 0
 IsTooLargePointers form r i used room = (ts : Trees) (c : ℕ) → count ts ≡ i → MeanThere r ts c → room < used + word_count (kept form (Pointers ts))
 
--- So has the struct of this size at a place.
+-- The struct of this size at a place has more words to be kept than fit there.
 abbrev pub IsTooLargeStruct : Form → Reading → StructSize → ℕ → ℕ → Type 0
 IsTooLargeStruct form r size used room =
     (ts : Trees) (c : ℕ) → count ts ≡ size.pointers → MeanThere (behind r size.data_words) ts c
     → room < used + word_count (kept form (Struct (words_from r size.data_words) ts))
 
--- So have the children of i elements from a place on, cut to the sections of the copy; and the list of such elements.
+-- The children of i elements from a place on, cut to the sections of the copy, or the list of such elements, have more words
+-- to be kept than fit there.
 abbrev pub AreTooLargeElements : Form → Reading → ElementSizes → ℕ → ℕ → ℕ → Type 0
 AreTooLargeElements form r sizes i used room =
     (es : Elements) (c : ℕ) → element_count es ≡ i → ElementsMean r sizes.source es c

@@ -357,7 +357,7 @@ abbrev pub IsReplacedIf : Segments → Segments → PointerPlace → Tree → Op
 IsReplacedIf S R place t (Some u) = IsReplaced S R place.segment place.word t u
 IsReplacedIf S R place t None = R ≡ S
 
--- So an operation does at a pointer that means t.
+-- What an operation does at a pointer that means t.
 pub record DoesAt (S R : Segments) (place : PointerPlace) (op : Op) (t : Tree) (r : Option ErrorKind) : Type 0 where
   pub left : Option Tree
   pub leaves : Leaves op (made op (PointerTo t)) r left

@@ -190,7 +190,7 @@ pub record Fills (source : Source) (c : ContentRead source) (d q : ℕ) (u : Tre
   pub holds : HoldContent section d (64 * length c.from.words) c.bytes
   pub is_filled : u ≡ Struct section (up_to q c.children)
 
--- So as many pointers are copied as both have.
+-- A struct of d data words and q pointers gets the content of a source: as many pointers are copied as both have.
 abbrev pub FillsAll : Source → ℕ → ℕ → Tree → Type 0
 FillsAll source d q u = (c : ContentRead source) × Fills source c d q u × (count c.children ≡ min q c.from.pointers)
 

@@ -75,7 +75,7 @@ OpFits old place (CopyContent source) =
     (e : ExistingStruct) → IsStructAt old.words place e → ContentFitsBehind old e.segment source e.size.pointers
 OpFits old place op = takes_memory op ≡ true → HasRoom old place.segment (words_taken op)
 
--- So at an element of a list, which is a struct.
+-- What an operation makes at an element of a list, which is a struct, has room there.
 abbrev pub ElementFits : View → ExistingStruct → Op → Type 0
 ElementFits old e (CopyContent source) = ContentFitsBehind old e.segment source e.size.pointers
 ElementFits old e op = ⊤
@@ -143,7 +143,7 @@ IsCallRefused call (CopyContent source) k =
     × IsContentRefused call.old call.new (sections e) source k
 IsCallRefused call op k = IsRefusedFor call.old call.new (words_taken op) k
 
--- So at an element of a list.
+-- An operation at an element of a list is refused by the name k.
 abbrev pub IsElementRefused : View → View → ExistingStruct → Op → ErrorKind → Type 0
 IsElementRefused old new e (CopyContent source) k = IsContentRefused old new (sections e) source k
 IsElementRefused old new e op k = ⊥
@@ -229,7 +229,7 @@ TakesFor call (CopyContent source) r =
     × TakesForContent call.old call.new (sections e) source r
 TakesFor call op r = TakesObject (takes_memory op) call (words_taken op) r
 
--- So at an element of a list.
+-- The words that an operation at an element of a list takes.
 abbrev pub TakesForElement : View → View → ExistingStruct → Op → Option ErrorKind → Type 0
 TakesForElement old new e (CopyContent source) r = TakesForContent old new (sections e) source r
 TakesForElement old new e op r = KeepsLengths old.words new.words

@@ -8,8 +8,8 @@ pub fn copied_or_refused()
     ensures { CopiedOrRefused }
 {}
 
-/// So is the content of another message's struct: where its root leads to a struct, and the pointers that are
-/// copied mean values within both limits, no copy of it is refused for what is read.
+/// The content of another message's struct can be copied or is refused for what is read, and never both: where
+/// its root leads to a struct, and the pointers that are copied mean values within both limits, it is not.
 pub fn filled_or_refused()
     ensures { FilledOrRefused }
 {}

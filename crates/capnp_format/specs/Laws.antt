@@ -41,7 +41,7 @@ abbrev pub CanonicalWordsMean : Type 0
 CanonicalWordsMean =
     (t : Tree) (more : List ℕ) (n : ℕ) → IsValue t → IsEncodable t → depth t ≤ n → Means ((encoding t ++ more) ∷ []) n 0 0 t (charge t)
 
--- So do canonical words that stand at any place of any message, where the head is one of its segment.
+-- Canonical words that stand at any place of any message, where the head is one of its segment, mean their value there.
 abbrev pub StandingMeans : Type 0
 StandingMeans = (S : Segments) (n s p h : ℕ) (t : Tree) → depth t ≤ n → h ≤ length (segment S s) → Stands S s p h t → Means S n s p t (charge t)
 

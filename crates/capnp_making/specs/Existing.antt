@@ -135,7 +135,7 @@ data_in a (Structs d q es) = Err ExistingListPointerIsNotByteSized
 abbrev pub AreInside : Segments → ExistingBytes → Type 0
 AreInside S b = b.start + words_for 2 b.length ≤ length (segment S b.segment)
 
--- So they do, and that segment is there.
+-- The words that hold bytes lie in their segment, which is there.
 abbrev pub LieIn : Segments → ExistingBytes → Type 0
 LieIn S b = (b.segment < length S) × AreInside S b
 

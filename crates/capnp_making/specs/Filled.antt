@@ -16,13 +16,13 @@ pub record IsElementFilled (S R : Segments) (s p : ℕ) (ws : List ℕ) (ts : Tr
   pub writes : written ≡ with_words S s p ws
   pub filled : AreFilled written R s (p + length ws) ts
 
--- So do elements of d data words and q pointers, one behind the other, which get all their values.
+-- From S to R elements of d data words and q pointers, one behind the other, get all their values.
 abbrev pub AreElementsFilled : Segments → Segments → ℕ → ℕ → ℕ → ℕ → Elements → Type 0
 AreElementsFilled S R s p d q no_elements = R ≡ S
 AreElementsFilled S R s p d q (element ws ts es) =
     (M : Segments) × (length ws ≡ d) × (count ts ≡ q) × IsElementFilled S M s p ws ts × AreElementsFilled M R s (p + d + q) d q es
 
--- So do some of n elements, and then the next one its data words and some of its values.
+-- From S to R some of n elements get all their values, and then the next one its data words and some of its values.
 pub record ArePartlyFilled (S R : Segments) (s p d q n : ℕ) : Type 0 where
   pub elements : Elements
   pub fewer : element_count elements < n

@@ -75,7 +75,7 @@ pub record IsMade (S R : Segments) (s p : ℕ) (a : Target) (n : ℕ) : Type 0 w
   pub kept : (v r : ℕ) → times (one_word s p ∷ []) v r ≡ 0 → r < length (segment S v) → word_at R v r ≡ word_at S v r
   pub zero : (v r : ℕ) → times (pads_of (word_at R s p)) v r ≡ 0 → length (segment S v) ≤ r → word_at R v r ≡ 0
 
--- So to an object of n words of a shape, which starts at h.
+-- From S to R the pointer at a place is written, and leads to a new object of n words of a shape, which starts at h.
 abbrev pub IsMadeAt : Segments → Segments → ℕ → ℕ → Shape → ℕ → Start → Type 0
 IsMadeAt S R s p shape n h = (a : Target) × IsMade S R s p a n × IsShape shape a.word × (h.segment ≡ a.segment) × (h.at ≡ a.start)
 

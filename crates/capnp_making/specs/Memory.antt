@@ -85,6 +85,6 @@ SpendsMemory old new k =
 abbrev pub RefusesWords : View → View → ℕ → ErrorKind → Type 0
 RefusesWords old new n k = IsAllocationRefusal old new (length new.words) (n + 1) k × ((j : ℕ) → IsFirstFit new (n + 1) j → ⊥)
 
--- So are some words.
+-- Some number of words and a pad are refused by this name.
 abbrev pub RefusesGrowth : View → View → ErrorKind → Type 0
 RefusesGrowth old new k = (n : ℕ) × RefusesWords old new n k

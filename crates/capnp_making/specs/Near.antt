@@ -18,7 +18,7 @@ use Rattle.capnp_making.specs.declared.making.Start.{Start}
 abbrev pub HasOwnRoom : View → ℕ → ℕ → Type 0
 HasOwnRoom v id n = length (segment v.words id) + n ≤ v.room id
 
--- So for a struct that has a word, and for a list of n structs.
+-- Segment id has room for a struct that has a word; or for a list of n structs.
 abbrev pub HasStructRoom : View → ℕ → StructSize → Type 0
 HasStructRoom v id size = (0 < size.data_words + size.pointers) × HasOwnRoom v id (size.data_words + size.pointers)
 

@@ -45,12 +45,12 @@ pub record IsApart (S : Segments) (s p : ℕ) (t : Tree) : Type 0 where
   pub means : (n : ℕ) × (c : ℕ) × Means S n s p t c
   pub apart : (v r : ℕ) → times (extent S s p t) v r ≤ 1
 
--- So do pointers one behind the other.
+-- Pointers one behind the other mean values whose words are all held once.
 pub record AreApart (S : Segments) (s p : ℕ) (ts : Trees) : Type 0 where
   pub mean : (n : ℕ) × (c : ℕ) × MeansAll S n s p ts c
   pub apart : (v r : ℕ) → times (row s p (count ts) ∷ cover_all S s p ts) v r ≤ 1
 
--- So do the pointers of elements one behind the other, whose words are all held once.
+-- The pointers of elements one behind the other mean values whose words are all held once.
 pub record AreApartElements (S : Segments) (s p d q : ℕ) (es : Elements) : Type 0 where
   pub mean : (n : ℕ) × (c : ℕ) × MeansElements S n s p d q es c
   pub apart : (v r : ℕ) → times (row s p (element_count es * (d + q)) ∷ cover_elements S s p d q es) v r ≤ 1
@@ -61,12 +61,12 @@ IsStructZeroed S R s p size =
     (ts : Trees) → count ts ≡ size.pointers → p + (size.data_words + size.pointers) ≤ length (segment S s) → AreApart S s (p + size.data_words) ts
     → IsZeroed S R (row s p (size.data_words + size.pointers) ∷ cover_all S s (p + size.data_words) ts)
 
--- So do pointers one behind the other.
+-- From S to R n pointers from a place on become zero, with all below them, if they mean values.
 abbrev pub ArePointersZeroed : Segments → Segments → ℕ → ℕ → ℕ → Type 0
 ArePointersZeroed S R s p n =
     (ts : Trees) → count ts ≡ n → p + n ≤ length (segment S s) → AreApart S s p ts → IsZeroed S R (row s p n ∷ cover_all S s p ts)
 
--- So does a list of structs, from its tag on.
+-- From S to R a list of structs becomes zero from its tag on, with all below it, if its pointers mean values.
 abbrev pub IsStructListZeroed : Segments → Segments → ℕ → ℕ → Type 0
 IsStructListZeroed S R s p =
     (d q : ℕ) (es : Elements) → IsTag (word_at S s p) (element_count es) d q → p + (1 + element_count es * (d + q)) ≤ length (segment S s)

@@ -33,7 +33,7 @@ pub record Reads (form : Form) (r : Reading) (m m' : Meter) (t : Tree) : Type 0 
   pub covers : Affords r.charging m cost
   pub spent : m' ≡ after r.charging m cost (pointers_in t)
 
--- So do pointers one behind the other, from the place on.
+-- Pointers one behind the other, from the place on, mean ts, at a cost that m covers and m' is less by.
 pub record ReadsAll (form : Form) (r : Reading) (m m' : Meter) (ts : Trees) : Type 0 where
   pub cost : ℕ
   pub means : MeanThere r ts cost
@@ -41,7 +41,7 @@ pub record ReadsAll (form : Form) (r : Reading) (m m' : Meter) (ts : Trees) : Ty
   pub covers : Affords r.charging m cost
   pub spent : m' ≡ after r.charging m cost (pointers_in_all ts)
 
--- So do elements of a list of structs.
+-- Elements of a list of structs mean es, at a cost that m covers and m' is less by.
 pub record ReadsElements (form : Form) (r : Reading) (size : StructSize) (m m' : Meter) (es : Elements) : Type 0 where
   pub cost : ℕ
   pub means : ElementsMean r size es cost

@@ -113,7 +113,7 @@ pub data StopsWithin (form : Form) (P : Reading → Meter → Meter → Type 0) 
       StopsWithin form P (child_at r a (pred r.levels) q) mid m' →
       StopsWithin form P r m m'
 
--- So does that of one of i pointers from a place on.
+-- The reading of i pointers from a place on stops at one of them, when those before it were read.
 pub record StopsAmong (form : Form) (P : Reading → Meter → Meter → Type 0) (r : Reading) (i : ℕ) (m m' : Meter) : Type 0 where
   pub first : Trees
   pub fewer : count first < i
@@ -121,7 +121,7 @@ pub record StopsAmong (form : Form) (P : Reading → Meter → Meter → Type 0)
   pub are_read : ReadsAll form r m mid first
   pub stops : StopsWithin form P (behind r (count first)) mid m'
 
--- So does that of a pointer of one of i elements.
+-- The reading of i elements stops at a pointer of one of them, when the elements before it were read.
 pub record StopsAmongElements (form : Form) (P : Reading → Meter → Meter → Type 0) (r : Reading) (size : StructSize) (i : ℕ) (m m' : Meter) : Type 0 where
   pub first : Elements
   pub fewer : element_count first < i

@@ -44,14 +44,14 @@ pub record Finds (r : Reading) (from to : Progress) (t : Tree) : Type 0 where
   pub paid : Paid r.charging from.meter to.meter (charge t) (pointers_in t)
   pub head_is : to.head ≡ from.head + word_count t
 
--- So do those of pointers one behind the other, from the place on.
+-- The canonical words of ts stand at pointers one behind the other, from the place on, and at a head: as for one pointer.
 pub record FindsAll (r : Reading) (from to : Progress) (ts : Trees) : Type 0 where
   pub stand : AllStand r.segments r.segment r.at from.head ts
   pub levels : depth_all ts ≤ r.levels
   pub paid : Paid r.charging from.meter to.meter (charge_all ts) (pointers_in_all ts)
   pub head_is : to.head ≡ from.head + word_count_all ts
 
--- So do those of the pointers of elements of a size.
+-- The canonical words of es stand at the pointers of elements of a size, and at a head: as for one pointer.
 pub record FindsElements (r : Reading) (size : StructSize) (from to : Progress) (es : Elements) : Type 0 where
   pub stand : ElementsStand r.segments r.segment r.at size.data_words size.pointers from.head es
   pub levels : depth_elements es ≤ r.levels
@@ -194,7 +194,7 @@ pub data TestEnds (P : Reading → Progress → Meter → Type 0) : Reading → 
       TestEnds P child mid m' →
       TestEnds P r from m'
 
--- So does that of one of i pointers from a place on.
+-- The test of i pointers from a place on ends at one of them, those before it being canonical.
 pub record TestsEnd (P : Reading → Progress → Meter → Type 0) (r : Reading) (i : ℕ) (from : Progress) (m' : Meter) : Type 0 where
   pub first : Trees
   pub fewer : count first < i
@@ -202,7 +202,7 @@ pub record TestsEnd (P : Reading → Progress → Meter → Type 0) (r : Reading
   pub are_found : FindsAll r from mid first
   pub ends : TestEnds P (behind r (count first)) mid m'
 
--- So does that of a pointer of one of i elements.
+-- The test of i elements ends at a pointer of one of them, the elements before it being canonical.
 pub record RowTestsEnd (P : Reading → Progress → Meter → Type 0) (r : Reading) (size : StructSize) (i : ℕ) (from : Progress) (m' : Meter) : Type 0 where
   pub first : Elements
   pub fewer : element_count first < i
@@ -221,7 +221,7 @@ TestsStop r i from m' k = TestsEnd (λ s at m. Unread s at.meter m k) r i from m
 abbrev pub RowTestsStop : Reading → StructSize → ℕ → Progress → Meter → ErrorKind → Type 0
 RowTestsStop r size i from m' k = RowTestsEnd (λ s at m. Unread s at.meter m k) r size i from m'
 
--- So does that of a pointer of a struct of this size that starts at a place, the first object behind the struct.
+-- The test of the pointers of a struct of this size, the first object right behind the struct, stops by the name k.
 abbrev pub StructTestStops : Reading → StructSize → Meter → Meter → ErrorKind → Type 0
 StructTestStops r size m m' k = TestsStop (behind r size.data_words) size.pointers (progress (r.at + size.data_words + size.pointers) m) m' k
 
@@ -286,7 +286,7 @@ TestFails r from m' = TestEnds IsUnfit r from m'
 abbrev pub TestsFail : Reading → ℕ → Progress → Meter → Type 0
 TestsFail r i from m' = TestsEnd IsUnfit r i from m'
 
--- So does that of a struct of this size that starts at a place: that of one of its pointers; or smaller sections would do.
+-- The test of a struct of this size that starts at a place fails: that of its pointers does, or smaller sections would do.
 abbrev pub SectionsFail : Reading → StructSize → Meter → Meter → Type 0
 SectionsFail r size m m' =
     let pointers = behind r size.data_words in
@@ -294,13 +294,13 @@ SectionsFail r size m m' =
     TestsFail pointers size.pointers from m'
     ⊎ ((e : ℕ) × AreFound pointers size.pointers from (progress e m') × (AreUsed r size → ⊥))
 
--- So does that of n elements, the first object behind them: that of a pointer of one of them; or a smaller size would do.
+-- The test of n elements, the first object behind them, fails: that of their pointers does, or a smaller size would do.
 abbrev pub RowsFail : Reading → StructSize → ℕ → Meter → Meter → Type 0
 RowsFail r size n m m' =
     let from = progress (r.at + n * (size.data_words + size.pointers)) m in
     RowTestsEnd IsUnfit r size n from m' ⊎ ((e : ℕ) × AreFoundTooWide r size n from (progress e m'))
 
--- So does that of the list that claims so many words: its elements take others, and nothing more is charged; or theirs does.
+-- The test of a list that claims so many words fails: its elements take others, and nothing more is charged; or their test fails.
 abbrev pub ClaimedFails : Reading → StructSize → ℕ → ℕ → Meter → Meter → Type 0
 ClaimedFails r size n claimed m m' =
     ((n * (size.data_words + size.pointers) ≢ claimed) × (m' ≡ m))

@@ -34,7 +34,8 @@ StructWithin =
     (S R : Segments) (s p : ℕ) (t : Tree) (path : List Step) (u q : ℕ) (ws : List ℕ) (ts : Trees) (size : StructSize)
     → IsStored S s p t → PathLeads S s p t path u q (Struct ws ts) → WidensStruct S R u q size → (w : Tree) × IsReplaced S R s p t w × SameWords t w
 
--- So is a list of structs.
+-- A list of structs that is reached by a path from a place is made wider, from S to R: the place stores a value of the same
+-- canonical words.
 abbrev pub ListWithin : Type 0
 ListWithin =
     (S R : Segments) (s p : ℕ) (t : Tree) (path : List Step) (u q d k : ℕ) (es : Elements) (size : StructSize)

@@ -76,7 +76,7 @@ abbrev pub TakesForList : Segments → Segments → ℕ → ℕ → StructSize �
 TakesForList S R s p size =
     (t u : Tree) → IsStored S s p t → list_widened size.data_words size.pointers t ≡ Ok u → TakesAtMost S R (object_words u + 1 + 2 * pointers_in t)
 
--- So for the list l that the place stores.
+-- There is room for what the list l, which the place stores, becomes; and no more words are taken than that.
 abbrev pub ThisListFits : View → ℕ → ℕ → ExistingList → StructSize → Type 0
 ThisListFits v s p l size = (t : Tree) × (u : Tree) × IsList v.words s p t l × (list_widened size.data_words size.pointers t ≡ Ok u) × HasRoomFor v s p t u
 
