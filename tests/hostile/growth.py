@@ -46,16 +46,13 @@ def run_edits(program, lines):
     return [parted(answer) for answer in answers([*program, 'edits'], lines)]
 
 
-def lent(line):
-    """A line whose first segment is in scratch space, of as many words as it would have on the heap."""
-    words, rest = line.split(' ', 1)
-    return f'{words}/{words} {rest}'
-
-
-def same_lent(program, command, lines, found, counts):
+def lent(program, command, calls, counts):
     """Whether the same is answered where the first segment is in memory that the caller lends, whatever that memory held."""
-    for line, wanted, got in zip(lines, found, answers([*program, command], [lent(line) for line in lines])):
-        counts.told(got == wanted, 'other answers in scratch space', line, wanted, got)
+    runs = [(words, it) for it in calls for words in WORDS]
+    heap = answers([*program, command], [f'{words} none {it}' for words, it in runs])
+    scratch = answers([*program, command], [f'{words}/{words} none {it}' for words, it in runs])
+    for run, wanted, got in zip(runs, heap, scratch):
+        counts.told(got == wanted, 'other answers in scratch space', run, wanted, got)
 
 
 def is_small(text):
@@ -82,10 +79,7 @@ def is_told(choice, answer):
 def edited(program, paths, counts):
     """Lists of edits, with segments refused: each refused edit leaves what it says, and the others do as they do else."""
     runs = [(f'{words} {segments} ', edits) for edits in lists(paths) for words in WORDS for segments in SEGMENTS]
-    lines = [start + edits for start, edits in runs]
-    found = answers([*program, 'edits'], lines)
-    same_lent(program, 'edits', lines, found, counts)
-    found = [parted(answer) for answer in found]
+    found = run_edits(program, [start + edits for start, edits in runs])
     runs = [(start, edits.split(';'), *answer) for (start, edits), answer in zip(runs, found) if REFUSED in answer[0]]
     # content that is refused leaves some of it: the list up to there is looked at by itself
     parts, whole = [], []
@@ -141,17 +135,28 @@ def cut(whole, path):
         yield copy.deepcopy(whole)
 
 
-def built(program, paths, counts):
-    """Lists of builder calls, with segments refused: what stands is a message that a builder makes."""
+def builder_calls(paths):
+    """The lists of builder calls of rows, each once, but for those of very large objects or of segments as bytes."""
     calls = {}
     for path in paths:
         for line in path.open(encoding='utf-8'):
             rest = json.loads(line)['stdin'].rstrip('\n').split(' ', 2)[2:]
             if rest and is_small(rest[0]) and not re.search('allocated|pointer_at', rest[0]):
                 calls[rest[0]] = None
+    return list(calls)
+
+
+def in_scratch(program, edits, builds, counts):
+    """Lists of edits and of builder calls, with the first segment on the heap and in scratch space."""
+    lent(program, 'edits', lists(edits), counts)
+    lent(program, 'builds', builder_calls(builds), counts)
+
+
+def built(program, paths, counts):
+    """Lists of builder calls, with segments refused: what stands is a message that a builder makes."""
+    calls = builder_calls(paths)
     runs = [f'{words} {segments} {rest}' for rest in calls for words in WORDS for segments in SEGMENTS]
     found = answers([*program, 'builds'], runs)
-    same_lent(program, 'builds', runs, found, counts)
     audited(program, [(run, answer.rpartition(';')[2]) for run, answer in zip(runs, found) if REFUSED in answer], counts)
 
 

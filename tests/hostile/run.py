@@ -6,8 +6,8 @@
 LAYOUT_RUNS and LAYOUT_ROWS are the built programs of these names. Each message of the worked vectors is cut behind every
 byte and has every bit turned, and so has each frame; its runs meet a reader, a writer and an allocator that fail at each
 call in turn; and the lists of edits and of builder calls of tests/rows are done again with segments refused from every one
-on, in segments of the heap and with the first one in scratch space. What is wanted of each run is said beside it; values
-are read back by trees.py, and frames by frames.py, apart from the crates."""
+on, and with the first segment in scratch space. What is wanted of each run is said beside it; values are read back by
+trees.py, and frames by frames.py, apart from the crates."""
 import argparse
 import pathlib
 import sys
@@ -26,16 +26,17 @@ def main():
     parser.add_argument('--show', type=int, default=10)
     options = parser.parse_args()
     vectors = list(altered.worked(TESTS / 'vectors/worked.jsonl'))
-    rows = TESTS / 'rows'
+    edits, builds = (sorted((TESTS / 'rows').glob(name)) for name in ('edits*.jsonl', 'builds*.jsonl'))
     total = Counts(options.show)
     for name, part in (
         ('altered messages', lambda: altered.altered([options.runs], vectors, total)),
         ('messages framed', lambda: altered.reframed([options.runs], vectors, total)),
         ('altered frames', lambda: altered.unframed([options.runs], vectors, total)),
         ('devices and memory that fail', lambda: altered.failing([options.runs], vectors, total)),
-        ('edits with segments refused', lambda: growth.edited([options.rows], sorted(rows.glob('edits*.jsonl')), total)),
+        ('edits with segments refused', lambda: growth.edited([options.rows], edits, total)),
+        ('edits and builder calls in scratch space', lambda: growth.in_scratch([options.rows], edits, builds, total)),
         ('levels', lambda: growth.deep([options.rows], total)),
-        ('builder calls with segments refused', lambda: growth.built([options.rows], sorted(rows.glob('builds*.jsonl')), total)),
+        ('builder calls with segments refused', lambda: growth.built([options.rows], builds, total)),
     ):
         before = total.passed + total.failed
         part()

@@ -26,7 +26,10 @@ pub fn answer(alloc: Global, line: &str) -> Result<String, Fault> {
     };
     let memory = Memory::new(words, segments)?;
     match memory.scratch(alloc)? {
-        Some(mut scratch) => built_with(alloc, memory.over(alloc, scratch.as_mut_slice()), calls),
+        Some(mut scratch) => {
+            let allocator = memory.over(alloc, &mut scratch);
+            built_with(alloc, allocator, calls)
+        }
         None => built_with(alloc, memory.limited(alloc), calls),
     }
 }

@@ -23,7 +23,7 @@ pub struct Memory {
 
 impl Memory {
     /// Segments of at least `words` words, of which `segments` are granted, or any number where that is `none`.
-    /// Behind a `/` in `words` stand the words of a scratch space, if there is one.
+    /// Behind a `/` in `words` stand the words of a scratch space, if there is one; then any number is granted.
     pub fn new(words: &str, segments: &str) -> Result<Self, Fault> {
         let (words, scratch_words) = match words.split_once('/') {
             Some((words, scratch)) => (words, Some(parse::number(scratch)?)),
@@ -35,8 +35,10 @@ impl Memory {
         }
         let segments = if segments == "none" {
             u32::MAX
-        } else {
+        } else if scratch_words.is_none() {
             parse::number(segments)?
+        } else {
+            return Err(Fault::Unfit);
         };
         Ok(Memory {
             words,
@@ -59,13 +61,8 @@ impl Memory {
     }
 
     /// The allocator over a scratch space.
-    pub fn over<'a>(
-        &self,
-        alloc: Global,
-        scratch: &'a mut [u8],
-    ) -> LimitedAllocator<ScratchSpaceHeapAllocator<'a>> {
-        let inner = ScratchSpaceHeapAllocator::new(alloc, scratch, self.words);
-        LimitedAllocator::over(inner, self.segments)
+    pub fn over<'a>(&self, alloc: Global, scratch: &'a mut [u8]) -> ScratchSpaceHeapAllocator<'a> {
+        ScratchSpaceHeapAllocator::new(alloc, scratch, self.words)
     }
 }
 
