@@ -47,10 +47,11 @@ def run_edits(program, lines):
 
 
 def lent(program, command, calls, counts):
-    """Whether the same is answered where the first segment is in memory that the caller lends, whatever that memory held."""
-    runs = [(words, it) for it in calls for words in WORDS]
-    heap = answers([*program, command], [f'{words} none {it}' for words, it in runs])
-    scratch = answers([*program, command], [f'{words}/{words} none {it}' for words, it in runs])
+    """Whether the same is answered, refusals too, where the first segment is in memory that the caller lends, whatever that
+    memory held."""
+    runs = [(words, segments, it) for it in calls for words in WORDS for segments in (*SEGMENTS, 'none')]
+    heap = answers([*program, command], [f'{words} {segments} {it}' for words, segments, it in runs])
+    scratch = answers([*program, command], [f'{words}/{words} {segments} {it}' for words, segments, it in runs])
     for run, wanted, got in zip(runs, heap, scratch):
         counts.told(got == wanted, 'other answers in scratch space', run, wanted, got)
 
@@ -147,7 +148,7 @@ def builder_calls(paths):
 
 
 def in_scratch(program, edits, builds, counts):
-    """Lists of edits and of builder calls, with the first segment on the heap and in scratch space."""
+    """Lists of edits and of builder calls, with segments refused, and the first one on the heap and in scratch space."""
     lent(program, 'edits', lists(edits), counts)
     lent(program, 'builds', builder_calls(builds), counts)
 

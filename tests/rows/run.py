@@ -5,8 +5,8 @@
 
 Runs the files of rows beside this one, or those named. The part of a file's name before the first `_` or `.` is the
 program's command; each line of the file is an object with a line of standard input and the line of standard output
-that is wanted, and all lines of a file go to one run. A row that builds a message of any number of segments is run a second
-time, with the first one in scratch space of as many words as it has on the heap, and the same is wanted. The row language stands in
+that is wanted, and all lines of a file go to one run. A row that builds a message is run a second time, with the first
+segment in scratch space of as many words as it has on the heap, and the same is wanted. The row language stands in
 docs/ROWS.md. The answers were made apart from this repository."""
 import argparse
 import itertools
@@ -31,9 +31,9 @@ def answers(binary, command, rows, limit):
 
 
 def lent(row):
-    """The same row with its first segment in scratch space; None where segments are counted, very large, or not told."""
+    """The same row with its first segment in scratch space; None where segments are very large, or not told."""
     words, _, rest = row['stdin'].partition(' ')
-    if not re.fullmatch(r'\d{1,5}', words) or not rest.startswith('none '):
+    if not re.fullmatch(r'\d{1,5}', words) or not rest:
         return None
     return {**row, 'stdin': f'{words}/{max(int(words), 1)} {rest}'}
 

@@ -5,7 +5,7 @@ ghost use Rattle.capnp_arena.specs.Allocations.{max_segment_words};
 use crate::output::Output;
 use crate::parse::{self, Fault};
 use capnp_arena::arena::{
-    Allocator, BuilderArena, BuilderArenaImpl, MAX_SEGMENT_WORDS, ReaderArena,
+    Allocator, BuilderArena, BuilderArenaImpl, MAX_SEGMENT_WORDS, ReaderArena, ScratchSegment,
     ScratchSpaceHeapAllocator,
 };
 use capnp_words::error::ErrorKind;
@@ -23,7 +23,7 @@ pub struct Memory {
 
 impl Memory {
     /// Segments of at least `words` words, of which `segments` are granted, or any number where that is `none`.
-    /// Behind a `/` in `words` stand the words of a scratch space, if there is one; then any number is granted.
+    /// Behind a `/` in `words` stand the words of a scratch space, if there is one.
     pub fn new(words: &str, segments: &str) -> Result<Self, Fault> {
         let (words, scratch_words) = match words.split_once('/') {
             Some((words, scratch)) => (words, Some(parse::number(scratch)?)),
@@ -35,10 +35,8 @@ impl Memory {
         }
         let segments = if segments == "none" {
             u32::MAX
-        } else if scratch_words.is_none() {
-            parse::number(segments)?
         } else {
-            return Err(Fault::Unfit);
+            parse::number(segments)?
         };
         Ok(Memory {
             words,
@@ -61,8 +59,62 @@ impl Memory {
     }
 
     /// The allocator over a scratch space.
-    pub fn over<'a>(&self, alloc: Global, scratch: &'a mut [u8]) -> ScratchSpaceHeapAllocator<'a> {
-        ScratchSpaceHeapAllocator::new(alloc, scratch, self.words)
+    pub fn over<'a>(&self, alloc: Global, scratch: &'a mut [u8]) -> LimitedScratch<'a> {
+        LimitedScratch {
+            inner: ScratchSpaceHeapAllocator::new(alloc, scratch, self.words),
+            left: self.segments,
+            refused: 0,
+        }
+    }
+}
+
+/// Makes segments over a scratch space, but no more than so many. It isn't generic over the other allocator: a call of
+/// a function that is generic over allocators would have no generated proof then, since that one names a lifetime.
+#[derive(Drop)]
+pub struct LimitedScratch<'a> {
+    inner: ScratchSpaceHeapAllocator<'a>,
+    left: u32,
+    refused: u64,
+}
+
+impl<'a> Allocator for LimitedScratch<'a> {
+    type Segment = ScratchSegment<&'a mut [u8]>;
+
+    ghost refusals = { λ a. a.refused };
+
+    ghost offers = { λ a. ⟦<ScratchSpaceHeapAllocator<'static> as Allocator>⟧.offers a.inner };
+
+    fn allocate_segment(
+        &mut self,
+        min_words: u32,
+    ) -> Result<ScratchSegment<&'a mut [u8]>, ErrorKind> {
+        if min_words > MAX_SEGMENT_WORDS {
+            return Err(ErrorKind::MessageTooLarge(min_words as usize));
+        }
+        if self.left > 0 {
+            if let Ok(segment) = self.inner.allocate_segment(min_words) {
+                self.left -= 1;
+                return Ok(segment);
+            }
+        }
+        self.refused = self.refused.saturating_add(1);
+        Err(ErrorKind::AllocationFailed)
+    }
+
+    fn deallocate_segment(&mut self, segment: ScratchSegment<&'a mut [u8]>, used_words: u32) {
+        self.inner.deallocate_segment(segment, used_words);
+    }
+
+    fn keep<T>(&mut self, list: &mut Vec<T>, row: T) -> Option<T> {
+        let returned = self.inner.keep(list, row);
+        if returned.is_some() {
+            self.refused = self.refused.saturating_add(1);
+        }
+        returned
+    }
+
+    fn refused(&self) -> u64 {
+        self.refused
     }
 }
 
