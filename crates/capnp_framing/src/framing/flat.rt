@@ -7,7 +7,7 @@ ghost use Rattle.capnp_framing.specs.Reading.{NoFrame, max_length, words_told};
 
 use super::MAX_SEGMENTS;
 use super::frame_error::FrameError;
-use super::reading::{number_at, sum_from};
+use super::reading::{number_at, words_between};
 use capnp_arena::arena::ReaderSegments;
 
 /// How many segments there are from one whose start is kept to the next.
@@ -43,24 +43,35 @@ fn starts_of(table: &[u8], count: usize) -> ([u64; STARTS], u64)
     let mut sum = 0;
     for k in 0..(count + STEP - 1) / STEP {
         starts[k] = sum;
-        sum = sum_from(table, STEP * k, sum, count.min(STEP * k + STEP));
+        sum += words_between(table, STEP * k, count.min(STEP * k + STEP));
     }
     (starts, sum)
 }
 
-/// The segment with this number, of as many as a table tells. Before one that is no later stand so many words.
-fn segment_at<'a>(table: &[u8], words: &'a [u8], first: usize, before: u64, id: usize) -> &'a [u8]
-    requires few { id < 512 }
-    requires order { first ≤ id }
-    requires before { before ≡ words_told first table.now }
-    requires small { before ≤ max_length * first }
-    requires told { 4 * (id + 1) ≤ length table.now }
-    requires whole { 8 * words_told (id + 1) table.now ≤ length words.now }
-    ensures { result.now ≡ part_at id table.now words.now }
-{
-    let at = 8 * sum_from(table, first, before, id) as usize;
-    let size = 8 * number_at(table, 4 * id) as usize;
-    &words[at..at + size]
+impl<'a> FrameSegments<'a> {
+    /// How many words stand before a segment: from the nearest start that is kept.
+    fn words_before(&self, id: usize) -> u64
+        requires { id < self.now.count }
+        ensures { result ≡ words_told id self.now.table.now }
+    {
+        let k = id / STEP;
+        let next = STEP * k + STEP;
+        if id % STEP > STEP / 2 && next < self.count {
+            self.starts[k + 1] - words_between(self.table, id, next)
+        } else {
+            self.starts[k] + words_between(self.table, STEP * k, id)
+        }
+    }
+
+    /// The segment with this number.
+    fn segment(&self, id: usize) -> &'a [u8]
+        requires { id < self.now.count }
+        ensures { result.now ≡ part_at id self.now.table.now self.now.words.now }
+    {
+        let at = 8 * self.words_before(id) as usize;
+        let size = 8 * number_at(self.table, 4 * id) as usize;
+        &self.words[at..at + size]
+    }
 }
 
 impl ReaderSegments for FrameSegments<'_> {
@@ -69,8 +80,7 @@ impl ReaderSegments for FrameSegments<'_> {
     fn get_segment(&self, id: u32) -> Option<&[u8]> {
         let id = id as usize;
         if id < self.count {
-            let k = id / STEP;
-            Some(segment_at(self.table, self.words, STEP * k, self.starts[k], id))
+            Some(self.segment(id))
         } else {
             None
         }

@@ -1,5 +1,5 @@
 //! A message read from a stream of bytes ("Serialization Over a Stream").
-ghost use Rattle.std.specs.Prelude.{◌≡◌, ◌⊎◌, ℕ, ◌<◌, ◌≤◌, ◌+◌, ◌*◌, ◌%◌, ◌^◌, All, List, false, true, length, take, drop, map, vec_items, slice_index, Ok, Err, None, IfSome, IfOk, IfErr, OnOk, OnErr};
+ghost use Rattle.std.specs.Prelude.{◌≡◌, ◌⊎◌, ℕ, ◌<◌, ◌≤◌, ◌+◌, ◌-◌, ◌*◌, ◌%◌, ◌^◌, All, List, false, true, length, take, drop, map, vec_items, slice_index, Ok, Err, None, IfSome, IfOk, IfErr, OnOk, OnErr};
 ghost use Rattle.std.specs.Int.{from_le_bytes, w32};
 ghost use Rattle.std.specs.Io.KnownBytes.{Consumes, IsAtEnd};
 ghost use Rattle.capnp_format.specs.Bytes.{message, words_of};
@@ -94,21 +94,19 @@ pub(super) fn number_at(table: &[u8], at: usize) -> u32
     u32::from_le_bytes([table[at], table[at + 1], table[at + 2], table[at + 3]])
 }
 
-/// The sum of so many lengths, from that of those before one of them.
-pub(super) fn sum_from(table: &[u8], first: usize, before: u64, count: usize) -> u64
-    requires inside { 4 * count ≤ length table.now }
-    requires few { count ≤ 512 }
-    requires order { first ≤ count }
-    requires before { before ≡ words_told first table.now }
-    requires small { before ≤ max_length * first }
-    ensures sum { result ≡ words_told count table.now }
-    ensures small { result ≤ max_length * count }
+/// How many words the lengths from one on tell, before another one.
+pub(super) fn words_between(table: &[u8], first: usize, end: usize) -> u64
+    requires inside { 4 * end ≤ length table.now }
+    requires few { end ≤ 512 }
+    requires order { first ≤ end }
+    ensures sum { words_told first table.now + result ≡ words_told end table.now }
+    ensures small { result ≤ max_length * (end - first) }
 {
-    let mut sum = before;
-    for i in first..count {
-        sum += u64::from(number_at(table, 4 * i));
+    let mut words = 0;
+    for i in first..end {
+        words += u64::from(number_at(table, 4 * i));
     }
-    sum
+    words
 }
 
 /// The sum of so many lengths.
@@ -117,7 +115,7 @@ fn sum_of(table: &[u8], count: usize) -> u64
     requires few { count ≤ 512 }
     ensures { result ≡ words_told count table.now }
 {
-    sum_from(table, 0, 0, count)
+    words_between(table, 0, count)
 }
 
 /// Each byte is below 256. It does nothing; its contract says so.

@@ -8,9 +8,11 @@ pub loop-k-preserved : goal.loop-k-preserved
 loop-k-preserved c =
     let next : c.min.result ≡ min (32 * (c.loop-k.k + 1)) c.args.count = omega (arith, c.min.ensures) in
     let here : min (32 * c.loop-k.k) c.args.count ≡ 32 * c.loop-k.k = omega (arith, c.loop-k-test.true) in
+    let told_here = ap (λ n. words_told n c.args.table.now) here in
+    let told_next = ap (λ n. words_told n c.args.table.now) next in
     record {
-      sum = c.sum_from-sum.ensures.sum ∙ ap (λ n. words_told n c.args.table.now) next;
-      small = omega (arith, c.sum_from-sum.ensures.small, next);
+      sum = omega (arith, c.loop-k.invariant.sum, c.words_between-sum.ensures.sum, told_here, told_next);
+      small = omega (arith, c.loop-k.invariant.small, c.words_between-sum.ensures.small, next, here);
       long = length-set c.loop-k.starts c.loop-k.k c.loop-k.sum ∙ c.loop-k.invariant.long;
-      kept = kept_more c.args.table.now c.loop-k.starts c.loop-k.k c.loop-k.sum (omega (arith, c.loop-k.invariant.long, c.loop-k.auto.k-end, c.loop-k-test.true, c.requires.few)) (c.loop-k.invariant.sum ∙ ap (λ n. words_told n c.args.table.now) here) (omega (arith, c.loop-k.invariant.small, here)) c.loop-k.invariant.kept;
+      kept = kept_more c.args.table.now c.loop-k.starts c.loop-k.k c.loop-k.sum (omega (arith, c.loop-k.invariant.long, c.loop-k.auto.k-end, c.loop-k-test.true, c.requires.few)) (c.loop-k.invariant.sum ∙ told_here) (omega (arith, c.loop-k.invariant.small, here)) c.loop-k.invariant.kept;
     }

@@ -1,18 +1,13 @@
-use Rattle.std.proofs.Common.{◌∙◌, ◌+◌, ap, sym, arith, Some, List, ℕ}
+use Rattle.std.proofs.Common.{◌∙◌, ap, sym, arith, Some, List, ℕ}
 use Rattle.capnp_framing.proofs.FlatLemmas.{length-parts, parts-get}
-use Rattle.capnp_framing.proofs.ReadingLemmas.{told_fewer}
 use Rattle.capnp_framing.proofs.framing.flat.FrameSegmentsReaderSegments.get_segment.Goals as goal
-
-pub segment_at-requires-clause-whole : goal.segment_at-requires-clause-whole
-segment_at-requires-clause-whole c =
-    omega (arith, c.type_inv.self, told_fewer (c.args.id + 1) c.args.self.now.count c.args.self.now.table.now (omega arith))
 
 pub returns-then-id-self-clause-there : goal.returns-then-id-self-clause-there
 returns-then-id-self-clause-there c = grind (arith, length-parts c.args.self.now.count c.args.self.now.table.now c.args.self.now.words.now)
 
 pub returns-then-id-self-clause-bytes : goal.returns-then-id-self-clause-bytes
 returns-then-id-self-clause-bytes c =
-    parts-get c.args.self.now.count c.args.id c.args.self.now.table.now c.args.self.now.words.now (omega arith) ∙ ap (λ (xs : List ℕ). Some xs) (sym c.segment_at.ensures)
+    parts-get c.args.self.now.count c.args.id c.args.self.now.table.now c.args.self.now.words.now (omega arith) ∙ ap (λ (xs : List ℕ). Some xs) (sym c.segment.ensures)
 
 pub returns-else-id-self-clause-there : goal.returns-else-id-self-clause-there
 returns-else-id-self-clause-there c = grind (arith, length-parts c.args.self.now.count c.args.self.now.table.now c.args.self.now.words.now)

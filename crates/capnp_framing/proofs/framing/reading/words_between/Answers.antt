@@ -1,6 +1,6 @@
 use Rattle.std.proofs.Common.{arith}
 use Rattle.capnp_framing.proofs.ReadingLemmas.{told_more}
-use Rattle.capnp_framing.proofs.framing.reading.sum_from.Goals as goal
+use Rattle.capnp_framing.proofs.framing.reading.words_between.Goals as goal
 
 pub loop-i-preserved : goal.loop-i-preserved
 loop-i-preserved c = record {
