@@ -6,14 +6,15 @@
 LAYOUT_RUNS and LAYOUT_ROWS are the built programs of these names. Each message of the worked vectors is cut behind every
 byte and has every bit turned, and so has each frame; its runs meet a reader, a writer and an allocator that fail at each
 call in turn; and the lists of edits and of builder calls of tests/rows are done again with segments refused from every one
-on, and with the first segment in scratch space. What is wanted of each run is said beside it; values are read back by
-trees.py, and frames by frames.py, apart from the crates."""
+on, and with the first segment in scratch space; and the segments of a message are asked for with little memory. What is
+wanted of each run is said beside it; values are read back by trees.py, and frames by frames.py, apart from the crates."""
 import argparse
 import pathlib
 import sys
 
 import altered
 import growth
+import scarce
 from program import Counts
 
 TESTS = pathlib.Path(__file__).resolve().parents[1]
@@ -37,6 +38,7 @@ def main():
         ('edits and builder calls in scratch space', lambda: growth.in_scratch([options.rows], edits, builds, total)),
         ('levels', lambda: growth.deep([options.rows], total)),
         ('builder calls with segments refused', lambda: growth.built([options.rows], builds, total)),
+        ('segments asked for with little memory', lambda: scarce.output([options.runs], [options.rows], total)),
     ):
         before = total.passed + total.failed
         part()

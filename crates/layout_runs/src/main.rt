@@ -1,9 +1,11 @@
 //! The program `layout_runs`: makes runs of `layout_tool` whose devices fail and whose memory is refused at given
-//! places, a line of standard input by a line of standard output. docs/ROWS.md says what a line holds.
+//! places, and messages of many segments, a line of standard input by a line of standard output. docs/ROWS.md says what
+//! a line holds.
 #![tactic(auto)]
 
 mod devices;
 mod run;
+mod segments;
 
 use std::io::{self, BufWriter, Read, Write};
 use std::process::ExitCode;

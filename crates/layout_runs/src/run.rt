@@ -1,6 +1,7 @@
 //! One run, as a line of text asks for it.
 
 use crate::devices::{Dripping, Narrow};
+use crate::segments;
 use capnp_arena::arena::{Allocator, HeapAllocator};
 use capnp_layout::tool::{self, Args, Outcome};
 use std::alloc::{AllocError, Global};
@@ -8,6 +9,15 @@ use std::cell::Cell;
 use test_support::{Granted, TestAllocator};
 
 /// What a line asks for.
+#[derive(Drop)]
+enum Asked<'l> {
+    /// A run of the tool.
+    Run(Run<'l>),
+    /// A message of a list of so many pointers, while so many bytes are held.
+    Segments(u32, usize),
+}
+
+/// A run of the tool.
 #[derive(Drop)]
 struct Run<'l> {
     args: Args,
@@ -23,31 +33,54 @@ struct Run<'l> {
 
 /// The answer to a line.
 pub fn answer(alloc: Global, line: &str) -> Result<String, AllocError> {
-    match read_run(alloc, line)? {
-        Some(run) => run_once(alloc, &run),
+    match read_line(alloc, line)? {
+        Some(Asked::Run(run)) => run_once(alloc, &run),
+        Some(Asked::Segments(count, held)) => segments::answer(alloc, count, held),
         None => String::from_str(alloc, "malformed"),
     }
 }
 
-/// The run that a line asks for.
-fn read_run(alloc: Global, line: &str) -> Result<Option<Run<'_>>, AllocError> {
+/// What a line asks for, if it has the form.
+fn read_line(alloc: Global, line: &str) -> Result<Option<Asked<'_>>, AllocError> {
     let mut words = Vec::new(alloc);
     for word in line.split(' ') {
         words.push(word)?;
     }
-    let [args, reads, writes, requests, input] = words.as_slice() else {
+    match words.as_slice() {
+        ["segments", count, held] => Ok(read_segments(*count, *held)),
+        [args, reads, writes, requests, input] => {
+            let run = read_run(alloc, *args, (*reads, *writes, *requests), *input)?;
+            Ok(run.map(Asked::Run))
+        }
+        _ => Ok(None),
+    }
+}
+
+/// The two numbers of a message of many segments.
+fn read_segments<'l>(count: &str, held: &str) -> Option<Asked<'l>> {
+    match (count.parse(), held.parse()) {
+        (Ok(count), Ok(held)) => Some(Asked::Segments(count, held)),
+        _ => None,
+    }
+}
+
+/// The run of these words.
+fn read_run<'l>(
+    alloc: Global,
+    args: &str,
+    (reads, writes, requests): (&str, &str, &str),
+    input: &'l str,
+) -> Result<Option<Run<'l>>, AllocError> {
+    let Some(args) = read_args(alloc, args)? else {
         return Ok(None);
     };
-    let Some(args) = read_args(alloc, *args)? else {
-        return Ok(None);
-    };
-    Ok(match (count(*reads), count(*writes), count(*requests)) {
+    Ok(match (count(reads), count(writes), count(requests)) {
         (Some(reads), Some(writes), Some(requests)) => Some(Run {
             args,
             reads: reads as usize,
             writes: writes as usize,
             requests,
-            input: *input,
+            input,
         }),
         _ => None,
     })

@@ -1,0 +1,103 @@
+//! A message of many segments, which is built, and of which the segments are asked for, while memory is scarce.
+
+use capnp_layout::arena::{
+    BuilderArena, BuilderArenaImpl, HeapAllocator, OutputSegments, ReaderArena, ReaderSegments,
+};
+use capnp_layout::edit::{Edit, Op, Step, apply};
+use capnp_layout::error::ErrorKind;
+use capnp_layout::wire_pointer::ElementSize;
+use std::alloc::{AllocError, Global};
+
+/// The answer to a line: how many pointers of a list were set, how many requests were refused, what
+/// `get_segments_for_output` answered, and the words of the message. So many bytes are held until it has answered.
+pub fn answer(alloc: Global, count: u32, held: usize) -> Result<String, AllocError> {
+    let held = Vec::from_elem(alloc, 0u8, held)?;
+    let mut arena = BuilderArenaImpl::new(alloc, HeapAllocator::new(alloc, 1));
+    let set = build(&mut arena, count);
+    let answered = output_of(&arena);
+    drop(held);
+    let refused = arena.refused();
+    let mut text = format!(in alloc; "{set} {refused} {answered} ")?;
+    put_words(alloc, &arena, &mut text)?;
+    Ok(text)
+}
+
+/// Makes a list of so many pointers, and sets them to data of eight bytes, their number, until one is refused. Gives
+/// how many were set. Each object has a segment of its own.
+fn build(arena: &mut BuilderArenaImpl<HeapAllocator>, count: u32) -> u32 {
+    if arena.allocate_segment(1).is_err() {
+        return 0;
+    }
+    let _root = arena.allocate(0, 1);
+    if !edit(arena, &[], Op::InitList(ElementSize::Pointer, count)) {
+        return 0;
+    }
+    for i in 0..count {
+        if !set_element(arena, i, &u64::from(i).to_le_bytes()) {
+            return i;
+        }
+    }
+    count
+}
+
+/// Sets an element of the list that the root leads to. Whether it was done.
+fn set_element(arena: &mut BuilderArenaImpl<HeapAllocator>, index: u32, bytes: &[u8]) -> bool {
+    edit(arena, &[Step::Element(index)], Op::SetData(bytes))
+}
+
+/// Does an operation at the end of a path. Whether it was done.
+fn edit(arena: &mut BuilderArenaImpl<HeapAllocator>, path: &[Step], op: Op<'_>) -> bool {
+    apply(arena, &Edit { path, op }).is_ok()
+}
+
+/// What `get_segments_for_output` answers: `ok` and the segments of the message, something else, or a refusal.
+fn output_of(arena: &BuilderArenaImpl<HeapAllocator>) -> &'static str {
+    match arena.get_segments_for_output() {
+        Ok(output) => {
+            if are_all(&output, arena) {
+                "ok"
+            } else {
+                "other"
+            }
+        }
+        Err(ErrorKind::AllocationFailed) => "AllocationFailed",
+        Err(_) => "other",
+    }
+}
+
+/// Whether these are the segments of a message.
+fn are_all(output: &OutputSegments<'_>, arena: &BuilderArenaImpl<HeapAllocator>) -> bool {
+    for id in 0..u32::MAX {
+        match (output.get_segment(id), arena.get_segment(id)) {
+            (Some(one), Ok(other)) => {
+                if one != other {
+                    return false;
+                }
+            }
+            (None, Err(_)) => return true,
+            _ => return false,
+        }
+    }
+    false
+}
+
+/// Adds the words of each segment in hex digits, parted by commas.
+fn put_words(
+    alloc: Global,
+    arena: &BuilderArenaImpl<HeapAllocator>,
+    text: &mut String,
+) -> Result<(), AllocError> {
+    for id in 0..u32::MAX {
+        match arena.get_segment(id) {
+            Ok(bytes) => {
+                if id > 0 {
+                    text.push(',')?;
+                }
+                let digits = hex::encode(alloc, bytes)?;
+                text.push_str(digits.as_str())?;
+            }
+            Err(_) => break,
+        }
+    }
+    Ok(())
+}
