@@ -47,9 +47,9 @@ err_with (Ok x) e h f = tt
 err_with (Err k) e h f = f e k h
 
 -- a sum that doesn't fit
-pub beyond_so : {A : Type 0} (r : Result A ErrorKind) {F : Type 0} (Q : ErrorKind → Type 0) → IsOk r ↔ F → IfErr r (λ k. k ≡ MessageTooLarge (2 ^ 64 - 1)) → ((F → ⊥) → Q (MessageTooLarge (2 ^ 64 - 1))) → IfErr r Q
-beyond_so (Ok x) Q exactly named f = tt
-beyond_so (Err k) Q exactly named f = subst Q (sym named) (f (λ h. false≢true (exactly.1 h)))
+pub beyond_with : {A E : Type 0} (r : Result A E) (k : ErrorKind) {F : Type 0} (Q : ErrorKind → Type 0) → IsOk r ↔ F → OnErr r (k ≡ MessageTooLarge (2 ^ 64 - 1)) → ((F → ⊥) → Q (MessageTooLarge (2 ^ 64 - 1))) → OnErr r (Q k)
+beyond_with (Ok x) k Q exactly named f = tt
+beyond_with (Err e) k Q exactly named f = subst Q (sym named) (f (λ h. false≢true (exactly.1 h)))
 
 -- Where the walk is refused, there is none whose sums fit: from a place, and over pointers.
 pub no_size : {r : Reading} {m m' : Meter} {k : ErrorKind} → SizeRefused r m m' k → HasSize r m → ⊥

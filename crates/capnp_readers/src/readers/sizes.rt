@@ -1,5 +1,5 @@
 //! How many words and capabilities a value has, without reading its data.
-ghost use Rattle.std.specs.Prelude.{◌≡◌, ◌≢◌, ◌<◌, ◌≤◌, ◌+◌, ◌*◌, ◌-◌, ◌^◌, ◌↔◌, length, IsTrue, MatchOption, IsOk, IfOk, OnOk, IfErr};
+ghost use Rattle.std.specs.Prelude.{◌≡◌, ◌≢◌, ◌<◌, ◌≤◌, ◌+◌, ◌*◌, ◌-◌, ◌^◌, ◌↔◌, length, IsTrue, MatchOption, IsOk, IfOk, OnOk, IfErr, OnErr};
 ghost use Rattle.capnp_format.specs.Word.{kind, element_size, list_count};
 ghost use Rattle.capnp_format.specs.Numbers.{words_for};
 ghost use Rattle.capnp_words.specs.Sizes.{size_number};
@@ -50,13 +50,13 @@ impl<'a, A: ReaderArena> PointerReader<'a, A> {
         ensures refused { IfErr result
             (SizeRefused (reading A.ReaderArena self.now) lim.old lim.new) }
     {
-        let mut total = MessageSize {
+        let mut walk = Walk::begin(MessageSize {
             word_count: 0,
             cap_count: 0,
-        };
-        match add_object(self, self.place.at, self.nesting_limit, &mut total, lim) {
-            Ok(()) => Ok(total),
-            Err(k) => Err(k),
+        });
+        match add_object(self, self.place.at, self.nesting_limit, &mut walk, lim) {
+            Ok(()) => Ok(walk.size),
+            Err(Stopped) => Err(walk.refusal),
         }
     }
 }
@@ -83,49 +83,79 @@ impl<'a, A: ReaderArena> StructReader<'a, A> {
             place: self.pointers,
             nesting_limit: self.nesting_limit,
         };
-        let mut total = MessageSize {
+        let mut walk = Walk::begin(MessageSize {
             word_count: (u64::from(self.bits) + 63) / 64 + u64::from(self.pointer_count),
             cap_count: 0,
-        };
+        });
         let at = self.pointers.at;
         let count = u32::from(self.pointer_count);
-        match add_pointers(&first, at, count, self.nesting_limit, &mut total, lim) {
-            Ok(()) => Ok(total),
-            Err(k) => Err(k),
+        match add_pointers(&first, at, count, self.nesting_limit, &mut walk, lim) {
+            Ok(()) => Ok(walk.size),
+            Err(Stopped) => Err(walk.refusal),
         }
     }
 }
 
-impl MessageSize {
-    // Adds words.
-    fn add_words(&mut self, words: u64) -> Result<(), ErrorKind>
-        ensures exactly { IsOk result ↔ (self.old.word_count + words < 2 ^ 64) }
-        ensures sum { OnOk result ((self.new.word_count ≡ self.old.word_count + words)
-            × (self.new.cap_count ≡ self.old.cap_count)) }
-        ensures named { IfErr result (λ k. k ≡ MessageTooLarge (2 ^ 64 - 1)) }
+// A walk over objects: the sums so far, and once it has stopped the name of the refusal. A `Result`
+// of such a name goes through memory at each level, while one of `Stopped` goes in a register.
+#[derive(Drop)]
+struct Walk {
+    // The sums so far.
+    size: MessageSize,
+    // Why the walk stopped, which says nothing before.
+    refusal: ErrorKind,
+}
+
+// The walk stopped, for its `refusal`.
+#[derive(Clone, Copy)]
+struct Stopped;
+
+impl Walk {
+    // A walk that begins with these sums.
+    fn begin(size: MessageSize) -> Self
+        ensures { result.size ≡ size }
     {
-        match self.word_count.checked_add(words) {
+        Walk {
+            size,
+            refusal: ErrorKind::ReadLimitExceeded,
+        }
+    }
+
+    // Adds words.
+    fn add_words(&mut self, words: u64) -> Result<(), Stopped>
+        ensures exactly { IsOk result ↔ (self.old.size.word_count + words < 2 ^ 64) }
+        ensures sum { OnOk result ((self.new.size.word_count ≡ self.old.size.word_count + words)
+            × (self.new.size.cap_count ≡ self.old.size.cap_count)) }
+        ensures named { OnErr result (self.new.refusal ≡ MessageTooLarge (2 ^ 64 - 1)) }
+    {
+        match self.size.word_count.checked_add(words) {
             Some(word_count) => {
-                self.word_count = word_count;
+                self.size.word_count = word_count;
                 Ok(())
             }
-            None => Err(ErrorKind::MessageTooLarge(usize::MAX)),
+            None => {
+                self.refusal = ErrorKind::MessageTooLarge(usize::MAX);
+                Err(Stopped)
+            }
         }
     }
 
     // Adds a capability.
-    fn add_capability(&mut self) -> Result<(), ErrorKind>
-        ensures exactly { IsOk result ↔ (self.old.cap_count + 1 < 2 ^ 32) }
-        ensures sum { OnOk result ((self.new.word_count ≡ self.old.word_count)
-            × (self.new.cap_count ≡ self.old.cap_count + 1)) }
-        ensures named { IfErr result (λ k. k ≡ MessageTooLarge (2 ^ 64 - 1)) }
+    fn add_capability(&mut self) -> Result<(), Stopped>
+        ensures exactly { IsOk result ↔ (self.old.size.cap_count + 1 < 2 ^ 32) }
+        ensures sum { OnOk result ((self.new.size.word_count ≡ self.old.size.word_count)
+            × (self.new.size.cap_count ≡ self.old.size.cap_count + 1)) }
+        ensures named { OnErr result (self.new.refusal ≡ MessageTooLarge (2 ^ 64 - 1)) }
     {
-        match self.cap_count.checked_add(1) {
+        match self.size.cap_count.checked_add(1) {
             Some(cap_count) => {
-                self.cap_count = cap_count;
+                self.size.cap_count = cap_count;
                 Ok(())
             }
-            None => Err(ErrorKind::MessageTooLarge(usize::MAX)),
+            None => {
+                self.refusal = ErrorKind::MessageTooLarge(usize::MAX);
+                Err(Stopped)
+            }
         }
     }
 }
@@ -147,27 +177,52 @@ struct Rows<'a> {
 // Adds the sizes of so many pointers, one behind the other from a position on. A struct in the same
 // segment is entered by its position alone, and the reader of the segment serves it too.
 #[cycle(sizes)]
+#[inline(never)]
 fn add_pointers<A: ReaderArena>(
     from: &PointerReader<'_, A>,
     at: u32,
     count: u32,
     nesting_limit: i32,
-    total: &mut MessageSize,
+    walk: &mut Walk,
     lim: &mut ReadLimiter,
-) -> Result<(), ErrorKind>
+) -> Result<(), Stopped>
     requires inside { at + count ≤ length (row (reading A.ReaderArena from.now)) }
-    requires fits { FitSize total.old.word_count total.old.cap_count }
+    requires fits { FitSize walk.old.size.word_count walk.old.size.cap_count }
     ensures sized { OnOk result (WalksPointers (reading_on A.ReaderArena from.now at nesting_limit)
-        count (so_far total.old lim.old) (so_far total.new lim.new)) }
-    ensures fits { OnOk result (FitSize total.new.word_count total.new.cap_count) }
-    ensures refused { IfErr result
+        count (so_far walk.old.size lim.old) (so_far walk.new.size lim.new)) }
+    ensures fits { OnOk result (FitSize walk.new.size.word_count walk.new.size.cap_count) }
+    ensures refused { OnErr result
         (SizesStop (reading_on A.ReaderArena from.now at nesting_limit) count
-        (so_far total.old lim.old) lim.new) }
+        (so_far walk.old.size lim.old) lim.new walk.new.refusal) }
+{
+    add_row(from, at, count, nesting_limit, walk, lim)
+}
+
+// Does what `add_pointers` does, in line: so the loop over the elements of a list calls nothing for
+// pointers to bits or bytes.
+#[cycle(sizes)]
+#[inline(always)]
+fn add_row<A: ReaderArena>(
+    from: &PointerReader<'_, A>,
+    at: u32,
+    count: u32,
+    nesting_limit: i32,
+    walk: &mut Walk,
+    lim: &mut ReadLimiter,
+) -> Result<(), Stopped>
+    requires inside { at + count ≤ length (row (reading A.ReaderArena from.now)) }
+    requires fits { FitSize walk.old.size.word_count walk.old.size.cap_count }
+    ensures sized { OnOk result (WalksPointers (reading_on A.ReaderArena from.now at nesting_limit)
+        count (so_far walk.old.size lim.old) (so_far walk.new.size lim.new)) }
+    ensures fits { OnOk result (FitSize walk.new.size.word_count walk.new.size.cap_count) }
+    ensures refused { OnErr result
+        (SizesStop (reading_on A.ReaderArena from.now at nesting_limit) count
+        (so_far walk.old.size lim.old) lim.new walk.new.refusal) }
 {
     for i in 0..count {
-        match add_pointer(from, at + i, nesting_limit, total, lim) {
+        match add_pointer(from, at + i, nesting_limit, walk, lim) {
             Ok(()) => {}
-            Err(k) => return Err(k),
+            Err(Stopped) => return Err(Stopped),
         }
     }
     Ok(())
@@ -180,27 +235,27 @@ fn add_pointer<A: ReaderArena>(
     from: &PointerReader<'_, A>,
     at: u32,
     nesting_limit: i32,
-    total: &mut MessageSize,
+    walk: &mut Walk,
     lim: &mut ReadLimiter,
-) -> Result<(), ErrorKind>
-    requires fits { FitSize total.old.word_count total.old.cap_count }
+) -> Result<(), Stopped>
+    requires fits { FitSize walk.old.size.word_count walk.old.size.cap_count }
     ensures sized { OnOk result (WalksPlace (reading_on A.ReaderArena from.now at nesting_limit)
-        (so_far total.old lim.old) (so_far total.new lim.new)) }
-    ensures fits { OnOk result (FitSize total.new.word_count total.new.cap_count) }
-    ensures refused { IfErr result
-        (λ k. SizeStops k (reading_on A.ReaderArena from.now at nesting_limit)
-        (so_far total.old lim.old) lim.new) }
+        (so_far walk.old.size lim.old) (so_far walk.new.size lim.new)) }
+    ensures fits { OnOk result (FitSize walk.new.size.word_count walk.new.size.cap_count) }
+    ensures refused { OnErr result
+        (SizeStops walk.new.refusal (reading_on A.ReaderArena from.now at nesting_limit)
+        (so_far walk.old.size lim.old) lim.new) }
 {
     let word = Place { at, ..from.place }.word();
     if word.is_null() {
         return Ok(());
     }
     match word.kind() {
-        WirePointerKind::Struct => add_struct(from, at, word, nesting_limit, total, lim),
+        WirePointerKind::Struct => add_struct(from, at, word, nesting_limit, walk, lim),
         WirePointerKind::List if is_of_bits(word) => {
-            add_flat(from, at, word, nesting_limit, total, lim)
+            add_flat(from, at, word, nesting_limit, walk, lim)
         }
-        _ => add_object(from, at, nesting_limit, total, lim),
+        _ => add_object(from, at, nesting_limit, walk, lim),
     }
 }
 
@@ -212,20 +267,20 @@ fn add_struct<A: ReaderArena>(
     at: u32,
     word: WirePointer,
     nesting_limit: i32,
-    total: &mut MessageSize,
+    walk: &mut Walk,
     lim: &mut ReadLimiter,
-) -> Result<(), ErrorKind>
+) -> Result<(), Stopped>
     requires there { word.0 ≡ word_of (reading_on A.ReaderArena from.now at nesting_limit) }
     requires small { word.0 < 2 ^ 64 }
     requires some { word.0 ≢ 0 }
     requires is_struct { kind word.0 ≡ 0 }
-    requires fits { FitSize total.old.word_count total.old.cap_count }
+    requires fits { FitSize walk.old.size.word_count walk.old.size.cap_count }
     ensures sized { OnOk result (WalksPlace (reading_on A.ReaderArena from.now at nesting_limit)
-        (so_far total.old lim.old) (so_far total.new lim.new)) }
-    ensures fits { OnOk result (FitSize total.new.word_count total.new.cap_count) }
-    ensures refused { IfErr result
-        (λ k. SizeStops k (reading_on A.ReaderArena from.now at nesting_limit)
-        (so_far total.old lim.old) lim.new) }
+        (so_far walk.old.size lim.old) (so_far walk.new.size lim.new)) }
+    ensures fits { OnOk result (FitSize walk.new.size.word_count walk.new.size.cap_count) }
+    ensures refused { OnErr result
+        (SizeStops walk.new.refusal (reading_on A.ReaderArena from.now at nesting_limit)
+        (so_far walk.old.size lim.old) lim.new) }
 {
     let place = Place { at, ..from.place };
     let words = word.struct_word_size();
@@ -234,16 +289,22 @@ fn add_struct<A: ReaderArena>(
         .measure_near(place, word, words, nesting_limit, lim)
     {
         Ok(start) => start,
-        Err(k) => return Err(k),
+        Err(k) => {
+            walk.refusal = k;
+            return Err(Stopped);
+        }
     };
-    match total.add_words(u64::from(words)) {
+    match walk.add_words(u64::from(words)) {
         Ok(()) => {}
-        Err(k) => return Err(k),
+        Err(Stopped) => return Err(Stopped),
     }
     let size = word.struct_size();
     let first = start + u32::from(size.data_words);
     let count = u32::from(size.pointers);
-    add_pointers(from, first, count, nesting_limit - 1, total, lim)
+    if count == 0 {
+        return Ok(());
+    }
+    add_pointers(from, first, count, nesting_limit - 1, walk, lim)
 }
 
 // Adds the size of the list of bits or bytes that the word at a position describes.
@@ -253,21 +314,21 @@ fn add_flat<A: ReaderArena>(
     at: u32,
     word: WirePointer,
     nesting_limit: i32,
-    total: &mut MessageSize,
+    walk: &mut Walk,
     lim: &mut ReadLimiter,
-) -> Result<(), ErrorKind>
+) -> Result<(), Stopped>
     requires there { word.0 ≡ word_of (reading_on A.ReaderArena from.now at nesting_limit) }
     requires small { word.0 < 2 ^ 64 }
     requires some { word.0 ≢ 0 }
     requires is_list { kind word.0 ≡ 1 }
     requires of_bits { (0 < element_size word.0) × (element_size word.0 ≤ 5) }
-    requires fits { FitSize total.old.word_count total.old.cap_count }
+    requires fits { FitSize walk.old.size.word_count walk.old.size.cap_count }
     ensures sized { OnOk result (WalksPlace (reading_on A.ReaderArena from.now at nesting_limit)
-        (so_far total.old lim.old) (so_far total.new lim.new)) }
-    ensures fits { OnOk result (FitSize total.new.word_count total.new.cap_count) }
-    ensures refused { IfErr result
-        (λ k. SizeStops k (reading_on A.ReaderArena from.now at nesting_limit)
-        (so_far total.old lim.old) lim.new) }
+        (so_far walk.old.size lim.old) (so_far walk.new.size lim.new)) }
+    ensures fits { OnOk result (FitSize walk.new.size.word_count walk.new.size.cap_count) }
+    ensures refused { OnErr result
+        (SizeStops walk.new.refusal (reading_on A.ReaderArena from.now at nesting_limit)
+        (so_far walk.old.size lim.old) lim.new) }
 {
     let place = Place { at, ..from.place };
     let words = flat_words(word.list_element_size(), word.list_element_count());
@@ -275,8 +336,11 @@ fn add_flat<A: ReaderArena>(
         .source
         .measure_near(place, word, words, nesting_limit, lim)
     {
-        Ok(_) => total.add_words(u64::from(words)),
-        Err(k) => Err(k),
+        Ok(_) => walk.add_words(u64::from(words)),
+        Err(k) => {
+            walk.refusal = k;
+            Err(Stopped)
+        }
     }
 }
 
@@ -288,28 +352,31 @@ fn add_object<A: ReaderArena>(
     from: &PointerReader<'_, A>,
     at: u32,
     nesting_limit: i32,
-    total: &mut MessageSize,
+    walk: &mut Walk,
     lim: &mut ReadLimiter,
-) -> Result<(), ErrorKind>
-    requires fits { FitSize total.old.word_count total.old.cap_count }
+) -> Result<(), Stopped>
+    requires fits { FitSize walk.old.size.word_count walk.old.size.cap_count }
     ensures sized { OnOk result (WalksPlace (reading_on A.ReaderArena from.now at nesting_limit)
-        (so_far total.old lim.old) (so_far total.new lim.new)) }
-    ensures fits { OnOk result (FitSize total.new.word_count total.new.cap_count) }
-    ensures refused { IfErr result
-        (λ k. SizeStops k (reading_on A.ReaderArena from.now at nesting_limit)
-        (so_far total.old lim.old) lim.new) }
+        (so_far walk.old.size lim.old) (so_far walk.new.size lim.new)) }
+    ensures fits { OnOk result (FitSize walk.new.size.word_count walk.new.size.cap_count) }
+    ensures refused { OnErr result
+        (SizeStops walk.new.refusal (reading_on A.ReaderArena from.now at nesting_limit)
+        (so_far walk.old.size lim.old) lim.new) }
 {
     let place = Place { at, ..from.place };
     let object = match from.source.measure_object(place, nesting_limit, lim) {
         Ok(object) => object,
-        Err(k) => return Err(k),
+        Err(k) => {
+            walk.refusal = k;
+            return Err(Stopped);
+        }
     };
-    match total.add_words(words_of_object(object)) {
+    match walk.add_words(words_of_object(object)) {
         Ok(()) => {}
-        Err(k) => return Err(k),
+        Err(Stopped) => return Err(Stopped),
     }
     if let Object::Capability(_) = object {
-        return total.add_capability();
+        return walk.add_capability();
     }
     let Some(rows) = rows_of_object(object) else {
         return Ok(());
@@ -324,7 +391,7 @@ fn add_object<A: ReaderArena>(
         rows.data_words,
         rows.pointers,
         rows.count,
-        total,
+        walk,
         lim,
     )
 }
@@ -337,18 +404,18 @@ fn add_rows<A: ReaderArena>(
     data_words: u32,
     pointers: u32,
     count: u32,
-    total: &mut MessageSize,
+    walk: &mut Walk,
     lim: &mut ReadLimiter,
-) -> Result<(), ErrorKind>
+) -> Result<(), Stopped>
     requires inside { from.now.place.at + count * (data_words + pointers)
         ≤ length (row (reading A.ReaderArena from.now)) }
-    requires fits { FitSize total.old.word_count total.old.cap_count }
+    requires fits { FitSize walk.old.size.word_count walk.old.size.cap_count }
     ensures sized { OnOk result (WalksRows (reading A.ReaderArena from.now)
-        (sized data_words pointers) count (so_far total.old lim.old) (so_far total.new lim.new)) }
-    ensures fits { OnOk result (FitSize total.new.word_count total.new.cap_count) }
-    ensures refused { IfErr result
+        (sized data_words pointers) count (so_far walk.old.size lim.old) (so_far walk.new.size lim.new)) }
+    ensures fits { OnOk result (FitSize walk.new.size.word_count walk.new.size.cap_count) }
+    ensures refused { OnErr result
         (RowsStop (reading A.ReaderArena from.now) (sized data_words pointers) count
-        (so_far total.old lim.old) lim.new) }
+        (so_far walk.old.size lim.old) lim.new walk.new.refusal) }
 {
     if pointers == 0 {
         return Ok(());
@@ -356,9 +423,9 @@ fn add_rows<A: ReaderArena>(
     let width = u64::from(data_words) + u64::from(pointers);
     for i in 0..count {
         let at = u64::from(from.place.at) + u64::from(i) * width + u64::from(data_words);
-        match add_pointers(from, at as u32, pointers, from.nesting_limit, total, lim) {
+        match add_row(from, at as u32, pointers, from.nesting_limit, walk, lim) {
             Ok(()) => {}
-            Err(k) => return Err(k),
+            Err(Stopped) => return Err(Stopped),
         }
     }
     Ok(())

@@ -8,4 +8,4 @@ use Rattle.capnp_readers.proofs.readers.PointerReader.total_size.Goals as goal
 pub returns-in-Err-clause-exactly : goal.returns-in-Err-clause-exactly
 returns-in-Err-clause-exactly g c =
     let nl = to_z-of_z w32 c.args.self.now.nesting_limit (search rules) in
-    ((λ e. absurd (false≢true e)), λ has. absurd (no_size (rw nl at c.in-Err.ensures.refused) has))
+    ((λ e. absurd (false≢true e)), λ has. absurd (no_size (rw (c.begin-walk.ensures, nl) at c.in-Err.ensures.refused) has))

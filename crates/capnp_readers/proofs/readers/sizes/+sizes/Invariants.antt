@@ -7,7 +7,10 @@ use Rattle.capnp_readers.specs.Sizes.{reading_on, so_far}
 use Rattle.capnp_readers.proofs.readers.sizes.+sizes.Given as goal
 
 abbrev pub decreases-add_pointers : goal.decreases-add_pointers
-decreases-add_pointers g l = 6 * levels l.nesting_limit + 3
+decreases-add_pointers g l = 6 * levels l.nesting_limit + 4
+
+abbrev pub decreases-add_row : goal.decreases-add_row
+decreases-add_row g l = 6 * levels l.nesting_limit + 3
 
 abbrev pub decreases-add_pointer : goal.decreases-add_pointer
 decreases-add_pointer g l = 6 * levels l.nesting_limit + 2
@@ -21,12 +24,12 @@ decreases-add_object g l = 6 * levels l.nesting_limit + 1
 abbrev pub decreases-add_rows : goal.decreases-add_rows
 decreases-add_rows g l = 6 * levels l.from.now.nesting_limit + 4
 
-abbrev pub invariant-add_pointers-loop-i : goal.invariant-add_pointers-loop-i
-invariant-add_pointers-loop-i g l =
-    WalksPointers (reading_on g.A.ReaderArena l.from l.at l.nesting_limit) l.i (so_far l.fn.total l.fn.lim) (so_far l.total l.lim)
-    × FitSize l.total.word_count l.total.cap_count
+abbrev pub invariant-add_row-loop-i : goal.invariant-add_row-loop-i
+invariant-add_row-loop-i g l =
+    WalksPointers (reading_on g.A.ReaderArena l.from l.at l.nesting_limit) l.i (so_far l.fn.walk.size l.fn.lim) (so_far l.walk.size l.lim)
+    × FitSize l.walk.size.word_count l.walk.size.cap_count
 
 abbrev pub invariant-add_rows-loop-i : goal.invariant-add_rows-loop-i
 invariant-add_rows-loop-i g l =
-    WalksRows (reading g.A.ReaderArena l.from) (sized l.data_words l.pointers) l.i (so_far l.fn.total l.fn.lim) (so_far l.total l.lim)
-    × FitSize l.total.word_count l.total.cap_count
+    WalksRows (reading g.A.ReaderArena l.from) (sized l.data_words l.pointers) l.i (so_far l.fn.walk.size l.fn.lim) (so_far l.walk.size l.lim)
+    × FitSize l.walk.size.word_count l.walk.size.cap_count

@@ -9,14 +9,14 @@ use Rattle.capnp_objects.specs.Sizing.{WalksPlace, SizeStops, here, unmeasured}
 use Rattle.capnp_objects.proofs.Walked.{counted_flat, flat_at}
 use Rattle.capnp_objects.proofs.WalkStops.{beyond_at}
 use Rattle.capnp_readers.specs.Sizes.{reading_on, so_far}
-use Rattle.capnp_readers.proofs.Walking.{ok_so, beyond_so}
+use Rattle.capnp_readers.proofs.Walking.{ok_so, beyond_with}
 use Rattle.capnp_readers.proofs.readers.sizes.add_flat.Goals as goal
 
 pub returns-in-Err-clause-refused : goal.returns-in-Err-clause-refused
 returns-in-Err-clause-refused g c =
     let r : Reading = reading_on g.A.ReaderArena c.args.from.now c.args.at c.args.nesting_limit in
     let nl = to_z-of_z w32 c.args.nesting_limit c.ranges.nesting_limit in
-    here {r = r} {from = so_far c.args.total.now c.args.lim.now} c.requires.fits (unmeasured (rw nl at c.in-Err.ensures.refused))
+    here {r = r} {from = so_far c.args.walk.now.size c.args.lim.now} c.requires.fits (unmeasured (rw nl at c.in-Err.ensures.refused))
 
 pub returns-in-Ok-clause-sized : goal.returns-in-Ok-clause-sized
 returns-in-Ok-clause-sized g c =
@@ -26,18 +26,18 @@ returns-in-Ok-clause-sized g c =
     let words : c.from.result ≡ words_for (element_size w) (list_count w) = c.from.ensures ∙ c.flat_words-words.ensures ∙ ap₂ words_for c.list_element_size.ensures c.list_element_count.ensures.value ∙ ap (λ x. words_for (element_size x) (list_count x)) c.requires.there in
     let is_list : kind w ≡ 1 = rw c.requires.there at c.requires.is_list in
     let small : element_size w ≤ 5 = rw c.requires.there at c.requires.of_bits.1 in
-    ok_so c.add_words.result {Q = λ _. WalksPlace r (so_far c.args.total.now c.args.lim.now) (so_far c.add_words.new.self c.measure_near.new.lim)} c.add_words.ensures.sum
-    (λ _ h. rw (h.0, h.1, words) (flat_at {r = r} {from = so_far c.args.total.now c.args.lim.now} measured is_list small))
+    ok_so c.add_words.result {Q = λ _. WalksPlace r (so_far c.args.walk.now.size c.args.lim.now) (so_far c.add_words.new.self.size c.measure_near.new.lim)} c.add_words.ensures.sum
+    (λ _ h. rw (h.0, h.1, words) (flat_at {r = r} {from = so_far c.args.walk.now.size c.args.lim.now} measured is_list small))
 
 pub returns-in-Ok-clause-refused : goal.returns-in-Ok-clause-refused
 returns-in-Ok-clause-refused g c =
     let r : Reading = reading_on g.A.ReaderArena c.args.from.now c.args.at c.args.nesting_limit in
     let w : ℕ = word_of r in
-    let from = so_far c.args.total.now c.args.lim.now in
+    let from = so_far c.args.walk.now.size c.args.lim.now in
     let a = near_at r c.in-Ok.field-0 in
     let measured : Measured r c.args.lim.now c.measure_near.new.lim a = rw (to_z-of_z w32 c.args.nesting_limit c.ranges.nesting_limit) at c.in-Ok.ensures.object in
     let words : c.from.result ≡ words_for (element_size w) (list_count w) = c.from.ensures ∙ c.flat_words-words.ensures ∙ ap₂ words_for c.list_element_size.ensures c.list_element_count.ensures.value ∙ ap (λ x. words_for (element_size x) (list_count x)) c.requires.there in
     let is_list : kind w ≡ 1 = rw c.requires.there at c.requires.is_list in
     let small : element_size w ≤ 5 = rw c.requires.there at c.requires.of_bits.1 in
-    beyond_so c.add_words.result (λ k. SizeStops k r from c.measure_near.new.lim) (rw words at c.add_words.ensures.exactly) c.add_words.ensures.named
+    beyond_with c.add_words.result c.add_words.new.self.refusal (λ k. SizeStops k r from c.measure_near.new.lim) (rw words at c.add_words.ensures.exactly) c.add_words.ensures.named
     (λ over. beyond_at {r = r} {from = from} {a = a} (words_for (element_size w) (list_count w)) c.requires.fits measured (sym (counted_flat r.segments a is_list small)) over)

@@ -10,4 +10,4 @@ pub returns-in-Err-clause-exactly : goal.returns-in-Err-clause-exactly
 returns-in-Err-clause-exactly g c =
     let own : (c.from.result + 63) / 64 + c.from-2.result ≡ own_words g.A.ReaderArena c.args.self.now = ap₂ (λ x y. (x + 63) / 64 + y) c.from.ensures c.from-2.ensures in
     let nl = to_z-of_z w32 c.args.self.now.nesting_limit (search rules) in
-    ((λ e. absurd (false≢true e)), λ has. absurd (no_sizes (rw (own, c.from-count.ensures, nl) at c.in-Err.ensures.refused) has))
+    ((λ e. absurd (false≢true e)), λ has. absurd (no_sizes (rw (c.begin-walk.ensures, own, c.from-count.ensures, nl) at c.in-Err.ensures.refused) has))
