@@ -43,6 +43,10 @@ IsObject r m m' (ObjectStructs start size count) =
 abbrev pub EntersStruct : Reading → Meter → Meter → Place → Type 0
 EntersStruct r m m' start = (a : Target) × Entered r m m' a × (kind a.word ≡ 0) × StartsAt r.segments a 0 start
 
+-- The place leads to a list of elements without pointers that starts there: its words are checked and charged, from m to m'.
+abbrev pub EntersFlat : Reading → Meter → Meter → Place → Type 0
+EntersFlat r m m' start = (a : Target) × Entered r m m' a × (kind a.word ≡ 1) × (element_size a.word ≤ 5) × StartsAt r.segments a 0 start
+
 -- A list has so few elements that their number fits its bits of a pointer word, and so do the words of structs.
 abbrev pub IsFew : Object → Type 0
 IsFew (ObjectFlat start size count) = count < 2 ^ 29

@@ -12,7 +12,7 @@ ghost use Rattle.capnp_words.specs.Sizes.{size_number};
 ghost use Rattle.capnp_objects.specs.Demands.{claim};
 ghost use Rattle.capnp_objects.specs.Reading.{reading_at, word_of};
 ghost use Rattle.capnp_objects.specs.Wanted.{plain};
-ghost use Rattle.capnp_objects.specs.Objects.{IsObject, EntersStruct, IsHeld, IsFew};
+ghost use Rattle.capnp_objects.specs.Objects.{IsObject, EntersStruct, EntersFlat, IsHeld, IsFew};
 ghost use Rattle.capnp_objects.specs.Refusals.{Stopped, CanBeRead};
 ghost use Rattle.capnp_objects.specs.Landings.{target, IsPad, FollowsPointer, FailsPointer, FollowsFar, FailsFar, IsClaimed, NotEntered, IsOpened};
 
@@ -130,6 +130,42 @@ impl<'a, A: ReaderArena> Source<'a, A> {
             lim,
         ) {
             Ok(()) => Ok(landing.start.at),
+            Err(k) => Err(k),
+        }
+    }
+
+    /// Reads the list of bits or bytes that a near pointer leads to, as `read_object` does: where its
+    /// elements start in the pointer's own segment, a position in words. It claims so many words.
+    #[inline(always)]
+    pub fn read_near_flat(
+        self,
+        place: Place<'a>,
+        word: WirePointer,
+        words: u32,
+        nesting_limit: i32,
+        lim: &mut ReadLimiter,
+    ) -> Result<u32, ErrorKind>
+        requires held { IsHeld (source_segments A.segments self) place }
+        requires there { word.0 ≡ word_of (reading_at A.ReaderArena self place nesting_limit) }
+        requires small { word.0 < 2 ^ 64 }
+        requires some { word.0 ≢ 0 }
+        requires is_list { kind word.0 ≡ 1 }
+        requires of_bits { (0 < element_size word.0) × (element_size word.0 ≤ 5) }
+        requires claimed { words ≡ claim word.0 }
+        ensures object { IfOk result (λ at. EntersFlat
+            (reading_at A.ReaderArena self.entry place.entry nesting_limit) lim.old lim.new
+            (record place.entry { at = at })) }
+        ensures refused { IfErr result
+            (Stopped plain (reading_at A.ReaderArena self.entry place.entry nesting_limit)
+            lim.old lim.new) }
+    {
+        self.count(lim);
+        let landing = match self.follow(place, word, nesting_limit, lim) {
+            Ok(landing) => landing,
+            Err(k) => return Err(k),
+        };
+        match self.claim(landing, words, depth_of(nesting_limit), lim) {
+            Ok(_) => Ok(landing.start.at),
             Err(k) => Err(k),
         }
     }
