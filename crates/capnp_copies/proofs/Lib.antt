@@ -8,6 +8,7 @@ pub mod ElementsLaid
 pub mod FlatRead
 pub mod LeastWidths
 pub mod ListSteps
+pub mod NearRead
 pub mod ObjectsRead
 pub mod Padding
 pub mod RoomLemmas

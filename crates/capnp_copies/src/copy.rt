@@ -130,6 +130,7 @@ pub fn copy_in_form<A: BuilderArena, B: ReaderArena>(
 
 /// Does what `copy_in_form` does, but leaves what it made where it is refused.
 #[cycle(copies)]
+#[inline(never)]
 fn copy_object<A: BuilderArena, B: ReaderArena>(
     arena: &mut A,
     id: u32,

@@ -1,23 +1,86 @@
 //! The copy of pointers one behind the other.
-ghost use Rattle.std.specs.Prelude.{◌≡◌, ℕ, ◌+◌, ◌<◌, ◌≤◌, length, IfOk, IfErr};
-ghost use Rattle.capnp_format.specs.Segments.{segment, word_at};
-ghost use Rattle.capnp_objects.specs.Reading.{row};
+ghost use Rattle.std.specs.Prelude.{◌≡◌, ◌≢◌, ℕ, ◌+◌, ◌^◌, ◌<◌, ◌≤◌, ◌↔◌, length, IsTrue, IfOk, IfErr};
+ghost use Rattle.capnp_format.specs.Segments.{segment, word_at, IsPlace};
+ghost use Rattle.capnp_format.specs.Word.{kind, element_size};
+ghost use Rattle.capnp_objects.specs.Reading.{row, word_of};
+ghost use Rattle.capnp_objects.specs.Wanted.{Form};
 ghost use Rattle.capnp_readers.specs.Readers.{reading};
-ghost use Rattle.capnp_copies.specs.Growth.{TakesForPointers};
-ghost use Rattle.capnp_copies.specs.Changes.{change, CopiesChildren, StopsAtChildren};
+ghost use Rattle.capnp_copies.specs.Growth.{TakesAtMost, TakesForPointers};
+ghost use Rattle.capnp_copies.specs.Changes.{change, CopiesValue, StopsAtValue, CopiesChildren, StopsAtChildren};
 ghost use Rattle.capnp_copies.specs.Forms.{form_in};
 
+use super::flat::{copy_flat, flat_words};
+use super::structs::copy_struct;
 use crate::form::CopyForm;
 use capnp_arena::arena::{BuilderArena, ReaderArena};
 use capnp_objects::object::Place;
 use capnp_readers::readers::PointerReader;
 use capnp_words::error::ErrorKind;
 use capnp_words::read_limiter::ReadLimiter;
+use capnp_words::wire_pointer::{ElementSize, WirePointer, WirePointerKind};
+use capnp_words::words::part;
 
 /// Copies what so many pointers mean, from that of `from` on, to as many null pointers of a segment
 /// from position `at` on.
 #[cycle(copies)]
+#[inline(always)]
 pub(crate) fn copy_children<A: BuilderArena, B: ReaderArena>(
+    arena: &mut A,
+    id: u32,
+    at: u32,
+    from: PointerReader<'_, B>,
+    count: u32,
+    lim: &mut ReadLimiter,
+    form: CopyForm,
+) -> Result<(), ErrorKind>
+    requires room { at + count ≤ length (segment (A.view arena.old).words id) }
+    requires null { (i : ℕ) → i < count → word_at (A.view arena.old).words id (at + i) ≡ 0 }
+    requires inside { from.place.at + count ≤ length (row (reading B.ReaderArena from)) }
+    ensures copied { IfOk result (λ _. CopiesChildren (reading B.ReaderArena from.entry) count
+        (change (form_in form) id at (A.view arena.old) (A.view arena.new) lim.old lim.new)) }
+    ensures refused { IfErr result
+        (StopsAtChildren (reading B.ReaderArena from.entry) count
+        (change (form_in form) id at (A.view arena.old) (A.view arena.new) lim.old lim.new)) }
+    ensures taken { TakesForPointers result (reading B.ReaderArena from.entry) count
+        (change (form_in form) id at (A.view arena.old) (A.view arena.new) lim.old lim.new) }
+{
+    if count == 0 {
+        return Ok(());
+    }
+    copy_row(arena, id, at, from, count, lim, form)
+}
+
+/// Does what `copy_children` does, out of line: each level of structs is a call of it.
+#[cycle(copies)]
+#[inline(never)]
+fn copy_row<A: BuilderArena, B: ReaderArena>(
+    arena: &mut A,
+    id: u32,
+    at: u32,
+    from: PointerReader<'_, B>,
+    count: u32,
+    lim: &mut ReadLimiter,
+    form: CopyForm,
+) -> Result<(), ErrorKind>
+    requires room { at + count ≤ length (segment (A.view arena.old).words id) }
+    requires null { (i : ℕ) → i < count → word_at (A.view arena.old).words id (at + i) ≡ 0 }
+    requires inside { from.place.at + count ≤ length (row (reading B.ReaderArena from)) }
+    ensures copied { IfOk result (λ _. CopiesChildren (reading B.ReaderArena from.entry) count
+        (change (form_in form) id at (A.view arena.old) (A.view arena.new) lim.old lim.new)) }
+    ensures refused { IfErr result
+        (StopsAtChildren (reading B.ReaderArena from.entry) count
+        (change (form_in form) id at (A.view arena.old) (A.view arena.new) lim.old lim.new)) }
+    ensures taken { TakesForPointers result (reading B.ReaderArena from.entry) count
+        (change (form_in form) id at (A.view arena.old) (A.view arena.new) lim.old lim.new) }
+{
+    copy_in_line(arena, id, at, from, count, lim, form)
+}
+
+/// Does what `copy_children` does, in line: the loop over a list calls nothing for pointers that are
+/// null or lead to bits or bytes, and a list in a list takes the stack of one call.
+#[cycle(copies)]
+#[inline(always)]
+pub(crate) fn copy_in_line<A: BuilderArena, B: ReaderArena>(
     arena: &mut A,
     id: u32,
     at: u32,
@@ -47,10 +110,138 @@ pub(crate) fn copy_children<A: BuilderArena, B: ReaderArena>(
             },
             nesting_limit: from.nesting_limit,
         };
-        match super::copy_object(arena, id, at + i, child, lim, form) {
+        match copy_child(arena, id, at + i, child, lim, form) {
             Ok(()) => {}
             Err(k) => return Err(k),
         }
     }
     Ok(())
+}
+
+/// Copies what a pointer means to the null pointer at a place. What is near and small to read is told
+/// by its word alone, since an object handed over through memory costs more than its reading.
+#[cycle(copies)]
+#[inline(always)]
+fn copy_child<A: BuilderArena, B: ReaderArena>(
+    arena: &mut A,
+    id: u32,
+    at: u32,
+    from: PointerReader<'_, B>,
+    lim: &mut ReadLimiter,
+    form: CopyForm,
+) -> Result<(), ErrorKind>
+    requires place { IsPlace (A.view arena.old).words id at }
+    requires null { word_at (A.view arena.old).words id at ≡ 0 }
+    ensures copied { IfOk result (λ _. CopiesValue (reading B.ReaderArena from.entry)
+        (change (form_in form) id at (A.view arena.old) (A.view arena.new) lim.old lim.new)) }
+    ensures refused { IfErr result
+        (StopsAtValue (reading B.ReaderArena from.entry)
+        (change (form_in form) id at (A.view arena.old) (A.view arena.new) lim.old lim.new)) }
+    ensures taken { TakesAtMost result (reading B.ReaderArena from.entry)
+        (change (form_in form) id at (A.view arena.old) (A.view arena.new) lim.old lim.new) }
+{
+    let word = from.place.word();
+    if word.is_null() {
+        return Ok(());
+    }
+    if is_of_bits(word) {
+        return copy_near_flat(arena, id, at, from, word, lim);
+    }
+    if word.kind() == WirePointerKind::Struct {
+        copy_near_struct(arena, id, at, from, word, lim, form)
+    } else {
+        super::copy_object(arena, id, at, from, lim, form)
+    }
+}
+
+/// Copies the struct that a near pointer leads to.
+#[cycle(copies)]
+#[inline(always)]
+fn copy_near_struct<A: BuilderArena, B: ReaderArena>(
+    arena: &mut A,
+    id: u32,
+    at: u32,
+    from: PointerReader<'_, B>,
+    word: WirePointer,
+    lim: &mut ReadLimiter,
+    form: CopyForm,
+) -> Result<(), ErrorKind>
+    requires place { IsPlace (A.view arena.old).words id at }
+    requires null { word_at (A.view arena.old).words id at ≡ 0 }
+    requires there { word.0 ≡ word_of (reading B.ReaderArena from) }
+    requires small { word.0 < 2 ^ 64 }
+    requires some { word.0 ≢ 0 }
+    requires is_struct { kind word.0 ≡ 0 }
+    ensures copied { IfOk result (λ _. CopiesValue (reading B.ReaderArena from.entry)
+        (change (form_in form) id at (A.view arena.old) (A.view arena.new) lim.old lim.new)) }
+    ensures refused { IfErr result
+        (StopsAtValue (reading B.ReaderArena from.entry)
+        (change (form_in form) id at (A.view arena.old) (A.view arena.new) lim.old lim.new)) }
+    ensures taken { TakesAtMost result (reading B.ReaderArena from.entry)
+        (change (form_in form) id at (A.view arena.old) (A.view arena.new) lim.old lim.new) }
+{
+    let source = from.source;
+    let start = match source.read_near_struct(from.place, word, from.nesting_limit, lim) {
+        Ok(start) => start,
+        Err(k) => return Err(k),
+    };
+    let inner = PointerReader {
+        source,
+        place: Place {
+            segment: from.place.segment,
+            bytes: from.place.bytes,
+            at: start,
+        },
+        nesting_limit: from.nesting_limit - 1,
+    };
+    copy_struct(arena, id, at, inner, word.struct_size(), lim, form)
+}
+
+/// Copies the list of bits or bytes that a near pointer leads to, which is the same in every form.
+#[inline(always)]
+fn copy_near_flat<A: BuilderArena, B: ReaderArena>(
+    arena: &mut A,
+    id: u32,
+    at: u32,
+    from: PointerReader<'_, B>,
+    word: WirePointer,
+    lim: &mut ReadLimiter,
+) -> Result<(), ErrorKind>
+    requires place { IsPlace (A.view arena.old).words id at }
+    requires null { word_at (A.view arena.old).words id at ≡ 0 }
+    requires there { word.0 ≡ word_of (reading B.ReaderArena from) }
+    requires small { word.0 < 2 ^ 64 }
+    requires some { word.0 ≢ 0 }
+    requires is_list { kind word.0 ≡ 1 }
+    requires of_bits { (0 < element_size word.0) × (element_size word.0 ≤ 5) }
+    ensures copied { (form : Form) → IfOk result (λ _. CopiesValue (reading B.ReaderArena from.entry)
+        (change form id at (A.view arena.old) (A.view arena.new) lim.old lim.new)) }
+    ensures refused { (form : Form) → IfErr result
+        (StopsAtValue (reading B.ReaderArena from.entry)
+        (change form id at (A.view arena.old) (A.view arena.new) lim.old lim.new)) }
+    ensures taken { (form : Form) → TakesAtMost result (reading B.ReaderArena from.entry)
+        (change form id at (A.view arena.old) (A.view arena.new) lim.old lim.new) }
+{
+    let size = word.list_element_size();
+    let count = word.list_element_count();
+    let words = flat_words(size, count);
+    let source = from.source;
+    let start = match source.read_near_flat(from.place, word, words, from.nesting_limit, lim) {
+        Ok(start) => start,
+        Err(k) => return Err(k),
+    };
+    let elements = part(from.place.bytes, start as usize, words as usize);
+    copy_flat(arena, id, at, size, count, elements)
+}
+
+/// Whether a word is the pointer to a list of bits or bytes in its own segment.
+fn is_of_bits(word: WirePointer) -> bool
+    ensures { IsTrue result
+        ↔ (kind word.0 ≡ 1) × (0 < element_size word.0) × (element_size word.0 ≤ 5) }
+{
+    word.kind() == WirePointerKind::List
+        && !matches!(
+            word.list_element_size(),
+            ElementSize::Void | ElementSize::Pointer | ElementSize::InlineComposite
+        )
 }

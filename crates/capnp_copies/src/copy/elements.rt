@@ -9,7 +9,7 @@ ghost use Rattle.capnp_copies.specs.Growth.{TakesNone, TakesForElement, TakesFor
 ghost use Rattle.capnp_copies.specs.Changes.{change, CopiesElement, StopsAtElement, CopiesElements, StopsAtElements, KeepsPointers};
 ghost use Rattle.capnp_copies.specs.Forms.{form_in};
 
-use super::children::copy_children;
+use super::children::copy_in_line;
 use crate::form::CopyForm;
 use crate::widths::ElementSizes;
 use capnp_arena::arena::{BuilderArena, ReaderArena};
@@ -23,6 +23,7 @@ use capnp_words::words::{count, part};
 /// Copies so many elements, of which `from` is the first word, over words of zero, each cut to the
 /// sections that are kept.
 #[cycle(copies)]
+#[inline(always)]
 pub(crate) fn copy_elements<A: BuilderArena, B: ReaderArena>(
     arena: &mut A,
     to: Start,
@@ -81,6 +82,7 @@ pub(crate) fn copy_elements<A: BuilderArena, B: ReaderArena>(
 
 /// Copies one element so.
 #[cycle(copies)]
+#[inline(always)]
 fn copy_element<A: BuilderArena, B: ReaderArena>(
     arena: &mut A,
     to: Start,
@@ -122,7 +124,7 @@ fn copy_element<A: BuilderArena, B: ReaderArena>(
     };
     let first = to.at + u32::from(sizes.kept.data_words);
     let pointers = u32::from(sizes.kept.pointers);
-    copy_children(arena, to.segment, first, children, pointers, lim, form)
+    copy_in_line(arena, to.segment, first, children, pointers, lim, form)
 }
 
 /// Writes words over others, if there are any to write.

@@ -21,6 +21,7 @@ use capnp_words::words;
 
 /// Copies so many elements, of which these are the words, and sets the pointer at a place to them.
 /// Where the arena refuses it, no word changes.
+#[inline(always)]
 pub(crate) fn copy_flat<A: BuilderArena>(
     arena: &mut A,
     id: u32,
@@ -60,6 +61,7 @@ pub(crate) fn copy_flat<A: BuilderArena>(
 }
 
 /// Writes elements of so many bits together over words of a segment, with padding of zero.
+#[inline(always)]
 fn put_elements<A: BuilderArena>(arena: &mut A, id: u32, start: u32, elements: &[u8], bits: u64)
     requires whole { length elements.now ≡ 8 * length (words_of elements.now) }
     requires inside { start + length (words_of elements.now)

@@ -7,7 +7,7 @@ ghost use Rattle.capnp_copies.specs.Growth.{TakesForObject, TakesForStructs};
 ghost use Rattle.capnp_copies.specs.Changes.{change, CopiesPointers, StopsAtPointers, CopiesStructs, StopsAtStructs, KeepsWidths};
 ghost use Rattle.capnp_copies.specs.Forms.{form_in};
 
-use super::children::copy_children;
+use super::children::copy_in_line;
 use super::elements::copy_elements;
 use crate::form::CopyForm;
 use crate::widths::{ElementSizes, least_widths};
@@ -20,6 +20,7 @@ use capnp_words::wire_pointer::{ElementSize, StructSize};
 
 /// Copies a list of so many pointers, of which `from` is the first, to the pointer at a place.
 #[cycle(copies)]
+#[inline(always)]
 pub(crate) fn copy_pointers<A: BuilderArena, B: ReaderArena>(
     arena: &mut A,
     id: u32,
@@ -42,7 +43,7 @@ pub(crate) fn copy_pointers<A: BuilderArena, B: ReaderArena>(
         (change (form_in form) id at (A.view arena.old) (A.view arena.new) lim.old lim.new) }
 {
     match make_list(arena, id, at, ElementSize::Pointer, count) {
-        Ok(start) => copy_children(arena, start.segment, start.at, from, count, lim, form),
+        Ok(start) => copy_in_line(arena, start.segment, start.at, from, count, lim, form),
         Err(k) => Err(k),
     }
 }
@@ -50,6 +51,7 @@ pub(crate) fn copy_pointers<A: BuilderArena, B: ReaderArena>(
 /// Copies a list of so many structs, of which `from` is the first word behind the tag, to the pointer
 /// at a place. In canonical form its elements have the least sections that lose nothing.
 #[cycle(copies)]
+#[inline(always)]
 pub(crate) fn copy_structs<A: BuilderArena, B: ReaderArena>(
     arena: &mut A,
     id: u32,

@@ -23,6 +23,7 @@ use capnp_words::words::{part, used_part};
 /// Copies a struct, of which `from` is the first word, to the pointer at a place. In canonical form
 /// it is without the zeros and null pointers at the ends of its sections.
 #[cycle(copies)]
+#[inline(always)]
 pub(crate) fn copy_struct<A: BuilderArena, B: ReaderArena>(
     arena: &mut A,
     id: u32,
@@ -68,6 +69,7 @@ pub(crate) fn copy_struct<A: BuilderArena, B: ReaderArena>(
 
 /// The sections that a copy of a struct keeps, of which `from` is the first word: in canonical form
 /// the words of each up to the last that is not zero.
+#[inline(always)]
 fn kept_sections<B: ReaderArena>(
     from: PointerReader<'_, B>,
     size: StructSize,
@@ -87,6 +89,7 @@ fn kept_sections<B: ReaderArena>(
 
 /// How much of a struct's sections is used, of which `from` is the first word: the words of each up
 /// to the last that is not zero.
+#[inline(always)]
 fn used_sections<B: ReaderArena>(from: PointerReader<'_, B>, size: StructSize) -> StructSize
     requires inside { from.place.at + (size.data_words + size.pointers)
         ≤ length (row (reading B.ReaderArena from)) }

@@ -1,4 +1,4 @@
-use Rattle.std.proofs.Common.{◌≡◌, inl, inr, ℕ, ◌+◌, ◌*◌, ◌<◌, ◌≤◌, ◌^◌, length, refl, ap, ◌∙◌, arith, rules}
+use Rattle.std.proofs.Common.{◌≡◌, inl, inr, ℕ, ◌+◌, ◌*◌, ◌<◌, ◌≤◌, ◌^◌, length, get_or, refl, ap, sym, ◌∙◌, arith, rules}
 use Rattle.std.proofs.lemmas.Int.{to_z-of_z}
 use Rattle.std.proofs.lemmas.Bool.{false≢true}
 use mir.Syntax.{w32}
@@ -10,8 +10,14 @@ use Rattle.capnp_format.specs.Numbers.{words_for, unpacked}
 use Rattle.capnp_making.specs.Made.{zero_structs, nulls}
 use Rattle.capnp_making.specs.Memory.{HasRoom}
 use Rattle.capnp_making.proofs.FillingMade.{IsBegun, pointers_ready, structs_ready}
-use Rattle.capnp_objects.specs.Reading.{Reading, row, words_from}
+use Rattle.capnp_format.specs.Word.{kind, data_words, pointer_count}
+use Rattle.capnp_objects.specs.declared.object.Place.{Place}
+use Rattle.capnp_objects.specs.declared.object.Object.TheVariants.{Struct as ObjectStruct}
+use Rattle.capnp_objects.specs.Objects.{IsObject}
+use Rattle.capnp_objects.specs.Reading.{Reading, row, word_of, words_from}
 use Rattle.capnp_readers.specs.Readers.{reading}
+use Rattle.capnp_readers.proofs.Checks.{struct_room}
+use Rattle.capnp_copies.proofs.NearRead.{struct_by_word}
 use Rattle.capnp_copies.specs.Changes.{KeepsPointers}
 use Rattle.capnp_copies.specs.Forms.{form_in}
 use Rattle.capnp_copies.proofs.FlatRead.{ok_so, err_so, one_level_in, flat_words}
@@ -28,24 +34,24 @@ use Rattle.capnp_copies.proofs.copy.+copies.Goals as goal
 
 -- Pointers one behind the other.
 
-pub children::copy_children-loop-i-init : goal.children::copy_children-loop-i-init
-children::copy_children-loop-i-init g t c =
+pub children::copy_in_line-loop-i-init : goal.children::copy_in_line-loop-i-init
+children::copy_in_line-loop-i-init g t c =
     (no_child (reading g.B.ReaderArena c.args.from) (form_in c.args.form) c.args.id c.args.at (g.A.BuilderArena.view c.args.arena.now) c.args.lim.now, none_taken (reading g.B.ReaderArena c.args.from) (form_in c.args.form) c.args.id c.args.at (g.A.BuilderArena.view c.args.arena.now) c.args.lim.now)
 
-pub children::copy_children-copy_object-requires : goal.children::copy_children-copy_object-requires
-children::copy_children-copy_object-requires g t c κs within =
+pub children::copy_in_line-copy_child-requires : goal.children::copy_in_line-copy_child-requires
+children::copy_in_line-copy_child-requires g t c κs within =
     let grows = children_grow c.loop-i.invariant.0 in
     let PLACE : IsPlace (g.A.BuilderArena.view c.loop-i.arena).words c.args.id (c.args.at + c.loop-i.i) = omega (arith, c.requires.room, c.loop-i-test.true, grows.words c.args.id) in
     let NULL : word_at (g.A.BuilderArena.view c.loop-i.arena).words c.args.id (c.args.at + c.loop-i.i) ≡ 0 = child_ahead c.loop-i.invariant.0 (omega (arith, c.requires.room, c.loop-i-test.true)) ∙ c.requires.null c.loop-i.i c.loop-i-test.true in
     search rules
 
-pub children::copy_children-returns-in-Err-clause-refused : goal.children::copy_children-returns-in-Err-clause-refused
-children::copy_children-returns-in-Err-clause-refused g t c =
+pub children::copy_in_line-returns-in-Err-clause-refused : goal.children::copy_in_line-returns-in-Err-clause-refused
+children::copy_in_line-returns-in-Err-clause-refused g t c =
     let nl = to_z-of_z w32 c.args.from.nesting_limit (search rules) in
     child_stops (omega (arith, c.requires.room, c.loop-i-test.true)) c.loop-i-test.true c.loop-i.invariant.0 (rw nl at c.in-Err.ensures.refused)
 
-pub children::copy_children-loop-i-preserved : goal.children::copy_children-loop-i-preserved
-children::copy_children-loop-i-preserved g t c =
+pub children::copy_in_line-loop-i-preserved : goal.children::copy_in_line-loop-i-preserved
+children::copy_in_line-loop-i-preserved g t c =
     let nl = to_z-of_z w32 c.args.from.nesting_limit (search rules) in
     let few : length (segment (g.A.BuilderArena.view c.loop-i.arena).words c.args.id) < 2 ^ 29 =
     omega (arith, g.met.A.BuilderArena.within c.loop-i.arena c.args.id, g.met.A.BuilderArena.small c.loop-i.arena c.args.id) in (
@@ -53,13 +59,96 @@ children::copy_children-loop-i-preserved g t c =
       one_taken c.loop-i.invariant.1 (rw nl at c.in-Ok.ensures.taken),
     )
 
-pub children::copy_children-returns-in-Err-clause-taken : goal.children::copy_children-returns-in-Err-clause-taken
-children::copy_children-returns-in-Err-clause-taken g t c =
+pub children::copy_in_line-returns-in-Err-clause-taken : goal.children::copy_in_line-returns-in-Err-clause-taken
+children::copy_in_line-returns-in-Err-clause-taken g t c =
     let nl = to_z-of_z w32 c.args.from.nesting_limit (search rules) in
     stop_taken c.loop-i-test.true c.loop-i.invariant.1 (rw nl at c.in-Err.ensures.taken)
 
-pub children::copy_children-returns-clause-taken : goal.children::copy_children-returns-clause-taken
-children::copy_children-returns-clause-taken g t c = all_taken (omega arith) c.loop-i.invariant.1
+pub children::copy_in_line-returns-clause-taken : goal.children::copy_in_line-returns-clause-taken
+children::copy_in_line-returns-clause-taken g t c = all_taken (omega arith) c.loop-i.invariant.1
+
+pub children::copy_children-returns-then-count-eq0-clause-copied : goal.children::copy_children-returns-then-count-eq0-clause-copied
+children::copy_children-returns-then-count-eq0-clause-copied g t c =
+    rw c.if-count-eq0.true (no_child (reading g.B.ReaderArena c.args.from) (form_in c.args.form) c.args.id c.args.at (g.A.BuilderArena.view c.args.arena.now) c.args.lim.now)
+
+pub children::copy_children-returns-then-count-eq0-clause-taken : goal.children::copy_children-returns-then-count-eq0-clause-taken
+children::copy_children-returns-then-count-eq0-clause-taken g t c =
+    all_taken {i = 0} (omega (arith, c.if-count-eq0.true)) (none_taken (reading g.B.ReaderArena c.args.from) (form_in c.args.form) c.args.id c.args.at (g.A.BuilderArena.view c.args.arena.now) c.args.lim.now)
+
+-- What a pointer means, told by its word.
+
+pub children::copy_child-returns-then-is_null-clause-copied : goal.children::copy_child-returns-then-is_null-clause-copied
+children::copy_child-returns-then-is_null-clause-copied g t c =
+    let r : Reading = reading g.B.ReaderArena c.args.from in
+    let word : c.word-word.result.0 ≡ word_of r = c.word-word.ensures.value ∙ ap (λ ws. get_or ws c.args.from.place.at 0) c.args.from.held.0 in
+    null_copied {r = r} (sym word ∙ c.if-is_null.ensures.0 refl, refl) c.requires.place c.requires.null
+
+pub children::copy_child-returns-then-is_null-clause-taken : goal.children::copy_child-returns-then-is_null-clause-taken
+children::copy_child-returns-then-is_null-clause-taken g t c =
+    let r : Reading = reading g.B.ReaderArena c.args.from in
+    let word : c.word-word.result.0 ≡ word_of r = c.word-word.ensures.value ∙ ap (λ ws. get_or ws c.args.from.place.at 0) c.args.from.held.0 in
+    null_takes {r = r} (sym word ∙ c.if-is_null.ensures.0 refl, refl)
+
+pub children::copy_near_struct-returns-in-Err-clause-refused : goal.children::copy_near_struct-returns-in-Err-clause-refused
+children::copy_near_struct-returns-in-Err-clause-refused g t c =
+    let nl = to_z-of_z w32 c.args.from.nesting_limit (search rules) in
+    read_stops c.requires.place c.requires.null (rw nl at c.in-Err.ensures.refused)
+
+pub children::copy_near_struct-returns-in-Err-clause-taken : goal.children::copy_near_struct-returns-in-Err-clause-taken
+children::copy_near_struct-returns-in-Err-clause-taken g t c =
+    let nl = to_z-of_z w32 c.args.from.nesting_limit (search rules) in
+    read_stop_taken (rw nl at c.in-Err.ensures.refused)
+
+pub children::copy_near_struct-returns-clause-copied : goal.children::copy_near_struct-returns-clause-copied
+children::copy_near_struct-returns-clause-copied g t c =
+    let r : Reading = reading g.B.ReaderArena c.args.from in
+    let nl = to_z-of_z w32 c.args.from.nesting_limit (search rules) in
+    let near : kind (word_of r) ≡ 0 = rw c.requires.there at c.requires.is_struct in
+    let start : Place = record c.args.from.place { at = c.in-Ok.start } in
+    let wide : c.struct_size.result.data_words ≡ data_words (word_of r) = c.struct_size.ensures.data_of ∙ ap data_words c.requires.there in
+    let many : c.struct_size.result.pointers ≡ pointer_count (word_of r) = c.struct_size.ensures.pointers_of ∙ ap pointer_count c.requires.there in
+    let object : IsObject r c.args.lim.now c.read_near_struct.new.lim (ObjectStruct start c.struct_size.result) = struct_by_word start c.struct_size.result (omega (arith, near)) (rw nl at c.in-Ok.ensures.object) wide many in
+    let less = one_level_in c.args.from.nesting_limit (search rules) in
+    ok_so c.copy_struct.result _ _ c.copy_struct.ensures.copied (λ x made. struct_value start less object made)
+
+pub children::copy_near_struct-returns-clause-refused : goal.children::copy_near_struct-returns-clause-refused
+children::copy_near_struct-returns-clause-refused g t c =
+    let r : Reading = reading g.B.ReaderArena c.args.from in
+    let nl = to_z-of_z w32 c.args.from.nesting_limit (search rules) in
+    let near : kind (word_of r) ≡ 0 = rw c.requires.there at c.requires.is_struct in
+    let start : Place = record c.args.from.place { at = c.in-Ok.start } in
+    let wide : c.struct_size.result.data_words ≡ data_words (word_of r) = c.struct_size.ensures.data_of ∙ ap data_words c.requires.there in
+    let many : c.struct_size.result.pointers ≡ pointer_count (word_of r) = c.struct_size.ensures.pointers_of ∙ ap pointer_count c.requires.there in
+    let object : IsObject r c.args.lim.now c.read_near_struct.new.lim (ObjectStruct start c.struct_size.result) = struct_by_word start c.struct_size.result (omega (arith, near)) (rw nl at c.in-Ok.ensures.object) wide many in
+    let less = one_level_in c.args.from.nesting_limit (search rules) in
+    err_so c.copy_struct.result _ _ c.copy_struct.ensures.refused (λ k stop. struct_value_stops start less object stop)
+
+pub children::copy_near_struct-returns-clause-taken : goal.children::copy_near_struct-returns-clause-taken
+children::copy_near_struct-returns-clause-taken g t c =
+    let r : Reading = reading g.B.ReaderArena c.args.from in
+    let nl = to_z-of_z w32 c.args.from.nesting_limit (search rules) in
+    let near : kind (word_of r) ≡ 0 = rw c.requires.there at c.requires.is_struct in
+    let start : Place = record c.args.from.place { at = c.in-Ok.start } in
+    let wide : c.struct_size.result.data_words ≡ data_words (word_of r) = c.struct_size.ensures.data_of ∙ ap data_words c.requires.there in
+    let many : c.struct_size.result.pointers ≡ pointer_count (word_of r) = c.struct_size.ensures.pointers_of ∙ ap pointer_count c.requires.there in
+    let object : IsObject r c.args.lim.now c.read_near_struct.new.lim (ObjectStruct start c.struct_size.result) = struct_by_word start c.struct_size.result (omega (arith, near)) (rw nl at c.in-Ok.ensures.object) wide many in
+    let less = one_level_in c.args.from.nesting_limit (search rules) in
+    taken_so c.copy_struct.result _ _ _ _ (λ x. struct_takes start less object x) (λ x. struct_stop_takes start less object x) c.copy_struct.ensures.taken
+
+pub children::copy_near_struct-copy_struct-requires : goal.children::copy_near_struct-copy_struct-requires
+children::copy_near_struct-copy_struct-requires g t c κs within =
+    let r : Reading = reading g.B.ReaderArena c.args.from in
+    let nl = to_z-of_z w32 c.args.from.nesting_limit (search rules) in
+    let near : kind (word_of r) ≡ 0 = rw c.requires.there at c.requires.is_struct in
+    let start : Place = record c.args.from.place { at = c.in-Ok.start } in
+    let wide : c.struct_size.result.data_words ≡ data_words (word_of r) = c.struct_size.ensures.data_of ∙ ap data_words c.requires.there in
+    let many : c.struct_size.result.pointers ≡ pointer_count (word_of r) = c.struct_size.ensures.pointers_of ∙ ap pointer_count c.requires.there in
+    let object : IsObject r c.args.lim.now c.read_near_struct.new.lim (ObjectStruct start c.struct_size.result) = struct_by_word start c.struct_size.result (omega (arith, near)) (rw nl at c.in-Ok.ensures.object) wide many in
+    let less = one_level_in c.args.from.nesting_limit (search rules) in
+    let LESS = less object.1.meets.levels in
+    let SOME = object.1.meets.levels in
+    let INSIDE : c.in-Ok.start + (c.struct_size.result.data_words + c.struct_size.result.pointers) ≤ length (segment r.segments c.args.from.place.segment) = struct_room start c.struct_size.result object in
+    search rules
 
 -- What a pointer means.
 
@@ -218,7 +307,7 @@ elements::copy_element-returns-clause-copied g t c =
     let section : words_of c.part-data.result.now ≡ words_from from c.args.sizes.kept.data_words = rw (c.from-data_words.ensures, held) at c.part-data.ensures.words in
     let put : DataWritten from c.args.sizes (g.A.BuilderArena.view c.args.arena.now) (g.A.BuilderArena.view c.put_words.new.arena) c.args.to.segment c.args.to.at =
     record { inside = omega (arith, c.requires.inside, c.requires.less_data); room = omega (arith, c.requires.room); writes = rw section at c.put_words.ensures.words } in
-    ok_so c.copy_children.result _ _ c.copy_children.ensures.copied (λ x made. element_copied put (rw (c.from.ensures, c.from-2.ensures, c.from-pointers.ensures, nl) at made))
+    ok_so c.copy_in_line.result _ _ c.copy_in_line.ensures.copied (λ x made. element_copied put (rw (c.from.ensures, c.from-2.ensures, c.from-pointers.ensures, nl) at made))
 
 pub elements::copy_element-returns-clause-refused : goal.elements::copy_element-returns-clause-refused
 elements::copy_element-returns-clause-refused g t c =
@@ -228,14 +317,14 @@ elements::copy_element-returns-clause-refused g t c =
     let section : words_of c.part-data.result.now ≡ words_from from c.args.sizes.kept.data_words = rw (c.from-data_words.ensures, held) at c.part-data.ensures.words in
     let put : DataWritten from c.args.sizes (g.A.BuilderArena.view c.args.arena.now) (g.A.BuilderArena.view c.put_words.new.arena) c.args.to.segment c.args.to.at =
     record { inside = omega (arith, c.requires.inside, c.requires.less_data); room = omega (arith, c.requires.room); writes = rw section at c.put_words.ensures.words } in
-    err_so c.copy_children.result _ _ c.copy_children.ensures.refused (λ k stop. element_stops put (rw (c.from.ensures, c.from-2.ensures, c.from-pointers.ensures, nl) at stop))
+    err_so c.copy_in_line.result _ _ c.copy_in_line.ensures.refused (λ k stop. element_stops put (rw (c.from.ensures, c.from-2.ensures, c.from-pointers.ensures, nl) at stop))
 
 pub elements::copy_element-returns-clause-taken : goal.elements::copy_element-returns-clause-taken
 elements::copy_element-returns-clause-taken g t c =
     let nl = to_z-of_z w32 c.args.from.nesting_limit (search rules) in
     let none = c.put_words.ensures.taken in
-    let last = none_itself (g.A.BuilderArena.view c.copy_children.new.arena) in
-    taken_so c.copy_children.result _ _ _ _ (λ x. all_within none last x) (λ x. among_within (omega arith) none last x) (rw (c.from.ensures, c.from-2.ensures, c.from-pointers.ensures, nl) at c.copy_children.ensures.taken)
+    let last = none_itself (g.A.BuilderArena.view c.copy_in_line.new.arena) in
+    taken_so c.copy_in_line.result _ _ _ _ (λ x. all_within none last x) (λ x. among_within (omega arith) none last x) (rw (c.from.ensures, c.from-2.ensures, c.from-pointers.ensures, nl) at c.copy_in_line.ensures.taken)
 
 pub elements::copy_elements-returns-then-kept_words-eq0-clause-copied : goal.elements::copy_elements-returns-then-kept_words-eq0-clause-copied
 elements::copy_elements-returns-then-kept_words-eq0-clause-copied g t c =
@@ -332,8 +421,8 @@ elements::copy_elements-overflow_add-element g t c =
 
 -- Lists of pointers.
 
-pub lists::copy_pointers-copy_children-requires : goal.lists::copy_pointers-copy_children-requires
-lists::copy_pointers-copy_children-requires g t c κs within =
+pub lists::copy_pointers-copy_in_line-requires : goal.lists::copy_pointers-copy_in_line-requires
+lists::copy_pointers-copy_in_line-requires g t c κs within =
     let S : Segments = (g.A.BuilderArena.view c.args.arena.now).words in
     let M : Segments = (g.A.BuilderArena.view c.make_list.new.arena).words in
     let begun : IsBegun S M c.args.id c.args.at c.args.count c.in-Ok.start (Pointers (nulls c.args.count)) = record { made = c.in-Ok.ensures.made; start = c.in-Ok.ensures.start; inside = c.in-Ok.ensures.inside } in
@@ -345,19 +434,19 @@ pub lists::copy_pointers-returns-in-Ok-clause-copied : goal.lists::copy_pointers
 lists::copy_pointers-returns-in-Ok-clause-copied g t c =
     let begun : ObjectBegun c.args.id c.args.at c.args.count (g.A.BuilderArena.view c.args.arena.now) (g.A.BuilderArena.view c.make_list.new.arena) c.in-Ok.start (Pointers (nulls c.args.count)) =
     record { begun = record { made = c.in-Ok.ensures.made; start = c.in-Ok.ensures.start; inside = c.in-Ok.ensures.inside }; memory = c.in-Ok.ensures.granted } in
-    ok_so c.copy_children.result _ _ c.copy_children.ensures.copied (λ x made. pointers_copied begun (record { place = c.requires.place; memory = c.in-Ok.ensures.granted; taken = c.in-Ok.ensures.taken; near = c.in-Ok.ensures.near; at_end = c.in-Ok.ensures.at_end }) made)
+    ok_so c.copy_in_line.result _ _ c.copy_in_line.ensures.copied (λ x made. pointers_copied begun (record { place = c.requires.place; memory = c.in-Ok.ensures.granted; taken = c.in-Ok.ensures.taken; near = c.in-Ok.ensures.near; at_end = c.in-Ok.ensures.at_end }) made)
 
 pub lists::copy_pointers-returns-in-Ok-clause-refused : goal.lists::copy_pointers-returns-in-Ok-clause-refused
 lists::copy_pointers-returns-in-Ok-clause-refused g t c =
     let begun : ObjectBegun c.args.id c.args.at c.args.count (g.A.BuilderArena.view c.args.arena.now) (g.A.BuilderArena.view c.make_list.new.arena) c.in-Ok.start (Pointers (nulls c.args.count)) =
     record { begun = record { made = c.in-Ok.ensures.made; start = c.in-Ok.ensures.start; inside = c.in-Ok.ensures.inside }; memory = c.in-Ok.ensures.granted } in
-    err_so c.copy_children.result _ _ c.copy_children.ensures.refused (λ k stop. pointers_stop begun (record { place = c.requires.place; memory = c.in-Ok.ensures.granted; taken = c.in-Ok.ensures.taken; behind = c.in-Ok.ensures.behind }) c.in-Ok.ensures.at_end stop)
+    err_so c.copy_in_line.result _ _ c.copy_in_line.ensures.refused (λ k stop. pointers_stop begun (record { place = c.requires.place; memory = c.in-Ok.ensures.granted; taken = c.in-Ok.ensures.taken; behind = c.in-Ok.ensures.behind }) c.in-Ok.ensures.at_end stop)
 
 pub lists::copy_pointers-returns-in-Ok-clause-taken : goal.lists::copy_pointers-returns-in-Ok-clause-taken
 lists::copy_pointers-returns-in-Ok-clause-taken g t c =
     let begun : Begins c.args.id c.in-Ok.start.segment c.args.count (g.A.BuilderArena.view c.args.arena.now) (g.A.BuilderArena.view c.make_list.new.arena) =
     record { there = there (g.A.BuilderArena.view c.args.arena.now).words c.args.id c.args.at c.requires.place; taken = c.in-Ok.ensures.taken; memory = c.in-Ok.ensures.granted; near = λ room. (c.in-Ok.ensures.at_end room).0; far = λ full. (c.in-Ok.ensures.behind.far full).0 } in
-    taken_so c.copy_children.result _ _ _ _ (λ x. all_behind begun (omega arith) x) (λ x. inr (among_behind (omega arith) begun (omega arith) x)) c.copy_children.ensures.taken
+    taken_so c.copy_in_line.result _ _ _ _ (λ x. all_behind begun (omega arith) x) (λ x. inr (among_behind (omega arith) begun (omega arith) x)) c.copy_in_line.ensures.taken
 
 pub lists::copy_pointers-returns-in-Err-clause-refused : goal.lists::copy_pointers-returns-in-Err-clause-refused
 lists::copy_pointers-returns-in-Err-clause-refused g t c =

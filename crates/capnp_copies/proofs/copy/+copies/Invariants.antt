@@ -10,25 +10,37 @@ abbrev pub decreases-copy_object : goal.decreases-copy_object
 decreases-copy_object g l = 8 * levels l.from.nesting_limit
 
 abbrev pub decreases-children::copy_children : goal.decreases-children::copy_children
-decreases-children::copy_children g l = 8 * levels l.from.nesting_limit + 1
+decreases-children::copy_children g l = 8 * levels l.from.nesting_limit + 4
+
+abbrev pub decreases-children::copy_row : goal.decreases-children::copy_row
+decreases-children::copy_row g l = 8 * levels l.from.nesting_limit + 3
+
+abbrev pub decreases-children::copy_in_line : goal.decreases-children::copy_in_line
+decreases-children::copy_in_line g l = 8 * levels l.from.nesting_limit + 2
+
+abbrev pub decreases-children::copy_child : goal.decreases-children::copy_child
+decreases-children::copy_child g l = 8 * levels l.from.nesting_limit + 1
+
+abbrev pub decreases-children::copy_near_struct : goal.decreases-children::copy_near_struct
+decreases-children::copy_near_struct g l = 8 * levels l.from.nesting_limit
 
 abbrev pub decreases-elements::copy_element : goal.decreases-elements::copy_element
-decreases-elements::copy_element g l = 8 * levels l.from.nesting_limit + 2
+decreases-elements::copy_element g l = 8 * levels l.from.nesting_limit + 3
 
 abbrev pub decreases-elements::copy_elements : goal.decreases-elements::copy_elements
-decreases-elements::copy_elements g l = 8 * levels l.from.nesting_limit + 3
+decreases-elements::copy_elements g l = 8 * levels l.from.nesting_limit + 4
 
 abbrev pub decreases-lists::copy_pointers : goal.decreases-lists::copy_pointers
-decreases-lists::copy_pointers g l = 8 * levels l.from.nesting_limit + 4
+decreases-lists::copy_pointers g l = 8 * levels l.from.nesting_limit + 5
 
 abbrev pub decreases-lists::copy_structs : goal.decreases-lists::copy_structs
-decreases-lists::copy_structs g l = 8 * levels l.from.nesting_limit + 4
+decreases-lists::copy_structs g l = 8 * levels l.from.nesting_limit + 5
 
 abbrev pub decreases-structs::copy_struct : goal.decreases-structs::copy_struct
-decreases-structs::copy_struct g l = 8 * levels l.from.nesting_limit + 4
+decreases-structs::copy_struct g l = 8 * levels l.from.nesting_limit + 5
 
-abbrev pub invariant-children::copy_children-loop-i : goal.invariant-children::copy_children-loop-i
-invariant-children::copy_children-loop-i g l =
+abbrev pub invariant-children::copy_in_line-loop-i : goal.invariant-children::copy_in_line-loop-i
+invariant-children::copy_in_line-loop-i g l =
     CopiesChildren (reading g.B.ReaderArena l.from) l.i (change (form_in l.form) l.id l.at (g.A.BuilderArena.view l.fn.arena) (g.A.BuilderArena.view l.arena) l.fn.lim l.lim)
     × TakesForAll (reading g.B.ReaderArena l.from) l.i 0 0 (change (form_in l.form) l.id l.at (g.A.BuilderArena.view l.fn.arena) (g.A.BuilderArena.view l.arena) l.fn.lim l.lim)
 
