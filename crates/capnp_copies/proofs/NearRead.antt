@@ -1,5 +1,5 @@
 -- What a near pointer leads to, by its word.
-use Rattle.std.proofs.Common.{◌≡◌, ℕ, ◌+◌, ◌<◌, ap, sym, ◌∙◌}
+use Rattle.std.proofs.Common.{◌≡◌, ℕ, ◌<◌, ap, sym, ◌∙◌}
 use Rattle.capnp_format.specs.Word.{kind, data_words, pointer_count, element_size, list_count}
 use Rattle.capnp_words.specs.Meter.{Meter}
 use Rattle.capnp_words.specs.Sizes.{size_number}

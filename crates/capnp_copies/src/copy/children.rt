@@ -214,7 +214,8 @@ fn copy_near_flat<A: BuilderArena, B: ReaderArena>(
     requires some { word.0 ≢ 0 }
     requires is_list { kind word.0 ≡ 1 }
     requires of_bits { (0 < element_size word.0) × (element_size word.0 ≤ 5) }
-    ensures copied { (form : Form) → IfOk result (λ _. CopiesValue (reading B.ReaderArena from.entry)
+    ensures copied { (form : Form) → IfOk result
+        (λ _. CopiesValue (reading B.ReaderArena from.entry)
         (change form id at (A.view arena.old) (A.view arena.new) lim.old lim.new)) }
     ensures refused { (form : Form) → IfErr result
         (StopsAtValue (reading B.ReaderArena from.entry)

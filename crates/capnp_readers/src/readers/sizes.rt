@@ -411,7 +411,8 @@ fn add_rows<A: ReaderArena>(
         ≤ length (row (reading A.ReaderArena from.now)) }
     requires fits { FitSize walk.old.size.word_count walk.old.size.cap_count }
     ensures sized { OnOk result (WalksRows (reading A.ReaderArena from.now)
-        (sized data_words pointers) count (so_far walk.old.size lim.old) (so_far walk.new.size lim.new)) }
+        (sized data_words pointers) count
+        (so_far walk.old.size lim.old) (so_far walk.new.size lim.new)) }
     ensures fits { OnOk result (FitSize walk.new.size.word_count walk.new.size.cap_count) }
     ensures refused { OnErr result
         (RowsStop (reading A.ReaderArena from.now) (sized data_words pointers) count
