@@ -1,12 +1,12 @@
 -- What an edit leaves of a forest.
-use Rattle.std.proofs.Common.{◌≡◌, ◌⊎◌, inl, inr, ℕ, zero, suc, pred, ◌+◌, ◌*◌, ◌<◌, ◌≤◌, Bool, true, false, cond, nat_le, List, [], ◌∷◌, length, Option, Some, None, Result, Ok, Err, IsOk, IfErr, OnOk, OnErr, refl, sym, ap, ◌∙◌, subst, arith}
+use Rattle.std.proofs.Common.{◌≡◌, ◌⊎◌, inl, inr, ℕ, zero, suc, pred, ◌+◌, ◌*◌, ◌<◌, ◌≤◌, true, false, cond, nat_le, List, [], ◌∷◌, length, Option, Some, None, Result, Ok, Err, IsOk, IfErr, OnOk, OnErr, refl, sym, ap, ◌∙◌, subst, arith}
 use Rattle.std.proofs.lemmas.Bool.Decides.{nat_tests}
 use Rattle.std.proofs.lemmas.List.{append-nil}
 use Rattle.capnp_words.specs.declared.error.ErrorKind.{ErrorKind}
 use Rattle.capnp_words.specs.declared.error.ErrorKind.TheVariants.{AllocationFailed, NoSuchPlace}
 use Rattle.capnp_arena.specs.Taking.{IsAllocationRefusal}
-use Rattle.capnp_arena.specs.View.{View}
-use Rattle.capnp_format.specs.Segments.{Segments, segment}
+use Rattle.capnp_arena.specs.View.{View, KeepsLimits}
+use Rattle.capnp_format.specs.Segments.{Segments, Target, segment}
 use Rattle.capnp_format.specs.Tree.{Tree, Null, Capability, Struct, Flat, Pointers, Structs, Trees, Elements, no_elements, element, count, element_count}
 use Rattle.capnp_format.specs.Means.{Means}
 use Rattle.capnp_format.specs.Forest.{IsForest, target, cover}
@@ -15,7 +15,6 @@ use Rattle.capnp_making.specs.Existing.{struct_in}
 use Rattle.capnp_making.specs.Fields.{put_field}
 use Rattle.capnp_making.specs.Memory.{HasRoom, IsRefusedFor, KeepsMemory, TakesWords}
 use Rattle.capnp_making.specs.Zeroed.{IsPruned}
-use Rattle.capnp_widening.specs.Opening.{CallAt}
 use Rattle.capnp_making.specs.Path.{Element, struct_at, put_struct, update, PathLeads, one_word}
 use Rattle.capnp_making.specs.Stored.{IsStored, IsReplaced, Puts}
 use Rattle.capnp_making.proofs.Extents.{once_held, times-first}
@@ -25,12 +24,16 @@ use Rattle.capnp_readers.specs.declared.readers.PointerPlace.{PointerPlace}
 use Rattle.capnp_builders.specs.Places.{Field}
 use Rattle.capnp_edits.specs.declared.edit.Edit.{Edit}
 use Rattle.capnp_edits.specs.Paths.{Spot, PointerTo, ElementOf, path_of, found, IsPointerFound, IsElementFound, IsFound}
-use Rattle.capnp_edits.specs.declared.edit.Op.{Op}
-use Rattle.capnp_edits.specs.declared.edit.Source.{Source}
-use Rattle.capnp_edits.specs.declared.edit.Op.TheVariants.{InitStruct, InitList, InitStructList, InitText, InitData, SetText, SetData, SetCapability, Clear, SetField, SetBool, SetElement, WriteText, WriteData, GetStruct, GetList, GetStructList, GetText, GetData, CopyFrom, SetStruct, SetList, CopyContent}
-use Rattle.capnp_edits.specs.Edits.{refusal_of, field_of, is_field, is_in_range, is_search, Making, becomes, denied, with_written, made_at, made, IsOfMemory, takes_memory, words_taken, is_of_place, copied_by, GivesAt, Does, DoesAt, Leaves, as_it_stands, is_done, lacks_memory, is_denied, IsReplacedIf, leads_to, are_written, are_outside, WritesAt, is_put, is_out_of_range, has_none, Takes, leads_nowhere, IsApplied, refusals_after}
-use Rattle.capnp_edits.specs.Steps.{call_to, OpFits, IsCallRefused, IsOfPlace, IsRefusedAs, IsPut}
-use Rattle.capnp_edits.proofs.Taken.{object_takes}
+use Rattle.capnp_edits.specs.declared.edit.tasks.Task.{Task}
+use Rattle.capnp_edits.specs.declared.edit.tasks.Task.TheVariants.{Make, Point, InStruct, Write, Search, CopyRoot}
+use Rattle.capnp_edits.specs.declared.edit.tasks.Object.{Object}
+use Rattle.capnp_edits.specs.declared.edit.tasks.Number.{Number}
+use Rattle.capnp_edits.specs.declared.edit.tasks.Part.{Part}
+use Rattle.capnp_edits.specs.declared.edit.tasks.StructChange.{StructChange}
+use Rattle.capnp_edits.specs.declared.edit.tasks.StructChange.TheVariants.{Bits, Content}
+use Rattle.capnp_edits.specs.Tasks.{task_of}
+use Rattle.capnp_edits.specs.Edits.{refusal_of, bits_of, value_of, words_of, Making, becomes, denied, with_written, struct_changed, made_at, made, IsOfMemory, is_of_place, Does, DoesAt, Leaves, as_it_stands, is_done, is_denied, is_allocated, is_not_allocated, IsReplacedIf, leads_to, are_written, are_outside, PutsBits, Takes, leads_nowhere, IsApplied, refusals_after}
+use Rattle.capnp_edits.specs.Steps.{KeepsLengths, IsOfPlace, IsDoneAt}
 use Rattle.capnp_edits.proofs.Steps.{first, same_some, struct_of}
 use Rattle.capnp_edits.proofs.Walks.{found-append, update-append}
 
@@ -50,43 +53,10 @@ pub of_no_place : (k : ErrorKind) → IsOfMemory k → k ≡ NoSuchPlace → ⊥
 of_no_place k (inl h) e = absurd (cc)
 of_no_place k (inr h) e = let same = h.1 in absurd (cc)
 
-pub never_nowhere : {A : Type 0} (result : Result A ErrorKind) (old new : View) (n : ℕ) → IfErr result (IsRefusedFor old new n) → refusal_of result ≡ Some NoSuchPlace → new ≡ old
-never_nowhere (Ok x) old new n why e = absurd (cc)
-never_nowhere (Err k) old new n why e = absurd (of_no_place k (of_memory old new n k why) (same_some k NoSuchPlace e))
-
--- an operation that makes an object has room where its words have
-pub room_for : (old : View) (place : PointerPlace) (op : Op) → copied_by op ≡ None → is_search op ≡ false → OpFits old place op → takes_memory op ≡ true → HasRoom old place.segment (words_taken op)
-room_for old place (GetStruct size default) none other fits = absurd (cc)
-room_for old place (GetList size default) none other fits = absurd (cc)
-room_for old place (GetStructList size default) none other fits = absurd (cc)
-room_for old place (GetText default) none other fits = absurd (cc)
-room_for old place (GetData default) none other fits = absurd (cc)
-room_for old place (CopyFrom source b) none other fits = absurd (cc)
-room_for old place (SetStruct source b) none other fits = absurd (cc)
-room_for old place (SetList source b) none other fits = absurd (cc)
-room_for old place (CopyContent source) none other fits = absurd (cc)
-room_for old place op none other fits = fits
-
--- an operation is refused as its call is, which copies nothing
-call_refused : (call : CallAt) (op : Op) (k : ErrorKind) → copied_by op ≡ None → is_search op ≡ false → IsRefusedFor call.old call.new (words_taken op) k → IsCallRefused call op k
-call_refused call (GetStruct size default) k none other why = absurd (cc)
-call_refused call (GetList size default) k none other why = absurd (cc)
-call_refused call (GetStructList size default) k none other why = absurd (cc)
-call_refused call (GetText default) k none other why = absurd (cc)
-call_refused call (GetData default) k none other why = absurd (cc)
-call_refused call (CopyFrom source b) k none other why = absurd (cc)
-call_refused call (SetStruct source b) k none other why = absurd (cc)
-call_refused call (SetList source b) k none other why = absurd (cc)
-call_refused call (CopyContent source) k none other why = absurd (cc)
-call_refused call op k none other why = why
-
-pub refused_as : {A : Type 0} (result : Result A ErrorKind) (call : CallAt) (op : Op) → copied_by op ≡ None → is_search op ≡ false → IfErr result (IsRefusedFor call.old call.new (words_taken op)) → IfErr result (IsRefusedAs call op)
-refused_as (Ok x) call op none other why = tt
-refused_as (Err k) call op none other why = inr (call_refused call op k none other why)
-
-pub refused_there : {A : Type 0} (result : Result A ErrorKind) (old new : View) (Q : ErrorKind → Type 0) → IfErr result (λ k. is_of_place k ≡ true) → OnErr result (new ≡ old) → IfErr result (λ k. IsOfPlace old new k ⊎ Q k)
-refused_there (Ok x) old new Q named kept = tt
-refused_there (Err k) old new Q named kept = inl (named, kept)
+-- a call that is refused for what a path leads to, and changes nothing then
+pub refused_there : {A : Type 0} (result : Result A ErrorKind) (old new : View) (Q : ErrorKind → Type 0) (k : ErrorKind) → IfErr result (λ k. is_of_place k ≡ true) → OnErr result (new ≡ old) → refusal_of result ≡ Some k → IsOfPlace old new k ⊎ Q k
+refused_there (Ok x) old new Q k named kept e = absurd (cc)
+refused_there (Err j) old new Q k named kept e = inl (subst (λ x. is_of_place x ≡ true) (same_some j k e) named, kept)
 
 -- by a name of what a path leads to
 pub of_place : {A : Type 0} (result : Result A ErrorKind) → IfErr result (λ k. k ≡ NoSuchPlace) → IfErr result (λ k. is_of_place k ≡ true)
@@ -118,134 +88,62 @@ counted old new n k (why, same) = elim why [
   | inr (inr h) ↦ h.2 ∙ sym (ap (λ x. refusals_after (Some x) old.refusals) h.0)
 ]
 
--- so an operation is refused that takes memory
-pub refused_at : (old new : View) (place : PointerPlace) (op : Op) (n : ℕ) (k : ErrorKind) (y : Tree) → takes_memory op ≡ true → ((t : Tree) → made_at op (PointerTo t) ≡ becomes y) → IsRefusedFor old new n k →
-    Puts old.words new.words place.segment place.word Null → GivesAt old.words new.words place op (Some k)
-refused_at old new place op n k y takes makes why puts t stored = (Null, (y, makes t, takes, of_memory old new n k why, refl), puts t stored)
-
-pub bytes_refused : {A : Type 0} (result : Result A ErrorKind) (old new : View) (place : PointerPlace) (op : Op) (n : ℕ) (u : Tree) → takes_memory op ≡ true → ((t : Tree) → made_at op (PointerTo t) ≡ becomes u) →
-    OnOk result (Puts old.words new.words place.segment place.word u) → IfErr result (IsRefusedFor old new n) → OnErr result (Puts old.words new.words place.segment place.word Null) → GivesAt old.words new.words place op (refusal_of result)
-bytes_refused (Ok x) old new place op n u takes makes puts why cleared t stored = (u, makes t, puts t stored)
-bytes_refused (Err k) old new place op n u takes makes puts why cleared t stored = refused_at old new place op n k u takes makes why cleared t stored
-
-pub bytes_counted : {A : Type 0} (result : Result A ErrorKind) (old new : View) (n : ℕ) → OnOk result (KeepsMemory old new) → IfErr result (IsRefusedFor old new n) → new.refusals ≡ refusals_after (refusal_of result) old.refusals
-bytes_counted (Ok x) old new n keeps why = ap (λ (v : View). v.refusals) keeps.0
-bytes_counted (Err k) old new n keeps why = counted old new n k why
-
--- the name of a refusal, and that there is none
+-- the name of a refusal
 pub named_refusal : {A : Type 0} (result : Result A ErrorKind) (P : ErrorKind → Type 0) (k : ErrorKind) → IfErr result P → refusal_of result ≡ Some k → P k
 named_refusal (Ok x) P k why e = absurd (cc)
 named_refusal (Err j) P k why e = subst P (same_some j k e) why
 
-pub if_refused : {A : Type 0} (result : Result A ErrorKind) (P : ErrorKind → Type 0) → ((k : ErrorKind) → refusal_of result ≡ Some k → P k) → IfErr result P
-if_refused (Ok x) P why = tt
-if_refused (Err k) P why = why k refl
-
-not_refused : {A : Type 0} (result : Result A ErrorKind) → IsOk result → refusal_of result ≡ None
-not_refused (Ok x) done = refl
-not_refused (Err k) done = absurd (cc)
-
-pub unrefused : {A : Type 0} (result : Result A ErrorKind) → refusal_of result ≡ None → IsOk result
-unrefused (Ok x) e = refl
-unrefused (Err k) e = absurd (cc)
-
--- a call that makes u of n words does an operation that makes it
-pub made_is_put : {A : Type 0} (result : Result A ErrorKind) (old new : View) (place : PointerPlace) (op : Op) (u : Tree) (n : ℕ) → takes_memory op ≡ true → ((t : Tree) → made_at op (PointerTo t) ≡ becomes u) → n ≡ words_taken op →
-    OnOk result (Puts old.words new.words place.segment place.word u) → OnOk result (KeepsMemory old new) → IfErr result (IsRefusedFor old new n) → OnErr result (Puts old.words new.words place.segment place.word Null) →
-    (HasRoom old place.segment n → IsOk result) → OnOk result (TakesWords old new place.segment n) → OnErr result (IsPruned old.words new.words) → IsPut old new place op (refusal_of result)
-made_is_put result old new place op u n takes makes words puts keeps why cleared fits taken only = record {
-  done = bytes_refused result old new place op n u takes makes puts why cleared;
-  counted = bytes_counted result old new n keeps why;
-  named = λ k e. subst (λ m. IsRefusedFor old new m k) words (named_refusal result (IsRefusedFor old new n) k why e);
-  fits = λ room. not_refused result (fits (subst (λ m. HasRoom old place.segment m) (sym words) (room takes)));
-  taken = object_takes result (call_to place old new) op n takes words taken only;
+-- a call that makes an object
+pub object_made : {A : Type 0} (result : Result A ErrorKind) (old new : View) (place : PointerPlace) (object : Object) → OnOk result (Puts old.words new.words place.segment place.word (value_of object)) → OnOk result (KeepsMemory old new) →
+    IfErr result (IsRefusedFor old new (words_of object)) → OnErr result (Puts old.words new.words place.segment place.word Null) → (HasRoom old place.segment (words_of object) → IsOk result) →
+    OnOk result (TakesWords old new place.segment (words_of object)) → OnErr result (IsPruned old.words new.words) → IsDoneAt old new place (Make object) (refusal_of result)
+object_made (Ok x) old new place object puts keeps why cleared fits taken only = record {
+  done = λ t stored. record { left = Some (value_of object); leaves = as_it_stands (is_allocated Null (value_of object) refl refl refl); stands = puts t stored };
+  counted = ap (λ (v : View). v.refusals) keeps.0;
+  named = λ k e. absurd (cc);
+  fits = λ room k e. absurd (cc);
+  nowhere = λ e. absurd (cc);
+  taken = λ some. taken;
+}
+object_made (Err k) old new place object puts keeps why cleared fits taken only = record {
+  done = λ t stored. record { left = Some Null; leaves = as_it_stands (is_not_allocated Null (value_of object) k refl (of_memory old new (words_of object) k why) refl refl); stands = cleared t stored };
+  counted = counted old new (words_of object) k why;
+  named = λ j e. inr (subst (IsRefusedFor old new (words_of object)) (same_some k j e) why);
+  fits = λ room j e. absurd (let h = fits room in cc);
+  nowhere = λ e. absurd (of_no_place k (of_memory old new (words_of object) k why) (same_some k NoSuchPlace e));
+  taken = λ some. only;
 }
 
--- what an operation makes whose numbers are in range, and one whose are not
-pub in_range_makes : (op : Op) (spot : Spot) → is_in_range op ≡ true → made op spot ≡ made_at op spot
-in_range_makes op spot range = ap (λ b. cond b (made_at op spot) (denied NoSuchPlace)) range
+-- a call that makes none
+pub pointed : (old new : View) (place : PointerPlace) (i : Option ℕ) (u : Tree) → ((t : Tree) → made_at (Point i) (PointerTo t) ≡ becomes u) → Puts old.words new.words place.segment place.word u → new.refusals ≡ old.refusals → KeepsLengths old.words new.words →
+    IsDoneAt old new place (Point i) None
+pointed old new place i u makes puts same lengths = record {
+  done = λ t stored. record { left = Some u; leaves = as_it_stands (is_done u (makes t) refl refl); stands = puts t stored };
+  counted = same;
+  named = λ k e. absurd (cc);
+  fits = λ room k e. absurd (cc);
+  nowhere = λ e. absurd (cc);
+  taken = λ some. lengths;
+}
 
-out_makes : (op : Op) (spot : Spot) → is_in_range op ≡ false → made op spot ≡ denied NoSuchPlace
-out_makes op spot out = ap (λ b. cond b (made_at op spot) (denied NoSuchPlace)) out
+-- a call that writes a part
+pub part_done : {A : Type 0} (result : Result A ErrorKind) (old new : View) (place : PointerPlace) (part : Part) → Does old.words new.words place (Write part) (refusal_of result) → KeepsLengths old.words new.words → KeepsLimits old new →
+    IfErr result (λ k. is_of_place k ≡ true) → OnErr result (new ≡ old) → IsDoneAt old new place (Write part) (refusal_of result)
+part_done result old new place part does lengths limits named kept = record {
+  done = does;
+  counted = none_counted result old.refusals new.refusals (ap (λ (v : View). v.refusals) limits) named;
+  named = λ k. refused_there result old new (λ j. ⊥) k named kept;
+  fits = λ room k e. named_refusal result (λ j. is_of_place j ≡ true) k named e;
+  nowhere = kept_nowhere result old new kept;
+  taken = λ some. lengths;
+}
 
-never_makes : (op : Op) (spot : Spot) → made_at op spot ≡ denied NoSuchPlace → made op spot ≡ denied NoSuchPlace
-never_makes op spot none = either (is_in_range op) (made_at op spot) none
-  where
-    either : (b : Bool) (r : Making) → r ≡ denied NoSuchPlace → cond b r (denied NoSuchPlace) ≡ denied NoSuchPlace
-    either true r e = e
-    either false r e = refl
-
--- what an operation yields stands at its place
-pub done_at : {S R : Segments} {place : PointerPlace} {op : Op} {t : Tree} {r : Option ErrorKind} (u : Tree) → made op (PointerTo t) ≡ becomes u → r ≡ None → IsReplaced S R place.segment place.word t u → DoesAt S R place op t r
+-- what is made stands at its place
+pub done_at : {S R : Segments} {place : PointerPlace} {making : Making} {t : Tree} {r : Option ErrorKind} (u : Tree) → making ≡ becomes u → r ≡ None → IsReplaced S R place.segment place.word t u → DoesAt S R place making t r
 done_at u makes done stands = record { left = Some u; leaves = as_it_stands (is_done u makes done refl); stands = stands }
 
-lacking_at : {S R : Segments} {place : PointerPlace} {op : Op} {t : Tree} {r : Option ErrorKind} (u : Tree) (k : ErrorKind) → made op (PointerTo t) ≡ becomes u → takes_memory op ≡ true → IsOfMemory k → r ≡ Some k →
-    IsReplaced S R place.segment place.word t Null → DoesAt S R place op t r
-lacking_at u k makes takes names named stands = record { left = Some Null; leaves = as_it_stands (lacks_memory u k makes takes names named refl); stands = stands }
-
-pub denied_at : {S R : Segments} {place : PointerPlace} {op : Op} {t : Tree} {r : Option ErrorKind} (k : ErrorKind) → made op (PointerTo t) ≡ denied k → r ≡ Some k → R ≡ S → DoesAt S R place op t r
+pub denied_at : {S R : Segments} {place : PointerPlace} {making : Making} {t : Tree} {r : Option ErrorKind} (k : ErrorKind) → making ≡ denied k → r ≡ Some k → R ≡ S → DoesAt S R place making t r
 denied_at k denies named same = record { left = None; leaves = as_it_stands (is_denied k denies named refl); stands = same }
-
-pub given_at : (S R : Segments) (place : PointerPlace) (op : Op) (r : Option ErrorKind) → is_in_range op ≡ true → GivesAt S R place op r → Does S R place op r
-given_at S R place op None range gives t stored = let (u, makes, replaced) = gives t stored in done_at u (in_range_makes op (PointerTo t) range ∙ makes) refl replaced
-given_at S R place op (Some k) range gives t stored =
-    let (u, (y, makes, takes, names, null), replaced) = gives t stored in
-    lacking_at y k (in_range_makes op (PointerTo t) range ∙ makes) takes names refl (subst (IsReplaced S R place.segment place.word t) null replaced)
-
-pub out_of_range : (S : Segments) (place : PointerPlace) (op : Op) → is_in_range op ≡ false → Does S S place op (Some NoSuchPlace)
-out_of_range S place op out t stored = denied_at NoSuchPlace (out_makes op (PointerTo t) out) refl refl
-
--- what an operation makes that writes a field
-made_written : (op : Op) (f : Field) (t : Tree) → field_of op ≡ Some f → (made_at op (PointerTo t) ≡ with_written f t) × (made_at op (ElementOf t) ≡ with_written f t)
-made_written (SetField size i v) f t e = (ap (λ g. with_written g t) (same_some _ f e), ap (λ g. with_written g t) (same_some _ f e))
-made_written (SetBool i b) f t e = (ap (λ g. with_written g t) (same_some _ f e), ap (λ g. with_written g t) (same_some _ f e))
-made_written (InitStruct size) f t e = absurd (cc)
-made_written (InitList size n) f t e = absurd (cc)
-made_written (InitStructList n size) f t e = absurd (cc)
-made_written (InitText n) f t e = absurd (cc)
-made_written (InitData n) f t e = absurd (cc)
-made_written (SetText bytes) f t e = absurd (cc)
-made_written (SetData bytes) f t e = absurd (cc)
-made_written (SetCapability i) f t e = absurd (cc)
-made_written Clear f t e = absurd (cc)
-made_written (SetElement size i v) f t e = absurd (cc)
-made_written (WriteText i b) f t e = absurd (cc)
-made_written (WriteData i b) f t e = absurd (cc)
-made_written (GetStruct size default) f t e = absurd (cc)
-made_written (GetList size default) f t e = absurd (cc)
-made_written (GetStructList size default) f t e = absurd (cc)
-made_written (GetText default) f t e = absurd (cc)
-made_written (GetData default) f t e = absurd (cc)
-made_written (CopyFrom source canonicalize) f t e = absurd (cc)
-made_written (SetStruct source canonicalize) f t e = absurd (cc)
-made_written (SetList source canonicalize) f t e = absurd (cc)
-made_written (CopyContent source) f t e = absurd (cc)
-
--- any other one is for no element
-none_made : (op : Op) (t : Tree) → field_of op ≡ None → ((source : Source) → op ≡ CopyContent source → ⊥) → made_at op (ElementOf t) ≡ denied NoSuchPlace
-none_made (SetField size i v) t e other = absurd (cc)
-none_made (SetBool i b) t e other = absurd (cc)
-none_made (InitStruct size) t e other = refl
-none_made (InitList size n) t e other = refl
-none_made (InitStructList n size) t e other = refl
-none_made (InitText n) t e other = refl
-none_made (InitData n) t e other = refl
-none_made (SetText bytes) t e other = refl
-none_made (SetData bytes) t e other = refl
-none_made (SetCapability i) t e other = refl
-none_made Clear t e other = refl
-none_made (SetElement size i v) t e other = refl
-none_made (WriteText i b) t e other = refl
-none_made (WriteData i b) t e other = refl
-none_made (GetStruct size default) t e other = refl
-none_made (GetList size default) t e other = refl
-none_made (GetStructList size default) t e other = refl
-none_made (GetText default) t e other = refl
-none_made (GetData default) t e other = refl
-none_made (CopyFrom source canonicalize) t e other = refl
-none_made (SetStruct source canonicalize) t e other = refl
-none_made (SetList source canonicalize) t e other = refl
-none_made (CopyContent source) t e other = absurd (other source refl)
 
 -- a field that is there, or not
 field_there : (f : Field) (ws : List ℕ) (ts : Trees) → f.start + f.bits ≤ 64 * length ws → with_written f (Struct ws ts) ≡ becomes (Struct (put_field ws f.start f.bits f.value) ts)
@@ -261,67 +159,53 @@ field_past f ws ts l = ap (λ b. cond b (becomes (Struct (put_field ws f.start f
     past a b l = grind (arith, nat_tests)
 
 -- a field of a struct that a pointer leads to
-written_there : (S R : Segments) (place : PointerPlace) (op : Op) (r : Option ErrorKind) (ws : List ℕ) (ts : Trees) → IsStored S place.segment place.word (Struct ws ts) → is_field (field_of op) ≡ true →
-    WritesAt S R (struct_of (target S place.segment place.word).segment (target S place.segment place.word).start (length ws) (count ts)) op r → DoesAt S R place op (Struct ws ts) r
-written_there S R place op r ws ts stored some (is_put f is_f range (are_written starts ends done written)) =
-    done_at (Struct (put_field ws f.start f.bits f.value) ts) (in_range_makes op (PointerTo (Struct ws ts)) range ∙ (made_written op f (Struct ws ts) is_f).0 ∙ field_there f ws ts ends) done
-    (data_field_written S R place.segment place.word ws ts f.start f.bits f.value stored starts written)
-written_there S R place op r ws ts stored some (is_put f is_f range (are_outside past named same)) =
-    denied_at NoSuchPlace (in_range_makes op (PointerTo (Struct ws ts)) range ∙ (made_written op f (Struct ws ts) is_f).0 ∙ field_past f ws ts past) named same
-written_there S R place op r ws ts stored some (is_out_of_range out named same) = denied_at NoSuchPlace (out_makes op (PointerTo (Struct ws ts)) out) named same
-written_there S R place op r ws ts stored some (has_none none named same) = absurd (let e : is_field None ≡ true = subst (λ o. is_field o ≡ true) none some in cc)
+written_there : (S R : Segments) (place : PointerPlace) (f : Field) (r : Option ErrorKind) (ws : List ℕ) (ts : Trees) → IsStored S place.segment place.word (Struct ws ts) →
+    PutsBits S R (struct_of (target S place.segment place.word).segment (target S place.segment place.word).start (length ws) (count ts)) f r → DoesAt S R place (with_written f (Struct ws ts)) (Struct ws ts) r
+written_there S R place f r ws ts stored (are_written starts ends done written) =
+    done_at (Struct (put_field ws f.start f.bits f.value) ts) (field_there f ws ts ends) done (data_field_written S R place.segment place.word ws ts f.start f.bits f.value stored starts written)
+written_there S R place f r ws ts stored (are_outside past named same) = denied_at NoSuchPlace (field_past f ws ts past) named same
 
-struct_written : (S R : Segments) (place : PointerPlace) (op : Op) (r : Option ErrorKind) (e : ExistingStruct) (t : Tree) → Some e ≡ struct_in (target S place.segment place.word) t → is_field (field_of op) ≡ true → WritesAt S R e op r →
-    IsStored S place.segment place.word t → DoesAt S R place op t r
-struct_written S R place op r e (Struct ws ts) is_e some w stored =
+pub written_at : (S R : Segments) (place : PointerPlace) (f : Field) (r : Option ErrorKind) (e : ExistingStruct) (t : Tree) → Some e ≡ struct_in (target S place.segment place.word) t → PutsBits S R e f r → IsStored S place.segment place.word t →
+    DoesAt S R place (with_written f t) t r
+written_at S R place f r e (Struct ws ts) is_e w stored =
     let a = target S place.segment place.word in
-    written_there S R place op r ws ts stored some (subst (λ x. WritesAt S R x op r) (same_some e (struct_of a.segment a.start (length ws) (count ts)) is_e) w)
-struct_written S R place op r e Null is_e some w stored = absurd (cc)
-struct_written S R place op r e (Capability j) is_e some w stored = absurd (cc)
-struct_written S R place op r e (Flat size ns) is_e some w stored = absurd (cc)
-struct_written S R place op r e (Pointers ts) is_e some w stored = absurd (cc)
-struct_written S R place op r e (Structs d q es) is_e some w stored = absurd (cc)
+    written_there S R place f r ws ts stored (subst (λ x. PutsBits S R x f r) (same_some e (struct_of a.segment a.start (length ws) (count ts)) is_e) w)
+written_at S R place f r e Null is_e w stored = absurd (cc)
+written_at S R place f r e (Capability j) is_e w stored = absurd (cc)
+written_at S R place f r e (Flat size ns) is_e w stored = absurd (cc)
+written_at S R place f r e (Pointers ts) is_e w stored = absurd (cc)
+written_at S R place f r e (Structs d q es) is_e w stored = absurd (cc)
 
-pub written_at : (S R : Segments) (place : PointerPlace) (op : Op) (r : Option ErrorKind) (e : ExistingStruct) → is_field (field_of op) ≡ true →
-    ((t : Tree) → IsStored S place.segment place.word t → Some e ≡ struct_in (target S place.segment place.word) t) → WritesAt S R e op r → Does S R place op r
-written_at S R place op r e some is_e w t stored = struct_written S R place op r e t (is_e t stored) some w stored
+-- what is no struct isn't changed
+pub no_struct : (a : Target) (change : StructChange) (t : Tree) → None ≡ struct_in a t → struct_changed change t ≡ denied NoSuchPlace
+no_struct a change (Struct ws ts) none = absurd (cc)
+no_struct a (Bits n) Null none = refl
+no_struct a (Bits n) (Capability j) none = refl
+no_struct a (Bits n) (Flat size ns) none = refl
+no_struct a (Bits n) (Pointers ts) none = refl
+no_struct a (Bits n) (Structs d q es) none = refl
+no_struct a (Content source) Null none = refl
+no_struct a (Content source) (Capability j) none = refl
+no_struct a (Content source) (Flat size ns) none = refl
+no_struct a (Content source) (Pointers ts) none = refl
+no_struct a (Content source) (Structs d q es) none = refl
 
--- and of what is no struct
-some_field : (o : Option Field) → is_field o ≡ true → (f : Field) × (o ≡ Some f)
-some_field (Some f) e = (f, refl)
-some_field None e = absurd (cc)
-
-no_struct : (S : Segments) (place : PointerPlace) (op : Op) (t : Tree) → is_field (field_of op) ≡ true → ((f : Field) → with_written f t ≡ denied NoSuchPlace) → DoesAt S S place op t (Some NoSuchPlace)
-no_struct S place op t some none =
-    let (f, is_f) = some_field (field_of op) some in
-    denied_at NoSuchPlace (never_makes op (PointerTo t) ((made_written op f t is_f).0 ∙ none f)) refl refl
-
-no_struct_fits : (S : Segments) (place : PointerPlace) (op : Op) (t : Tree) → None ≡ struct_in (target S place.segment place.word) t → is_field (field_of op) ≡ true → DoesAt S S place op t (Some NoSuchPlace)
-no_struct_fits S place op (Struct ws ts) is_none some = absurd (cc)
-no_struct_fits S place op Null is_none some = no_struct S place op Null some (λ f. refl)
-no_struct_fits S place op (Capability j) is_none some = no_struct S place op (Capability j) some (λ f. refl)
-no_struct_fits S place op (Flat size ns) is_none some = no_struct S place op (Flat size ns) some (λ f. refl)
-no_struct_fits S place op (Pointers ts) is_none some = no_struct S place op (Pointers ts) some (λ f. refl)
-no_struct_fits S place op (Structs d q es) is_none some = no_struct S place op (Structs d q es) some (λ f. refl)
-
-pub no_struct_at : (S : Segments) (place : PointerPlace) (op : Op) → is_field (field_of op) ≡ true → ((t : Tree) → IsStored S place.segment place.word t → None ≡ struct_in (target S place.segment place.word) t) →
-    Does S S place op (Some NoSuchPlace)
-no_struct_at S place op some is_none t stored = no_struct_fits S place op t (is_none t stored) some
-
-at_pointer : (S R : Segments) (e : Edit) (place : PointerPlace) (r : Option ErrorKind) (t x : Tree) → PathLeads S 0 0 t (path_of e.path.now) place.segment place.word x → found t (path_of e.path.now) ≡ Some (PointerTo x) → IsForest S t →
-    DoesAt S R place e.op x r → (u : Tree) × IsForest R u × Takes e t r u
-at_pointer S R e place r t x leads spot forest does = stands does.left does.leaves does.stands
+-- at a pointer
+at_pointer : (S R : Segments) (e : Edit) (place : PointerPlace) (making : Making) (r : Option ErrorKind) (t x : Tree) → made (task_of e.op) (PointerTo x) ≡ making → PathLeads S 0 0 t (path_of e.path.now) place.segment place.word x →
+    found t (path_of e.path.now) ≡ Some (PointerTo x) → IsForest S t → DoesAt S R place making x r → (u : Tree) × IsForest R u × Takes e t r u
+at_pointer S R e place making r t x makes leads spot forest does = stands does.left (subst (λ m. Leaves m r does.left) (sym makes) does.leaves) does.stands
   where
-    stands : (o : Option Tree) → Leaves e.op (made e.op (PointerTo x)) r o → IsReplacedIf S R place x o → (u : Tree) × IsForest R u × Takes e t r u
+    stands : (o : Option Tree) → Leaves (made (task_of e.op) (PointerTo x)) r o → IsReplacedIf S R place x o → (u : Tree) × IsForest R u × Takes e t r u
     stands (Some y) left replaced = (update t (path_of e.path.now) y, forest_updated S R t (path_of e.path.now) place.segment place.word x y forest leads replaced, leads_to (PointerTo x) (Some y) spot left refl)
     stands None left same = (t, subst (λ Q. IsForest Q t) (sym same) forest, leads_to (PointerTo x) None spot left refl)
 
--- at a pointer
-pub applied_pointer : (S R : Segments) (e : Edit) (place : PointerPlace) (r : Option ErrorKind) → ((t : Tree) → IsStored S 0 0 t → IsPointerFound S 0 0 t (path_of e.path.now) place.segment place.word) → Does S R place e.op r → IsApplied S R e r
-applied_pointer S R e place r leads does t forest =
+pub applied_pointer : (S R : Segments) (e : Edit) (place : PointerPlace) (task : Task) (r : Option ErrorKind) → task_of e.op ≡ Some task →
+    ((t : Tree) → IsStored S 0 0 t → IsPointerFound S 0 0 t (path_of e.path.now) place.segment place.word) → Does S R place task r → IsApplied S R e r
+applied_pointer S R e place task r is leads does t forest =
     let stored = forest_stored S t forest in
     let f = leads t stored in
-    at_pointer S R e place r t f.value f.leads f.spot forest (does f.value (stored_within S 0 0 t (path_of e.path.now) place.segment place.word f.value f.leads stored))
+    at_pointer S R e place (made_at task (PointerTo f.value)) r t f.value (ap (λ o. made o (PointerTo f.value)) is) f.leads f.spot forest
+    (does f.value (stored_within S 0 0 t (path_of e.path.now) place.segment place.word f.value f.leads stored))
 
 -- an element of a list of structs is a struct
 pub element_struct : (es : Elements) (i : ℕ) → i < element_count es → (ws : List ℕ) × (ts : Trees) × (struct_at es i ≡ Struct ws ts)
@@ -336,10 +220,10 @@ element_width S n s p d q es c i ws ts (b, m, k, some, o, claim, tag, fits, all,
 pub element_width_stored : (S : Segments) (s p d q : ℕ) (es : Elements) (i : ℕ) (ws : List ℕ) (ts : Trees) → IsStored S s p (Structs d q es) → i < element_count es → struct_at es i ≡ Struct ws ts → length ws ≡ d
 element_width_stored S s p d q es i ws ts stored l is = let m = stored.means in element_width S m.0 s p d q es m.1 i ws ts m.2 l is
 
-at_element : (S R : Segments) (e : Edit) (s : ExistingStruct) (r : Option ErrorKind) (t : Tree) (f : IsElementFound S 0 0 t (path_of e.path.now) s) (ws : List ℕ) (ts : Trees) → struct_at f.elements f.index ≡ Struct ws ts → length ws ≡ s.size.data_words →
-    IsStored S f.list_segment f.list_at (Structs s.size.data_words s.size.pointers f.elements) → found t (path_of e.path.now) ≡ Some (ElementOf (Struct ws ts)) → IsForest S t → ((source : Source) → e.op ≡ CopyContent source → ⊥) → WritesAt S R s e.op r →
-    (u : Tree) × IsForest R u × Takes e t r u
-at_element S R e s r t f ws ts is wide stored spot forest other (is_put g is_g range (are_written starts ends done written)) =
+at_element : (S R : Segments) (e : Edit) (s : ExistingStruct) (g : Field) (r : Option ErrorKind) (t : Tree) (f : IsElementFound S 0 0 t (path_of e.path.now) s) (ws : List ℕ) (ts : Trees) → struct_at f.elements f.index ≡ Struct ws ts →
+    length ws ≡ s.size.data_words → IsStored S f.list_segment f.list_at (Structs s.size.data_words s.size.pointers f.elements) → found t (path_of e.path.now) ≡ Some (ElementOf (Struct ws ts)) → IsForest S t →
+    made (task_of e.op) (ElementOf (Struct ws ts)) ≡ with_written g (Struct ws ts) → PutsBits S R s g r → (u : Tree) × IsForest R u × Takes e t r u
+at_element S R e s g r t f ws ts is wide stored spot forest makes (are_written starts ends done written) =
     let d = s.size.data_words in
     let q = s.size.pointers in
     let list = Structs d q f.elements in
@@ -352,20 +236,21 @@ at_element S R e s r t f ws ts is wide stored spot forest other (is_put g is_g r
     ap (λ p. update t p y) f.path_is ∙ update-append t f.front (Element f.index ∷ []) list y f.spot in (
       update t f.front (Structs d q (put_struct f.elements f.index y)),
       forest_updated S R t f.front f.list_segment f.list_at list (Structs d q (put_struct f.elements f.index y)) forest f.leads replaced,
-      leads_to (ElementOf (Struct ws ts)) (Some y) spot (as_it_stands (is_done y (in_range_makes e.op (ElementOf (Struct ws ts)) range ∙ (made_written e.op g (Struct ws ts) is_g).1 ∙ field_there g ws ts within) done refl)) (sym same),
+      leads_to (ElementOf (Struct ws ts)) (Some y) spot (as_it_stands (is_done y (makes ∙ field_there g ws ts within) done refl)) (sym same),
     )
-at_element S R e s r t f ws ts is wide stored spot forest other (is_put g is_g range (are_outside far named same)) =
+at_element S R e s g r t f ws ts is wide stored spot forest makes (are_outside far named same) =
     let past : 64 * length ws < g.start + g.bits = rw wide far in
-    (t, subst (λ Q. IsForest Q t) (sym same) forest, leads_to (ElementOf (Struct ws ts)) None spot (as_it_stands (is_denied NoSuchPlace (in_range_makes e.op (ElementOf (Struct ws ts)) range ∙ (made_written e.op g (Struct ws ts) is_g).1 ∙ field_past g ws ts past) named refl)) refl)
-at_element S R e s r t f ws ts is wide stored spot forest other (is_out_of_range out named same) =
-    (t, subst (λ Q. IsForest Q t) (sym same) forest, leads_to (ElementOf (Struct ws ts)) None spot (as_it_stands (is_denied NoSuchPlace (out_makes e.op (ElementOf (Struct ws ts)) out) named refl)) refl)
-at_element S R e s r t f ws ts is wide stored spot forest other (has_none none named same) =
-    (t, subst (λ Q. IsForest Q t) (sym same) forest, leads_to (ElementOf (Struct ws ts)) None spot (as_it_stands (is_denied NoSuchPlace (never_makes e.op (ElementOf (Struct ws ts)) (none_made e.op (Struct ws ts) none other)) named refl)) refl)
+    (t, subst (λ Q. IsForest Q t) (sym same) forest, leads_to (ElementOf (Struct ws ts)) None spot (as_it_stands (is_denied NoSuchPlace (makes ∙ field_past g ws ts past) named refl)) refl)
 
--- at an element
-pub applied_element : (S R : Segments) (e : Edit) (s : ExistingStruct) (r : Option ErrorKind) → ((t : Tree) → IsStored S 0 0 t → IsElementFound S 0 0 t (path_of e.path.now) s) → ((source : Source) → e.op ≡ CopyContent source → ⊥) → WritesAt S R s e.op r →
+-- what a path leads to that leads to an element
+pub element_spot : (S : Segments) (e : Edit) (s : ExistingStruct) (t : Tree) (f : IsElementFound S 0 0 t (path_of e.path.now) s) (ws : List ℕ) (ts : Trees) → struct_at f.elements f.index ≡ Struct ws ts → found t (path_of e.path.now) ≡ Some (ElementOf (Struct ws ts))
+element_spot S e s t f ws ts is =
+    ap (found t) f.path_is ∙ found-append t f.front (Element f.index ∷ []) (Structs s.size.data_words s.size.pointers f.elements) f.spot ∙ first f.index (element_count f.elements) _ _ f.counts ∙ ap (λ x. Some (ElementOf x)) is
+
+-- bits of an element are written
+pub applied_bits : (S R : Segments) (e : Edit) (s : ExistingStruct) (n : Number) (r : Option ErrorKind) → task_of e.op ≡ Some (InStruct (Bits n)) → ((t : Tree) → IsStored S 0 0 t → IsElementFound S 0 0 t (path_of e.path.now) s) → PutsBits S R s (bits_of n) r →
     IsApplied S R e r
-applied_element S R e s r leads other w t forest =
+applied_bits S R e s n r is_task leads w t forest =
     let stored = forest_stored S t forest in
     let f = leads t stored in
     let list = Structs s.size.data_words s.size.pointers f.elements in
@@ -373,9 +258,33 @@ applied_element S R e s r leads other w t forest =
     let there = stored_within S 0 0 t f.front f.list_segment f.list_at list f.leads stored in
     let means = there.means in
     let wide = element_width S means.0 f.list_segment f.list_at s.size.data_words s.size.pointers f.elements means.1 f.index ws ts means.2 f.counts is in
-    let spot : found t (path_of e.path.now) ≡ Some (ElementOf (Struct ws ts)) =
-    ap (found t) f.path_is ∙ found-append t f.front (Element f.index ∷ []) list f.spot ∙ first f.index (element_count f.elements) _ _ f.counts ∙ ap (λ x. Some (ElementOf x)) is in
-    at_element S R e s r t f ws ts is wide there spot forest other w
+    at_element S R e s (bits_of n) r t f ws ts is wide there (element_spot S e s t f ws ts is) forest (ap (λ o. made o (ElementOf (Struct ws ts))) is_task) w
+
+-- any other task is for no element
+none_made : (task : Task) (t : Tree) → ((change : StructChange) → task ≡ InStruct change → ⊥) → made_at task (ElementOf t) ≡ denied NoSuchPlace
+none_made (InStruct change) t other = absurd (other change refl)
+none_made (Make object) t other = refl
+none_made (Point (Some i)) t other = refl
+none_made (Point None) t other = refl
+none_made (Write part) t other = refl
+none_made (Search sought default) t other = refl
+none_made (CopyRoot c) t other = refl
+
+pub none_applied : (S : Segments) (e : Edit) (s : ExistingStruct) (task : Task) → task_of e.op ≡ Some task → ((change : StructChange) → task ≡ InStruct change → ⊥) → ((t : Tree) → IsStored S 0 0 t → IsElementFound S 0 0 t (path_of e.path.now) s) →
+    IsApplied S S e (Some NoSuchPlace)
+none_applied S e s task is_task other leads t forest =
+    let f = leads t (forest_stored S t forest) in
+    let (ws, ts, is) = element_struct f.elements f.index f.counts in
+    let x : Tree = Struct ws ts in
+    (t, forest, leads_to (ElementOf x) None (element_spot S e s t f ws ts is) (as_it_stands (is_denied NoSuchPlace (ap (λ o. made o (ElementOf x)) is_task ∙ none_made task x other) refl refl)) refl)
+
+-- numbers that are out of range
+pub out_applied : (S : Segments) (e : Edit) → task_of e.op ≡ None → IsApplied S S e (Some NoSuchPlace)
+out_applied S e out t forest = (t, forest, takes (found t (path_of e.path.now)) refl)
+  where
+    takes : (o : Option Spot) → found t (path_of e.path.now) ≡ o → Takes e t (Some NoSuchPlace) t
+    takes (Some spot) is = leads_to spot None is (as_it_stands (is_denied NoSuchPlace (ap (λ x. made x spot) out) refl refl)) refl
+    takes None is = leads_nowhere is refl refl
 
 -- nowhere
 pub applied_nowhere : (S : Segments) (e : Edit) → ((t : Tree) → IsStored S 0 0 t → IsFound S 0 0 t (path_of e.path.now) None) → IsApplied S S e (Some NoSuchPlace)

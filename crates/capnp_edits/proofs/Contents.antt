@@ -24,12 +24,12 @@ use Rattle.capnp_readers.specs.declared.readers.PointerPlace.{PointerPlace}
 use Rattle.capnp_builders.specs.Places.{field}
 use Rattle.capnp_builders.proofs.FoundBytes.{data_inside, text_inside}
 use Rattle.capnp_builders.proofs.FoundLists.{found_inside}
-use Rattle.capnp_edits.specs.declared.edit.Op.{Op}
-use Rattle.capnp_edits.specs.declared.edit.Op.TheVariants.{SetElement, WriteText, WriteData}
-use Rattle.capnp_edits.specs.Paths.{PointerTo}
-use Rattle.capnp_edits.specs.Edits.{is_in_range, becomes, denied, struct_with, with_lowest, nowhere, count_of, length_of, if_reached, made_at, Does, DoesAt, is_number_from, PutsElement, element_put, element_past, no_list, list_denied, PutsByte, byte_put, byte_past, no_bytes_there, bytes_denied}
+use Rattle.capnp_edits.specs.declared.edit.tasks.Task.TheVariants.{Write}
+use Rattle.capnp_edits.specs.declared.edit.tasks.Part.TheVariants.{ListElement, TextByte, DataByte}
+use Rattle.capnp_edits.specs.Tasks.{is_number}
+use Rattle.capnp_edits.specs.Edits.{becomes, denied, struct_with, with_lowest, nowhere, count_of, length_of, if_reached, part_written, Does, DoesAt, PutsElement, element_put, element_past, no_list, list_denied, PutsByte, byte_put, byte_past, no_bytes_there, bytes_denied}
 use Rattle.capnp_edits.proofs.Steps.{first, second, chosen}
-use Rattle.capnp_edits.proofs.Applied.{done_at, denied_at, in_range_makes, element_struct, element_width_stored}
+use Rattle.capnp_edits.proofs.Applied.{done_at, denied_at, element_struct, element_width_stored}
 use Rattle.capnp_edits.proofs.Fields.{number_parts}
 
 -- wherever a list, a text or data is, what counts its elements alone says the same of it
@@ -72,17 +72,14 @@ text_anywhere f alike a b (Pointers ts) = refl
 text_anywhere f alike a b (Structs d q es) = refl
 
 -- an element that is reached, or not
-pub reached_done : (S R : Segments) (place : PointerPlace) (op : Op) (t u : Tree) (i n : ℕ) (c : Result ℕ ErrorKind) → is_in_range op ≡ true → made_at op (PointerTo t) ≡ if_reached i c u → c ≡ Ok n → i < n →
-    IsReplaced S R place.segment place.word t u → DoesAt S R place op t None
-reached_done S R place op t u i n c range makes is_n l replaced =
-    done_at u (in_range_makes op (PointerTo t) range ∙ makes ∙ ap (λ x. if_reached i x u) is_n ∙ first i n (becomes u) (denied NoSuchPlace) l) refl replaced
+reached_done : (S R : Segments) (place : PointerPlace) (t u : Tree) (i n : ℕ) (c : Result ℕ ErrorKind) → c ≡ Ok n → i < n → IsReplaced S R place.segment place.word t u → DoesAt S R place (if_reached i c u) t None
+reached_done S R place t u i n c is_n l replaced = done_at u (ap (λ x. if_reached i x u) is_n ∙ first i n (becomes u) (denied NoSuchPlace) l) refl replaced
 
-pub reached_past : (S : Segments) (place : PointerPlace) (op : Op) (t u : Tree) (i n : ℕ) (c : Result ℕ ErrorKind) → is_in_range op ≡ true → made_at op (PointerTo t) ≡ if_reached i c u → c ≡ Ok n → n ≤ i → DoesAt S S place op t (Some NoSuchPlace)
-reached_past S place op t u i n c range makes is_n l =
-    denied_at NoSuchPlace (in_range_makes op (PointerTo t) range ∙ makes ∙ ap (λ x. if_reached i x u) is_n ∙ second i n (becomes u) (denied NoSuchPlace) l) refl refl
+reached_past : (S : Segments) (place : PointerPlace) (t u : Tree) (i n : ℕ) (c : Result ℕ ErrorKind) → c ≡ Ok n → n ≤ i → DoesAt S S place (if_reached i c u) t (Some NoSuchPlace)
+reached_past S place t u i n c is_n l = denied_at NoSuchPlace (ap (λ x. if_reached i x u) is_n ∙ second i n (becomes u) (denied NoSuchPlace) l) refl refl
 
-pub reached_denied : (S : Segments) (place : PointerPlace) (op : Op) (t u : Tree) (i : ℕ) (k : ErrorKind) (c : Result ℕ ErrorKind) → is_in_range op ≡ true → made_at op (PointerTo t) ≡ if_reached i c u → c ≡ Err k → DoesAt S S place op t (Some k)
-reached_denied S place op t u i k c range makes is_k = denied_at k (in_range_makes op (PointerTo t) range ∙ makes ∙ ap (λ x. if_reached i x u) is_k) refl refl
+reached_denied : (S : Segments) (place : PointerPlace) (t u : Tree) (i : ℕ) (k : ErrorKind) (c : Result ℕ ErrorKind) → c ≡ Err k → DoesAt S S place (if_reached i c u) t (Some k)
+reached_denied S place t u i k c is_k = denied_at k (ap (λ x. if_reached i x u) is_k) refl refl
 
 -- elements that are no structs, where numbers or bits are expected: they are at least as wide
 plain_wide : (expected found : ElementSize) → plain_misfit expected found ≡ None → element_bits (size_number expected) ≤ element_bits (size_number found)
@@ -225,73 +222,69 @@ text_written_at S R s p (Struct ws ts) b i v is_b stored less small written = ab
 text_written_at S R s p (Pointers ts) b i v is_b stored less small written = absurd (cc)
 text_written_at S R s p (Structs d q es) b i v is_b stored less small written = absurd (cc)
 
--- what the operations leave
-pub element_does : (S R : Segments) (place : PointerPlace) (size : ElementSize) (i v : ℕ) (r : Option ErrorKind) (looked : Result (Option ExistingList) ErrorKind) → IsPlace S place.segment place.word → is_number_from 1 size v ≡ true →
-    ((t : Tree) → IsStored S place.segment place.word t → looked ≡ list_in (target S place.segment place.word) size t) → PutsElement S R looked size i v r → Does S R place (SetElement size i v) r
+-- what writing a part leaves
+pub element_does : (S R : Segments) (place : PointerPlace) (size : ElementSize) (i v : ℕ) (r : Option ErrorKind) (looked : Result (Option ExistingList) ErrorKind) → IsPlace S place.segment place.word → is_number size v ≡ true →
+    ((t : Tree) → IsStored S place.segment place.word t → looked ≡ list_in (target S place.segment place.word) size t) → PutsElement S R looked size i v r → Does S R place (Write (ListElement (record { size = size; index = i; value = v }))) r
 element_does S R place size i v r looked inside range is_found puts t stored = does (is_found t stored) puts
   where
-    op : Op
-    op = SetElement size i v
-
     w : ℕ
     w = element_bits (size_number size)
 
-    number : (1 ≤ size_number size) × (size_number size ≤ 5) × (v < 2 ^ element_bits (size_number size))
-    number = number_parts 1 size v range
+    parts : (1 ≤ size_number size) × (size_number size ≤ 5) × (v < 2 ^ element_bits (size_number size))
+    parts = number_parts size v range
 
     counted : looked ≡ list_in (target S place.segment place.word) size t → count_of (list_in nowhere size t) ≡ count_of looked
     counted found = list_anywhere count_of (λ l k e. ap Ok e) nowhere (target S place.segment place.word) size t ∙ ap count_of (sym found)
 
-    does : looked ≡ list_in (target S place.segment place.word) size t → PutsElement S R looked size i v r → DoesAt S R place (SetElement size i v) t r
+    does : looked ≡ list_in (target S place.segment place.word) size t → PutsElement S R looked size i v r → DoesAt S R place (part_written (ListElement (record { size = size; index = i; value = v })) t) t r
     does found (element_put l is_l less done written) = rw done (
-        reached_done S R place op t (with_lowest i w v t) i l.count (count_of (list_in nowhere size t)) range refl (counted found ∙ ap count_of is_l) less
-        (list_written S R place.segment place.word size t l i v number.0 number.1 number.2 (sym is_l ∙ found) stored less written))
+        reached_done S R place t (with_lowest i w v t) i l.count (count_of (list_in nowhere size t)) (counted found ∙ ap count_of is_l) less
+        (list_written S R place.segment place.word size t l i v parts.0 parts.1 parts.2 (sym is_l ∙ found) stored less written))
     does found (element_past l is_l past named kept) = rw (named, kept) (
-        reached_past S place op t (with_lowest i w v t) i l.count (count_of (list_in nowhere size t)) range refl (counted found ∙ ap count_of is_l)
-        (past (found_inside S place.segment place.word size t l (there S place.segment place.word inside) stored (sym found ∙ is_l)) (found_wide S place.segment place.word size t l number.0 number.1 (sym is_l ∙ found) stored)))
+        reached_past S place t (with_lowest i w v t) i l.count (count_of (list_in nowhere size t)) (counted found ∙ ap count_of is_l)
+        (past (found_inside S place.segment place.word size t l (there S place.segment place.word inside) stored (sym found ∙ is_l)) (found_wide S place.segment place.word size t l parts.0 parts.1 (sym is_l ∙ found) stored)))
     does found (no_list is_none named kept) = rw (named, kept) (
-        reached_past S place op t (with_lowest i w v t) i 0 (count_of (list_in nowhere size t)) range refl (counted found ∙ ap count_of is_none) (omega arith))
+        reached_past S place t (with_lowest i w v t) i 0 (count_of (list_in nowhere size t)) (counted found ∙ ap count_of is_none) (omega arith))
     does found (list_denied k is_k named kept) = rw (named, kept) (
-        reached_denied S place op t (with_lowest i w v t) i k (count_of (list_in nowhere size t)) range refl (counted found ∙ ap count_of is_k))
+        reached_denied S place t (with_lowest i w v t) i k (count_of (list_in nowhere size t)) (counted found ∙ ap count_of is_k))
 
 -- where bytes are looked for, and how a byte of them is written
-record Looks (look : Target → Tree → Result (Option ExistingBytes) ErrorKind) (op : Op) (i v : ℕ) : Type 1 where
-  range : is_in_range op ≡ true
-  makes : (t : Tree) → made_at op (PointerTo t) ≡ if_reached i (length_of (look nowhere t)) (with_lowest i 8 v t)
+record Looks (look : Target → Tree → Result (Option ExistingBytes) ErrorKind) (i v : ℕ) : Type 0 where
   long : (a b : Target) (t : Tree) → length_of (look a t) ≡ length_of (look b t)
   inside : (S : Segments) (s p : ℕ) (t : Tree) (b : ExistingBytes) → s < length S → IsStored S s p t → look (target S s p) t ≡ Ok (Some b) → LieIn S b
   written : (S R : Segments) (s p : ℕ) (t : Tree) (b : ExistingBytes) → Ok (Some b) ≡ look (target S s p) t → IsStored S s p t → i < b.length → R ≡ with_field S b.segment (8 * (8 * b.start + i)) 8 v → IsReplaced S R s p t (with_lowest i 8 v t)
 
-byte_does : (S R : Segments) (place : PointerPlace) (op : Op) (i v : ℕ) (look : Target → Tree → Result (Option ExistingBytes) ErrorKind) (r : Option ErrorKind) (looked : Result (Option ExistingBytes) ErrorKind) →
-    IsPlace S place.segment place.word → Looks look op i v → ((t : Tree) → IsStored S place.segment place.word t → looked ≡ look (target S place.segment place.word) t) → PutsByte S R looked i v r → Does S R place op r
-byte_does S R place op i v look r looked inside looks is_found puts t stored = does (is_found t stored) puts
+byte_does : (S R : Segments) (place : PointerPlace) (i v : ℕ) (look : Target → Tree → Result (Option ExistingBytes) ErrorKind) (r : Option ErrorKind) (looked : Result (Option ExistingBytes) ErrorKind) (t : Tree) →
+    IsPlace S place.segment place.word → Looks look i v → IsStored S place.segment place.word t → looked ≡ look (target S place.segment place.word) t → PutsByte S R looked i v r →
+    DoesAt S R place (if_reached i (length_of (look nowhere t)) (with_lowest i 8 v t)) t r
+byte_does S R place i v look r looked t inside looks stored found puts = does puts
   where
-    counted : looked ≡ look (target S place.segment place.word) t → length_of (look nowhere t) ≡ length_of looked
-    counted found = looks.long nowhere (target S place.segment place.word) t ∙ ap length_of (sym found)
+    counted : length_of (look nowhere t) ≡ length_of looked
+    counted = looks.long nowhere (target S place.segment place.word) t ∙ ap length_of (sym found)
 
-    does : looked ≡ look (target S place.segment place.word) t → PutsByte S R looked i v r → DoesAt S R place op t r
-    does found (byte_put b is_b less done written) = rw done (
-        reached_done S R place op t (with_lowest i 8 v t) i b.length (length_of (look nowhere t)) looks.range (looks.makes t) (counted found ∙ ap length_of is_b) less
+    does : PutsByte S R looked i v r → DoesAt S R place (if_reached i (length_of (look nowhere t)) (with_lowest i 8 v t)) t r
+    does (byte_put b is_b less done written) = rw done (
+        reached_done S R place t (with_lowest i 8 v t) i b.length (length_of (look nowhere t)) (counted ∙ ap length_of is_b) less
         (looks.written S R place.segment place.word t b (sym is_b ∙ found) stored less written))
-    does found (byte_past b is_b past named kept) = rw (named, kept) (
-        reached_past S place op t (with_lowest i 8 v t) i b.length (length_of (look nowhere t)) looks.range (looks.makes t) (counted found ∙ ap length_of is_b)
+    does (byte_past b is_b past named kept) = rw (named, kept) (
+        reached_past S place t (with_lowest i 8 v t) i b.length (length_of (look nowhere t)) (counted ∙ ap length_of is_b)
         (past (looks.inside S place.segment place.word t b (there S place.segment place.word inside) stored (sym found ∙ is_b))))
-    does found (no_bytes_there is_none named kept) = rw (named, kept) (
-        reached_past S place op t (with_lowest i 8 v t) i 0 (length_of (look nowhere t)) looks.range (looks.makes t) (counted found ∙ ap length_of is_none) (omega arith))
-    does found (bytes_denied k is_k named kept) = rw (named, kept) (
-        reached_denied S place op t (with_lowest i 8 v t) i k (length_of (look nowhere t)) looks.range (looks.makes t) (counted found ∙ ap length_of is_k))
+    does (no_bytes_there is_none named kept) = rw (named, kept) (
+        reached_past S place t (with_lowest i 8 v t) i 0 (length_of (look nowhere t)) (counted ∙ ap length_of is_none) (omega arith))
+    does (bytes_denied k is_k named kept) = rw (named, kept) (
+        reached_denied S place t (with_lowest i 8 v t) i k (length_of (look nowhere t)) (counted ∙ ap length_of is_k))
 
 pub text_does : (S R : Segments) (place : PointerPlace) (i v : ℕ) (r : Option ErrorKind) (looked : Result (Option ExistingBytes) ErrorKind) → IsPlace S place.segment place.word → v < 256 →
-    ((t : Tree) → IsStored S place.segment place.word t → looked ≡ text_in (target S place.segment place.word) t) → PutsByte S R looked i v r → Does S R place (WriteText i v) r
-text_does S R place i v r looked inside small is_found puts =
-    byte_does S R place (WriteText i v) i v text_in r looked inside
-    (record { range = refl; makes = λ t. refl; long = text_anywhere length_of (λ b c e. ap Ok e); inside = text_inside; written = λ S R s p t b is_b stored less written. text_written_at S R s p t b i v is_b stored less small written }) is_found puts
+    ((t : Tree) → IsStored S place.segment place.word t → looked ≡ text_in (target S place.segment place.word) t) → PutsByte S R looked i v r → Does S R place (Write (TextByte i v)) r
+text_does S R place i v r looked inside small is_found puts t stored =
+    byte_does S R place i v text_in r looked t inside
+    (record { long = text_anywhere length_of (λ b c e. ap Ok e); inside = text_inside; written = λ S R s p t b is_b stored less written. text_written_at S R s p t b i v is_b stored less small written }) stored (is_found t stored) puts
 
 pub data_does : (S R : Segments) (place : PointerPlace) (i v : ℕ) (r : Option ErrorKind) (looked : Result (Option ExistingBytes) ErrorKind) → IsPlace S place.segment place.word → v < 256 →
-    ((t : Tree) → IsStored S place.segment place.word t → looked ≡ data_in (target S place.segment place.word) t) → PutsByte S R looked i v r → Does S R place (WriteData i v) r
-data_does S R place i v r looked inside small is_found puts =
-    byte_does S R place (WriteData i v) i v data_in r looked inside
-    (record { range = refl; makes = λ t. refl; long = data_anywhere length_of (λ b c e. ap Ok e); inside = data_inside; written = λ S R s p t b is_b stored less written. data_written_at S R s p t b i v is_b stored less small written }) is_found puts
+    ((t : Tree) → IsStored S place.segment place.word t → looked ≡ data_in (target S place.segment place.word) t) → PutsByte S R looked i v r → Does S R place (Write (DataByte i v)) r
+data_does S R place i v r looked inside small is_found puts t stored =
+    byte_does S R place i v data_in r looked t inside
+    (record { long = data_anywhere length_of (λ b c e. ap Ok e); inside = data_inside; written = λ S R s p t b is_b stored less written. data_written_at S R s p t b i v is_b stored less small written }) stored (is_found t stored) puts
 
 -- what was looked for, and is there
 pub is_found : {A : Type 0} (r : Result (Option A) ErrorKind) (o : Option A) (x : A) → r ≡ Ok o → o ≡ Some x → r ≡ Ok (Some x)

@@ -13,7 +13,7 @@ use Rattle.capnp_format.specs.Numbers.{element_bits}
 use Rattle.capnp_format.specs.Segments.{Segments, Target, segment, AreWords}
 use Rattle.capnp_format.specs.Word.{kind, element_size}
 use Rattle.capnp_format.specs.Tree.{Tree, Null, Struct, Trees, count}
-use Rattle.capnp_making.specs.Memory.{HasRoom, KeepsMemory, SpendsMemory}
+use Rattle.capnp_making.specs.Memory.{KeepsMemory, SpendsMemory}
 use Rattle.capnp_making.proofs.Memory.{not_the_allocator}
 use Rattle.capnp_making.specs.Stored.{Puts}
 use Rattle.capnp_objects.specs.declared.object.Expected.{Expected}
@@ -41,18 +41,16 @@ use Rattle.capnp_widening.specs.Opening.{CallAt}
 use Rattle.capnp_copies.specs.ListValues.{ListElements, ReadsList, RefusesElements, RefusesList, elements_read}
 use Rattle.capnp_copies.specs.StructValues.{RefusesSections, RefusesStruct, data_of}
 use Rattle.capnp_builders.specs.Kept.{PutsCopy, PutsStruct, PutsList, IsKept}
-use Rattle.capnp_edits.specs.declared.edit.Op.{Op}
-use Rattle.capnp_edits.specs.declared.edit.Op.TheVariants.{CopyFrom, SetStruct, SetList, CopyContent}
 use Rattle.capnp_edits.specs.declared.edit.Source.{Source}
 use Rattle.capnp_edits.specs.declared.edit.copying.Copying.{Copying}
 use Rattle.capnp_edits.specs.declared.edit.copying.Wanted.{Wanted}
-use Rattle.capnp_edits.specs.declared.edit.copying.Wanted.TheVariants.{Value, Struct as AStruct, List as AList, Content}
-use Rattle.capnp_edits.specs.Paths.{PointerTo}
-use Rattle.capnp_edits.specs.Sources.{is_whole, copy_at, words_in, root_of, once_at_root, as_wanted, HasRoot, IsOpened, CanBeCopiedAs, IsRootless, IsWithheld, IsUnread, FitsBehind, Sections, LeadsToStruct, LeadsToList, RefusesAs, CopiedOrRefused}
-use Rattle.capnp_edits.specs.Edits.{as_it_stands, refusal_of, made, copies, copied_by, IsOfMemory, is_search, takes_memory, words_taken, is_of_place, refusals_after, CopiesRoot, root_copied, root_not_copied, root_unread, Does, is_copied, is_not_copied, is_unread}
-use Rattle.capnp_edits.specs.Steps.{call_to, result_of, OpFits, IsWholeRefused, IsCallRefused, IsRefusedAs, TakesForWanted, TakesForWhole}
+use Rattle.capnp_edits.specs.declared.edit.copying.Wanted.TheVariants.{Value, Struct as AStruct, List as AList}
+use Rattle.capnp_edits.specs.declared.edit.tasks.Task.TheVariants.{CopyRoot}
+use Rattle.capnp_edits.specs.Sources.{copy_at, words_in, root_of, once_at_root, as_wanted, HasRoot, IsOpened, CanBeCopiedAs, IsRootless, IsWithheld, IsUnread, FitsBehind, Sections, LeadsToStruct, LeadsToList, RefusesAs, CopiedOrRefused}
+use Rattle.capnp_edits.specs.Edits.{as_it_stands, refusal_of, IsOfMemory, is_of_place, refusals_after, CopiesRoot, root_copied, root_not_copied, root_unread, Does, is_copied, is_not_copied, is_unread}
+use Rattle.capnp_edits.specs.Steps.{call_to, result_of, IsDoneAt, IsWholeRefused, TakesForWanted, TakesForWhole}
 use Rattle.capnp_edits.proofs.Taken.{value_taken, object_taken, list_taken}
-use Rattle.capnp_edits.proofs.Applied.{room_for, of_allocation, of_no_place, never_refused}
+use Rattle.capnp_edits.proofs.Applied.{of_allocation, of_no_place, named_refusal, never_refused}
 use Rattle.capnp_edits.proofs.CopiedStruct.{own_long, struct_at, struct_reads, struct_refused, struct_given, struct_fits}
 use Rattle.capnp_edits.proofs.CopiedList.{list_at, list_reads, list_refused, list_given, list_small, list_fits}
 use Rattle.capnp_edits.proofs.Steps.{same_some}
@@ -75,28 +73,17 @@ value_refused : (b : Bool) (id at : ℕ) (old new : View) (r : Reading) (m m' : 
 value_refused b id at old new r m m' k (inl (n, (refuses, none), wanted, large)) = inl (of_allocation old new (length new.words) (n + 1) k refuses)
 value_refused b id at old new r m m' k (inr refused) = inr refused
 
-copy_refused_as : (w : Wanted) (b : Bool) (id at : ℕ) (old new : View) (r : Reading) (m m' : Meter) (k : ErrorKind) → is_whole w ≡ true → RefusesAs w r (change (form_of b) id at old new m m') k →
+copy_refused_as : (w : Wanted) (b : Bool) (id at : ℕ) (old new : View) (r : Reading) (m m' : Meter) (k : ErrorKind) → RefusesAs w r (change (form_of b) id at old new m m') k →
     IsOfMemory k ⊎ Refused (form_of b) r m m' k
-copy_refused_as Value b id at old new r m m' k whole refuses = value_refused b id at old new r m m' k refuses
-copy_refused_as AStruct b id at old new r m m' k whole (s, leads, refuses) = struct_refused b id at old new r m m' s k leads refuses
-copy_refused_as AList b id at old new r m m' k whole (l, n, leads, refuses) = list_refused b id at old new r m n m' l k leads refuses
-copy_refused_as Content b id at old new r m m' k whole refuses = absurd refuses
+copy_refused_as Value b id at old new r m m' k refuses = value_refused b id at old new r m m' k refuses
+copy_refused_as AStruct b id at old new r m m' k (s, leads, refuses) = struct_refused b id at old new r m m' s k leads refuses
+copy_refused_as AList b id at old new r m m' k (l, n, leads, refuses) = list_refused b id at old new r m n m' l k leads refuses
 
-whole_nowhere : (w : Wanted) (b : Bool) (id at : ℕ) (old new : View) (r : Reading) (m m' : Meter) (k : ErrorKind) → is_whole w ≡ true → RefusesAs w r (change (form_of b) id at old new m m') k → k ≡ NoSuchPlace → ⊥
-whole_nowhere w b id at old new r m m' k whole refuses e = elim (copy_refused_as w b id at old new r m m' k whole refuses) [
+copy_nowhere_as : (w : Wanted) (b : Bool) (id at : ℕ) (old new : View) (r : Reading) (m m' : Meter) (k : ErrorKind) → RefusesAs w r (change (form_of b) id at old new m m') k → k ≡ NoSuchPlace → ⊥
+copy_nowhere_as w b id at old new r m m' k refuses e = elim (copy_refused_as w b id at old new r m m' k refuses) [
   | inl memory ↦ of_no_place k memory e
   | inr refused ↦ not_for_place (subst (λ y. Refused (form_of b) r m m' y) e refused)
 ]
-
-copy_nowhere_as : (w : Wanted) (b : Bool) (id at : ℕ) (old new : View) (r : Reading) (m m' : Meter) (k : ErrorKind) → RefusesAs w r (change (form_of b) id at old new m m') k → k ≡ NoSuchPlace → ⊥
-copy_nowhere_as Content b id at old new r m m' k refuses e = absurd refuses
-copy_nowhere_as Value b id at old new r m m' k refuses e = whole_nowhere Value b id at old new r m m' k refl refuses e
-copy_nowhere_as AStruct b id at old new r m m' k refuses e = whole_nowhere AStruct b id at old new r m m' k refl refuses e
-copy_nowhere_as AList b id at old new r m m' k refuses e = whole_nowhere AList b id at old new r m m' k refl refuses e
-
--- no whole value is copied as content
-none_wanted : (t u : Tree) → as_wanted Content t ≡ Some u → ⊥
-none_wanted t u e = absurd (cc)
 
 copy_fits_as : (w : Wanted) (c : Copying) (id at : ℕ) (old new : View) (r : Reading) (m m' : Meter) (k : ErrorKind) → c.wanted ≡ w → (c.wanted ≡ AList → AreWords r.segments) →
     CanBeCopiedAs c r m (length (segment old.words id)) (old.room id) → RefusesAs w r (change (form_of c.canonicalize) id at old new m m') k → ⊥
@@ -106,7 +93,6 @@ copy_fits_as Value c id at old new r m m' k is small can (inl (n, why, wanted, l
 copy_fits_as Value c id at old new r m m' k is small can (inr refused) = (unreadable refused).only can.value can.cost can.means can.takes can.covers
 copy_fits_as AStruct c id at old new r m m' k is small can (s, leads, refuses) = struct_fits c r m m' s id at old new k is leads can refuses
 copy_fits_as AList c id at old new r m m' k is small can (l, n, leads, refuses) = list_fits c r m n m' l id at old new k is leads (list_small r m n l (small is) leads) can refuses
-copy_fits_as Content c id at old new r m m' k is small can refuses = none_wanted can.value can.copied (subst (λ w. as_wanted w can.value ≡ Some can.copied) is can.is_wanted)
 
 -- A copy that was tried: what it leaves where result is Ok, and why it is refused where it isn't.
 pub record Tried {A : Type 0} (result : Result A ErrorKind) (c : Copying) (old new : View) (place : PointerPlace) : Type 0 where
@@ -116,13 +102,13 @@ pub record Tried {A : Type 0} (result : Result A ErrorKind) (c : Copying) (old n
   pub refused : IfErr result (RefusesAs c.wanted (root_of c.source) (change (form_of c.canonicalize) place.segment place.word old new (once_at_root c.source) after))
   pub taken : TakesForWanted c.wanted (refusal_of result) c.source (copy_at (call_to place old new) c after)
 
-pub tried_done : {A : Type 0} (result : Result A ErrorKind) (c : Copying) (old new : View) (place : PointerPlace) → is_whole c.wanted ≡ true → Tried result c old new place → OnErr result (Puts old.words new.words place.segment place.word Null) →
+pub tried_done : {A : Type 0} (result : Result A ErrorKind) (c : Copying) (old new : View) (place : PointerPlace) → Tried result c old new place → OnErr result (Puts old.words new.words place.segment place.word Null) →
     CopiesRoot old.words new.words place c (refusal_of result)
-tried_done (Ok x) c old new place whole tried cleared =
+tried_done (Ok x) c old new place tried cleared =
     let (t, w, reads, is, puts) = tried.done in
     root_copied (kept (form_of c.canonicalize) w) (record { root = tried.root; value = t; after = tried.after; is_read = reads; copied = w; is_wanted = is; is_kept = refl }) refl puts
-tried_done (Err k) c old new place whole tried cleared =
-    root_not_copied k (elim (copy_refused_as c.wanted c.canonicalize place.segment place.word old new (root_of c.source) (once_at_root c.source) tried.after k whole tried.refused) [
+tried_done (Err k) c old new place tried cleared =
+    root_not_copied k (elim (copy_refused_as c.wanted c.canonicalize place.segment place.word old new (root_of c.source) (once_at_root c.source) tried.after k tried.refused) [
       | inl memory ↦ inl memory
       | inr refused ↦ inr (tried.root, (tried.after, refused))
     ]) refl cleared
@@ -250,9 +236,6 @@ unread_as g c expected from m m' k wanted here refused =
 pub struct_unread : {A : Type 0} (g : Ghosts A) (c : Copying) (from : PointerReader A g) (m m' : Meter) (k : ErrorKind) → c.wanted ≡ AStruct → IsOpened g c.source from m → IsRefused g (call g from ExpectedStruct None) m m' k → IsUnread c k
 struct_unread g c from m m' k is here refused = unread_as g c ExpectedStruct from m m' k (λ r i j h. subst (λ w. IsWithheld w r i j k) (sym is) h) here refused
 
-pub content_unread : {A : Type 0} (g : Ghosts A) (c : Copying) (from : PointerReader A g) (m m' : Meter) (k : ErrorKind) → c.wanted ≡ Content → IsOpened g c.source from m → IsRefused g (call g from ExpectedStruct None) m m' k → IsUnread c k
-content_unread g c from m m' k is at_root refused = unread_as g c ExpectedStruct from m m' k (λ r i j h. subst (λ w. IsWithheld w r i j k) (sym is) h) at_root refused
-
 pub list_unread : {A : Type 0} (g : Ghosts A) (c : Copying) (from : PointerReader A g) (m m' : Meter) (k : ErrorKind) → c.wanted ≡ AList → IsOpened g c.source from m → IsRefused g (call g from (ExpectedList Void) None) m m' k → IsUnread c k
 list_unread g c from m m' k is here refused = unread_as g c (ExpectedList Void) from m m' k (λ r i j h. subst (λ w. IsWithheld w r i j k) (sym is) h) here refused
 
@@ -319,14 +302,12 @@ other_narrow n =
 other_unwanted : (w : Wanted) (r : Reading) (m m' : Meter) (k : ErrorKind) → IsWithheld w r m m' k → is_of_call k ≡ false
 other_unwanted Value r m m' k h = absurd h
 other_unwanted AStruct r m m' k h = other_withheld ExpectedStruct r m m' k other_kind (λ S a. tt) h
-other_unwanted Content r m m' k h = other_withheld ExpectedStruct r m m' k other_kind (λ S a. tt) h
 other_unwanted AList r m m' k h =
     other_withheld (ExpectedList Void) r m m' k other_list (λ S a. other_of (nat_eq (element_size a.word) 7) None (narrow_elements Void (element_size a.word)) tt (other_narrow (element_size a.word))) h
 
 -- what can be copied is neither unread nor unreadable
 wanted_there : (w : Wanted) (c : Copying) (r : Reading) (m m' : Meter) (used room : ℕ) (k : ErrorKind) → c.wanted ≡ w → CanBeCopiedAs c r m used room → IsWithheld w r m m' k → ⊥
 wanted_there Value c r m m' used room k is can h = h
-wanted_there Content c r m m' used room k is can h = none_wanted can.value can.copied (subst (λ w. as_wanted w can.value ≡ Some can.copied) is can.is_wanted)
 wanted_there AStruct c r m m' used room k is can h = not_withheld ExpectedStruct r m m' k (struct_given c r m used room is can) h
 wanted_there AList c r m m' used room k is can h = not_withheld (ExpectedList Void) r m m' k (list_given c r m used room is can) h
 
@@ -385,58 +366,19 @@ copy_nowhere (Err k) call c why e = elim why [
   | inr (m, refuses) ↦ absurd (copy_nowhere_as c.wanted c.canonicalize call.segment call.at call.old call.new (root_of c.source) (once_at_root c.source) m k refuses (same_some k NoSuchPlace e))
 ]
 
--- at its place
-pub made_copied : (op : Op) (c : Copying) (t : Tree) → is_whole c.wanted ≡ true → copied_by op ≡ Some c → made op (PointerTo t) ≡ copies c
-made_copied (CopyFrom source b) c t whole e = ap copies (same_some _ c e)
-made_copied (SetStruct source b) c t whole e = ap copies (same_some _ c e)
-made_copied (SetList source b) c t whole e = ap copies (same_some _ c e)
-made_copied (CopyContent source) c t whole e = absurd (false≢true (ap (λ (x : Copying). is_whole x.wanted) (same_some _ c e) ∙ whole))
-made_copied op c t whole e = absurd (cc)
-
-pub whole_copy : (op : Op) (c : Copying) → ((source : Source) → op ≡ CopyContent source → ⊥) → copied_by op ≡ Some c → is_whole c.wanted ≡ true
-whole_copy (CopyFrom source b) c other e = ap (λ (x : Copying). is_whole x.wanted) (sym (same_some _ c e))
-whole_copy (SetStruct source b) c other e = ap (λ (x : Copying). is_whole x.wanted) (sym (same_some _ c e))
-whole_copy (SetList source b) c other e = ap (λ (x : Copying). is_whole x.wanted) (sym (same_some _ c e))
-whole_copy (CopyContent source) c other e = absurd (other source refl)
-whole_copy op c other e = absurd (cc)
-
-pub copied_at : (S R : Segments) (place : PointerPlace) (op : Op) (c : Copying) (r : Option ErrorKind) → is_whole c.wanted ≡ true → copied_by op ≡ Some c → CopiesRoot S R place c r → Does S R place op r
-copied_at S R place op c r whole is (root_copied u copied done puts) t stored = record { left = Some u; leaves = as_it_stands (is_copied c u (made_copied op c t whole is) copied done refl); stands = puts t stored }
-copied_at S R place op c r whole is (root_not_copied k why named puts) t stored = record { left = Some Null; leaves = as_it_stands (is_not_copied c k (made_copied op c t whole is) why named refl); stands = puts t stored }
-copied_at S R place op c r whole is (root_unread k why named same) t stored = record { left = None; leaves = as_it_stands (is_unread c k (made_copied op c t whole is) why named refl); stands = same }
-
-whole_refused : (call : CallAt) (op : Op) (c : Copying) (k : ErrorKind) → is_whole c.wanted ≡ true → copied_by op ≡ Some c → IsWholeRefused call c k → IsCallRefused call op k
-whole_refused call (CopyFrom source b) c k whole e why = subst (λ x. IsWholeRefused call x k) (sym (same_some _ c e)) why
-whole_refused call (SetStruct source b) c k whole e why = subst (λ x. IsWholeRefused call x k) (sym (same_some _ c e)) why
-whole_refused call (SetList source b) c k whole e why = subst (λ x. IsWholeRefused call x k) (sym (same_some _ c e)) why
-whole_refused call (CopyContent source) c k whole e why = absurd (false≢true (ap (λ (x : Copying). is_whole x.wanted) (same_some _ c e) ∙ whole))
-whole_refused call op c k whole e why = absurd (cc)
-
-pub copy_refused : {A : Type 0} (result : Result A ErrorKind) (call : CallAt) (op : Op) (c : Copying) → is_whole c.wanted ≡ true → copied_by op ≡ Some c → IfErr result (IsWholeRefused call c) → IfErr result (IsRefusedAs call op)
-copy_refused (Ok x) call op c whole is why = tt
-copy_refused (Err k) call op c whole is why = inr (whole_refused call op c k whole is why)
-
--- a call that copies nothing fits where its words do
-pub words_fit : {A : Type 0} (result : Result A ErrorKind) (old : View) (place : PointerPlace) (op : Op) → copied_by op ≡ None → is_search op ≡ false → ((takes_memory op ≡ true → HasRoom old place.segment (words_taken op)) → IsOk result) →
-    OpFits old place op → IfErr result (λ k. is_of_place k ≡ true)
-words_fit result old place op none other fits room = never_refused result (fits (room_for old place op none other room))
-
--- and a copy where what it keeps does
-whole_fits : (old : View) (place : PointerPlace) (op : Op) (c : Copying) → is_whole c.wanted ≡ true → copied_by op ≡ Some c → OpFits old place op → FitsBehind old place.segment c
-whole_fits old place (CopyFrom source b) c whole e fits = subst (FitsBehind old place.segment) (same_some _ c e) fits
-whole_fits old place (SetStruct source b) c whole e fits = subst (FitsBehind old place.segment) (same_some _ c e) fits
-whole_fits old place (SetList source b) c whole e fits = subst (FitsBehind old place.segment) (same_some _ c e) fits
-whole_fits old place (CopyContent source) c whole e fits = absurd (false≢true (ap (λ (x : Copying). is_whole x.wanted) (same_some _ c e) ∙ whole))
-whole_fits old place op c whole e fits = absurd (cc)
-
-pub copy_fits : {A : Type 0} (result : Result A ErrorKind) (old : View) (place : PointerPlace) (op : Op) (c : Copying) → is_whole c.wanted ≡ true → copied_by op ≡ Some c → (FitsBehind old place.segment c → IsOk result) → OpFits old place op →
-    IfErr result (λ k. is_of_place k ≡ true)
-copy_fits result old place op c whole is fits room = never_refused result (fits (whole_fits old place op c whole is room))
-
--- an operation that copies none
-pub none_copied : (op : Op) → ((c : Copying) → copied_by op ≡ Some c → ⊥) → copied_by op ≡ None
-none_copied op none = go (copied_by op) none
+-- a call that copies what a root leads to
+pub root_done : {A : Type 0} (result : Result A ErrorKind) (old new : View) (place : PointerPlace) (c : Copying) → CopiesRoot old.words new.words place c (refusal_of result) → new.refusals ≡ refusals_after (refusal_of result) old.refusals →
+    IfErr result (IsWholeRefused (call_to place old new) c) → TakesForWhole (call_to place old new) c (refusal_of result) → (FitsBehind old place.segment c → IsOk result) → IsDoneAt old new place (CopyRoot c) (refusal_of result)
+root_done result old new place c copies counts why taken fits = record {
+  done = does (refusal_of result) copies;
+  counted = counts;
+  named = λ k e. inr (named_refusal result (IsWholeRefused (call_to place old new) c) k why e);
+  fits = λ room k e. named_refusal result (λ j. is_of_place j ≡ true) k (never_refused result (fits room)) e;
+  nowhere = copy_nowhere result (call_to place old new) c why;
+  taken = λ some. taken;
+}
   where
-    go : (o : Option Copying) → ((c : Copying) → o ≡ Some c → ⊥) → o ≡ None
-    go (Some c) h = absurd (h c refl)
-    go None h = refl
+    does : (r : Option ErrorKind) → CopiesRoot old.words new.words place c r → Does old.words new.words place (CopyRoot c) r
+    does r (root_copied u copied done puts) t stored = record { left = Some u; leaves = as_it_stands (is_copied c u refl copied done refl); stands = puts t stored }
+    does r (root_not_copied k why named puts) t stored = record { left = Some Null; leaves = as_it_stands (is_not_copied c k refl why named refl); stands = puts t stored }
+    does r (root_unread k why named same) t stored = record { left = None; leaves = as_it_stands (is_unread c k refl why named refl); stands = same }

@@ -12,8 +12,9 @@ use Rattle.capnp_making.specs.declared.existing.ExistingStruct.{ExistingStruct}
 use Rattle.capnp_making.specs.Fields.{with_field}
 use Rattle.capnp_builders.specs.Places.{field, number_field}
 use Rattle.capnp_builders.proofs.FieldPlaces.{widths}
-use Rattle.capnp_edits.specs.declared.edit.Op.TheVariants.{SetField}
-use Rattle.capnp_edits.specs.Edits.{number_at, bit_at, is_number_from, PutsBits, are_written, are_outside, WritesAt, is_put}
+use Rattle.capnp_edits.specs.declared.edit.tasks.Number.{Number}
+use Rattle.capnp_edits.specs.Tasks.{is_number}
+use Rattle.capnp_edits.specs.Edits.{bits_of, PutsBits, are_written, are_outside}
 
 -- a number that starts behind whole words is aligned
 pub number_aligned : (p i n : ℕ) → 0 < n → n ≤ 8 → 8 % n ≡ 0 → (8 * p + i * n) % n ≡ 0
@@ -34,20 +35,28 @@ pub number_outside : (S : Segments) (e : ExistingStruct) (i n x : ℕ) → 8 * e
 number_outside S e i n x past = are_outside (grind arith) refl refl
 
 -- a bit is written
-pub bit_written : (S R : Segments) (e : ExistingStruct) (i : ℕ) (b : Bool) → i < 64 * e.size.data_words → R ≡ with_field S e.segment (64 * e.start + i) 1 (cond b 1 0) → PutsBits S R e (bit_at i b) None
+pub bit_written : (S R : Segments) (e : ExistingStruct) (i : ℕ) (b : Bool) → i < 64 * e.size.data_words → R ≡ with_field S e.segment (64 * e.start + i) 1 (cond b 1 0) → PutsBits S R e (field i 1 (cond b 1 0)) None
 bit_written S R e i b l written = are_written l (omega arith) refl written
 
 -- or isn't there
-pub bit_outside : (S : Segments) (e : ExistingStruct) (i : ℕ) (b : Bool) → 64 * e.size.data_words ≤ i → PutsBits S S e (bit_at i b) (Some NoSuchPlace)
+pub bit_outside : (S : Segments) (e : ExistingStruct) (i : ℕ) (b : Bool) → 64 * e.size.data_words ≤ i → PutsBits S S e (field i 1 (cond b 1 0)) (Some NoSuchPlace)
 bit_outside S e i b l = are_outside (omega arith) refl refl
 
 -- a number of so many bits
-pub number_put : (S R : Segments) (e : ExistingStruct) (size : ElementSize) (i v n x : ℕ) (r : Option ErrorKind) → element_bits (size_number size) ≡ 8 * n → is_number_from 2 size v ≡ true → x ≡ v → PutsBits S R e (number_field n i x) r →
-    WritesAt S R e (SetField size i v) r
-number_put S R e size i v n x r wide fits same put =
-    let is : number_field n i x ≡ number_at size i v =
-    ap (λ y. number_field n i y) same ∙ ap (λ b. field b (8 * n) v) (let h : 8 * (i * n) ≡ i * (8 * n) = grind arith in h) ∙ ap (λ b. field (i * b) b v) (sym wide) in
-    is_put (number_at size i v) refl fits (subst (λ f. PutsBits S R e f r) is put)
+pub number_put : (S R : Segments) (e : ExistingStruct) (number : Number) (n x : ℕ) (r : Option ErrorKind) → element_bits (size_number number.size) ≡ 8 * n → x ≡ number.value → PutsBits S R e (number_field n number.index x) r → PutsBits S R e (bits_of number) r
+number_put S R e number n x r wide same put =
+    let i : ℕ = number.index in
+    let is : number_field n i x ≡ bits_of number =
+    ap (λ y. number_field n i y) same ∙ ap (λ b. field b (8 * n) number.value) (let h : 8 * (i * n) ≡ i * (8 * n) = grind arith in h) ∙ ap (λ b. field (i * b) b number.value) (sym wide) in
+    subst (λ f. PutsBits S R e f r) is put
+
+-- a bit
+pub bit_put : (S R : Segments) (e : ExistingStruct) (number : Number) (b : Bool) (r : Option ErrorKind) → element_bits (size_number number.size) ≡ 1 → cond b 1 0 ≡ number.value → PutsBits S R e (field number.index 1 (cond b 1 0)) r → PutsBits S R e (bits_of number) r
+bit_put S R e number b r wide same put =
+    let i : ℕ = number.index in
+    let is : field i 1 (cond b 1 0) ≡ bits_of number =
+    ap (λ y. field i 1 y) same ∙ ap (λ x. field x 1 number.value) (let h : i ≡ i * 1 = grind arith in h) ∙ ap (λ w. field (i * w) w number.value) (sym wide) in
+    subst (λ f. PutsBits S R e f r) is put
 
 -- what a number is
 all : (a b c : Bool) → (a && b && c) ≡ true → (a ≡ true) × (b ≡ true) × (c ≡ true)
@@ -62,21 +71,21 @@ within a b h = grind (arith, nat_tests, h)
 below : (v m : ℕ) → nat_lt v m ≡ true → v < m
 below v m h = grind (arith, nat_tests, h)
 
-pub number_parts : (least : ℕ) (size : ElementSize) (v : ℕ) → is_number_from least size v ≡ true → (least ≤ size_number size) × (size_number size ≤ 5) × (v < 2 ^ element_bits (size_number size))
-number_parts least size v h =
-    let parts = all (nat_le least (size_number size)) (nat_le (size_number size) 5) (nat_lt v (2 ^ element_bits (size_number size))) h in
-    (within least (size_number size) parts.0, within (size_number size) 5 parts.1, below v (2 ^ element_bits (size_number size)) parts.2)
+pub number_parts : (size : ElementSize) (v : ℕ) → is_number size v ≡ true → (1 ≤ size_number size) × (size_number size ≤ 5) × (v < 2 ^ element_bits (size_number size))
+number_parts size v h =
+    let parts = all (nat_le 1 (size_number size)) (nat_le (size_number size) 5) (nat_lt v (2 ^ element_bits (size_number size))) h in
+    (within 1 (size_number size) parts.0, within (size_number size) 5 parts.1, below v (2 ^ element_bits (size_number size)) parts.2)
 
-pub number_small : (least : ℕ) (size : ElementSize) (v n : ℕ) → element_bits (size_number size) ≡ n → is_number_from least size v ≡ true → v < 2 ^ n
-number_small least size v n wide fits = subst (λ b. v < 2 ^ b) wide (number_parts least size v fits).2
+pub number_small : (size : ElementSize) (v n : ℕ) → element_bits (size_number size) ≡ n → is_number size v ≡ true → v < 2 ^ n
+number_small size v n wide fits = subst (λ b. v < 2 ^ b) wide (number_parts size v fits).2
 
 -- the other size of a number
-pub eight_bytes : (size : ElementSize) (v : ℕ) → is_number_from 2 size v ≡ true → (size ≡ Byte → ⊥) → (size ≡ TwoBytes → ⊥) → (size ≡ FourBytes → ⊥) → element_bits (size_number size) ≡ 64
-eight_bytes Void v fits a b c = absurd (cc)
-eight_bytes Bit v fits a b c = absurd (cc)
-eight_bytes Byte v fits a b c = absurd (a refl)
-eight_bytes TwoBytes v fits a b c = absurd (b refl)
-eight_bytes FourBytes v fits a b c = absurd (c refl)
-eight_bytes EightBytes v fits a b c = refl
-eight_bytes Pointer v fits a b c = absurd (cc)
-eight_bytes InlineComposite v fits a b c = absurd (cc)
+pub eight_bytes : (size : ElementSize) (v : ℕ) → is_number size v ≡ true → (size ≡ Bit → ⊥) → (size ≡ Byte → ⊥) → (size ≡ TwoBytes → ⊥) → (size ≡ FourBytes → ⊥) → element_bits (size_number size) ≡ 64
+eight_bytes Void v fits z a b c = absurd (cc)
+eight_bytes Bit v fits z a b c = absurd (z refl)
+eight_bytes Byte v fits z a b c = absurd (a refl)
+eight_bytes TwoBytes v fits z a b c = absurd (b refl)
+eight_bytes FourBytes v fits z a b c = absurd (c refl)
+eight_bytes EightBytes v fits z a b c = refl
+eight_bytes Pointer v fits z a b c = absurd (cc)
+eight_bytes InlineComposite v fits z a b c = absurd (cc)

@@ -1,14 +1,14 @@
 -- Content of another message's struct that is copied over a struct, which a pointer leads to or which is an element of a list.
-use Rattle.std.proofs.Common.{◌≡◌, inl, inr, ℕ, zero, suc, pred, min, ◌+◌, ◌*◌, ◌/◌, ◌<◌, false, List, [], ◌∷◌, length, Option, Some, None, Result, Ok, Err, IsOk, IfOk, IfErr, true, ◌⊎◌, refl, sym, ap, ap₂, ◌∙◌, subst, arith}
+use Rattle.std.proofs.Common.{◌≡◌, inl, inr, ℕ, zero, suc, pred, min, ◌+◌, ◌*◌, ◌/◌, ◌<◌, false, List, [], ◌∷◌, length, Option, Some, None, Result, Ok, Err, IsOk, IfOk, IfErr, OnErr, true, refl, sym, ap, ap₂, ◌∙◌, subst, arith}
 use Rattle.capnp_words.specs.Meter.{Meter}
 use Rattle.capnp_words.specs.declared.error.ErrorKind.{ErrorKind}
 use Rattle.capnp_words.specs.declared.error.ErrorKind.TheVariants.{NoSuchPlace}
-use Rattle.capnp_arena.specs.View.{View}
+use Rattle.capnp_arena.specs.View.{View, KeepsLimits}
 use Rattle.capnp_arena.specs.declared.arena.reader_arena.ReaderArena.{Ghosts}
 use Rattle.capnp_format.specs.Bytes.{words_of}
 use Rattle.capnp_format.specs.Forest.{IsForest, target}
 use Rattle.capnp_format.specs.Segments.{Segments, Target}
-use Rattle.capnp_format.specs.Tree.{Tree, Null, Capability, Struct, Flat, Pointers, Structs, Trees, no_trees, count, element_count}
+use Rattle.capnp_format.specs.Tree.{Tree, Null, Capability, Struct, Flat, Pointers, Structs, Trees, no_trees, count}
 use Rattle.capnp_format.specs.Word.{data_words, pointer_count}
 use Rattle.capnp_making.specs.Memory.{refusals_for}
 use Rattle.capnp_making.specs.declared.existing.ExistingStruct.{ExistingStruct}
@@ -21,7 +21,6 @@ use Rattle.capnp_objects.specs.Outcomes.{ReadsAll}
 use Rattle.capnp_objects.specs.Reading.{Reading, behind}
 use Rattle.capnp_objects.specs.Refusals.{Refused}
 use Rattle.capnp_objects.proofs.Limits.{not_for_place}
-use Rattle.capnp_widening.specs.Opening.{CallAt}
 use Rattle.capnp_objects.specs.Demands.{own}
 use Rattle.capnp_objects.specs.Expected.{CanBeGiven}
 use Rattle.capnp_objects.specs.Faults.{child_at}
@@ -47,20 +46,23 @@ use Rattle.capnp_builders.specs.Places.{IsAligned}
 use Rattle.capnp_builders.proofs.ContentTaken.{content_taken, content_stopped}
 use Rattle.capnp_builders.proofs.ElementContent.{element_content_taken, element_content_stopped, element_long}
 use Rattle.capnp_edits.specs.declared.edit.Edit.{Edit}
-use Rattle.capnp_edits.specs.declared.edit.Op.{Op}
-use Rattle.capnp_edits.specs.declared.edit.Op.TheVariants.{CopyContent}
 use Rattle.capnp_edits.specs.declared.edit.Source.{Source}
-use Rattle.capnp_edits.specs.declared.edit.copying.Wanted.TheVariants.{Content}
-use Rattle.capnp_edits.specs.Paths.{path_of, found, IsElementFound, PointerTo, ElementOf}
+use Rattle.capnp_edits.specs.declared.edit.copying.Wanted.TheVariants.{Struct as AStruct}
+use Rattle.capnp_edits.specs.declared.edit.tasks.Task.TheVariants.{InStruct}
+use Rattle.capnp_edits.specs.declared.edit.tasks.Number.{Number}
+use Rattle.capnp_edits.specs.declared.edit.tasks.StructChange.{StructChange}
+use Rattle.capnp_edits.specs.declared.edit.tasks.StructChange.TheVariants.{Bits, Content}
+use Rattle.capnp_edits.specs.Tasks.{task_of}
+use Rattle.capnp_edits.specs.Paths.{path_of, found, IsElementFound, ElementOf}
 use Rattle.capnp_edits.specs.Sources.{copying, root_of, once_at_root, HasRoot, IsOpened, Sections, LeadsToStruct, no_struct, a_struct, ContentRead, ContentFitsBehind, IsUnread, FilledOrRefused}
-use Rattle.capnp_edits.specs.Edits.{as_it_stands, refusal_of, made, fills, sections, is_of_place, FillsAt, FillsOrWrites, WritesAt, all_filled, first_filled, none_filled, refusals_after, IsApplied, Takes, leads_to, is_filled, is_half_filled, is_not_filled, Does, DoesAt}
-use Rattle.capnp_edits.specs.Steps.{IsStructAt, IsContentRefused, IsCallRefused, IsElementRefused, IsOfPlace, IsRefusedAs, OpFits, TakesForContent, TakesFor}
-use Rattle.capnp_edits.proofs.Taken.{pointers_taken}
-use Rattle.capnp_edits.proofs.Applied.{of_allocation, of_no_place, never_refused, denied_at, element_struct, applied_element}
+use Rattle.capnp_edits.specs.Edits.{as_it_stands, refusal_of, bits_of, struct_changed, made, fills, sections, is_of_place, PutsBits, FillsAt, Changes, all_filled, first_filled, none_filled, refusals_after, IsApplied, Takes, leads_to, is_filled, is_half_filled, is_not_filled, DoesAt}
+use Rattle.capnp_edits.specs.Steps.{IsStructAt, IsContentRefused, TakesForContent, IsDoneAt, IsChanged}
+use Rattle.capnp_edits.proofs.Taken.{bits_lengths, pointers_taken}
+use Rattle.capnp_edits.proofs.Applied.{of_allocation, of_no_place, of_place, named_refusal, none_counted, kept_nowhere, refused_there, never_refused, denied_at, no_struct as is_none, written_at, element_struct, element_spot, applied_bits}
 use Rattle.capnp_edits.proofs.Copied.{where_read}
 use Rattle.capnp_edits.proofs.CopiedStruct.{struct_at as source_at, whole_words, whole_bits, struct_suits}
 use Rattle.capnp_edits.proofs.Steps.{same_some, first, struct_of}
-use Rattle.capnp_edits.proofs.Walks.{found-append, update-append}
+use Rattle.capnp_edits.proofs.Walks.{update-append}
 
 -- as the sections of a source's struct
 record SourceStruct {A : Type 0} (g : Ghosts A) (source : Source) (v : StructReader A g) (n : Meter) : Type 0 where
@@ -197,85 +199,98 @@ nothing_taken g source from v m n old e opened long read empty =
       all_taken (omega (arith, no_pointers)) (none_taken (pointers_read g v) plain (sections e).segment (sections e).pointers_at old n),
     )
 
--- how a call on content does its operation, at a pointer and at an element
-pub content_refused : {A : Type 0} (result : Result A ErrorKind) (c : CallAt) (op : Op) (source : Source) (e : ExistingStruct) → op ≡ CopyContent source → IsStructAt c.old.words (record { segment = c.segment; word = c.at }) e →
-    IfErr result (IsContentRefused c.old c.new (sections e) source) → IfErr result (IsRefusedAs c op)
-content_refused (Ok x) c op source e is there why = tt
-content_refused (Err k) c op source e is there why = inr (subst (λ o. IsCallRefused c o k) (sym is) (e, there, why))
+-- how a call changes a struct
+pub bits_changed : {A : Type 0} (result : Result A ErrorKind) (old new : View) (e : ExistingStruct) (n : Number) → PutsBits old.words new.words e (bits_of n) (refusal_of result) → KeepsLimits old new → IfErr result (λ k. k ≡ NoSuchPlace) →
+    OnErr result (new ≡ old) → IsChanged old new e (Bits n) (refusal_of result)
+bits_changed result old new e n puts limits named kept = record {
+  done = puts;
+  counted = none_counted result old.refusals new.refusals (ap (λ (v : View). v.refusals) limits) (of_place result named);
+  named = λ k. refused_there result old new (λ j. ⊥) k (of_place result named) kept;
+  fits = λ room k e. named_refusal result (λ j. is_of_place j ≡ true) k (of_place result named) e;
+  nowhere = kept_nowhere result old new kept;
+  taken = bits_lengths old.words new.words e (bits_of n) (refusal_of result) puts;
+}
 
-pub content_fits : {A : Type 0} (result : Result A ErrorKind) (old : View) (place : PointerPlace) (op : Op) (source : Source) (e : ExistingStruct) → op ≡ CopyContent source → IsStructAt old.words place e →
-    (ContentFitsBehind old e.segment source e.size.pointers → IsOk result) → OpFits old place op → IfErr result (λ k. is_of_place k ≡ true)
-content_fits result old place op source e is there fits room =
-    let asked : OpFits old place (CopyContent source) = subst (OpFits old place) is room in
-    never_refused result (fits (asked e there))
-
-pub content_takes_at : (c : CallAt) (op : Op) (source : Source) (e : ExistingStruct) (r : Option ErrorKind) → op ≡ CopyContent source → IsStructAt c.old.words (record { segment = c.segment; word = c.at }) e →
-    TakesForContent c.old c.new (sections e) source r → TakesFor c op r
-content_takes_at c op source e r is there taken = subst (λ o. TakesFor c o r) (sym is) (e, there, taken)
-
-pub element_refused : {A : Type 0} (result : Result A ErrorKind) (old new : View) (e : ExistingStruct) (op : Op) (source : Source) → op ≡ CopyContent source → IfErr result (IsContentRefused old new (sections e) source) →
-    IfErr result (λ k. IsOfPlace old new k ⊎ IsElementRefused old new e op k)
-element_refused (Ok x) old new e op source is why = tt
-element_refused (Err k) old new e op source is why = inr (subst (λ o. IsElementRefused old new e o k) (sym is) why)
+pub content_changed : {A : Type 0} (result : Result A ErrorKind) (old new : View) (e : ExistingStruct) (source : Source) → FillsAt old.words new.words (sections e) source (refusal_of result) → new.refusals ≡ refusals_after (refusal_of result) old.refusals →
+    IfErr result (IsContentRefused old new (sections e) source) → TakesForContent old new (sections e) source (refusal_of result) → (ContentFitsBehind old e.segment source e.size.pointers → IsOk result) →
+    IsChanged old new e (Content source) (refusal_of result)
+content_changed result old new e source filled counted why taken fits = record {
+  done = filled;
+  counted = counted;
+  named = λ k is. inr (named_refusal result (IsContentRefused old new (sections e) source) k why is);
+  fits = λ room k is. named_refusal result (λ j. is_of_place j ≡ true) k (never_refused result (fits room)) is;
+  nowhere = fill_nowhere result old new (sections e) source why;
+  taken = taken;
+}
 
 -- at a struct that a pointer leads to
-filled_struct : (S R : Segments) (place : PointerPlace) (op : Op) (source : Source) (r : Option ErrorKind) (ws : List ℕ) (ts : Trees) → op ≡ CopyContent source → IsStored S place.segment place.word (Struct ws ts) →
-    FillsAt S R (sections (struct_of (target S place.segment place.word).segment (target S place.segment place.word).start (length ws) (count ts))) source r → DoesAt S R place op (Struct ws ts) r
-filled_struct S R place op source r ws ts is stored (all_filled f counts same done) =
+filled_struct : (S R : Segments) (place : PointerPlace) (source : Source) (r : Option ErrorKind) (ws : List ℕ) (ts : Trees) → IsStored S place.segment place.word (Struct ws ts) →
+    FillsAt S R (sections (struct_of (target S place.segment place.word).segment (target S place.segment place.word).start (length ws) (count ts))) source r → DoesAt S R place (struct_changed (Content source) (Struct ws ts)) (Struct ws ts) r
+filled_struct S R place source r ws ts stored (all_filled f counts same done) =
     let (vs, holds, replaced, leads) =
     content_taken S f.taken f.filled place.segment place.word ws ts f.content.children _ (64 * length f.content.from.words) f.content.bytes stored (refl, refl, refl, refl, refl) f.takes f.fills_first (omega (arith, counts)) in
     let u : Tree = Struct vs (up_to (count ts) f.content.children) in
     record {
       left = Some u;
       leaves =
-          as_it_stands (is_filled source (length ws) (count ts) u (ap (λ o. made o (PointerTo (Struct ws ts))) is)
+          as_it_stands (is_filled source (length ws) (count ts) u refl
           (f.content, record { section = vs; holds = holds; is_filled = refl }, counts) done refl);
       stands = subst (λ Q. IsReplaced S Q place.segment place.word (Struct ws ts) u) (sym same) replaced;
     }
-filled_struct S R place op source r ws ts is stored (first_filled f k fewer null why named) =
+filled_struct S R place source r ws ts stored (first_filled f k fewer null why named) =
     let (vs, holds, replaced, leads) =
     content_stopped S f.taken f.filled R place.segment place.word ws ts f.content.children _ (64 * length f.content.from.words) f.content.bytes stored (refl, refl, refl, refl, refl) f.takes f.fills_first (omega (arith, fewer)) null in
     let u : Tree = Struct vs (up_to (count ts) f.content.children) in
     record {
       left = Some u;
       leaves =
-          as_it_stands (is_half_filled source (length ws) (count ts) k u (ap (λ o. made o (PointerTo (Struct ws ts))) is)
+          as_it_stands (is_half_filled source (length ws) (count ts) k u refl
           (f.content, record { section = vs; holds = holds; is_filled = refl }, fewer, why) named refl);
       stands = replaced;
     }
-filled_struct S R place op source r ws ts is stored (none_filled k unread same named) =
-    record { left = None; leaves = as_it_stands (is_not_filled source (length ws) (count ts) k (ap (λ o. made o (PointerTo (Struct ws ts))) is) unread named refl); stands = same }
+filled_struct S R place source r ws ts stored (none_filled k unread same named) =
+    record { left = None; leaves = as_it_stands (is_not_filled source (length ws) (count ts) k refl unread named refl); stands = same }
 
-filled_value : (S R : Segments) (place : PointerPlace) (op : Op) (source : Source) (r : Option ErrorKind) (e : ExistingStruct) (t : Tree) → op ≡ CopyContent source → Some e ≡ struct_in (target S place.segment place.word) t → FillsAt S R (sections e) source r →
-    IsStored S place.segment place.word t → DoesAt S R place op t r
-filled_value S R place op source r e (Struct ws ts) is is_e h stored =
+filled_value : (S R : Segments) (place : PointerPlace) (source : Source) (r : Option ErrorKind) (e : ExistingStruct) (t : Tree) → Some e ≡ struct_in (target S place.segment place.word) t → FillsAt S R (sections e) source r → IsStored S place.segment place.word t →
+    DoesAt S R place (struct_changed (Content source) t) t r
+filled_value S R place source r e (Struct ws ts) is_e h stored =
     let a = target S place.segment place.word in
-    filled_struct S R place op source r ws ts is stored (subst (λ x. FillsAt S R (sections x) source r) (same_some e (struct_of a.segment a.start (length ws) (count ts)) is_e) h)
-filled_value S R place op source r e Null is is_e h stored = absurd (cc)
-filled_value S R place op source r e (Capability j) is is_e h stored = absurd (cc)
-filled_value S R place op source r e (Flat size ns) is is_e h stored = absurd (cc)
-filled_value S R place op source r e (Pointers ts) is is_e h stored = absurd (cc)
-filled_value S R place op source r e (Structs d q es) is is_e h stored = absurd (cc)
+    filled_struct S R place source r ws ts stored (subst (λ x. FillsAt S R (sections x) source r) (same_some e (struct_of a.segment a.start (length ws) (count ts)) is_e) h)
+filled_value S R place source r e Null is_e h stored = absurd (cc)
+filled_value S R place source r e (Capability j) is_e h stored = absurd (cc)
+filled_value S R place source r e (Flat size ns) is_e h stored = absurd (cc)
+filled_value S R place source r e (Pointers ts) is_e h stored = absurd (cc)
+filled_value S R place source r e (Structs d q es) is_e h stored = absurd (cc)
 
-pub filled_at : (S R : Segments) (place : PointerPlace) (op : Op) (source : Source) (r : Option ErrorKind) (e : ExistingStruct) → op ≡ CopyContent source →
-    ((t : Tree) → IsStored S place.segment place.word t → Some e ≡ struct_in (target S place.segment place.word) t) → FillsAt S R (sections e) source r → Does S R place op r
-filled_at S R place op source r e is is_e h t stored = filled_value S R place op source r e t is (is_e t stored) h stored
+-- a change of the struct that a pointer leads to
+changed_at : (S R : Segments) (place : PointerPlace) (change : StructChange) (r : Option ErrorKind) (e : ExistingStruct) (t : Tree) → Some e ≡ struct_in (target S place.segment place.word) t → Changes S R e change r → IsStored S place.segment place.word t →
+    DoesAt S R place (struct_changed change t) t r
+changed_at S R place (Bits n) r e t is_e h stored = written_at S R place (bits_of n) r e t is_e h stored
+changed_at S R place (Content source) r e t is_e h stored = filled_value S R place source r e t is_e h stored
+
+pub change_done : (old new : View) (place : PointerPlace) (change : StructChange) (r : Option ErrorKind) (e : ExistingStruct) → IsStructAt old.words place e → IsChanged old new e change r → IsDoneAt old new place (InStruct change) r
+change_done old new place change r e there changed = record {
+  done = λ t stored. changed_at old.words new.words place change r e t (there t stored) changed.done stored;
+  counted = changed.counted;
+  named = λ k is. elim (changed.named k is) [ inl h ↦ inl h | inr h ↦ inr (e, there, h) ];
+  fits = λ room. changed.fits (room e there);
+  nowhere = changed.nowhere;
+  taken = λ some. (e, there, changed.taken);
+}
 
 -- and where none is
-no_struct_value : (S : Segments) (place : PointerPlace) (op : Op) (source : Source) (t : Tree) → op ≡ CopyContent source → None ≡ struct_in (target S place.segment place.word) t → DoesAt S S place op t (Some NoSuchPlace)
-no_struct_value S place op source (Struct ws ts) is none = absurd (cc)
-no_struct_value S place op source Null is none = denied_at NoSuchPlace (ap (λ o. made o (PointerTo Null)) is) refl refl
-no_struct_value S place op source (Capability j) is none = denied_at NoSuchPlace (ap (λ o. made o (PointerTo (Capability j))) is) refl refl
-no_struct_value S place op source (Flat size ns) is none = denied_at NoSuchPlace (ap (λ o. made o (PointerTo (Flat size ns))) is) refl refl
-no_struct_value S place op source (Pointers ts) is none = denied_at NoSuchPlace (ap (λ o. made o (PointerTo (Pointers ts))) is) refl refl
-no_struct_value S place op source (Structs d q es) is none = denied_at NoSuchPlace (ap (λ o. made o (PointerTo (Structs d q es))) is) refl refl
-
-pub none_filled_at : (S : Segments) (place : PointerPlace) (op : Op) (source : Source) → op ≡ CopyContent source → ((t : Tree) → IsStored S place.segment place.word t → None ≡ struct_in (target S place.segment place.word) t) →
-    Does S S place op (Some NoSuchPlace)
-none_filled_at S place op source is is_none t stored = no_struct_value S place op source t is (is_none t stored)
+pub nothing_changed : (v : View) (place : PointerPlace) (change : StructChange) → ((t : Tree) → IsStored v.words place.segment place.word t → None ≡ struct_in (target v.words place.segment place.word) t) → IsDoneAt v v place (InStruct change) (Some NoSuchPlace)
+nothing_changed v place change none = record {
+  done = λ t stored. denied_at NoSuchPlace (is_none (target v.words place.segment place.word) change t (none t stored)) refl refl;
+  counted = refl;
+  named = λ k e. inl (ap is_of_place (sym (same_some NoSuchPlace k e)), refl);
+  fits = λ room k e. ap is_of_place (sym (same_some NoSuchPlace k e));
+  nowhere = λ e. refl;
+  taken = λ some. absurd (some refl);
+}
 
 -- at an element of a list
-filled_element : (S R : Segments) (e : Edit) (s : ExistingStruct) (source : Source) (r : Option ErrorKind) → e.op ≡ CopyContent source → ((t : Tree) → IsStored S 0 0 t → IsElementFound S 0 0 t (path_of e.path.now) s) →
+filled_element : (S R : Segments) (e : Edit) (s : ExistingStruct) (source : Source) (r : Option ErrorKind) → task_of e.op ≡ Some (InStruct (Content source)) → ((t : Tree) → IsStored S 0 0 t → IsElementFound S 0 0 t (path_of e.path.now) s) →
     FillsAt S R (sections s) source r → IsApplied S R e r
 filled_element S R e s source r is leads h t forest =
     let stored = forest_stored S t forest in
@@ -286,14 +301,13 @@ filled_element S R e s source r is leads h t forest =
     let (ws, ts, at) = element_struct f.elements f.index f.counts in
     let there = stored_within S 0 0 t f.front f.list_segment f.list_at list f.leads stored in
     let long = element_long S f.list_segment f.list_at d q f.elements f.index ws ts there f.counts at in
-    let spot : found t (path_of e.path.now) ≡ Some (ElementOf (Struct ws ts)) =
-    ap (found t) f.path_is ∙ found-append t f.front (Element f.index ∷ []) list f.spot ∙ first f.index (element_count f.elements) _ _ f.counts ∙ ap (λ x. Some (ElementOf x)) at in
-    let makes : made e.op (ElementOf (Struct ws ts)) ≡ fills source d q = ap (λ o. made o (ElementOf (Struct ws ts))) is ∙ ap₂ (fills source) long.0 long.1 in
+    let spot = element_spot S e s t f ws ts at in
+    let makes : made (task_of e.op) (ElementOf (Struct ws ts)) ≡ fills source d q = ap (λ o. made o (ElementOf (Struct ws ts))) is ∙ ap₂ (fills source) long.0 long.1 in
     done_there stored f ws ts at there spot makes h
   where
     done_there : (stored : IsStored S 0 0 t) (f : IsElementFound S 0 0 t (path_of e.path.now) s) (ws : List ℕ) (ts : Trees) → struct_at f.elements f.index ≡ Struct ws ts →
         IsStored S f.list_segment f.list_at (Structs s.size.data_words s.size.pointers f.elements) → found t (path_of e.path.now) ≡ Some (ElementOf (Struct ws ts)) →
-        made e.op (ElementOf (Struct ws ts)) ≡ fills source s.size.data_words s.size.pointers → FillsAt S R (sections s) source r → (u : Tree) × IsForest R u × Takes e t r u
+        made (task_of e.op) (ElementOf (Struct ws ts)) ≡ fills source s.size.data_words s.size.pointers → FillsAt S R (sections s) source r → (u : Tree) × IsForest R u × Takes e t r u
     done_there stored f ws ts at there spot makes (all_filled h counts same done) =
         let d : ℕ = s.size.data_words in
         let q : ℕ = s.size.pointers in
@@ -330,18 +344,11 @@ filled_element S R e s source r is leads h t forest =
     done_there stored f ws ts at there spot makes (none_filled k unread same named) =
         (t, subst (λ Q. IsForest Q t) (sym same) forest, leads_to (ElementOf (Struct ws ts)) None spot (as_it_stands (is_not_filled source s.size.data_words s.size.pointers k makes unread named refl)) refl)
 
--- any other operation at an element writes a field
-pub writes_there : (S R : Segments) (s : ExistingStruct) (op : Op) (r : Option ErrorKind) → ((source : Source) → op ≡ CopyContent source → ⊥) → WritesAt S R s op r → FillsOrWrites S R s op r
-writes_there S R s (CopyContent source) r other w = absurd (other source refl)
-writes_there S R s op r other w = w
-
--- an edit at an element
-pub element_applied : (S R : Segments) (e : Edit) (s : ExistingStruct) (r : Option ErrorKind) → ((t : Tree) → IsStored S 0 0 t → IsElementFound S 0 0 t (path_of e.path.now) s) → FillsOrWrites S R s e.op r → IsApplied S R e r
-element_applied S R e s r leads h = by_op e.op refl h
-  where
-    by_op : (op : Op) → e.op ≡ op → FillsOrWrites S R s op r → IsApplied S R e r
-    by_op (CopyContent source) is h = filled_element S R e s source r is leads h
-    by_op op is h = applied_element S R e s r leads (λ source f. absurd (let g : op ≡ CopyContent source = sym is ∙ f in cc)) (subst (λ o. WritesAt S R s o r) (sym is) h)
+-- a change of an element
+pub element_applied : (S R : Segments) (e : Edit) (s : ExistingStruct) (change : StructChange) (r : Option ErrorKind) → task_of e.op ≡ Some (InStruct change) → ((t : Tree) → IsStored S 0 0 t → IsElementFound S 0 0 t (path_of e.path.now) s) → Changes S R s change r →
+    IsApplied S R e r
+element_applied S R e s (Bits n) r is leads h = applied_bits S R e s n r is leads h
+element_applied S R e s (Content source) r is leads h = filled_element S R e s source r is leads h
 
 -- a place leads to one struct
 same_struct : {r : Reading} {m : Meter} {s z : Sections} → LeadsToStruct r m s → LeadsToStruct r m z → 0 < s.pointers → (s.first ≡ z.first) × (s.limiter ≡ z.limiter) × (s.pointers ≡ z.pointers)
@@ -372,7 +379,7 @@ filled_or_refused source q k whole counts (inr (part, fewer, (m, refused))) =
     (read_stop (min q part.from.pointers) part.are_read fewer (unreadable refused)).only whole.children moved.cost (counts ∙ ap (min q) (sym pointers)) moved.means moved.takes moved.covers
 
 -- content that can be read, and has room, is not refused
-pub fill_unread : (v : View) (id : ℕ) (source : Source) (q : ℕ) (k : ErrorKind) → IsUnread (copying source Content false) k → ContentFitsBehind v id source q → ⊥
+pub fill_unread : (v : View) (id : ℕ) (source : Source) (q : ℕ) (k : ErrorKind) → IsUnread (copying source AStruct false) k → ContentFitsBehind v id source q → ⊥
 fill_unread v id source q k unread (all, counts, room) = filled_or_refused source q k all counts (inl unread)
 
 pub fill_fits : {A : Type 0} (g : Ghosts A) (source : Source) (from : PointerReader A g) (v : StructReader A g) (m n m' : Meter) (old new : View) (place : StructPlace) → IsOpened g source from m → length v.content.now ≡ bytes_for v.bits →

@@ -36,12 +36,13 @@ use Rattle.capnp_widening.specs.Widened.{list_widened, IsNoWider}
 use Rattle.capnp_builders.specs.Defaults.{IsFew, DefaultUse, ignored, denied as is_denied_by, copied as is_copied_from, use_of_words, default_use, default_root, default_copy, RefusesDefault, WithDefault, DefaultFits}
 use Rattle.capnp_builders.specs.Found.{list_given, bytes_given, GivesList, GivesData, GivesText, FindsList, FindsData, FindsText}
 use Rattle.capnp_builders.specs.Opening.{IsStructGiven, IsListGiven, OpensStruct, OpensList, FindsStruct, FindsStructs, StructFindFits, StructsFindFits}
-use Rattle.capnp_edits.specs.declared.edit.Op.{Op}
-use Rattle.capnp_edits.specs.declared.edit.Op.TheVariants.{GetStruct, GetList, GetStructList, GetText, GetData}
-use Rattle.capnp_edits.specs.Paths.{PointerTo}
-use Rattle.capnp_edits.specs.Edits.{refusal_of, is_small_default, is_in_range, Making, becomes, nowhere, unchanged, opened, struct_made, structs_made, list_looked, text_looked, data_looked, with_default, made, is_of_place, IsOfMemory, Yields, is_done, is_denied, is_widened, is_not_widened, as_it_stands, default_put, default_dropped, IsReplacedIf, DoesAt, Does}
-use Rattle.capnp_edits.specs.Steps.{OpFits, IsOpeningRefused, IsSearchRefused, IsRefusedAs, FindsAt, IsSought}
-use Rattle.capnp_edits.proofs.Applied.{never_refused, of_allocation, of_no_place, denied_at, in_range_makes}
+use Rattle.capnp_edits.specs.declared.edit.tasks.Task.TheVariants.{Search}
+use Rattle.capnp_edits.specs.declared.edit.tasks.Sought.{Sought}
+use Rattle.capnp_edits.specs.declared.edit.tasks.Sought.TheVariants.{Struct as ForStruct, List as ForList, StructList as ForStructs, Text as ForText, Data as ForData}
+use Rattle.capnp_edits.specs.Tasks.{is_small_default, is_in_range}
+use Rattle.capnp_edits.specs.Edits.{refusal_of, Making, becomes, nowhere, unchanged, opened, looked_for, with_default, is_of_place, IsOfMemory, Yields, is_done, is_denied, is_allocated, is_not_allocated, as_it_stands, default_put, default_dropped, IsReplacedIf, DoesAt, Does}
+use Rattle.capnp_edits.specs.Steps.{TaskFits, IsOpeningRefused, IsSearchRefused, Finds, IsDoneAt}
+use Rattle.capnp_edits.proofs.Applied.{never_refused, of_allocation, of_no_place, denied_at}
 use Rattle.capnp_edits.proofs.Contents.{list_anywhere, data_anywhere, text_anywhere}
 use Rattle.capnp_edits.proofs.Names.{elsewhere, struct_elsewhere, structs_elsewhere, list_elsewhere, data_elsewhere, text_elsewhere, fault_elsewhere, unfound_name, list_unfound, data_unfound, text_unfound}
 use Rattle.capnp_edits.proofs.Steps.{same_some}
@@ -61,42 +62,42 @@ place_in c = record { segment = c.segment; word = c.at }
 same_words : {a b : View} → a ≡ b → a.words ≡ b.words
 same_words e = ap (λ (v : View). v.words) e
 
--- so an operation does, where it makes this of a value that stands
-record DoesAs (S R : Segments) (place : PointerPlace) (op : Op) (making : Making) (t : Tree) (r : Option ErrorKind) : Type 0 where
+-- so is done, where this is made of a value that stands
+record DoesAs (S R : Segments) (place : PointerPlace) (making : Making) (t : Tree) (r : Option ErrorKind) : Type 0 where
   left : Option Tree
-  yields : Yields op making r left
+  yields : Yields making r left
   stands : IsReplacedIf S R place t left
 
 -- by what a call does with a value
-abbrev DoesSo : {B : Type 0} → (CallAt → Tree → Type 0) → Op → (Tree → Making) → Result B ErrorKind → Type 0
-DoesSo P op made_of result = (c : CallAt) (t : Tree) → IsStored c.old.words c.segment c.at t → P c t → DoesAs c.old.words c.new.words (place_in c) op (made_of t) t (refusal_of result)
+abbrev DoesSo : {B : Type 0} → (CallAt → Tree → Type 0) → (Tree → Making) → Result B ErrorKind → Type 0
+DoesSo P made_of result = (c : CallAt) (t : Tree) → IsStored c.old.words c.segment c.at t → P c t → DoesAs c.old.words c.new.words (place_in c) (made_of t) t (refusal_of result)
 
 -- what is opened stands in the stead of what stood, or that stays
-opened_so : {B : Type 0} (result : Result B ErrorKind) (size : StructSize) (Given : Segments → ℕ → ℕ → Tree → B → Type 0) (op : Op) (c : CallAt) (t : Tree) (q : Result Tree ErrorKind) → Opens size Given c t q result →
-    DoesAs c.old.words c.new.words (place_in c) op (opened t q) t (refusal_of result)
-opened_so (Ok b) size Given op c t (Ok u) h = record { left = Some u; yields = is_widened t u refl refl refl; stands = h.replaced }
-opened_so (Err k) size Given op c t (Ok u) h =
+opened_so : {B : Type 0} (result : Result B ErrorKind) (size : StructSize) (Given : Segments → ℕ → ℕ → Tree → B → Type 0) (c : CallAt) (t : Tree) (q : Result Tree ErrorKind) → Opens size Given c t q result →
+    DoesAs c.old.words c.new.words (place_in c) (opened t q) t (refusal_of result)
+opened_so (Ok b) size Given c t (Ok u) h = record { left = Some u; yields = is_allocated t u refl refl refl; stands = h.replaced }
+opened_so (Err k) size Given c t (Ok u) h =
     let (n, (why, none)) = h.full in
-    record { left = Some t; yields = is_not_widened t u k refl (of_allocation c.old c.new (length c.new.words) (n + 1) k why) refl refl; stands = h.stands }
-opened_so result size Given op c t (Err k) h = record { left = None; yields = is_denied k refl (ap refusal_of h.0) refl; stands = same_words h.1 }
+    record { left = Some t; yields = is_not_allocated t u k refl (of_allocation c.old c.new (length c.new.words) (n + 1) k why) refl refl; stands = h.stands }
+opened_so result size Given c t (Err k) h = record { left = None; yields = is_denied k refl (ap refusal_of h.0) refl; stands = same_words h.1 }
 
-struct_so : (result : Result StructPlace ErrorKind) (size : StructSize) (op : Op) → DoesSo (OpensStruct size result) op (struct_made size) result
-struct_so result size op c t stored h = opened_so result size IsStructGiven op c t (struct_opened size t) h
+struct_so : (result : Result StructPlace ErrorKind) (size : StructSize) → DoesSo (OpensStruct size result) (looked_for (ForStruct size)) result
+struct_so result size c t stored h = opened_so result size IsStructGiven c t (struct_opened size t) h
 
 -- what is looked for stays
-kept_so : {A B : Type 0} (q : Result (Option A) ErrorKind) (result : Result B ErrorKind) (op : Op) (c : CallAt) (t : Tree) → IsStored c.old.words c.segment c.at t → refusal_of result ≡ refusal_of q → c.new ≡ c.old →
-    DoesAs c.old.words c.new.words (place_in c) op (unchanged t q) t (refusal_of result)
-kept_so (Ok x) result op c t stored e same =
+kept_so : {A B : Type 0} (q : Result (Option A) ErrorKind) (result : Result B ErrorKind) (c : CallAt) (t : Tree) → IsStored c.old.words c.segment c.at t → refusal_of result ≡ refusal_of q → c.new ≡ c.old →
+    DoesAs c.old.words c.new.words (place_in c) (unchanged t q) t (refusal_of result)
+kept_so (Ok x) result c t stored e same =
     record { left = Some t; yields = is_done t refl e refl; stands = subst (λ Q. IsReplaced c.old.words Q c.segment c.at t t) (sym (same_words same)) (stays c.old.words c.segment c.at t stored) }
-kept_so (Err k) result op c t stored e same = record { left = None; yields = is_denied k refl e refl; stands = same_words same }
+kept_so (Err k) result c t stored e same = record { left = None; yields = is_denied k refl e refl; stands = same_words same }
 
-null_so : (result : Result ListPlace ErrorKind) (op : Op) (c : CallAt) → IsStored c.old.words c.segment c.at Null → refusal_of result ≡ None → c.new ≡ c.old → DoesAs c.old.words c.new.words (place_in c) op (becomes Null) Null (refusal_of result)
-null_so result op c stored e same =
+null_so : (result : Result ListPlace ErrorKind) (c : CallAt) → IsStored c.old.words c.segment c.at Null → refusal_of result ≡ None → c.new ≡ c.old → DoesAs c.old.words c.new.words (place_in c) (becomes Null) Null (refusal_of result)
+null_so result c stored e same =
     record { left = Some Null; yields = is_done Null refl e refl; stands = subst (λ Q. IsReplaced c.old.words Q c.segment c.at Null Null) (sym (same_words same)) (stays c.old.words c.segment c.at Null stored) }
 
-structs_so : (result : Result ListPlace ErrorKind) (size : StructSize) (op : Op) → DoesSo (OpensList size result) op (structs_made size) result
-structs_so result size op c Null stored h = null_so result op c stored (ap refusal_of h.0) h.1
-structs_so result size op c t stored h = opened_so result size IsListGiven op c t (list_widened size.data_words size.pointers t) h
+structs_so : (result : Result ListPlace ErrorKind) (size : StructSize) → DoesSo (OpensList size result) (looked_for (ForStructs size)) result
+structs_so result size c Null stored h = null_so result c stored (ap refusal_of h.0) h.1
+structs_so result size c t stored h = opened_so result size IsListGiven c t (list_widened size.data_words size.pointers t) h
 
 list_refusal : (id : ℕ) (q : Result (Option ExistingList) ErrorKind) → refusal_of (list_given id q) ≡ refusal_of q
 list_refusal id (Ok (Some l)) = refl
@@ -108,24 +109,24 @@ bytes_refusal id (Ok (Some b)) = refl
 bytes_refusal id (Ok None) = refl
 bytes_refusal id (Err k) = refl
 
-list_so : (result : Result ListPlace ErrorKind) (size : ElementSize) (op : Op) → DoesSo (GivesList size result) op (list_looked size) result
-list_so result size op c t stored h =
+list_so : (result : Result ListPlace ErrorKind) (size : ElementSize) → DoesSo (GivesList size result) (looked_for (ForList size)) result
+list_so result size c t stored h =
     let a : Target = target c.old.words c.segment c.at in
-    kept_so (list_in nowhere size t) result op c t stored (ap refusal_of h.0 ∙ list_refusal c.segment (list_in a size t) ∙ list_anywhere refusal_of (λ l k e. refl) a nowhere size t) h.1
+    kept_so (list_in nowhere size t) result c t stored (ap refusal_of h.0 ∙ list_refusal c.segment (list_in a size t) ∙ list_anywhere refusal_of (λ l k e. refl) a nowhere size t) h.1
 
-data_so : (result : Result ExistingBytes ErrorKind) (op : Op) → DoesSo (GivesData result) op data_looked result
-data_so result op c t stored h =
+data_so : (result : Result ExistingBytes ErrorKind) → DoesSo (GivesData result) (looked_for ForData) result
+data_so result c t stored h =
     let a : Target = target c.old.words c.segment c.at in
-    kept_so (data_in nowhere t) result op c t stored (ap refusal_of h.0 ∙ bytes_refusal c.segment (data_in a t) ∙ data_anywhere refusal_of (λ b d e. refl) a nowhere t) h.1
+    kept_so (data_in nowhere t) result c t stored (ap refusal_of h.0 ∙ bytes_refusal c.segment (data_in a t) ∙ data_anywhere refusal_of (λ b d e. refl) a nowhere t) h.1
 
-text_so : (result : Result ExistingBytes ErrorKind) (op : Op) → DoesSo (GivesText result) op text_looked result
-text_so result op c t stored h =
+text_so : (result : Result ExistingBytes ErrorKind) → DoesSo (GivesText result) (looked_for ForText) result
+text_so result c t stored h =
     let a : Target = target c.old.words c.segment c.at in
-    kept_so (text_in nowhere t) result op c t stored (ap refusal_of h.0 ∙ bytes_refusal c.segment (text_in a t) ∙ text_anywhere refusal_of (λ b d e. refl) a nowhere t) h.1
+    kept_so (text_in nowhere t) result c t stored (ap refusal_of h.0 ∙ bytes_refusal c.segment (text_in a t) ∙ text_anywhere refusal_of (λ b d e. refl) a nowhere t) h.1
 
 -- what stands is done with as it is
-as_stands : (S R : Segments) (place : PointerPlace) (op : Op) (m : Making) (t : Tree) (r : Option ErrorKind) → made op (PointerTo t) ≡ m → DoesAs S R place op m t r → DoesAt S R place op t r
-as_stands S R place op m t r makes d = record { left = d.left; leaves = as_it_stands (subst (λ x. Yields op x r d.left) (sym makes) d.yields); stands = d.stands }
+as_stands : (S R : Segments) (place : PointerPlace) (m : Making) (t : Tree) (r : Option ErrorKind) → DoesAs S R place m t r → DoesAt S R place m t r
+as_stands S R place m t r d = record { left = d.left; leaves = as_it_stands d.yields; stands = d.stands }
 
 -- or a default's value that is put in place of null first
 replaced_if : (S M R : Segments) (place : PointerPlace) (d : Tree) (left : Option Tree) → IsReplaced S M place.segment place.word Null d → IsReplacedIf M R place d left → IsReplaced S R place.segment place.word Null (unwrap_or left d)
@@ -136,20 +137,20 @@ dropped_name : (bytes : List ℕ) (id at : ℕ) (old new : View) (k : ErrorKind)
 dropped_name bytes id at old new k (inl fault) = inr fault
 dropped_name bytes id at old new k (inr (n, (why, none), wanted, large)) = inl (of_allocation old new (length new.words) (n + 1) k why)
 
-null_does : {B : Type 0} (result : Result B ErrorKind) (used : DefaultUse) (made_of : Tree → Making) (P : CallAt → Tree → Type 0) (op : Op) (c : CallAt) → IsStored c.old.words c.segment c.at Null →
-    made op (PointerTo Null) ≡ with_default used made_of Null → DoesSo P op made_of result → WithDefault used c Null P result → DoesAt c.old.words c.new.words (place_in c) op Null (refusal_of result)
-null_does result ignored made_of P op c stored makes does h = as_stands c.old.words c.new.words (place_in c) op (made_of Null) Null (refusal_of result) makes (does c Null stored h)
-null_does result (is_denied_by k) made_of P op c stored makes does h = denied_at k makes (ap refusal_of h.0) (same_words h.1)
-null_does result (is_copied_from bytes) made_of P op c stored makes does (inl on) =
+null_does : {B : Type 0} (result : Result B ErrorKind) (used : DefaultUse) (made_of : Tree → Making) (P : CallAt → Tree → Type 0) (c : CallAt) → IsStored c.old.words c.segment c.at Null → DoesSo P made_of result → WithDefault used c Null P result →
+    DoesAt c.old.words c.new.words (place_in c) (with_default used made_of Null) Null (refusal_of result)
+null_does result ignored made_of P c stored does h = as_stands c.old.words c.new.words (place_in c) (made_of Null) Null (refusal_of result) (does c Null stored h)
+null_does result (is_denied_by k) made_of P c stored does h = denied_at k refl (ap refusal_of h.0) (same_words h.1)
+null_does result (is_copied_from bytes) made_of P c stored does (inl on) =
     let then = does (record c { old = on.mid }) on.value on.put.replaced.stored on.does in
     record {
       left = Some (unwrap_or then.left on.value);
-      leaves = default_put bytes made_of on.value then.left makes (on.put.meant.0, on.put.meant.1, on.put.plain) then.yields refl;
+      leaves = default_put bytes made_of on.value then.left refl (on.put.meant.0, on.put.meant.1, on.put.plain) then.yields refl;
       stands = replaced_if c.old.words on.mid.words c.new.words (place_in c) on.value then.left on.put.replaced then.stands;
     }
-null_does (Err k) (is_copied_from bytes) made_of P op c stored makes does (inr drops) =
-    record { left = Some Null; leaves = default_dropped bytes made_of k makes (dropped_name bytes c.segment c.at c.old c.new k drops.named) refl refl; stands = drops.replaced }
-null_does (Ok x) (is_copied_from bytes) made_of P op c stored makes does (inr drops) = absurd drops
+null_does (Err k) (is_copied_from bytes) made_of P c stored does (inr drops) =
+    record { left = Some Null; leaves = default_dropped bytes made_of k refl (dropped_name bytes c.segment c.at c.old c.new k drops.named) refl refl; stands = drops.replaced }
+null_does (Ok x) (is_copied_from bytes) made_of P c stored does (inr drops) = absurd drops
 
 -- a default is used for null alone
 null_or_ignored : (of_null : DefaultUse) (default : Option (Bor (List ℕ))) (t : Tree) → (t ≡ Null) ⊎ (default_use of_null default t ≡ ignored)
@@ -157,16 +158,15 @@ null_or_ignored of_null None t = inr refl
 null_or_ignored of_null (Some d) Null = inl refl
 null_or_ignored of_null (Some d) t = inr refl
 
-with_does : {B : Type 0} (result : Result B ErrorKind) (of_null : DefaultUse) (default : Option (Bor (List ℕ))) (made_of : Tree → Making) (P : CallAt → Tree → Type 0) (op : Op) (c : CallAt) (t : Tree) → IsStored c.old.words c.segment c.at t →
-    ((t : Tree) → made op (PointerTo t) ≡ with_default (default_use of_null default t) made_of t) → DoesSo P op made_of result → WithDefault (default_use of_null default t) c t P result →
-    DoesAt c.old.words c.new.words (place_in c) op t (refusal_of result)
-with_does result of_null default made_of P op c t stored makes does h = elim (null_or_ignored of_null default t) [
+with_does : {B : Type 0} (result : Result B ErrorKind) (of_null : DefaultUse) (default : Option (Bor (List ℕ))) (made_of : Tree → Making) (P : CallAt → Tree → Type 0) (c : CallAt) (t : Tree) → IsStored c.old.words c.segment c.at t → DoesSo P made_of result →
+    WithDefault (default_use of_null default t) c t P result → DoesAt c.old.words c.new.words (place_in c) (with_default (default_use of_null default t) made_of t) t (refusal_of result)
+with_does result of_null default made_of P c t stored does h = elim (null_or_ignored of_null default t) [
   | inl null ↦
-      subst (λ x. DoesAt c.old.words c.new.words (place_in c) op x (refusal_of result)) (sym null)
-      (null_does result (default_use of_null default Null) made_of P op c (subst (IsStored c.old.words c.segment c.at) null stored) (makes Null) does (subst (λ x. WithDefault (default_use of_null default x) c x P result) null h))
+      subst (λ x. DoesAt c.old.words c.new.words (place_in c) (with_default (default_use of_null default x) made_of x) x (refusal_of result)) (sym null)
+      (null_does result (default_use of_null default Null) made_of P c (subst (IsStored c.old.words c.segment c.at) null stored) does (subst (λ x. WithDefault (default_use of_null default x) c x P result) null h))
   | inr plain ↦
-      as_stands c.old.words c.new.words (place_in c) op (made_of t) t (refusal_of result) (makes t ∙ ap (λ u. with_default u made_of t) plain)
-      (does c t stored (subst (λ u. WithDefault u c t P result) plain h))
+      subst (λ u. DoesAt c.old.words c.new.words (place_in c) (with_default u made_of t) t (refusal_of result)) (sym plain)
+      (as_stands c.old.words c.new.words (place_in c) (made_of t) t (refusal_of result) (does c t stored (subst (λ u. WithDefault u c t P result) plain h)))
 ]
 
 -- Why a value isn't opened or found: by its name, which is no missing place, and all is as it was; or memory is refused.
@@ -281,24 +281,24 @@ never_nowhere c default k (as_copy d is spent named) e = absurd (elim (dropped_n
 ])
 
 -- what a call leaves that is refused, or isn't
-sought : {B : Type 0} (result : Result B ErrorKind) (default : Option (Bor (List ℕ))) (op : Op) (c : CallAt) → ((k : ErrorKind) → IsSearchRefused c default k → IsRefusedAs c op k) →
-    Does c.old.words c.new.words (place_in c) op (refusal_of result) → OnOk result (KeepsMemory c.old c.new) → IfErr result (SpendsMemory c.old c.new) → IfErr result (Why c default) →
-    (OpFits c.old (place_in c) op → IfErr result (λ k. is_of_place k ≡ true)) → FindsAt c op (refusal_of result) → IsSought c.old c.new (place_in c) op (refusal_of result)
-sought (Ok x) default op c told does granted memory why fits finds = record {
+search_done : {B : Type 0} (result : Result B ErrorKind) (sought : Sought) (default : Option (Bor (List ℕ))) (c : CallAt) → Does c.old.words c.new.words (place_in c) (Search sought default) (refusal_of result) → OnOk result (KeepsMemory c.old c.new) →
+    IfErr result (SpendsMemory c.old c.new) → IfErr result (Why c default) → (TaskFits c.old (place_in c) (Search sought default) → IfErr result (λ k. is_of_place k ≡ true)) →
+    ((t : Tree) → IsStored c.old.words c.segment c.at t → Finds sought default (refusal_of result) c t) → IsDoneAt c.old c.new (place_in c) (Search sought default) (refusal_of result)
+search_done (Ok x) sought default c does granted memory why fits finds = record {
   done = does;
   counted = ap (λ (v : View). v.refusals) granted.0;
   named = λ k e. absurd (cc);
   fits = λ room k e. absurd (cc);
   nowhere = λ e. absurd (cc);
-  taken = finds;
+  taken = λ some. finds;
 }
-sought (Err k) default op c told does granted memory why fits finds = record {
+search_done (Err k) sought default c does granted memory why fits finds = record {
   done = does;
   counted = memory.2;
-  named = λ j e. told j (subst (IsSearchRefused c default) (same_some k j e) (refused_so c default k why));
+  named = λ j e. inr (subst (IsSearchRefused c default) (same_some k j e) (refused_so c default k why));
   fits = λ room j e. subst (λ x. is_of_place x ≡ true) (same_some k j e) (fits room);
   nowhere = λ e. never_nowhere c default k why (same_some k NoSuchPlace e);
-  taken = finds;
+  taken = λ some. finds;
 }
 
 -- Where a default's value has no fault and fits, only what is found is refused.
@@ -379,60 +379,55 @@ set_same (Ok x) old new same = tt
 set_same (Err k) old new same = inl same
 
 -- the calls
-pub struct_sought : (result : Result StructPlace ErrorKind) (size : StructSize) (default : Option (Bor (List ℕ))) (c : CallAt) → IsPlace c.old.words c.segment c.at → is_in_range (GetStruct size default) ≡ true →
+pub struct_sought : (result : Result StructPlace ErrorKind) (size : StructSize) (default : Option (Bor (List ℕ))) (c : CallAt) → IsPlace c.old.words c.segment c.at →
     ((t : Tree) → IsStored c.old.words c.segment c.at t → FindsStruct size default result c t) → ((word_at c.old.words c.segment c.at ≡ 0 → ⊥) → IfErr result (IsNoWider c.old c.new c.segment c.at)) →
     OnOk result (KeepsMemory c.old c.new) → IfErr result (SpendsMemory c.old c.new) → (StructFindFits size default c.old c.segment c.at → IsOk result) →
-    IsSought c.old c.new (place_in c) (GetStruct size default) (refusal_of result)
-struct_sought result size default c there range found set granted memory fits =
-    let op = GetStruct size default in
-    sought result default op c (λ k h. inr h)
-    (λ t stored. with_does result ignored default (struct_made size) (OpensStruct size result) op c t stored (λ x. in_range_makes op (PointerTo x) range) (struct_so result size op) (found t stored)) granted memory
+    IsDoneAt c.old c.new (place_in c) (Search (ForStruct size) default) (refusal_of result)
+struct_sought result size default c there found set granted memory fits =
+    search_done result (ForStruct size) default c
+    (λ t stored. with_does result ignored default (looked_for (ForStruct size)) (OpensStruct size result) c t stored (struct_so result size) (found t stored)) granted memory
     (why_if result ignored default (OpensStruct size) c there (λ b. tt) (struct_why size) found (λ some. set_struct result c.old c.new c.segment c.at (set some))) (λ room. never_refused result (fits room)) (λ t stored. (result, refl, found t stored))
 
-pub structs_sought : (result : Result ListPlace ErrorKind) (size : StructSize) (default : Option (Bor (List ℕ))) (c : CallAt) → IsPlace c.old.words c.segment c.at → is_in_range (GetStructList size default) ≡ true →
+pub structs_sought : (result : Result ListPlace ErrorKind) (size : StructSize) (default : Option (Bor (List ℕ))) (c : CallAt) → IsPlace c.old.words c.segment c.at →
     ((t : Tree) → IsStored c.old.words c.segment c.at t → FindsStructs size default result c t) → ((word_at c.old.words c.segment c.at ≡ 0 → ⊥) → IfErr result (RefusesWider c.old c.new c.segment c.at size)) →
     OnOk result (KeepsMemory c.old c.new) → IfErr result (SpendsMemory c.old c.new) → (StructsFindFits size default c.old c.segment c.at → IsOk result) →
-    IsSought c.old c.new (place_in c) (GetStructList size default) (refusal_of result)
-structs_sought result size default c there range found set granted memory fits =
-    let op = GetStructList size default in
-    sought result default op c (λ k h. inr h)
-    (λ t stored. with_does result ignored default (structs_made size) (OpensList size result) op c t stored (λ x. in_range_makes op (PointerTo x) range) (structs_so result size op) (found t stored)) granted memory
+    IsDoneAt c.old c.new (place_in c) (Search (ForStructs size) default) (refusal_of result)
+structs_sought result size default c there found set granted memory fits =
+    search_done result (ForStructs size) default c
+    (λ t stored. with_does result ignored default (looked_for (ForStructs size)) (OpensList size result) c t stored (structs_so result size) (found t stored)) granted memory
     (why_if result ignored default (OpensList size) c there (λ b. tt) (structs_why size) found (λ some. set_structs result c.old c.new c.segment c.at size (set some))) (λ room. never_refused result (fits room)) (λ t stored. (result, refl, found t stored))
 
-pub list_sought : (result : Result ListPlace ErrorKind) (size : ElementSize) (default : Option (Bor (List ℕ))) (c : CallAt) → IsPlace c.old.words c.segment c.at → is_in_range (GetList size default) ≡ true →
+pub list_sought : (result : Result ListPlace ErrorKind) (size : ElementSize) (default : Option (Bor (List ℕ))) (c : CallAt) → IsPlace c.old.words c.segment c.at →
     ((t : Tree) → IsStored c.old.words c.segment c.at t → FindsList size default result c t) → ((word_at c.old.words c.segment c.at ≡ 0 → ⊥) → (c.new ≡ c.old) × IfErr result (λ k. is_unfound k ≡ true)) →
-    OnOk result (KeepsMemory c.old c.new) → IfErr result (SpendsMemory c.old c.new) → IsSought c.old c.new (place_in c) (GetList size default) (refusal_of result)
-list_sought result size default c there range found set granted memory =
-    let op = GetList size default in
-    sought result default op c (λ k h. inr h)
-    (λ t stored. with_does result ignored default (list_looked size) (GivesList size result) op c t stored (λ x. in_range_makes op (PointerTo x) range) (list_so result size op) (found t stored)) granted memory
+    OnOk result (KeepsMemory c.old c.new) → IfErr result (SpendsMemory c.old c.new) → IsDoneAt c.old c.new (place_in c) (Search (ForList size) default) (refusal_of result)
+list_sought result size default c there found set granted memory =
+    search_done result (ForList size) default c
+    (λ t stored. with_does result ignored default (looked_for (ForList size)) (GivesList size result) c t stored (list_so result size) (found t stored)) granted memory
     (why_if result ignored default (GivesList size) c there (λ b. tt) (list_why size) found (λ some. set_same result c.old c.new (set some).0))
     (λ room. found_fits result ignored default (GivesList size) c there (λ b. tt) (list_name size) found (λ some. (set some).1) room) (λ t stored. (result, refl, found t stored))
 
-pub data_sought : (result : Result ExistingBytes ErrorKind) (default : Option (Bor (List ℕ))) (c : CallAt) → IsPlace c.old.words c.segment c.at → is_in_range (GetData default) ≡ true →
+pub data_sought : (result : Result ExistingBytes ErrorKind) (default : Option (Bor (List ℕ))) (c : CallAt) → IsPlace c.old.words c.segment c.at →
     ((t : Tree) → IsStored c.old.words c.segment c.at t → FindsData default result c t) → ((word_at c.old.words c.segment c.at ≡ 0 → ⊥) → (c.new ≡ c.old) × IfErr result (λ k. is_unfound k ≡ true)) →
-    OnOk result (KeepsMemory c.old c.new) → IfErr result (SpendsMemory c.old c.new) → IsSought c.old c.new (place_in c) (GetData default) (refusal_of result)
-data_sought result default c there range found set granted memory =
-    let op = GetData default in
+    OnOk result (KeepsMemory c.old c.new) → IfErr result (SpendsMemory c.old c.new) → IsDoneAt c.old c.new (place_in c) (Search ForData default) (refusal_of result)
+data_sought result default c there found set granted memory =
     let of_null : DefaultUse = is_denied_by ExistingPointerIsNotAList in
-    sought result default op c (λ k h. inr h)
-    (λ t stored. with_does result of_null default data_looked (GivesData result) op c t stored (λ x. in_range_makes op (PointerTo x) range) (data_so result op) (found t stored)) granted memory
+    search_done result ForData default c
+    (λ t stored. with_does result of_null default (looked_for ForData) (GivesData result) c t stored (data_so result) (found t stored)) granted memory
     (why_if result of_null default GivesData c there (λ b. tt) data_why found (λ some. set_same result c.old c.new (set some).0))
     (λ room. found_fits result of_null default GivesData c there (λ b. refl) data_name found (λ some. (set some).1) room) (λ t stored. (result, refl, found t stored))
 
-pub text_sought : (result : Result ExistingBytes ErrorKind) (default : Option (Bor (List ℕ))) (c : CallAt) → IsPlace c.old.words c.segment c.at → is_in_range (GetText default) ≡ true →
+pub text_sought : (result : Result ExistingBytes ErrorKind) (default : Option (Bor (List ℕ))) (c : CallAt) → IsPlace c.old.words c.segment c.at →
     ((t : Tree) → IsStored c.old.words c.segment c.at t → FindsText default result c t) → ((word_at c.old.words c.segment c.at ≡ 0 → ⊥) → (c.new ≡ c.old) × IfErr result (λ k. is_unfound k ≡ true)) →
-    OnOk result (KeepsMemory c.old c.new) → IfErr result (SpendsMemory c.old c.new) → IsSought c.old c.new (place_in c) (GetText default) (refusal_of result)
-text_sought result default c there range found set granted memory =
-    let op = GetText default in
+    OnOk result (KeepsMemory c.old c.new) → IfErr result (SpendsMemory c.old c.new) → IsDoneAt c.old c.new (place_in c) (Search ForText default) (refusal_of result)
+text_sought result default c there found set granted memory =
     let of_null : DefaultUse = is_denied_by ExistingPointerIsNotAList in
-    sought result default op c (λ k h. inr h)
-    (λ t stored. with_does result of_null default text_looked (GivesText result) op c t stored (λ x. in_range_makes op (PointerTo x) range) (text_so result op) (found t stored)) granted memory
+    search_done result ForText default c
+    (λ t stored. with_does result of_null default (looked_for ForText) (GivesText result) c t stored (text_so result) (found t stored)) granted memory
     (why_if result of_null default GivesText c there (λ b. tt) text_why found (λ some. set_same result c.old c.new (set some).0))
     (λ room. found_fits result of_null default GivesText c there (λ b. refl) text_name found (λ some. (set some).1) room) (λ t stored. (result, refl, found t stored))
 
 -- the numbers of a list that is looked for
-pub list_range : (size : ElementSize) (default : Option (Bor (List ℕ))) → is_in_range (GetList size default) ≡ true → (size_number size ≤ 6) × (is_small_default default ≡ true)
+pub list_range : (size : ElementSize) (default : Option (Bor (List ℕ))) → is_in_range (Search (ForList size) default) ≡ true → (size_number size ≤ 6) × (is_small_default default ≡ true)
 list_range size default e = both (nat_le (size_number size) 6) (is_small_default default) refl e
   where
     both : (b c : Bool) → nat_le (size_number size) 6 ≡ b → b && c ≡ true → (size_number size ≤ 6) × (c ≡ true)

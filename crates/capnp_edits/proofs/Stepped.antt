@@ -1,5 +1,5 @@
 -- Steps: one edit at its place, and edits one behind the other.
-use Rattle.std.proofs.Common.{◌≡◌, ◌⊎◌, inl, ℕ, ◌+◌, ◌*◌, ◌<◌, ◌≤◌, true, ◌&&◌, cond, List, [], ◌∷◌, ◌++◌, length, take, get_or, set, Option, Some, None, Result, IfErr, refl, sym, ap, ap₂, ◌∙◌, subst, arith, lt-ltb}
+use Rattle.std.proofs.Common.{◌≡◌, ◌⊎◌, inl, inr, ℕ, ◌+◌, ◌*◌, ◌<◌, ◌≤◌, true, ◌&&◌, cond, List, [], ◌∷◌, ◌++◌, length, take, get_or, set, Option, Some, None, IfSome, IsSomeAnd, refl, sym, ap, ap₂, ◌∙◌, subst, arith, lt-ltb}
 use Rattle.std.proofs.lemmas.List.{append-nil, take_more, take_more_set}
 use Rattle.capnp_words.specs.declared.error.ErrorKind.{ErrorKind}
 use Rattle.capnp_words.specs.declared.error.ErrorKind.TheVariants.{NoSuchPlace}
@@ -12,44 +12,50 @@ use Rattle.capnp_making.proofs.Replaced.{forest_stored}
 use Rattle.capnp_making.specs.Path.{Step, Child, Element, tree_at, struct_at, next, PathLeads, one_word}
 use Rattle.capnp_making.specs.Stored.{IsStored}
 use Rattle.capnp_edits.specs.declared.edit.Edit.{Edit}
+use Rattle.capnp_edits.specs.declared.edit.tasks.Task.{Task}
 use Rattle.capnp_edits.specs.declared.edit.path.Place.{Place}
 use Rattle.capnp_edits.specs.declared.edit.path.Place.TheVariants.{Pointer as AtPointer, Element as AtElement}
-use Rattle.capnp_edits.specs.Edits.{refusal_of, is_of_place, IsApplied, refusals_after}
+use Rattle.capnp_edits.specs.Edits.{is_of_place, IsApplied, refusals_after}
 use Rattle.capnp_edits.specs.Paths.{PointerTo, ElementOf, path_of, found, IsFound}
 use Rattle.capnp_edits.specs.Steps.{FitsAt, IsOfPlace, IsRefusedAt, TakesAt, IsStep, AreSteps, StepIsThere}
-use Rattle.capnp_edits.proofs.Applied.{named_refusal, no_forest}
+use Rattle.capnp_edits.specs.Tasks.{task_of}
+use Rattle.capnp_edits.proofs.Applied.{no_forest}
 use Rattle.capnp_edits.proofs.Steps.{first, same_some}
 use Rattle.capnp_edits.proofs.Walks.{found-append}
 
 -- an edit at its place
-pub step_at : {A : Type 0} (result : Result A ErrorKind) (old new : View) (edit : Edit) (there : Place) → 1 ≤ length (segment old.words 0) → IsApplied old.words new.words edit (refusal_of result) →
-    new.refusals ≡ refusals_after (refusal_of result) old.refusals → ((t : Tree) → IsStored old.words 0 0 t → IsFound old.words 0 0 t (path_of edit.path.now) (Some there)) →
-    IfErr result (λ k. IsOfPlace old new k ⊎ IsRefusedAt old new edit.op k there) → (FitsAt old edit.op there → IfErr result (λ k. is_of_place k ≡ true)) → (refusal_of result ≡ Some NoSuchPlace → new ≡ old) →
-    ((refusal_of result ≡ Some NoSuchPlace → ⊥) → TakesAt old new edit.op (refusal_of result) there) → IsStep old new edit (refusal_of result)
-step_at result old new edit there root applied counted leads named fits nowhere taken = record {
+pub step_at : (old new : View) (edit : Edit) (there : Place) (task : Task) (r : Option ErrorKind) → task_of edit.op ≡ Some task → 1 ≤ length (segment old.words 0) → IsApplied old.words new.words edit r → new.refusals ≡ refusals_after r old.refusals →
+    ((t : Tree) → IsStored old.words 0 0 t → IsFound old.words 0 0 t (path_of edit.path.now) (Some there)) → ((k : ErrorKind) → r ≡ Some k → IsOfPlace old new k ⊎ IsRefusedAt old new task k there) →
+    (FitsAt old task there → (k : ErrorKind) → r ≡ Some k → is_of_place k ≡ true) → (r ≡ Some NoSuchPlace → new ≡ old) → ((r ≡ Some NoSuchPlace → ⊥) → TakesAt old new task r there) → IsStep old new edit r
+step_at old new edit there task r is root applied counted leads named fits nowhere taken = record {
   applied = applied;
   counted = counted;
   place = Some there;
   leads = leads;
   missing = λ e. absurd (cc);
+  out_of_range = λ e. absurd (no_task task (sym is ∙ e));
   rootless = λ e. absurd (omega (arith, root, e));
   nowhere = nowhere;
-  named = λ k e. named_refusal result (λ j. IsOfPlace old new j ⊎ IsRefusedAt old new edit.op j there) k named e;
-  fits = λ room k e. named_refusal result (λ j. is_of_place j ≡ true) k (fits room) e;
-  taken = taken;
+  named = λ k e. elim (named k e) [ inl h ↦ inl h | inr h ↦ inr (subst (λ o. IsSomeAnd o (λ x. IsRefusedAt old new x k there)) (sym is) h) ];
+  fits = λ room. fits (subst (λ o. IfSome o (λ x. FitsAt old x there)) is room);
+  taken = λ some. subst (λ o. IfSome o (λ x. TakesAt old new x r there)) (sym is) (taken some);
 }
+  where
+    no_task : (task : Task) → Some task ≡ None → ⊥
+    no_task task e = cc
 
 -- an edit without a place
 of_missing : (k : ErrorKind) → Some NoSuchPlace ≡ Some k → is_of_place k ≡ true
 of_missing k e = sym (ap is_of_place (same_some NoSuchPlace k e))
 
-pub nothing_done : (v : View) (edit : Edit) → IsApplied v.words v.words edit (Some NoSuchPlace) → ((t : Tree) → IsStored v.words 0 0 t → IsFound v.words 0 0 t (path_of edit.path.now) None) → IsStep v v edit (Some NoSuchPlace)
-nothing_done v edit applied leads = record {
+pub nothing_done : (v : View) (edit : Edit) (place : Option Place) → IsApplied v.words v.words edit (Some NoSuchPlace) → ((t : Tree) → IsStored v.words 0 0 t → IsFound v.words 0 0 t (path_of edit.path.now) place) → IsStep v v edit (Some NoSuchPlace)
+nothing_done v edit place applied leads = record {
   applied = applied;
   counted = refl;
-  place = None;
+  place = place;
   leads = leads;
   missing = λ e. refl;
+  out_of_range = λ e. refl;
   rootless = λ e. refl;
   nowhere = λ e. refl;
   named = λ k e. inl (of_missing k e, refl);
@@ -62,7 +68,7 @@ root_held : (S : Segments) (t : Tree) → IsStored S 0 0 t → 1 ≤ length (seg
 root_held S t stored = omega (arith, stored.inside 0 0 (omega (arith, times-first (one_word 0 0) (cover S 0 0 t) 0 0, once_held 0 0)))
 
 pub rootless_done : (v : View) (edit : Edit) → (1 ≤ length (segment v.words 0) → ⊥) → IsStep v v edit (Some NoSuchPlace)
-rootless_done v edit empty = nothing_done v edit (no_forest v.words edit (Some NoSuchPlace) empty) (λ t stored. absurd (empty (root_held v.words t stored)))
+rootless_done v edit empty = nothing_done v edit None (no_forest v.words edit (Some NoSuchPlace) empty) (λ t stored. absurd (empty (root_held v.words t stored)))
 
 -- one step more
 steps_more : (a b c : View) (es : List Edit) (rs : List (Option ErrorKind)) (e : Edit) (r : Option ErrorKind) → AreSteps a b es rs → IsStep b c e r → AreSteps a c (es ++ e ∷ []) (rs ++ r ∷ [])

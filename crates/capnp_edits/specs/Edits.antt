@@ -1,6 +1,5 @@
 -- What edits make of the value of a message.
-use Rattle.std.specs.Prelude.{◌≡◌, ◌⊎◌, ℕ, min, ◌+◌, ◌*◌, ◌/◌, ◌^◌, ◌<◌, ◌≤◌, Bool, true, false, cond, ◌&&◌, nat_le, nat_lt, List, ◌++◌, [], ◌∷◌, length, get_or, slice_set, Option, Some, None, unwrap_or, Result, Ok, Err}
-use Rattle.std.specs.Borrow.{Bor}
+use Rattle.std.specs.Prelude.{◌≡◌, ◌⊎◌, ℕ, min, ◌+◌, ◌*◌, ◌<◌, ◌≤◌, Bool, true, false, cond, nat_le, nat_lt, List, ◌++◌, [], ◌∷◌, length, get_or, slice_set, Option, Some, None, unwrap_or, Result, Ok, Err}
 use Rattle.capnp_words.specs.declared.error.ErrorKind.{ErrorKind}
 use Rattle.capnp_words.specs.declared.error.ErrorKind.TheVariants.{AllocationFailed, FoundBitListWhereStructListWasExpected, MessageContainsNonStructPointerWhereStructPointerWasExpected, MessageTooLarge, NoSuchPlace, UnknownPointerType}
 use Rattle.capnp_words.specs.declared.wire_pointer.ElementSize.{ElementSize}
@@ -19,7 +18,6 @@ use Rattle.capnp_making.specs.Stored.{IsStored, IsReplaced, Puts}
 use Rattle.capnp_making.specs.declared.existing.ExistingBytes.{ExistingBytes}
 use Rattle.capnp_making.specs.declared.existing.ExistingList.{ExistingList}
 use Rattle.capnp_making.specs.declared.existing.ExistingStruct.{ExistingStruct}
-use Rattle.capnp_words.specs.declared.wire_pointer.StructSize.{StructSize}
 use Rattle.capnp_objects.specs.Faults.{HasFault}
 use Rattle.capnp_objects.specs.Outcomes.{MeansThere}
 use Rattle.capnp_objects.specs.Wanted.{of_default}
@@ -36,10 +34,20 @@ use Rattle.capnp_builders.specs.declared.builders.PointerBuilder.{PointerBuilder
 use Rattle.capnp_builders.specs.Found.{place_of as list_place}
 use Rattle.capnp_builders.specs.Places.{Field, field}
 use Rattle.capnp_edits.specs.declared.edit.Edit.{Edit}
-use Rattle.capnp_edits.specs.declared.edit.Op.{Op}
-use Rattle.capnp_edits.specs.declared.edit.Op.TheVariants.{InitStruct, InitList, InitStructList, InitText, InitData, SetText, SetData, SetCapability, Clear, SetField, SetBool, SetElement, WriteText, WriteData, GetStruct, GetList, GetStructList, GetText, GetData, CopyFrom, SetStruct, SetList, CopyContent}
 use Rattle.capnp_edits.specs.declared.edit.copying.Copying.{Copying}
-use Rattle.capnp_edits.specs.declared.edit.copying.Wanted.TheVariants.{Value, Struct as AStruct, List as AList, Content}
+use Rattle.capnp_edits.specs.declared.edit.copying.Wanted.TheVariants.{Struct as AStruct}
+use Rattle.capnp_edits.specs.declared.edit.tasks.Task.{Task}
+use Rattle.capnp_edits.specs.declared.edit.tasks.Task.TheVariants.{Make, Point, InStruct, Write, Search, CopyRoot}
+use Rattle.capnp_edits.specs.declared.edit.tasks.Object.{Object}
+use Rattle.capnp_edits.specs.declared.edit.tasks.Object.TheVariants.{ZeroStruct, ZeroList, ZeroStructs, ZeroText, Text, Data}
+use Rattle.capnp_edits.specs.declared.edit.tasks.Number.{Number}
+use Rattle.capnp_edits.specs.declared.edit.tasks.StructChange.{StructChange}
+use Rattle.capnp_edits.specs.declared.edit.tasks.StructChange.TheVariants.{Bits, Content}
+use Rattle.capnp_edits.specs.declared.edit.tasks.Part.{Part}
+use Rattle.capnp_edits.specs.declared.edit.tasks.Part.TheVariants.{ListElement, TextByte, DataByte}
+use Rattle.capnp_edits.specs.declared.edit.tasks.Sought.{Sought}
+use Rattle.capnp_edits.specs.declared.edit.tasks.Sought.TheVariants.{Struct as ForStruct, List as ForList, StructList as ForStructs, Text as ForText, Data as ForData}
+use Rattle.capnp_edits.specs.Tasks.{task_of}
 use Rattle.capnp_edits.specs.Sources.{copying, Copies, ContentRead, Fills, FillsAll, IsNextUnreadable, IsUnread, IsUnreadable}
 use Rattle.capnp_edits.specs.Paths.{Spot, PointerTo, ElementOf, path_of, found}
 
@@ -48,81 +56,17 @@ abbrev pub refusal_of : {A : Type 0} → Result A ErrorKind → Option ErrorKind
 refusal_of (Ok x) = None
 refusal_of (Err k) = Some k
 
--- The bits of a data section that a number or a bit has, by its index, and what they become.
-abbrev pub number_at : ElementSize → ℕ → ℕ → Field
-number_at size i v = field (i * element_bits (size_number size)) (element_bits (size_number size)) v
+-- The bits of a data section that a number has, and what they become.
+abbrev pub bits_of : Number → Field
+bits_of n = field (n.index * element_bits (size_number n.size)) (element_bits (size_number n.size)) n.value
 
-abbrev pub bit_at : ℕ → Bool → Field
-bit_at i b = field i 1 (cond b 1 0)
-
--- The bits of a data section that an operation writes, if it does.
-abbrev pub field_of : Op → Option Field
-field_of (SetField size i v) = Some (number_at size i v)
-field_of (SetBool i b) = Some (bit_at i b)
-field_of op = None
-
-abbrev pub is_field : Option Field → Bool
-is_field (Some f) = true
-is_field None = false
-
--- An operation makes an object, all zero.
-abbrev pub is_init : Op → Bool
-is_init (InitStruct size) = true
-is_init (InitList size n) = true
-is_init (InitStructList n size) = true
-is_init (InitText n) = true
-is_init (InitData n) = true
-is_init op = false
-
--- An operation writes in a list, a text or data that is there.
-abbrev pub is_content : Op → Bool
-is_content (SetElement size i v) = true
-is_content (WriteText i b) = true
-is_content (WriteData i b) = true
-is_content op = false
-
--- An operation looks for a struct, a list, a text or data.
-abbrev pub is_search : Op → Bool
-is_search (GetStruct size default) = true
-is_search (GetList size default) = true
-is_search (GetStructList size default) = true
-is_search (GetText default) = true
-is_search (GetData default) = true
-is_search op = false
-
--- A number has no more bits than its element size, which is one from the least number of a size on, up to 8 bytes.
-abbrev pub is_number_from : ℕ → ElementSize → ℕ → Bool
-is_number_from least size v = nat_le least (size_number size) && nat_le (size_number size) 5 && nat_lt v (2 ^ element_bits (size_number size))
-
--- A default has fewer than 2^32 words.
-abbrev pub is_small_default : Option (Bor (List ℕ)) → Bool
-is_small_default (Some default) = nat_lt (length default.now / 8) (2 ^ 32)
-is_small_default None = true
-
--- The numbers of an operation are those of something that a pointer can lead to, or a field or an element hold; and its default is small.
-abbrev pub is_in_range : Op → Bool
-is_in_range (InitList size n) = nat_le (size_number size) 6 && nat_lt n (2 ^ 29)
-is_in_range (InitStructList n size) = nat_lt n (2 ^ 30) && nat_lt (n * (size.data_words + size.pointers)) (2 ^ 29)
-is_in_range (InitText n) = nat_lt (n + 1) (2 ^ 29)
-is_in_range (InitData n) = nat_lt n (2 ^ 29)
-is_in_range (SetText bytes) = nat_lt (length bytes.now + 1) (2 ^ 29)
-is_in_range (SetData bytes) = nat_lt (length bytes.now) (2 ^ 29)
-is_in_range (SetField size i v) = is_number_from 2 size v
-is_in_range (SetElement size i v) = is_number_from 1 size v
-is_in_range (GetStruct size default) = is_small_default default
-is_in_range (GetList size default) = nat_le (size_number size) 6 && is_small_default default
-is_in_range (GetStructList size default) = is_small_default default
-is_in_range (GetText default) = is_small_default default
-is_in_range (GetData default) = is_small_default default
-is_in_range op = true
-
--- What an operation makes where a path leads: a value; or it is refused by a name, and nothing is changed; or a value of the one that stands, which stays
--- where memory is refused; or what is made of a default's value, which is put in place of null first; or what is copied from another message; or a struct of so
--- many data words and pointers gets the content of that message's.
+-- What an operation makes where a path leads: a value; or it is refused by a name, and nothing is changed; or a value whose words are taken first, and another
+-- one where memory for them is refused; or what is made of a default's value, which is put in place of null first; or what is copied from another message; or
+-- a struct of so many data words and pointers gets the content of that message's.
 pub data Making : Type 0 where
   becomes : Tree → Making
   denied : ErrorKind → Making
-  widens : Tree → Tree → Making
+  allocates : Tree → Tree → Making
   defaults : List ℕ → (Tree → Making) → Making
   copies : Copying → Making
   fills : Source → ℕ → ℕ → Making
@@ -170,26 +114,17 @@ unchanged t (Err k) = denied k
 
 -- What is made of t where it is opened: what it becomes then; or it is refused.
 abbrev pub opened : Tree → Result Tree ErrorKind → Making
-opened t (Ok u) = widens t u
+opened t (Ok u) = allocates t u
 opened t (Err k) = denied k
 
--- A struct, or a list of structs, at least as large as asked for: a new one in place of null, or none.
-abbrev pub struct_made : StructSize → Tree → Making
-struct_made size t = opened t (struct_opened size t)
-
-abbrev pub structs_made : StructSize → Tree → Making
-structs_made size Null = becomes Null
-structs_made size t = opened t (list_widened size.data_words size.pointers t)
-
--- A list, a text or data is looked for, which leaves t.
-abbrev pub list_looked : ElementSize → Tree → Making
-list_looked size t = unchanged t (list_in nowhere size t)
-
-abbrev pub text_looked : Tree → Making
-text_looked t = unchanged t (text_in nowhere t)
-
-abbrev pub data_looked : Tree → Making
-data_looked t = unchanged t (data_in nowhere t)
+-- What is looked for: a struct, or a list of structs, at least as large as asked for, and no list in null; or a list, a text or data, which leaves t.
+abbrev pub looked_for : Sought → Tree → Making
+looked_for (ForStruct size) t = opened t (struct_opened size t)
+looked_for (ForStructs size) Null = becomes Null
+looked_for (ForStructs size) t = opened t (list_widened size.data_words size.pointers t)
+looked_for (ForList size) t = unchanged t (list_in nowhere size t)
+looked_for ForText t = unchanged t (text_in nowhere t)
+looked_for ForData t = unchanged t (data_in nowhere t)
 
 -- What is made where a default is so used.
 abbrev pub with_default : DefaultUse → (Tree → Making) → Tree → Making
@@ -197,78 +132,56 @@ with_default ignored made_of t = made_of t
 with_default (is_denied_by k) made_of t = denied k
 with_default (is_copied_from bytes) made_of t = defaults bytes made_of
 
--- Content is copied over a struct.
-abbrev pub content_over : Source → Tree → Making
-content_over source (Struct ws ts) = fills source (length ws) (count ts)
-content_over source t = denied NoSuchPlace
+-- What is made of a struct that is changed: bits of its data section are written, or content is copied over it.
+abbrev pub struct_changed : StructChange → Tree → Making
+struct_changed (Bits n) t = with_written (bits_of n) t
+struct_changed (Content source) (Struct ws ts) = fills source (length ws) (count ts)
+struct_changed (Content source) t = denied NoSuchPlace
 
--- What an operation whose numbers are in range makes where a path leads, memory aside; or by what name it is refused, and nothing is changed.
-abbrev pub made_at : Op → Spot → Making
-made_at (SetField size i v) (PointerTo t) = with_written (number_at size i v) t
-made_at (SetField size i v) (ElementOf t) = with_written (number_at size i v) t
-made_at (SetBool i b) (PointerTo t) = with_written (bit_at i b) t
-made_at (SetBool i b) (ElementOf t) = with_written (bit_at i b) t
-made_at (CopyContent source) (PointerTo t) = content_over source t
-made_at (CopyContent source) (ElementOf t) = content_over source t
-made_at op (ElementOf t) = denied NoSuchPlace
-made_at (InitStruct size) (PointerTo t) = becomes (zero_struct size)
-made_at (InitList size n) (PointerTo t) = becomes (zero_list (size_number size) n)
-made_at (InitStructList n size) (PointerTo t) = becomes (zero_structs n size)
-made_at (InitText n) (PointerTo t) = becomes (zero_list 2 (n + 1))
-made_at (InitData n) (PointerTo t) = becomes (zero_list 2 n)
-made_at (SetText bytes) (PointerTo t) = becomes (Flat 2 (bytes.now ++ 0 ∷ []))
-made_at (SetData bytes) (PointerTo t) = becomes (Flat 2 bytes.now)
-made_at (SetCapability i) (PointerTo t) = becomes (Capability i)
-made_at Clear (PointerTo t) = becomes Null
-made_at (CopyFrom source canonicalize) (PointerTo t) = copies (copying source Value canonicalize)
-made_at (SetStruct source canonicalize) (PointerTo t) = copies (copying source AStruct canonicalize)
-made_at (SetList source canonicalize) (PointerTo t) = copies (copying source AList canonicalize)
-made_at (SetElement size i v) (PointerTo t) = if_reached i (count_of (list_in nowhere size t)) (with_lowest i (element_bits (size_number size)) v t)
-made_at (WriteText i b) (PointerTo t) = if_reached i (length_of (text_in nowhere t)) (with_lowest i 8 b t)
-made_at (WriteData i b) (PointerTo t) = if_reached i (length_of (data_in nowhere t)) (with_lowest i 8 b t)
-made_at (GetStruct size default) (PointerTo t) = with_default (object_default default t) (struct_made size) t
-made_at (GetList size default) (PointerTo t) = with_default (object_default default t) (list_looked size) t
-made_at (GetStructList size default) (PointerTo t) = with_default (object_default default t) (structs_made size) t
-made_at (GetText default) (PointerTo t) = with_default (blob_default default t) text_looked t
-made_at (GetData default) (PointerTo t) = with_default (blob_default default t) data_looked t
+-- What is made where a part of a list, a text or data is written.
+abbrev pub part_written : Part → Tree → Making
+part_written (ListElement n) t = if_reached n.index (count_of (list_in nowhere n.size t)) (with_lowest n.index (element_bits (size_number n.size)) n.value t)
+part_written (TextByte i b) t = if_reached i (length_of (text_in nowhere t)) (with_lowest i 8 b t)
+part_written (DataByte i b) t = if_reached i (length_of (data_in nowhere t)) (with_lowest i 8 b t)
 
-abbrev pub made : Op → Spot → Making
-made op spot = cond (is_in_range op) (made_at op spot) (denied NoSuchPlace)
+-- The value of an object that is made, and how many words it takes, its landing pad aside.
+abbrev pub value_of : Object → Tree
+value_of (ZeroStruct size) = zero_struct size
+value_of (ZeroList size n) = zero_list (size_number size) n
+value_of (ZeroStructs n size) = zero_structs n size
+value_of (ZeroText n) = zero_list 2 (n + 1)
+value_of (Text bytes) = Flat 2 (bytes.now ++ 0 ∷ [])
+value_of (Data bytes) = Flat 2 bytes.now
+
+abbrev pub words_of : Object → ℕ
+words_of (ZeroStruct size) = size.data_words + size.pointers
+words_of (ZeroList size n) = list_words (size_number size) n
+words_of (ZeroStructs n size) = 1 + n * (size.data_words + size.pointers)
+words_of (ZeroText n) = list_words 2 (n + 1)
+words_of (Text bytes) = words_for 2 (length bytes.now + 1)
+words_of (Data bytes) = words_for 2 (length bytes.now)
+
+-- What a task makes where a path leads; or by what name it is refused, and nothing is changed.
+abbrev pub made_at : Task → Spot → Making
+made_at (InStruct change) (PointerTo t) = struct_changed change t
+made_at (InStruct change) (ElementOf t) = struct_changed change t
+made_at task (ElementOf t) = denied NoSuchPlace
+made_at (Make object) (PointerTo t) = allocates Null (value_of object)
+made_at (Point (Some i)) (PointerTo t) = becomes (Capability i)
+made_at (Point None) (PointerTo t) = becomes Null
+made_at (Write part) (PointerTo t) = part_written part t
+made_at (Search ForText default) (PointerTo t) = with_default (blob_default default t) (looked_for ForText) t
+made_at (Search ForData default) (PointerTo t) = with_default (blob_default default t) (looked_for ForData) t
+made_at (Search sought default) (PointerTo t) = with_default (object_default default t) (looked_for sought) t
+made_at (CopyRoot c) (PointerTo t) = copies c
+
+abbrev pub made : Option Task → Spot → Making
+made (Some task) spot = made_at task spot
+made None spot = denied NoSuchPlace
 
 -- The names of a refusal for want of memory, or of room.
 abbrev pub IsOfMemory : ErrorKind → Type 0
 IsOfMemory k = (k ≡ AllocationFailed) ⊎ ((n : ℕ) × (k ≡ MessageTooLarge n))
-
--- An operation takes memory.
-abbrev pub takes_memory : Op → Bool
-takes_memory (SetCapability i) = false
-takes_memory Clear = false
-takes_memory (SetField size i v) = false
-takes_memory (SetBool i b) = false
-takes_memory (SetElement size i v) = false
-takes_memory (WriteText i b) = false
-takes_memory (WriteData i b) = false
-takes_memory (GetStruct size default) = false
-takes_memory (GetList size default) = false
-takes_memory (GetStructList size default) = false
-takes_memory (GetText default) = false
-takes_memory (GetData default) = false
-takes_memory (CopyFrom source canonicalize) = false
-takes_memory (SetStruct source canonicalize) = false
-takes_memory (SetList source canonicalize) = false
-takes_memory (CopyContent source) = false
-takes_memory op = true
-
--- How many words the object takes that an operation makes, its landing pad aside.
-abbrev pub words_taken : Op → ℕ
-words_taken (InitStruct size) = size.data_words + size.pointers
-words_taken (InitList size n) = list_words (size_number size) n
-words_taken (InitStructList n size) = 1 + n * (size.data_words + size.pointers)
-words_taken (InitText n) = list_words 2 (n + 1)
-words_taken (InitData n) = list_words 2 n
-words_taken (SetText bytes) = words_for 2 (length bytes.now + 1)
-words_taken (SetData bytes) = words_for 2 (length bytes.now)
-words_taken op = 0
 
 -- The names by which an operation is refused for what a path leads to, or doesn't.
 abbrev pub is_of_place : ErrorKind → Bool
@@ -277,19 +190,6 @@ is_of_place MessageContainsNonStructPointerWhereStructPointerWasExpected = true
 is_of_place NoSuchPlace = true
 is_of_place UnknownPointerType = true
 is_of_place k = is_unfound k
-
--- What an operation copies from another message, if it does.
-abbrev pub copied_by : Op → Option Copying
-copied_by (CopyFrom source canonicalize) = Some (copying source Value canonicalize)
-copied_by (SetStruct source canonicalize) = Some (copying source AStruct canonicalize)
-copied_by (SetList source canonicalize) = Some (copying source AList canonicalize)
-copied_by (CopyContent source) = Some (copying source Content false)
-copied_by op = None
-
--- What stands after a whole operation in range where a pointer meant t: what it makes; or null, for want of memory.
-abbrev pub Gives : Op → Tree → Option ErrorKind → Tree → Type 0
-Gives op t None u = made_at op (PointerTo t) ≡ becomes u
-Gives op t (Some k) u = (y : Tree) × (made_at op (PointerTo t) ≡ becomes y) × (takes_memory op ≡ true) × IsOfMemory k × (u ≡ Null)
 
 -- How often memory was refused after an outcome: once more for each AllocationFailed.
 abbrev pub refusals_after : Option ErrorKind → ℕ → ℕ
@@ -300,10 +200,6 @@ refusals_after None n = n
 abbrev pub place_of : {A : Type 0} → PointerBuilder A → PointerPlace
 place_of b = record { segment = b.segment; word = b.at }
 
--- Whatever value the pointer at a place had, it has in its stead what the operation gives, with its outcome.
-abbrev pub GivesAt : Segments → Segments → PointerPlace → Op → Option ErrorKind → Type 0
-GivesAt S R place op r = (t : Tree) → IsStored S place.segment place.word t → (u : Tree) × Gives op t r u × IsReplaced S R place.segment place.word t u
-
 -- The pointer behind those that are read is refused by the name k, for memory or for what it reads.
 abbrev pub IsNextRefused : (source : Source) → ContentRead source → ErrorKind → Type 0
 IsNextRefused source c k = IsOfMemory k ⊎ IsNextUnreadable source c k
@@ -313,21 +209,20 @@ abbrev pub FillsFirst : Source → ℕ → ℕ → ErrorKind → Tree → Type 0
 FillsFirst source d q k u =
     (c : ContentRead source) × Fills source c d q u × (count c.children < min q c.from.pointers) × IsNextRefused source c k
 
--- What an operation leaves where it makes this, with its outcome: o in the value's stead, if anything is changed. It is what is made; or null, for want
--- of memory, or the value that is to be made larger; or all as it was; or it is what is copied; or null, where that is refused; or all as it was, where there is nothing to be copied. Of content it is
+-- What an operation leaves where it makes this, with its outcome: o in the value's stead, if anything is changed. It is what is made; or all as it was; or, for
+-- want of memory, what stands then; or it is what is copied; or null, where that is refused; or all as it was, where there is nothing to be copied. Of content it is
 -- all that is copied; or what is before a refusal; or all as it was.
-pub data Yields (op : Op) (making : Making) (r : Option ErrorKind) (o : Option Tree) : Type 0 where
-  is_done : (u : Tree) → making ≡ becomes u → r ≡ None → o ≡ Some u → Yields op making r o
-  lacks_memory : (u : Tree) (k : ErrorKind) → making ≡ becomes u → takes_memory op ≡ true → IsOfMemory k → r ≡ Some k → o ≡ Some Null → Yields op making r o
-  is_denied : (k : ErrorKind) → making ≡ denied k → r ≡ Some k → o ≡ None → Yields op making r o
-  is_widened : (t u : Tree) → making ≡ widens t u → r ≡ None → o ≡ Some u → Yields op making r o
-  is_not_widened : (t u : Tree) (k : ErrorKind) → making ≡ widens t u → IsOfMemory k → r ≡ Some k → o ≡ Some t → Yields op making r o
-  is_copied : (c : Copying) (u : Tree) → making ≡ copies c → Copies c u → r ≡ None → o ≡ Some u → Yields op making r o
-  is_not_copied : (c : Copying) (k : ErrorKind) → making ≡ copies c → IsOfMemory k ⊎ IsUnreadable c k → r ≡ Some k → o ≡ Some Null → Yields op making r o
-  is_unread : (c : Copying) (k : ErrorKind) → making ≡ copies c → IsUnread c k → r ≡ Some k → o ≡ None → Yields op making r o
-  is_filled : (source : Source) (d q : ℕ) (u : Tree) → making ≡ fills source d q → FillsAll source d q u → r ≡ None → o ≡ Some u → Yields op making r o
-  is_half_filled : (source : Source) (d q : ℕ) (k : ErrorKind) (u : Tree) → making ≡ fills source d q → FillsFirst source d q k u → r ≡ Some k → o ≡ Some u → Yields op making r o
-  is_not_filled : (source : Source) (d q : ℕ) (k : ErrorKind) → making ≡ fills source d q → IsUnread (copying source Content false) k → r ≡ Some k → o ≡ None → Yields op making r o
+pub data Yields (making : Making) (r : Option ErrorKind) (o : Option Tree) : Type 0 where
+  is_done : (u : Tree) → making ≡ becomes u → r ≡ None → o ≡ Some u → Yields making r o
+  is_denied : (k : ErrorKind) → making ≡ denied k → r ≡ Some k → o ≡ None → Yields making r o
+  is_allocated : (t u : Tree) → making ≡ allocates t u → r ≡ None → o ≡ Some u → Yields making r o
+  is_not_allocated : (t u : Tree) (k : ErrorKind) → making ≡ allocates t u → IsOfMemory k → r ≡ Some k → o ≡ Some t → Yields making r o
+  is_copied : (c : Copying) (u : Tree) → making ≡ copies c → Copies c u → r ≡ None → o ≡ Some u → Yields making r o
+  is_not_copied : (c : Copying) (k : ErrorKind) → making ≡ copies c → IsOfMemory k ⊎ IsUnreadable c k → r ≡ Some k → o ≡ Some Null → Yields making r o
+  is_unread : (c : Copying) (k : ErrorKind) → making ≡ copies c → IsUnread c k → r ≡ Some k → o ≡ None → Yields making r o
+  is_filled : (source : Source) (d q : ℕ) (u : Tree) → making ≡ fills source d q → FillsAll source d q u → r ≡ None → o ≡ Some u → Yields making r o
+  is_half_filled : (source : Source) (d q : ℕ) (k : ErrorKind) (u : Tree) → making ≡ fills source d q → FillsFirst source d q k u → r ≡ Some k → o ≡ Some u → Yields making r o
+  is_not_filled : (source : Source) (d q : ℕ) (k : ErrorKind) → making ≡ fills source d q → IsUnread (copying source AStruct false) k → r ≡ Some k → o ≡ None → Yields making r o
 
 -- The value of a default, by its bytes, without capabilities.
 abbrev pub MeansDefault : List ℕ → Tree → Type 0
@@ -335,47 +230,41 @@ MeansDefault bytes d = (n : ℕ) × MeansThere (default_root bytes) d n × (capa
 
 -- What is left where a default's value may come first: as of what stands; or a default's value, and what is left of that; or null, where its copy is refused,
 -- for memory or for what it reads.
-pub data Leaves (op : Op) (making : Making) (r : Option ErrorKind) (o : Option Tree) : Type 0 where
-  as_it_stands : Yields op making r o → Leaves op making r o
+pub data Leaves (making : Making) (r : Option ErrorKind) (o : Option Tree) : Type 0 where
+  as_it_stands : Yields making r o → Leaves making r o
   default_put :
       (bytes : List ℕ) (made_of : Tree → Making) (d : Tree) (left : Option Tree) →
       making ≡ defaults bytes made_of →
       MeansDefault bytes d →
-      Yields op (made_of d) r left →
+      Yields (made_of d) r left →
       o ≡ Some (unwrap_or left d) →
-      Leaves op making r o
+      Leaves making r o
   default_dropped :
       (bytes : List ℕ) (made_of : Tree → Making) (k : ErrorKind) →
       making ≡ defaults bytes made_of →
       IsOfMemory k ⊎ HasFault of_default (default_root bytes) k →
       r ≡ Some k →
       o ≡ Some Null →
-      Leaves op making r o
+      Leaves making r o
 
 -- The pointer at a place means o in t's stead, if anything is changed.
 abbrev pub IsReplacedIf : Segments → Segments → PointerPlace → Tree → Option Tree → Type 0
 IsReplacedIf S R place t (Some u) = IsReplaced S R place.segment place.word t u
 IsReplacedIf S R place t None = R ≡ S
 
--- What an operation does at a pointer that means t.
-pub record DoesAt (S R : Segments) (place : PointerPlace) (op : Op) (t : Tree) (r : Option ErrorKind) : Type 0 where
+-- What is done at a pointer that means t, where this is made of it.
+pub record DoesAt (S R : Segments) (place : PointerPlace) (making : Making) (t : Tree) (r : Option ErrorKind) : Type 0 where
   pub left : Option Tree
-  pub leaves : Leaves op (made op (PointerTo t)) r left
+  pub leaves : Leaves making r left
   pub stands : IsReplacedIf S R place t left
 
-abbrev pub Does : Segments → Segments → PointerPlace → Op → Option ErrorKind → Type 0
-Does S R place op r = (t : Tree) → IsStored S place.segment place.word t → DoesAt S R place op t r
+abbrev pub Does : Segments → Segments → PointerPlace → Task → Option ErrorKind → Type 0
+Does S R place task r = (t : Tree) → IsStored S place.segment place.word t → DoesAt S R place (made_at task (PointerTo t)) t r
 
 -- What writing bits leaves of the data section of a struct, with its outcome: they are written, or they aren't there.
 pub data PutsBits (S R : Segments) (e : ExistingStruct) (f : Field) (r : Option ErrorKind) : Type 0 where
   are_written : f.start < 64 * e.size.data_words → f.start + f.bits ≤ 64 * e.size.data_words → r ≡ None → R ≡ with_field S e.segment (64 * e.start + f.start) f.bits f.value → PutsBits S R e f r
   are_outside : 64 * e.size.data_words < f.start + f.bits → r ≡ Some NoSuchPlace → R ≡ S → PutsBits S R e f r
-
--- What an operation leaves of a struct of a message, with its outcome: it writes bits, or its numbers are out of range, or it is for a pointer.
-pub data WritesAt (S R : Segments) (e : ExistingStruct) (op : Op) (r : Option ErrorKind) : Type 0 where
-  is_put : (f : Field) → field_of op ≡ Some f → is_in_range op ≡ true → PutsBits S R e f r → WritesAt S R e op r
-  is_out_of_range : is_in_range op ≡ false → r ≡ Some NoSuchPlace → R ≡ S → WritesAt S R e op r
-  has_none : field_of op ≡ None → r ≡ Some NoSuchPlace → R ≡ S → WritesAt S R e op r
 
 -- What a copy from another message leaves at a place, with its outcome: it is there; or null, the copy being refused; or there is nothing to be copied.
 pub data CopiesRoot (S R : Segments) (place : PointerPlace) (c : Copying) (r : Option ErrorKind) : Type 0 where
@@ -412,12 +301,12 @@ pub data FillsAt (S R : Segments) (place : StructPlace) (source : Source) (r : O
       IsNextRefused source f.content k →
       r ≡ Some k →
       FillsAt S R place source r
-  none_filled : (k : ErrorKind) → IsUnread (copying source Content false) k → R ≡ S → r ≡ Some k → FillsAt S R place source r
+  none_filled : (k : ErrorKind) → IsUnread (copying source AStruct false) k → R ≡ S → r ≡ Some k → FillsAt S R place source r
 
--- What an operation at an element of a list leaves: it copies content; or it writes bits, or is for something else.
-abbrev pub FillsOrWrites : Segments → Segments → ExistingStruct → Op → Option ErrorKind → Type 0
-FillsOrWrites S R e (CopyContent source) r = FillsAt S R (sections e) source r
-FillsOrWrites S R e op r = WritesAt S R e op r
+-- What a change leaves of a struct of a message: its bits are written; or content is copied over it.
+abbrev pub Changes : Segments → Segments → ExistingStruct → StructChange → Option ErrorKind → Type 0
+Changes S R e (Bits n) r = PutsBits S R e (bits_of n) r
+Changes S R e (Content source) r = FillsAt S R (sections e) source r
 
 -- What writing an element leaves, with its outcome, where a list was looked for: its lowest bits are written; or it isn't there, in no list that lies in
 -- the message and is as wide; or there is no list, or the search was refused.
@@ -443,7 +332,7 @@ put_if t path None = t
 
 -- An edit with its outcome takes the value t of a message to u.
 pub data Takes (e : Edit) (t : Tree) (r : Option ErrorKind) (u : Tree) : Type 0 where
-  leads_to : (spot : Spot) (o : Option Tree) → found t (path_of e.path.now) ≡ Some spot → Leaves e.op (made e.op spot) r o → u ≡ put_if t (path_of e.path.now) o → Takes e t r u
+  leads_to : (spot : Spot) (o : Option Tree) → found t (path_of e.path.now) ≡ Some spot → Leaves (made (task_of e.op) spot) r o → u ≡ put_if t (path_of e.path.now) o → Takes e t r u
   leads_nowhere : found t (path_of e.path.now) ≡ None → r ≡ Some NoSuchPlace → u ≡ t → Takes e t r u
 
 -- From S to R an edit takes a forest to a forest, with its outcome.

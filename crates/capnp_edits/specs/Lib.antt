@@ -1,4 +1,5 @@
 pub mod Paths
+pub mod Tasks
 pub mod Edits
 pub mod Sources
 pub mod Steps

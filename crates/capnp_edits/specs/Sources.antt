@@ -35,7 +35,7 @@ use Rattle.capnp_builders.specs.Laws.{HoldContent, up_to}
 use Rattle.capnp_edits.specs.declared.edit.Source.{Source}
 use Rattle.capnp_edits.specs.declared.edit.copying.Copying.{Copying}
 use Rattle.capnp_edits.specs.declared.edit.copying.Wanted.{Wanted}
-use Rattle.capnp_edits.specs.declared.edit.copying.Wanted.TheVariants.{Value, Struct as AStruct, List as AList, Content}
+use Rattle.capnp_edits.specs.declared.edit.copying.Wanted.TheVariants.{Value, Struct as AStruct, List as AList}
 
 abbrev pub copying : Source → Wanted → Bool → Copying
 copying source wanted canonicalize = record { source = source; wanted = wanted; canonicalize = canonicalize }
@@ -59,7 +59,7 @@ abbrev pub HasRoot : Source → Type 0
 HasRoot source = Holds (words_in source) 0 0 1 × Affords true (limiter_of source) 1
 
 -- The value that is copied where a root means t: t itself; but where a struct or a list is wanted, of null one of nothing, and none where t is of another
--- kind, or a list of bits. Of content no whole value is copied.
+-- kind, or a list of bits.
 abbrev pub as_wanted : Wanted → Tree → Option Tree
 as_wanted Value t = Some t
 as_wanted AStruct Null = Some (Struct [] no_trees)
@@ -87,12 +87,6 @@ abbrev pub IsWithheld : Wanted → Reading → Meter → Meter → ErrorKind →
 IsWithheld Value r m m' k = ⊥
 IsWithheld AStruct r m m' k = Withheld ExpectedStruct r m m' k
 IsWithheld AList r m m' k = Withheld (ExpectedList Void) r m m' k
-IsWithheld Content r m m' k = Withheld ExpectedStruct r m m' k
-
--- A whole value is copied.
-abbrev pub is_whole : Wanted → Bool
-is_whole Content = false
-is_whole wanted = true
 
 -- There is nothing to be copied, by the name k: the root isn't reached, or what is wanted isn't found there.
 abbrev pub IsUnread : Copying → ErrorKind → Type 0
@@ -209,7 +203,6 @@ abbrev pub RefusesAs : Wanted → Reading → Change → ErrorKind → Type 0
 RefusesAs Value r c k = RefusesValue r c k
 RefusesAs AStruct r c k = (s : Sections) × LeadsToStruct r c.before s × RefusesSections s.words s.first s.pointers (record c { before = s.limiter }) k
 RefusesAs AList r c k = (l : ListElements) × (m : Meter) × LeadsToList r c.before m l × RefusesElements l (record c { before = m }) k
-RefusesAs Content r c k = ⊥
 
 -- A copy that a call makes at a place; what is left of its limiter then is m.
 abbrev pub copy_at : CallAt → Copying → Meter → Change
@@ -227,4 +220,4 @@ CopiedOrRefused = (c : Copying) (u : Tree) (k : ErrorKind) → Copies c u → Is
 abbrev pub FilledOrRefused : Type 0
 FilledOrRefused =
     (source : Source) (q : ℕ) (k : ErrorKind) (all : ContentRead source) → count all.children ≡ min q all.from.pointers
-    → IsUnread (copying source Content false) k ⊎ ((some : ContentRead source) × (count some.children < min q some.from.pointers) × IsNextUnreadable source some k) → ⊥
+    → IsUnread (copying source AStruct false) k ⊎ ((some : ContentRead source) × (count some.children < min q some.from.pointers) × IsNextUnreadable source some k) → ⊥

@@ -1,5 +1,5 @@
 -- Steps: what one edit does with a message and the arena that holds it, and edits in order.
-use Rattle.std.specs.Prelude.{◌≡◌, ◌⊎◌, ⊤, ℕ, min, ◌+◌, ◌*◌, ◌<◌, Bool, true, false, List, [], ◌∷◌, length, Option, Some, None, IfSome, IsSomeAnd, Result, Ok, Err}
+use Rattle.std.specs.Prelude.{◌≡◌, ◌⊎◌, ⊤, ℕ, min, ◌+◌, ◌*◌, ◌<◌, true, false, List, [], ◌∷◌, length, Option, Some, None, IfSome, IsSomeAnd, Result, Ok, Err}
 use Rattle.std.specs.Borrow.{Bor}
 use Rattle.capnp_words.specs.Meter.{Meter}
 use Rattle.capnp_words.specs.declared.error.ErrorKind.{ErrorKind}
@@ -29,17 +29,22 @@ use Rattle.capnp_builders.specs.Found.{FindsList, FindsData, FindsText}
 use Rattle.capnp_builders.specs.Laws.{TakesBytes}
 use Rattle.capnp_builders.specs.Opening.{FindsStruct, FindsStructs, StructFindFits, StructsFindFits}
 use Rattle.capnp_edits.specs.declared.edit.Edit.{Edit}
-use Rattle.capnp_edits.specs.declared.edit.Op.{Op}
-use Rattle.capnp_edits.specs.declared.edit.Op.TheVariants.{GetStruct, GetList, GetStructList, GetText, GetData, CopyFrom, SetStruct, SetList, CopyContent}
 use Rattle.capnp_edits.specs.declared.edit.Source.{Source}
 use Rattle.capnp_edits.specs.declared.edit.copying.Copying.{Copying}
 use Rattle.capnp_edits.specs.declared.edit.copying.Wanted.{Wanted}
-use Rattle.capnp_edits.specs.declared.edit.copying.Wanted.TheVariants.{Value, Struct as AStruct, List as AList, Content}
+use Rattle.capnp_edits.specs.declared.edit.copying.Wanted.TheVariants.{Value, Struct as AStruct, List as AList}
+use Rattle.capnp_edits.specs.declared.edit.tasks.Task.{Task}
+use Rattle.capnp_edits.specs.declared.edit.tasks.Task.TheVariants.{Make, InStruct, Search, CopyRoot}
+use Rattle.capnp_edits.specs.declared.edit.tasks.StructChange.{StructChange}
+use Rattle.capnp_edits.specs.declared.edit.tasks.StructChange.TheVariants.{Bits, Content}
+use Rattle.capnp_edits.specs.declared.edit.tasks.Sought.{Sought}
+use Rattle.capnp_edits.specs.declared.edit.tasks.Sought.TheVariants.{Struct as ForStruct, List as ForList, StructList as ForStructs, Text as ForText, Data as ForData}
+use Rattle.capnp_edits.specs.Tasks.{task_of}
 use Rattle.capnp_edits.specs.declared.edit.path.Place.{Place}
 use Rattle.capnp_edits.specs.declared.edit.path.Place.TheVariants.{Pointer as AtPointer, Element as AtElement}
 use Rattle.capnp_edits.specs.Paths.{path_of, IsFound}
 use Rattle.capnp_edits.specs.Sources.{copying, root_of, once_at_root, Sections, LeadsToStruct, LeadsToList, ContentRead, ContentFitsBehind, IsUnread, FitsBehind, copy_at, IsCopyRefused}
-use Rattle.capnp_edits.specs.Edits.{refusal_of, is_of_place, takes_memory, words_taken, refusals_after, sections, GivesAt, Does, IsApplied}
+use Rattle.capnp_edits.specs.Edits.{refusal_of, is_of_place, words_of, refusals_after, sections, Changes, Does, IsApplied}
 
 -- A call at the place of a pointer.
 abbrev pub call_to : PointerPlace → View → View → CallAt
@@ -59,30 +64,27 @@ CopiesNothing c old new r = (k : ErrorKind) × (r ≡ Some k) × IsUnread c k ×
 
 -- Room.
 
--- What an operation makes at a pointer has room there, as the builder's call asks for it: the words of one object; what is kept of a copy;
--- what the pointers mean that are copied over the struct there; the value of a default, and what becomes of a struct or a list of structs that is
--- opened. An operation that takes no words asks for none.
-abbrev pub OpFits : View → PointerPlace → Op → Type 0
-OpFits old place (GetStruct size default) = StructFindFits size default old place.segment place.word
-OpFits old place (GetList size default) = DefaultFits default old place.segment
-OpFits old place (GetStructList size default) = StructsFindFits size default old place.segment place.word
-OpFits old place (GetText default) = DefaultFits default old place.segment
-OpFits old place (GetData default) = DefaultFits default old place.segment
-OpFits old place (CopyFrom source canonicalize) = FitsBehind old place.segment (copying source Value canonicalize)
-OpFits old place (SetStruct source canonicalize) = FitsBehind old place.segment (copying source AStruct canonicalize)
-OpFits old place (SetList source canonicalize) = FitsBehind old place.segment (copying source AList canonicalize)
-OpFits old place (CopyContent source) =
-    (e : ExistingStruct) → IsStructAt old.words place e → ContentFitsBehind old e.segment source e.size.pointers
-OpFits old place op = takes_memory op ≡ true → HasRoom old place.segment (words_taken op)
+-- What a change makes of a struct has room: what the pointers mean that are copied over it. Bits ask for none.
+abbrev pub ChangeFits : View → ExistingStruct → StructChange → Type 0
+ChangeFits old e (Bits n) = ⊤
+ChangeFits old e (Content source) = ContentFitsBehind old e.segment source e.size.pointers
 
--- What an operation makes at an element of a list, which is a struct, has room there.
-abbrev pub ElementFits : View → ExistingStruct → Op → Type 0
-ElementFits old e (CopyContent source) = ContentFitsBehind old e.segment source e.size.pointers
-ElementFits old e op = ⊤
+-- What a task makes at a pointer has room there, as the builder's call asks for it: the words of one object; what is kept of a copy; a change of the struct
+-- there; the value of a default, and what becomes of a struct or a list of structs that is opened. A task that takes no words asks for none.
+abbrev pub TaskFits : View → PointerPlace → Task → Type 0
+TaskFits old place (Make object) = HasRoom old place.segment (words_of object)
+TaskFits old place (InStruct change) = (e : ExistingStruct) → IsStructAt old.words place e → ChangeFits old e change
+TaskFits old place (Search (ForStruct size) default) = StructFindFits size default old place.segment place.word
+TaskFits old place (Search (ForStructs size) default) = StructsFindFits size default old place.segment place.word
+TaskFits old place (Search sought default) = DefaultFits default old place.segment
+TaskFits old place (CopyRoot c) = FitsBehind old place.segment c
+TaskFits old place task = ⊤
 
-abbrev pub FitsAt : View → Op → Place → Type 0
-FitsAt old op (AtPointer place) = OpFits old place op
-FitsAt old op (AtElement e) = ElementFits old e op
+-- At an element of a list, which is a struct, it is a change of that.
+abbrev pub FitsAt : View → Task → Place → Type 0
+FitsAt old task (AtPointer place) = TaskFits old place task
+FitsAt old (InStruct change) (AtElement e) = ChangeFits old e change
+FitsAt old task (AtElement e) = ⊤
 
 -- Refusals.
 
@@ -111,7 +113,7 @@ pub record StopsFilling (old new : View) (place : StructPlace) (source : Source)
 -- Content isn't copied over a struct, or not all of it.
 abbrev pub IsContentRefused : View → View → StructPlace → Source → ErrorKind → Type 0
 IsContentRefused old new place source k =
-    (IsUnread (copying source Content false) k × (new ≡ old)) ⊎ StopsFilling old new place source k
+    (IsUnread (copying source AStruct false) k × (new ≡ old)) ⊎ StopsFilling old new place source k
 
 -- What is looked for isn't opened: all is as it was; or memory is refused, and truly.
 abbrev pub IsOpeningRefused : View → View → ErrorKind → Type 0
@@ -128,36 +130,29 @@ IsSearchRefused call None k = IsOpeningRefused call.old call.new k
 IsSearchRefused call (Some default) k =
     ((mid : View) × KeepsMemory call.old mid × IsOpeningRefused mid call.new k) ⊎ IsDefaultRefused call default.now k
 
+-- A change of a struct is refused by the name k, but for a place.
+abbrev pub IsChangeRefused : View → View → ExistingStruct → StructChange → ErrorKind → Type 0
+IsChangeRefused old new e (Bits n) k = ⊥
+IsChangeRefused old new e (Content source) k = IsContentRefused old new (sections e) source k
+
 -- The builder's call is refused by a name. One that makes an object is so for want of memory or room for its words, and truly.
-abbrev pub IsCallRefused : CallAt → Op → ErrorKind → Type 0
-IsCallRefused call (GetStruct size default) k = IsSearchRefused call default k
-IsCallRefused call (GetList size default) k = IsSearchRefused call default k
-IsCallRefused call (GetStructList size default) k = IsSearchRefused call default k
-IsCallRefused call (GetText default) k = IsSearchRefused call default k
-IsCallRefused call (GetData default) k = IsSearchRefused call default k
-IsCallRefused call (CopyFrom source canonicalize) k = IsWholeRefused call (copying source Value canonicalize) k
-IsCallRefused call (SetStruct source canonicalize) k = IsWholeRefused call (copying source AStruct canonicalize) k
-IsCallRefused call (SetList source canonicalize) k = IsWholeRefused call (copying source AList canonicalize) k
-IsCallRefused call (CopyContent source) k =
+abbrev pub IsCallRefused : CallAt → Task → ErrorKind → Type 0
+IsCallRefused call (Make object) k = IsRefusedFor call.old call.new (words_of object) k
+IsCallRefused call (InStruct change) k =
     (e : ExistingStruct) × IsStructAt call.old.words (record { segment = call.segment; word = call.at }) e
-    × IsContentRefused call.old call.new (sections e) source k
-IsCallRefused call op k = IsRefusedFor call.old call.new (words_taken op) k
+    × IsChangeRefused call.old call.new e change k
+IsCallRefused call (Search sought default) k = IsSearchRefused call default k
+IsCallRefused call (CopyRoot c) k = IsWholeRefused call c k
+IsCallRefused call task k = ⊥
 
--- An operation at an element of a list is refused by the name k.
-abbrev pub IsElementRefused : View → View → ExistingStruct → Op → ErrorKind → Type 0
-IsElementRefused old new e (CopyContent source) k = IsContentRefused old new (sections e) source k
-IsElementRefused old new e op k = ⊥
+abbrev pub IsRefusedAt : View → View → Task → ErrorKind → Place → Type 0
+IsRefusedAt old new task k (AtPointer place) = IsCallRefused (call_to place old new) task k
+IsRefusedAt old new (InStruct change) k (AtElement e) = IsChangeRefused old new e change k
+IsRefusedAt old new task k (AtElement e) = ⊥
 
-abbrev pub IsRefusedAt : View → View → Op → ErrorKind → Place → Type 0
-IsRefusedAt old new op k (AtPointer place) = IsCallRefused (call_to place old new) op k
-IsRefusedAt old new op k (AtElement e) = IsElementRefused old new e op k
-
--- A refusal by a name is for what the place holds, and all is as it was; or it is that of the builder's call.
+-- A refusal by a name is for what the place holds, and all is as it was.
 abbrev pub IsOfPlace : View → View → ErrorKind → Type 0
 IsOfPlace old new k = (is_of_place k ≡ true) × (new ≡ old)
-
-abbrev pub IsRefusedAs : CallAt → Op → ErrorKind → Type 0
-IsRefusedAs call op k = IsOfPlace call.old call.new k ⊎ IsCallRefused call op k
 
 -- Words that are taken.
 
@@ -166,11 +161,10 @@ abbrev pub result_of : Option ErrorKind → Result (Unit {0}) ErrorKind
 result_of None = Ok tt
 result_of (Some k) = Err k
 
--- For an object words are taken as a builder takes them, and none where it is refused; an operation that makes none takes no words.
-abbrev pub TakesObject : Bool → CallAt → ℕ → Option ErrorKind → Type 0
-TakesObject true call n None = TakesWords call.old call.new call.segment n
-TakesObject true call n (Some k) = IsPruned call.old.words call.new.words
-TakesObject false call n r = KeepsLengths call.old.words call.new.words
+-- For an object words are taken as a builder takes them, and none where it is refused.
+abbrev pub TakesObject : CallAt → ℕ → Option ErrorKind → Type 0
+TakesObject call n None = TakesWords call.old call.new call.segment n
+TakesObject call n (Some k) = IsPruned call.old.words call.new.words
 
 -- A copy of what the root leads to takes at most as many words as reading it costs, its own that cost nothing, and the landing pads: in all, or
 -- as far as it was read.
@@ -181,7 +175,6 @@ TakesForWanted AStruct r source c =
     × TakesForObject (result_of r) s.first s.pointers (length s.words + s.pointers) (record c { before = s.limiter })
 TakesForWanted AList r source c =
     (l : ListElements) × (m : Meter) × LeadsToList (root_of source) c.before m l × TakesForListOf (result_of r) l (record c { before = m })
-TakesForWanted Content r source c = ⊥
 
 abbrev pub TakesForWhole : CallAt → Copying → Option ErrorKind → Type 0
 TakesForWhole call c r =
@@ -193,7 +186,7 @@ TakesForPointersOf s place r c = TakesForPointers (result_of r) s.first (min pla
 
 abbrev pub TakesForContent : View → View → StructPlace → Source → Option ErrorKind → Type 0
 TakesForContent old new place source r =
-    CopiesNothing (copying source Content false) old new r
+    CopiesNothing (copying source AStruct false) old new r
     ⊎ (
     (s : Sections) × (m : Meter) × LeadsToStruct (root_of source) (once_at_root source) s
     × TakesForPointersOf s place r (change plain place.segment place.pointers_at old new (once_at_root source) m)
@@ -203,78 +196,72 @@ TakesForContent old new place source r =
 abbrev pub FindsAs : {B : Type 0} → Option ErrorKind → (Result B ErrorKind → Type 0) → Type 0
 FindsAs {B} r Finds = (result : Result B ErrorKind) × (refusal_of result ≡ r) × Finds result
 
-abbrev pub Finds : Op → Option ErrorKind → CallAt → Tree → Type 0
-Finds (GetStruct size default) r call t = FindsAs r (λ result. FindsStruct size default result call t)
-Finds (GetList size default) r call t = FindsAs r (λ result. FindsList size default result call t)
-Finds (GetStructList size default) r call t = FindsAs r (λ result. FindsStructs size default result call t)
-Finds (GetText default) r call t = FindsAs r (λ result. FindsText default result call t)
-Finds (GetData default) r call t = FindsAs r (λ result. FindsData default result call t)
-Finds op r call t = ⊤
+abbrev pub Finds : Sought → Option (Bor (List ℕ)) → Option ErrorKind → CallAt → Tree → Type 0
+Finds (ForStruct size) default r call t = FindsAs r (λ result. FindsStruct size default result call t)
+Finds (ForList size) default r call t = FindsAs r (λ result. FindsList size default result call t)
+Finds (ForStructs size) default r call t = FindsAs r (λ result. FindsStructs size default result call t)
+Finds ForText default r call t = FindsAs r (λ result. FindsText default result call t)
+Finds ForData default r call t = FindsAs r (λ result. FindsData default result call t)
 
-abbrev pub FindsAt : CallAt → Op → Option ErrorKind → Type 0
-FindsAt call op r = (t : Tree) → IsStored call.old.words call.segment call.at t → Finds op r call t
+-- The words that a change of a struct takes.
+abbrev pub TakesForChange : View → View → ExistingStruct → StructChange → Option ErrorKind → Type 0
+TakesForChange old new e (Bits n) r = KeepsLengths old.words new.words
+TakesForChange old new e (Content source) r = TakesForContent old new (sections e) source r
 
--- An operation at a pointer takes words as the builder's call says.
-abbrev pub TakesFor : CallAt → Op → Option ErrorKind → Type 0
-TakesFor call (GetStruct size default) r = FindsAt call (GetStruct size default) r
-TakesFor call (GetList size default) r = FindsAt call (GetList size default) r
-TakesFor call (GetStructList size default) r = FindsAt call (GetStructList size default) r
-TakesFor call (GetText default) r = FindsAt call (GetText default) r
-TakesFor call (GetData default) r = FindsAt call (GetData default) r
-TakesFor call (CopyFrom source canonicalize) r = TakesForWhole call (copying source Value canonicalize) r
-TakesFor call (SetStruct source canonicalize) r = TakesForWhole call (copying source AStruct canonicalize) r
-TakesFor call (SetList source canonicalize) r = TakesForWhole call (copying source AList canonicalize) r
-TakesFor call (CopyContent source) r =
+-- A task at a pointer takes words as the builder's call says.
+abbrev pub TakesFor : CallAt → Task → Option ErrorKind → Type 0
+TakesFor call (Make object) r = TakesObject call (words_of object) r
+TakesFor call (InStruct change) r =
     (e : ExistingStruct) × IsStructAt call.old.words (record { segment = call.segment; word = call.at }) e
-    × TakesForContent call.old call.new (sections e) source r
-TakesFor call op r = TakesObject (takes_memory op) call (words_taken op) r
+    × TakesForChange call.old call.new e change r
+TakesFor call (Search sought default) r = (t : Tree) → IsStored call.old.words call.segment call.at t → Finds sought default r call t
+TakesFor call (CopyRoot c) r = TakesForWhole call c r
+TakesFor call task r = KeepsLengths call.old.words call.new.words
 
--- The words that an operation at an element of a list takes.
-abbrev pub TakesForElement : View → View → ExistingStruct → Op → Option ErrorKind → Type 0
-TakesForElement old new e (CopyContent source) r = TakesForContent old new (sections e) source r
-TakesForElement old new e op r = KeepsLengths old.words new.words
-
-abbrev pub TakesAt : View → View → Op → Option ErrorKind → Place → Type 0
-TakesAt old new op r (AtPointer place) = TakesFor (call_to place old new) op r
-TakesAt old new op r (AtElement e) = TakesForElement old new e op r
+abbrev pub TakesAt : View → View → Task → Option ErrorKind → Place → Type 0
+TakesAt old new task r (AtPointer place) = TakesFor (call_to place old new) task r
+TakesAt old new (InStruct change) r (AtElement e) = TakesForChange old new e change r
+TakesAt old new task r (AtElement e) = KeepsLengths old.words new.words
 
 -- Calls at a place.
 
--- What a call leaves that does a whole operation in range at a place, with its outcome: what the operation gives; the refused requests that are
--- counted; the words that are taken; a refusal is for want of memory or room, and there is none where the words fit.
-pub record IsPut (old new : View) (place : PointerPlace) (op : Op) (r : Option ErrorKind) : Type 0 where
-  pub done : GivesAt old.words new.words place op r
+-- What a call leaves that does a task in range at a pointer, with its outcome: what the task gives; the refused requests that are counted; why it is refused,
+-- which it isn't but for what stands there where it has room; and the words that are taken.
+pub record IsDoneAt (old new : View) (place : PointerPlace) (task : Task) (r : Option ErrorKind) : Type 0 where
+  pub done : Does old.words new.words place task r
   pub counted : new.refusals ≡ refusals_after r old.refusals
-  pub named : (k : ErrorKind) → r ≡ Some k → IsRefusedFor old new (words_taken op) k
-  pub fits : (takes_memory op ≡ true → HasRoom old place.segment (words_taken op)) → r ≡ None
-  pub taken : TakesObject (takes_memory op) (call_to place old new) (words_taken op) r
-
--- What a call leaves that does a search at a place, with its outcome.
-pub record IsSought (old new : View) (place : PointerPlace) (op : Op) (r : Option ErrorKind) : Type 0 where
-  pub done : Does old.words new.words place op r
-  pub counted : new.refusals ≡ refusals_after r old.refusals
-  pub named : (k : ErrorKind) → r ≡ Some k → IsRefusedAs (call_to place old new) op k
-  pub fits : OpFits old place op → (k : ErrorKind) → r ≡ Some k → is_of_place k ≡ true
+  pub named : (k : ErrorKind) → r ≡ Some k → IsOfPlace old new k ⊎ IsCallRefused (call_to place old new) task k
+  pub fits : TaskFits old place task → (k : ErrorKind) → r ≡ Some k → is_of_place k ≡ true
   pub nowhere : r ≡ Some NoSuchPlace → new ≡ old
-  pub taken : FindsAt (call_to place old new) op r
+  pub taken : (r ≡ Some NoSuchPlace → ⊥) → TakesFor (call_to place old new) task r
+
+-- The same of a change of a struct.
+pub record IsChanged (old new : View) (e : ExistingStruct) (change : StructChange) (r : Option ErrorKind) : Type 0 where
+  pub done : Changes old.words new.words e change r
+  pub counted : new.refusals ≡ refusals_after r old.refusals
+  pub named : (k : ErrorKind) → r ≡ Some k → IsOfPlace old new k ⊎ IsChangeRefused old new e change k
+  pub fits : ChangeFits old e change → (k : ErrorKind) → r ≡ Some k → is_of_place k ≡ true
+  pub nowhere : r ≡ Some NoSuchPlace → new ≡ old
+  pub taken : TakesForChange old new e change r
 
 -- Steps.
 
 -- From old to new an edit is done, with its outcome: whatever forest the message is, it is one then, of the value that the edit makes of the one
--- before; and each AllocationFailed is counted. It is done where its path leads: NoSuchPlace where that is nowhere, or where the message has no
--- root word, and nothing is changed then. There it is refused only as the builder's call is, and never where that has room, and takes words as
--- that does.
+-- before; and each AllocationFailed is counted. It is done where its path leads: NoSuchPlace where that is nowhere, where its numbers are out of range, or
+-- where the message has no root word, and nothing is changed then. There it is refused only as the builder's call is, and never where that has room, and
+-- takes words as that does.
 pub record IsStep (old new : View) (edit : Edit) (r : Option ErrorKind) : Type 0 where
   pub applied : IsApplied old.words new.words edit r
   pub counted : new.refusals ≡ refusals_after r old.refusals
   pub place : Option Place
   pub leads : (t : Tree) → IsStored old.words 0 0 t → IsFound old.words 0 0 t (path_of edit.path.now) place
   pub missing : place ≡ None → r ≡ Some NoSuchPlace
+  pub out_of_range : task_of edit.op ≡ None → r ≡ Some NoSuchPlace
   pub rootless : length (segment old.words 0) ≡ 0 → r ≡ Some NoSuchPlace
   pub nowhere : r ≡ Some NoSuchPlace → new ≡ old
-  pub named : (k : ErrorKind) → r ≡ Some k → IsOfPlace old new k ⊎ IsSomeAnd place (IsRefusedAt old new edit.op k)
-  pub fits : IfSome place (FitsAt old edit.op) → (k : ErrorKind) → r ≡ Some k → is_of_place k ≡ true
-  pub taken : (r ≡ Some NoSuchPlace → ⊥) → IfSome place (TakesAt old new edit.op r)
+  pub named : (k : ErrorKind) → r ≡ Some k → IsOfPlace old new k ⊎ IsSomeAnd place (λ there. IsSomeAnd (task_of edit.op) (λ task. IsRefusedAt old new task k there))
+  pub fits : IfSome place (λ there. IfSome (task_of edit.op) (λ task. FitsAt old task there)) → (k : ErrorKind) → r ≡ Some k → is_of_place k ≡ true
+  pub taken : (r ≡ Some NoSuchPlace → ⊥) → IfSome place (λ there. IfSome (task_of edit.op) (λ task. TakesAt old new task r there))
 
 -- From old to new edits are such steps in order, each with its outcome.
 abbrev pub AreSteps : View → View → List Edit → List (Option ErrorKind) → Type 0

@@ -11,10 +11,12 @@ mod filling;
 mod found;
 mod path;
 mod pointer;
+mod tasks;
 
-use self::filling::edit_element;
+use self::filling::change_struct;
 use self::path::{Place, find, has_words};
 use self::pointer::edit_pointer;
+use self::tasks::{Task, task_of};
 use capnp_arena::arena::{BuilderArena, ReaderArenaImpl, SegmentArray};
 use capnp_words::error::ErrorKind;
 use capnp_words::wire_pointer::{ElementSize, StructSize};
@@ -127,10 +129,18 @@ pub fn apply<A: BuilderArena>(arena: &mut A, edit: &Edit<'_>) -> Result<(), Erro
     if !has_words(&*arena, 0, 1) {
         return Err(ErrorKind::NoSuchPlace);
     }
-    match find(&*arena, edit.path) {
-        Some(Place::Pointer(place)) => edit_pointer(arena, place, edit.op),
-        Some(Place::Element(parent)) => edit_element(arena, parent, edit.op),
-        None => Err(ErrorKind::NoSuchPlace),
+    let Some(place) = find(&*arena, edit.path) else {
+        return Err(ErrorKind::NoSuchPlace);
+    };
+    let Some(task) = task_of(edit.op) else {
+        return Err(ErrorKind::NoSuchPlace);
+    };
+    match place {
+        Place::Pointer(place) => edit_pointer(arena, place, task),
+        Place::Element(parent) => match task {
+            Task::InStruct(change) => change_struct(arena, parent, change),
+            _ => Err(ErrorKind::NoSuchPlace),
+        },
     }
 }
 

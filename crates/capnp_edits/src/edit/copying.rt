@@ -1,12 +1,12 @@
 //! Edits that copy from another message.
-ghost use Rattle.std.specs.Prelude.{◌≡◌, true, IsOk, IfOk, IfErr};
+ghost use Rattle.std.specs.Prelude.{◌≡◌, IsOk, IfOk, IfErr};
 ghost use Rattle.capnp_format.specs.Segments.{IsPlace};
 ghost use Rattle.capnp_builders.specs.Building.{built, calling, IsThere};
-ghost use Rattle.capnp_edits.specs.Sources.{is_whole, FitsBehind, IsOpened, IsRootless};
-ghost use Rattle.capnp_edits.specs.Edits.{refusal_of, copied_by, place_of, refusals_after, CopiesRoot};
+ghost use Rattle.capnp_edits.specs.Sources.{FitsBehind, IsOpened, IsRootless};
+ghost use Rattle.capnp_edits.specs.Edits.{refusal_of, place_of, refusals_after, CopiesRoot};
 ghost use Rattle.capnp_edits.specs.Steps.{call_to, IsWholeRefused, TakesForWhole};
 
-use crate::edit::{Op, Source};
+use crate::edit::Source;
 use capnp_arena::arena::{BuilderArena, ReaderArena, ReaderArenaImpl, SegmentArray};
 use capnp_builders::builders::PointerBuilder;
 use capnp_readers::readers::{PointerPlace, PointerReader};
@@ -23,8 +23,6 @@ pub(crate) enum Wanted {
     Struct,
     /// A list.
     List,
-    /// A struct, of which the content alone is copied.
-    Content,
 }
 
 /// A copy from another message.
@@ -36,24 +34,6 @@ pub(crate) struct Copying<'a> {
     pub(crate) wanted: Wanted,
     /// Whether the copy is in canonical form.
     pub(crate) canonicalize: bool,
-}
-
-/// What an operation copies from another message, if it does.
-pub(crate) fn copying_of(op: Op<'_>) -> Option<Copying<'_>>
-    ensures { result ≡ copied_by op.entry }
-{
-    let (source, wanted, canonicalize) = match op {
-        Op::CopyFrom(source, canonicalize) => (source, Wanted::Value, canonicalize),
-        Op::SetStruct(source, canonicalize) => (source, Wanted::Struct, canonicalize),
-        Op::SetList(source, canonicalize) => (source, Wanted::List, canonicalize),
-        Op::CopyContent(source) => (source, Wanted::Content, false),
-        _ => return None,
-    };
-    Some(Copying {
-        source,
-        wanted,
-        canonicalize,
-    })
 }
 
 /// A pointer of another message.
@@ -79,8 +59,7 @@ fn copy_root<A: BuilderArena>(
     pointer: &mut PointerBuilder<'_, A>,
     copying: Copying<'_>,
 ) -> Result<(), ErrorKind>
-    requires there { IsThere (built A.view pointer.old) }
-    requires whole { is_whole copying.wanted ≡ true }
+    requires { IsThere (built A.view pointer.old) }
     ensures done { CopiesRoot (A.view pointer.old.arena.now).words
         (A.view pointer.new.arena.now).words (place_of pointer.old) copying.entry
         (refusal_of result) }
@@ -108,7 +87,6 @@ fn copy_root<A: BuilderArena>(
             Ok(value) => pointer.set_list(&value, &mut lim, copying.canonicalize),
             Err(k) => Err(k),
         },
-        Wanted::Content => Err(ErrorKind::NoSuchPlace),
     }
 }
 
@@ -118,8 +96,7 @@ pub(crate) fn edit_source<A: BuilderArena>(
     place: PointerPlace,
     copying: Copying<'_>,
 ) -> Result<(), ErrorKind>
-    requires there { IsPlace (A.view arena.old).words place.segment place.word }
-    requires whole { is_whole copying.wanted ≡ true }
+    requires { IsPlace (A.view arena.old).words place.segment place.word }
     ensures done { CopiesRoot (A.view arena.old).words (A.view arena.new).words place copying.entry
         (refusal_of result) }
     ensures counted { (A.view arena.new).refusals ≡ refusals_after (refusal_of result)

@@ -9,11 +9,13 @@ ghost use Rattle.capnp_readers.specs.Readers.{IsListPlace};
 ghost use Rattle.capnp_readers.specs.Sections.{data_bits, list_words};
 ghost use Rattle.capnp_builders.specs.Elements.{value_bits, WritesElement};
 ghost use Rattle.capnp_builders.specs.Found.{place_of as list_place};
-ghost use Rattle.capnp_edits.specs.Edits.{refusal_of, is_content, is_in_range, is_number_from, is_of_place, PutsElement, PutsByte, Does};
-ghost use Rattle.capnp_edits.specs.Steps.{KeepsLengths};
+ghost use Rattle.capnp_edits.specs.declared.edit.tasks.Task.TheVariants.{Write};
+ghost use Rattle.capnp_edits.specs.Tasks.{is_in_range, is_number};
+ghost use Rattle.capnp_edits.specs.Edits.{refusal_of, is_of_place, PutsElement, PutsByte};
+ghost use Rattle.capnp_edits.specs.Steps.{IsDoneAt};
 
-use crate::edit::Op;
 use crate::edit::path::has_words;
+use crate::edit::tasks::Part;
 use capnp_arena::arena::BuilderArena;
 use capnp_builders::builders::{ListBuilder, PrimitiveElement};
 use capnp_making::existing;
@@ -91,7 +93,7 @@ fn put_element<A: BuilderArena>(
     requires there { index < list.old.place.count }
     requires wide { element_bits (size_number size)
         ≤ data_bits list.old.place.size list.old.place.struct_size }
-    requires number { is_number_from 1 size value ≡ true }
+    requires number { is_number size value ≡ true }
     ensures written { WritesElement (A.view list.old.arena.now)
         (A.view list.new.arena.now) list.old.place (value_bits list.old.place index size value) }
     ensures same { list.new.arena.ghost_name ≡ list.old.arena.ghost_name }
@@ -116,7 +118,7 @@ fn put_element_at<A: BuilderArena>(
     requires inside { IsListPlace (A.view arena.old).words place }
     requires there { index < place.count }
     requires wide { element_bits (size_number size) ≤ data_bits place.size place.struct_size }
-    requires number { is_number_from 1 size value ≡ true }
+    requires number { is_number size value ≡ true }
     ensures { WritesElement (A.view arena.old) (A.view arena.new) place
         (value_bits place index size value) }
 {
@@ -131,7 +133,7 @@ fn set_element<A: BuilderArena>(
     index: u32,
     value: u64,
 ) -> Result<(), ErrorKind>
-    requires number { is_number_from 1 size value ≡ true }
+    requires number { is_number size value ≡ true }
     requires looked { IfErr found (λ k. is_unfound k ≡ true) }
     ensures put { PutsElement (A.view arena.old).words
         (A.view arena.new).words found size index value (refusal_of result) }
@@ -175,35 +177,29 @@ fn write_byte<A: BuilderArena>(
     }
 }
 
-/// Does an operation that writes in a list, a text or data, at a pointer of a message.
-pub(crate) fn edit_content<A: BuilderArena>(
+/// Writes a part of a list, a text or data that a pointer of a message leads to.
+pub(crate) fn edit_part<A: BuilderArena>(
     arena: &mut A,
     place: PointerPlace,
-    op: Op<'_>,
+    part: Part,
 ) -> Result<(), ErrorKind>
     requires there { IsPlace (A.view arena.old).words place.segment place.word }
-    requires range { is_in_range op ≡ true }
-    requires content { is_content op ≡ true }
-    ensures done { Does (A.view arena.old).words (A.view arena.new).words place op.entry
+    requires range { is_in_range (Write part) ≡ true }
+    ensures { IsDoneAt (A.view arena.old) (A.view arena.new) place (Write part)
         (refusal_of result) }
-    ensures lengths { KeepsLengths (A.view arena.old).words (A.view arena.new).words }
-    ensures limits { KeepsLimits (A.view arena.old) (A.view arena.new) }
-    ensures named { IfErr result (λ k. is_of_place k ≡ true) }
-    ensures kept { OnErr result (A.view arena.new ≡ A.view arena.old) }
 {
-    match op {
-        Op::SetElement(size, index, value) => {
-            let found = existing::get_list(&*arena, place.segment, place.word, size);
-            set_element(arena, found, size, index, value)
+    match part {
+        Part::ListElement(number) => {
+            let found = existing::get_list(&*arena, place.segment, place.word, number.size);
+            set_element(arena, found, number.size, number.index, number.value)
         }
-        Op::WriteText(index, value) => {
+        Part::TextByte(index, value) => {
             let found = existing::get_text(&*arena, place.segment, place.word);
             write_byte(arena, found, index, value)
         }
-        Op::WriteData(index, value) => {
+        Part::DataByte(index, value) => {
             let found = existing::get_data(&*arena, place.segment, place.word);
             write_byte(arena, found, index, value)
         }
-        _ => Err(ErrorKind::NoSuchPlace),
     }
 }

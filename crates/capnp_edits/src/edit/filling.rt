@@ -1,19 +1,21 @@
-//! Edits that copy the content of a struct of another message.
-ghost use Rattle.std.specs.Prelude.{◌≡◌, ◌⊎◌, ◌+◌, Some, None, true, IsOk, IfOk, IfErr, IfSome};
+//! Changes of a struct, and those that copy the content of a struct of another message.
+ghost use Rattle.std.specs.Prelude.{◌≡◌, ◌+◌, None, true, IsOk, IfOk, IfErr, IfSome};
 ghost use Rattle.capnp_arena.specs.View.{View};
 ghost use Rattle.capnp_making.specs.Existing.{LiesIn};
 ghost use Rattle.capnp_readers.specs.Readers.{IsStructPlace};
 ghost use Rattle.capnp_builders.specs.Places.{IsAligned};
 ghost use Rattle.capnp_builders.specs.Content.{TakesContent, StopsAtContent, ContentFits, TakesForContent as TakesForCopy, pointers_copied};
-ghost use Rattle.capnp_words.specs.declared.error.ErrorKind.TheVariants.{NoSuchPlace};
+ghost use Rattle.capnp_edits.specs.declared.edit.tasks.Task.TheVariants.{InStruct};
 ghost use Rattle.capnp_edits.specs.Sources.{ContentFitsBehind};
-ghost use Rattle.capnp_edits.specs.Edits.{refusal_of, is_of_place, sections, FillsAt, FillsOrWrites, refusals_after};
-ghost use Rattle.capnp_edits.specs.Steps.{ElementFits, IsContentRefused, IsElementRefused, IsOfPlace, TakesForContent, TakesForElement};
+ghost use Rattle.capnp_edits.specs.Tasks.{is_in_range};
+ghost use Rattle.capnp_edits.specs.Edits.{refusal_of, sections, FillsAt, refusals_after};
+ghost use Rattle.capnp_edits.specs.Steps.{IsChanged, IsContentRefused, TakesForContent};
 
+use crate::edit::Source;
 use crate::edit::copying::open_source;
-use crate::edit::fields::edit_struct;
+use crate::edit::fields::put_field;
 use crate::edit::path::has_words;
-use crate::edit::{Op, Source};
+use crate::edit::tasks::StructChange;
 use capnp_arena::arena::{BuilderArena, ReaderArena};
 use capnp_builders::builders::StructBuilder;
 use capnp_making::existing::ExistingStruct;
@@ -97,27 +99,19 @@ pub(crate) fn fill<A: BuilderArena>(
     }
 }
 
-/// Does an operation at an element of a list of structs, if it is one on the content or a field of a struct.
-pub(crate) fn edit_element<A: BuilderArena>(
+/// Changes a struct of a message.
+pub(crate) fn change_struct<A: BuilderArena>(
     arena: &mut A,
     parent: ExistingStruct,
-    op: Op<'_>,
+    change: StructChange<'_>,
 ) -> Result<(), ErrorKind>
-    requires { LiesIn (A.view arena.old).words parent }
-    ensures done { FillsOrWrites (A.view arena.old).words (A.view arena.new).words parent op.entry
+    requires inside { LiesIn (A.view arena.old).words parent }
+    requires range { is_in_range (InStruct change) ≡ true }
+    ensures { IsChanged (A.view arena.old) (A.view arena.new) parent change.entry
         (refusal_of result) }
-    ensures counted { (A.view arena.new).refusals ≡ refusals_after (refusal_of result)
-        (A.view arena.old).refusals }
-    ensures named { IfErr result (λ k. IsOfPlace (A.view arena.old) (A.view arena.new) k
-        ⊎ IsElementRefused (A.view arena.old) (A.view arena.new) parent op.entry k) }
-    ensures fits { ElementFits (A.view arena.old) parent op.entry
-        → IfErr result (λ k. is_of_place k ≡ true) }
-    ensures taken { TakesForElement (A.view arena.old) (A.view arena.new) parent op.entry
-        (refusal_of result) }
-    ensures nowhere { refusal_of result ≡ Some NoSuchPlace → A.view arena.new ≡ A.view arena.old }
 {
-    match op {
-        Op::CopyContent(source) => fill(arena, parent, source),
-        _ => edit_struct(arena, parent, op),
+    match change {
+        StructChange::Bits(number) => put_field(arena, parent, number),
+        StructChange::Content(source) => fill(arena, parent, source),
     }
 }

@@ -1,10 +1,13 @@
-use Rattle.std.proofs.Common.{Some, sym, ap, ◌∙◌, subst}
+use Rattle.std.proofs.Common.{◌≡◌, Some, None, sym, ap, ◌∙◌, subst}
 use Rattle.std.proofs.lemmas.Bool.{false≢true}
 use Rattle.capnp_format.specs.Tree.{Tree}
 use Rattle.capnp_making.specs.Stored.{IsStored}
 use Rattle.capnp_edits.specs.declared.edit.path.Place.TheVariants.{Pointer as AtPointer, Element as AtElement}
+use Rattle.capnp_edits.specs.declared.edit.tasks.Task.TheVariants.{InStruct}
+use Rattle.capnp_edits.specs.Edits.{refusal_of}
 use Rattle.capnp_edits.specs.Paths.{path_of, IsFound}
-use Rattle.capnp_edits.proofs.Applied.{applied_pointer, applied_nowhere}
+use Rattle.capnp_edits.specs.Tasks.{task_of}
+use Rattle.capnp_edits.proofs.Applied.{applied_pointer, applied_nowhere, none_applied, out_applied}
 use Rattle.capnp_edits.proofs.Filled.{element_applied}
 use Rattle.capnp_edits.proofs.Stepped.{step_at, nothing_done, rootless_done}
 use Rattle.capnp_edits.proofs.edit.apply.Goals as goal
@@ -13,27 +16,47 @@ pub returns-then-not-has_words : goal.returns-then-not-has_words
 returns-then-not-has_words g c =
     rootless_done (g.A.BuilderArena.view c.args.arena.now) c.args.edit.now (λ some. false≢true (sym c.if-not-has_words.true ∙ c.has_words.ensures.enough.1 some))
 
-pub returns-in-Some-Pointer : goal.returns-in-Some-Pointer
-returns-in-Some-Pointer g c =
+pub returns-in_default : goal.returns-in_default
+returns-in_default g c = nothing_done (g.A.BuilderArena.view c.args.arena.now) c.args.edit.now None (applied_nowhere _ c.args.edit.now c.in_default.ensures.found) c.in_default.ensures.found
+
+pub returns-in_default-task_of : goal.returns-in_default-task_of
+returns-in_default-task_of g c =
+    let v = g.A.BuilderArena.view c.args.arena.now in
+    nothing_done v c.args.edit.now (Some c.in-Some.place) (out_applied v.words c.args.edit.now (sym c.in_default-task_of.ensures.sorted)) c.in-Some.ensures.found
+
+pub returns-in-Pointer : goal.returns-in-Pointer
+returns-in-Pointer g c =
     let old = g.A.BuilderArena.view c.args.arena.now in
+    let new = g.A.BuilderArena.view c.edit_pointer.new.arena in
     let e = c.args.edit.now in
-    let there = c.in-Some-Pointer.place in
+    let there = c.in-Pointer.place in
+    let task = c.in-Some-task_of.task in
+    let done = c.edit_pointer.ensures in
+    let is : task_of e.op ≡ Some task = sym c.in-Some-task_of.ensures.sorted in
     let leads : (t : Tree) → IsStored old.words 0 0 t → IsFound old.words 0 0 t (path_of e.path.now) (Some (AtPointer there)) =
-    λ t stored. subst (IsFound old.words 0 0 t (path_of e.path.now)) (ap Some c.in-Some-Pointer.field-0-is) (c.in-Some-Pointer.ensures.found t stored) in
-    step_at c.edit_pointer.result old (g.A.BuilderArena.view c.edit_pointer.new.arena) e (AtPointer there) (c.has_words.ensures.enough.0 c.if-not-has_words.false)
-    (applied_pointer old.words _ e there _ leads c.edit_pointer.ensures.done) c.edit_pointer.ensures.counted leads c.edit_pointer.ensures.named c.edit_pointer.ensures.fits c.edit_pointer.ensures.nowhere
-    c.edit_pointer.ensures.taken
+    λ t stored. subst (IsFound old.words 0 0 t (path_of e.path.now)) (ap Some c.in-Pointer.is) (c.in-Some.ensures.found t stored) in
+    step_at old new e (AtPointer there) task (refusal_of c.edit_pointer.result) is (c.has_words.ensures.enough.0 c.if-not-has_words.false) (applied_pointer old.words new.words e there task _ is leads done.done) done.counted leads done.named
+    done.fits done.nowhere done.taken
 
-pub returns-in-Some-Element : goal.returns-in-Some-Element
-returns-in-Some-Element g c =
+pub returns-in-InStruct : goal.returns-in-InStruct
+returns-in-InStruct g c =
     let old = g.A.BuilderArena.view c.args.arena.now in
+    let new = g.A.BuilderArena.view c.change_struct.new.arena in
     let e = c.args.edit.now in
-    let there = c.in-Some-Element.parent in
+    let there = c.in-Element.parent in
+    let change = c.in-InStruct.change in
+    let done = c.change_struct.ensures in
+    let is : task_of e.op ≡ Some (InStruct change) = sym c.in-Some-task_of.ensures.sorted ∙ ap Some c.in-InStruct.is in
     let leads : (t : Tree) → IsStored old.words 0 0 t → IsFound old.words 0 0 t (path_of e.path.now) (Some (AtElement there)) =
-    λ t stored. subst (IsFound old.words 0 0 t (path_of e.path.now)) (ap Some c.in-Some-Element.field-0-is) (c.in-Some-Element.ensures.found t stored) in
-    step_at c.edit_element.result old (g.A.BuilderArena.view c.edit_element.new.arena) e (AtElement there) (c.has_words.ensures.enough.0 c.if-not-has_words.false)
-    (element_applied old.words _ e there _ leads c.edit_element.ensures.done) c.edit_element.ensures.counted leads c.edit_element.ensures.named c.edit_element.ensures.fits c.edit_element.ensures.nowhere
-    (λ some. c.edit_element.ensures.taken)
+    λ t stored. subst (IsFound old.words 0 0 t (path_of e.path.now)) (ap Some c.in-Element.is) (c.in-Some.ensures.found t stored) in
+    step_at old new e (AtElement there) (InStruct change) (refusal_of c.change_struct.result) is (c.has_words.ensures.enough.0 c.if-not-has_words.false) (element_applied old.words new.words e there change _ is leads done.done) done.counted leads
+    done.named done.fits done.nowhere (λ some. done.taken)
 
-pub returns-in-None : goal.returns-in-None
-returns-in-None g c = nothing_done (g.A.BuilderArena.view c.args.arena.now) c.args.edit.now (applied_nowhere _ c.args.edit.now c.in-None.ensures.found) c.in-None.ensures.found
+pub returns-in_default-task : goal.returns-in_default-task
+returns-in_default-task g c =
+    let v = g.A.BuilderArena.view c.args.arena.now in
+    let e = c.args.edit.now in
+    let there = c.in-Element.parent in
+    let leads : (t : Tree) → IsStored v.words 0 0 t → IsFound v.words 0 0 t (path_of e.path.now) (Some (AtElement there)) =
+    λ t stored. subst (IsFound v.words 0 0 t (path_of e.path.now)) (ap Some c.in-Element.is) (c.in-Some.ensures.found t stored) in
+    nothing_done v e (Some (AtElement there)) (none_applied v.words e there c.in-Some-task_of.task (sym c.in-Some-task_of.ensures.sorted) c.in_default-task.not-InStruct leads) leads

@@ -23,7 +23,7 @@ value_at g c =
     value_tried c.copy_from.result c.args.copying _ _ _ _ _ (place_of c.args.pointer.now) c.in-Value.is c.in-Ok.ensures.found.reads c.in-Ok.ensures.found.once c.in-Ok.ensures.found.root c.copy_from.ensures.copied c.copy_from.ensures.refused c.copy_from.ensures.taken
 
 pub returns-in-Value-clause-done : goal.returns-in-Value-clause-done
-returns-in-Value-clause-done g c = tried_done c.copy_from.result c.args.copying _ _ _ c.requires.whole (value_at g c) c.copy_from.ensures.cleared
+returns-in-Value-clause-done g c = tried_done c.copy_from.result c.args.copying _ _ _ (value_at g c) c.copy_from.ensures.cleared
 
 pub returns-in-Value-clause-counted : goal.returns-in-Value-clause-counted
 returns-in-Value-clause-counted g c = copy_counted c.copy_from.result _ _ c.copy_from.ensures.granted c.copy_from.ensures.memory
@@ -43,7 +43,7 @@ struct_there g c =
     struct_copied c.set_struct.result c.args.copying _ c.in-Ok.opened.0 c.in-Ok-get_struct.value _ _ _ _ _ (place_of c.args.pointer.now) c.in-Struct.is c.in-Ok.ensures.found c.in-Ok-get_struct.value.content_is.1 c.in-Ok-get_struct.ensures.read c.set_struct.ensures.copied c.set_struct.ensures.refused c.set_struct.ensures.taken
 
 pub returns-in-Ok-get_struct-clause-done : goal.returns-in-Ok-get_struct-clause-done
-returns-in-Ok-get_struct-clause-done g c = tried_done c.set_struct.result c.args.copying _ _ _ c.requires.whole (struct_there g c) c.set_struct.ensures.cleared
+returns-in-Ok-get_struct-clause-done g c = tried_done c.set_struct.result c.args.copying _ _ _ (struct_there g c) c.set_struct.ensures.cleared
 
 pub returns-in-Ok-get_struct-clause-counted : goal.returns-in-Ok-get_struct-clause-counted
 returns-in-Ok-get_struct-clause-counted g c = copy_counted c.set_struct.result _ _ c.set_struct.ensures.granted c.set_struct.ensures.memory
@@ -84,7 +84,7 @@ list_there g c =
     list_copied c.set_list.result c.args.copying _ c.in-Ok.opened.0 c.in-Ok-get_list.value _ _ _ _ _ (place_of c.args.pointer.now) c.in-List.is c.in-Ok.ensures.found c.in-Ok-get_list.ensures.read c.set_list.ensures.copied c.set_list.ensures.refused c.set_list.ensures.taken
 
 pub returns-in-Ok-get_list-clause-done : goal.returns-in-Ok-get_list-clause-done
-returns-in-Ok-get_list-clause-done g c = tried_done c.set_list.result c.args.copying _ _ _ c.requires.whole (list_there g c) c.set_list.ensures.cleared
+returns-in-Ok-get_list-clause-done g c = tried_done c.set_list.result c.args.copying _ _ _ (list_there g c) c.set_list.ensures.cleared
 
 pub returns-in-Ok-get_list-clause-counted : goal.returns-in-Ok-get_list-clause-counted
 returns-in-Ok-get_list-clause-counted g c = copy_counted c.set_list.result _ _ c.set_list.ensures.granted c.set_list.ensures.memory

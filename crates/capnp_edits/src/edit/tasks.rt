@@ -1,0 +1,246 @@
+//! Operations, sorted once by what they do.
+ghost use Rattle.std.specs.Prelude.{◌≡◌, true, IfSome};
+ghost use Rattle.capnp_edits.specs.declared.edit.Op.TheVariants.{SetField};
+ghost use Rattle.capnp_edits.specs.declared.edit.tasks.StructChange.TheVariants.{Bits};
+ghost use Rattle.capnp_edits.specs.declared.edit.tasks.Task.TheVariants.{Make, InStruct, Search, CopyRoot};
+ghost use Rattle.capnp_edits.specs.Sources.{copying};
+ghost use Rattle.capnp_edits.specs.Tasks.{is_number, is_small_default, is_in_range, if_in_range, task_of};
+
+use crate::edit::copying::{Copying, Wanted};
+use crate::edit::{Op, Source};
+use capnp_words::wire_pointer::{ElementSize, StructSize};
+
+/// An object that is made.
+#[derive(Clone, Copy)]
+pub(crate) enum Object<'a> {
+    /// A struct, all zero.
+    ZeroStruct(StructSize),
+    /// A list of so many elements that are no structs, all zero or null.
+    ZeroList(ElementSize, u32),
+    /// A list of so many structs, all zero.
+    ZeroStructs(u32, StructSize),
+    /// A text of so many bytes, all zero, with a zero behind them.
+    ZeroText(u32),
+    /// A text of these bytes, with a zero behind them.
+    Text(&'a [u8]),
+    /// Data of these bytes.
+    Data(&'a [u8]),
+}
+
+/// A bit, or a number of 1, 2, 4 or 8 bytes, and its index among numbers as wide.
+#[derive(Clone, Copy)]
+pub(crate) struct Number {
+    /// How wide it is.
+    pub(crate) size: ElementSize,
+    /// Which one it is.
+    pub(crate) index: u32,
+    /// What it becomes.
+    pub(crate) value: u64,
+}
+
+/// What is done with a struct, at a pointer that leads to one or at an element of a list.
+#[derive(Clone, Copy)]
+pub(crate) enum StructChange<'a> {
+    /// A number of its data section is written.
+    Bits(Number),
+    /// Its content becomes that of the struct that the root of another message leads to.
+    Content(Source<'a>),
+}
+
+/// A part of a list, a text or data.
+#[derive(Clone, Copy)]
+pub(crate) enum Part {
+    /// The lowest bits of an element of a list.
+    ListElement(Number),
+    /// A byte of a text, by its index.
+    TextByte(u32, u8),
+    /// A byte of data, by its index.
+    DataByte(u32, u8),
+}
+
+/// What is looked for.
+#[derive(Clone, Copy)]
+pub(crate) enum Sought {
+    /// A struct at least this large.
+    Struct(StructSize),
+    /// A list, as one of elements of this size.
+    List(ElementSize),
+    /// A list of structs at least this large.
+    StructList(StructSize),
+    /// A text.
+    Text,
+    /// Data.
+    Data,
+}
+
+/// An operation whose numbers are in range, by what it does.
+#[derive(Clone, Copy)]
+pub(crate) enum Task<'a> {
+    /// The pointer leads to a new object.
+    Make(Object<'a>),
+    /// The pointer becomes the capability by this index, or null.
+    Point(Option<u32>),
+    /// A struct is changed.
+    InStruct(StructChange<'a>),
+    /// A part of a list, a text or data is written.
+    Write(Part),
+    /// Something is looked for, with a default.
+    Search(Sought, Option<&'a [u8]>),
+    /// The pointer leads to a copy of what the root of another message means.
+    CopyRoot(Copying<'a>),
+}
+
+// Lists have fewer elements than this, and lists of structs fewer words.
+const LIST_LIMIT: u32 = 0x2000_0000;
+
+// Defaults have fewer words than this.
+const DEFAULT_LIMIT: usize = 0x1_0000_0000;
+
+/// Whether a number has no more bits than its element size, which is a bit or one of 1, 2, 4 or 8 bytes.
+fn is_number(size: ElementSize, value: u64) -> bool
+    ensures { result ≡ is_number size value }
+{
+    match size {
+        ElementSize::Bit => value <= 1,
+        ElementSize::Byte => value <= u64::from(u8::MAX),
+        ElementSize::TwoBytes => value <= u64::from(u16::MAX),
+        ElementSize::FourBytes => value <= u64::from(u32::MAX),
+        ElementSize::EightBytes => true,
+        _ => false,
+    }
+}
+
+/// Whether a default has fewer words than a segment can have.
+fn is_small_default(default: Option<&[u8]>) -> bool
+    ensures { result ≡ is_small_default default.entry }
+{
+    match default {
+        Some(bytes) => bytes.len() / 8 < DEFAULT_LIMIT,
+        None => true,
+    }
+}
+
+/// Whether a pointer can lead to an object.
+fn is_object(object: Object<'_>) -> bool
+    ensures { result ≡ is_in_range (Make object.entry) }
+{
+    match object {
+        Object::ZeroStruct(_) => true,
+        Object::ZeroList(size, count) => {
+            size != ElementSize::InlineComposite && count < LIST_LIMIT
+        }
+        Object::ZeroStructs(count, size) => {
+            count < 2 * LIST_LIMIT
+                && u64::from(count) * u64::from(size.total()) < u64::from(LIST_LIMIT)
+        }
+        Object::ZeroText(size) => size < LIST_LIMIT - 1,
+        Object::Text(bytes) => bytes.len() < LIST_LIMIT as usize - 1,
+        Object::Data(bytes) => bytes.len() < LIST_LIMIT as usize,
+    }
+}
+
+/// Whether something can be looked for so.
+fn is_search(sought: Sought, default: Option<&[u8]>) -> bool
+    ensures { result ≡ is_in_range (Search sought default.entry) }
+{
+    match sought {
+        Sought::List(size) => size != ElementSize::InlineComposite && is_small_default(default),
+        Sought::Struct(_) | Sought::StructList(_) | Sought::Text | Sought::Data => {
+            is_small_default(default)
+        }
+    }
+}
+
+/// Whether the numbers of a task are those of something that a pointer can lead to, or that a field or an
+/// element holds, and its default is small.
+fn is_in_range(task: Task<'_>) -> bool
+    ensures { result ≡ is_in_range task.entry }
+{
+    match task {
+        Task::Make(object) => is_object(object),
+        Task::InStruct(StructChange::Bits(number)) => is_number(number.size, number.value),
+        Task::Write(Part::ListElement(number)) => is_number(number.size, number.value),
+        Task::Search(sought, default) => is_search(sought, default),
+        Task::InStruct(StructChange::Content(_)) => true,
+        Task::Write(Part::TextByte(_, _)) | Task::Write(Part::DataByte(_, _)) => true,
+        Task::Point(_) | Task::CopyRoot(_) => true,
+    }
+}
+
+/// A task, if its numbers are in range.
+fn if_in_range(task: Task<'_>) -> Option<Task<'_>>
+    ensures same { result ≡ if_in_range task.entry }
+    ensures range { IfSome result (λ task. is_in_range task ≡ true) }
+{
+    if is_in_range(task) { Some(task) } else { None }
+}
+
+/// Writing a number of a data section.
+fn bits<'a>(size: ElementSize, index: u32, value: u64) -> Option<Task<'a>>
+    ensures same { result
+        ≡ if_in_range (InStruct (Bits (record { size = size; index = index; value = value }))) }
+    ensures range { IfSome result (λ task. is_in_range task ≡ true) }
+{
+    if_in_range(Task::InStruct(StructChange::Bits(Number { size, index, value })))
+}
+
+/// The same of a number that is no bit.
+fn field<'a>(size: ElementSize, index: u32, value: u64) -> Option<Task<'a>>
+    ensures same { result ≡ task_of (SetField size index value) }
+    ensures range { IfSome result (λ task. is_in_range task ≡ true) }
+{
+    if size == ElementSize::Bit {
+        return None;
+    }
+    bits(size, index, value)
+}
+
+/// A copy of what the root of another message leads to.
+fn copy_of(source: Source<'_>, wanted: Wanted, canonicalize: bool) -> Option<Task<'_>>
+    ensures same { result ≡ if_in_range (CopyRoot (copying source.entry wanted canonicalize)) }
+    ensures range { IfSome result (λ task. is_in_range task ≡ true) }
+{
+    if_in_range(Task::CopyRoot(Copying {
+        source,
+        wanted,
+        canonicalize,
+    }))
+}
+
+/// What an operation does, if its numbers are in range.
+pub(crate) fn task_of(op: Op<'_>) -> Option<Task<'_>>
+    ensures sorted { result ≡ task_of op.entry }
+    ensures range { IfSome result (λ task. is_in_range task ≡ true) }
+{
+    match op {
+        Op::InitStruct(size) => if_in_range(Task::Make(Object::ZeroStruct(size))),
+        Op::InitList(size, count) => if_in_range(Task::Make(Object::ZeroList(size, count))),
+        Op::InitStructList(count, size) => if_in_range(Task::Make(Object::ZeroStructs(
+            count, size,
+        ))),
+        Op::InitText(size) => if_in_range(Task::Make(Object::ZeroText(size))),
+        Op::InitData(size) => if_in_range(Task::Make(Object::ZeroList(ElementSize::Byte, size))),
+        Op::SetText(bytes) => if_in_range(Task::Make(Object::Text(bytes))),
+        Op::SetData(bytes) => if_in_range(Task::Make(Object::Data(bytes))),
+        Op::SetCapability(index) => if_in_range(Task::Point(Some(index))),
+        Op::Clear => if_in_range(Task::Point(None)),
+        Op::SetField(size, index, value) => field(size, index, value),
+        Op::SetBool(index, value) => bits(ElementSize::Bit, index, u64::from(value)),
+        Op::CopyContent(source) => if_in_range(Task::InStruct(StructChange::Content(source))),
+        Op::SetElement(size, index, value) => {
+            if_in_range(Task::Write(Part::ListElement(Number { size, index, value })))
+        }
+        Op::WriteText(index, value) => if_in_range(Task::Write(Part::TextByte(index, value))),
+        Op::WriteData(index, value) => if_in_range(Task::Write(Part::DataByte(index, value))),
+        Op::GetStruct(size, default) => if_in_range(Task::Search(Sought::Struct(size), default)),
+        Op::GetList(size, default) => if_in_range(Task::Search(Sought::List(size), default)),
+        Op::GetStructList(size, default) => {
+            if_in_range(Task::Search(Sought::StructList(size), default))
+        }
+        Op::GetText(default) => if_in_range(Task::Search(Sought::Text, default)),
+        Op::GetData(default) => if_in_range(Task::Search(Sought::Data, default)),
+        Op::CopyFrom(source, canonicalize) => copy_of(source, Wanted::Value, canonicalize),
+        Op::SetStruct(source, canonicalize) => copy_of(source, Wanted::Struct, canonicalize),
+        Op::SetList(source, canonicalize) => copy_of(source, Wanted::List, canonicalize),
+    }
+}
