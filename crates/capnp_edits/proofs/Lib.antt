@@ -1,3 +1,4 @@
+pub mod Tasks
 pub mod Walks
 pub mod Steps
 pub mod Taken

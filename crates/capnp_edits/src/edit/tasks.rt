@@ -1,5 +1,5 @@
 //! Operations, sorted once by what they do.
-ghost use Rattle.std.specs.Prelude.{◌≡◌, true, IfSome};
+ghost use Rattle.std.specs.Prelude.{◌≡◌};
 ghost use Rattle.capnp_edits.specs.declared.edit.Op.TheVariants.{SetField};
 ghost use Rattle.capnp_edits.specs.declared.edit.tasks.StructChange.TheVariants.{Bits};
 ghost use Rattle.capnp_edits.specs.declared.edit.tasks.Task.TheVariants.{Make, InStruct, Search, CopyRoot};
@@ -169,25 +169,22 @@ fn is_in_range(task: Task<'_>) -> bool
 
 /// A task, if its numbers are in range.
 fn if_in_range(task: Task<'_>) -> Option<Task<'_>>
-    ensures same { result ≡ if_in_range task.entry }
-    ensures range { IfSome result (λ task. is_in_range task ≡ true) }
+    ensures { result ≡ if_in_range task.entry }
 {
     if is_in_range(task) { Some(task) } else { None }
 }
 
 /// Writing a number of a data section.
 fn bits<'a>(size: ElementSize, index: u32, value: u64) -> Option<Task<'a>>
-    ensures same { result
+    ensures { result
         ≡ if_in_range (InStruct (Bits (record { size = size; index = index; value = value }))) }
-    ensures range { IfSome result (λ task. is_in_range task ≡ true) }
 {
     if_in_range(Task::InStruct(StructChange::Bits(Number { size, index, value })))
 }
 
 /// The same of a number that is no bit.
 fn field<'a>(size: ElementSize, index: u32, value: u64) -> Option<Task<'a>>
-    ensures same { result ≡ task_of (SetField size index value) }
-    ensures range { IfSome result (λ task. is_in_range task ≡ true) }
+    ensures { result ≡ task_of (SetField size index value) }
 {
     if size == ElementSize::Bit {
         return None;
@@ -197,8 +194,7 @@ fn field<'a>(size: ElementSize, index: u32, value: u64) -> Option<Task<'a>>
 
 /// A copy of what the root of another message leads to.
 fn copy_of(source: Source<'_>, wanted: Wanted, canonicalize: bool) -> Option<Task<'_>>
-    ensures same { result ≡ if_in_range (CopyRoot (copying source.entry wanted canonicalize)) }
-    ensures range { IfSome result (λ task. is_in_range task ≡ true) }
+    ensures { result ≡ if_in_range (CopyRoot (copying source.entry wanted canonicalize)) }
 {
     if_in_range(Task::CopyRoot(Copying {
         source,
@@ -209,8 +205,7 @@ fn copy_of(source: Source<'_>, wanted: Wanted, canonicalize: bool) -> Option<Tas
 
 /// What an operation does, if its numbers are in range.
 pub(crate) fn task_of(op: Op<'_>) -> Option<Task<'_>>
-    ensures sorted { result ≡ task_of op.entry }
-    ensures range { IfSome result (λ task. is_in_range task ≡ true) }
+    ensures { result ≡ task_of op.entry }
 {
     match op {
         Op::InitStruct(size) => if_in_range(Task::Make(Object::ZeroStruct(size))),

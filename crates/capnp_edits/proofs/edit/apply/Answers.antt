@@ -1,4 +1,4 @@
-use Rattle.std.proofs.Common.{◌≡◌, Some, None, sym, ap, ◌∙◌, subst}
+use Rattle.std.proofs.Common.{◌≡◌, true, Some, None, sym, ap, ◌∙◌, subst}
 use Rattle.std.proofs.lemmas.Bool.{false≢true}
 use Rattle.capnp_format.specs.Tree.{Tree}
 use Rattle.capnp_making.specs.Stored.{IsStored}
@@ -6,9 +6,10 @@ use Rattle.capnp_edits.specs.declared.edit.path.Place.TheVariants.{Pointer as At
 use Rattle.capnp_edits.specs.declared.edit.tasks.Task.TheVariants.{InStruct}
 use Rattle.capnp_edits.specs.Edits.{refusal_of}
 use Rattle.capnp_edits.specs.Paths.{path_of, IsFound}
-use Rattle.capnp_edits.specs.Tasks.{task_of}
+use Rattle.capnp_edits.specs.Tasks.{is_in_range, task_of}
 use Rattle.capnp_edits.proofs.Applied.{applied_pointer, applied_nowhere, none_applied, out_applied}
 use Rattle.capnp_edits.proofs.Filled.{element_applied}
+use Rattle.capnp_edits.proofs.Tasks.{task_in_range}
 use Rattle.capnp_edits.proofs.Stepped.{step_at, nothing_done, rootless_done}
 use Rattle.capnp_edits.proofs.edit.apply.Goals as goal
 
@@ -22,7 +23,7 @@ returns-in_default g c = nothing_done (g.A.BuilderArena.view c.args.arena.now) c
 pub returns-in_default-task_of : goal.returns-in_default-task_of
 returns-in_default-task_of g c =
     let v = g.A.BuilderArena.view c.args.arena.now in
-    nothing_done v c.args.edit.now (Some c.in-Some.place) (out_applied v.words c.args.edit.now (sym c.in_default-task_of.ensures.sorted)) c.in-Some.ensures.found
+    nothing_done v c.args.edit.now (Some c.in-Some.place) (out_applied v.words c.args.edit.now (sym c.in_default-task_of.ensures)) c.in-Some.ensures.found
 
 pub returns-in-Pointer : goal.returns-in-Pointer
 returns-in-Pointer g c =
@@ -32,7 +33,7 @@ returns-in-Pointer g c =
     let there = c.in-Pointer.place in
     let task = c.in-Some-task_of.task in
     let done = c.edit_pointer.ensures in
-    let is : task_of e.op ≡ Some task = sym c.in-Some-task_of.ensures.sorted in
+    let is : task_of e.op ≡ Some task = sym c.in-Some-task_of.ensures in
     let leads : (t : Tree) → IsStored old.words 0 0 t → IsFound old.words 0 0 t (path_of e.path.now) (Some (AtPointer there)) =
     λ t stored. subst (IsFound old.words 0 0 t (path_of e.path.now)) (ap Some c.in-Pointer.is) (c.in-Some.ensures.found t stored) in
     step_at old new e (AtPointer there) task (refusal_of c.edit_pointer.result) is (c.has_words.ensures.enough.0 c.if-not-has_words.false) (applied_pointer old.words new.words e there task _ is leads done.done) done.counted leads done.named
@@ -46,7 +47,7 @@ returns-in-InStruct g c =
     let there = c.in-Element.parent in
     let change = c.in-InStruct.change in
     let done = c.change_struct.ensures in
-    let is : task_of e.op ≡ Some (InStruct change) = sym c.in-Some-task_of.ensures.sorted ∙ ap Some c.in-InStruct.is in
+    let is : task_of e.op ≡ Some (InStruct change) = sym c.in-Some-task_of.ensures ∙ ap Some c.in-InStruct.is in
     let leads : (t : Tree) → IsStored old.words 0 0 t → IsFound old.words 0 0 t (path_of e.path.now) (Some (AtElement there)) =
     λ t stored. subst (IsFound old.words 0 0 t (path_of e.path.now)) (ap Some c.in-Element.is) (c.in-Some.ensures.found t stored) in
     step_at old new e (AtElement there) (InStruct change) (refusal_of c.change_struct.result) is (c.has_words.ensures.enough.0 c.if-not-has_words.false) (element_applied old.words new.words e there change _ is leads done.done) done.counted leads
@@ -59,4 +60,10 @@ returns-in_default-task g c =
     let there = c.in-Element.parent in
     let leads : (t : Tree) → IsStored v.words 0 0 t → IsFound v.words 0 0 t (path_of e.path.now) (Some (AtElement there)) =
     λ t stored. subst (IsFound v.words 0 0 t (path_of e.path.now)) (ap Some c.in-Element.is) (c.in-Some.ensures.found t stored) in
-    nothing_done v e (Some (AtElement there)) (none_applied v.words e there c.in-Some-task_of.task (sym c.in-Some-task_of.ensures.sorted) c.in_default-task.not-InStruct leads) leads
+    nothing_done v e (Some (AtElement there)) (none_applied v.words e there c.in-Some-task_of.task (sym c.in-Some-task_of.ensures) c.in_default-task.not-InStruct leads) leads
+
+pub edit_pointer-requires-clause-range : goal.edit_pointer-requires-clause-range
+edit_pointer-requires-clause-range g c = task_in_range c.args.edit.now.op c.in-Some-task_of.task (sym c.in-Some-task_of.ensures)
+
+pub change_struct-requires-clause-range : goal.change_struct-requires-clause-range
+change_struct-requires-clause-range g c = subst (λ task. is_in_range task ≡ true) c.in-InStruct.is (task_in_range c.args.edit.now.op c.in-Some-task_of.task (sym c.in-Some-task_of.ensures))
