@@ -4,7 +4,7 @@ use Rattle.capnp_words.specs.declared.error.ErrorKind.{ErrorKind}
 use Rattle.capnp_format.specs.Tree.{Tree}
 use Rattle.capnp_arena.specs.View.{View}
 use Rattle.capnp_making.specs.Stored.{IsStored}
-use Rattle.capnp_widening.specs.Opening.{CallAt, call_at}
+use Rattle.capnp_making.specs.Makes.{CallAt, call_at}
 use Rattle.capnp_builders.specs.Defaults.{DefaultUse, ignored, denied, copied, WithDefault, PutsDefaultOver}
 
 -- an outcome is one of the two

@@ -5,13 +5,11 @@ use Rattle.capnp_words.specs.declared.error.ErrorKind.{ErrorKind}
 use Rattle.capnp_format.specs.Segments.{Segments, segment, word_at, IsPlace}
 use Rattle.capnp_format.specs.Tree.{Tree}
 use Rattle.capnp_arena.specs.View.{View}
-use Rattle.capnp_making.specs.Memory.{LeadsBehind}
-use Rattle.capnp_making.specs.Near.{LeadsToEnd}
 use Rattle.capnp_making.specs.Stored.{IsStored, Puts}
 use Rattle.capnp_objects.specs.Reading.{Reading}
 use Rattle.capnp_copies.specs.Copies.{CanBeCopied}
 use Rattle.capnp_copies.specs.Forms.{form_of}
-use Rattle.capnp_widening.specs.Opening.{CallAt, call_at}
+use Rattle.capnp_making.specs.Makes.{CallAt, call_at}
 use Rattle.capnp_builders.specs.declared.builders.PointerBuilder.{PointerBuilder}
 
 -- A place that is written: the message, where in it, and how many words its segment can hold.
@@ -25,10 +23,6 @@ pub record Building : Type 0 where
 abbrev pub built : {A : Type 0} → (A → View) → PointerBuilder A → Building
 built view b = record { segments = (view b.arena.now).words; segment = b.segment; at = b.at; room = (view b.arena.now).room b.segment }
 
--- its place, where the message is another one now
-abbrev pub built_at : {A : Type 0} → (A → View) → PointerBuilder A → A → Building
-built_at view b now = record { segments = (view now).words; segment = b.segment; at = b.at; room = (view now).room b.segment }
-
 -- The value t is stored at the place.
 abbrev pub Stores : Building → Tree → Type 0
 Stores b t = IsStored b.segments b.segment b.at t
@@ -40,10 +34,6 @@ Becomes old new t = Puts old.segments new.segments old.segment old.at t
 -- the place is there
 abbrev pub IsThere : Building → Type 0
 IsThere b = IsPlace b.segments b.segment b.at
-
--- its word is x
-abbrev pub HasWord : Building → ℕ → Type 0
-HasWord b x = word_at b.segments b.segment b.at ≡ x
 
 -- its word is zero
 abbrev pub IsNull : Building → Type 0
@@ -62,20 +52,18 @@ IsFresh b = b.segments ≡ (0 ∷ []) ∷ []
 abbrev pub CopyFits : Bool → Reading → Meter → Building → Type 0
 CopyFits canonicalize r m b = CanBeCopied (form_of canonicalize) r m (length (segment b.segments b.segment)) b.room
 
+-- A call leaves a builder over the same arena, at the same place.
+pub record KeepsBuilder {A : Type 0} (old new : PointerBuilder A) : Type 0 where
+  pub same : new.arena.ghost_name ≡ old.arena.ghost_name
+  pub segment : new.segment ≡ old.segment
+  pub at : new.at ≡ old.at
+
 -- A call on a builder; and one that is done with it, with the message that is left.
 abbrev pub calling : {A : Type 0} → (A → View) → PointerBuilder A → PointerBuilder A → CallAt
 calling view b b' = call_at b.segment b.at (view b.arena.now) (view b'.arena.now)
 
 abbrev pub calling_last : {A : Type 0} → (A → View) → PointerBuilder A → View → CallAt
 calling_last view b new = call_at b.segment b.at (view b.arena.now) new
-
--- The pointer gets an object of n words, which stands behind all that were there; and one of n words, or of none, which starts behind the words of the
--- pointer's segment where they fit there.
-abbrev pub PutsBehind : CallAt → ℕ → Type 0
-PutsBehind c n = LeadsBehind c.old c.new c.segment c.at n
-
-abbrev pub PutsAtEnd : CallAt → ℕ → Type 0
-PutsAtEnd c n = LeadsToEnd c.old c.new c.segment c.at n
 
 -- P holds of the value that is stored at the place, whatever it is.
 abbrev pub OfStored : Building → (Tree → Type 0) → Type 0

@@ -18,7 +18,7 @@ use Rattle.capnp_objects.specs.Wanted.{of_default}
 use Rattle.capnp_copies.specs.Changes.{Change, change, FindsNoRoom, StandsAsRead}
 use Rattle.capnp_copies.specs.Copies.{CanBeCopied}
 use Rattle.capnp_copies.specs.Growth.{TakesForValue, TakesUntilStop}
-use Rattle.capnp_widening.specs.Opening.{CallAt, call_at}
+use Rattle.capnp_making.specs.Makes.{CallAt, call_at}
 
 -- The first word of a default, whose bytes are one segment. Nothing is charged there, and as many levels may be entered as a nesting limit can say.
 abbrev pub default_root : List ℕ → Reading

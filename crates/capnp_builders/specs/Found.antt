@@ -11,7 +11,7 @@ use Rattle.capnp_making.specs.InPlace.{bytes_of}
 use Rattle.capnp_making.specs.declared.existing.ExistingBytes.{ExistingBytes}
 use Rattle.capnp_making.specs.declared.existing.ExistingList.{ExistingList}
 use Rattle.capnp_readers.specs.declared.readers.list_reader.ListPlace.{ListPlace}
-use Rattle.capnp_widening.specs.Opening.{CallAt}
+use Rattle.capnp_making.specs.Makes.{CallAt}
 use Rattle.capnp_builders.specs.Defaults.{object_default, blob_default, WithDefault}
 
 -- The place of a list that is found.

@@ -14,7 +14,8 @@ use Rattle.capnp_arena.specs.View.{View}
 use Rattle.capnp_readers.specs.Readers.{IsListPlace}
 use Rattle.capnp_readers.specs.declared.readers.list_reader.ListPlace.{ListPlace}
 use Rattle.capnp_readers.specs.declared.readers.struct_reader.StructPlace.{StructPlace}
-use Rattle.capnp_widening.specs.Opening.{CallAt, Opens, struct_opened}
+use Rattle.capnp_making.specs.Makes.{CallAt}
+use Rattle.capnp_widening.specs.Opening.{Opens, struct_opened}
 use Rattle.capnp_widening.specs.Rooms.{ListFits, OpeningFits}
 use Rattle.capnp_widening.specs.Widened.{list_widened}
 use Rattle.capnp_builders.specs.Defaults.{object_default, FitsWithDefault, WithDefault}

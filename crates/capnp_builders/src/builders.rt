@@ -9,8 +9,9 @@ ghost use Rattle.capnp_making.specs.Existing.{AreInside, capability_of};
 ghost use Rattle.capnp_making.specs.InPlace.{bytes_of, rewritten, AreBytes, AreZeroOnce, Overwrites};
 ghost use Rattle.capnp_words.specs.Sizes.{size_number};
 ghost use Rattle.capnp_making.specs.Made.{zero_struct, zero_structs, zero_list, list_words};
-ghost use Rattle.capnp_making.specs.Memory.{HasRoom, KeepsMemory, TakesWords, SpendsMemory, IsRefusedFor, CanRefuse, LeavesNull};
-ghost use Rattle.capnp_making.specs.Stored.{ZeroesOld};
+ghost use Rattle.capnp_making.specs.Makes.{AsksForObject, MakesObject};
+ghost use Rattle.capnp_making.specs.Memory.{KeepsMemory, SpendsMemory};
+ghost use Rattle.capnp_making.specs.Near.{LeadsToEnd};
 ghost use Rattle.capnp_making.specs.Zeroed.{IsPruned, IsPrunedBut};
 ghost use Rattle.capnp_builders.specs.Places.{IsAligned, IsStructOf, IsListOf, IsStructListOf};
 ghost use Rattle.capnp_words.specs.declared.error.ErrorKind.TheVariants.{MessageTooLarge};
@@ -68,7 +69,7 @@ pub struct PointerBuilder<'a, A> {
 impl<'a, A: BuilderArena> PointerBuilder<'a, A> {
     ghost use Rattle.std.specs.Borrow.{sem, follows, Array, u8 as byte};
     ghost use Rattle.capnp_arena.specs.View.{KeepsLimits};
-    ghost use Rattle.capnp_builders.specs.Building.{Becomes, IsFresh, CopyFits, HasOnlyNull, HasWord, IsNull, IsThere, PutsAtEnd, PutsBehind, built, built_at, calling, calling_last};
+    ghost use Rattle.capnp_builders.specs.Building.{Becomes, IsFresh, CopyFits, HasOnlyNull, IsNull, IsThere, KeepsBuilder, Leaves, built, calling, calling_last};
     ghost use Rattle.capnp_builders.specs.Kept.{PutsCopy, PutsStruct, PutsList, OnceCleared, FillsSegment, FillsMessage, copying};
     ghost use Rattle.capnp_builders.specs.Lent.{with_arena};
     ghost use Rattle.capnp_builders.specs.contracts.builders.PointerBuilder.{the_row};
@@ -142,8 +143,7 @@ impl<'a, A: BuilderArena> PointerBuilder<'a, A> {
             (A.view self.new.arena.now).words }
         ensures there { IsThere (built A.view self.new) }
         ensures limits { KeepsLimits (A.view self.old.arena.now) (A.view self.new.arena.now) }
-        ensures same { self.new.arena.ghost_name ≡ self.old.arena.ghost_name }
-        ensures builder { (self.new.segment ≡ self.old.segment) × (self.new.at ≡ self.old.at) }
+        ensures builder { KeepsBuilder self.old self.new }
     {
         making::clear(&mut *self.arena, self.segment, self.at);
     }
@@ -156,8 +156,7 @@ impl<'a, A: BuilderArena> PointerBuilder<'a, A> {
             (A.view self.new.arena.now).words self.old.segment self.old.at (capability_word index) }
         ensures there { IsThere (built A.view self.new) }
         ensures limits { KeepsLimits (A.view self.old.arena.now) (A.view self.new.arena.now) }
-        ensures same { self.new.arena.ghost_name ≡ self.old.arena.ghost_name }
-        ensures builder { (self.new.segment ≡ self.old.segment) × (self.new.at ≡ self.old.at) }
+        ensures builder { KeepsBuilder self.old self.new }
     {
         making::set_capability(&mut *self.arena, self.segment, self.at, index);
     }
@@ -170,31 +169,15 @@ impl<'a, A: BuilderArena> PointerBuilder<'a, A> {
     #[inline(always)]
     pub fn put_struct(&mut self, size: StructSize) -> Result<StructPlace, ErrorKind>
         requires { IsThere (built A.view self.old) }
-        ensures made { OnOk result (Becomes (built A.view self.old) (built A.view self.new)
-            (zero_struct size)) }
+        ensures object { MakesObject result (calling A.view self.old self.new)
+            (zero_struct size) (size.data_words + size.pointers) }
         ensures leads { IfOk result (IsStructOf (A.view self.new.arena.now).words self.old.segment
             self.old.at size) }
-        ensures fits { HasRoom (A.view self.old.arena.now) self.old.segment
-            (size.data_words + size.pointers) → IsOk result }
-        ensures granted { OnOk result (KeepsMemory (A.view self.old.arena.now)
-            (A.view self.new.arena.now)) }
-        ensures taken { OnOk result (TakesWords (A.view self.old.arena.now)
-            (A.view self.new.arena.now) self.old.segment (size.data_words + size.pointers)) }
-        ensures behind { OnOk result (PutsBehind (calling A.view self.old self.new)
-            (size.data_words + size.pointers)) }
         ensures empty { size.data_words + size.pointers ≡ 0
-            → OnOk result (HasWord (built A.view self.new) (struct_word (2 ^ 30 - 1) 0 0)) }
-        ensures named { IfErr result
-            (IsRefusedFor (A.view self.old.arena.now) (A.view self.new.arena.now)
-            (size.data_words + size.pointers)) }
-        ensures zeroed { OnOk result (ZeroesOld (A.view self.old.arena.now).words
-            (A.view self.new.arena.now).words self.old.segment self.old.at) }
-        ensures refused { OnErr result
-            (Becomes (built A.view self.old) (built A.view self.new) Null) }
-        ensures only { OnErr result
-            (IsPruned (A.view self.old.arena.now).words (A.view self.new.arena.now).words) }
-        ensures same { self.new.arena.ghost_name ≡ self.old.arena.ghost_name }
-        ensures builder { (self.new.segment ≡ self.old.segment) × (self.new.at ≡ self.old.at) }
+            → OnOk result
+            (word_at (A.view self.new.arena.now).words self.new.segment self.new.at
+            ≡ struct_word (2 ^ 30 - 1) 0 0) }
+        ensures builder { KeepsBuilder self.old self.new }
     {
         match making::init_struct(&mut *self.arena, self.segment, self.at, size) {
             Ok(start) => Ok(StructPlace {
@@ -231,29 +214,17 @@ impl<'a, A: BuilderArena> PointerBuilder<'a, A> {
     pub fn init_struct(mut self, size: StructSize) -> Result<StructBuilder<'a, A>, ErrorKind>
         requires { IsThere (built A.view self) }
         ensures same { IfOk result (λ b. b.arena.ghost_name ≡ self.entry.arena.ghost_name) }
-        ensures made { IfOk result (λ b. Becomes (built A.view self.entry)
-            (built_at A.view self.entry b.arena.now) (zero_struct size)) }
+        ensures object { Leaves (λ b. A.view b.arena.now) (λ b. b.place)
+            (λ new r. MakesObject r (calling_last A.view self.entry new)
+            (zero_struct size) (size.data_words + size.pointers)) result }
         ensures leads { IfOk result (λ b.
             IsStructOf (A.view b.arena.now).words self.entry.segment self.entry.at size b.place) }
-        ensures fits { HasRoom (A.view self.entry.arena.now) self.entry.segment
-            (size.data_words + size.pointers) → IsOk result }
-        ensures granted { IfOk result (λ b. KeepsMemory (A.view self.entry.arena.now)
-            (A.view b.arena.now)) }
-        ensures taken { IfOk result (λ b. TakesWords (A.view self.entry.arena.now)
-            (A.view b.arena.now) self.entry.segment (size.data_words + size.pointers)) }
-        ensures behind { IfOk result (λ b.
-            PutsBehind (calling_last A.view self.entry (A.view b.arena.now))
-            (size.data_words + size.pointers)) }
         ensures empty { size.data_words + size.pointers ≡ 0
-            → IfOk result
-            (λ b. HasWord (built_at A.view self.entry b.arena.now) (struct_word (2 ^ 30 - 1) 0 0)) }
-        ensures zeroed { IfOk result (λ b. ZeroesOld (A.view self.entry.arena.now).words
-            (A.view b.arena.now).words self.entry.segment self.entry.at) }
-        ensures named { IfErr result
-            (CanRefuse (A.view self.entry.arena.now) (size.data_words + size.pointers)) }
-        ensures refused { IfErr result
-            (LeavesNull (A.view self.entry.arena.now) self.entry.segment self.entry.at
-            (size.data_words + size.pointers)) }
+            → IfOk result (λ b.
+            word_at (A.view b.arena.now).words self.entry.segment self.entry.at
+            ≡ struct_word (2 ^ 30 - 1) 0 0) }
+        ensures asked { AsksForObject result (A.view self.entry.arena.now) self.entry.segment
+            self.entry.at (size.data_words + size.pointers) }
     {
         match self.put_struct(size) {
             Ok(place) => Ok(self.into_struct(place)),
@@ -272,31 +243,13 @@ impl<'a, A: BuilderArena> PointerBuilder<'a, A> {
         requires there { IsThere (built A.view self.old) }
         requires few { count < 2 ^ 29 }
         requires plain { size_number size ≤ 6 }
-        ensures made { OnOk result (Becomes (built A.view self.old) (built A.view self.new)
-            (zero_list (size_number size) count)) }
+        ensures object { MakesObject result (calling A.view self.old self.new)
+            (zero_list (size_number size) count) (list_words (size_number size) count) }
         ensures leads { IfOk result (IsListOf (A.view self.new.arena.now).words self.old.segment
             self.old.at size count) }
-        ensures fits { HasRoom (A.view self.old.arena.now) self.old.segment
-            (list_words (size_number size) count) → IsOk result }
-        ensures granted { OnOk result (KeepsMemory (A.view self.old.arena.now)
-            (A.view self.new.arena.now)) }
-        ensures taken { OnOk result (TakesWords (A.view self.old.arena.now)
-            (A.view self.new.arena.now) self.old.segment (list_words (size_number size) count)) }
-        ensures behind { OnOk result (PutsBehind (calling A.view self.old self.new)
+        ensures at_end { OnOk result (LeadsToEnd (calling A.view self.old self.new)
             (list_words (size_number size) count)) }
-        ensures at_end { OnOk result (PutsAtEnd (calling A.view self.old self.new)
-            (list_words (size_number size) count)) }
-        ensures named { IfErr result
-            (IsRefusedFor (A.view self.old.arena.now) (A.view self.new.arena.now)
-            (list_words (size_number size) count)) }
-        ensures zeroed { OnOk result (ZeroesOld (A.view self.old.arena.now).words
-            (A.view self.new.arena.now).words self.old.segment self.old.at) }
-        ensures refused { OnErr result
-            (Becomes (built A.view self.old) (built A.view self.new) Null) }
-        ensures only { OnErr result
-            (IsPruned (A.view self.old.arena.now).words (A.view self.new.arena.now).words) }
-        ensures same { self.new.arena.ghost_name ≡ self.old.arena.ghost_name }
-        ensures builder { (self.new.segment ≡ self.old.segment) × (self.new.at ≡ self.old.at) }
+        ensures builder { KeepsBuilder self.old self.new }
     {
         match making::init_list(&mut *self.arena, self.segment, self.at, size, count) {
             Ok(start) => Ok(ListPlace {
@@ -338,30 +291,17 @@ impl<'a, A: BuilderArena> PointerBuilder<'a, A> {
         requires few { count < 2 ^ 29 }
         requires plain { size_number size ≤ 6 }
         ensures same { IfOk result (λ b. b.arena.ghost_name ≡ self.entry.arena.ghost_name) }
-        ensures made { IfOk result (λ b. Becomes (built A.view self.entry)
-            (built_at A.view self.entry b.arena.now) (zero_list (size_number size) count)) }
+        ensures object { Leaves (λ b. A.view b.arena.now) (λ b. b.place)
+            (λ new r. MakesObject r (calling_last A.view self.entry new)
+            (zero_list (size_number size) count) (list_words (size_number size) count)) result }
         ensures leads { IfOk result (λ b.
             IsListOf (A.view b.arena.now).words self.entry.segment self.entry.at size
             count b.place) }
-        ensures fits { HasRoom (A.view self.entry.arena.now) self.entry.segment
-            (list_words (size_number size) count) → IsOk result }
-        ensures granted { IfOk result (λ b. KeepsMemory (A.view self.entry.arena.now)
-            (A.view b.arena.now)) }
-        ensures taken { IfOk result (λ b. TakesWords (A.view self.entry.arena.now)
-            (A.view b.arena.now) self.entry.segment (list_words (size_number size) count)) }
-        ensures behind { IfOk result (λ b.
-            PutsBehind (calling_last A.view self.entry (A.view b.arena.now))
-            (list_words (size_number size) count)) }
         ensures at_end { IfOk result (λ b.
-            PutsAtEnd (calling_last A.view self.entry (A.view b.arena.now))
+            LeadsToEnd (calling_last A.view self.entry (A.view b.arena.now))
             (list_words (size_number size) count)) }
-        ensures zeroed { IfOk result (λ b. ZeroesOld (A.view self.entry.arena.now).words
-            (A.view b.arena.now).words self.entry.segment self.entry.at) }
-        ensures named { IfErr result
-            (CanRefuse (A.view self.entry.arena.now) (list_words (size_number size) count)) }
-        ensures refused { IfErr result
-            (LeavesNull (A.view self.entry.arena.now) self.entry.segment self.entry.at
-            (list_words (size_number size) count)) }
+        ensures asked { AsksForObject result (A.view self.entry.arena.now) self.entry.segment
+            self.entry.at (list_words (size_number size) count) }
     {
         match self.put_list(size, count) {
             Ok(place) => Ok(self.into_list(place)),
@@ -378,30 +318,11 @@ impl<'a, A: BuilderArena> PointerBuilder<'a, A> {
         requires there { IsThere (built A.view self.old) }
         requires few { count < 2 ^ 30 }
         requires words { count * (size.data_words + size.pointers) < 2 ^ 29 }
-        ensures made { OnOk result (Becomes (built A.view self.old) (built A.view self.new)
-            (zero_structs count size)) }
+        ensures object { MakesObject result (calling A.view self.old self.new)
+            (zero_structs count size) (1 + count * (size.data_words + size.pointers)) }
         ensures leads { IfOk result (IsStructListOf (A.view self.new.arena.now).words
             self.old.segment self.old.at count size) }
-        ensures fits { HasRoom (A.view self.old.arena.now) self.old.segment
-            (1 + count * (size.data_words + size.pointers)) → IsOk result }
-        ensures granted { OnOk result (KeepsMemory (A.view self.old.arena.now)
-            (A.view self.new.arena.now)) }
-        ensures taken { OnOk result (TakesWords (A.view self.old.arena.now)
-            (A.view self.new.arena.now) self.old.segment
-            (1 + count * (size.data_words + size.pointers))) }
-        ensures behind { OnOk result (PutsBehind (calling A.view self.old self.new)
-            (1 + count * (size.data_words + size.pointers))) }
-        ensures named { IfErr result
-            (IsRefusedFor (A.view self.old.arena.now) (A.view self.new.arena.now)
-            (1 + count * (size.data_words + size.pointers))) }
-        ensures zeroed { OnOk result (ZeroesOld (A.view self.old.arena.now).words
-            (A.view self.new.arena.now).words self.old.segment self.old.at) }
-        ensures refused { OnErr result
-            (Becomes (built A.view self.old) (built A.view self.new) Null) }
-        ensures only { OnErr result
-            (IsPruned (A.view self.old.arena.now).words (A.view self.new.arena.now).words) }
-        ensures same { self.new.arena.ghost_name ≡ self.old.arena.ghost_name }
-        ensures builder { (self.new.segment ≡ self.old.segment) × (self.new.at ≡ self.old.at) }
+        ensures builder { KeepsBuilder self.old self.new }
     {
         match making::init_struct_list(&mut *self.arena, self.segment, self.at, count, size) {
             Ok(start) => Ok(ListPlace {
@@ -428,28 +349,13 @@ impl<'a, A: BuilderArena> PointerBuilder<'a, A> {
         requires few { count < 2 ^ 30 }
         requires words { count * (size.data_words + size.pointers) < 2 ^ 29 }
         ensures same { IfOk result (λ b. b.arena.ghost_name ≡ self.entry.arena.ghost_name) }
-        ensures made { IfOk result (λ b. Becomes (built A.view self.entry)
-            (built_at A.view self.entry b.arena.now) (zero_structs count size)) }
+        ensures object { Leaves (λ b. A.view b.arena.now) (λ b. b.place)
+            (λ new r. MakesObject r (calling_last A.view self.entry new)
+            (zero_structs count size) (1 + count * (size.data_words + size.pointers))) result }
         ensures leads { IfOk result (λ b. IsStructListOf
             (A.view b.arena.now).words self.entry.segment self.entry.at count size b.place) }
-        ensures fits { HasRoom (A.view self.entry.arena.now) self.entry.segment
-            (1 + count * (size.data_words + size.pointers)) → IsOk result }
-        ensures granted { IfOk result (λ b. KeepsMemory (A.view self.entry.arena.now)
-            (A.view b.arena.now)) }
-        ensures taken { IfOk result (λ b. TakesWords (A.view self.entry.arena.now)
-            (A.view b.arena.now) self.entry.segment
-            (1 + count * (size.data_words + size.pointers))) }
-        ensures behind { IfOk result (λ b.
-            PutsBehind (calling_last A.view self.entry (A.view b.arena.now))
-            (1 + count * (size.data_words + size.pointers))) }
-        ensures zeroed { IfOk result (λ b. ZeroesOld (A.view self.entry.arena.now).words
-            (A.view b.arena.now).words self.entry.segment self.entry.at) }
-        ensures named { IfErr result
-            (CanRefuse (A.view self.entry.arena.now)
-            (1 + count * (size.data_words + size.pointers))) }
-        ensures refused { IfErr result
-            (LeavesNull (A.view self.entry.arena.now) self.entry.segment self.entry.at
-            (1 + count * (size.data_words + size.pointers))) }
+        ensures asked { AsksForObject result (A.view self.entry.arena.now) self.entry.segment
+            self.entry.at (1 + count * (size.data_words + size.pointers)) }
     {
         match self.put_struct_list(count, size) {
             Ok(place) => Ok(self.into_list(place)),
@@ -488,12 +394,8 @@ impl<'a, A: BuilderArena> PointerBuilder<'a, A> {
         ensures count { IfOk result (λ bytes. length bytes.now ≡ size) }
         ensures zero { IfOk result (λ bytes. AreZeroOnce
             (A.view self.entry.arena.now).words self.entry.segment self.entry.at bytes.now) }
-        ensures fits { HasRoom (A.view self.entry.arena.now) self.entry.segment (words_for 2 size)
-            → IsOk result }
-        ensures named { IfErr result (CanRefuse (A.view self.entry.arena.now) (words_for 2 size)) }
-        ensures refused { IfErr result
-            (LeavesNull (A.view self.entry.arena.now) self.entry.segment self.entry.at
-            (words_for 2 size)) }
+        ensures asked { AsksForObject result (A.view self.entry.arena.now) self.entry.segment
+            self.entry.at (words_for 2 size) }
     {
         let PointerBuilder { arena, segment, at } = self;
         lent::init_data(arena, segment, at, size)
@@ -511,13 +413,8 @@ impl<'a, A: BuilderArena> PointerBuilder<'a, A> {
         ensures count { IfOk result (λ bytes. length bytes.now ≡ size) }
         ensures zero { IfOk result (λ bytes. AreZeroOnce
             (A.view self.entry.arena.now).words self.entry.segment self.entry.at bytes.now) }
-        ensures fits { HasRoom (A.view self.entry.arena.now) self.entry.segment
-            (words_for 2 (size + 1)) → IsOk result }
-        ensures named { IfErr result
-            (CanRefuse (A.view self.entry.arena.now) (words_for 2 (size + 1))) }
-        ensures refused { IfErr result
-            (LeavesNull (A.view self.entry.arena.now) self.entry.segment self.entry.at
-            (words_for 2 (size + 1))) }
+        ensures asked { AsksForObject result (A.view self.entry.arena.now) self.entry.segment
+            self.entry.at (words_for 2 (size + 1)) }
     {
         let PointerBuilder { arena, segment, at } = self;
         lent::init_text(arena, segment, at, size)
@@ -531,29 +428,11 @@ impl<'a, A: BuilderArena> PointerBuilder<'a, A> {
     pub fn set_data(&mut self, bytes: &[u8]) -> Result<(), ErrorKind>
         requires there { IsThere (built A.view self.old) }
         requires few { length bytes.now < 2 ^ 29 }
-        ensures made { OnOk result (Becomes (built A.view self.old) (built A.view self.new)
-            (Flat 2 bytes.now)) }
-        ensures fits { HasRoom (A.view self.old.arena.now) self.old.segment
-            (words_for 2 (length bytes.now)) → IsOk result }
-        ensures granted { OnOk result (KeepsMemory (A.view self.old.arena.now)
-            (A.view self.new.arena.now)) }
-        ensures taken { OnOk result (TakesWords (A.view self.old.arena.now)
-            (A.view self.new.arena.now) self.old.segment (words_for 2 (length bytes.now))) }
-        ensures behind { OnOk result (PutsBehind (calling A.view self.old self.new)
+        ensures object { MakesObject result (calling A.view self.old self.new)
+            (Flat 2 bytes.now) (words_for 2 (length bytes.now)) }
+        ensures at_end { OnOk result (LeadsToEnd (calling A.view self.old self.new)
             (words_for 2 (length bytes.now))) }
-        ensures at_end { OnOk result (PutsAtEnd (calling A.view self.old self.new)
-            (words_for 2 (length bytes.now))) }
-        ensures named { IfErr result
-            (IsRefusedFor (A.view self.old.arena.now) (A.view self.new.arena.now)
-            (words_for 2 (length bytes.now))) }
-        ensures zeroed { OnOk result (ZeroesOld (A.view self.old.arena.now).words
-            (A.view self.new.arena.now).words self.old.segment self.old.at) }
-        ensures refused { OnErr result
-            (Becomes (built A.view self.old) (built A.view self.new) Null) }
-        ensures only { OnErr result
-            (IsPruned (A.view self.old.arena.now).words (A.view self.new.arena.now).words) }
-        ensures same { self.new.arena.ghost_name ≡ self.old.arena.ghost_name }
-        ensures builder { (self.new.segment ≡ self.old.segment) × (self.new.at ≡ self.old.at) }
+        ensures builder { KeepsBuilder self.old self.new }
     {
         bytes::set_data(&mut *self.arena, self.segment, self.at, bytes)
     }
@@ -567,27 +446,9 @@ impl<'a, A: BuilderArena> PointerBuilder<'a, A> {
     pub fn set_text(&mut self, bytes: &[u8]) -> Result<(), ErrorKind>
         requires there { IsThere (built A.view self.old) }
         requires few { length bytes.now + 1 < 2 ^ 29 }
-        ensures made { OnOk result (Becomes (built A.view self.old) (built A.view self.new)
-            (Flat 2 (bytes.now ++ 0 ∷ []))) }
-        ensures fits { HasRoom (A.view self.old.arena.now) self.old.segment
-            (words_for 2 (length bytes.now + 1)) → IsOk result }
-        ensures granted { OnOk result (KeepsMemory (A.view self.old.arena.now)
-            (A.view self.new.arena.now)) }
-        ensures taken { OnOk result (TakesWords (A.view self.old.arena.now)
-            (A.view self.new.arena.now) self.old.segment (words_for 2 (length bytes.now + 1))) }
-        ensures behind { OnOk result (PutsBehind (calling A.view self.old self.new)
-            (words_for 2 (length bytes.now + 1))) }
-        ensures named { IfErr result
-            (IsRefusedFor (A.view self.old.arena.now) (A.view self.new.arena.now)
-            (words_for 2 (length bytes.now + 1))) }
-        ensures zeroed { OnOk result (ZeroesOld (A.view self.old.arena.now).words
-            (A.view self.new.arena.now).words self.old.segment self.old.at) }
-        ensures refused { OnErr result
-            (Becomes (built A.view self.old) (built A.view self.new) Null) }
-        ensures only { OnErr result
-            (IsPruned (A.view self.old.arena.now).words (A.view self.new.arena.now).words) }
-        ensures same { self.new.arena.ghost_name ≡ self.old.arena.ghost_name }
-        ensures builder { (self.new.segment ≡ self.old.segment) × (self.new.at ≡ self.old.at) }
+        ensures object { MakesObject result (calling A.view self.old self.new)
+            (Flat 2 (bytes.now ++ 0 ∷ [])) (words_for 2 (length bytes.now + 1)) }
+        ensures builder { KeepsBuilder self.old self.new }
     {
         bytes::set_text(&mut *self.arena, self.segment, self.at, bytes)
     }
@@ -661,8 +522,7 @@ impl<'a, A: BuilderArena> PointerBuilder<'a, A> {
             (A.view self.new.arena.now)) }
         ensures memory { IfErr result
             (SpendsMemory (A.view self.old.arena.now) (A.view self.new.arena.now)) }
-        ensures same { self.new.arena.ghost_name ≡ self.old.arena.ghost_name }
-        ensures builder { (self.new.segment ≡ self.old.segment) × (self.new.at ≡ self.old.at) }
+        ensures builder { KeepsBuilder self.old self.new }
     {
         let at = self.at;
         if self.is_null() {
@@ -715,8 +575,7 @@ impl<'a, A: BuilderArena> PointerBuilder<'a, A> {
             (A.view self.new.arena.now)) }
         ensures memory { IfErr result
             (SpendsMemory (A.view self.old.arena.now) (A.view self.new.arena.now)) }
-        ensures same { self.new.arena.ghost_name ≡ self.old.arena.ghost_name }
-        ensures builder { (self.new.segment ≡ self.old.segment) × (self.new.at ≡ self.old.at) }
+        ensures builder { KeepsBuilder self.old self.new }
     {
         let at = self.at;
         making::clear(&mut *self.arena, self.segment, at);
@@ -777,8 +636,7 @@ impl<'a, A: BuilderArena> PointerBuilder<'a, A> {
             (A.view self.new.arena.now)) }
         ensures memory { IfErr result
             (SpendsMemory (A.view self.old.arena.now) (A.view self.new.arena.now)) }
-        ensures same { self.new.arena.ghost_name ≡ self.old.arena.ghost_name }
-        ensures builder { (self.new.segment ≡ self.old.segment) × (self.new.at ≡ self.old.at) }
+        ensures builder { KeepsBuilder self.old self.new }
     {
         let at = self.at;
         making::clear(&mut *self.arena, self.segment, at);

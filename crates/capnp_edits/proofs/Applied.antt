@@ -13,6 +13,7 @@ use Rattle.capnp_format.specs.Forest.{IsForest, target, cover}
 use Rattle.capnp_making.specs.declared.existing.ExistingStruct.{ExistingStruct}
 use Rattle.capnp_making.specs.Existing.{struct_in}
 use Rattle.capnp_making.specs.Fields.{put_field}
+use Rattle.capnp_making.specs.Makes.{MakesObject, call_at}
 use Rattle.capnp_making.specs.Memory.{HasRoom, IsRefusedFor, KeepsMemory, TakesWords}
 use Rattle.capnp_making.specs.Zeroed.{IsPruned}
 use Rattle.capnp_making.specs.Path.{Element, struct_at, put_struct, update, PathLeads, one_word}
@@ -94,25 +95,26 @@ named_refusal (Ok x) P k why e = absurd (cc)
 named_refusal (Err j) P k why e = subst P (same_some j k e) why
 
 -- a call that makes an object
-pub object_made : {A : Type 0} (result : Result A ErrorKind) (old new : View) (place : PointerPlace) (object : Object) → OnOk result (Puts old.words new.words place.segment place.word (value_of object)) → OnOk result (KeepsMemory old new) →
-    IfErr result (IsRefusedFor old new (words_of object)) → OnErr result (Puts old.words new.words place.segment place.word Null) → (HasRoom old place.segment (words_of object) → IsOk result) →
-    OnOk result (TakesWords old new place.segment (words_of object)) → OnErr result (IsPruned old.words new.words) → IsDoneAt old new place (Make object) (refusal_of result)
-object_made (Ok x) old new place object puts keeps why cleared fits taken only = record {
-  done = λ t stored. record { left = Some (value_of object); leaves = as_it_stands (is_allocated Null (value_of object) refl refl refl); stands = puts t stored };
-  counted = ap (λ (v : View). v.refusals) keeps.0;
+pub object_made : {A : Type 0} (result : Result A ErrorKind) (old new : View) (place : PointerPlace) (object : Object) → MakesObject result (call_at place.segment place.word old new) (value_of object) (words_of object) →
+    IsDoneAt old new place (Make object) (refusal_of result)
+object_made (Ok x) old new place object made = record {
+  done = λ t stored. record { left = Some (value_of object); leaves = as_it_stands (is_allocated Null (value_of object) refl refl refl); stands = made.made t stored };
+  counted = ap (λ (v : View). v.refusals) made.memory.granted.0;
   named = λ k e. absurd (cc);
   fits = λ room k e. absurd (cc);
   nowhere = λ e. absurd (cc);
-  taken = λ some. taken;
+  taken = λ some. made.memory.taken;
 }
-object_made (Err k) old new place object puts keeps why cleared fits taken only = record {
-  done = λ t stored. record { left = Some Null; leaves = as_it_stands (is_not_allocated Null (value_of object) k refl (of_memory old new (words_of object) k why) refl refl); stands = cleared t stored };
-  counted = counted old new (words_of object) k why;
-  named = λ j e. inr (subst (IsRefusedFor old new (words_of object)) (same_some k j e) why);
-  fits = λ room j e. absurd (let h = fits room in cc);
-  nowhere = λ e. absurd (of_no_place k (of_memory old new (words_of object) k why) (same_some k NoSuchPlace e));
-  taken = λ some. only;
-}
+object_made (Err k) old new place object made =
+    let why : IsRefusedFor old new (words_of object) k = made.memory.named in
+    record {
+      done = λ t stored. record { left = Some Null; leaves = as_it_stands (is_not_allocated Null (value_of object) k refl (of_memory old new (words_of object) k why) refl refl); stands = made.refused t stored };
+      counted = counted old new (words_of object) k why;
+      named = λ j e. inr (subst (IsRefusedFor old new (words_of object)) (same_some k j e) why);
+      fits = λ room j e. absurd (let h = made.memory.fits room in cc);
+      nowhere = λ e. absurd (of_no_place k (of_memory old new (words_of object) k why) (same_some k NoSuchPlace e));
+      taken = λ some. made.only;
+    }
 
 -- a call that makes none
 pub pointed : (old new : View) (place : PointerPlace) (i : Option ℕ) (u : Tree) → ((t : Tree) → made_at (Point i) (PointerTo t) ≡ becomes u) → Puts old.words new.words place.segment place.word u → new.refusals ≡ old.refusals → KeepsLengths old.words new.words →

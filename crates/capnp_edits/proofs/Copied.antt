@@ -37,7 +37,7 @@ use Rattle.capnp_readers.specs.declared.readers.PointerPlace.{PointerPlace}
 use Rattle.capnp_copies.specs.Changes.{Change, RefusesValue, change}
 use Rattle.capnp_copies.specs.Forms.{form_of, kept}
 use Rattle.capnp_copies.specs.Growth.{TakesAtMost, TakesForObject, TakesForListOf, TakesForStruct, TakesForList}
-use Rattle.capnp_widening.specs.Opening.{CallAt}
+use Rattle.capnp_making.specs.Makes.{CallAt}
 use Rattle.capnp_copies.specs.ListValues.{ListElements, ReadsList, RefusesElements, RefusesList, elements_read}
 use Rattle.capnp_copies.specs.StructValues.{RefusesSections, RefusesStruct, data_of}
 use Rattle.capnp_builders.specs.Kept.{PutsCopy, PutsStruct, PutsList, IsKept}

@@ -30,7 +30,8 @@ use Rattle.capnp_copies.specs.Copies.{CanBeCopied}
 use Rattle.capnp_readers.specs.declared.readers.PointerPlace.{PointerPlace}
 use Rattle.capnp_readers.specs.declared.readers.list_reader.ListPlace.{ListPlace}
 use Rattle.capnp_readers.specs.declared.readers.struct_reader.StructPlace.{StructPlace}
-use Rattle.capnp_widening.specs.Opening.{CallAt, Opens, struct_opened}
+use Rattle.capnp_making.specs.Makes.{CallAt}
+use Rattle.capnp_widening.specs.Opening.{Opens, struct_opened}
 use Rattle.capnp_widening.specs.RowsRemade.{RefusesWider}
 use Rattle.capnp_widening.specs.Widened.{list_widened, IsNoWider}
 use Rattle.capnp_builders.specs.Defaults.{IsFew, DefaultUse, ignored, denied as is_denied_by, copied as is_copied_from, use_of_words, default_use, default_root, default_copy, RefusesDefault, WithDefault, DefaultFits}

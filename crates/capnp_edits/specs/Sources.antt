@@ -30,7 +30,7 @@ use Rattle.capnp_copies.specs.Changes.{Change, RefusesValue, change}
 use Rattle.capnp_copies.specs.Forms.{form_of, kept}
 use Rattle.capnp_copies.specs.ListValues.{ListElements, RefusesElements}
 use Rattle.capnp_copies.specs.StructValues.{RefusesSections}
-use Rattle.capnp_widening.specs.Opening.{CallAt}
+use Rattle.capnp_making.specs.Makes.{CallAt}
 use Rattle.capnp_builders.specs.Laws.{HoldContent, up_to}
 use Rattle.capnp_edits.specs.declared.edit.Source.{Source}
 use Rattle.capnp_edits.specs.declared.edit.copying.Copying.{Copying}

@@ -23,7 +23,7 @@ use Rattle.capnp_copies.specs.Changes.{Change, LacksRoom, WantsWords, change}
 use Rattle.capnp_copies.specs.Growth.{TakesAtMost, TakesForObject, TakesForListOf, TakesForPointers}
 use Rattle.capnp_copies.specs.ListValues.{ListElements}
 use Rattle.capnp_copies.specs.Rooms.{AreTooLarge}
-use Rattle.capnp_widening.specs.Opening.{CallAt, call_at}
+use Rattle.capnp_making.specs.Makes.{CallAt, call_at}
 use Rattle.capnp_builders.specs.Defaults.{RefusesDefault, DefaultFits, default_copy}
 use Rattle.capnp_builders.specs.Found.{FindsList, FindsData, FindsText}
 use Rattle.capnp_builders.specs.Laws.{TakesBytes}

@@ -3,7 +3,7 @@ use Rattle.std.proofs.Common.{◌≡◌, ◌≢◌, ℕ, zero, suc, pred, ◌+�
 use Rattle.std.proofs.lemmas.Bool.Decides.{nat_tests}
 use Rattle.capnp_format.specs.Word.{kind}
 use Rattle.capnp_format.specs.Numbers.{words_for}
-use Rattle.capnp_format.specs.Segments.{Segments, segment, word_at, Target, Grows, leads}
+use Rattle.capnp_format.specs.Segments.{Segments, word_at, Target, Grows, leads}
 use Rattle.capnp_format.specs.Tree.{Tree, Null, Capability, Struct, Flat, Pointers, Structs, Trees, no_trees, tree, count, element_count}
 use Rattle.capnp_format.specs.Means.{Means}
 use Rattle.capnp_format.specs.Forest.{Interval, times, pads_of, object_of, target_in, cover, cover_all, cover_elements}

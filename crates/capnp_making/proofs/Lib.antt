@@ -20,6 +20,7 @@ pub mod MadeWords
 pub mod Memory
 pub mod NearMade
 pub mod Objects
+pub mod ObjectsMade
 pub mod OldWords
 pub mod Outcomes
 pub mod Paths

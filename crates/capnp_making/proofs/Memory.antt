@@ -66,6 +66,13 @@ refusal_of a b c d n m k before after (inl (e, f, g, h)) = inl (e, f, g, after �
 refusal_of a b c d n m k before after (inr (inl (e, f, g, h))) = inr (inl (e, f, g, after ∙ h ∙ before))
 refusal_of a b c d n m k before after (inr (inr (e, f, h))) = inr (inr (e, f, after ∙ h ∙ before))
 
+-- words become zero before an object is refused
+pub refused_after : (a b c : View) (n : ℕ) (k : ErrorKind) → KeepsLimits a b → IsPruned a.words b.words → IsRefusedFor b c n k → IsRefusedFor a c n k
+refused_after a b c n k limits pruned (r, e) = (
+  subst (λ i. IsAllocationRefusal a c i (n + 1) k) pruned.segments (refusal_of a b c c (length b.words) (n + 1) k (ap (λ (v : View). v.refusals) limits) refl r),
+  e ∙ ap (λ (v : View). record v { words = c.words; refusals = c.refusals }) limits,
+)
+
 pub words_refused_after : (a b c : View) (n : ℕ) (k : ErrorKind) → KeepsMemory a b → RefusesWords b c n k → RefusesWords a c n k
 words_refused_after a b c n k x (r, full) = (refusal_of a b c c (length c.words) (n + 1) k (ap (λ (v : View). v.refusals) x.0) refl r, full)
 

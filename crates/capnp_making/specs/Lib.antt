@@ -11,3 +11,4 @@ pub mod Laws
 pub mod Overwritten
 pub mod Filled
 pub mod Near
+pub mod Makes

@@ -1,6 +1,5 @@
 -- The words that an object takes, in the segment of its pointer or, behind a landing pad, in another one ("Inter-Segment Pointers").
 use Rattle.std.specs.Prelude.{ℕ, ◌≡◌, ◌≢◌, ◌⊎◌, ◌+◌, ◌-◌, ◌^◌, ◌<◌, ◌≤◌, max, length}
-use Rattle.capnp_format.specs.Forest.{target}
 use Rattle.capnp_format.specs.Segments.{Segments, segment, Target}
 use Rattle.capnp_format.specs.Tree.{Null}
 use Rattle.capnp_words.specs.declared.error.ErrorKind.{ErrorKind}
@@ -43,10 +42,6 @@ TakesNext old new n h = IsNextRoom old n h.segment × Lengthens old.words new.wo
 -- Where a pointer leads, as a start.
 abbrev pub start_of : Target → Start
 start_of a = record { segment = a.segment; at = a.start }
-
--- From old to new the pointer at a place got an object of n words, which stands behind all that were there.
-abbrev pub LeadsBehind : View → View → ℕ → ℕ → ℕ → Type 0
-LeadsBehind old new id at n = StandsBehind old id n (start_of (target new.words id at))
 
 -- Nothing but words is changed, and the room of segments that are new.
 abbrev pub KeepsMemory : View → View → Type 0

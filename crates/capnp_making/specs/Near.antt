@@ -9,6 +9,7 @@ use Rattle.capnp_arena.specs.Written.{with_word, extended}
 use Rattle.capnp_words.specs.Sizes.{size_number}
 use Rattle.capnp_words.specs.declared.wire_pointer.StructSize.{StructSize}
 use Rattle.capnp_making.specs.Made.{zeros, list_words}
+use Rattle.capnp_making.specs.Makes.{CallAt}
 use Rattle.capnp_making.specs.Memory.{start_of}
 use Rattle.capnp_making.specs.declared.making.Shape.{Shape}
 use Rattle.capnp_making.specs.declared.making.Shape.TheVariants.{Struct as StructShape, List as ListShape}
@@ -29,10 +30,9 @@ HasStructsRoom v id n size = HasOwnRoom v id (1 + n * (size.data_words + size.po
 abbrev pub StartsBehind : Segments → ℕ → Start → Type 0
 StartsBehind S id h = (h.segment ≡ id) × (h.at ≡ length (segment S id))
 
--- From old to new the pointer at a place got an object of n words, or of none: where its segment has room for them, it starts behind the words of
--- that segment.
-abbrev pub LeadsToEnd : View → View → ℕ → ℕ → ℕ → Type 0
-LeadsToEnd old new id at n = HasOwnRoom old id n → StartsBehind old.words id (start_of (target new.words id at))
+-- A call gives the pointer an object of n words, or of none: where its segment has room for them, it starts behind the words of that segment.
+abbrev pub LeadsToEnd : CallAt → ℕ → Type 0
+LeadsToEnd c n = HasOwnRoom c.old c.segment n → StartsBehind c.old.words c.segment (start_of (target c.new.words c.segment c.at))
 
 -- the offset of a pointer at position p to what starts behind the words of segment id
 abbrev pub offset_behind : Segments → ℕ → ℕ → ℕ

@@ -1,17 +1,16 @@
 //! Texts and data set where a pointer leads ("Lists").
 //!
 //! Data is a list of bytes. A text is one with a zero byte behind its own.
-ghost use Rattle.std.specs.Prelude.{◌≡◌, ℕ, ◌<◌, ◌≤◌, ◌+◌, ◌-◌, ◌*◌, ◌^◌, ◌++◌, ◌∷◌, [], length, IsOk, OnOk, OnErr, IfErr};
+ghost use Rattle.std.specs.Prelude.{◌≡◌, ℕ, ◌<◌, ◌≤◌, ◌+◌, ◌-◌, ◌*◌, ◌^◌, ◌++◌, ◌∷◌, [], length, OnOk};
 ghost use Rattle.capnp_format.specs.Numbers.{words_for};
 ghost use Rattle.capnp_format.specs.Segments.{segment, IsPlace};
-ghost use Rattle.capnp_format.specs.Tree.{Null, Flat};
+ghost use Rattle.capnp_format.specs.Tree.{Flat};
 ghost use Rattle.capnp_arena.specs.View.{KeepsLimits};
 ghost use Rattle.capnp_making.specs.Made.{zeros};
-ghost use Rattle.capnp_making.specs.Memory.{HasRoom, KeepsMemory, TakesWords, LeadsBehind, IsRefusedFor};
+ghost use Rattle.capnp_making.specs.Makes.{MakesObject, call_at};
 ghost use Rattle.capnp_making.specs.Near.{LeadsToEnd};
 ghost use Rattle.capnp_making.specs.Overwritten.{HoldsBytes, bytes_over};
-ghost use Rattle.capnp_making.specs.Stored.{Puts, PutsOnceZeroed, ZeroesOld};
-ghost use Rattle.capnp_making.specs.Zeroed.{IsPruned};
+ghost use Rattle.capnp_making.specs.Stored.{PutsOnceZeroed};
 
 use crate::making::{Start, init_list};
 use capnp_arena::arena::BuilderArena;
@@ -32,25 +31,12 @@ pub fn set_data<A: BuilderArena>(
 ) -> Result<(), ErrorKind>
     requires place { IsPlace (A.view arena.old).words id at }
     requires few { length from.now < 2 ^ 29 }
-    ensures made { OnOk result (Puts (A.view arena.old).words (A.view arena.new).words id at
-        (Flat 2 from.now)) }
+    ensures object { MakesObject result (call_at id at (A.view arena.old) (A.view arena.new))
+        (Flat 2 from.now) (words_for 2 (length from.now)) }
     ensures once_zeroed { OnOk result (PutsOnceZeroed (A.view arena.old).words
         (A.view arena.new).words id at (Flat 2 from.now)) }
-    ensures fits { HasRoom (A.view arena.old) id (words_for 2 (length from.now)) → IsOk result }
-    ensures granted { OnOk result (KeepsMemory (A.view arena.old) (A.view arena.new)) }
-    ensures taken { OnOk result (TakesWords (A.view arena.old) (A.view arena.new) id
+    ensures at_end { OnOk result (LeadsToEnd (call_at id at (A.view arena.old) (A.view arena.new))
         (words_for 2 (length from.now))) }
-    ensures behind { OnOk result (LeadsBehind (A.view arena.old) (A.view arena.new) id at
-        (words_for 2 (length from.now))) }
-    ensures at_end { OnOk result (LeadsToEnd (A.view arena.old) (A.view arena.new) id at
-        (words_for 2 (length from.now))) }
-    ensures named { IfErr result
-        (IsRefusedFor (A.view arena.old) (A.view arena.new) (words_for 2 (length from.now))) }
-    ensures zeroed { OnOk result (ZeroesOld (A.view arena.old).words
-        (A.view arena.new).words id at) }
-    ensures refused { OnErr result
-        (Puts (A.view arena.old).words (A.view arena.new).words id at Null) }
-    ensures only { OnErr result (IsPruned (A.view arena.old).words (A.view arena.new).words) }
 {
     set_bytes(arena, id, at, from, from.len() as u32)
 }
@@ -69,23 +55,10 @@ pub fn set_text<A: BuilderArena>(
 ) -> Result<(), ErrorKind>
     requires place { IsPlace (A.view arena.old).words id at }
     requires few { length from.now + 1 < 2 ^ 29 }
-    ensures made { OnOk result (Puts (A.view arena.old).words (A.view arena.new).words id at
-        (Flat 2 (from.now ++ 0 ∷ []))) }
+    ensures object { MakesObject result (call_at id at (A.view arena.old) (A.view arena.new))
+        (Flat 2 (from.now ++ 0 ∷ [])) (words_for 2 (length from.now + 1)) }
     ensures once_zeroed { OnOk result (PutsOnceZeroed (A.view arena.old).words
         (A.view arena.new).words id at (Flat 2 (from.now ++ 0 ∷ []))) }
-    ensures fits { HasRoom (A.view arena.old) id (words_for 2 (length from.now + 1)) → IsOk result }
-    ensures granted { OnOk result (KeepsMemory (A.view arena.old) (A.view arena.new)) }
-    ensures taken { OnOk result (TakesWords (A.view arena.old) (A.view arena.new) id
-        (words_for 2 (length from.now + 1))) }
-    ensures behind { OnOk result (LeadsBehind (A.view arena.old) (A.view arena.new) id at
-        (words_for 2 (length from.now + 1))) }
-    ensures named { IfErr result
-        (IsRefusedFor (A.view arena.old) (A.view arena.new) (words_for 2 (length from.now + 1))) }
-    ensures zeroed { OnOk result (ZeroesOld (A.view arena.old).words
-        (A.view arena.new).words id at) }
-    ensures refused { OnErr result
-        (Puts (A.view arena.old).words (A.view arena.new).words id at Null) }
-    ensures only { OnErr result (IsPruned (A.view arena.old).words (A.view arena.new).words) }
 {
     set_bytes(arena, id, at, from, from.len() as u32 + 1)
 }
@@ -103,25 +76,12 @@ fn set_bytes<A: BuilderArena>(
     requires place { IsPlace (A.view arena.old).words id at }
     requires enough { length from.now ≤ count }
     requires few { count < 2 ^ 29 }
-    ensures made { OnOk result (Puts (A.view arena.old).words (A.view arena.new).words id at
-        (Flat 2 (from.now ++ zeros (count - length from.now)))) }
+    ensures object { MakesObject result (call_at id at (A.view arena.old) (A.view arena.new))
+        (Flat 2 (from.now ++ zeros (count - length from.now))) (words_for 2 count) }
     ensures once_zeroed { OnOk result (PutsOnceZeroed (A.view arena.old).words
         (A.view arena.new).words id at (Flat 2 (from.now ++ zeros (count - length from.now)))) }
-    ensures fits { HasRoom (A.view arena.old) id (words_for 2 count) → IsOk result }
-    ensures granted { OnOk result (KeepsMemory (A.view arena.old) (A.view arena.new)) }
-    ensures taken { OnOk result (TakesWords (A.view arena.old) (A.view arena.new) id
+    ensures at_end { OnOk result (LeadsToEnd (call_at id at (A.view arena.old) (A.view arena.new))
         (words_for 2 count)) }
-    ensures behind { OnOk result (LeadsBehind (A.view arena.old) (A.view arena.new) id at
-        (words_for 2 count)) }
-    ensures at_end { OnOk result (LeadsToEnd (A.view arena.old) (A.view arena.new) id at
-        (words_for 2 count)) }
-    ensures named { IfErr result
-        (IsRefusedFor (A.view arena.old) (A.view arena.new) (words_for 2 count)) }
-    ensures zeroed { OnOk result (ZeroesOld (A.view arena.old).words
-        (A.view arena.new).words id at) }
-    ensures refused { OnErr result
-        (Puts (A.view arena.old).words (A.view arena.new).words id at Null) }
-    ensures only { OnErr result (IsPruned (A.view arena.old).words (A.view arena.new).words) }
 {
     match init_list(arena, id, at, ElementSize::Byte, count) {
         Ok(start) => {

@@ -1,12 +1,12 @@
 //! Bytes of a message that is built, lent to be written in place ("Lists").
-ghost use Rattle.std.specs.Prelude.{◌≡◌, ℕ, ◌+◌, ◌-◌, ◌^◌, ◌<◌, ◌≤◌, List, [], length, take, drop, get_or, slice_index_or, IsOk, IfOk, IfErr};
+ghost use Rattle.std.specs.Prelude.{◌≡◌, ℕ, ◌+◌, ◌-◌, ◌^◌, ◌<◌, ◌≤◌, List, [], length, take, drop, get_or, slice_index_or, IfOk};
 ghost use Rattle.std.specs.Borrow.{sem, Lends, Array, u8 as byte};
 ghost use Rattle.capnp_format.specs.Numbers.{words_for};
 ghost use Rattle.capnp_format.specs.Segments.{IsPlace};
 ghost use Rattle.capnp_arena.specs.Written.{overwritten};
 ghost use Rattle.capnp_making.specs.Existing.{AreInside};
 ghost use Rattle.capnp_making.specs.InPlace.{bytes_of, rewritten, segments_with, AreBytes, AreZeroOnce, Overwrites};
-ghost use Rattle.capnp_making.specs.Memory.{HasRoom, CanRefuse, LeavesNull};
+ghost use Rattle.capnp_making.specs.Makes.{AsksForObject};
 
 use crate::existing::ExistingBytes;
 use crate::making::init_list;
@@ -65,9 +65,7 @@ pub fn init_data<A: BuilderArena>(
     requires few { size < 2 ^ 29 }
     ensures count { IfOk result (λ bytes. length bytes.now ≡ size) }
     ensures zero { IfOk result (λ bytes. AreZeroOnce (A.view arena.old).words id at bytes.now) }
-    ensures fits { HasRoom (A.view arena.old) id (words_for 2 size) → IsOk result }
-    ensures named { IfErr result (CanRefuse (A.view arena.old) (words_for 2 size)) }
-    ensures refused { IfErr result (LeavesNull (A.view arena.old) id at (words_for 2 size)) }
+    ensures asked { AsksForObject result (A.view arena.old) id at (words_for 2 size) }
 {
     init_bytes(arena, id, at, size, size)
 }
@@ -87,9 +85,7 @@ pub fn init_text<A: BuilderArena>(
     requires few { size + 1 < 2 ^ 29 }
     ensures count { IfOk result (λ bytes. length bytes.now ≡ size) }
     ensures zero { IfOk result (λ bytes. AreZeroOnce (A.view arena.old).words id at bytes.now) }
-    ensures fits { HasRoom (A.view arena.old) id (words_for 2 (size + 1)) → IsOk result }
-    ensures named { IfErr result (CanRefuse (A.view arena.old) (words_for 2 (size + 1))) }
-    ensures refused { IfErr result (LeavesNull (A.view arena.old) id at (words_for 2 (size + 1))) }
+    ensures asked { AsksForObject result (A.view arena.old) id at (words_for 2 (size + 1)) }
 {
     init_bytes(arena, id, at, size + 1, size)
 }
@@ -108,9 +104,7 @@ fn init_bytes<A: BuilderArena>(
     requires enough { size ≤ count }
     ensures count { IfOk result (λ bytes. length bytes.now ≡ size) }
     ensures zero { IfOk result (λ bytes. AreZeroOnce (A.view arena.old).words id at bytes.now) }
-    ensures fits { HasRoom (A.view arena.old) id (words_for 2 count) → IsOk result }
-    ensures named { IfErr result (CanRefuse (A.view arena.old) (words_for 2 count)) }
-    ensures refused { IfErr result (LeavesNull (A.view arena.old) id at (words_for 2 count)) }
+    ensures asked { AsksForObject result (A.view arena.old) id at (words_for 2 count) }
 {
     match init_list(arena, id, at, ElementSize::Byte, count) {
         Ok(start) => {

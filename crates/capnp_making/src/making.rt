@@ -11,10 +11,11 @@ ghost use Rattle.capnp_format.specs.Word.{offset_bits, struct_word, capability_w
 ghost use Rattle.capnp_words.specs.Sizes.{size_number};
 ghost use Rattle.capnp_arena.specs.Taking.{IsFirstFit};
 ghost use Rattle.capnp_arena.specs.View.{KeepsLimits};
-ghost use Rattle.capnp_making.specs.Made.{IsShape, IsFew, AsksWords, zero_struct, zero_structs, zero_list, list_words, IsMadeAt, LeadsTo, LieFrom};
-ghost use Rattle.capnp_making.specs.Memory.{HasRoom, KeepsMemory, TakesNext, TakesWords, StandsBehind, IsRefusedFor};
+ghost use Rattle.capnp_making.specs.Made.{IsShape, IsFew, AsksWords, zero_struct, zero_structs, zero_list, list_words, IsMadeAt};
+ghost use Rattle.capnp_making.specs.Makes.{Allocates, MakesObject, ObjectStartsAt, call_at};
+ghost use Rattle.capnp_making.specs.Memory.{KeepsMemory, TakesNext, StandsBehind, IsRefusedFor};
 ghost use Rattle.capnp_making.specs.Near.{HasOwnRoom, HasStructRoom, HasStructsRoom, StartsBehind, shape_word, with_shape, with_struct, with_list, with_struct_list};
-ghost use Rattle.capnp_making.specs.Stored.{IsReplaced, Puts, PutsOnceZeroed, ZeroesOld};
+ghost use Rattle.capnp_making.specs.Stored.{IsReplaced, Puts, PutsOnceZeroed};
 ghost use Rattle.capnp_making.specs.Zeroed.{IsPruned, IsPrunedBut};
 ghost use Rattle.capnp_arena.specs.Written.{with_word};
 
@@ -78,16 +79,14 @@ fn put_object<A: BuilderArena>(
     requires small { amount < 2 ^ 31 }
     ensures made { IfOk result (IsMadeAt (A.view arena.old).words
         (A.view arena.new).words id at shape amount) }
-    ensures fits { HasRoom (A.view arena.old) id amount → IsOk result }
-    ensures granted { OnOk result (KeepsMemory (A.view arena.old) (A.view arena.new)) }
-    ensures taken { OnOk result (TakesWords (A.view arena.old) (A.view arena.new) id amount) }
+    ensures memory { Allocates result (call_at id at (A.view arena.old) (A.view arena.new))
+        amount }
     ensures behind { IfOk result (StandsBehind (A.view arena.old) id amount) }
     ensures near { HasOwnRoom (A.view arena.old) id amount
         → OnOk result
         ((A.view arena.new).words ≡ with_shape (A.view arena.old).words id at shape amount) }
     ensures at_end { HasOwnRoom (A.view arena.old) id amount
         → IfOk result (StartsBehind (A.view arena.old).words id) }
-    ensures named { IfErr result (IsRefusedFor (A.view arena.old) (A.view arena.new) amount) }
     ensures refused { OnErr result ((A.view arena.new).words ≡ (A.view arena.old).words) }
 {
     match arena.allocate(id, amount) {
@@ -181,23 +180,17 @@ pub fn make_struct<A: BuilderArena>(
     requires place { IsPlace (A.view arena.old).words id at }
     ensures made { OnOk result (IsReplaced (A.view arena.old).words
         (A.view arena.new).words id at Null (zero_struct size)) }
-    ensures start { IfOk result (LeadsTo (A.view arena.new).words id at) }
-    ensures inside { IfOk result (LieFrom (A.view arena.new).words
+    ensures start { IfOk result
+        (ObjectStartsAt (call_at id at (A.view arena.old) (A.view arena.new))
         (size.data_words + size.pointers)) }
-    ensures fits { HasRoom (A.view arena.old) id (size.data_words + size.pointers) → IsOk result }
-    ensures granted { OnOk result (KeepsMemory (A.view arena.old) (A.view arena.new)) }
-    ensures taken { OnOk result (TakesWords (A.view arena.old) (A.view arena.new) id
-        (size.data_words + size.pointers)) }
-    ensures behind { IfOk result (StandsBehind (A.view arena.old) id
-        (size.data_words + size.pointers)) }
+    ensures memory { Allocates result (call_at id at (A.view arena.old) (A.view arena.new))
+        (size.data_words + size.pointers) }
     ensures near { HasStructRoom (A.view arena.old) id size
         → OnOk result ((A.view arena.new).words ≡ with_struct (A.view arena.old).words id at size) }
     ensures empty { size.data_words + size.pointers ≡ 0
         → OnOk result
         ((A.view arena.new).words ≡ with_word (A.view arena.old).words id at
         (struct_word (2 ^ 30 - 1) 0 0)) }
-    ensures named { IfErr result
-        (IsRefusedFor (A.view arena.old) (A.view arena.new) (size.data_words + size.pointers)) }
     ensures refused { OnErr result ((A.view arena.new).words ≡ (A.view arena.old).words) }
 {
     let words = size.total();
@@ -219,28 +212,15 @@ pub fn init_struct<A: BuilderArena>(
     size: StructSize,
 ) -> Result<Start, ErrorKind>
     requires place { IsPlace (A.view arena.old).words id at }
-    ensures made { OnOk result (Puts (A.view arena.old).words (A.view arena.new).words id at
-        (zero_struct size)) }
+    ensures object { MakesObject result (call_at id at (A.view arena.old) (A.view arena.new))
+        (zero_struct size) (size.data_words + size.pointers) }
     ensures once_zeroed { OnOk result (PutsOnceZeroed (A.view arena.old).words
         (A.view arena.new).words id at (zero_struct size)) }
-    ensures start { IfOk result (LeadsTo (A.view arena.new).words id at) }
-    ensures inside { IfOk result (LieFrom (A.view arena.new).words
-        (size.data_words + size.pointers)) }
-    ensures fits { HasRoom (A.view arena.old) id (size.data_words + size.pointers) → IsOk result }
-    ensures granted { OnOk result (KeepsMemory (A.view arena.old) (A.view arena.new)) }
-    ensures taken { OnOk result (TakesWords (A.view arena.old) (A.view arena.new) id
-        (size.data_words + size.pointers)) }
-    ensures behind { IfOk result (StandsBehind (A.view arena.old) id
+    ensures start { IfOk result
+        (ObjectStartsAt (call_at id at (A.view arena.old) (A.view arena.new))
         (size.data_words + size.pointers)) }
     ensures empty { size.data_words + size.pointers ≡ 0
         → OnOk result (word_at (A.view arena.new).words id at ≡ struct_word (2 ^ 30 - 1) 0 0) }
-    ensures named { IfErr result
-        (IsRefusedFor (A.view arena.old) (A.view arena.new) (size.data_words + size.pointers)) }
-    ensures zeroed { OnOk result (ZeroesOld (A.view arena.old).words
-        (A.view arena.new).words id at) }
-    ensures refused { OnErr result
-        (Puts (A.view arena.old).words (A.view arena.new).words id at Null) }
-    ensures only { OnErr result (IsPruned (A.view arena.old).words (A.view arena.new).words) }
 {
     zero_object(arena, id, at);
     make_struct(arena, id, at, size)
@@ -263,24 +243,17 @@ pub fn make_list<A: BuilderArena>(
     requires plain { size_number size ≤ 6 }
     ensures made { OnOk result (IsReplaced (A.view arena.old).words
         (A.view arena.new).words id at Null (zero_list (size_number size) count)) }
-    ensures start { IfOk result (LeadsTo (A.view arena.new).words id at) }
-    ensures inside { IfOk result (LieFrom (A.view arena.new).words
+    ensures start { IfOk result
+        (ObjectStartsAt (call_at id at (A.view arena.old) (A.view arena.new))
         (list_words (size_number size) count)) }
-    ensures fits { HasRoom (A.view arena.old) id (list_words (size_number size) count)
-        → IsOk result }
-    ensures granted { OnOk result (KeepsMemory (A.view arena.old) (A.view arena.new)) }
-    ensures taken { OnOk result (TakesWords (A.view arena.old) (A.view arena.new) id
-        (list_words (size_number size) count)) }
-    ensures behind { IfOk result (StandsBehind (A.view arena.old) id
-        (list_words (size_number size) count)) }
+    ensures memory { Allocates result (call_at id at (A.view arena.old) (A.view arena.new))
+        (list_words (size_number size) count) }
     ensures near { HasOwnRoom (A.view arena.old) id (list_words (size_number size) count)
         → OnOk result
         ((A.view arena.new).words ≡ with_list (A.view arena.old).words id at
         (size_number size) count) }
     ensures at_end { HasOwnRoom (A.view arena.old) id (list_words (size_number size) count)
         → IfOk result (StartsBehind (A.view arena.old).words id) }
-    ensures named { IfErr result
-        (IsRefusedFor (A.view arena.old) (A.view arena.new) (list_words (size_number size) count)) }
     ensures refused { OnErr result ((A.view arena.new).words ≡ (A.view arena.old).words) }
 {
     let words = words_of_list(size, count);
@@ -301,29 +274,15 @@ pub fn init_list<A: BuilderArena>(
     requires place { IsPlace (A.view arena.old).words id at }
     requires few { count < 2 ^ 29 }
     requires plain { size_number size ≤ 6 }
-    ensures made { OnOk result (Puts (A.view arena.old).words (A.view arena.new).words id at
-        (zero_list (size_number size) count)) }
+    ensures object { MakesObject result (call_at id at (A.view arena.old) (A.view arena.new))
+        (zero_list (size_number size) count) (list_words (size_number size) count) }
     ensures once_zeroed { OnOk result (PutsOnceZeroed (A.view arena.old).words
         (A.view arena.new).words id at (zero_list (size_number size) count)) }
-    ensures start { IfOk result (LeadsTo (A.view arena.new).words id at) }
-    ensures inside { IfOk result (LieFrom (A.view arena.new).words
-        (list_words (size_number size) count)) }
-    ensures fits { HasRoom (A.view arena.old) id (list_words (size_number size) count)
-        → IsOk result }
-    ensures granted { OnOk result (KeepsMemory (A.view arena.old) (A.view arena.new)) }
-    ensures taken { OnOk result (TakesWords (A.view arena.old) (A.view arena.new) id
-        (list_words (size_number size) count)) }
-    ensures behind { IfOk result (StandsBehind (A.view arena.old) id
+    ensures start { IfOk result
+        (ObjectStartsAt (call_at id at (A.view arena.old) (A.view arena.new))
         (list_words (size_number size) count)) }
     ensures at_end { HasOwnRoom (A.view arena.old) id (list_words (size_number size) count)
         → IfOk result (StartsBehind (A.view arena.old).words id) }
-    ensures named { IfErr result
-        (IsRefusedFor (A.view arena.old) (A.view arena.new) (list_words (size_number size) count)) }
-    ensures zeroed { OnOk result (ZeroesOld (A.view arena.old).words
-        (A.view arena.new).words id at) }
-    ensures refused { OnErr result
-        (Puts (A.view arena.old).words (A.view arena.new).words id at Null) }
-    ensures only { OnErr result (IsPruned (A.view arena.old).words (A.view arena.new).words) }
 {
     zero_object(arena, id, at);
     make_list(arena, id, at, size, count)
@@ -358,22 +317,14 @@ pub fn make_struct_list<A: BuilderArena>(
     requires words { count * (size.data_words + size.pointers) < 2 ^ 29 }
     ensures made { OnOk result (IsReplaced (A.view arena.old).words
         (A.view arena.new).words id at Null (zero_structs count size)) }
-    ensures start { IfOk result (LeadsTo (A.view arena.new).words id at) }
-    ensures inside { IfOk result (LieFrom (A.view arena.new).words
+    ensures start { IfOk result
+        (ObjectStartsAt (call_at id at (A.view arena.old) (A.view arena.new))
         (1 + count * (size.data_words + size.pointers))) }
-    ensures fits { HasRoom (A.view arena.old) id (1 + count * (size.data_words + size.pointers))
-        → IsOk result }
-    ensures granted { OnOk result (KeepsMemory (A.view arena.old) (A.view arena.new)) }
-    ensures taken { OnOk result (TakesWords (A.view arena.old) (A.view arena.new) id
-        (1 + count * (size.data_words + size.pointers))) }
-    ensures behind { IfOk result (StandsBehind (A.view arena.old) id
-        (1 + count * (size.data_words + size.pointers))) }
+    ensures memory { Allocates result (call_at id at (A.view arena.old) (A.view arena.new))
+        (1 + count * (size.data_words + size.pointers)) }
     ensures near { HasStructsRoom (A.view arena.old) id count size
         → OnOk result
         ((A.view arena.new).words ≡ with_struct_list (A.view arena.old).words id at count size) }
-    ensures named { IfErr result
-        (IsRefusedFor (A.view arena.old) (A.view arena.new)
-        (1 + count * (size.data_words + size.pointers))) }
     ensures refused { OnErr result ((A.view arena.new).words ≡ (A.view arena.old).words) }
 {
     let words = count * size.total();
@@ -401,28 +352,13 @@ pub fn init_struct_list<A: BuilderArena>(
     requires place { IsPlace (A.view arena.old).words id at }
     requires few { count < 2 ^ 30 }
     requires words { count * (size.data_words + size.pointers) < 2 ^ 29 }
-    ensures made { OnOk result (Puts (A.view arena.old).words (A.view arena.new).words id at
-        (zero_structs count size)) }
+    ensures object { MakesObject result (call_at id at (A.view arena.old) (A.view arena.new))
+        (zero_structs count size) (1 + count * (size.data_words + size.pointers)) }
     ensures once_zeroed { OnOk result (PutsOnceZeroed (A.view arena.old).words
         (A.view arena.new).words id at (zero_structs count size)) }
-    ensures start { IfOk result (LeadsTo (A.view arena.new).words id at) }
-    ensures inside { IfOk result (LieFrom (A.view arena.new).words
+    ensures start { IfOk result
+        (ObjectStartsAt (call_at id at (A.view arena.old) (A.view arena.new))
         (1 + count * (size.data_words + size.pointers))) }
-    ensures fits { HasRoom (A.view arena.old) id (1 + count * (size.data_words + size.pointers))
-        → IsOk result }
-    ensures granted { OnOk result (KeepsMemory (A.view arena.old) (A.view arena.new)) }
-    ensures taken { OnOk result (TakesWords (A.view arena.old) (A.view arena.new) id
-        (1 + count * (size.data_words + size.pointers))) }
-    ensures behind { IfOk result (StandsBehind (A.view arena.old) id
-        (1 + count * (size.data_words + size.pointers))) }
-    ensures named { IfErr result
-        (IsRefusedFor (A.view arena.old) (A.view arena.new)
-        (1 + count * (size.data_words + size.pointers))) }
-    ensures zeroed { OnOk result (ZeroesOld (A.view arena.old).words
-        (A.view arena.new).words id at) }
-    ensures refused { OnErr result
-        (Puts (A.view arena.old).words (A.view arena.new).words id at Null) }
-    ensures only { OnErr result (IsPruned (A.view arena.old).words (A.view arena.new).words) }
 {
     zero_object(arena, id, at);
     make_struct_list(arena, id, at, count, size)

@@ -14,7 +14,8 @@ use Rattle.capnp_making.specs.declared.existing.ExistingList.{ExistingList}
 use Rattle.capnp_making.specs.Existing.{list_in}
 use Rattle.capnp_making.specs.Memory.{KeepsMemory}
 use Rattle.capnp_making.specs.Stored.{IsStored}
-use Rattle.capnp_widening.specs.Opening.{Opens, OpensList, HasSections, HasWideStructs, LeadsToAll, refusal_of_words, refusal_of_elements, call_at, CallAt}
+use Rattle.capnp_making.specs.Makes.{call_at, CallAt}
+use Rattle.capnp_widening.specs.Opening.{Opens, OpensList, HasSections, HasWideStructs, LeadsToAll, refusal_of_words, refusal_of_elements}
 use Rattle.capnp_widening.specs.Rooms.{TakesForList}
 use Rattle.capnp_widening.specs.RowsRemade.{WidensList, LeadsToList, RefusesWider}
 use Rattle.capnp_widening.specs.Widened.{fill_elements, LeavesAll, limited, list_widened}

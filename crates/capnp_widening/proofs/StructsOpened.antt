@@ -19,7 +19,8 @@ use Rattle.capnp_making.proofs.Filling.{unchanged}
 use Rattle.capnp_making.proofs.FillingMade.{null_stored}
 use Rattle.capnp_making.proofs.Memory.{keeps_itself, spends_nothing, not_the_allocator, made_refused}
 use Rattle.capnp_making.proofs.Replaced.{grown}
-use Rattle.capnp_widening.specs.Opening.{OpensStruct, call_at}
+use Rattle.capnp_making.specs.Makes.{call_at}
+use Rattle.capnp_widening.specs.Opening.{OpensStruct}
 use Rattle.capnp_widening.specs.Rooms.{all_words, TakesAtMost, TakesForStruct}
 use Rattle.capnp_widening.specs.Widened.{fill_words, fill_trees, GrowsByZeros, WidensStruct, LeavesAll, LeadsToStruct, IsNoWider}
 use Rattle.capnp_widening.proofs.Filled.{already_wide, wide_words, wide_trees}

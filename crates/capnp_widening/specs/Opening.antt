@@ -14,21 +14,12 @@ use Rattle.capnp_making.specs.declared.existing.ExistingStruct.{ExistingStruct}
 use Rattle.capnp_making.specs.declared.making.Start.{Start}
 use Rattle.capnp_making.specs.Existing.{list_in, struct_in, LiesIn}
 use Rattle.capnp_making.specs.Made.{zero_struct}
+use Rattle.capnp_making.specs.Makes.{CallAt}
 use Rattle.capnp_making.specs.Memory.{KeepsMemory, SpendsMemory, RefusesGrowth}
 use Rattle.capnp_making.specs.Stored.{IsReplaced}
 use Rattle.capnp_widening.specs.Rooms.{TakesAtMost, object_words, pointers_in}
 use Rattle.capnp_widening.specs.RowsRemade.{ListLiesIn}
 use Rattle.capnp_widening.specs.Widened.{fill_words, fill_trees, list_widened}
-
--- A call at a place of a message: the place, and the message before the call and after it.
-pub record CallAt : Type 0 where
-  pub segment : ℕ
-  pub at : ℕ
-  pub old : View
-  pub new : View
-
-abbrev pub call_at : ℕ → ℕ → View → View → CallAt
-call_at s p old new = record { segment = s; at = p; old = old; new = new }
 
 -- The struct whose sections start at a place.
 abbrev pub struct_at : Start → StructSize → ExistingStruct

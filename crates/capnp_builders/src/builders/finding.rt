@@ -28,7 +28,7 @@ use capnp_words::error::ErrorKind;
 use capnp_words::wire_pointer::{ElementSize, StructSize};
 
 impl<'a, A: BuilderArena> PointerBuilder<'a, A> {
-    ghost use Rattle.capnp_builders.specs.Building.{IsNull, IsThere, OfStored, Leaves, built, calling, calling_last};
+    ghost use Rattle.capnp_builders.specs.Building.{IsNull, IsThere, KeepsBuilder, OfStored, Leaves, built, calling, calling_last};
 
     /// Puts the value of a default in place of a null pointer, as it stands ("Default Values"). What isn't
     /// null stays, and so does null where there is no default, or one whose first word is null.
@@ -55,8 +55,7 @@ impl<'a, A: BuilderArena> PointerBuilder<'a, A> {
         ensures memory { IfErr result
             (SpendsMemory (A.view self.old.arena.now) (A.view self.new.arena.now)) }
         ensures there { IsThere (built A.view self.new) }
-        ensures same { self.new.arena.ghost_name ≡ self.old.arena.ghost_name }
-        ensures builder { (self.new.segment ≡ self.old.segment) × (self.new.at ≡ self.old.at) }
+        ensures builder { KeepsBuilder self.old self.new }
     {
         put_default(&mut *self.arena, self.segment, self.at, default)
     }
@@ -90,8 +89,7 @@ impl<'a, A: BuilderArena> PointerBuilder<'a, A> {
         ensures memory { IfErr result
             (SpendsMemory (A.view self.old.arena.now) (A.view self.new.arena.now)) }
         ensures there { OfStored (built A.view self.old) (λ t. IsThere (built A.view self.new)) }
-        ensures same { self.new.arena.ghost_name ≡ self.old.arena.ghost_name }
-        ensures builder { (self.new.segment ≡ self.old.segment) × (self.new.at ≡ self.old.at) }
+        ensures builder { KeepsBuilder self.old self.new }
     {
         match put_default(&mut *self.arena, self.segment, self.at, default) {
             Ok(()) => match open_struct(&mut *self.arena, self.segment, self.at, size) {
@@ -162,8 +160,7 @@ impl<'a, A: BuilderArena> PointerBuilder<'a, A> {
         ensures memory { IfErr result
             (SpendsMemory (A.view self.old.arena.now) (A.view self.new.arena.now)) }
         ensures there { OfStored (built A.view self.old) (λ t. IsThere (built A.view self.new)) }
-        ensures same { self.new.arena.ghost_name ≡ self.old.arena.ghost_name }
-        ensures builder { (self.new.segment ≡ self.old.segment) × (self.new.at ≡ self.old.at) }
+        ensures builder { KeepsBuilder self.old self.new }
     {
         match put_default(&mut *self.arena, self.segment, self.at, default) {
             Ok(()) => match open_struct_list(&mut *self.arena, self.segment, self.at, size) {
@@ -232,8 +229,7 @@ impl<'a, A: BuilderArena> PointerBuilder<'a, A> {
         ensures memory { IfErr result
             (SpendsMemory (A.view self.old.arena.now) (A.view self.new.arena.now)) }
         ensures there { IsThere (built A.view self.new) }
-        ensures same { self.new.arena.ghost_name ≡ self.old.arena.ghost_name }
-        ensures builder { (self.new.segment ≡ self.old.segment) × (self.new.at ≡ self.old.at) }
+        ensures builder { KeepsBuilder self.old self.new }
     {
         match put_default(&mut *self.arena, self.segment, self.at, default) {
             Ok(()) => look_for_list(&*self.arena, self.segment, self.at, size),
@@ -289,8 +285,7 @@ impl<'a, A: BuilderArena> PointerBuilder<'a, A> {
         ensures memory { IfErr result
             (SpendsMemory (A.view self.old.arena.now) (A.view self.new.arena.now)) }
         ensures there { IsThere (built A.view self.new) }
-        ensures same { self.new.arena.ghost_name ≡ self.old.arena.ghost_name }
-        ensures builder { (self.new.segment ≡ self.old.segment) × (self.new.at ≡ self.old.at) }
+        ensures builder { KeepsBuilder self.old self.new }
     {
         match put_blob_default(&mut *self.arena, self.segment, self.at, default) {
             Ok(()) => look_for_data(&*self.arena, self.segment, self.at),
@@ -342,8 +337,7 @@ impl<'a, A: BuilderArena> PointerBuilder<'a, A> {
         ensures memory { IfErr result
             (SpendsMemory (A.view self.old.arena.now) (A.view self.new.arena.now)) }
         ensures there { IsThere (built A.view self.new) }
-        ensures same { self.new.arena.ghost_name ≡ self.old.arena.ghost_name }
-        ensures builder { (self.new.segment ≡ self.old.segment) × (self.new.at ≡ self.old.at) }
+        ensures builder { KeepsBuilder self.old self.new }
     {
         match put_blob_default(&mut *self.arena, self.segment, self.at, default) {
             Ok(()) => look_for_text(&*self.arena, self.segment, self.at),

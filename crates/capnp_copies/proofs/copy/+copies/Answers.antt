@@ -425,7 +425,7 @@ pub lists::copy_pointers-copy_in_line-requires : goal.lists::copy_pointers-copy_
 lists::copy_pointers-copy_in_line-requires g t c κs within =
     let S : Segments = (g.A.BuilderArena.view c.args.arena.now).words in
     let M : Segments = (g.A.BuilderArena.view c.make_list.new.arena).words in
-    let begun : IsBegun S M c.args.id c.args.at c.args.count c.in-Ok.start (Pointers (nulls c.args.count)) = record { made = c.in-Ok.ensures.made; start = c.in-Ok.ensures.start; inside = c.in-Ok.ensures.inside } in
+    let begun : IsBegun S M c.args.id c.args.at c.args.count c.in-Ok.start (Pointers (nulls c.args.count)) = record { made = c.in-Ok.ensures.made; start = c.in-Ok.ensures.start.leads; inside = c.in-Ok.ensures.start.inside } in
     let ROOM : c.in-Ok.start.at + c.args.count ≤ length (segment M c.in-Ok.start.segment) = begun.inside.1 in
     let NULL : (i : ℕ) → i < c.args.count → word_at M c.in-Ok.start.segment (c.in-Ok.start.at + i) ≡ 0 = pointers_ready S M c.args.id c.args.at c.args.count c.in-Ok.start begun in
     search rules
@@ -433,33 +433,33 @@ lists::copy_pointers-copy_in_line-requires g t c κs within =
 pub lists::copy_pointers-returns-in-Ok-clause-copied : goal.lists::copy_pointers-returns-in-Ok-clause-copied
 lists::copy_pointers-returns-in-Ok-clause-copied g t c =
     let begun : ObjectBegun c.args.id c.args.at c.args.count (g.A.BuilderArena.view c.args.arena.now) (g.A.BuilderArena.view c.make_list.new.arena) c.in-Ok.start (Pointers (nulls c.args.count)) =
-    record { begun = record { made = c.in-Ok.ensures.made; start = c.in-Ok.ensures.start; inside = c.in-Ok.ensures.inside }; memory = c.in-Ok.ensures.granted } in
-    ok_so c.copy_in_line.result _ _ c.copy_in_line.ensures.copied (λ x made. pointers_copied begun (record { place = c.requires.place; memory = c.in-Ok.ensures.granted; taken = c.in-Ok.ensures.taken; near = c.in-Ok.ensures.near; at_end = c.in-Ok.ensures.at_end }) made)
+    record { begun = record { made = c.in-Ok.ensures.made; start = c.in-Ok.ensures.start.leads; inside = c.in-Ok.ensures.start.inside }; memory = c.in-Ok.ensures.memory.granted } in
+    ok_so c.copy_in_line.result _ _ c.copy_in_line.ensures.copied (λ x made. pointers_copied begun (record { place = c.requires.place; memory = c.in-Ok.ensures.memory.granted; taken = c.in-Ok.ensures.memory.taken; near = c.in-Ok.ensures.near; at_end = c.in-Ok.ensures.at_end }) made)
 
 pub lists::copy_pointers-returns-in-Ok-clause-refused : goal.lists::copy_pointers-returns-in-Ok-clause-refused
 lists::copy_pointers-returns-in-Ok-clause-refused g t c =
     let begun : ObjectBegun c.args.id c.args.at c.args.count (g.A.BuilderArena.view c.args.arena.now) (g.A.BuilderArena.view c.make_list.new.arena) c.in-Ok.start (Pointers (nulls c.args.count)) =
-    record { begun = record { made = c.in-Ok.ensures.made; start = c.in-Ok.ensures.start; inside = c.in-Ok.ensures.inside }; memory = c.in-Ok.ensures.granted } in
-    err_so c.copy_in_line.result _ _ c.copy_in_line.ensures.refused (λ k stop. pointers_stop begun (record { place = c.requires.place; memory = c.in-Ok.ensures.granted; taken = c.in-Ok.ensures.taken; behind = c.in-Ok.ensures.behind }) c.in-Ok.ensures.at_end stop)
+    record { begun = record { made = c.in-Ok.ensures.made; start = c.in-Ok.ensures.start.leads; inside = c.in-Ok.ensures.start.inside }; memory = c.in-Ok.ensures.memory.granted } in
+    err_so c.copy_in_line.result _ _ c.copy_in_line.ensures.refused (λ k stop. pointers_stop begun (record { place = c.requires.place; memory = c.in-Ok.ensures.memory.granted; taken = c.in-Ok.ensures.memory.taken; behind = c.in-Ok.ensures.start.behind }) c.in-Ok.ensures.at_end stop)
 
 pub lists::copy_pointers-returns-in-Ok-clause-taken : goal.lists::copy_pointers-returns-in-Ok-clause-taken
 lists::copy_pointers-returns-in-Ok-clause-taken g t c =
     let begun : Begins c.args.id c.in-Ok.start.segment c.args.count (g.A.BuilderArena.view c.args.arena.now) (g.A.BuilderArena.view c.make_list.new.arena) =
-    record { there = there (g.A.BuilderArena.view c.args.arena.now).words c.args.id c.args.at c.requires.place; taken = c.in-Ok.ensures.taken; memory = c.in-Ok.ensures.granted; near = λ room. (c.in-Ok.ensures.at_end room).0; far = λ full. (c.in-Ok.ensures.behind.far full).0 } in
+    record { there = there (g.A.BuilderArena.view c.args.arena.now).words c.args.id c.args.at c.requires.place; taken = c.in-Ok.ensures.memory.taken; memory = c.in-Ok.ensures.memory.granted; near = λ room. (c.in-Ok.ensures.at_end room).0; far = λ full. (c.in-Ok.ensures.start.behind.far full).0 } in
     taken_so c.copy_in_line.result _ _ _ _ (λ x. all_behind begun (omega arith) x) (λ x. inr (among_behind (omega arith) begun (omega arith) x)) c.copy_in_line.ensures.taken
 
 pub lists::copy_pointers-returns-in-Err-clause-refused : goal.lists::copy_pointers-returns-in-Err-clause-refused
 lists::copy_pointers-returns-in-Err-clause-refused g t c =
-    let full : HasRoom (g.A.BuilderArena.view c.args.arena.now) c.args.id c.args.count → ⊥ = λ room. absurd (false≢true (c.in-Err.ensures.fits room)) in
+    let full : HasRoom (g.A.BuilderArena.view c.args.arena.now) c.args.id c.args.count → ⊥ = λ room. absurd (false≢true (c.in-Err.ensures.memory.fits room)) in
     let none = nothing_made (form_in c.args.form) c.args.id c.args.at c.args.count (g.A.BuilderArena.view c.args.arena.now) (g.A.BuilderArena.view c.make_list.new.arena) c.args.lim.now c.args.lim.now c.in-Err.k c.requires.place c.requires.null
-    c.in-Err.ensures.named c.in-Err.ensures.refused full in
+    c.in-Err.ensures.memory.named c.in-Err.ensures.refused full in
     record { why = inl (c.args.count, none.0, inl (refl, refl), no_pointers_room (form_in c.args.form) (reading g.B.ReaderArena c.args.from) c.args.count c.args.id (g.A.BuilderArena.view c.args.arena.now) full); off = inl refl; left = none.1 }
 
 -- Lists of structs.
 
 pub lists::copy_pointers-returns-in-Err-clause-taken : goal.lists::copy_pointers-returns-in-Err-clause-taken
 lists::copy_pointers-returns-in-Err-clause-taken g t c =
-    inl (nothing_taken (none_refused (g.A.BuilderArena.view c.args.arena.now) (g.A.BuilderArena.view c.make_list.new.arena) c.args.count c.in-Err.k c.in-Err.ensures.named c.in-Err.ensures.refused))
+    inl (nothing_taken (none_refused (g.A.BuilderArena.view c.args.arena.now) (g.A.BuilderArena.view c.make_list.new.arena) c.args.count c.in-Err.k c.in-Err.ensures.memory.named c.in-Err.ensures.refused))
 
 pub lists::copy_structs-copy_elements-requires : goal.lists::copy_structs-copy_elements-requires
 lists::copy_structs-copy_elements-requires g t c κs within =
@@ -467,7 +467,7 @@ lists::copy_structs-copy_elements-requires g t c κs within =
     let least = c.kept_widths-kept.result in
     let S : Segments = (g.A.BuilderArena.view c.args.arena.now).words in
     let M : Segments = (g.A.BuilderArena.view c.make_struct_list.new.arena).words in
-    let begun : IsBegun S M c.args.id c.args.at (1 + c.args.count * (least.data_words + least.pointers)) c.in-Ok.list (zero_structs c.args.count least) = record { made = c.in-Ok.ensures.made; start = c.in-Ok.ensures.start; inside = c.in-Ok.ensures.inside } in
+    let begun : IsBegun S M c.args.id c.args.at (1 + c.args.count * (least.data_words + least.pointers)) c.in-Ok.list (zero_structs c.args.count least) = record { made = c.in-Ok.ensures.made; start = c.in-Ok.ensures.start.leads; inside = c.in-Ok.ensures.start.inside } in
     let ROOM : c.in-Ok.list.at + 1 + c.args.count * (least.data_words + least.pointers) ≤ length (segment M c.in-Ok.list.segment) = omega (arith, begun.inside.1) in
     let ZERO : (i : ℕ) → i < c.args.count * (least.data_words + least.pointers) → word_at M c.in-Ok.list.segment (c.in-Ok.list.at + 1 + i) ≡ 0 = structs_ready S M c.args.id c.args.at least.data_words least.pointers c.args.count c.in-Ok.list begun in
     let POINTERS : KeepsPointers (form_in c.args.form) from (record { source = c.args.size; kept = least }) c.args.count = widths_keep (form_in c.args.form) from (record { source = c.args.size; kept = least }) c.args.count c.kept_widths-kept.ensures.kept in
@@ -477,30 +477,30 @@ pub lists::copy_structs-returns-in-Ok-clause-copied : goal.lists::copy_structs-r
 lists::copy_structs-returns-in-Ok-clause-copied g t c =
     let least = c.kept_widths-kept.result in
     let begun : ObjectBegun c.args.id c.args.at (1 + c.args.count * (least.data_words + least.pointers)) (g.A.BuilderArena.view c.args.arena.now) (g.A.BuilderArena.view c.make_struct_list.new.arena) c.in-Ok.list (zero_structs c.args.count least) =
-    record { begun = record { made = c.in-Ok.ensures.made; start = c.in-Ok.ensures.start; inside = c.in-Ok.ensures.inside }; memory = c.in-Ok.ensures.granted } in
-    ok_so c.copy_elements.result _ _ c.copy_elements.ensures.copied (λ x made. structs_copied c.requires.inside c.kept_widths-kept.ensures.kept begun (record { place = c.requires.place; memory = c.in-Ok.ensures.granted; taken = c.in-Ok.ensures.taken; behind = c.in-Ok.ensures.behind; near = c.in-Ok.ensures.near }) made)
+    record { begun = record { made = c.in-Ok.ensures.made; start = c.in-Ok.ensures.start.leads; inside = c.in-Ok.ensures.start.inside }; memory = c.in-Ok.ensures.memory.granted } in
+    ok_so c.copy_elements.result _ _ c.copy_elements.ensures.copied (λ x made. structs_copied c.requires.inside c.kept_widths-kept.ensures.kept begun (record { place = c.requires.place; memory = c.in-Ok.ensures.memory.granted; taken = c.in-Ok.ensures.memory.taken; behind = c.in-Ok.ensures.start.behind; near = c.in-Ok.ensures.near }) made)
 
 pub lists::copy_structs-returns-in-Ok-clause-refused : goal.lists::copy_structs-returns-in-Ok-clause-refused
 lists::copy_structs-returns-in-Ok-clause-refused g t c =
     let least = c.kept_widths-kept.result in
     let begun : ObjectBegun c.args.id c.args.at (1 + c.args.count * (least.data_words + least.pointers)) (g.A.BuilderArena.view c.args.arena.now) (g.A.BuilderArena.view c.make_struct_list.new.arena) c.in-Ok.list (zero_structs c.args.count least) =
-    record { begun = record { made = c.in-Ok.ensures.made; start = c.in-Ok.ensures.start; inside = c.in-Ok.ensures.inside }; memory = c.in-Ok.ensures.granted } in
-    err_so c.copy_elements.result _ _ c.copy_elements.ensures.refused (λ k stop. structs_stop c.requires.inside c.kept_widths-kept.ensures.kept begun (record { place = c.requires.place; memory = c.in-Ok.ensures.granted; taken = c.in-Ok.ensures.taken; behind = c.in-Ok.ensures.behind; near = c.in-Ok.ensures.near }) stop)
+    record { begun = record { made = c.in-Ok.ensures.made; start = c.in-Ok.ensures.start.leads; inside = c.in-Ok.ensures.start.inside }; memory = c.in-Ok.ensures.memory.granted } in
+    err_so c.copy_elements.result _ _ c.copy_elements.ensures.refused (λ k stop. structs_stop c.requires.inside c.kept_widths-kept.ensures.kept begun (record { place = c.requires.place; memory = c.in-Ok.ensures.memory.granted; taken = c.in-Ok.ensures.memory.taken; behind = c.in-Ok.ensures.start.behind; near = c.in-Ok.ensures.near }) stop)
 
 pub lists::copy_structs-returns-in-Ok-clause-taken : goal.lists::copy_structs-returns-in-Ok-clause-taken
 lists::copy_structs-returns-in-Ok-clause-taken g t c =
     let least = c.kept_widths-kept.result in
     let less = no_wider c.args.count least.data_words least.pointers c.args.size.data_words c.args.size.pointers c.kept_widths-kept.ensures.less_data c.kept_widths-kept.ensures.less_pointers in
     let begun : Begins c.args.id c.in-Ok.list.segment (1 + c.args.count * (least.data_words + least.pointers)) (g.A.BuilderArena.view c.args.arena.now) (g.A.BuilderArena.view c.make_struct_list.new.arena) =
-    record { there = there (g.A.BuilderArena.view c.args.arena.now).words c.args.id c.args.at c.requires.place; taken = c.in-Ok.ensures.taken; memory = c.in-Ok.ensures.granted; near = λ room. (c.in-Ok.ensures.behind.near (omega arith) room).0; far = λ full. (c.in-Ok.ensures.behind.far full).0 } in
+    record { there = there (g.A.BuilderArena.view c.args.arena.now).words c.args.id c.args.at c.requires.place; taken = c.in-Ok.ensures.memory.taken; memory = c.in-Ok.ensures.memory.granted; near = λ room. (c.in-Ok.ensures.start.behind.near (omega arith) room).0; far = λ full. (c.in-Ok.ensures.start.behind.far full).0 } in
     taken_so c.copy_elements.result _ _ _ _ (λ x. elements_behind begun (omega (arith, less)) x) (λ x. inr (among_elements_behind begun (omega (arith, less)) x)) c.copy_elements.ensures.taken
 
 pub lists::copy_structs-returns-in-Err-clause-refused : goal.lists::copy_structs-returns-in-Err-clause-refused
 lists::copy_structs-returns-in-Err-clause-refused g t c =
     let least = c.kept_widths-kept.result in
-    let full : HasRoom (g.A.BuilderArena.view c.args.arena.now) c.args.id (1 + c.args.count * (least.data_words + least.pointers)) → ⊥ = λ room. absurd (false≢true (c.in-Err.ensures.fits room)) in
+    let full : HasRoom (g.A.BuilderArena.view c.args.arena.now) c.args.id (1 + c.args.count * (least.data_words + least.pointers)) → ⊥ = λ room. absurd (false≢true (c.in-Err.ensures.memory.fits room)) in
     let none = nothing_made (form_in c.args.form) c.args.id c.args.at (1 + c.args.count * (least.data_words + least.pointers)) (g.A.BuilderArena.view c.args.arena.now) (g.A.BuilderArena.view c.make_struct_list.new.arena) c.args.lim.now c.args.lim.now c.in-Err.k c.requires.place c.requires.null
-    c.in-Err.ensures.named c.in-Err.ensures.refused full in
+    c.in-Err.ensures.memory.named c.in-Err.ensures.refused full in
     record { why = inl (1 + c.args.count * (least.data_words + least.pointers), none.0, inl (refl, least, c.kept_widths-kept.ensures.kept, refl), no_structs_room (reading g.B.ReaderArena c.args.from) c.args.size least c.args.count c.args.id (g.A.BuilderArena.view c.args.arena.now) (form_in c.args.form) c.requires.inside c.kept_widths-kept.ensures.kept full); off = inl refl; left = none.1 }
 
 -- Structs.
@@ -508,20 +508,20 @@ lists::copy_structs-returns-in-Err-clause-refused g t c =
 pub lists::copy_structs-returns-in-Err-clause-taken : goal.lists::copy_structs-returns-in-Err-clause-taken
 lists::copy_structs-returns-in-Err-clause-taken g t c =
     let least = c.kept_widths-kept.result in
-    inl (nothing_taken (none_refused (g.A.BuilderArena.view c.args.arena.now) (g.A.BuilderArena.view c.make_struct_list.new.arena) (1 + c.args.count * (least.data_words + least.pointers)) c.in-Err.k c.in-Err.ensures.named c.in-Err.ensures.refused))
+    inl (nothing_taken (none_refused (g.A.BuilderArena.view c.args.arena.now) (g.A.BuilderArena.view c.make_struct_list.new.arena) (1 + c.args.count * (least.data_words + least.pointers)) c.in-Err.k c.in-Err.ensures.memory.named c.in-Err.ensures.refused))
 
 pub structs::copy_struct-returns-in-Err-clause-refused : goal.structs::copy_struct-returns-in-Err-clause-refused
 structs::copy_struct-returns-in-Err-clause-refused g t c =
     let least = c.kept_sections-kept.result in
-    let full : HasRoom (g.A.BuilderArena.view c.args.arena.now) c.args.id (least.data_words + least.pointers) → ⊥ = λ room. absurd (false≢true (c.in-Err.ensures.fits room)) in
+    let full : HasRoom (g.A.BuilderArena.view c.args.arena.now) c.args.id (least.data_words + least.pointers) → ⊥ = λ room. absurd (false≢true (c.in-Err.ensures.memory.fits room)) in
     let none = nothing_made (form_in c.args.form) c.args.id c.args.at (least.data_words + least.pointers) (g.A.BuilderArena.view c.args.arena.now) (g.A.BuilderArena.view c.make_struct.new.arena) c.args.lim.now c.args.lim.now c.in-Err.k c.requires.place c.requires.null
-    c.in-Err.ensures.named c.in-Err.ensures.refused full in
+    c.in-Err.ensures.memory.named c.in-Err.ensures.refused full in
     record { why = inl (least.data_words + least.pointers, none.0, inl (refl, least, c.kept_sections-kept.ensures.kept, refl), no_struct_room (reading g.B.ReaderArena c.args.from) c.args.size least c.args.id (g.A.BuilderArena.view c.args.arena.now) (form_in c.args.form) c.requires.inside c.kept_sections-kept.ensures.kept full); off = inl refl; left = none.1 }
 
 pub structs::copy_struct-returns-in-Err-clause-taken : goal.structs::copy_struct-returns-in-Err-clause-taken
 structs::copy_struct-returns-in-Err-clause-taken g t c =
     let least = c.kept_sections-kept.result in
-    inl (nothing_taken (none_refused (g.A.BuilderArena.view c.args.arena.now) (g.A.BuilderArena.view c.make_struct.new.arena) (least.data_words + least.pointers) c.in-Err.k c.in-Err.ensures.named c.in-Err.ensures.refused))
+    inl (nothing_taken (none_refused (g.A.BuilderArena.view c.args.arena.now) (g.A.BuilderArena.view c.make_struct.new.arena) (least.data_words + least.pointers) c.in-Err.k c.in-Err.ensures.memory.named c.in-Err.ensures.refused))
 
 pub structs::copy_struct-returns-clause-copied : goal.structs::copy_struct-returns-clause-copied
 structs::copy_struct-returns-clause-copied g t c =
@@ -534,13 +534,13 @@ structs::copy_struct-returns-clause-copied g t c =
       sections = c.kept_sections-kept.ensures.kept;
       less_data = c.kept_sections-kept.ensures.less_data;
       less_pointers = c.kept_sections-kept.ensures.less_pointers;
-      begun = record { made = c.in-Ok.ensures.made; start = c.in-Ok.ensures.start; inside = c.in-Ok.ensures.inside };
-      memory = c.in-Ok.ensures.granted;
+      begun = record { made = c.in-Ok.ensures.made; start = c.in-Ok.ensures.start.leads; inside = c.in-Ok.ensures.start.inside };
+      memory = c.in-Ok.ensures.memory.granted;
       writes = rw section at c.put_words.ensures.words;
       place = c.requires.place;
       within = g.met.A.BuilderArena.within c.put_words.new.arena c.in-Ok.start.segment;
-      taken = c.in-Ok.ensures.taken;
-      behind = c.in-Ok.ensures.behind;
+      taken = c.in-Ok.ensures.memory.taken;
+      behind = c.in-Ok.ensures.start.behind;
       near = c.in-Ok.ensures.near;
       empty = c.in-Ok.ensures.empty;
     } in
@@ -557,13 +557,13 @@ structs::copy_struct-returns-clause-refused g t c =
       sections = c.kept_sections-kept.ensures.kept;
       less_data = c.kept_sections-kept.ensures.less_data;
       less_pointers = c.kept_sections-kept.ensures.less_pointers;
-      begun = record { made = c.in-Ok.ensures.made; start = c.in-Ok.ensures.start; inside = c.in-Ok.ensures.inside };
-      memory = c.in-Ok.ensures.granted;
+      begun = record { made = c.in-Ok.ensures.made; start = c.in-Ok.ensures.start.leads; inside = c.in-Ok.ensures.start.inside };
+      memory = c.in-Ok.ensures.memory.granted;
       writes = rw section at c.put_words.ensures.words;
       place = c.requires.place;
       within = g.met.A.BuilderArena.within c.put_words.new.arena c.in-Ok.start.segment;
-      taken = c.in-Ok.ensures.taken;
-      behind = c.in-Ok.ensures.behind;
+      taken = c.in-Ok.ensures.memory.taken;
+      behind = c.in-Ok.ensures.start.behind;
       near = c.in-Ok.ensures.near;
       empty = c.in-Ok.ensures.empty;
     } in
@@ -572,7 +572,7 @@ structs::copy_struct-returns-clause-refused g t c =
 pub structs::copy_struct-returns-clause-taken : goal.structs::copy_struct-returns-clause-taken
 structs::copy_struct-returns-clause-taken g t c =
     let least = c.kept_sections-kept.result in
-    let made = struct_begins c.args.id c.args.at least (g.A.BuilderArena.view c.args.arena.now) (g.A.BuilderArena.view c.make_struct.new.arena) c.in-Ok.start c.requires.place c.in-Ok.ensures.taken c.in-Ok.ensures.granted c.in-Ok.ensures.behind c.in-Ok.ensures.start c.in-Ok.ensures.empty in
+    let made = struct_begins c.args.id c.args.at least (g.A.BuilderArena.view c.args.arena.now) (g.A.BuilderArena.view c.make_struct.new.arena) c.in-Ok.start c.requires.place c.in-Ok.ensures.memory.taken c.in-Ok.ensures.memory.granted c.in-Ok.ensures.start.behind c.in-Ok.ensures.start.leads c.in-Ok.ensures.empty in
     let nl = to_z-of_z w32 c.args.from.nesting_limit (search rules) in
     let put = c.put_words.ensures.taken in
     let last = none_itself (g.A.BuilderArena.view c.copy_children.new.arena) in
@@ -593,13 +593,13 @@ structs::copy_struct-copy_children-requires g t c κs within =
       sections = c.kept_sections-kept.ensures.kept;
       less_data = c.kept_sections-kept.ensures.less_data;
       less_pointers = c.kept_sections-kept.ensures.less_pointers;
-      begun = record { made = c.in-Ok.ensures.made; start = c.in-Ok.ensures.start; inside = c.in-Ok.ensures.inside };
-      memory = c.in-Ok.ensures.granted;
+      begun = record { made = c.in-Ok.ensures.made; start = c.in-Ok.ensures.start.leads; inside = c.in-Ok.ensures.start.inside };
+      memory = c.in-Ok.ensures.memory.granted;
       writes = rw section at c.put_words.ensures.words;
       place = c.requires.place;
       within = g.met.A.BuilderArena.within c.put_words.new.arena c.in-Ok.start.segment;
-      taken = c.in-Ok.ensures.taken;
-      behind = c.in-Ok.ensures.behind;
+      taken = c.in-Ok.ensures.memory.taken;
+      behind = c.in-Ok.ensures.start.behind;
       near = c.in-Ok.ensures.near;
       empty = c.in-Ok.ensures.empty;
     } in
@@ -611,7 +611,7 @@ pub structs::copy_struct-overflow_add-first : goal.structs::copy_struct-overflow
 structs::copy_struct-overflow_add-first g t c =
     omega (
       arith,
-      c.in-Ok.ensures.inside.1,
+      c.in-Ok.ensures.start.inside.1,
       g.met.A.BuilderArena.within c.make_struct.new.arena c.in-Ok.start.segment,
       g.met.A.BuilderArena.small c.make_struct.new.arena c.in-Ok.start.segment,
       c.from-2.ensures,

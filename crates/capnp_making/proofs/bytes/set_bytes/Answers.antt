@@ -1,7 +1,8 @@
-use Rattle.std.proofs.Common.{ℕ, ap, arith}
+use Rattle.std.proofs.Common.{ℕ, ◌*◌, ◌≤◌, length, ap, refl, rules, arith}
 use Rattle.capnp_format.specs.Numbers.{words_for}
 use Rattle.capnp_format.specs.Segments.{Segments}
 use Rattle.capnp_format.specs.Tree.{Null}
+use Rattle.capnp_arena.specs.View.{View}
 use Rattle.capnp_making.specs.Made.{LeadsTo}
 use Rattle.capnp_making.proofs.BytesWritten.{WritesBytes, bytes_target, bytes_written, written_lengths}
 use Rattle.capnp_making.proofs.OldWords.{old_beside}
@@ -20,47 +21,46 @@ writes g c = record {
   written = λ some holds. c.write_bytes.ensures.written some;
 }
 
--- The list is made of zero bytes, and then its first ones are written.
-pub returns-in-Ok-clause-made : goal.returns-in-Ok-clause-made
-returns-in-Ok-clause-made g c =
-    let S : Segments = (g.A.BuilderArena.view c.args.arena.now).words in
-    let M : Segments = (g.A.BuilderArena.view c.init_list.new.arena).words in
-    let R : Segments = (g.A.BuilderArena.view c.write_bytes.new.arena).words in
-    λ t stored. bytes_written S M R c.args.id c.args.at c.args.count t c.in-Ok.start c.args.from.now (writes g c) (c.in-Ok.ensures.made t stored) c.in-Ok.ensures.start c.requires.enough
-
--- No segment is longer or shorter for these.
-pub returns-in-Ok-clause-taken : goal.returns-in-Ok-clause-taken
-returns-in-Ok-clause-taken g c =
-    let M : Segments = (g.A.BuilderArena.view c.init_list.new.arena).words in
-    let R : Segments = (g.A.BuilderArena.view c.write_bytes.new.arena).words in
-    let k : ℕ = words_for 2 c.args.count in
-    let long = written_lengths M R c.in-Ok.start c.args.from.now k (writes g c) (omega (arith, c.requires.enough)) c.in-Ok.ensures.inside.1 in
-    takes_written _ _ _ c.args.id k c.in-Ok.ensures.taken long.segments long.words
-
--- They stand behind all words that were there.
-pub returns-in-Ok-clause-zeroed : goal.returns-in-Ok-clause-zeroed
-returns-in-Ok-clause-zeroed g c =
-    let k : ℕ = words_for 2 c.args.count in
-    old_beside (g.A.BuilderArena.view c.args.arena.now) _ _ c.args.id c.args.at k c.in-Ok.start c.args.from.now c.in-Ok.ensures.zeroed c.in-Ok.ensures.behind (writes g c) (omega (arith, c.requires.enough)) c.in-Ok.ensures.inside.1
-
-pub returns-in-Ok-clause-once_zeroed : goal.returns-in-Ok-clause-once_zeroed
-returns-in-Ok-clause-once_zeroed g c =
-    let M : Segments = (g.A.BuilderArena.view c.init_list.new.arena).words in
-    let R : Segments = (g.A.BuilderArena.view c.write_bytes.new.arena).words in
-    let (N, pruned, made) = c.in-Ok.ensures.once_zeroed in
-    (N, pruned, bytes_written N M R c.args.id c.args.at c.args.count Null c.in-Ok.start c.args.from.now (writes g c) made c.in-Ok.ensures.start c.requires.enough)
-
 -- And the pointer still leads to the list.
 leads : (g : _) (c : goal.After-write_bytes g) → LeadsTo (g.A.BuilderArena.view c.write_bytes.new.arena).words c.args.id c.args.at c.in-Ok.start
 leads g c =
     let M : Segments = (g.A.BuilderArena.view c.init_list.new.arena).words in
     let R : Segments = (g.A.BuilderArena.view c.write_bytes.new.arena).words in
     let (N, pruned, made) = c.in-Ok.ensures.once_zeroed in
-    bytes_target M R c.args.id c.args.at c.args.count c.in-Ok.start c.args.from.now (writes g c) made.stored c.in-Ok.ensures.start c.requires.enough
+    bytes_target M R c.args.id c.args.at c.args.count c.in-Ok.start c.args.from.now (writes g c) made.stored c.in-Ok.ensures.start.leads c.requires.enough
 
-pub returns-in-Ok-clause-behind : goal.returns-in-Ok-clause-behind
-returns-in-Ok-clause-behind g c =
-    leads_behind (g.A.BuilderArena.view c.args.arena.now) (g.A.BuilderArena.view c.write_bytes.new.arena) c.args.id c.args.at _ c.in-Ok.start (leads g c) c.in-Ok.ensures.behind
+-- The list is made of zero bytes, and then its first ones are written: no segment is longer or shorter for these.
+pub returns-in-Ok-clause-object : goal.returns-in-Ok-clause-object
+returns-in-Ok-clause-object g c =
+    let old : View = g.A.BuilderArena.view c.args.arena.now in
+    let mid : View = g.A.BuilderArena.view c.init_list.new.arena in
+    let new : View = g.A.BuilderArena.view c.write_bytes.new.arena in
+    let id : ℕ = c.args.id in
+    let at : ℕ = c.args.at in
+    let k : ℕ = words_for 2 c.args.count in
+    let e = c.in-Ok.ensures in
+    let enough : length c.args.from.now ≤ 8 * k = omega (arith, c.requires.enough) in
+    let long = written_lengths mid.words new.words c.in-Ok.start c.args.from.now k (writes g c) enough e.start.inside.1 in
+    record {
+      made = λ t stored. bytes_written old.words mid.words new.words id at c.args.count t c.in-Ok.start c.args.from.now (writes g c) (e.object.made t stored) e.start.leads c.requires.enough;
+      behind = leads_behind old new id at k c.in-Ok.start (leads g c) e.start.behind;
+      zeroed = old_beside old mid.words new.words id at k c.in-Ok.start c.args.from.now e.object.zeroed e.start.behind (writes g c) enough e.start.inside.1;
+      memory = record {
+        fits = λ room. refl;
+        granted = search rules;
+        taken = takes_written old mid new id k e.object.memory.taken long.segments long.words;
+        named = tt;
+      };
+      refused = tt;
+      only = tt;
+    }
+
+pub returns-in-Ok-clause-once_zeroed : goal.returns-in-Ok-clause-once_zeroed
+returns-in-Ok-clause-once_zeroed g c =
+    let M : Segments = (g.A.BuilderArena.view c.init_list.new.arena).words in
+    let R : Segments = (g.A.BuilderArena.view c.write_bytes.new.arena).words in
+    let (N, pruned, made) = c.in-Ok.ensures.once_zeroed in
+    (N, pruned, bytes_written N M R c.args.id c.args.at c.args.count Null c.in-Ok.start c.args.from.now (writes g c) made c.in-Ok.ensures.start.leads c.requires.enough)
 
 pub returns-in-Ok-clause-at_end : goal.returns-in-Ok-clause-at_end
 returns-in-Ok-clause-at_end g c =

@@ -1,4 +1,4 @@
-use Rattle.std.proofs.Common.{◌≡◌, ◌+◌, ◌*◌, ◌∷◌, ℕ, replicate, ap, sym, ap₂, ◌∙◌, arith}
+use Rattle.std.proofs.Common.{◌≡◌, ◌+◌, ◌*◌, ◌∷◌, ℕ, replicate, ap, sym, ap₂, ◌∙◌, refl, rules, arith}
 use Rattle.capnp_format.specs.Means.{IsTag}
 use Rattle.capnp_format.specs.Segments.{Segments}
 use Rattle.capnp_arena.specs.Written.{with_word}
@@ -32,17 +32,23 @@ returns-in-Ok-clause-start g c =
     let (a, m, shape, is_segment, is_start) = c.in-Ok.ensures.made in
     let written = ap words_in c.set_word.ensures ∙ ap₂ (λ u b. with_word M u b c.new_tag-tag.result.0) is_segment is_start in
     let there = structs_lead S M _ c.args.id c.args.at (c.args.count * c.total.result) c.new_tag-tag.result.0 a c.requires.place m written in
-    (is_segment ∙ sym (ap (λ b. b.segment) there), is_start ∙ sym (ap (λ b. b.start) there))
+    record {
+      leads = (is_segment ∙ sym (ap (λ b. b.segment) there), is_start ∙ sym (ap (λ b. b.start) there));
+      inside = search rules;
+      behind = rw c.total.ensures at c.in-Ok.ensures.behind;
+    }
 
-pub returns-in-Err-clause-fits : goal.returns-in-Err-clause-fits
-returns-in-Err-clause-fits g c = λ room. c.in-Err.ensures.fits (rw (sym c.total.ensures) at room)
-
-pub returns-in-Ok-clause-taken : goal.returns-in-Ok-clause-taken
-returns-in-Ok-clause-taken g c =
+pub returns-in-Ok-clause-memory : goal.returns-in-Ok-clause-memory
+returns-in-Ok-clause-memory g c =
     let (a, m, shape, is_segment, is_start) = c.in-Ok.ensures.made in
     let M : Segments = (g.A.BuilderArena.view c.put_object.new.arena).words in
     let put = word_put M (g.A.BuilderArena.view c.set_word.new.self).words c.in-Ok.start.segment c.in-Ok.start.at c.new_tag-tag.result.0 (rw (is_segment, is_start) (omega (arith, m.claims))) (ap words_in c.set_word.ensures) in
-    takes_written _ _ _ c.args.id _ (rw c.total.ensures at c.in-Ok.ensures.taken) put.segments put.words
+    record {
+      fits = λ room. refl;
+      granted = search rules;
+      taken = takes_written _ _ _ c.args.id _ (rw c.total.ensures at c.in-Ok.ensures.memory.taken) put.segments put.words;
+      named = tt;
+    }
 
 pub returns-in-Ok-clause-near : goal.returns-in-Ok-clause-near
 returns-in-Ok-clause-near g c = λ room.

@@ -1,5 +1,5 @@
-use Rattle.std.proofs.Common.{◌≡◌, ◌+◌, ◌∙◌, ℕ, length, refl, ap, arith}
-use Rattle.capnp_format.specs.Segments.{Segments, segment}
+use Rattle.std.proofs.Common.{◌+◌, ◌∙◌, ℕ, refl, ap, arith}
+use Rattle.capnp_format.specs.Segments.{Segments}
 use Rattle.capnp_arena.specs.View.{View}
 use Rattle.capnp_making.specs.Made.{IsGrown, IsShape}
 use Rattle.capnp_making.proofs.Memory.{words_in}

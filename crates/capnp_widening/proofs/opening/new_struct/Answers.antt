@@ -8,11 +8,11 @@ pub returns-in-Ok-clause-opened : goal.returns-in-Ok-clause-opened
 returns-in-Ok-clause-opened g c =
     let a : View = g.A.BuilderArena.view c.args.arena.now in
     let b : View = g.A.BuilderArena.view c.make_struct.new.arena in
-    struct_made a b c.args.id c.args.at c.args.size c.in-Ok.start c.in-Ok.ensures.made c.in-Ok.ensures.granted
-    (takes_words a b c.args.id (c.args.size.data_words + c.args.size.pointers) c.in-Ok.ensures.taken) c.in-Ok.ensures.start
+    struct_made a b c.args.id c.args.at c.args.size c.in-Ok.start c.in-Ok.ensures.made c.in-Ok.ensures.memory.granted
+    (takes_words a b c.args.id (c.args.size.data_words + c.args.size.pointers) c.in-Ok.ensures.memory.taken) c.in-Ok.ensures.start.leads
 
 -- It fits nowhere.
 pub returns-in-Err-clause-opened : goal.returns-in-Err-clause-opened
 returns-in-Err-clause-opened g c =
     struct_unmade (g.A.BuilderArena.view c.args.arena.now) (g.A.BuilderArena.view c.make_struct.new.arena) c.args.id c.args.at (c.args.size.data_words + c.args.size.pointers) c.args.size c.in-Err.k c.requires.place c.requires.null
-    c.in-Err.ensures.refused c.in-Err.ensures.named (λ room. no_truth false refl (c.in-Err.ensures.fits room))
+    c.in-Err.ensures.refused c.in-Err.ensures.memory.named (λ room. no_truth false refl (c.in-Err.ensures.memory.fits room))

@@ -41,8 +41,8 @@ returns-in-Ok-clause-copied g c =
     let packs : digits (2 ^ 64) (length ws) (f % 2 ^ bits) ≡ packed size ns = ap₂ (λ i j. digits (2 ^ 64) i (f % 2 ^ j)) c.requires.all all ∙ sym (packed_again size n ws) in
     let other = ne_eqb size 6 (λ e. omega (arith, c.requires.flat)) in
     let made = subst (λ x. IsReplaced S M c.args.id c.args.at Null (cond x (Pointers (nulls n)) (Flat size (zeros n)))) other c.in-Ok.ensures.made in
-    let inside = subst (λ x. LieFrom M (cond x n (words_for size n)) c.in-Ok.start) other c.in-Ok.ensures.inside in
-    let begun : IsBegun S M c.args.id c.args.at (words_for size n) c.in-Ok.start (Flat size (zeros n)) = record { made = made; start = c.in-Ok.ensures.start; inside = inside } in
+    let inside = subst (λ x. LieFrom M (cond x n (words_for size n)) c.in-Ok.start) other c.in-Ok.ensures.start.inside in
+    let begun : IsBegun S M c.args.id c.args.at (words_for size n) c.in-Ok.start (Flat size (zeros n)) = record { made = made; start = c.in-Ok.ensures.start.leads; inside = inside } in
     flat_whole S M R c.args.id c.args.at size n c.in-Ok.start ns begun (length-digits (2 ^ b) n f) (digits_below (2 ^ b) n f (pow_pos b))
     (ap words_in c.put_elements.ensures ∙ ap (with_words M c.in-Ok.start.segment c.in-Ok.start.at) packs)
 
@@ -67,10 +67,10 @@ returns-in-Ok-clause-stands g c = λ fits.
     let old : View = g.A.BuilderArena.view c.args.arena.now in
     let mid : View = g.A.BuilderArena.view c.make_list.new.arena in
     let new : View = g.A.BuilderArena.view c.put_elements.new.arena in
-    let laid = words_put mid.words new.words c.in-Ok.start.segment c.in-Ok.start.at D (omega (arith, c.in-Ok.ensures.inside.1, length-digits (2 ^ 64) (length ws) (f % 2 ^ bits), c.requires.all, list)) (ap words_in c.put_elements.ensures) in
+    let laid = words_put mid.words new.words c.in-Ok.start.segment c.in-Ok.start.at D (omega (arith, c.in-Ok.ensures.start.inside.1, length-digits (2 ^ 64) (length ws) (f % 2 ^ bits), c.requires.all, list)) (ap words_in c.put_elements.ensures) in
     let longer : length mid.words ≤ length new.words = omega (arith, laid.long.segments) in
     let room : HasOwnRoom old id (list_words size n) =
-    own_room old mid new id c.args.at (list_words size n) c.requires.place c.in-Ok.ensures.taken longer (stay_fewer old new id (words_for size (length ns)) (list_words size n) (omega (arith, ap (words_for size) counts, list)) fits) in
+    own_room old mid new id c.args.at (list_words size n) c.requires.place c.in-Ok.ensures.memory.taken longer (stay_fewer old new id (words_for size (length ns)) (list_words size n) (omega (arith, ap (words_for size) counts, list)) fits) in
     flat_near S id c.args.at size ns D c.requires.place (length-digits (2 ^ 64) (length ws) (f % 2 ^ bits) ∙ c.requires.all ∙ ap (words_for size) (sym counts)) packs
     (ap words_in c.put_elements.ensures
     ∙ ap₂ (λ i k. with_words (g.A.BuilderArena.view c.make_list.new.arena).words i k D) (c.in-Ok.ensures.at_end room).0 (c.in-Ok.ensures.at_end room).1
@@ -90,13 +90,13 @@ returns-in-Ok-clause-taken g c =
     let list : list_words size n ≡ words_for size n = ap (λ x. cond x n (words_for size n)) other in
     let start = c.in-Ok.start in
     let e = c.in-Ok.ensures in
-    let over = none_written mid new start.segment start.at D (omega (arith, e.inside.1, length-digits (2 ^ 64) (length ws) (from_digits (2 ^ 64) ws % 2 ^ (c.from.result * c.from-in-Ok.result)), c.requires.all, list)) c.put_elements.ensures in
-    let begun : Begins c.args.id start.segment (list_words size n) old mid = record { there = there old.words c.args.id c.args.at c.requires.place; taken = e.taken; memory = e.granted; near = λ room. (e.at_end room).0; far = λ full. (e.behind.far full).0 } in
+    let over = none_written mid new start.segment start.at D (omega (arith, e.start.inside.1, length-digits (2 ^ 64) (length ws) (from_digits (2 ^ 64) ws % 2 ^ (c.from.result * c.from-in-Ok.result)), c.requires.all, list)) c.put_elements.ensures in
+    let begun : Begins c.args.id start.segment (list_words size n) old mid = record { there = there old.words c.args.id c.args.at c.requires.place; taken = e.memory.taken; memory = e.memory.granted; near = λ room. (e.at_end room).0; far = λ full. (e.start.behind.far full).0 } in
     made_more (omega (arith, list)) (omega arith) (made_object begun (made_none over))
 
 pub returns-in-Err-clause-taken : goal.returns-in-Err-clause-taken
 returns-in-Err-clause-taken g c =
-    none_refused (g.A.BuilderArena.view c.args.arena.now) (g.A.BuilderArena.view c.make_list.new.arena) (list_words (size_number c.args.size) c.args.count) c.in-Err.k c.in-Err.ensures.named c.in-Err.ensures.refused
+    none_refused (g.A.BuilderArena.view c.args.arena.now) (g.A.BuilderArena.view c.make_list.new.arena) (list_words (size_number c.args.size) c.args.count) c.in-Err.k c.in-Err.ensures.memory.named c.in-Err.ensures.refused
 
 pub returns-in-Err-clause-refused : goal.returns-in-Err-clause-refused
 returns-in-Err-clause-refused g c =
@@ -107,4 +107,4 @@ returns-in-Err-clause-refused g c =
     let other = ne_eqb size 6 (λ e. omega (arith, c.requires.flat)) in
     let list : list_words size n ≡ words_for size n = ap (λ x. cond x n (words_for size n)) other in
     subst (λ i. RefusesWords old new i c.in-Err.k) list
-    (made_refused old new c.args.id (list_words size n) c.in-Err.k c.in-Err.ensures.named c.in-Err.ensures.refused (λ room. absurd (false≢true (c.in-Err.ensures.fits room)))).0
+    (made_refused old new c.args.id (list_words size n) c.in-Err.k c.in-Err.ensures.memory.named c.in-Err.ensures.refused (λ room. absurd (false≢true (c.in-Err.ensures.memory.fits room)))).0

@@ -34,9 +34,9 @@ returns-in-Err-clause-refused g c =
 pub returns-in-Err-make_struct-clause-refused : goal.returns-in-Err-make_struct-clause-refused
 returns-in-Err-make_struct-clause-refused g c =
     let least = c.in-Ok.kept in
-    let full : HasRoom (g.A.BuilderArena.view c.args.arena.now) c.args.id (least.data_words + least.pointers) → ⊥ = λ room. absurd (false≢true (c.in-Err-make_struct.ensures.fits room)) in
+    let full : HasRoom (g.A.BuilderArena.view c.args.arena.now) c.args.id (least.data_words + least.pointers) → ⊥ = λ room. absurd (false≢true (c.in-Err-make_struct.ensures.memory.fits room)) in
     let none = nothing_made (form_of c.args.canonicalize) c.args.id c.args.at (least.data_words + least.pointers) (g.A.BuilderArena.view c.args.arena.now) (g.A.BuilderArena.view c.make_struct.new.arena) c.args.lim.now c.args.lim.now c.in-Err-make_struct.k c.requires.place c.requires.null
-    c.in-Err-make_struct.ensures.named c.in-Err-make_struct.ensures.refused full in
+    c.in-Err-make_struct.ensures.memory.named c.in-Err-make_struct.ensures.refused full in
     let cut : SectionsCut (form_of c.args.canonicalize) (data_of g.B.ReaderArena c.args.value) (pointers_read g.B.ReaderArena c.args.value) c.args.value.pointer_count least = record { inside = c.args.value.inside; of_data = c.in-Ok.ensures.data; of_pointers = c.in-Ok.ensures.pointers } in
     record {
       why = inl (
@@ -56,20 +56,20 @@ put_section-requires-clause-few g c = omega (arith, c.in-Ok.ensures.data, kept_c
 
 pub overflow_add-first : goal.overflow_add-first
 overflow_add-first g c =
-    omega (arith, c.from.ensures, c.in-Ok-make_struct.ensures.inside.1, g.met.A.BuilderArena.within c.make_struct.new.arena c.in-Ok-make_struct.start.segment, g.met.A.BuilderArena.small c.make_struct.new.arena c.in-Ok-make_struct.start.segment)
+    omega (arith, c.from.ensures, c.in-Ok-make_struct.ensures.start.inside.1, g.met.A.BuilderArena.within c.make_struct.new.arena c.in-Ok-make_struct.start.segment, g.met.A.BuilderArena.small c.make_struct.new.arena c.in-Ok-make_struct.start.segment)
 
 pub copy_children-requires : goal.copy_children-requires
 copy_children-requires g c =
     let begun : SectionsBegun (form_of c.args.canonicalize) (data_of g.B.ReaderArena c.args.value) (pointers_read g.B.ReaderArena c.args.value) c.args.value.pointer_count c.in-Ok.kept c.args.id c.args.at (g.A.BuilderArena.view c.args.arena.now) (g.A.BuilderArena.view c.make_struct.new.arena)
     (g.A.BuilderArena.view c.put_section.new.arena) c.in-Ok-make_struct.start = record {
       cut = record { inside = c.args.value.inside; of_data = c.in-Ok.ensures.data; of_pointers = c.in-Ok.ensures.pointers };
-      begun = record { made = c.in-Ok-make_struct.ensures.made; start = c.in-Ok-make_struct.ensures.start; inside = c.in-Ok-make_struct.ensures.inside };
-      memory = c.in-Ok-make_struct.ensures.granted;
+      begun = record { made = c.in-Ok-make_struct.ensures.made; start = c.in-Ok-make_struct.ensures.start.leads; inside = c.in-Ok-make_struct.ensures.start.inside };
+      memory = c.in-Ok-make_struct.ensures.memory.granted;
       writes = c.put_section.ensures;
       place = c.requires.place;
       within = g.met.A.BuilderArena.within c.put_section.new.arena c.in-Ok-make_struct.start.segment;
-      taken = c.in-Ok-make_struct.ensures.taken;
-      behind = c.in-Ok-make_struct.ensures.behind;
+      taken = c.in-Ok-make_struct.ensures.memory.taken;
+      behind = c.in-Ok-make_struct.ensures.start.behind;
       near = c.in-Ok-make_struct.ensures.near;
       empty = c.in-Ok-make_struct.ensures.empty;
     } in
@@ -87,7 +87,7 @@ returns-in-Err-clause-taken g c = inl (nothing_taken (none_itself (g.A.BuilderAr
 pub returns-in-Err-make_struct-clause-taken : goal.returns-in-Err-make_struct-clause-taken
 returns-in-Err-make_struct-clause-taken g c =
     let least = c.in-Ok.kept in
-    inl (nothing_taken (none_refused (g.A.BuilderArena.view c.args.arena.now) (g.A.BuilderArena.view c.make_struct.new.arena) (least.data_words + least.pointers) c.in-Err-make_struct.k c.in-Err-make_struct.ensures.named c.in-Err-make_struct.ensures.refused))
+    inl (nothing_taken (none_refused (g.A.BuilderArena.view c.args.arena.now) (g.A.BuilderArena.view c.make_struct.new.arena) (least.data_words + least.pointers) c.in-Err-make_struct.k c.in-Err-make_struct.ensures.memory.named c.in-Err-make_struct.ensures.refused))
 
 -- The copy of its pointers ends it.
 
@@ -106,21 +106,21 @@ returns g c =
     let start = c.in-Ok-make_struct.start in
     let old : View = g.A.BuilderArena.view c.args.arena.now in
     let e = c.in-Ok-make_struct.ensures in
-    let begins = struct_begins c.args.id c.args.at size old made start c.requires.place e.taken e.granted e.behind e.start e.empty in
-    let over = none_written made put start.segment start.at (take size.data_words ws) (omega (arith, e.inside.1, length-take size.data_words ws)) c.put_section.ensures in
+    let begins = struct_begins c.args.id c.args.at size old made start c.requires.place e.memory.taken e.memory.granted e.start.behind e.start.leads e.empty in
+    let over = none_written made put start.segment start.at (take size.data_words ws) (omega (arith, e.start.inside.1, length-take size.data_words ws)) c.put_section.ensures in
     let last = none_itself (g.A.BuilderArena.view c.copy_children.new.arena) in
     let nl = to_z-of_z w32 value.nesting_limit (search rules) in
     let less : size.data_words + size.pointers ≤ (value.bits + 63) / 64 + value.pointer_count = omega (arith, words_kept, pointers_kept, long) in
     let begun : SectionsBegun (form_of c.args.canonicalize) (data_of g.B.ReaderArena c.args.value) (pointers_read g.B.ReaderArena c.args.value) c.args.value.pointer_count c.in-Ok.kept c.args.id c.args.at (g.A.BuilderArena.view c.args.arena.now) (g.A.BuilderArena.view c.make_struct.new.arena)
     (g.A.BuilderArena.view c.put_section.new.arena) c.in-Ok-make_struct.start = record {
       cut = record { inside = c.args.value.inside; of_data = c.in-Ok.ensures.data; of_pointers = c.in-Ok.ensures.pointers };
-      begun = record { made = c.in-Ok-make_struct.ensures.made; start = c.in-Ok-make_struct.ensures.start; inside = c.in-Ok-make_struct.ensures.inside };
-      memory = c.in-Ok-make_struct.ensures.granted;
+      begun = record { made = c.in-Ok-make_struct.ensures.made; start = c.in-Ok-make_struct.ensures.start.leads; inside = c.in-Ok-make_struct.ensures.start.inside };
+      memory = c.in-Ok-make_struct.ensures.memory.granted;
       writes = c.put_section.ensures;
       place = c.requires.place;
       within = g.met.A.BuilderArena.within c.put_section.new.arena c.in-Ok-make_struct.start.segment;
-      taken = c.in-Ok-make_struct.ensures.taken;
-      behind = c.in-Ok-make_struct.ensures.behind;
+      taken = c.in-Ok-make_struct.ensures.memory.taken;
+      behind = c.in-Ok-make_struct.ensures.start.behind;
       near = c.in-Ok-make_struct.ensures.near;
       empty = c.in-Ok-make_struct.ensures.empty;
     } in

@@ -1,5 +1,5 @@
 use Rattle.std.proofs.Common.{◌≡◌, true, sym, subst}
-use Rattle.capnp_widening.specs.Opening.{call_at}
+use Rattle.capnp_making.specs.Makes.{call_at}
 use Rattle.capnp_edits.specs.declared.edit.tasks.Task.TheVariants.{Search}
 use Rattle.capnp_edits.specs.Tasks.{is_in_range}
 use Rattle.capnp_edits.specs.Edits.{refusal_of, place_of}

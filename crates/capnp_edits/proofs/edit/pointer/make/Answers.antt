@@ -13,7 +13,7 @@ returns-in-ZeroStruct-clause-made g c =
     let place = place_of c.args.pointer.now in
     rw c.done.ensures (
     subst (λ o. IsDoneAt old new place (Make o) (refusal_of c.put_struct.result)) (sym c.in-ZeroStruct.is)
-    (object_made c.put_struct.result old new place (ZeroStruct c.in-ZeroStruct.size) c.put_struct.ensures.made c.put_struct.ensures.granted c.put_struct.ensures.named c.put_struct.ensures.refused c.put_struct.ensures.fits c.put_struct.ensures.taken c.put_struct.ensures.only))
+    (object_made c.put_struct.result old new place (ZeroStruct c.in-ZeroStruct.size) c.put_struct.ensures.object))
 
 pub returns-in-ZeroList-clause-made : goal.returns-in-ZeroList-clause-made
 returns-in-ZeroList-clause-made g c =
@@ -22,7 +22,7 @@ returns-in-ZeroList-clause-made g c =
     let place = place_of c.args.pointer.now in
     rw c.done-in-ZeroList.ensures (
     subst (λ o. IsDoneAt old new place (Make o) (refusal_of c.put_list.result)) (sym c.in-ZeroList.is)
-    (object_made c.put_list.result old new place (ZeroList c.in-ZeroList.size c.in-ZeroList.count) c.put_list.ensures.made c.put_list.ensures.granted c.put_list.ensures.named c.put_list.ensures.refused c.put_list.ensures.fits c.put_list.ensures.taken c.put_list.ensures.only))
+    (object_made c.put_list.result old new place (ZeroList c.in-ZeroList.size c.in-ZeroList.count) c.put_list.ensures.object))
 
 pub returns-in-ZeroStructs-clause-made : goal.returns-in-ZeroStructs-clause-made
 returns-in-ZeroStructs-clause-made g c =
@@ -31,7 +31,7 @@ returns-in-ZeroStructs-clause-made g c =
     let place = place_of c.args.pointer.now in
     rw c.done-in-ZeroStructs.ensures (
     subst (λ o. IsDoneAt old new place (Make o) (refusal_of c.put_struct_list.result)) (sym c.in-ZeroStructs.is)
-    (object_made c.put_struct_list.result old new place (ZeroStructs c.in-ZeroStructs.count c.in-ZeroStructs.size) c.put_struct_list.ensures.made c.put_struct_list.ensures.granted c.put_struct_list.ensures.named c.put_struct_list.ensures.refused c.put_struct_list.ensures.fits c.put_struct_list.ensures.taken c.put_struct_list.ensures.only))
+    (object_made c.put_struct_list.result old new place (ZeroStructs c.in-ZeroStructs.count c.in-ZeroStructs.size) c.put_struct_list.ensures.object))
 
 pub returns-in-ZeroText-clause-made : goal.returns-in-ZeroText-clause-made
 returns-in-ZeroText-clause-made g c =
@@ -40,7 +40,7 @@ returns-in-ZeroText-clause-made g c =
     let place = place_of c.args.pointer.now in
     rw c.done-in-ZeroText.ensures (
     subst (λ o. IsDoneAt old new place (Make o) (refusal_of c.put_list-in-ZeroText.result)) (sym c.in-ZeroText.is)
-    (object_made c.put_list-in-ZeroText.result old new place (ZeroText c.in-ZeroText.size) c.put_list-in-ZeroText.ensures.made c.put_list-in-ZeroText.ensures.granted c.put_list-in-ZeroText.ensures.named c.put_list-in-ZeroText.ensures.refused c.put_list-in-ZeroText.ensures.fits c.put_list-in-ZeroText.ensures.taken c.put_list-in-ZeroText.ensures.only))
+    (object_made c.put_list-in-ZeroText.result old new place (ZeroText c.in-ZeroText.size) c.put_list-in-ZeroText.ensures.object))
 
 pub returns-in-Text-clause-made : goal.returns-in-Text-clause-made
 returns-in-Text-clause-made g c =
@@ -48,7 +48,7 @@ returns-in-Text-clause-made g c =
     let new = g.A.BuilderArena.view c.set_text.new.self.arena.now in
     let place = place_of c.args.pointer.now in
     subst (λ o. IsDoneAt old new place (Make o) (refusal_of c.set_text.result)) (sym c.in-Text.is)
-    (object_made c.set_text.result old new place (Text c.in-Text.bytes) c.set_text.ensures.made c.set_text.ensures.granted c.set_text.ensures.named c.set_text.ensures.refused c.set_text.ensures.fits c.set_text.ensures.taken c.set_text.ensures.only)
+    (object_made c.set_text.result old new place (Text c.in-Text.bytes) c.set_text.ensures.object)
 
 pub returns-in-Data-clause-made : goal.returns-in-Data-clause-made
 returns-in-Data-clause-made g c =
@@ -56,4 +56,4 @@ returns-in-Data-clause-made g c =
     let new = g.A.BuilderArena.view c.set_data.new.self.arena.now in
     let place = place_of c.args.pointer.now in
     subst (λ o. IsDoneAt old new place (Make o) (refusal_of c.set_data.result)) (sym c.in-Data.is)
-    (object_made c.set_data.result old new place (Data c.in-Data.bytes) c.set_data.ensures.made c.set_data.ensures.granted c.set_data.ensures.named c.set_data.ensures.refused c.set_data.ensures.fits c.set_data.ensures.taken c.set_data.ensures.only)
+    (object_made c.set_data.result old new place (Data c.in-Data.bytes) c.set_data.ensures.object)

@@ -1,0 +1,49 @@
+-- A call that makes an object at the place of a pointer.
+use Rattle.std.specs.Prelude.{ℕ, Result, IsOk, IfErr, OnOk, OnErr}
+use Rattle.capnp_words.specs.declared.error.ErrorKind.{ErrorKind}
+use Rattle.capnp_format.specs.Forest.{target}
+use Rattle.capnp_format.specs.Tree.{Tree, Null}
+use Rattle.capnp_arena.specs.View.{View}
+use Rattle.capnp_making.specs.Made.{LeadsTo, LieFrom}
+use Rattle.capnp_making.specs.Memory.{HasRoom, KeepsMemory, TakesWords, StandsBehind, start_of, IsRefusedFor, CanRefuse, LeavesNull}
+use Rattle.capnp_making.specs.Stored.{Puts, ZeroesOld}
+use Rattle.capnp_making.specs.Zeroed.{IsPruned}
+use Rattle.capnp_making.specs.declared.making.Start.{Start}
+
+-- A call at a place of a message: the place, and the message before the call and after it.
+pub record CallAt : Type 0 where
+  pub segment : ℕ
+  pub at : ℕ
+  pub old : View
+  pub new : View
+
+abbrev pub call_at : ℕ → ℕ → View → View → CallAt
+call_at s p old new = record { segment = s; at = p; old = old; new = new }
+
+-- A call takes n words for an object, and a word for a landing pad where the segment has no room; or it is refused, for want of memory.
+pub record Allocates {A : Type 0} (result : Result A ErrorKind) (c : CallAt) (n : ℕ) : Type 0 where
+  pub fits : HasRoom c.old c.segment n → IsOk result
+  pub granted : OnOk result (KeepsMemory c.old c.new)
+  pub taken : OnOk result (TakesWords c.old c.new c.segment n)
+  pub named : IfErr result (IsRefusedFor c.old c.new n)
+
+-- The pointer gets an object of n words, whose value is t, in place of what it held, which is zero then; or that is refused, and the pointer is null.
+pub record MakesObject {A : Type 0} (result : Result A ErrorKind) (c : CallAt) (t : Tree) (n : ℕ) : Type 0 where
+  pub made : OnOk result (Puts c.old.words c.new.words c.segment c.at t)
+  pub behind : OnOk result (StandsBehind c.old c.segment n (start_of (target c.new.words c.segment c.at)))
+  pub zeroed : OnOk result (ZeroesOld c.old.words c.new.words c.segment c.at)
+  pub memory : Allocates result c n
+  pub refused : OnErr result (Puts c.old.words c.new.words c.segment c.at Null)
+  pub only : OnErr result (IsPruned c.old.words c.new.words)
+
+-- The object of n words that a call made starts at h: its pointer leads there, its words are there, and they stand behind all that were there before.
+pub record ObjectStartsAt (c : CallAt) (n : ℕ) (h : Start) : Type 0 where
+  pub leads : LeadsTo c.new.words c.segment c.at h
+  pub inside : LieFrom c.new.words n h
+  pub behind : StandsBehind c.old c.segment n h
+
+-- A call that keeps no message asks for an object of n words at a place: it is made where there is room, and else that is refused, and leaves null.
+pub record AsksForObject {A : Type 0} (result : Result A ErrorKind) (old : View) (id at n : ℕ) : Type 0 where
+  pub fits : HasRoom old id n → IsOk result
+  pub named : IfErr result (CanRefuse old n)
+  pub refused : IfErr result (LeavesNull old id at n)
