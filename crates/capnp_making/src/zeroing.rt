@@ -82,7 +82,7 @@ pub fn zero_object<A: BuilderArena>(arena: &mut A, id: u32, at: u32)
     ensures null { word_at (A.view arena.new).words id at ≡ 0 }
     ensures limits { KeepsLimits (A.view arena.old) (A.view arena.new) }
 {
-    let word = word_of(arena, id, at);
+    let word = WirePointer(arena.get_word(id, at));
     if word.is_null() {
         return;
     }

@@ -1,7 +1,7 @@
 //! Arenas that are written.
 ghost use Rattle.std.specs.Prelude.{◌≡◌, ◌⊎◌, ◌<◌, ◌≤◌, ◌+◌, ◌-◌, ◌*◌, ◌/◌, ◌^◌, ◌↔◌, ◌++◌, ◌∷◌, [], ℕ, Bool, List, length, replicate, slice_get, slice_set, Some, IsTrue, IsNone, IsSome, IfSome, IsOk, IfOk, IsOkAnd, OnOk, OnErr, IfErr};
 ghost use Rattle.std.specs.Borrow.{sem, Lends, Array, u8 as byte};
-ghost use Rattle.capnp_format.specs.Segments.{segment, words_at, IsPlace};
+ghost use Rattle.capnp_format.specs.Segments.{segment, word_at, words_at, IsPlace};
 ghost use Rattle.capnp_format.specs.Bytes.{words_of, message};
 ghost use Rattle.capnp_words.specs.declared.error.ErrorKind.TheVariants.{InvalidSegmentId, MessageTooLarge};
 ghost use Rattle.capnp_arena.specs.Allocations.{max_segments, max_segment_words};
@@ -37,6 +37,11 @@ pub trait BuilderArena: ReaderArena + sealed::Closed {
     fn allocated_mut(&mut self, id: u32) -> Option<&mut [u8]>
         ensures there { IsSome result ↔ (id < length (Self.segments self.old)) }
         ensures bytes { IfSome result (λ s. slice_get (Self.segments self.old) id ≡ Some s.now) };
+
+    /// Reads a word.
+    fn get_word(&self, id: u32, at: u32) -> u64
+        requires { IsPlace (view self.now).words id at }
+        ensures { result ≡ word_at (view self.now).words id at };
 
     /// Writes a word.
     fn set_word(&mut self, id: u32, at: u32, word: u64)

@@ -453,6 +453,10 @@ impl<A: Allocator> BuilderArena for BuilderArenaImpl<A> {
         None
     }
 
+    fn get_word(&self, id: u32, at: u32) -> u64 {
+        self.rows[id as usize].word(at)
+    }
+
     #[tactic(auto, using(crate::proofs::RowsLemmas::rows_written))]
     fn set_word(&mut self, id: u32, at: u32, word: u64) {
         let row = &mut self.rows[id as usize];

@@ -1,5 +1,5 @@
 //! A segment of a builder arena, and how much of it is allocated.
-ghost use Rattle.std.specs.Prelude.{◌≡◌, ◌<◌, ◌≤◌, ◌+◌, ◌-◌, ◌*◌, ◌/◌, ◌↔◌, ◌++◌, [], ℕ, List, length, take, drop, replicate, slice_set, IsTrue};
+ghost use Rattle.std.specs.Prelude.{◌≡◌, ◌<◌, ◌≤◌, ◌+◌, ◌-◌, ◌*◌, ◌/◌, ◌↔◌, ◌++◌, [], ℕ, List, length, take, drop, replicate, slice_set, slice_index, IsTrue};
 ghost use Rattle.capnp_format.specs.Bytes.{words_of};
 ghost use Rattle.capnp_arena.specs.Allocations.{IsRow, max_segment_words, zeros};
 ghost use Rattle.capnp_arena.specs.Written.{overwritten, with_copied, with_front};
@@ -143,6 +143,14 @@ impl<S: Segment> Row<S> {
         let at = self.used;
         self.used = at + amount;
         at
+    }
+
+    /// One of the allocated words.
+    pub(crate) fn word(&self, at: u32) -> u64
+        requires { at < self.now.used }
+        ensures { result ≡ slice_index (words_of (allocated S.Segment self.now)) at }
+    {
+        words::word_at(self.allocated(), at as usize)
     }
 
     #[tactic(auto, using(crate::proofs::RowLemmas::written))]

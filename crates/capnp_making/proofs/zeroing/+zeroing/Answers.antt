@@ -34,7 +34,7 @@ zero_object-returns-in-Some-clause-zeroed g t c =
     let some : word_at S c.args.id c.args.at ≢ 0 = search rules in
     let goes : (a : Target) → leads S c.args.id c.args.at ≡ Some a → Some (target_of c.in-Some.landing) ≡ Some a = λ a e. rw c.in-Some.is at (c.follow-landing.ensures a e) in
     λ u a. object_done S R (g.A.BuilderArena.view c.zero_landed.new.arena).words (g.A.BuilderArena.view c.zero_pads.new.arena).words c.args.id c.args.at u (target_of c.in-Some.landing) some goes
-    (word_zeroed S R c.args.id c.args.at c.requires (ap words_in c.set_word.ensures)).0 c.zero_landed.ensures.zeroed (rw c.word_of-word.ensures at c.zero_pads.ensures.zeroed) a
+    (word_zeroed S R c.args.id c.args.at c.requires (ap words_in c.set_word.ensures)).0 c.zero_landed.ensures.zeroed (rw c.get_word.ensures at c.zero_pads.ensures.zeroed) a
 
 pub zero_object-returns-in-Some-clause-pruned : goal.zero_object-returns-in-Some-clause-pruned
 zero_object-returns-in-Some-clause-pruned g t c =
