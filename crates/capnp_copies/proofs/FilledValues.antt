@@ -27,6 +27,7 @@ use Rattle.capnp_objects.specs.Reading.{Reading}
 use Rattle.capnp_objects.specs.Wanted.{Form, plain, canonical, of_default}
 use Rattle.capnp_objects.specs.declared.object.Place.{Place}
 use Rattle.capnp_objects.specs.declared.object.Object.TheVariants.{Null as ObjectNull, Capability as ObjectCapability, Struct as ObjectStruct, Flat as ObjectFlat, Pointers as ObjectPointers, Structs as ObjectStructs}
+use Rattle.capnp_objects.specs.declared.object.Purpose.TheVariants.{Value}
 use Rattle.capnp_objects.proofs.Limits.{not_for_memory}
 use Rattle.capnp_objects.proofs.Objects.{read_null, read_flat, read_struct, read_pointers, read_structs}
 use Rattle.capnp_objects.proofs.Refusals.{stops_struct, stops_pointers, stops_structs}
@@ -39,14 +40,14 @@ use Rattle.capnp_copies.proofs.TooLarge.{struct_value_too_large, pointers_value_
 use Rattle.capnp_copies.proofs.StructsCopied.{null_written}
 use Rattle.capnp_copies.proofs.ObjectsRead.{inside, stopped_in, capability_stopped, default_stopped, flat_held}
 
-pub object_stops : {r : Reading} {b : Form} {s p : ℕ} {v : View} {m m' : Meter} {k : ErrorKind} → IsPlace v.words s p → word_at v.words s p ≡ 0 → Stopped b r m m' k → StopsAtValue r (change b s p v v m m') k
+pub object_stops : {r : Reading} {b : Form} {s p : ℕ} {v : View} {m m' : Meter} {k : ErrorKind} → IsPlace v.words s p → word_at v.words s p ≡ 0 → Stopped Value b r m m' k → StopsAtValue r (change b s p v v m m') k
 object_stops {r} {b} {s} {p} {v} {m} {m'} {k} place null h = record {
   why = inr (here h);
   off = here (inl (k, h));
-  left = ((Null, nothing_left v.words v.words s p place null refl), spends_nothing v v k (not_the_allocator k (λ e. not_for_memory (here (subst (Stopped b r m m') e h)))) (keeps_itself v));
+  left = ((Null, nothing_left v.words v.words s p place null refl), spends_nothing v v k (not_the_allocator k (λ e. not_for_memory (here (subst (Stopped Value b r m m') e h)))) (keeps_itself v));
 }
 
-pub read_stops : {r : Reading} {b : Form} {s p : ℕ} {v : View} {m m' : Meter} {k : ErrorKind} → IsPlace v.words s p → word_at v.words s p ≡ 0 → Stopped plain r m m' k → StopsAtValue r (change b s p v v m m') k
+pub read_stops : {r : Reading} {b : Form} {s p : ℕ} {v : View} {m m' : Meter} {k : ErrorKind} → IsPlace v.words s p → word_at v.words s p ≡ 0 → Stopped Value plain r m m' k → StopsAtValue r (change b s p v v m m') k
 read_stops {b = b} place null h = object_stops place null (stopped_in b h)
 
 -- null pointers and capabilities
@@ -55,7 +56,7 @@ kept_null : (b : Form) → kept b Null ≡ Null
 kept_null canonical = refl
 kept_null _ = refl
 
-pub null_copied : {r : Reading} {b : Form} {s p : ℕ} {v : View} {m m' : Meter} → IsObject r m m' ObjectNull → IsPlace v.words s p → word_at v.words s p ≡ 0 → CopiesValue r (change b s p v v m m')
+pub null_copied : {r : Reading} {b : Form} {s p : ℕ} {v : View} {m m' : Meter} → IsObject Value r m m' ObjectNull → IsPlace v.words s p → word_at v.words s p ≡ 0 → CopiesValue r (change b s p v v m m')
 null_copied {r} {b} {s} {p} {v} {m} {m'} object place null = record {
   value = Null;
   is_read = subst (λ x. Reads b r m x Null) (sym object.1) (read_null m object.0);
@@ -63,11 +64,11 @@ null_copied {r} {b} {s} {p} {v} {m} {m'} object place null = record {
   stands = subst (λ t. Fits (change b s p v v m m') (word_count t) → IsCopied v.words v.words s p t) (sym (kept_null b)) (λ fits. null_written v.words s p null);
 }
 
-unfoldable pub capability_read : {r : Reading} (m m' : Meter) (i : ℕ) → IsObject r m m' (ObjectCapability i) → Reads plain r m m' (Capability i)
+unfoldable pub capability_read : {r : Reading} (m m' : Meter) (i : ℕ) → IsObject Value r m m' (ObjectCapability i) → Reads plain r m m' (Capability i)
 capability_read m m' i (a, l, low, e, covers, spent) =
     record { cost = a.pads; means = (a, l, (let f : a.word ≡ capability_word i = omega (arith, low, e) in f), refl); takes = λ f. absurd f; covers = covers; spent = spent }
 
-pub capability_copied : {r : Reading} {s p i : ℕ} {old new : View} {m m' : Meter} → IsObject r m m' (ObjectCapability i) → IsPlace old.words s p → new ≡ record old { words = with_word old.words s p (capability_word i) } → CopiesValue r (change plain s p old new m m')
+pub capability_copied : {r : Reading} {s p i : ℕ} {old new : View} {m m' : Meter} → IsObject Value r m m' (ObjectCapability i) → IsPlace old.words s p → new ≡ record old { words = with_word old.words s p (capability_word i) } → CopiesValue r (change plain s p old new m m')
 capability_copied {r} {s} {p} {i} {old} {new} {m} {m'} object place writes = record {
   value = Capability i;
   is_read = capability_read m m' i object;
@@ -75,15 +76,15 @@ capability_copied {r} {s} {p} {i} {old} {new} {m} {m'} object place writes = rec
   stands = λ fits. ap (λ (v : View). v.words) writes ∙ ap (λ ws. with_segment old.words s (set ws p (capability_word i))) (sym (append-nil (segment old.words s)));
 }
 
-pub capability_stops : {r : Reading} {s p i : ℕ} {v : View} {m m' : Meter} → IsObject r m m' (ObjectCapability i) → IsPlace v.words s p → word_at v.words s p ≡ 0 → StopsAtValue r (change canonical s p v v m m') CannotCreateACanonicalMessageWithACapability
+pub capability_stops : {r : Reading} {s p i : ℕ} {v : View} {m m' : Meter} → IsObject Value r m m' (ObjectCapability i) → IsPlace v.words s p → word_at v.words s p ≡ 0 → StopsAtValue r (change canonical s p v v m m') CannotCreateACanonicalMessageWithACapability
 capability_stops {i = i} {m = m} {m'} object place null = object_stops place null (capability_stopped m m' i object)
 
-pub default_stops : {r : Reading} {s p i : ℕ} {v : View} {m m' : Meter} → IsObject r m m' (ObjectCapability i) → IsPlace v.words s p → word_at v.words s p ≡ 0 → StopsAtValue r (change of_default s p v v m m') UnknownPointerType
+pub default_stops : {r : Reading} {s p i : ℕ} {v : View} {m m' : Meter} → IsObject Value r m m' (ObjectCapability i) → IsPlace v.words s p → word_at v.words s p ≡ 0 → StopsAtValue r (change of_default s p v v m m') UnknownPointerType
 default_stops {i = i} {m = m} {m'} object place null = object_stops place null (default_stopped m m' i object)
 
 -- a struct
 
-pub struct_value : {r : Reading} {b : Form} {s p levels : ℕ} {old new : View} {m m' m'' : Meter} {size : StructSize} (start : Place) → (0 < r.levels → levels ≡ pred r.levels) → IsObject r m m' (ObjectStruct start size) →
+pub struct_value : {r : Reading} {b : Form} {s p levels : ℕ} {old new : View} {m m' m'' : Meter} {size : StructSize} (start : Place) → (0 < r.levels → levels ≡ pred r.levels) → IsObject Value r m m' (ObjectStruct start size) →
     CopiesStruct (inside r levels start) size (change b s p old new m' m'') → CopiesValue r (change b s p old new m m'')
 struct_value {r} {size = size} start less (a, o, z, (held, es, eb), ed, eq) struct =
     let en = less o.meets.levels in
@@ -95,7 +96,7 @@ struct_value {r} {size = size} start less (a, o, z, (held, es, eb), ed, eq) stru
       stands = struct.stands;
     }
 
-pub struct_value_stops : {r : Reading} {b : Form} {s p levels : ℕ} {old new : View} {m m' m'' : Meter} {size : StructSize} {k : ErrorKind} (start : Place) → (0 < r.levels → levels ≡ pred r.levels) → IsObject r m m' (ObjectStruct start size) →
+pub struct_value_stops : {r : Reading} {b : Form} {s p levels : ℕ} {old new : View} {m m' m'' : Meter} {size : StructSize} {k : ErrorKind} (start : Place) → (0 < r.levels → levels ≡ pred r.levels) → IsObject Value r m m' (ObjectStruct start size) →
     StopsAtStruct (inside r levels start) size (change b s p old new m' m'') k → StopsAtValue r (change b s p old new m m'') k
 struct_value_stops {r} {b} {s} {old = old} {m = m} {m'' = m''} {k = k} start less (a, o, z, (held, es, eb), ed, eq) stop =
     let en = less o.meets.levels in
@@ -119,14 +120,14 @@ struct_value_stops {r} {b} {s} {old = old} {m = m} {m'' = m''} {k = k} start les
 
 -- a list of pointers
 
-pub pointers_value : {r : Reading} {b : Form} {s p levels i : ℕ} {old new : View} {m m' m'' : Meter} (start : Place) → (0 < r.levels → levels ≡ pred r.levels) → IsObject r m m' (ObjectPointers start i) →
+pub pointers_value : {r : Reading} {b : Form} {s p levels i : ℕ} {old new : View} {m m' m'' : Meter} (start : Place) → (0 < r.levels → levels ≡ pred r.levels) → IsObject Value r m m' (ObjectPointers start i) →
     CopiesPointers (inside r levels start) i (change b s p old new m' m'') → CopiesValue r (change b s p old new m m'')
 pointers_value start less (a, o, z, six, (held, es, eb), ei) list =
     let en = less o.meets.levels in
     let e : start.at ≡ a.start = omega arith in
     record { value = Pointers list.children; is_read = read_pointers o z six (list.counts ∙ ei) (rw (en, es, e) at list.are_read); made = list.made; stands = list.stands }
 
-pub pointers_value_stops : {r : Reading} {b : Form} {s p levels i : ℕ} {old new : View} {m m' m'' : Meter} {k : ErrorKind} (start : Place) → (0 < r.levels → levels ≡ pred r.levels) → IsObject r m m' (ObjectPointers start i) →
+pub pointers_value_stops : {r : Reading} {b : Form} {s p levels i : ℕ} {old new : View} {m m' m'' : Meter} {k : ErrorKind} (start : Place) → (0 < r.levels → levels ≡ pred r.levels) → IsObject Value r m m' (ObjectPointers start i) →
     StopsAtPointers (inside r levels start) i (change b s p old new m' m'') k → StopsAtValue r (change b s p old new m m'') k
 pointers_value_stops {r} {b} {s} {old = old} {m = m} start less (a, o, z, six, (held, es, eb), ei) stop =
     let en = less o.meets.levels in
@@ -150,7 +151,7 @@ pointers_value_stops {r} {b} {s} {old = old} {m = m} start less (a, o, z, six, (
 
 -- a list of structs
 
-pub structs_value : {r : Reading} {b : Form} {s p levels i : ℕ} {old new : View} {m m' m'' : Meter} {size : StructSize} (start : Place) → (0 < r.levels → levels ≡ pred r.levels) → IsObject r m m' (ObjectStructs start size i) →
+pub structs_value : {r : Reading} {b : Form} {s p levels i : ℕ} {old new : View} {m m' m'' : Meter} {size : StructSize} (start : Place) → (0 < r.levels → levels ≡ pred r.levels) → IsObject Value r m m' (ObjectStructs start size i) →
     CopiesStructs (inside r levels start) size i (change b s p old new m' m'') → CopiesValue r (change b s p old new m m'')
 structs_value {size = size} start less (a, o, z, seven, (held, eu, eb), ei, ed, eq) list =
     let en = less o.meets.levels in
@@ -162,7 +163,7 @@ structs_value {size = size} start less (a, o, z, seven, (held, eu, eb), ei, ed, 
       stands = list.stands;
     }
 
-pub structs_value_stops : {r : Reading} {b : Form} {s p levels i : ℕ} {old new : View} {m m' m'' : Meter} {size : StructSize} {k : ErrorKind} (start : Place) → (0 < r.levels → levels ≡ pred r.levels) → IsObject r m m' (ObjectStructs start size i) →
+pub structs_value_stops : {r : Reading} {b : Form} {s p levels i : ℕ} {old new : View} {m m' m'' : Meter} {size : StructSize} {k : ErrorKind} (start : Place) → (0 < r.levels → levels ≡ pred r.levels) → IsObject Value r m m' (ObjectStructs start size i) →
     StopsAtStructs (inside r levels start) size i (change b s p old new m' m'') k → StopsAtValue r (change b s p old new m m'') k
 structs_value_stops {r} {b} {s} {old = old} {m = m} start less (a, o, z, seven, (held, eu, eb), ei, ed, eq) stop =
     let en = less o.meets.levels in
@@ -190,7 +191,7 @@ pub kept_flat : (b : Form) (size : ℕ) (ns : List ℕ) → kept b (Flat size ns
 kept_flat canonical size ns = refl
 kept_flat _ size ns = refl
 
-flat_read_in : {r : Reading} {m m' : Meter} {i n : ℕ} {ws : List ℕ} (b : Form) (start : Place) (size : ElementSize) → IsObject r m m' (ObjectFlat start size i) → n ≡ words_for (size_number size) i → ws ≡ take n (drop start.at (words_of start.bytes.now)) →
+flat_read_in : {r : Reading} {m m' : Meter} {i n : ℕ} {ws : List ℕ} (b : Form) (start : Place) (size : ElementSize) → IsObject Value r m m' (ObjectFlat start size i) → n ≡ words_for (size_number size) i → ws ≡ take n (drop start.at (words_of start.bytes.now)) →
     Reads b r m m' (Flat (size_number size) (unpacked (size_number size) i ws))
 flat_read_in {r} {m} {m'} {i} {n} {ws} b start size (a, o, z, small, (held, es, eb), ez, ei) words part =
     let f : start.at ≡ a.start = omega arith in
@@ -207,7 +208,7 @@ pub record FlatOutcome (result : Result (Unit {0}) ErrorKind) (s p n : ℕ) (old
   pub stands : OnOk result (IsCopiedInRoom old new s p t)
   pub fits : HasOwnRoom old s (word_count t) → IsOk result
 
-pub flat_value : {r : Reading} {s p i n : ℕ} {old new : View} {m m' : Meter} {ws : List ℕ} (b : Form) (result : Result (Unit {0}) ErrorKind) (start : Place) (size : ElementSize) → IsObject r m m' (ObjectFlat start size i) → n ≡ words_for (size_number size) i →
+pub flat_value : {r : Reading} {s p i n : ℕ} {old new : View} {m m' : Meter} {ws : List ℕ} (b : Form) (result : Result (Unit {0}) ErrorKind) (start : Place) (size : ElementSize) → IsObject Value r m m' (ObjectFlat start size i) → n ≡ words_for (size_number size) i →
     ws ≡ take n (drop start.at (words_of start.bytes.now)) → FlatOutcome result s p (words_for (size_number size) i) old new (Flat (size_number size) (unpacked (size_number size) i ws)) → IfOk result (λ _. CopiesValue r (change b s p old new m m'))
 flat_value {s = s} {p = p} {i = i} {old = old} {new = new} {m = m} {m' = m'} {ws = ws} b (Ok x) start size object words part f = record {
   value = Flat (size_number size) (unpacked (size_number size) i ws);
@@ -217,7 +218,7 @@ flat_value {s = s} {p = p} {i = i} {old = old} {new = new} {m = m} {m' = m'} {ws
 }
 flat_value b (Err k) start size object words part f = tt
 
-pub flat_stops : {r : Reading} {s p i n : ℕ} {old new : View} {m m' : Meter} {ws : List ℕ} (b : Form) (result : Result (Unit {0}) ErrorKind) (start : Place) (size : ElementSize) → IsObject r m m' (ObjectFlat start size i) → n ≡ words_for (size_number size) i →
+pub flat_stops : {r : Reading} {s p i n : ℕ} {old new : View} {m m' : Meter} {ws : List ℕ} (b : Form) (result : Result (Unit {0}) ErrorKind) (start : Place) (size : ElementSize) → IsObject Value r m m' (ObjectFlat start size i) → n ≡ words_for (size_number size) i →
     ws ≡ take n (drop start.at (words_of start.bytes.now)) → IsPlace old.words s p × (word_at old.words s p ≡ 0) → FlatOutcome result s p (words_for (size_number size) i) old new (Flat (size_number size) (unpacked (size_number size) i ws)) → IfErr result (StopsAtValue r (change b s p old new m m'))
 flat_stops b (Ok x) start size object words part (place, null) f = tt
 flat_stops {s = s} {p = p} {i = i} {old = old} {new = new} {ws = ws} b (Err k) start size (a, o, z, small, held, ez, ei) words part (place, null) f = record {

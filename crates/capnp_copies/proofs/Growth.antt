@@ -37,6 +37,7 @@ use Rattle.capnp_objects.specs.Spending.{pointers_in, pointers_in_all, pointers_
 use Rattle.capnp_objects.specs.Wanted.{Form, plain, canonical, of_default}
 use Rattle.capnp_objects.specs.declared.object.Place.{Place}
 use Rattle.capnp_objects.specs.declared.object.Object.TheVariants.{Null as ObjectNull, Capability as ObjectCapability, Struct as ObjectStruct, Flat as ObjectFlat, Pointers as ObjectPointers, Structs as ObjectStructs}
+use Rattle.capnp_objects.specs.declared.object.Purpose.TheVariants.{Value}
 use Rattle.capnp_objects.proofs.Budgets.{affords_none, affords_both, fewer_than_words, one_element_more, paid_own, paid_all, paid_elements, pointers_within, pointers_within_all, pointers_within_elements}
 use Rattle.capnp_objects.proofs.Copies.{read_none, read_more, read_no_element, pointers_in-with_last}
 use Rattle.capnp_objects.proofs.Objects.{own_struct, own_flat, own_pointers, own_structs, read_null, read_flat, read_struct, read_pointers, read_structs}
@@ -316,29 +317,29 @@ no_wider n a b c d l m = mul-le-mul_left n (omega (arith, l, m))
 
 -- What a pointer leads to.
 
-pub read_stop_taken : {r : Reading} {b : Form} {s p : ℕ} {v : View} {m m' : Meter} {k : ErrorKind} → Stopped plain r m m' k → TakesUntilStop r (change b s p v v m m')
+pub read_stop_taken : {r : Reading} {b : Form} {s p : ℕ} {v : View} {m m' : Meter} {k : ErrorKind} → Stopped Value plain r m m' k → TakesUntilStop r (change b s p v v m m')
 read_stop_taken {b = b} {v = v} {k = k} stopped = record { off = here (inl (k, stopped_in b stopped)); made = made_none (none_itself v) }
 
-pub null_takes : {r : Reading} {b : Form} {s p : ℕ} {v : View} {m m' : Meter} → IsObject r m m' ObjectNull → TakesForValue r (change b s p v v m m')
+pub null_takes : {r : Reading} {b : Form} {s p : ℕ} {v : View} {m m' : Meter} → IsObject Value r m m' ObjectNull → TakesForValue r (change b s p v v m m')
 unfolding read_null
 null_takes {r} {b} {s} {p} {v} {m} object = subst (λ n. TakesForValue r (change b s p v v m n)) (sym object.1) (record { value = Null; is_read = read_null m object.0; made = made_more (omega arith) (omega arith) (made_none (none_itself v)) })
 
-pub capability_takes : {r : Reading} {s p i : ℕ} {old new : View} {m m' : Meter} → IsObject r m m' (ObjectCapability i) → TakesNone old new → TakesForValue r (change plain s p old new m m')
+pub capability_takes : {r : Reading} {s p i : ℕ} {old new : View} {m m' : Meter} → IsObject Value r m m' (ObjectCapability i) → TakesNone old new → TakesForValue r (change plain s p old new m m')
 unfolding capability_read
 capability_takes {i = i} {m = m} {m'} object none = record { value = Capability i; is_read = capability_read m m' i object; made = made_more (omega arith) (omega arith) (made_none none) }
 
-pub capability_stop_takes : {r : Reading} {s p i : ℕ} {v : View} {m m' : Meter} → IsObject r m m' (ObjectCapability i) → TakesUntilStop r (change canonical s p v v m m')
+pub capability_stop_takes : {r : Reading} {s p i : ℕ} {v : View} {m m' : Meter} → IsObject Value r m m' (ObjectCapability i) → TakesUntilStop r (change canonical s p v v m m')
 capability_stop_takes {i = i} {v} {m} {m'} object = record { off = here (inl (CannotCreateACanonicalMessageWithACapability, capability_stopped m m' i object)); made = made_none (none_itself v) }
 
-pub default_stop_takes : {r : Reading} {s p i : ℕ} {v : View} {m m' : Meter} → IsObject r m m' (ObjectCapability i) → TakesUntilStop r (change of_default s p v v m m')
+pub default_stop_takes : {r : Reading} {s p i : ℕ} {v : View} {m m' : Meter} → IsObject Value r m m' (ObjectCapability i) → TakesUntilStop r (change of_default s p v v m m')
 default_stop_takes {i = i} {v} {m} {m'} object = record { off = here (inl (UnknownPointerType, default_stopped m m' i object)); made = made_none (none_itself v) }
 
 -- an object is read, and there is no room for it
-entered_takes : {r : Reading} {b : Form} {s p : ℕ} {old new : View} {m m' m'' : Meter} {a : Target} → Entered r m m' a → TakesNothing (change b s p old new m' m'') → TakesUntilStop r (change b s p old new m m'')
+entered_takes : {r : Reading} {b : Form} {s p : ℕ} {old new : View} {m m' m'' : Meter} {a : Target} → Entered Value r m m' a → TakesNothing (change b s p old new m' m'') → TakesUntilStop r (change b s p old new m m'')
 entered_takes {r} {b} {s} {p} {old} {new} {m} {a = a} o nothing =
     subst (λ n. TakesUntilStop r (change b s p old new m n)) (sym nothing.unread) (record { off = here (inr (a, o)); made = made_none nothing.none })
 
-pub struct_takes : {r : Reading} {b : Form} {s p levels : ℕ} {old new : View} {m m' m'' : Meter} {size : StructSize} (start : Place) → (0 < r.levels → levels ≡ pred r.levels) → IsObject r m m' (ObjectStruct start size) →
+pub struct_takes : {r : Reading} {b : Form} {s p levels : ℕ} {old new : View} {m m' m'' : Meter} {size : StructSize} (start : Place) → (0 < r.levels → levels ≡ pred r.levels) → IsObject Value r m m' (ObjectStruct start size) →
     TakesForAll (behind (inside r levels start) size.data_words) size.pointers (size.data_words + size.pointers) 1 (change b s p old new m' m'') → TakesForValue r (change b s p old new m m'')
 unfolding read_struct
 struct_takes {r} {b} {s} {levels = levels} {old} {new} {m' = m'} {m''} {size} start less (a, o, z, (held, es, eb), ed, eq) x =
@@ -352,7 +353,7 @@ struct_takes {r} {b} {s} {levels = levels} {old} {new} {m' = m'} {m''} {size} st
       made = made_more (omega (arith, own_struct r.segments a z)) (omega arith) all.1;
     }
 
-pub struct_stop_takes : {r : Reading} {b : Form} {s p levels : ℕ} {old new : View} {m m' m'' : Meter} {size : StructSize} (start : Place) → (0 < r.levels → levels ≡ pred r.levels) → IsObject r m m' (ObjectStruct start size) →
+pub struct_stop_takes : {r : Reading} {b : Form} {s p levels : ℕ} {old new : View} {m m' m'' : Meter} {size : StructSize} (start : Place) → (0 < r.levels → levels ≡ pred r.levels) → IsObject Value r m m' (ObjectStruct start size) →
     TakesNothing (change b s p old new m' m'') ⊎ TakesAmong (behind (inside r levels start) size.data_words) size.pointers (size.data_words + size.pointers) 1 (change b s p old new m' m'') → TakesUntilStop r (change b s p old new m m'')
 unfolding stops_struct
 struct_stop_takes {r} {b} {s} {levels = levels} {old} {new} {m' = m'} {m''} {size} start less (a, o, z, (held, es, eb), ed, eq) tried =
@@ -366,7 +367,7 @@ struct_stop_takes {r} {b} {s} {levels = levels} {old} {new} {m' = m'} {m''} {siz
           record { off = stops_struct o z off.0; made = made_more (omega (arith, own_struct r.segments a z)) (omega arith) off.1 })
     ]
 
-pub pointers_take : {r : Reading} {b : Form} {s p levels i : ℕ} {old new : View} {m m' m'' : Meter} (start : Place) → (0 < r.levels → levels ≡ pred r.levels) → IsObject r m m' (ObjectPointers start i) → TakesForAll (inside r levels start) i i 1 (change b s p old new m' m'') →
+pub pointers_take : {r : Reading} {b : Form} {s p levels i : ℕ} {old new : View} {m m' m'' : Meter} (start : Place) → (0 < r.levels → levels ≡ pred r.levels) → IsObject Value r m m' (ObjectPointers start i) → TakesForAll (inside r levels start) i i 1 (change b s p old new m' m'') →
     TakesForValue r (change b s p old new m m'')
 unfolding read_pointers
 pointers_take {r} {b} {s} {levels = levels} {i} {old} {new} {m' = m'} {m''} start less (a, o, z, six, (held, es, eb), ei) x =
@@ -376,7 +377,7 @@ pointers_take {r} {b} {s} {levels = levels} {i} {old} {new} {m' = m'} {m''} star
     let all = rw (en, es, e) at given in
     record { value = Pointers x.children; is_read = read_pointers o z six (x.counts ∙ ei) all.0; made = made_more (omega (arith, own_pointers r.segments a z six, ei)) (omega arith) all.1 }
 
-pub pointers_stop_take : {r : Reading} {b : Form} {s p levels i : ℕ} {old new : View} {m m' m'' : Meter} (start : Place) → (0 < r.levels → levels ≡ pred r.levels) → IsObject r m m' (ObjectPointers start i) →
+pub pointers_stop_take : {r : Reading} {b : Form} {s p levels i : ℕ} {old new : View} {m m' m'' : Meter} (start : Place) → (0 < r.levels → levels ≡ pred r.levels) → IsObject Value r m m' (ObjectPointers start i) →
     TakesNothing (change b s p old new m' m'') ⊎ TakesAmong (inside r levels start) i i 1 (change b s p old new m' m'') → TakesUntilStop r (change b s p old new m m'')
 unfolding stops_pointers
 pointers_stop_take {r} {b} {s} {levels = levels} {i} {old} {new} {m' = m'} {m''} start less (a, o, z, six, (held, es, eb), ei) tried =
@@ -390,7 +391,7 @@ pointers_stop_take {r} {b} {s} {levels = levels} {i} {old} {new} {m' = m'} {m''}
           record { off = stops_pointers o z six off.0; made = made_more (omega (arith, own_pointers r.segments a z six)) (omega arith) off.1 })
     ]
 
-pub structs_take : {r : Reading} {b : Form} {s p levels i : ℕ} {old new : View} {m m' m'' : Meter} {size : StructSize} (start : Place) → (0 < r.levels → levels ≡ pred r.levels) → IsObject r m m' (ObjectStructs start size i) →
+pub structs_take : {r : Reading} {b : Form} {s p levels i : ℕ} {old new : View} {m m' m'' : Meter} {size : StructSize} (start : Place) → (0 < r.levels → levels ≡ pred r.levels) → IsObject Value r m m' (ObjectStructs start size i) →
     TakesForElements (inside r levels start) size i (structs_words size i) 1 (change b s p old new m' m'') → TakesForValue r (change b s p old new m m'')
 unfolding read_structs
 structs_take {r} {b} {s} {levels = levels} {i} {old} {new} {m' = m'} {m''} {size} start less (a, o, z, seven, (held, eu, eb), ei, ed, eq) x =
@@ -404,7 +405,7 @@ structs_take {r} {b} {s} {levels = levels} {i} {old} {new} {m' = m'} {m''} {size
       made = made_more (omega (arith, own_structs r.segments a z seven, (o.meets.tagged (z, seven)).1)) (omega arith) all.1;
     }
 
-pub structs_stop_take : {r : Reading} {b : Form} {s p levels i : ℕ} {old new : View} {m m' m'' : Meter} {size : StructSize} (start : Place) → (0 < r.levels → levels ≡ pred r.levels) → IsObject r m m' (ObjectStructs start size i) →
+pub structs_stop_take : {r : Reading} {b : Form} {s p levels i : ℕ} {old new : View} {m m' m'' : Meter} {size : StructSize} (start : Place) → (0 < r.levels → levels ≡ pred r.levels) → IsObject Value r m m' (ObjectStructs start size i) →
     TakesNothing (change b s p old new m' m'') ⊎ TakesAmongElements (inside r levels start) size i (structs_words size i) 1 (change b s p old new m' m'') → TakesUntilStop r (change b s p old new m m'')
 unfolding stops_structs
 structs_stop_take {r} {b} {s} {levels = levels} {i} {old} {new} {m' = m'} {m''} {size} start less (a, o, z, seven, (held, eu, eb), ei, ed, eq) tried =
@@ -418,13 +419,13 @@ structs_stop_take {r} {b} {s} {levels = levels} {i} {old} {new} {m' = m'} {m''} 
           record { off = stops_structs o z seven off.0; made = made_more (omega (arith, own_structs r.segments a z seven, (o.meets.tagged (z, seven)).1)) (omega arith) off.1 })
     ]
 
-pub flat_takes : {r : Reading} {b : Form} {s p i : ℕ} {old new : View} {m m' : Meter} (size : ElementSize) (start : Place) → IsObject r m m' (ObjectFlat start size i) → MakesAtMost s (words_for (size_number size) i) 1 old new → TakesForValue r (change b s p old new m m')
+pub flat_takes : {r : Reading} {b : Form} {s p i : ℕ} {old new : View} {m m' : Meter} (size : ElementSize) (start : Place) → IsObject Value r m m' (ObjectFlat start size i) → MakesAtMost s (words_for (size_number size) i) 1 old new → TakesForValue r (change b s p old new m m')
 unfolding read_flat
 flat_takes {r} size start (a, o, z, small, at, es, ec) made =
     let given = rw (es, ec) at made in
     record { value = Flat (element_size a.word) (unpacked (element_size a.word) (list_count a.word) (words_at r.segments a.segment a.start (words_for (element_size a.word) (list_count a.word)))); is_read = read_flat o z small; made = made_more (omega (arith, own_flat r.segments a z small)) (omega arith) given }
 
-pub flat_stop_takes : {r : Reading} {b : Form} {s p i : ℕ} {old new : View} {m m' : Meter} (size : ElementSize) (start : Place) → IsObject r m m' (ObjectFlat start size i) → TakesNone old new → TakesUntilStop r (change b s p old new m m')
+pub flat_stop_takes : {r : Reading} {b : Form} {s p i : ℕ} {old new : View} {m m' : Meter} (size : ElementSize) (start : Place) → IsObject Value r m m' (ObjectFlat start size i) → TakesNone old new → TakesUntilStop r (change b s p old new m m')
 flat_stop_takes size start (a, o, z, small, at, es, ec) none = entered_takes o (nothing_taken none)
 
 -- A list that is read: one that is too long, and one of which nothing is taken besides.
@@ -514,8 +515,8 @@ pads_apart id words pads old new made = (made_words made, λ there stays. no_pad
 abbrev Covered : Bool → Meter → ℕ → ℕ → Type 0
 Covered charging m g f = Affords charging m g × (f ≤ g + 1)
 
-covered_below : {form : Form} {r : Reading} {m first mid : Meter} {q : ℕ} {a : Target} (g f : ℕ) → Entered r m first a → (before : ReadsBefore form r a q first mid) → Covered r.charging mid g f →
-    Covered r.charging m (own r.segments a + (cost_before before + g)) (1 + (followed_before before + f))
+covered_below : {form : Form} {r : Reading} {m first mid : Meter} {q : ℕ} {a : Target} (g f : ℕ) → Entered Value r m first a → (before : ReadsBefore form r a q first mid) → Covered r.charging mid g f →
+    Covered r.charging m (own Value r.segments a + (cost_before before + g)) (1 + (followed_before before + f))
 covered_below {r = r} {a = a} g f o (in_struct ts z fewer e all) (covers, few) =
     let own_words = own_struct r.segments a z in
     let within = pointers_within_all (child_at r a (pred r.levels) (a.start + data_words a.word)) ts all.cost all.means in
@@ -532,7 +533,7 @@ covered_below {r = r} {m = m} {a = a} g f o (in_element es ts between (z, seven)
     let fits = (o.meets.tagged (z, seven)).1 in
     let in_rows = pointers_within_elements (child_at r a (pred r.levels) (a.start + 1)) (tag_size S a) es rows.cost rows.means in
     let within = pointers_within_all (pointers_of (child_at r a (pred r.levels) (a.start + 1)) (tag_size S a) (element_count es)) ts all.cost all.means in
-    let sum : own S a + (rows.cost + (all.cost + g)) ≡ own S a + (rows.cost + all.cost + g) = omega arith in (
+    let sum : own Value S a + (rows.cost + (all.cost + g)) ≡ own Value S a + (rows.cost + all.cost + g) = omega arith in (
       subst (Affords r.charging m) sum (affords_both (rows.cost + (all.cost + g)) (paid_own o) (affords_both (all.cost + g) (paid_elements rows) (affords_both g (paid_all all) covers))),
       omega (arith, few, less, own_words, fits, in_rows, within, one_element_more (element_count es) n q fewer, fewer_than_words n (data_words (tag S a)) q),
     )

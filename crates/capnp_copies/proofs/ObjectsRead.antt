@@ -21,6 +21,7 @@ use Rattle.capnp_objects.specs.Refusals.{Stopped, pads_exceed, nowhere, broken, 
 use Rattle.capnp_objects.specs.Reading.{Reading}
 use Rattle.capnp_objects.specs.Spending.{after, Paid}
 use Rattle.capnp_objects.specs.Wanted.{Form, plain, canonical, of_default, BreaksObject}
+use Rattle.capnp_objects.specs.declared.object.Purpose.TheVariants.{Value}
 
 -- the start of an object, with so many levels
 abbrev pub inside : Reading → ℕ → Place → Reading
@@ -28,7 +29,7 @@ inside r levels start = record r { levels = levels; segment = start.segment; at 
 
 -- what a plain reading breaks, one in any form breaks too
 
-still_refused : (form : Form) (S : Segments) (n : ℕ) (a : Target) (k : ErrorKind) → BreaksObject plain S n a k → BreaksObject form S n a k
+still_refused : (form : Form) (S : Segments) (n : ℕ) (a : Target) (k : ErrorKind) → BreaksObject Value plain S n a k → BreaksObject Value form S n a k
 still_refused form S n a CannotCreateACanonicalMessageWithACapability h = absurd h.0
 still_refused form S n a MalformedDoubleFarPointer h = h
 still_refused form S n a UnknownPointerType h = (h.0, elim h.1 [ inl unlike ↦ inl unlike | inr never ↦ absurd never ])
@@ -38,7 +39,7 @@ still_refused form S n a InlineCompositeListsOfNonStructTypeAreNotSupported h = 
 still_refused form S n a InlineCompositeListsElementsOverrunItsWordCount h = h
 still_refused form S n a _ h = absurd h
 
-pub stopped_in : {r : Reading} {m m' : Meter} {k : ErrorKind} (form : Form) → Stopped plain r m m' k → Stopped form r m m' k
+pub stopped_in : {r : Reading} {m m' : Meter} {k : ErrorKind} (form : Form) → Stopped Value plain r m m' k → Stopped Value form r m m' k
 stopped_in form (pads_exceed some short paid named) = pads_exceed some short paid named
 stopped_in form (nowhere some h paid) = nowhere some h paid
 stopped_in {r} {k = k} form (broken a f h paid) = broken a f (still_refused form r.segments r.levels a k h) paid
@@ -52,10 +53,10 @@ pads_paid charging m m' g covers spent =
     let none : g ≡ g + 0 = omega arith in
     record { covers = subst (Affords charging m) none covers; spent = spent ∙ ap (λ i. after charging m i 1) none }
 
-pub capability_stopped : {r : Reading} (m m' : Meter) (i : ℕ) → IsObject r m m' (ObjectCapability i) → Stopped canonical r m m' CannotCreateACanonicalMessageWithACapability
+pub capability_stopped : {r : Reading} (m m' : Meter) (i : ℕ) → IsObject Value r m m' (ObjectCapability i) → Stopped Value canonical r m m' CannotCreateACanonicalMessageWithACapability
 capability_stopped {r} m m' i (a, l, low, e, covers, spent) = broken a (leads_to r a l) (tt, low) (pads_paid r.charging m m' a.pads covers spent)
 
-pub default_stopped : {r : Reading} (m m' : Meter) (i : ℕ) → IsObject r m m' (ObjectCapability i) → Stopped of_default r m m' UnknownPointerType
+pub default_stopped : {r : Reading} (m m' : Meter) (i : ℕ) → IsObject Value r m m' (ObjectCapability i) → Stopped Value of_default r m m' UnknownPointerType
 default_stopped {r} m m' i (a, l, low, e, covers, spent) = broken a (leads_to r a l) (omega (arith, low), inr tt) (pads_paid r.charging m m' a.pads covers spent)
 
 -- what is meant where an object was read
@@ -111,5 +112,5 @@ means_structs r (Structs d q es) a (c, (b, m, k, some, o, claims, t, fits, all, 
 
 -- a list of numbers
 
-pub flat_held : {r : Reading} (m m' : Meter) (start : Place) (size : ElementSize) (i : ℕ) → IsObject r m m' (ObjectFlat start size i) → words_of start.bytes.now ≡ segment r.segments start.segment
+pub flat_held : {r : Reading} (m m' : Meter) (start : Place) (size : ElementSize) (i : ℕ) → IsObject Value r m m' (ObjectFlat start size i) → words_of start.bytes.now ≡ segment r.segments start.segment
 flat_held m m' start size i (a, o, z, small, (held, es, eb), ez, ei) = held.0

@@ -21,6 +21,7 @@ use Rattle.capnp_objects.specs.Faults.{child_at}
 use Rattle.capnp_objects.specs.Wanted.{Form}
 use Rattle.capnp_objects.specs.declared.object.Place.{Place}
 use Rattle.capnp_objects.specs.declared.object.Object.TheVariants.{Struct as ObjectStruct, Pointers as ObjectPointers, Structs as ObjectStructs}
+use Rattle.capnp_objects.specs.declared.object.Purpose.TheVariants.{Value}
 use Rattle.capnp_copies.specs.Changes.{change, EndsInZeros, KeepsSections, KeepsWidths, CopiesChildren, CopiesRows}
 use Rattle.capnp_copies.specs.Copies.{AreCopied}
 use Rattle.capnp_copies.proofs.CopiesNear.{call_of, CopiesChildren as ChildrenCopied}
@@ -169,7 +170,7 @@ no_structs_room r size least i s old b in_row widths full = λ es c len all.
 
 -- what a place means is known by its object
 
-pub struct_value_too_large : {r : Reading} {levels : ℕ} (b : Form) (used room : ℕ) {m m' : Meter} {size : StructSize} (start : Place) → (0 < r.levels → levels ≡ pred r.levels) → IsObject r m m' (ObjectStruct start size) →
+pub struct_value_too_large : {r : Reading} {levels : ℕ} (b : Form) (used room : ℕ) {m m' : Meter} {size : StructSize} (start : Place) → (0 < r.levels → levels ≡ pred r.levels) → IsObject Value r m m' (ObjectStruct start size) →
     IsTooLargeStruct b (inside r levels start) size used room → IsTooLarge b r used room
 struct_value_too_large {r} {levels} b used room {size = size} start less (a, o, z, (held, es, eb), ed, eq) large = λ t c h.
     (let en = less o.meets.levels in
@@ -178,7 +179,7 @@ struct_value_too_large {r} {levels} b used room {size = size} start less (a, o, 
     let x = means_struct r t a (c, h) o.leads_to z in
     rw (x.4) (l x.0 x.1 x.2 x.3))
 
-pub pointers_value_too_large : {r : Reading} {levels i : ℕ} (b : Form) (used room : ℕ) {m m' : Meter} (start : Place) → (0 < r.levels → levels ≡ pred r.levels) → IsObject r m m' (ObjectPointers start i) →
+pub pointers_value_too_large : {r : Reading} {levels i : ℕ} (b : Form) (used room : ℕ) {m m' : Meter} (start : Place) → (0 < r.levels → levels ≡ pred r.levels) → IsObject Value r m m' (ObjectPointers start i) →
     IsTooLargePointers b (inside r levels start) i used room → IsTooLarge b r used room
 pointers_value_too_large {r} {levels} {i} b used room start less (a, o, z, six, (held, es, eb), ei) large = λ t c h.
     (let en = less o.meets.levels in
@@ -187,7 +188,7 @@ pointers_value_too_large {r} {levels} {i} b used room start less (a, o, z, six, 
     let x = means_pointers r t a (c, h) o.leads_to (z, six) in
     rw (x.4) (l x.0 x.1 x.2 x.3))
 
-pub structs_value_too_large : {r : Reading} {levels i : ℕ} (b : Form) (used room : ℕ) {m m' : Meter} {size : StructSize} (start : Place) → (0 < r.levels → levels ≡ pred r.levels) → IsObject r m m' (ObjectStructs start size i) →
+pub structs_value_too_large : {r : Reading} {levels i : ℕ} (b : Form) (used room : ℕ) {m m' : Meter} {size : StructSize} (start : Place) → (0 < r.levels → levels ≡ pred r.levels) → IsObject Value r m m' (ObjectStructs start size i) →
     IsTooLargeList b (inside r levels start) size i used room → IsTooLarge b r used room
 structs_value_too_large {r} {levels} {i} b used room {size = size} start less (a, o, z, seven, (held, eu, eb), ei, ed, eq) large = λ t c h.
     (let en = less o.meets.levels in

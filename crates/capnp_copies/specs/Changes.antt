@@ -20,6 +20,7 @@ use Rattle.capnp_objects.specs.Outcomes.{Entered, Reads, ReadsAll, ReadsElements
 use Rattle.capnp_objects.specs.Refusals.{Refused, RefusedAll, RefusedElements, StopsWithin, StopsAmong, StopsAmongElements, BreaksOff, BreaksOffAmong, BreaksOffAmongElements}
 use Rattle.capnp_objects.specs.Reading.{Reading, behind, row, sized, tag_size, words_from}
 use Rattle.capnp_objects.specs.Wanted.{Form, canonical}
+use Rattle.capnp_objects.specs.declared.object.Purpose.TheVariants.{Value}
 use Rattle.capnp_copies.specs.Forms.{kept, kept_each, kept_elements}
 use Rattle.capnp_copies.specs.Copied.{with_children, rows_laid}
 use Rattle.capnp_copies.specs.Copies.{IsCopied, AreCopied}
@@ -91,7 +92,7 @@ pub data IsMadeOf (form : Form) (r : Reading) (a : Target) (n : ℕ) : Type 0 wh
 
 -- An object was read, and n words are to be made of it.
 abbrev pub WantsWords : Form → ℕ → Reading → Meter → Meter → Type 0
-WantsWords form n r m m' = (a : Target) × Entered r m m' a × IsMadeOf form r a n
+WantsWords form n r m m' = (a : Target) × Entered Value r m m' a × IsMadeOf form r a n
 
 -- The arena has no room, by the name k, for words of which Q says where they are wanted. What is copied is then too large for its
 -- segment, as P says of the words in use and the room.

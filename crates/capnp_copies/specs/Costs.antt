@@ -9,6 +9,7 @@ use Rattle.capnp_objects.specs.Reading.{Reading}
 use Rattle.capnp_objects.specs.Refusals.{ReadsBefore, in_struct, in_pointers, in_element, StopsWithin, here, below, StopsAmong, StopsAmongElements}
 use Rattle.capnp_objects.specs.Spending.{pointers_in_all, pointers_in_elements}
 use Rattle.capnp_objects.specs.Wanted.{Form}
+use Rattle.capnp_objects.specs.declared.object.Purpose.TheVariants.{Value}
 
 -- The words for the pointers of an object before one of them.
 abbrev pub cost_before : {form : Form} {r : Reading} {a : Target} {q : ℕ} {m m' : Meter} → ReadsBefore form r a q m m' → ℕ
@@ -19,7 +20,7 @@ cost_before (in_element es ts mid is fewer few at rows reads) = rows.cost + read
 -- Those for each object on the way, and for what its pointers before the next one on the way mean.
 abbrev pub cost_until : {form : Form} {P : Reading → Meter → Meter → Type 0} {r : Reading} {m m' : Meter} → StopsWithin form P r m m' → ℕ
 cost_until (here stops) = 0
-cost_until {r = r} (below a q entered before rest) = own r.segments a + (cost_before before + cost_until rest)
+cost_until {r = r} (below a q entered before rest) = own Value r.segments a + (cost_before before + cost_until rest)
 
 -- What is read of pointers one behind the other, before the object where their reading stops, costs so much; and of the pointers
 -- of elements.

@@ -27,6 +27,7 @@ use Rattle.capnp_objects.specs.Refusals.{Refused, RefusedAll, RefusedElements}
 use Rattle.capnp_objects.specs.Source.{levels}
 use Rattle.capnp_objects.specs.Spending.{after, pointers_in_all, pointers_in_elements}
 use Rattle.capnp_objects.specs.Wanted.{Form, Takes}
+use Rattle.capnp_objects.specs.declared.object.Purpose.TheVariants.{Value}
 use Rattle.capnp_objects.proofs.Budgets.{affords_rest, paid_own}
 use Rattle.capnp_objects.proofs.Faultless.{same_target}
 use Rattle.capnp_objects.proofs.Objects.{read_null, read_flat, read_pointers, read_structs, own_flat, own_pointers, own_structs}
@@ -48,7 +49,7 @@ use Rattle.capnp_edits.proofs.CopiedStruct.{level_less, own_covered}
 use Rattle.capnp_edits.proofs.Steps.{same_some}
 
 -- what a list reader shows is the list that the place leads to
-plain_there : {A : Type 0} (g : Ghosts A) (p : PointerReader A g) (m m' : Meter) (v : ListReader A g) (a : Target) → Entered (reading g p) m m' a → kind a.word ≡ 1 → v.source ≡ p.source →
+plain_there : {A : Type 0} (g : Ghosts A) (p : PointerReader A g) (m m' : Meter) (v : ListReader A g) (a : Target) → Entered Value (reading g p) m m' a → kind a.word ≡ 1 → v.source ≡ p.source →
     v.nesting_limit ≡ (p.nesting_limit -ℤ pos 1) →
     (size : ElementSize) → v.element_size ≡ size → size_number size ≤ 6 → nat_eq (size_number size) 1 ≡ false →
     (element_size a.word ≡ size_number size) × ShowsList g (reading g p).segments v a.segment a.start (list_count a.word) 0 0 → LeadsToList (reading g p) m m' (elements_read g v)
@@ -57,7 +58,7 @@ plain_there g p m m' v a o z source nesting size e small no_bits (is, shows) =
     let number : size_number size ≡ size_number v.element_size = ap size_number (sym e) in
     a_plain_list a o z (is ∙ number) (subst (λ i. i ≤ 6) number small) (subst (λ i. nat_eq i 1 ≡ false) number no_bits) (rw (source, shows.segment_is, shows.elements_start, level) refl) shows.counts
 
-list_there : {A : Type 0} (g : Ghosts A) (p : PointerReader A g) (m m' : Meter) (v : ListReader A g) (a : Target) → Entered (reading g p) m m' a → kind a.word ≡ 1 → v.source ≡ p.source →
+list_there : {A : Type 0} (g : Ghosts A) (p : PointerReader A g) (m m' : Meter) (v : ListReader A g) (a : Target) → Entered Value (reading g p) m m' a → kind a.word ≡ 1 → v.source ≡ p.source →
     v.nesting_limit ≡ (p.nesting_limit -ℤ pos 1) →
     (size : ElementSize) → v.element_size ≡ size → (size_number size ≡ 1 → ⊥) → IsListOf g size (reading g p).segments v a → LeadsToList (reading g p) m m' (elements_read g v)
 list_there g p m m' v a o z source nesting InlineComposite e no_bits (seven, shows) =
@@ -144,8 +145,8 @@ record ListMeets (r : Reading) (c : ℕ) : Type 0 where
   is_list : kind target.word ≡ 1
   wide : misfit (ExpectedList Void) r.segments target ≡ None
   some : 0 < r.levels
-  meets : Meets r.segments 1 target
-  cost : own r.segments target ≤ c
+  meets : Meets Value r.segments 1 target
+  cost : own Value r.segments target ≤ c
 
 wide_enough : (size : ℕ) → size ≤ 7 → nat_eq size 1 ≡ false → cond (nat_eq size 7) None (narrow_elements Void size) ≡ None
 wide_enough zero le other = refl
@@ -180,7 +181,7 @@ flat_meets r size ns c (a, some, small, o, claims, values, g) no_bits =
         tagged = λ l. absurd (omega (arith, l.1, is, small));
       };
       cost =
-          let same : own S a ≡ a.pads + words_for size (length ns) + count_cost size (length ns) =
+          let same : own Value S a ≡ a.pads + words_for size (length ns) + count_cost size (length ns) =
           own_flat S a o.is_list (omega (arith, is, small)) ∙ ap₂ (λ i n. a.pads + words_for i n + count_cost i n) is o.counts in
           omega (arith, same, g);
     }
@@ -204,7 +205,7 @@ pointers_meet r ts c (a, k, some, o, claims, all, g) =
     }
 
 own_structs_there : (S : Segments) (a : Target) (m n d q : ℕ) → kind a.word ≡ 1 → element_size a.word ≡ 7 → list_count a.word ≡ m → IsTag (tag S a) n d q →
-    own S a ≡ a.pads + (m + 1) + count_cost (d + q) n
+    own Value S a ≡ a.pads + (m + 1) + count_cost (d + q) n
 own_structs_there S a m n d q z seven counts t =
     own_structs S a z seven ∙ ap₂ (λ i j. a.pads + (i + 1) + j) counts (ap₂ count_cost (ap₂ (λ i j. i + j) t.data_of t.pointers) t.counts)
 
@@ -241,7 +242,7 @@ given_there r m c x covers = inr (
     meets = x.meets;
     fits = x.wide;
   },
-  own_covered r.charging m (own r.segments x.target) c x.cost covers,
+  own_covered r.charging m (own Value r.segments x.target) c x.cost covers,
 )
 
 list_suited : (r : Reading) (m : Meter) (t : Tree) (c : ℕ) (copied : Tree) → MeansThere r t c → Affords r.charging m c → as_wanted AList t ≡ Some copied → CanBeGiven (ExpectedList Void) r m
@@ -299,7 +300,7 @@ pointers_match form r m n l ts c (a_plain_list b at z s few no_bits first counts
     let six : element_size b.word ≡ 6 = ap (λ (x : Target). element_size x.word) same ∙ o.is_size in
     let many : list_count b.word ≡ count ts = ap (λ (x : Target). list_count x.word) same ∙ o.counts in
     let place : l.first ≡ child_at r a (pred r.levels) a.start = first ∙ ap (λ (x : Target). child_at r x (pred r.levels) x.start) same in
-    let enters : own S b + k ≤ c = omega (arith, own_pointers S b z six, many, ap (λ (x : Target). x.pads) same, g) in
+    let enters : own Value S b + k ≤ c = omega (arith, own_pointers S b z six, many, ap (λ (x : Target). x.pads) same, g) in
     let end : Meter = after r.charging n k (pointers_in_all ts) in
     let there : ReadsAll form (child_at r a (pred r.levels) a.start) n end ts = record { cost = k; means = all; takes = takes; covers = affords_rest k c (paid_own at) enters covers; spent = refl } in
     (end, (pointer_size l.size (sym s ∙ six), sym (counts ∙ many), subst (λ x. ReadsAll form x n end ts) (sym place) there))
@@ -319,7 +320,7 @@ structs_match form r m n l d q es c (a_struct_list b at z s sections first count
     let there : l.first ≡ child_at r a (pred r.levels) (a.start + 1) = first ∙ ap (λ (x : Target). child_at r x (pred r.levels) (x.start + 1)) same in
     let rows : l.sections ≡ sized d q = sections ∙ ap (tag_size S) same ∙ ap₂ sized t.data_of t.pointers in
     let many : l.count ≡ element_count es = counts ∙ ap (λ x. offset_bits (tag S x)) same ∙ t.counts in
-    let enters : own S b + k ≤ c = omega (arith, ap (own S) same, own_structs_there S a i (element_count es) d q o.is_list o.is_size o.counts t, g) in
+    let enters : own Value S b + k ≤ c = omega (arith, ap (own Value S) same, own_structs_there S a i (element_count es) d q o.is_list o.is_size o.counts t, g) in
     let end : Meter = after r.charging n k (pointers_in_elements es) in
     let row : ReadsElements form (child_at r a (pred r.levels) (a.start + 1)) (sized d q) n end es =
     record { cost = k; means = all; takes = takes; covers = affords_rest k c (paid_own at) enters covers; spent = refl } in

@@ -38,6 +38,7 @@ use Rattle.capnp_copies.specs.Changes.{change}
 use Rattle.capnp_copies.specs.Forms.{form_of, kept}
 use Rattle.capnp_copies.specs.StructValues.{RefusesSections, section_words, data_of}
 use Rattle.capnp_format.specs.Bytes.{words_of}
+use Rattle.capnp_objects.specs.declared.object.Purpose.TheVariants.{Value}
 use Rattle.capnp_format.proofs.WordsOf.{words}
 use Rattle.capnp_copies.proofs.DataSections.{whole_section, kept_count-le}
 use Rattle.capnp_edits.specs.declared.edit.copying.Copying.{Copying}
@@ -115,7 +116,7 @@ struct_refused b id at old new r m m' s k leads (inr (inl refused)) = inr (struc
 struct_refused b id at old new r m m' s k leads (inr (inr (wide, named))) = inl (inr (_, named))
 
 -- a struct that can be copied is found
-struct_meets : (S : Segments) (n s p : ℕ) (ws : List ℕ) (ts : Trees) (c : ℕ) → Means S n s p (Struct ws ts) c → (a : Target) × Leads S s p a × (kind a.word ≡ 0) × (0 < n) × Claims S a (claim a.word) × (own S a ≤ c)
+struct_meets : (S : Segments) (n s p : ℕ) (ws : List ℕ) (ts : Trees) (c : ℕ) → Means S n s p (Struct ws ts) c → (a : Target) × Leads S s p a × (kind a.word ≡ 0) × (0 < n) × Claims S a (claim a.word) × (own Value S a ≤ c)
 struct_meets S n s p ws ts c (a, k, some, o, claims, words, all, g) =
     (a, o.leads_to, o.is_struct, some, omega (arith, claims, claim_struct a.word o.is_struct, o.data_of, o.pointers), omega (arith, own_struct S a o.is_struct, o.data_of, o.pointers, g))
 
@@ -140,7 +141,7 @@ unfolding CanBeGiven
 struct_suited r m Null c copied means covers e = inl means.0
 struct_suited r m (Struct ws ts) c copied means covers e =
     let (a, leads, z, some, claims, paid) = struct_meets r.segments r.levels r.segment r.at ws ts c means in
-    inr (a, struct_suits r a leads z some claims, own_covered r.charging m (own r.segments a) c paid covers)
+    inr (a, struct_suits r a leads z some claims, own_covered r.charging m (own Value r.segments a) c paid covers)
 struct_suited r m (Capability i) c copied means covers e = absurd (cc)
 struct_suited r m (Flat size ns) c copied means covers e = absurd (cc)
 struct_suited r m (Pointers ts) c copied means covers e = absurd (cc)
@@ -176,7 +177,7 @@ struct_matches form r m s (Struct vs ts) c copied (a_struct b o z ws first q) (a
     let long : data_words b.word ≡ length vs = ap (λ (x : Target). data_words x.word) same ∙ at.data_of in
     let are : s.words ≡ vs = ws ∙ ap₂ (λ (x : Target) n. words_at S x.segment x.start n) same long ∙ words in
     let place : s.first ≡ child_at r a (pred r.levels) (a.start + length vs) = first ∙ ap₂ (λ (x : Target) n. child_at r x (pred r.levels) (x.start + n)) same long in
-    let enters : own S b + k ≤ c = omega (arith, own_struct S b z, long, ap (λ (x : Target). pointer_count x.word) same, at.pointers, ap (λ (x : Target). x.pads) same, g) in
+    let enters : own Value S b + k ≤ c = omega (arith, own_struct S b z, long, ap (λ (x : Target). pointer_count x.word) same, at.pointers, ap (λ (x : Target). x.pads) same, g) in
     record {
       children = ts;
       counts = sym (q ∙ ap (λ (x : Target). pointer_count x.word) same ∙ at.pointers);

@@ -26,6 +26,7 @@ use Rattle.capnp_objects.specs.Expected.{CanBeGiven}
 use Rattle.capnp_objects.specs.Faults.{child_at}
 use Rattle.capnp_objects.specs.Spending.{after}
 use Rattle.capnp_objects.specs.Wanted.{plain}
+use Rattle.capnp_objects.specs.declared.object.Purpose.TheVariants.{Value}
 use Rattle.capnp_objects.proofs.Copies.{read_none, read_stop}
 use Rattle.capnp_objects.proofs.Expecting.{not_withheld}
 use Rattle.capnp_objects.proofs.Faultless.{same_target}
@@ -357,7 +358,7 @@ same_struct (a_struct a o k ws start n) (no_struct null us none same) some = abs
 same_struct {r} {m} (a_struct a o k ws start n) (a_struct b i l us at c) some =
     let e : a ≡ b = same_target r.segments r.segment r.at o.leads_to.1 i.leads_to.1 in (
       start ∙ ap (λ (x : Target). child_at r x (pred r.levels) (x.start + data_words x.word)) e ∙ sym at,
-      o.spent ∙ ap (λ x. after r.charging m (own r.segments x) 1) e ∙ sym i.spent,
+      o.spent ∙ ap (λ x. after r.charging m (own Value r.segments x) 1) e ∙ sym i.spent,
       n ∙ ap (λ (x : Target). pointer_count x.word) e ∙ sym c,
     )
 

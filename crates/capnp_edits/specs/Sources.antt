@@ -36,6 +36,7 @@ use Rattle.capnp_edits.specs.declared.edit.Source.{Source}
 use Rattle.capnp_edits.specs.declared.edit.copying.Copying.{Copying}
 use Rattle.capnp_edits.specs.declared.edit.copying.Wanted.{Wanted}
 use Rattle.capnp_edits.specs.declared.edit.copying.Wanted.TheVariants.{Value, Struct as AStruct, List as AList}
+use Rattle.capnp_objects.specs.declared.object.Purpose.TheVariants.{Value as ForValue}
 
 abbrev pub copying : Source → Wanted → Bool → Copying
 copying source wanted canonicalize = record { source = source; wanted = wanted; canonicalize = canonicalize }
@@ -136,7 +137,7 @@ pub data LeadsToStruct (r : Reading) (m : Meter) (s : Sections) : Type 0 where
   no_struct : word_of r ≡ 0 → s.words ≡ [] → s.pointers ≡ 0 → s.limiter ≡ m → LeadsToStruct r m s
   a_struct :
       (a : Target) →
-      Entered r m s.limiter a →
+      Entered ForValue r m s.limiter a →
       kind a.word ≡ 0 →
       s.words ≡ words_at r.segments a.segment a.start (data_words a.word) →
       s.first ≡ child_at r a (pred r.levels) (a.start + data_words a.word) →
@@ -148,7 +149,7 @@ pub data LeadsToList (r : Reading) (m m' : Meter) (l : ListElements) : Type 0 wh
   no_list : word_of r ≡ 0 → l.size ≡ Void → l.count ≡ 0 → m' ≡ m → LeadsToList r m m' l
   a_plain_list :
       (a : Target) →
-      Entered r m m' a →
+      Entered ForValue r m m' a →
       kind a.word ≡ 1 →
       element_size a.word ≡ size_number l.size →
       size_number l.size ≤ 6 →
@@ -158,7 +159,7 @@ pub data LeadsToList (r : Reading) (m m' : Meter) (l : ListElements) : Type 0 wh
       LeadsToList r m m' l
   a_struct_list :
       (a : Target) →
-      Entered r m m' a →
+      Entered ForValue r m m' a →
       IsStructList a.word →
       l.size ≡ InlineComposite →
       l.sections ≡ tag_size r.segments a →

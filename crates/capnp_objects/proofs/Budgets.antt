@@ -11,6 +11,7 @@ use Rattle.capnp_objects.specs.Demands.{own}
 use Rattle.capnp_objects.specs.Outcomes.{Reads, ReadsAll, ReadsElements, Entered}
 use Rattle.capnp_objects.specs.Reading.{Reading, sized}
 use Rattle.capnp_objects.specs.Wanted.{Form}
+use Rattle.capnp_objects.specs.declared.object.Purpose.TheVariants.{Value}
 
 pub less_less : (o : Option ℕ) (g h : ℕ) → less (less o g) h ≡ less o (g + h)
 less_less None g h = refl
@@ -64,7 +65,7 @@ affords_none true m = go m.left
 affords_none false m = tt
 
 -- what a reading paid
-pub paid_own : {r : Reading} {m m' : Meter} {a : Target} → Entered r m m' a → Paid r.charging m m' (own r.segments a) 1
+pub paid_own : {r : Reading} {m m' : Meter} {a : Target} → Entered Value r m m' a → Paid r.charging m m' (own Value r.segments a) 1
 paid_own o = record { covers = o.covers; spent = o.spent }
 
 pub paid_one : {form : Form} {r : Reading} {m m' : Meter} {t : Tree} (x : Reads form r m m' t) → Paid r.charging m m' x.cost (pointers_in t)

@@ -16,6 +16,7 @@ use Rattle.capnp_objects.specs.Outcomes.{MeansThere, MeanThere, ElementsMean}
 use Rattle.capnp_objects.specs.Wanted.{BreaksObject, BreaksAt, Takes, follow_at}
 use Rattle.capnp_objects.specs.Wanted.{Form, plain, canonical, of_default}
 use Rattle.capnp_objects.specs.Reading.{Reading, word_of, behind, row, words_from, tag_size}
+use Rattle.capnp_objects.specs.declared.object.Purpose.TheVariants.{Value}
 use Rattle.capnp_objects.proofs.Followed.{leads_to, leads_there}
 use Rattle.capnp_objects.proofs.Parts.{claim_struct, claim_list, claim_flat}
 use Rattle.capnp_format.proofs.Slices.{length_words}
@@ -130,7 +131,7 @@ choose_pointers {r} {a} form o z six h =
       | inr f ↦ inr (f.0, below a f.1.0 o.leads_to (record { levels = o.levels; is_object = omega (arith, z); claims = o.claims; tagged = λ e. absurd (omega (arith, e.1, six)) }) (of_list z six f.1.1 f.1.2) f.1.3)
     ]
 
-at_place : (form : Form) (r : Reading) (a : Target) (k : ErrorKind) → FollowsTo r a → BreaksObject form r.segments r.levels a k → Choice form r
+at_place : (form : Form) (r : Reading) (a : Target) (k : ErrorKind) → FollowsTo r a → BreaksObject Value form r.segments r.levels a k → Choice form r
 at_place form r a k f h = inr (k, here (f.0, inr (a, f.1, h)))
 
 choose_structs : {r : Reading} {a : Target} (form : Form) → IsWhole r a → kind a.word ≡ 1 → element_size a.word ≡ 7 → Below form r a → Choice form r

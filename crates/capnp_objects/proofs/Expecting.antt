@@ -24,6 +24,7 @@ use Rattle.capnp_objects.specs.Outcomes.{Entered}
 use Rattle.capnp_objects.specs.Reading.{Reading, word_of, tag_size}
 use Rattle.capnp_objects.specs.Refusals.{Unfollowed, exceeding, leading_nowhere, CanBeRead}
 use Rattle.capnp_objects.specs.Spending.{Paid}
+use Rattle.capnp_objects.specs.declared.object.Purpose.TheVariants.{Value}
 use Rattle.capnp_objects.proofs.Faultless.{same_target}
 use Rattle.capnp_objects.proofs.Followed.{leads_to}
 use Rattle.capnp_objects.proofs.Landings.{IsCounted, reached, entered, stops_unfollowed, object_refused}
@@ -70,12 +71,12 @@ is_byte InlineComposite e = absurd (omega arith)
 -- An object of the kind is entered, from m to m'.
 pub record IsEnteredAs (expected : Expected) (S : Segments) (charging : Bool) (a : Target) (m m' : Meter) (x : Object) : Type 0 where
   pub of_kind : another_kind expected a.word ≡ None
-  pub opened : IsOpened S charging 1 a m m' x
+  pub opened : IsOpened Value S charging 1 a m m' x
 
-pub is_entered : {expected : Expected} {a : Target} {m m' : Meter} {x : Object} (S : Segments) (charging : Bool) → IsOpened S charging 1 a m m' x → another_kind expected a.word ≡ None → IsEnteredAs expected S charging a m m' x
+pub is_entered : {expected : Expected} {a : Target} {m m' : Meter} {x : Object} (S : Segments) (charging : Bool) → IsOpened Value S charging 1 a m m' x → another_kind expected a.word ≡ None → IsEnteredAs expected S charging a m m' x
 is_entered S charging h e = record { of_kind = e; opened = h }
 
-pub entered_object : {expected : Expected} {S : Segments} {charging : Bool} {a : Target} {m m' : Meter} (x : Object) → IsEnteredAs expected S charging a m m' x → IsEntered S charging 1 a m m'
+pub entered_object : {expected : Expected} {S : Segments} {charging : Bool} {a : Target} {m m' : Meter} (x : Object) → IsEnteredAs expected S charging a m m' x → IsEntered Value S charging 1 a m m'
 entered_object ObjectNull h = absurd h.opened
 entered_object {expected} {a = a} (ObjectCapability i) h = absurd (let k = kind_below_two expected a.word h.of_kind in let low = h.opened.0 in omega (arith, low, k))
 entered_object (ObjectStruct start size) h = h.opened.0
@@ -207,15 +208,15 @@ pub suited : (expected : Expected) {r : Reading} {m m₁ m₂ m₃ : Meter} {l :
     object_misfit expected x ≡ None → IsEnteredAs expected r.segments r.charging (target l) m₂ m₃ x → CanBeGiven expected r m
 unfolding CanBeGiven
 suited expected {r} {m} {m₁} {m₂} {m₃} {l} x o f level fits h =
-    let all : Entered (one_level r) m m₃ (target l) = entered (reached {r = one_level r} (level_counted o) f) (entered_object x h) in
+    let all : Entered Value (one_level r) m m₃ (target l) = entered (reached {r = one_level r} (level_counted o) f) (entered_object x h) in
     inr (target l, record { level = level; leads_to = all.leads_to; of_kind = h.of_kind; meets = all.meets; fits = sym (misfit_of x h) ∙ fits }, all.covers)
 
-can_be_read : (expected : Expected) (r : Reading) (m : Meter) → CanBeGiven expected r m → CanBeRead (one_level r) m
+can_be_read : (expected : Expected) (r : Reading) (m : Meter) → CanBeGiven expected r m → CanBeRead Value (one_level r) m
 unfolding CanBeGiven CanBeRead
 can_be_read expected r m (inl null) = inl null
 can_be_read expected r m (inr (a, s, covers)) = inr (inr (a, s.leads_to, s.meets, covers))
 
-null_can_be_read : (r : Reading) (m : Meter) → word_of r ≡ 0 → CanBeRead r m
+null_can_be_read : (r : Reading) (m : Meter) → word_of r ≡ 0 → CanBeRead Value r m
 unfolding CanBeRead
 null_can_be_read r m null = inl null
 
@@ -227,7 +228,7 @@ not_withheld_null null (of_another_kind b level f e paid) = f.0 null
 not_withheld_null {r = r} {m} null (stopped level of_kind h) = not_stopped (null_can_be_read (one_level r) m null) h
 not_withheld_null null (misfits b level e o fits) = o.leads_to.0 null
 
-not_withheld_there : {expected : Expected} {r : Reading} {m m' : Meter} {k : ErrorKind} (a : Target) → IsSuited expected r a → CanBeRead (one_level r) m → Withheld expected r m m' k → ⊥
+not_withheld_there : {expected : Expected} {r : Reading} {m m' : Meter} {k : ErrorKind} (a : Target) → IsSuited expected r a → CanBeRead Value (one_level r) m → Withheld expected r m m' k → ⊥
 not_withheld_there a s can (no_level some e same) = absurd (let f = s.level in cc (e, f))
 not_withheld_there a s can (unfollowed level h) = not_stopped can (stops_unfollowed (level_unfollowed h))
 not_withheld_there {r = r} a s can (of_another_kind b level f e paid) = absurd (let g = (leads_to r a s.leads_to).1 in let h = f.1 in let i = s.of_kind in let same : a ≡ b = cc (g, h) in let j = rw (← same) at e in cc (i, j))
@@ -255,7 +256,7 @@ if_both (Ok x) P Q R f h k = f x h k
 if_both (Err e) P Q R f h k = tt
 
 -- one's own levels, of which there is one
-own_level : {r : Reading} {m m' : Meter} {a : Target} → 0 < r.levels → Entered (one_level r) m m' a → Entered r m m' a
+own_level : {r : Reading} {m m' : Meter} {a : Target} → 0 < r.levels → Entered Value (one_level r) m m' a → Entered Value r m m' a
 own_level level o = record {
   leads_to = o.leads_to;
   meets = record { levels = level; is_object = o.meets.is_object; claims = o.meets.claims; tagged = o.meets.tagged };
@@ -265,10 +266,10 @@ own_level level o = record {
 
 -- An object was read with one level, from m to m'.
 pub record IsReadAt (r : Reading) (m m' : Meter) (x : Object) : Type 0 where
-  pub object : IsObject (one_level r) m m' x
+  pub object : IsObject Value (one_level r) m m' x
 
 -- a struct or a list that is given was read within the levels of its place
-pub struct_given : {r : Reading} {m m' : Meter} (x : Object) → IsGiven Struct r.levels x → IsReadAt r m m' x → IsObject r m m' x
+pub struct_given : {r : Reading} {m m' : Meter} (x : Object) → IsGiven Struct r.levels x → IsReadAt r m m' x → IsObject Value r m m' x
 struct_given ObjectNull level h = h.object
 struct_given (ObjectCapability i) level h = absurd level
 struct_given (ObjectStruct start size) level h = let o = h.object in (o.0, own_level level o.1, o.2, o.3, o.4, o.5)
@@ -276,7 +277,7 @@ struct_given (ObjectFlat start size count) level h = absurd level
 struct_given (ObjectPointers start count) level h = absurd level
 struct_given (ObjectStructs start size count) level h = absurd level
 
-pub list_given : (size : ElementSize) {r : Reading} {m m' : Meter} (x : Object) → IsGiven (List size) r.levels x → IsReadAt r m m' x → IsObject r m m' x
+pub list_given : (size : ElementSize) {r : Reading} {m m' : Meter} (x : Object) → IsGiven (List size) r.levels x → IsReadAt r m m' x → IsObject Value r m m' x
 list_given size ObjectNull level h = h.object
 list_given size (ObjectCapability i) level h = absurd level
 list_given size (ObjectStruct start sections) level h = absurd level

@@ -9,7 +9,7 @@ use Rattle.capnp_format.specs.Segments.{Segments, segment, word_at, Target, ◌>
 use Rattle.capnp_objects.specs.Follow.{◌>=>◌, or_named, follow_far, follow, Follows}
 use Rattle.capnp_format.specs.Means.{Leads}
 use Rattle.capnp_objects.specs.Faults.{LeadsTo}
-use Rattle.capnp_objects.specs.Measures.{near_at}
+use Rattle.capnp_objects.specs.Objects.{near_at}
 use Rattle.capnp_objects.specs.Reading.{Reading, word_of}
 use Rattle.capnp_objects.specs.Refusals.{FollowsTo}
 use Rattle.capnp_objects.specs.Wanted.{far_named, follow_at}

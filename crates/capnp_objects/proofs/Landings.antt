@@ -25,14 +25,19 @@ use Rattle.capnp_objects.proofs.Decided.{within_or_not}
 use Rattle.capnp_objects.specs.Spending.{after, Paid}
 use Rattle.capnp_objects.specs.Source.{default_segments, source_segments}
 use Rattle.capnp_objects.specs.Follow.{◌>=>◌, or_named, existing, follow_far, follow}
-use Rattle.capnp_objects.specs.Demands.{claim, amplified, own}
-use Rattle.capnp_objects.specs.Wanted.{BreaksObject, far_named, follow_at}
+use Rattle.capnp_objects.specs.Faults.{LeadsTo, LeadsFor}
+use Rattle.capnp_format.specs.Means.{Claims}
+use Rattle.capnp_objects.specs.Demands.{claim, amplified, own, IsVoidList, LiesThere, Meets}
+use Rattle.capnp_objects.specs.Wanted.{IsOutside, HasNoTag, non_struct_tag, BreaksObject, far_named, follow_at}
 use Rattle.capnp_objects.specs.Objects.{IsObject, IsHeld}
 use Rattle.capnp_objects.specs.Outcomes.{Entered}
 use Rattle.capnp_objects.specs.Refusals.{if_there, landing_words, granted_before, Unfollowed, exceeding, leading_nowhere, Stopped, pads_exceed as stopped_pads, nowhere as stopped_nowhere, broken as stopped_broken, claim_exceeds as stopped_claim, count_exceeds as stopped_count}
-use Rattle.capnp_objects.specs.Landings.{target, IsPad, IsFollowed, NotFollowed, nowhere, pads_exceed, FollowsPointer, FailsPointer, IsEntered, NotEntered, broken, claim_exceeds, elements_exceed, IsOpened}
+use Rattle.capnp_objects.specs.Landings.{target, IsPad, IsFollowed, NotFollowed, nowhere, pads_exceed, FollowsPointer, FailsPointer, IsClaimed, IsEntered, NotEntered, broken, claim_exceeds, elements_exceed, IsOpened}
 use Rattle.capnp_objects.specs.Wanted.{Form, plain}
 use Rattle.capnp_objects.specs.Reading.{Reading, reading_at, word_of}
+use Rattle.capnp_objects.specs.declared.object.Purpose.{Purpose}
+use Rattle.capnp_objects.specs.declared.object.Purpose.TheVariants.{Value, Size}
+use Rattle.capnp_objects.proofs.Parts.{claim_list, charge_of_size}
 use Rattle.capnp_objects.proofs.Budgets.{less_none, affords_none, affords_rest, paid_both}
 use Rattle.capnp_objects.proofs.Followed.{leads_there}
 use Rattle.capnp_objects.proofs.Stops.{Reached}
@@ -55,8 +60,8 @@ pub paid_charged : {charging : Bool} {m m' : Meter} {g : ℕ} → Affords chargi
 paid_charged {charging} {m} {m'} {g} covers e = record { covers = covers; spent = e ∙ charged_after charging m g }
 
 -- a demand is broken before anything is charged
-pub refuses_at_once : {S : Segments} {charging : Bool} {n : ℕ} {a : Target} {m : Meter} {k : ErrorKind} → BreaksObject plain S n a k → granted_before a k ≡ 0 → NotEntered S charging n a m m k
-refuses_at_once {S} {charging} {n} {a} {m} {k} h none =
+pub refuses_at_once : {purpose : Purpose} {S : Segments} {charging : Bool} {n : ℕ} {a : Target} {m : Meter} {k : ErrorKind} → BreaksObject purpose plain S n a k → granted_before a k ≡ 0 → NotEntered purpose S charging n a m m k
+refuses_at_once {charging = charging} {m = m} h none =
     broken h (subst (Affords charging m) (sym none) (affords_none charging m)) (sym (charged_none charging m) ∙ ap (charged charging m) (sym none))
 
 leads_nowhere : {S : Segments} {charging : Bool} {x : ℕ} {r : Result Target ErrorKind} {m : Meter} {k : ErrorKind} → r ≡ Err k → landing_words S x ≡ 0 → NotFollowed S charging x r m m k
@@ -281,10 +286,10 @@ charged_first {r} {m} {m'} {m''} {g} o paid =
 pub reached : {r : Reading} {m m' m'' : Meter} {l : Landing} → IsCounted r m m' → FollowsPointer r m' m'' l → Reached r m m'' (target l)
 reached {r} {m} {m'} {m''} {l} o f = record { follows = (o.some, f.leads_to); paid = charged_first o (paid_charged f.covers f.paid) }
 
-pub entered : {r : Reading} {m m' m'' : Meter} {a : Target} → Reached r m m' a → IsEntered r.segments r.charging r.levels a m' m'' → Entered r m m'' a
-entered {r} {m} {m'} {m''} {a} o e =
-    let more : Paid r.charging m' m'' (claim a.word + amplified r.segments a) 0 = paid_charged e.covers e.paid in
-    let all : a.pads + (claim a.word + amplified r.segments a) ≡ own r.segments a = omega arith in
+pub entered : {purpose : Purpose} {r : Reading} {m m' m'' : Meter} {a : Target} → Reached r m m' a → IsEntered purpose r.segments r.charging r.levels a m' m'' → Entered purpose r m m'' a
+entered {purpose} {r} {m} {m'} {m''} {a} o e =
+    let more : Paid r.charging m' m'' (claim a.word + amplified purpose r.segments a) 0 = paid_charged e.covers e.paid in
+    let all : a.pads + (claim a.word + amplified purpose r.segments a) ≡ own purpose r.segments a = omega arith in
     let paid = subst (λ i. Paid r.charging m m'' i 1) all (paid_both o.paid more) in
     record {
       leads_to = leads_there r a o.follows (λ f. let i = e.meets.is_object in omega arith);
@@ -293,18 +298,22 @@ entered {r} {m} {m'} {m''} {a} o e =
       spent = paid.spent;
     }
 
-opened : {r : Reading} {m m' : Meter} {a : Target} (m'' : Meter) (x : Object) → Reached r m m' a → IsOpened r.segments r.charging r.levels a m' m'' x → IsObject r m m'' x
-opened m'' ObjectNull o h = absurd h
-opened {r} {m} {m'} {a} m'' (ObjectCapability i) o (low, index, e) =
-    (a, leads_there r a o.follows (λ f. omega arith), low, index, o.paid.covers, e ∙ o.paid.spent)
-opened {r} {m} {m'} {a} m'' (ObjectStruct start size) o (e, z, there, d, q) = (a, entered o e, z, there, d, q)
-opened {r} {m} {m'} {a} m'' (ObjectFlat start size count) o (e, z, small, there, wide, len) = (a, entered o e, z, small, there, wide, len)
-opened {r} {m} {m'} {a} m'' (ObjectPointers start count) o (e, z, six, there, len) = (a, entered o e, z, six, there, len)
-opened {r} {m} {m'} {a} m'' (ObjectStructs start size count) o (e, z, seven, there, len, d, q) = (a, entered o e, z, seven, there, len, d, q)
+led : (purpose : Purpose) (r : Reading) (a : Target) → (purpose ≡ Size → 0 < r.levels) → LeadsTo r a → LeadsFor purpose r a
+led Value r a level l = l
+led Size r a level l = (l, level refl)
 
-pub object_opened : {r : Reading} {m m₁ m₂ : Meter} {l : Landing} (m₃ : Meter) (x : Object) → IsCounted r m m₁ → FollowsPointer r m₁ m₂ l →
-    IsOpened r.segments r.charging r.levels (target l) m₂ m₃ x → IsObject r m m₃ x
-object_opened m₃ x o f h = opened m₃ x (reached o f) h
+opened : (purpose : Purpose) {r : Reading} {m m' : Meter} {a : Target} (m'' : Meter) (x : Object) → (purpose ≡ Size → 0 < r.levels) → Reached r m m' a → IsOpened purpose r.segments r.charging r.levels a m' m'' x → IsObject purpose r m m'' x
+opened purpose m'' ObjectNull level o h = absurd h
+opened purpose {r} {m} {m'} {a} m'' (ObjectCapability i) level o (low, index, e) =
+    (a, led purpose r a level (leads_there r a o.follows (λ f. omega arith)), low, index, o.paid.covers, e ∙ o.paid.spent)
+opened purpose {r} {m} {m'} {a} m'' (ObjectStruct start size) level o (e, z, there, d, q) = (a, entered o e, z, there, d, q)
+opened purpose {r} {m} {m'} {a} m'' (ObjectFlat start size count) level o (e, z, small, there, wide, len) = (a, entered o e, z, small, there, wide, len)
+opened purpose {r} {m} {m'} {a} m'' (ObjectPointers start count) level o (e, z, six, there, len) = (a, entered o e, z, six, there, len)
+opened purpose {r} {m} {m'} {a} m'' (ObjectStructs start size count) level o (e, z, seven, there, len, d, q) = (a, entered o e, z, seven, there, len, d, q)
+
+pub object_opened : (purpose : Purpose) {r : Reading} {m m₁ m₂ : Meter} {l : Landing} (m₃ : Meter) (x : Object) → (purpose ≡ Size → 0 < r.levels) → IsCounted r m m₁ → FollowsPointer r m₁ m₂ l →
+    IsOpened purpose r.segments r.charging r.levels (target l) m₂ m₃ x → IsObject purpose r m m₃ x
+object_opened purpose m₃ x level o f h = opened purpose m₃ x level (reached o f) h
 
 -- the refusals
 pub unfollowed : {r : Reading} {m m' m'' : Meter} {k : ErrorKind} → IsCounted r m m' → FailsPointer r m' m'' k → Unfollowed r m m'' k
@@ -313,24 +322,69 @@ unfollowed {r} {m} {m'} {m''} {k} o (pads_exceed short same named) =
     let w : ℕ = landing_words r.segments (word_of r) in
     exceeding o.some (λ h. short (affords_rest w w (paid_one o) (omega arith) h)) (subst (λ y. Paid r.charging m y 0 1) (sym same) (paid_one o)) named
 
-pub stops_unfollowed : {form : Form} {r : Reading} {m m' : Meter} {k : ErrorKind} → Unfollowed r m m' k → Stopped form r m m' k
+pub stops_unfollowed : {purpose : Purpose} {form : Form} {r : Reading} {m m' : Meter} {k : ErrorKind} → Unfollowed r m m' k → Stopped purpose form r m m' k
 stops_unfollowed (exceeding some short paid named) = stopped_pads some short paid named
 stops_unfollowed (leading_nowhere some h paid) = stopped_nowhere some h paid
 
-pub stops_following : {r : Reading} {m m' m'' : Meter} {k : ErrorKind} → IsCounted r m m' → FailsPointer r m' m'' k → Stopped plain r m m'' k
+pub stops_following : {purpose : Purpose} {r : Reading} {m m' m'' : Meter} {k : ErrorKind} → IsCounted r m m' → FailsPointer r m' m'' k → Stopped purpose plain r m m'' k
 stops_following o h = stops_unfollowed (unfollowed o h)
 
-stops_entering : {r : Reading} {m m' m'' : Meter} {a : Target} {k : ErrorKind} → Reached r m m' a → NotEntered r.segments r.charging r.levels a m' m'' k → Stopped plain r m m'' k
-stops_entering {r} {m} {m'} {m''} {a} {k} o (broken h covers paid) = stopped_broken a o.follows h (paid_both o.paid (paid_charged covers paid))
-stops_entering {r} {m} {m'} {m''} {a} {k} o (claim_exceeds level object claims short same named) =
+stops_entering : {purpose : Purpose} {r : Reading} {m m' m'' : Meter} {a : Target} {k : ErrorKind} → Reached r m m' a → NotEntered purpose r.segments r.charging r.levels a m' m'' k → Stopped purpose plain r m m'' k
+stops_entering {purpose} {r} {m} {m'} {m''} {a} {k} o (broken h covers paid) = stopped_broken a o.follows h (paid_both o.paid (paid_charged covers paid))
+stops_entering {purpose} {r} {m} {m'} {m''} {a} {k} o (claim_exceeds level object claims short same named) =
     stopped_claim a o.follows level object claims (λ h. short (affords_rest (claim a.word) (a.pads + claim a.word) o.paid (omega arith) h)) (subst (λ y. Paid r.charging m y a.pads 1) (sym same) o.paid) named
-stops_entering {r} {m} {m'} {m''} {a} {k} o (elements_exceed meets covers paid short named) =
+stops_entering {purpose} {r} {m} {m'} {m''} {a} {k} o (elements_exceed meets covers paid short named) =
     let more : Paid r.charging m m'' (a.pads + claim a.word) 1 = paid_both o.paid (paid_charged covers paid) in
-    stopped_count a o.follows meets (λ h. short (affords_rest (amplified r.segments a) (own r.segments a) more (omega arith) h)) more named
+    stopped_count a o.follows meets (λ h. short (affords_rest (amplified purpose r.segments a) (own purpose r.segments a) more (omega arith) h)) more named
 
-pub object_refused : {r : Reading} {m m₁ m₂ m₃ : Meter} {l : Landing} {k : ErrorKind} → IsCounted r m m₁ → FollowsPointer r m₁ m₂ l →
-    NotEntered r.segments r.charging r.levels (target l) m₂ m₃ k → Stopped plain r m m₃ k
+pub object_refused : {purpose : Purpose} {r : Reading} {m m₁ m₂ m₃ : Meter} {l : Landing} {k : ErrorKind} → IsCounted r m m₁ → FollowsPointer r m₁ m₂ l →
+    NotEntered purpose r.segments r.charging r.levels (target l) m₂ m₃ k → Stopped purpose plain r m m₃ k
 object_refused o f h = stops_entering (reached o f) h
+
+-- the words that an object claims are charged, and for its elements g more
+pub entered_with : {purpose : Purpose} {S : Segments} {charging : Bool} {n : ℕ} {a : Target} {m m' m'' : Meter} (g : ℕ) → IsClaimed S charging n a m m' → Meets purpose S n a → amplified purpose S a ≡ g → Affords charging m' g → m'' ≡ charged charging m' g →
+    IsEntered purpose S charging n a m m''
+entered_with {purpose} {S} {charging} {n} {a} {m} {m'} {m''} g o meets extra covers paid =
+    let all : Paid charging m m'' (claim a.word + g) 0 = paid_both (paid_charged o.covers o.paid) (paid_charged covers paid) in
+    record {
+      meets = meets;
+      covers = subst (λ i. Affords charging m (claim a.word + i)) (sym extra) all.covers;
+      paid = all.spent ∙ sym (charged_after charging m (claim a.word + g)) ∙ ap (λ i. charged charging m (claim a.word + i)) (sym extra);
+    }
+
+-- and for its elements nothing more
+pub entered_free : {purpose : Purpose} {S : Segments} {charging : Bool} {n : ℕ} {a : Target} {m m' : Meter} → IsClaimed S charging n a m m' → Meets purpose S n a → amplified purpose S a ≡ 0 → IsEntered purpose S charging n a m m'
+entered_free {charging = charging} {m' = m'} o meets extra = entered_with 0 o meets extra (affords_none charging m') (sym (charged_none charging m'))
+
+-- a list of void is entered for its size at no charge, wherever it lies
+pub void_entered : {S : Segments} {charging : Bool} {n : ℕ} {a : Target} {m : Meter} → 0 < n → IsVoidList a.word → IsEntered Size S charging n a m m
+void_entered {S} {charging} {n} {a} {m} level void =
+    let free : claim a.word + amplified Size S a ≡ 0 = omega (arith, claim_list a.word 0 void.0 void.1, charge_of_size S a) in
+    record {
+      meets = record { levels = level; is_object = omega (arith, void.0); claims = λ some. absurd (some void); tagged = λ t. absurd (omega (arith, t.1, void.1)) };
+      covers = subst (Affords charging m) (sym free) (affords_none charging m);
+      paid = sym (charged_none charging m) ∙ ap (charged charging m) (sym free);
+    }
+
+-- words that lie in their segment lie there for each purpose
+pub lies : (purpose : Purpose) (S : Segments) (a : Target) → Claims S a (claim a.word) → LiesThere purpose S a
+lies Value S a h = h
+lies Size S a h = λ _. h
+
+-- so they are not charged where they don't
+pub outside : (purpose : Purpose) (S : Segments) (a : Target) → (IsVoidList a.word → purpose ≡ Value) → length (segment S a.segment) < a.start + claim a.word → IsOutside purpose S a
+outside Value S a sought h = h
+outside Size S a sought h = ((λ void. let e = sought void in absurd (cc e)), h)
+
+-- a list of structs without a tag
+pub untagged : (purpose : Purpose) {S : Segments} {charging : Bool} {n : ℕ} {a : Target} {m m' : Meter} → IsClaimed S charging n a m m' → HasNoTag S a → NotEntered purpose S charging n a m m' (non_struct_tag purpose)
+untagged Value o h = broken (o.levels, h) o.covers o.paid
+untagged Size o h = broken (o.levels, h) o.covers o.paid
+
+-- what isn't read for its size is read for its value
+pub for_value : (purpose : Purpose) → (purpose ≡ Size → ⊥) → purpose ≡ Value
+for_value Value h = refl
+for_value Size h = absurd (h refl)
 
 -- what is true of a result is true of it in other words
 pub if_ok : {A E : Type 0} (r : Result A E) (P Q : A → Type 0) → ((x : A) → P x → Q x) → IfOk r P → IfOk r Q

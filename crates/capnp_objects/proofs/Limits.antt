@@ -12,6 +12,7 @@ use Rattle.capnp_objects.proofs.Unreadable.{Unreadable}
 use Rattle.capnp_objects.specs.Refusals.{Refused}
 use Rattle.capnp_objects.specs.Wanted.{Form, BreaksObject, far_named}
 use Rattle.capnp_objects.specs.Reading.{Reading, word_of}
+use Rattle.capnp_objects.specs.declared.object.Purpose.TheVariants.{Value}
 use Rattle.capnp_objects.proofs.Truths.{named_truly}
 
 -- the names by which a pointer is not followed
@@ -54,7 +55,7 @@ nowhere_named_far true (Err k) h = inr (inl refl)
 nowhere_named_far false (Err k) h = h
 
 -- a name that is none of these, and by which no object breaks a demand, is no fault's
-no_fault : (form : Form) (k : ErrorKind) {r : Reading} → (IsNowhere k → ⊥) → ((S : Segments) (n : ℕ) (a : Target) → BreaksObject form S n a k → ⊥) → HasFault form r k → ⊥
+no_fault : (form : Form) (k : ErrorKind) {r : Reading} → (IsNowhere k → ⊥) → ((S : Segments) (n : ℕ) (a : Target) → BreaksObject Value form S n a k → ⊥) → HasFault form r k → ⊥
 no_fault form k {r} other none (here (some, inl f)) = other (subst Nowhere f (nowhere_named_far (r.of_default && nat_eq (kind (word_of r)) 2) (follow r.segments r.segment r.at) (nowhere_follow r.segments r.segment r.at)))
 no_fault form k other none (here (some, inr (a, f, h))) = none _ _ a h
 no_fault form k other none (below a q l o i rest) = no_fault form k other none rest

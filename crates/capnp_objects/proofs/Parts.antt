@@ -1,16 +1,19 @@
 -- What a place's meaning says of the object there and of its pointers, the same for every kind.
 -- Lemmas on `Means` name all its arguments: it is defined by recursion on the value, and the checker finds none of them from a premise.
-use Rattle.std.proofs.Common.{◌≡◌, ◌⊎◌, inl, inr, ℕ, zero, suc, pred, ◌+◌, ◌%◌, ◌^◌, ◌<◌, ◌≤◌, cond, nat_eq, length, refl, sym, ap, ◌∙◌, subst, arith}
+use Rattle.std.proofs.Common.{◌≡◌, ◌⊎◌, inl, inr, ℕ, zero, suc, pred, ◌+◌, ◌%◌, ◌^◌, ◌<◌, ◌≤◌, Bool, true, false, cond, nat_eq, length, refl, sym, ap, ◌∙◌, subst, arith}
+use Rattle.std.proofs.lemmas.Bool.{ne_eqb}
 use Rattle.capnp_format.specs.Word.{kind, offset_bits, data_words, pointer_count, element_size, list_count}
 use Rattle.capnp_format.specs.Numbers.{words_for}
 use Rattle.capnp_format.specs.Segments.{Segments, Target}
 use Rattle.capnp_format.specs.Tree.{Tree, Null, Capability, Struct, Flat, Pointers, Structs, Trees, no_trees, tree, Elements, no_elements, element, count, element_count, capabilities, capabilities_all, capabilities_elements}
-use Rattle.capnp_format.specs.Means.{Claims, count_cost}
+use Rattle.capnp_format.specs.Means.{Claims}
 use Rattle.capnp_words.specs.declared.wire_pointer.StructSize.{StructSize}
-use Rattle.capnp_objects.specs.Demands.{list_claim, claim, tag, amplified, own, Meets}
+use Rattle.capnp_objects.specs.Demands.{list_claim, claim, tag, count_charge, amplified, own, Meets}
 use Rattle.capnp_objects.specs.Faults.{LeadsTo, child_at, IsPointer, of_struct, of_list, of_element}
 use Rattle.capnp_objects.specs.Outcomes.{MeansThere, MeanThere, ElementsMean}
 use Rattle.capnp_objects.specs.Reading.{Reading, word_of, behind, pointers_of}
+use Rattle.capnp_objects.specs.declared.object.Purpose.{Purpose}
+use Rattle.capnp_objects.specs.declared.object.Purpose.TheVariants.{Value, Size}
 
 pub claim_struct : (w : ℕ) → kind w ≡ 0 → claim w ≡ data_words w + pointer_count w
 claim_struct w e = ap (λ k. cond (nat_eq k 0) (data_words w + pointer_count w) (list_claim (element_size w) (list_count w))) e
@@ -28,23 +31,37 @@ claim_flat (suc (suc (suc (suc (suc zero))))) n h = refl
 claim_flat (suc (suc (suc (suc (suc (suc k)))))) n h = absurd (omega arith)
 
 -- what elements of no bits cost, by the kind and the size
-abbrev extra : Segments → Target → ℕ → ℕ → ℕ
-extra S a k size = cond (nat_eq k 0) 0 (cond (nat_eq size 7) (count_cost (data_words (tag S a) + pointer_count (tag S a)) (offset_bits (tag S a))) (count_cost size (list_count a.word)))
+abbrev extra : Purpose → Segments → Target → ℕ → ℕ → ℕ
+extra purpose S a k size = cond (nat_eq k 0) 0 (cond (nat_eq size 7) (count_charge purpose (data_words (tag S a) + pointer_count (tag S a)) (offset_bits (tag S a))) (count_charge purpose size (list_count a.word)))
 
-pub extra_struct : (S : Segments) (a : Target) → kind a.word ≡ 0 → amplified S a ≡ 0
-extra_struct S a e = ap (λ k. extra S a k (element_size a.word)) e
+pub extra_struct : (purpose : Purpose) (S : Segments) (a : Target) → kind a.word ≡ 0 → amplified purpose S a ≡ 0
+extra_struct purpose S a e = ap (λ k. extra purpose S a k (element_size a.word)) e
 
-pub extra_list : (S : Segments) (a : Target) (size : ℕ) → kind a.word ≡ 1 → element_size a.word ≡ size → amplified S a ≡ extra S a 1 size
-extra_list S a size e f = ap (λ k. extra S a k (element_size a.word)) e ∙ ap (extra S a 1) f
+pub extra_list : (purpose : Purpose) (S : Segments) (a : Target) (size : ℕ) → kind a.word ≡ 1 → element_size a.word ≡ size → amplified purpose S a ≡ extra purpose S a 1 size
+extra_list purpose S a size e f = ap (λ k. extra purpose S a k (element_size a.word)) e ∙ ap (extra purpose S a 1) f
 
-pub extra_flat : (S : Segments) (a : Target) (size : ℕ) → size ≤ 5 → extra S a 1 size ≡ count_cost size (list_count a.word)
-extra_flat S a zero h = refl
-extra_flat S a (suc zero) h = refl
-extra_flat S a (suc (suc zero)) h = refl
-extra_flat S a (suc (suc (suc zero))) h = refl
-extra_flat S a (suc (suc (suc (suc zero)))) h = refl
-extra_flat S a (suc (suc (suc (suc (suc zero))))) h = refl
-extra_flat S a (suc (suc (suc (suc (suc (suc k)))))) h = absurd (omega arith)
+pub extra_flat : (purpose : Purpose) (S : Segments) (a : Target) (size : ℕ) → size ≤ 5 → extra purpose S a 1 size ≡ count_charge purpose size (list_count a.word)
+extra_flat purpose S a zero h = refl
+extra_flat purpose S a (suc zero) h = refl
+extra_flat purpose S a (suc (suc zero)) h = refl
+extra_flat purpose S a (suc (suc (suc zero))) h = refl
+extra_flat purpose S a (suc (suc (suc (suc zero)))) h = refl
+extra_flat purpose S a (suc (suc (suc (suc (suc zero))))) h = refl
+extra_flat purpose S a (suc (suc (suc (suc (suc (suc k)))))) h = absurd (omega arith)
+
+-- elements of some width are free
+pub charge_some : (purpose : Purpose) (width n : ℕ) → 0 < width → count_charge purpose width n ≡ 0
+charge_some Value width n some = ap (λ b. cond b n 0) (ne_eqb width 0 (λ e. omega (arith, e, some)))
+charge_some Size width n some = refl
+
+-- for the size all are
+pub charge_of_size : (S : Segments) (a : Target) → amplified Size S a ≡ 0
+charge_of_size S a = go (nat_eq (kind a.word) 0) (nat_eq (element_size a.word) 7) 0
+  where
+    go : (b c : Bool) (z : ℕ) → cond b z (cond c z z) ≡ z
+    go true c z = refl
+    go false true z = refl
+    go false false z = refl
 
 -- some value stands at a place, with at most m capabilities
 abbrev pub Meant : Reading → ℕ → Type 0
@@ -79,8 +96,8 @@ element_means r size (element ws ts es) q (c, (k, l, long, len, e, all, rest, g)
 
 -- an object that meets its demands, what it costs by itself, and its children
 pub record Inner (r : Reading) (a : Target) (m c : ℕ) : Type 0 where
-  pub meets : Meets r.segments r.levels a
-  pub cost : own r.segments a ≤ c
+  pub meets : Meets Value r.segments r.levels a
+  pub cost : own Value r.segments a ≤ c
   pub children : (q : ℕ) → IsPointer r.segments a q → Meant (child_at r a (pred r.levels) q) m
 
 -- a place with at most m capabilities, whose value costs c: it is null, or leads to a capability or to an object
@@ -95,7 +112,7 @@ means_parts r (Capability i) c (a, l, e, g) = is_capability a l (omega arith) (o
 means_parts r (Struct ws ts) c (a, k, some, o, claims, e, all, g) =
     is_inner a o.leads_to (record {
       meets = record { levels = some; is_object = omega (arith, o.is_struct); claims = omega (arith, claim_struct a.word o.is_struct, o.data_of, o.pointers, claims); tagged = λ l. absurd (omega (arith, l.0, o.is_struct)) };
-      cost = omega (arith, claim_struct a.word o.is_struct, extra_struct r.segments a o.is_struct, o.data_of, o.pointers);
+      cost = omega (arith, claim_struct a.word o.is_struct, extra_struct Value r.segments a o.is_struct, o.data_of, o.pointers);
       children = λ q. elim [
         | of_struct z low high ↦ child_means (child_at r a (pred r.levels) (a.start + length ws)) ts k q all (omega (arith, o.data_of), omega (arith, o.data_of, o.pointers))
         | of_list z size low high ↦ absurd (omega (arith, o.is_struct))
@@ -110,7 +127,7 @@ means_parts r (Flat size ns) c (a, some, small, o, claims, e, g) =
         claims = subst (Claims r.segments a) (ap (words_for size) (sym o.counts) ∙ sym (claim_flat size (list_count a.word) small) ∙ sym (claim_list a.word size o.is_list o.is_size)) claims;
         tagged = λ l. absurd (omega (arith, l.1, o.is_size));
       };
-      cost = rw (claim_list a.word size o.is_list o.is_size, claim_flat size (list_count a.word) small, extra_list r.segments a size o.is_list o.is_size, extra_flat r.segments a size small, o.counts) (omega (arith, g));
+      cost = rw (claim_list a.word size o.is_list o.is_size, claim_flat size (list_count a.word) small, extra_list Value r.segments a size o.is_list o.is_size, extra_flat Value r.segments a size small, o.counts) (omega (arith, g));
       children = λ q. elim [
         | of_struct z low high ↦ absurd (omega (arith, o.is_list))
         | of_list z six low high ↦ absurd (omega (arith, o.is_size, small))
@@ -120,7 +137,7 @@ means_parts r (Flat size ns) c (a, some, small, o, claims, e, g) =
 means_parts r (Pointers ts) c (a, k, some, o, claims, all, g) =
     is_inner a o.leads_to (record {
       meets = record { levels = some; is_object = omega (arith, o.is_list); claims = omega (arith, claim_list a.word 6 o.is_list o.is_size, o.counts, claims); tagged = λ l. absurd (omega (arith, l.1, o.is_size)) };
-      cost = omega (arith, claim_list a.word 6 o.is_list o.is_size, extra_list r.segments a 6 o.is_list o.is_size, o.counts, g);
+      cost = omega (arith, claim_list a.word 6 o.is_list o.is_size, extra_list Value r.segments a 6 o.is_list o.is_size, o.counts, g);
       children = λ q. elim [
         | of_struct z low high ↦ absurd (omega (arith, o.is_list))
         | of_list z six low high ↦ child_means (child_at r a (pred r.levels) a.start) ts k q all (low, omega (arith, o.counts))
@@ -135,7 +152,7 @@ means_parts r (Structs d q es) c (a, m, k, some, o, claims, t, fits, all, g) =
         claims = omega (arith, claim_list a.word 7 o.is_list o.is_size, o.counts, claims);
         tagged = λ l. (t.is_struct, rw (t.counts, t.data_of, t.pointers, o.counts) fits);
       };
-      cost = rw (claim_list a.word 7 o.is_list o.is_size, extra_list r.segments a 7 o.is_list o.is_size, t.counts, t.data_of, t.pointers, o.counts) (omega (arith, g));
+      cost = rw (claim_list a.word 7 o.is_list o.is_size, extra_list Value r.segments a 7 o.is_list o.is_size, t.counts, t.data_of, t.pointers, o.counts) (omega (arith, g));
       children = λ p. elim [
         | of_struct z low high ↦ absurd (omega (arith, o.is_list))
         | of_list z six low high ↦ absurd (omega (arith, o.is_size))

@@ -6,7 +6,7 @@ use Rattle.capnp_format.specs.Word.{kind, offset_bits, data_words, pointer_count
 use Rattle.capnp_format.specs.Segments.{Segments, Target, pad}
 use Rattle.capnp_format.specs.Tree.{count, element_count}
 use Rattle.capnp_objects.specs.Demands.{claim, tag, amplified, own}
-use Rattle.capnp_objects.specs.Faults.{LeadsTo, child_at}
+use Rattle.capnp_objects.specs.Faults.{LeadsTo, LeadsFor, child_at}
 use Rattle.capnp_objects.specs.Objects.{IsObject}
 use Rattle.capnp_objects.specs.declared.object.Object.{Object}
 use Rattle.capnp_objects.specs.declared.object.Object.TheVariants.{Null as ObjectNull, Capability as ObjectCapability, Struct as ObjectStruct, Flat as ObjectFlat, Pointers as ObjectPointers, Structs as ObjectStructs}
@@ -15,9 +15,11 @@ use Rattle.capnp_objects.specs.Reading.{Reading, word_of, pointers_of, tag_size}
 use Rattle.capnp_objects.specs.Refusals.{if_there, landing_words, Unfollowed, exceeding, leading_nowhere, Stopped, pads_exceed, nowhere, broken, claim_exceeds, count_exceeds, CanBeRead, ReadsBefore, in_struct, in_pointers, in_element, StopsWithin, here, below, StopsAmong, StopsAmongElements, Refused, BreaksOff}
 use Rattle.capnp_objects.specs.Spending.{Paid}
 use Rattle.capnp_objects.specs.Wanted.{Form, plain}
+use Rattle.capnp_objects.specs.declared.object.Purpose.{Purpose}
+use Rattle.capnp_objects.specs.declared.object.Purpose.TheVariants.{Value, Size}
 use Rattle.capnp_objects.proofs.Budgets.{fewer_than_words, one_element_more, affords_none, affords_both, paid_own, paid_all, paid_elements, pointers_within_all, pointers_within_elements}
 use Rattle.capnp_objects.proofs.Copies.{read_stop, read_element_stop, spends_on}
-use Rattle.capnp_objects.proofs.Faultless.{Sound, sound_capability, sound_object, target_sound, same_target}
+use Rattle.capnp_objects.proofs.Faultless.{Sound, sound_capability, sound_object, not_refused, same_target}
 use Rattle.capnp_objects.proofs.Followed.{leads_to, leads_there}
 use Rattle.capnp_objects.proofs.Stops.{object_spends, Reached, stopped_struct, stopped_pointers, stopped_structs, refused_here, refused_pads, refused_claim, refused_elements, leads_pads}
 use Rattle.capnp_objects.proofs.Objects.{own_struct, own_pointers, own_structs}
@@ -37,7 +39,7 @@ landing_cases S x = go (nat_eq (kind x) 2) (pad S x (is_double x)) (eqb-true (ki
     go false o two e = inl refl
 
 -- what a reading that stops spends
-pub stopped_spends : {form : Form} {r : Reading} {m m' : Meter} {k : ErrorKind} → Stopped form r m m' k → Spends r.charging m m' 1
+pub stopped_spends : {form : Form} {r : Reading} {m m' : Meter} {k : ErrorKind} → Stopped Value form r m m' k → Spends r.charging m m' 1
 stopped_spends (pads_exceed some short paid named) = spends_once paid
 stopped_spends (nowhere some h paid) = spends_once paid
 stopped_spends (broken a f h paid) = spends_once paid
@@ -45,7 +47,7 @@ stopped_spends (claim_exceeds a f level object claims short paid named) = spends
 stopped_spends (count_exceeds a f meets short paid named) = spends_once paid
 
 -- at one object
-stopped_here : {form : Form} {r : Reading} {m m' : Meter} {k : ErrorKind} → Stopped form r m m' k → Unreadable form r m m' k
+stopped_here : {form : Form} {r : Reading} {m m' : Meter} {k : ErrorKind} → Stopped Value form r m m' k → Unreadable form r m m' k
 stopped_here {form} {r} {m} {m'} {k} (pads_exceed some short paid named) = elim (landing_cases r.segments (word_of r)) [
   | inl none ↦ absurd (short (subst (Affords r.charging m) (sym none) (affords_none r.charging m)))
   | inr (two, f, there, words) ↦
@@ -59,11 +61,11 @@ stopped_here {form} {r} {m} {m'} {k} (claim_exceeds a f level object claims shor
     subst (Unreadable form r m m') (sym named) (refused_claim reached level object claims (λ h. short (affords_both (claim a.word) paid h)))
 stopped_here {form} {r} {m} {m'} {k} (count_exceeds a f meets short paid named) =
     let l : LeadsTo r a = leads_there r a f (λ e. let i = meets.is_object in omega (arith, e, i)) in
-    let all : a.pads + claim a.word + amplified r.segments a ≡ own r.segments a = refl in
-    subst (Unreadable form r m m') (sym named) (refused_elements l meets paid (λ h. short (subst (Affords r.charging m) all (affords_both (amplified r.segments a) paid h))))
+    let all : a.pads + claim a.word + amplified Value r.segments a ≡ own Value r.segments a = refl in
+    subst (Unreadable form r m m') (sym named) (refused_elements l meets paid (λ h. short (subst (Affords r.charging m) all (affords_both (amplified Value r.segments a) paid h))))
 
 -- at one of its pointers
-stopped_below : {form : Form} {r : Reading} {m first mid m' : Meter} {q : ℕ} {a : Target} {k : ErrorKind} → Entered r m first a → ReadsBefore form r a q first mid → Unreadable form (child_at r a (pred r.levels) q) mid m' k → Unreadable form r m m' k
+stopped_below : {form : Form} {r : Reading} {m first mid m' : Meter} {q : ℕ} {a : Target} {k : ErrorKind} → Entered Value r m first a → ReadsBefore form r a q first mid → Unreadable form (child_at r a (pred r.levels) q) mid m' k → Unreadable form r m m' k
 stopped_below {form} {r} {m} {first} {mid} {m'} {q} {a} {k} o (in_struct ts z fewer e all) child =
     stopped_struct o z (read_stop _ all fewer (subst (λ y. Unreadable form (child_at r a (pred r.levels) y) mid m' k) e child))
 stopped_below {form} {r} {m} {first} {mid} {m'} {q} {a} {k} o (in_pointers ts z six fewer e all) child =
@@ -72,15 +74,15 @@ stopped_below {form} {r} {m} {first} {mid} {m'} {q} {a} {k} o (in_element es ts 
     stopped_structs o z seven (read_element_stop _ rows fewer (read_stop _ all less (subst (λ y. Unreadable form (child_at r a (pred r.levels) y) mid m' k) e child)))
 
 -- where the reading of one of an object's pointers stops, so does that of the object
-unfoldable pub stops_struct : {form : Form} {P : Reading → Meter → Meter → Type 0} {r : Reading} {m m' m'' : Meter} {a : Target} → Entered r m m' a → kind a.word ≡ 0 →
+unfoldable pub stops_struct : {form : Form} {P : Reading → Meter → Meter → Type 0} {r : Reading} {m m' m'' : Meter} {a : Target} → Entered Value r m m' a → kind a.word ≡ 0 →
     StopsAmong form P (child_at r a (pred r.levels) (a.start + data_words a.word)) (pointer_count a.word) m' m'' → StopsWithin form P r m m''
 stops_struct {a = a} o z h = below a (a.start + data_words a.word + count h.first) o (in_struct h.first z h.fewer refl h.are_read) h.stops
 
-unfoldable pub stops_pointers : {form : Form} {P : Reading → Meter → Meter → Type 0} {r : Reading} {m m' m'' : Meter} {a : Target} → Entered r m m' a → kind a.word ≡ 1 → element_size a.word ≡ 6 →
+unfoldable pub stops_pointers : {form : Form} {P : Reading → Meter → Meter → Type 0} {r : Reading} {m m' m'' : Meter} {a : Target} → Entered Value r m m' a → kind a.word ≡ 1 → element_size a.word ≡ 6 →
     StopsAmong form P (child_at r a (pred r.levels) a.start) (list_count a.word) m' m'' → StopsWithin form P r m m''
 stops_pointers {a = a} o z six h = below a (a.start + count h.first) o (in_pointers h.first z six h.fewer refl h.are_read) h.stops
 
-unfoldable pub stops_structs : {form : Form} {P : Reading → Meter → Meter → Type 0} {r : Reading} {m m' m'' : Meter} {a : Target} → Entered r m m' a → kind a.word ≡ 1 → element_size a.word ≡ 7 →
+unfoldable pub stops_structs : {form : Form} {P : Reading → Meter → Meter → Type 0} {r : Reading} {m m' m'' : Meter} {a : Target} → Entered Value r m m' a → kind a.word ≡ 1 → element_size a.word ≡ 7 →
     StopsAmongElements form P (child_at r a (pred r.levels) (a.start + 1)) (tag_size r.segments a) (offset_bits (tag r.segments a)) m' m'' → StopsWithin form P r m m''
 stops_structs {r = r} {a = a} o z seven h =
     below a ((pointers_of (child_at r a (pred r.levels) (a.start + 1)) (tag_size r.segments a) (element_count h.first)).at + count h.stops.first) o
@@ -91,7 +93,7 @@ unreadable (here stopped) = stopped_here stopped
 unreadable (below a q o before rest) = stopped_below o before (unreadable rest)
 
 -- what is spent where the reading of a value is broken off
-spends_below : {form : Form} {r : Reading} {m first mid m' : Meter} {q : ℕ} {a : Target} → Entered r m first a → ReadsBefore form r a q first mid → Spends r.charging mid m' 1 → Spends r.charging m m' 1
+spends_below : {form : Form} {r : Reading} {m first mid m' : Meter} {q : ℕ} {a : Target} → Entered Value r m first a → ReadsBefore form r a q first mid → Spends r.charging mid m' 1 → Spends r.charging m m' 1
 spends_below {r = r} {a = a} o (in_struct ts z fewer e all) rest =
     object_spends (pointer_count a.word) (paid_own o) (omega (arith, own_struct r.segments a z)) (spends_on (count ts) 1 (paid_all all) (pointers_within_all (child_at r a (pred r.levels) (a.start + data_words a.word)) ts all.cost all.means) (omega (arith, fewer)) rest)
 spends_below {r = r} {a = a} o (in_pointers ts z six fewer e all) rest =
@@ -132,44 +134,52 @@ not_unfollowed {r} {m} b l pads (exceeding some short paid named) = short (landi
 not_unfollowed {r} b l pads (leading_nowhere some h paid) = absurd (let f = (leads_to r b l).1 in cc (f, h))
 
 -- where an object can be read, its reading isn't stopped
-abbrev IsSound : Reading → Meter → Target → Type 0
-IsSound r m a = LeadsTo r a × Sound plain r a × Affords r.charging m a.pads × (kind a.word < 2 → Affords r.charging m (own r.segments a))
+abbrev IsSound : Purpose → Reading → Meter → Target → Type 0
+IsSound purpose r m a = LeadsTo r a × Sound purpose plain r a × Affords r.charging m a.pads × (kind a.word < 2 → Affords r.charging m (own purpose r.segments a))
 
-sound_not_stopped : {r : Reading} {m m' : Meter} {b : Target} {k : ErrorKind} → IsSound r m b → Stopped plain r m m' k → ⊥
-sound_not_stopped {r} {m} {m'} {b} (l, sound, pads, whole) (pads_exceed some short paid named) = short (landing_covered r m b l pads)
-sound_not_stopped {r} {k = k} (l, sound, pads, whole) (nowhere some h paid) = target_sound {r = r} plain k l sound (some, inl h)
-sound_not_stopped {r} {k = k} (l, sound, pads, whole) (broken a f h paid) = target_sound {r = r} plain k l sound (f.0, inr (a, f.1, h))
-sound_not_stopped {r} {m} {b = b} (l, sound, pads, whole) (claim_exceeds a f level object claims short paid named) =
+sound_not_stopped : {purpose : Purpose} {r : Reading} {m m' : Meter} {b : Target} {k : ErrorKind} → IsSound purpose r m b → Stopped purpose plain r m m' k → ⊥
+sound_not_stopped {r = r} {m = m} {b = b} (l, sound, pads, whole) (pads_exceed some short paid named) = short (landing_covered r m b l pads)
+sound_not_stopped {r = r} {b = b} (l, sound, pads, whole) (nowhere some h paid) = let f = (leads_to r b l).1 in absurd (cc (f, h))
+sound_not_stopped {purpose} {r} {b = b} {k = k} (l, sound, pads, whole) (broken a f h paid) =
+    let e = sym (leads_to r b l).1 ∙ f.1 in
+    let q : b ≡ a = cc e in
+    not_refused purpose k sound (rw q h)
+sound_not_stopped {purpose} {r} {m} {b = b} (l, sound, pads, whole) (claim_exceeds a f level object claims short paid named) =
     let e : b ≡ a = same_target r.segments r.segment r.at l.1 (leads_there r a f (λ t. omega (arith, t, object))).1 in
-    short (affords_less r.charging m (a.pads + claim a.word) (own r.segments a) (omega arith) (rw e at (whole (rw e object))))
-sound_not_stopped {r} {m} {b = b} (l, sound, pads, whole) (count_exceeds a f meets short paid named) =
+    short (affords_less r.charging m (a.pads + claim a.word) (own purpose r.segments a) (omega arith) (rw e at (whole (rw e object))))
+sound_not_stopped {purpose} {r} {m} {b = b} (l, sound, pads, whole) (count_exceeds a f meets short paid named) =
     let object = meets.is_object in
     let e : b ≡ a = same_target r.segments r.segment r.at l.1 (leads_there r a f (λ t. omega (arith, t, object))).1 in
     short (rw e at (whole (rw e object)))
 
-not_stopped_null : {r : Reading} {m m' : Meter} {k : ErrorKind} → word_of r ≡ 0 → Stopped plain r m m' k → ⊥
+not_stopped_null : {purpose : Purpose} {r : Reading} {m m' : Meter} {k : ErrorKind} → word_of r ≡ 0 → Stopped purpose plain r m m' k → ⊥
 not_stopped_null z (pads_exceed some short paid named) = some z
 not_stopped_null z (nowhere some h paid) = some z
 not_stopped_null z (broken a f h paid) = f.0 z
 not_stopped_null z (claim_exceeds a f level object claims short paid named) = f.0 z
 not_stopped_null z (count_exceeds a f meets short paid named) = f.0 z
 
-pub not_stopped : {r : Reading} {m m' : Meter} {k : ErrorKind} → CanBeRead r m → Stopped plain r m m' k → ⊥
+-- a reading for the size leads where one for the value does
+pub led_there : (purpose : Purpose) (r : Reading) (a : Target) → LeadsFor purpose r a → LeadsTo r a
+led_there Value r a l = l
+led_there Size r a l = l.0
+
+pub not_stopped : {purpose : Purpose} {r : Reading} {m m' : Meter} {k : ErrorKind} → CanBeRead purpose r m → Stopped purpose plain r m m' k → ⊥
 unfolding CanBeRead
 not_stopped (inl z) h = not_stopped_null z h
-not_stopped (inr (inl (a, l, low, covers))) h = sound_not_stopped (l, sound_capability low (λ e. e), covers, λ o. absurd (omega (arith, o, low))) h
-not_stopped {r} {m} (inr (inr (a, l, meets, covers))) h = sound_not_stopped (l, sound_object meets, affords_less r.charging m a.pads (own r.segments a) (omega arith) covers, λ _. covers) h
+not_stopped {purpose} {r} (inr (inl (a, l, low, covers))) h = sound_not_stopped (led_there purpose r a l, sound_capability low (λ e. e), covers, λ o. absurd (omega (arith, o, low))) h
+not_stopped {purpose} {r} {m} (inr (inr (a, l, meets, covers))) h = sound_not_stopped (l, sound_object meets, affords_less r.charging m a.pads (own purpose r.segments a) (omega arith) covers, λ _. covers) h
 
 -- what was read could be read
-pub could_be_read : (r : Reading) (m m' : Meter) (x : Object) → IsObject r m m' x → CanBeRead r m
+pub could_be_read : (purpose : Purpose) (r : Reading) (m m' : Meter) (x : Object) → IsObject purpose r m m' x → CanBeRead purpose r m
 unfolding CanBeRead
-could_be_read r m m' ObjectNull h = inl h.0
-could_be_read r m m' (ObjectCapability i) (a, l, low, e, covers, spent) = inr (inl (a, l, low, covers))
-could_be_read r m m' (ObjectStruct start size) (a, o, z, held, ed, eq) = inr (inr (a, o.leads_to, o.meets, o.covers))
-could_be_read r m m' (ObjectFlat start size i) (a, o, z, small, held, ez, ei) = inr (inr (a, o.leads_to, o.meets, o.covers))
-could_be_read r m m' (ObjectPointers start i) (a, o, z, six, held, ei) = inr (inr (a, o.leads_to, o.meets, o.covers))
-could_be_read r m m' (ObjectStructs start size i) (a, o, z, seven, held, ei, ed, eq) = inr (inr (a, o.leads_to, o.meets, o.covers))
+could_be_read purpose r m m' ObjectNull h = inl h.0
+could_be_read purpose r m m' (ObjectCapability i) (a, l, low, e, covers, spent) = inr (inl (a, l, low, covers))
+could_be_read purpose r m m' (ObjectStruct start size) (a, o, z, held, ed, eq) = inr (inr (a, o.leads_to, o.meets, o.covers))
+could_be_read purpose r m m' (ObjectFlat start size i) (a, o, z, small, held, ez, ei) = inr (inr (a, o.leads_to, o.meets, o.covers))
+could_be_read purpose r m m' (ObjectPointers start i) (a, o, z, six, held, ei) = inr (inr (a, o.leads_to, o.meets, o.covers))
+could_be_read purpose r m m' (ObjectStructs start size i) (a, o, z, seven, held, ei, ed, eq) = inr (inr (a, o.leads_to, o.meets, o.covers))
 
-pub read_exactly : (r : Reading) (m m' : Meter) (result : Result Object ErrorKind) → IfOk result (IsObject r m m') → IfErr result (Stopped plain r m m') → IsOk result ↔ CanBeRead r m
-read_exactly r m m' (Ok x) good bad = ((λ _. could_be_read r m m' x good), (λ _. refl))
-read_exactly r m m' (Err k) good bad = ((λ e. absurd (cc e)), (λ can. absurd (not_stopped can bad)))
+pub read_exactly : (purpose : Purpose) (r : Reading) (m m' : Meter) (result : Result Object ErrorKind) → IfOk result (IsObject purpose r m m') → IfErr result (Stopped purpose plain r m m') → IsOk result ↔ CanBeRead purpose r m
+read_exactly purpose r m m' (Ok x) good bad = ((λ _. could_be_read purpose r m m' x good), (λ _. refl))
+read_exactly purpose r m m' (Err k) good bad = ((λ e. absurd (cc e)), (λ can. absurd (not_stopped can bad)))

@@ -17,6 +17,7 @@ use Rattle.capnp_objects.proofs.Unreadable.{Unreadable, UnreadableAll, Unreadabl
 use Rattle.capnp_objects.specs.Wanted.{Form}
 use Rattle.capnp_objects.specs.Spending.{Paid}
 use Rattle.capnp_objects.specs.Reading.{Reading, tag_size, word_of}
+use Rattle.capnp_objects.specs.declared.object.Purpose.TheVariants.{Value}
 use Rattle.capnp_format.proofs.Sound.{if_bind, at_some}
 use Rattle.capnp_objects.proofs.Parts.{is_null, is_capability, is_inner, means_parts}
 use Rattle.capnp_objects.proofs.Followed.{leads_there}
@@ -32,15 +33,15 @@ pub record Reached (r : Reading) (m m' : Meter) (a : Target) : Type 0 where
 abbrev InStruct : Reading → Target → ℕ → ℕ → Type 0
 InStruct r a m c =
     (ts : Trees) × (k : ℕ) × (count ts ≡ pointer_count a.word) × MeanThere (child_at r a (pred r.levels) (a.start + data_words a.word)) ts k × (m ≡ capabilities_all ts)
-    × (own r.segments a + k ≤ c)
+    × (own Value r.segments a + k ≤ c)
 
 abbrev InPointers : Reading → Target → ℕ → ℕ → Type 0
-InPointers r a m c = (ts : Trees) × (k : ℕ) × (count ts ≡ list_count a.word) × MeanThere (child_at r a (pred r.levels) a.start) ts k × (m ≡ capabilities_all ts) × (own r.segments a + k ≤ c)
+InPointers r a m c = (ts : Trees) × (k : ℕ) × (count ts ≡ list_count a.word) × MeanThere (child_at r a (pred r.levels) a.start) ts k × (m ≡ capabilities_all ts) × (own Value r.segments a + k ≤ c)
 
 abbrev InStructs : Reading → Target → ℕ → ℕ → Type 0
 InStructs r a m c =
     (es : Elements) × (k : ℕ) × (element_count es ≡ offset_bits (tag r.segments a)) × ElementsMean (child_at r a (pred r.levels) (a.start + 1)) (tag_size r.segments a) es k
-    × (m ≡ capabilities_elements es) × (own r.segments a + k ≤ c)
+    × (m ≡ capabilities_elements es) × (own Value r.segments a + k ≤ c)
 
 same_there : (r : Reading) (b a : Target) → LeadsTo r b → LeadsTo r a → b ≡ a
 same_there r b a l m = same_target r.segments r.segment r.at l.1 m.1
@@ -91,7 +92,7 @@ object_spends {charging} {m} {m'} {m''} {g} i first le (x, r, covers', e', few) 
     let paid = paid_both first then in
     (g + x, 1 + r, paid.covers, paid.spent, omega arith)
 
-pub stopped_struct : {form : Form} {r : Reading} {m m' m'' : Meter} {a : Target} {k : ErrorKind} → Entered r m m' a → kind a.word ≡ 0 →
+pub stopped_struct : {form : Form} {r : Reading} {m m' m'' : Meter} {a : Target} {k : ErrorKind} → Entered Value r m m' a → kind a.word ≡ 0 →
     UnreadableAll form (child_at r a (pred r.levels) (a.start + data_words a.word)) (pointer_count a.word) m' m'' k → Unreadable form r m m'' k
 stopped_struct {form} {r} {m} {m'} {m''} {a} o z refused = record {
   named = below a refused.named.0 o.leads_to o.meets (of_struct z refused.named.1 refused.named.2) refused.named.3;
@@ -101,7 +102,7 @@ stopped_struct {form} {r} {m} {m'} {m''} {a} o z refused = record {
   spent = object_spends (pointer_count a.word) (paid_own o) (omega (arith, own_struct r.segments a z)) refused.spent;
 }
 
-pub stopped_pointers : {form : Form} {r : Reading} {m m' m'' : Meter} {a : Target} {k : ErrorKind} → Entered r m m' a → kind a.word ≡ 1 → element_size a.word ≡ 6 →
+pub stopped_pointers : {form : Form} {r : Reading} {m m' m'' : Meter} {a : Target} {k : ErrorKind} → Entered Value r m m' a → kind a.word ≡ 1 → element_size a.word ≡ 6 →
     UnreadableAll form (child_at r a (pred r.levels) a.start) (list_count a.word) m' m'' k → Unreadable form r m m'' k
 stopped_pointers {form} {r} {m} {m'} {m''} {a} o z six refused = record {
   named = below a refused.named.0 o.leads_to o.meets (of_list z six refused.named.1 refused.named.2) refused.named.3;
@@ -111,7 +112,7 @@ stopped_pointers {form} {r} {m} {m'} {m''} {a} o z six refused = record {
   spent = object_spends (list_count a.word) (paid_own o) (omega (arith, own_pointers r.segments a z six)) refused.spent;
 }
 
-pub stopped_structs : {form : Form} {r : Reading} {m m' m'' : Meter} {a : Target} {k : ErrorKind} → Entered r m m' a → kind a.word ≡ 1 → element_size a.word ≡ 7 →
+pub stopped_structs : {form : Form} {r : Reading} {m m' m'' : Meter} {a : Target} {k : ErrorKind} → Entered Value r m m' a → kind a.word ≡ 1 → element_size a.word ≡ 7 →
     UnreadableElements form (child_at r a (pred r.levels) (a.start + 1)) (tag_size r.segments a) (offset_bits (tag r.segments a)) m' m'' k → Unreadable form r m m'' k
 stopped_structs {form} {r} {m} {m'} {m''} {a} o z seven refused =
     let S : Segments = r.segments in
@@ -144,11 +145,11 @@ refused_charge {form} {r} {m} {m'} {x} {g} h paid short least = record {
 }
 
 -- what a place means costs at least the pads and the object's own words
-own_within : (r : Reading) {a : Target} (t : Tree) (c : ℕ) → LeadsTo r a → kind a.word < 2 → MeansThere r t c → own r.segments a ≤ c
+own_within : (r : Reading) {a : Target} (t : Tree) (c : ℕ) → LeadsTo r a → kind a.word < 2 → MeansThere r t c → own Value r.segments a ≤ c
 own_within r {a} t c l object h = elim (means_parts r t c h) [
   | is_null z ↦ absurd (l.0 z)
   | is_capability b m low one g ↦ absurd (let e : b.word ≡ a.word = same_word r b a m l in omega (arith, low, e, object))
-  | is_inner b m i ↦ let e : own r.segments b ≡ own r.segments a = ap (own r.segments) (same_there r b a m l) in omega (arith, i.cost, e)
+  | is_inner b m i ↦ let e : own Value r.segments b ≡ own Value r.segments a = ap (own Value r.segments) (same_there r b a m l) in omega (arith, i.cost, e)
 ]
 
 -- the object's claim is not covered
@@ -159,7 +160,7 @@ refused_claim {form} {r} {m} {m'} {a} o some object claims short =
     refused_charge (of_object a l some object claims refl) o.paid short (λ t c h. omega (arith, own_within r {a = a} t c l object h))
 
 -- the count of elements of no bits is not covered
-pub refused_elements : {form : Form} {r : Reading} {m m' : Meter} {a : Target} → LeadsTo r a → Meets r.segments r.levels a → Paid r.charging m m' (a.pads + claim a.word) 1 → (Affords r.charging m' (amplified r.segments a) → ⊥) →
+pub refused_elements : {form : Form} {r : Reading} {m m' : Meter} {a : Target} → LeadsTo r a → Meets Value r.segments r.levels a → Paid r.charging m m' (a.pads + claim a.word) 1 → (Affords r.charging m' (amplified Value r.segments a) → ⊥) →
     Unreadable form r m m' ReadLimitExceeded
 refused_elements {form} {r} {m} {m'} {a} l o paid short = refused_charge (of_elements a l o refl) paid short (λ t c h. own_within r {a = a} t c l o.is_object h)
 

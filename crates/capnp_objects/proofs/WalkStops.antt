@@ -13,15 +13,19 @@ use Rattle.capnp_format.specs.Tree.{Tree, Null, Capability, Struct, Flat, Pointe
 use Rattle.capnp_format.specs.Canonical.{word_count, word_count_all, word_count_elements}
 use Rattle.capnp_objects.specs.declared.object.Place.{Place}
 use Rattle.capnp_objects.specs.declared.object.Object.TheVariants.{Capability as ObjectCapability, Struct as ObjectStruct, Flat as ObjectFlat, Pointers as ObjectPointers, Structs as ObjectStructs}
-use Rattle.capnp_objects.specs.Demands.{claim, tag, element_words}
+use Rattle.capnp_objects.specs.Demands.{claim, own, Meets, tag, element_words}
 use Rattle.capnp_objects.specs.Faults.{LeadsTo, child_at}
-use Rattle.capnp_objects.specs.Measures.{counted_words, IsMeasurable, Measured, IsMeasured, CanBeMeasured}
+use Rattle.capnp_objects.specs.Measures.{counted_words}
+use Rattle.capnp_objects.specs.declared.object.Purpose.TheVariants.{Size}
+use Rattle.capnp_objects.specs.Outcomes.{Entered}
+use Rattle.capnp_objects.specs.Objects.{IsObject}
+use Rattle.capnp_objects.specs.Refusals.{CanBeRead}
 use Rattle.capnp_objects.specs.Reading.{Reading, behind, pointers_of, tag_size, sized}
 use Rattle.capnp_objects.specs.Sizing.{Sized, SizedAll, SizedThere, SizedAllThere, ElementsSized, FitSize, Tally, tally, WalksAll, WalksElements, WalksRows, WalksBefore, in_struct, in_pointers, in_element, with_object, SizeStopped, unmeasured, too_large, too_many, SizeStops, here, below, SizesStop, RowsStop}
 use Rattle.capnp_objects.specs.Spending.{Paid, after}
 use Rattle.capnp_objects.proofs.Budgets.{affords_rest, after_none}
-use Rattle.capnp_objects.proofs.Measures.{can_not}
-use Rattle.capnp_objects.proofs.Parts.{claim_struct, claim_list, claim_flat}
+use Rattle.capnp_objects.proofs.Measures.{can_not, paid_words}
+use Rattle.capnp_objects.proofs.Parts.{claim_struct, claim_list, claim_flat, charge_of_size}
 use Rattle.capnp_objects.proofs.Refusals.{affords_less}
 use Rattle.capnp_objects.proofs.Sized.{form, form_there, sized_form, one_target, one_sized, one_sized_all, SizedAllAs, ElementsSizedAs, SomeSizedAll, SomeElementsSized}
 use Rattle.capnp_objects.proofs.Sized.{of_struct as form_struct, of_pointers as form_pointers, of_structs as form_structs}
@@ -33,21 +37,21 @@ pub row_stops : {r : Reading} {size : StructSize} {i : ℕ} {from mid : Tally} {
 row_stops {r} {size} {i} {from} {mid} {m'} {k} j (es, len, all) lt stops =
     record { first = es; fewer = omega (arith, len, lt); mid = mid; are_walked = all; stops = subst (λ x. SizesStop (pointers_of r size x) size.pointers mid m' k) (sym len) stops }
 
-pub struct_stops_at : {r : Reading} {from : Tally} {m' m'' : Meter} {a : Target} {k : ErrorKind} → Measured r from.meter m' a → kind a.word ≡ 0 →
+pub struct_stops_at : {r : Reading} {from : Tally} {m' m'' : Meter} {a : Target} {k : ErrorKind} → Entered Size r from.meter m' a → kind a.word ≡ 0 →
     SizesStop (child_at r a (pred r.levels) (a.start + data_words a.word)) (pointer_count a.word) (with_object from a r.segments m') m'' k → SizeStops k r from m''
 struct_stops_at {a = a} o z h = below a (a.start + data_words a.word + count h.first) o (in_struct h.first z h.fewer refl h.are_walked) h.stops
 
-pointers_stop_at : {r : Reading} {from : Tally} {m' m'' : Meter} {a : Target} {k : ErrorKind} → Measured r from.meter m' a → kind a.word ≡ 1 → element_size a.word ≡ 6 →
+pointers_stop_at : {r : Reading} {from : Tally} {m' m'' : Meter} {a : Target} {k : ErrorKind} → Entered Size r from.meter m' a → kind a.word ≡ 1 → element_size a.word ≡ 6 →
     SizesStop (child_at r a (pred r.levels) a.start) (list_count a.word) (with_object from a r.segments m') m'' k → SizeStops k r from m''
 pointers_stop_at {a = a} o z six h = below a (a.start + count h.first) o (in_pointers h.first z six h.fewer refl h.are_walked) h.stops
 
-structs_stop_at : {r : Reading} {from : Tally} {m' m'' : Meter} {a : Target} {k : ErrorKind} → Measured r from.meter m' a → kind a.word ≡ 1 → element_size a.word ≡ 7 →
+structs_stop_at : {r : Reading} {from : Tally} {m' m'' : Meter} {a : Target} {k : ErrorKind} → Entered Size r from.meter m' a → kind a.word ≡ 1 → element_size a.word ≡ 7 →
     RowsStop (child_at r a (pred r.levels) (a.start + 1)) (tag_size r.segments a) (offset_bits (tag r.segments a)) (with_object from a r.segments m') m'' k → SizeStops k r from m''
 structs_stop_at {r = r} {a = a} o z seven h =
     below a ((pointers_of (child_at r a (pred r.levels) (a.start + 1)) (tag_size r.segments a) (element_count h.first)).at + count h.stops.first) o
     (in_element h.first h.stops.first h.mid (z, seven) h.fewer h.stops.fewer refl h.are_walked h.stops.are_walked) h.stops.stops
 
-pub struct_stops : {r : Reading} {from : Tally} {m' m'' : Meter} {k : ErrorKind} (start : Place) (size : StructSize) → IsMeasured r from.meter m' (ObjectStruct start size) →
+pub struct_stops : {r : Reading} {from : Tally} {m' m'' : Meter} {k : ErrorKind} (start : Place) (size : StructSize) → IsObject Size r from.meter m' (ObjectStruct start size) →
     SizesStop (inside r start size.data_words) size.pointers (tally (from.words + (size.data_words + size.pointers)) from.caps m') m'' k → SizeStops k r from m''
 struct_stops {r} {from} {m'} {m''} {k} start size (a, o, z, (held, seg, at), wide, many) h =
     let there : inside r start size.data_words ≡ child_at r a (pred r.levels) (a.start + data_words a.word) = same_place r seg (omega (arith, at, wide)) in
@@ -57,7 +61,7 @@ struct_stops {r} {from} {m'} {m''} {k} start size (a, o, z, (held, seg, at), wid
     (subst (λ q. SizesStop (child_at r a (pred r.levels) (a.start + data_words a.word)) q (tally (from.words + (size.data_words + size.pointers)) from.caps m') m'' k) many
     (subst (λ x. SizesStop x size.pointers (tally (from.words + (size.data_words + size.pointers)) from.caps m') m'' k) there h)))
 
-pub pointers_stop : {r : Reading} {from : Tally} {m' m'' : Meter} {k : ErrorKind} (start : Place) (i : ℕ) → IsMeasured r from.meter m' (ObjectPointers start i) →
+pub pointers_stop : {r : Reading} {from : Tally} {m' m'' : Meter} {k : ErrorKind} (start : Place) (i : ℕ) → IsObject Size r from.meter m' (ObjectPointers start i) →
     SizesStop (inside r start 0) i (tally (from.words + i) from.caps m') m'' k → SizeStops k r from m''
 pointers_stop {r} {from} {m'} {m''} {k} start i (a, o, z, six, (held, seg, at), many) h =
     let none : a.start + 0 ≡ a.start = omega arith in
@@ -69,7 +73,7 @@ pointers_stop {r} {from} {m'} {m''} {k} start i (a, o, z, six, (held, seg, at), 
     (subst (λ q. SizesStop (child_at r a (pred r.levels) (a.start + 0)) q (tally (from.words + i) from.caps m') m'' k) many
     (subst (λ x. SizesStop x i (tally (from.words + i) from.caps m') m'' k) there h))))
 
-pub structs_stop : {r : Reading} {from : Tally} {m' m'' : Meter} {k : ErrorKind} (start : Place) (size : StructSize) (i : ℕ) → IsMeasured r from.meter m' (ObjectStructs start size i) →
+pub structs_stop : {r : Reading} {from : Tally} {m' m'' : Meter} {k : ErrorKind} (start : Place) (size : StructSize) (i : ℕ) → IsObject Size r from.meter m' (ObjectStructs start size i) →
     RowsStop (inside r start 0) size i (tally (from.words + (1 + i * (size.data_words + size.pointers))) from.caps m') m'' k → SizeStops k r from m''
 structs_stop {r} {from} {m'} {m''} {k} start size i (a, o, z, seven, (held, seg, at), many, wide, pointers) h =
     let there : inside r start 0 ≡ child_at r a (pred r.levels) (a.start + 1) = same_place r seg (omega (arith, at)) in
@@ -83,24 +87,24 @@ structs_stop {r} {from} {m'} {m''} {k} start size i (a, o, z, seven, (held, seg,
 
 -- sums that are too much at the object itself
 
-pub beyond_at : {r : Reading} {from : Tally} {m' : Meter} {a : Target} (w : ℕ) → FitSize from.words from.caps → Measured r from.meter m' a → w ≡ counted_words r.segments a → (from.words + w < 2 ^ 64 → ⊥) → SizeStops (MessageTooLarge (2 ^ 64 - 1)) r from m'
+pub beyond_at : {r : Reading} {from : Tally} {m' : Meter} {a : Target} (w : ℕ) → FitSize from.words from.caps → Entered Size r from.meter m' a → w ≡ counted_words r.segments a → (from.words + w < 2 ^ 64 → ⊥) → SizeStops (MessageTooLarge (2 ^ 64 - 1)) r from m'
 beyond_at {a = a} w fits o counted over = here fits (too_large a o (omega (arith, over, counted)) refl)
 
-pub capability_beyond : {r : Reading} {from : Tally} {m' : Meter} {i : ℕ} → FitSize from.words from.caps → IsMeasured r from.meter m' (ObjectCapability i) → (from.caps + 1 < 2 ^ 32 → ⊥) → SizeStops (MessageTooLarge (2 ^ 64 - 1)) r from m'
-capability_beyond fits (a, l, level, low, index, paid) over = here fits (too_many a l level low paid (omega (arith, over)) refl)
+pub capability_beyond : {r : Reading} {from : Tally} {m' : Meter} {i : ℕ} → FitSize from.words from.caps → IsObject Size r from.meter m' (ObjectCapability i) → (from.caps + 1 < 2 ^ 32 → ⊥) → SizeStops (MessageTooLarge (2 ^ 64 - 1)) r from m'
+capability_beyond fits (a, (l, level), low, index, covers, spent) over = here fits (too_many a l level low (record { covers = covers; spent = spent }) (omega (arith, over)) refl)
 
-pub flat_beyond : {r : Reading} {from : Tally} {m' : Meter} (start : Place) (size : ElementSize) (i : ℕ) → FitSize from.words from.caps → IsMeasured r from.meter m' (ObjectFlat start size i) →
+pub flat_beyond : {r : Reading} {from : Tally} {m' : Meter} (start : Place) (size : ElementSize) (i : ℕ) → FitSize from.words from.caps → IsObject Size r from.meter m' (ObjectFlat start size i) →
     (from.words + words_for (size_number size) i < 2 ^ 64 → ⊥) → SizeStops (MessageTooLarge (2 ^ 64 - 1)) r from m'
 flat_beyond {r} start size i fits (a, o, z, small, there, width, len) over = beyond_at (words_for (size_number size) i) fits o (ap₂ words_for width len ∙ sym (counted_flat r.segments a z small)) over
 
-pub struct_beyond : {r : Reading} {from : Tally} {m' : Meter} (start : Place) (size : StructSize) → FitSize from.words from.caps → IsMeasured r from.meter m' (ObjectStruct start size) →
+pub struct_beyond : {r : Reading} {from : Tally} {m' : Meter} (start : Place) (size : StructSize) → FitSize from.words from.caps → IsObject Size r from.meter m' (ObjectStruct start size) →
     (from.words + (size.data_words + size.pointers) < 2 ^ 64 → ⊥) → SizeStops (MessageTooLarge (2 ^ 64 - 1)) r from m'
 struct_beyond {r} start size fits (a, o, z, there, wide, many) over = beyond_at (size.data_words + size.pointers) fits o (ap₂ (λ x y. x + y) wide many ∙ sym (counted_struct r.segments a z)) over
 
-pub pointers_beyond : {r : Reading} {from : Tally} {m' : Meter} (start : Place) (i : ℕ) → FitSize from.words from.caps → IsMeasured r from.meter m' (ObjectPointers start i) → (from.words + i < 2 ^ 64 → ⊥) → SizeStops (MessageTooLarge (2 ^ 64 - 1)) r from m'
+pub pointers_beyond : {r : Reading} {from : Tally} {m' : Meter} (start : Place) (i : ℕ) → FitSize from.words from.caps → IsObject Size r from.meter m' (ObjectPointers start i) → (from.words + i < 2 ^ 64 → ⊥) → SizeStops (MessageTooLarge (2 ^ 64 - 1)) r from m'
 pointers_beyond {r} start i fits (a, o, z, six, there, many) over = beyond_at i fits o (many ∙ sym (counted_pointers r.segments a z six)) over
 
-pub structs_beyond : {r : Reading} {from : Tally} {m' : Meter} (start : Place) (size : StructSize) (i : ℕ) → FitSize from.words from.caps → IsMeasured r from.meter m' (ObjectStructs start size i) →
+pub structs_beyond : {r : Reading} {from : Tally} {m' : Meter} (start : Place) (size : StructSize) (i : ℕ) → FitSize from.words from.caps → IsObject Size r from.meter m' (ObjectStructs start size i) →
     (from.words + (1 + i * (size.data_words + size.pointers)) < 2 ^ 64 → ⊥) → SizeStops (MessageTooLarge (2 ^ 64 - 1)) r from m'
 structs_beyond {r} start size i fits (a, o, z, seven, there, many, wide, pointers) over =
     let of_size : size ≡ tag_size r.segments a = same_size r.segments a wide pointers in
@@ -108,32 +112,32 @@ structs_beyond {r} start size i fits (a, o, z, seven, there, many, wide, pointer
 
 -- what a place that is walked over shows at once
 
-can_be : (r : Reading) (m : Meter) (t : Tree) (c : ℕ) → SizedThere r t c → Affords r.charging m c → CanBeMeasured r m
-unfolding CanBeMeasured
+can_be : (r : Reading) (m : Meter) (t : Tree) (c : ℕ) → SizedThere r t c → Affords r.charging m c → CanBeRead Size r m
+unfolding CanBeRead
 can_be r m Null c h covers = inl h.0
-can_be r m (Capability i) c (a, some, l, e, g) covers = inr (inl (a, l, some, omega (arith, e), subst (Affords r.charging m) g covers))
+can_be r m (Capability i) c (a, some, l, e, g) covers = inr (inl (a, (l, some), omega (arith, e), subst (Affords r.charging m) g covers))
 can_be r m (Struct ws ts) c (a, k, some, o, claims, e, all, g) covers =
     let claimed = claim_struct a.word o.is_struct in
-    let meets : IsMeasurable r.segments a = record { is_object = omega (arith, o.is_struct); claims = λ v. omega (arith, claims, claimed, o.data_of, o.pointers); tagged = λ v. absurd (omega (arith, o.is_struct, v.0)) } in
-    inr (inr (a, o.leads_to, some, meets, affords_less r.charging m (a.pads + claim a.word) c (omega (arith, claimed, o.data_of, o.pointers, g)) covers))
+    let meets : Meets Size r.segments r.levels a = record { levels = some; is_object = omega (arith, o.is_struct); claims = λ v. omega (arith, claims, claimed, o.data_of, o.pointers); tagged = λ v. absurd (omega (arith, o.is_struct, v.0)) } in
+    inr (inr (a, o.leads_to, meets, affords_less r.charging m (own Size r.segments a) c (omega (arith, charge_of_size r.segments a, claimed, o.data_of, o.pointers, g)) covers))
 can_be r m (Flat size ns) c (a, some, small, o, claims, e, g) covers =
     let claimed : claim a.word ≡ words_for size (length ns) = claim_list a.word size o.is_list o.is_size ∙ claim_flat size (list_count a.word) small ∙ ap (words_for size) o.counts in
     let z = o.is_size in
     let y = o.is_list in
-    let meets : IsMeasurable r.segments a = record { is_object = omega arith; claims = λ v. (let x = claims (some_size size (λ f. v (y, z ∙ f))) in omega (arith, x, claimed)); tagged = λ v. absurd (omega (arith, v.1)) } in
-    inr (inr (a, o.leads_to, some, meets, affords_less r.charging m (a.pads + claim a.word) c (omega (arith, claimed, g)) covers))
+    let meets : Meets Size r.segments r.levels a = record { levels = some; is_object = omega arith; claims = λ v. (let x = claims (some_size size (λ f. v (y, z ∙ f))) in omega (arith, x, claimed)); tagged = λ v. absurd (omega (arith, v.1)) } in
+    inr (inr (a, o.leads_to, meets, affords_less r.charging m (own Size r.segments a) c (omega (arith, charge_of_size r.segments a, claimed, g)) covers))
   where
     some_size : (size : ℕ) → (size ≡ 0 → ⊥) → 0 < size
     some_size size f = omega arith
 can_be r m (Pointers ts) c (a, k, some, o, claims, all, g) covers =
     let claimed = claim_list a.word 6 o.is_list o.is_size in
-    let meets : IsMeasurable r.segments a = record { is_object = omega (arith, o.is_list); claims = λ v. omega (arith, claims, claimed, o.counts); tagged = λ v. absurd (omega (arith, v.1, o.is_size)) } in
-    inr (inr (a, o.leads_to, some, meets, affords_less r.charging m (a.pads + claim a.word) c (omega (arith, claimed, o.counts, g)) covers))
+    let meets : Meets Size r.segments r.levels a = record { levels = some; is_object = omega (arith, o.is_list); claims = λ v. omega (arith, claims, claimed, o.counts); tagged = λ v. absurd (omega (arith, v.1, o.is_size)) } in
+    inr (inr (a, o.leads_to, meets, affords_less r.charging m (own Size r.segments a) c (omega (arith, charge_of_size r.segments a, claimed, o.counts, g)) covers))
 can_be r m (Structs d q es) c (a, i, k, some, o, claims, t, fits, all, g) covers =
     let claimed = claim_list a.word 7 o.is_list o.is_size in
     let words : element_words (tag r.segments a) ≤ list_count a.word = rw (t.counts, t.data_of, t.pointers, o.counts) fits in
-    let meets : IsMeasurable r.segments a = record { is_object = omega (arith, o.is_list); claims = λ v. omega (arith, claims, claimed, o.counts); tagged = λ v. (t.is_struct, words) } in
-    inr (inr (a, o.leads_to, some, meets, affords_less r.charging m (a.pads + claim a.word) c (omega (arith, claimed, o.counts, g)) covers))
+    let meets : Meets Size r.segments r.levels a = record { levels = some; is_object = omega (arith, o.is_list); claims = λ v. omega (arith, claims, claimed, o.counts); tagged = λ v. (t.is_struct, words) } in
+    inr (inr (a, o.leads_to, meets, affords_less r.charging m (own Size r.segments a) c (omega (arith, charge_of_size r.segments a, claimed, o.counts, g)) covers))
 
 same_word : (r : Reading) (b a : Target) → LeadsTo r b → LeadsTo r a → b.word ≡ a.word
 same_word r b a l m = ap (λ x. x.word) (one_target r b a l m)
@@ -302,16 +306,16 @@ in_list_of_structs r {a} (Structs d q es) c (b, m, k, some, o, claims, t, fits, 
     )
 in_list_of_structs r {a} t c h l z seven = absurd (let e : form t ≡ 5 = sized_form r t c h ∙ form_there r a l ∙ form_structs a.word z seven in omega arith)
 
-never_below : {r : Reading} (from : Tally) {mid : Tally} {first : Meter} {q : ℕ} {a : Target} → Measured r from.meter first a → WalksBefore r a q (with_object from a r.segments first) mid → Never (child_at r a (pred r.levels) q) mid → Never r from
+never_below : {r : Reading} (from : Tally) {mid : Tally} {first : Meter} {q : ℕ} {a : Target} → Entered Size r from.meter first a → WalksBefore r a q (with_object from a r.segments first) mid → Never (child_at r a (pred r.levels) q) mid → Never r from
 never_below {r} from {mid} {first} {q} {a} o (in_struct ts z fewer e all) child t c h fits covers =
     let x = in_a_struct r {a = a} t c h o.leads_to z in
-    never_all (pointer_count a.word) all fewer (subst (λ y. Never (child_at r a (pred r.levels) y) mid) e child) x.0 x.1 x.2 x.3 (omega (arith, fits.0, x.4), omega (arith, fits.1, x.5)) (affords_rest x.1 c o.paid x.6 covers)
+    never_all (pointer_count a.word) all fewer (subst (λ y. Never (child_at r a (pred r.levels) y) mid) e child) x.0 x.1 x.2 x.3 (omega (arith, fits.0, x.4), omega (arith, fits.1, x.5)) (affords_rest x.1 c (paid_words o) x.6 covers)
 never_below {r} from {mid} {first} {q} {a} o (in_pointers ts z six fewer e all) child t c h fits covers =
     let x = in_list_of_pointers r {a = a} t c h o.leads_to z six in
-    never_all (list_count a.word) all fewer (subst (λ y. Never (child_at r a (pred r.levels) y) mid) e child) x.0 x.1 x.2 x.3 (omega (arith, fits.0, x.4), omega (arith, fits.1, x.5)) (affords_rest x.1 c o.paid x.6 covers)
+    never_all (list_count a.word) all fewer (subst (λ y. Never (child_at r a (pred r.levels) y) mid) e child) x.0 x.1 x.2 x.3 (omega (arith, fits.0, x.4), omega (arith, fits.1, x.5)) (affords_rest x.1 c (paid_words o) x.6 covers)
 never_below {r} from {mid} {first} {q} {a} o (in_element es ts between (z, seven) fewer less e rows all) child t c h fits covers =
     let x = in_list_of_structs r {a = a} t c h o.leads_to z seven in
-    never_rows (offset_bits (tag r.segments a)) rows fewer (never_all (pointer_count (tag r.segments a)) all less (subst (λ y. Never (child_at r a (pred r.levels) y) mid) e child)) x.0 x.1 x.2 x.3 (omega (arith, fits.0, x.4), omega (arith, fits.1, x.5)) (affords_rest x.1 c o.paid x.6 covers)
+    never_rows (offset_bits (tag r.segments a)) rows fewer (never_all (pointer_count (tag r.segments a)) all less (subst (λ y. Never (child_at r a (pred r.levels) y) mid) e child)) x.0 x.1 x.2 x.3 (omega (arith, fits.0, x.4), omega (arith, fits.1, x.5)) (affords_rest x.1 c (paid_words o) x.6 covers)
 
 pub stops_never : {k : ErrorKind} {r : Reading} {from : Tally} {m' : Meter} → SizeStops k r from m' → Never r from
 stops_never (here fits stopped) = never_here stopped
@@ -340,15 +344,15 @@ one_row_stops {r} {size} {from} {m'} {k} h = go h.first h.mid h.fewer h.are_walk
         let first : r.at + 0 * (size.data_words + size.pointers) + size.data_words ≡ r.at + size.data_words = omega arith in
         subst (λ x. SizesStop (behind r size.data_words) size.pointers x m' k) (no_row_walk walk) (subst (λ p. SizesStop (record r { at = p }) size.pointers mid m' k) first stops)
 
-pub struct_row_stops : {r : Reading} {from : Tally} {m' m'' : Meter} {k : ErrorKind} (start : Place) (size : StructSize) → IsMeasured r from.meter m' (ObjectStruct start size) →
+pub struct_row_stops : {r : Reading} {from : Tally} {m' m'' : Meter} {k : ErrorKind} (start : Place) (size : StructSize) → IsObject Size r from.meter m' (ObjectStruct start size) →
     RowsStop (beginning r start) size 1 (tally (from.words + (size.data_words + size.pointers)) from.caps m') m'' k → SizeStops k r from m''
 struct_row_stops {r} {from} start size object h = struct_stops {r = r} {from = from} start size object (one_row_stops h)
 
-pub pointers_row_stops : {r : Reading} {from : Tally} {m' m'' : Meter} {k : ErrorKind} (start : Place) (i : ℕ) → IsMeasured r from.meter m' (ObjectPointers start i) →
+pub pointers_row_stops : {r : Reading} {from : Tally} {m' m'' : Meter} {k : ErrorKind} (start : Place) (i : ℕ) → IsObject Size r from.meter m' (ObjectPointers start i) →
     RowsStop (beginning r start) (sized 0 i) 1 (tally (from.words + i) from.caps m') m'' k → SizeStops k r from m''
 pointers_row_stops {r} {from} start i object h = pointers_stop {r = r} {from = from} start i object (one_row_stops h)
 
-pub structs_rows_stop : {r : Reading} {from : Tally} {m' m'' : Meter} {k : ErrorKind} (start : Place) (size : StructSize) (i : ℕ) → IsMeasured r from.meter m' (ObjectStructs start size i) →
+pub structs_rows_stop : {r : Reading} {from : Tally} {m' m'' : Meter} {k : ErrorKind} (start : Place) (size : StructSize) (i : ℕ) → IsObject Size r from.meter m' (ObjectStructs start size i) →
     RowsStop (beginning r start) size i (tally (from.words + (1 + i * (size.data_words + size.pointers))) from.caps m') m'' k → SizeStops k r from m''
 structs_rows_stop {r} {from} {m'} {m''} {k} start size i object h =
     let there : beginning r start ≡ inside r start 0 = same_place r refl (omega arith) in

@@ -14,13 +14,17 @@ use Rattle.capnp_objects.specs.declared.object.Place.{Place}
 use Rattle.capnp_objects.specs.declared.object.Object.TheVariants.{Null as ObjectNull, Capability as ObjectCapability, Struct as ObjectStruct, Flat as ObjectFlat, Pointers as ObjectPointers, Structs as ObjectStructs}
 use Rattle.capnp_objects.specs.Demands.{claim, tag, element_words}
 use Rattle.capnp_objects.specs.Faults.{child_at}
-use Rattle.capnp_objects.specs.Measures.{counted_words, Measured, IsMeasured}
+use Rattle.capnp_objects.specs.Measures.{counted_words}
+use Rattle.capnp_objects.specs.declared.object.Purpose.TheVariants.{Size}
+use Rattle.capnp_objects.specs.Outcomes.{Entered}
+use Rattle.capnp_objects.specs.Objects.{IsObject}
 use Rattle.capnp_objects.specs.Reading.{Reading, behind, row, pointers_of, tag_size, sized}
 use Rattle.capnp_objects.specs.Sizing.{Sized, SizedAll, SizedThere, SizedAllThere, ElementsSized, Tally, tally, Walks, WalksAll, WalksElements, WalksPlace, WalksPointers, WalksRows, with_object}
 use Rattle.capnp_objects.specs.Spending.{Paid, pointers_in_all}
 use Rattle.capnp_format.proofs.Children.{with_last, count-with_last}
 use Rattle.capnp_format.proofs.Slices.{length_words}
 use Rattle.capnp_format.proofs.Digits.{length-digits}
+use Rattle.capnp_objects.proofs.Measures.{paid_words}
 use Rattle.capnp_objects.proofs.Budgets.{affords_none, after_none, paid_both}
 use Rattle.capnp_objects.proofs.Copies.{with_last_element, count-with_last_element, capabilities-with_last, pointers_in-with_last, capabilities-with_last_element, pointers_in-with_last_element}
 use Rattle.capnp_objects.proofs.Parts.{claim_struct, claim_list, claim_flat}
@@ -162,7 +166,7 @@ rows_without r size (suc i) from none fits =
 
 -- objects
 
-pub null_walked : {r : Reading} {from : Tally} {m' : Meter} → IsMeasured r from.meter m' ObjectNull → WalksPlace r from (tally from.words from.caps m')
+pub null_walked : {r : Reading} {from : Tally} {m' : Meter} → IsObject Size r from.meter m' ObjectNull → WalksPlace r from (tally from.words from.caps m')
 null_walked {r} {from} {m'} (z, e) = (
   Null,
   record {
@@ -174,11 +178,11 @@ null_walked {r} {from} {m'} (z, e) = (
   },
 )
 
-pub capability_walked : {r : Reading} {from : Tally} {m' : Meter} {i : ℕ} → IsMeasured r from.meter m' (ObjectCapability i) → WalksPlace r from (tally from.words (from.caps + 1) m')
-capability_walked {r} {from} {m'} {i} (a, l, some, low, index, paid) =
-    (Capability (upper_half a.word), record { cost = a.pads; is_sized = (a, some, l, omega arith, refl); paid = paid; words_are = omega arith; caps_are = refl })
+pub capability_walked : {r : Reading} {from : Tally} {m' : Meter} {i : ℕ} → IsObject Size r from.meter m' (ObjectCapability i) → WalksPlace r from (tally from.words (from.caps + 1) m')
+capability_walked {r} {from} {m'} {i} (a, (l, some), low, index, covers, spent) =
+    (Capability (upper_half a.word), record { cost = a.pads; is_sized = (a, some, l, omega arith, refl); paid = record { covers = covers; spent = spent }; words_are = omega arith; caps_are = refl })
 
-pub flat_at : {r : Reading} {from : Tally} {m' : Meter} {a : Target} → Measured r from.meter m' a → kind a.word ≡ 1 → element_size a.word ≤ 5 →
+pub flat_at : {r : Reading} {from : Tally} {m' : Meter} {a : Target} → Entered Size r from.meter m' a → kind a.word ≡ 1 → element_size a.word ≤ 5 →
     WalksPlace r from (tally (from.words + words_for (element_size a.word) (list_count a.word)) from.caps m')
 flat_at {r} {from} {m'} {a} o z small =
     let S : Segments = r.segments in
@@ -193,20 +197,20 @@ flat_at {r} {from} {m'} {a} o z small =
         cost = a.pads + claim a.word;
         is_sized = (
           a,
-          o.levels,
+          o.meets.levels,
           small,
           record { leads_to = o.leads_to; is_list = z; is_size = refl; counts = sym long },
           (λ some. omega (arith, o.meets.claims (λ v. omega (arith, v.1, some)), claimed, ap (words_for kind_of) long)),
           subst (λ j. ns ≡ unpacked kind_of j (words_at S a.segment a.start (words_for kind_of j))) (sym long) refl,
           ap (λ x. a.pads + x) (claimed ∙ ap (words_for kind_of) (sym long)),
         );
-        paid = o.paid;
+        paid = paid_words o;
         words_are = ap (λ i. from.words + words_for kind_of i) (sym long);
         caps_are = omega arith;
       },
     )
 
-pub flat_walked : {r : Reading} {from : Tally} {m' : Meter} (start : Place) (size : ElementSize) (i : ℕ) → IsMeasured r from.meter m' (ObjectFlat start size i) →
+pub flat_walked : {r : Reading} {from : Tally} {m' : Meter} (start : Place) (size : ElementSize) (i : ℕ) → IsObject Size r from.meter m' (ObjectFlat start size i) →
     WalksPlace r from (tally (from.words + words_for (size_number size) i) from.caps m')
 flat_walked {r} {from} {m'} start size i (a, o, z, small, there, width, len) = rw (width, len) (flat_at {r = r} {from = from} o z small)
 
@@ -217,7 +221,7 @@ inside r start i = record r { levels = pred r.levels; segment = start.segment; a
 pub same_place : {s t p q : ℕ} (r : Reading) → s ≡ t → p ≡ q → record r { levels = pred r.levels; segment = s; at = p } ≡ record r { levels = pred r.levels; segment = t; at = q }
 same_place r e f = ap₂ (λ s p. record r { levels = pred r.levels; segment = s; at = p }) e f
 
-pub struct_at : {r : Reading} {from to : Tally} {m' : Meter} {a : Target} → Measured r from.meter m' a → kind a.word ≡ 0 →
+pub struct_at : {r : Reading} {from to : Tally} {m' : Meter} {a : Target} → Entered Size r from.meter m' a → kind a.word ≡ 0 →
     WalksPointers (child_at r a (pred r.levels) (a.start + data_words a.word)) (pointer_count a.word) (with_object from a r.segments m') to → WalksPlace r from to
 struct_at {r} {from} {to} {m'} {a} o z (ts, len, all) =
     let S : Segments = r.segments in
@@ -233,20 +237,20 @@ struct_at {r} {from} {to} {m'} {a} o z (ts, len, all) =
         is_sized = (
           a,
           all.cost,
-          o.levels,
+          o.meets.levels,
           record { leads_to = o.leads_to; is_struct = z; data_of = sym long; pointers = sym len },
           omega (arith, room, long, len),
           rw long refl,
           subst (λ i. SizedAll S (pred r.levels) a.segment (a.start + i) ts all.cost) (sym long) all.is_sized,
           omega (arith, claimed, long, len),
         );
-        paid = paid_both o.paid all.paid;
+        paid = paid_both (paid_words o) all.paid;
         words_are = omega (arith, all.words_are, counted_struct S a z, long, len);
         caps_are = omega (arith, all.caps_are);
       },
     )
 
-pub struct_walked : {r : Reading} {from to : Tally} {m' : Meter} (start : Place) (size : StructSize) → IsMeasured r from.meter m' (ObjectStruct start size) →
+pub struct_walked : {r : Reading} {from to : Tally} {m' : Meter} (start : Place) (size : StructSize) → IsObject Size r from.meter m' (ObjectStruct start size) →
     WalksPointers (inside r start size.data_words) size.pointers (tally (from.words + (size.data_words + size.pointers)) from.caps m') to → WalksPlace r from to
 struct_walked {r} {from} {to} {m'} start size (a, o, z, (held, seg, at), wide, many) h =
     let there : inside r start size.data_words ≡ child_at r a (pred r.levels) (a.start + data_words a.word) = same_place r seg (omega (arith, at, wide)) in
@@ -256,7 +260,7 @@ struct_walked {r} {from} {to} {m'} start size (a, o, z, (held, seg, at), wide, m
     (subst (λ q. WalksPointers (child_at r a (pred r.levels) (a.start + data_words a.word)) q (tally (from.words + (size.data_words + size.pointers)) from.caps m') to) many
     (subst (λ x. WalksPointers x size.pointers (tally (from.words + (size.data_words + size.pointers)) from.caps m') to) there h)))
 
-pointers_at : {r : Reading} {from to : Tally} {m' : Meter} {a : Target} → Measured r from.meter m' a → kind a.word ≡ 1 → element_size a.word ≡ 6 →
+pointers_at : {r : Reading} {from to : Tally} {m' : Meter} {a : Target} → Entered Size r from.meter m' a → kind a.word ≡ 1 → element_size a.word ≡ 6 →
     WalksPointers (child_at r a (pred r.levels) a.start) (list_count a.word) (with_object from a r.segments m') to → WalksPlace r from to
 pointers_at {r} {from} {to} {m'} {a} o z six (ts, len, all) =
     let S : Segments = r.segments in
@@ -267,19 +271,19 @@ pointers_at {r} {from} {to} {m'} {a} o z six (ts, len, all) =
         is_sized = (
           a,
           all.cost,
-          o.levels,
+          o.meets.levels,
           record { leads_to = o.leads_to; is_list = z; is_size = six; counts = sym len },
           omega (arith, o.meets.claims (λ v. omega (arith, v.1, six)), claimed, len),
           all.is_sized,
           omega (arith, claimed, len),
         );
-        paid = paid_both o.paid all.paid;
+        paid = paid_both (paid_words o) all.paid;
         words_are = omega (arith, all.words_are, counted_pointers S a z six, len);
         caps_are = omega (arith, all.caps_are);
       },
     )
 
-pub pointers_walked : {r : Reading} {from to : Tally} {m' : Meter} (start : Place) (i : ℕ) → IsMeasured r from.meter m' (ObjectPointers start i) →
+pub pointers_walked : {r : Reading} {from to : Tally} {m' : Meter} (start : Place) (i : ℕ) → IsObject Size r from.meter m' (ObjectPointers start i) →
     WalksPointers (inside r start 0) i (tally (from.words + i) from.caps m') to → WalksPlace r from to
 pointers_walked {r} {from} {to} {m'} start i (a, o, z, six, (held, seg, at), many) h =
     let none : a.start + 0 ≡ a.start = omega arith in
@@ -291,7 +295,7 @@ pointers_walked {r} {from} {to} {m'} start i (a, o, z, six, (held, seg, at), man
     (subst (λ q. WalksPointers (child_at r a (pred r.levels) (a.start + 0)) q (tally (from.words + i) from.caps m') to) many
     (subst (λ x. WalksPointers x i (tally (from.words + i) from.caps m') to) there h))))
 
-structs_at : {r : Reading} {from to : Tally} {m' : Meter} {a : Target} → Measured r from.meter m' a → kind a.word ≡ 1 → element_size a.word ≡ 7 →
+structs_at : {r : Reading} {from to : Tally} {m' : Meter} {a : Target} → Entered Size r from.meter m' a → kind a.word ≡ 1 → element_size a.word ≡ 7 →
     WalksRows (child_at r a (pred r.levels) (a.start + 1)) (tag_size r.segments a) (offset_bits (tag r.segments a)) (with_object from a r.segments m') to → WalksPlace r from to
 structs_at {r} {from} {to} {m'} {a} o z seven (es, len, all) =
     let S : Segments = r.segments in
@@ -307,7 +311,7 @@ structs_at {r} {from} {to} {m'} {a} o z seven (es, len, all) =
           a,
           N,
           all.cost,
-          o.levels,
+          o.meets.levels,
           record { leads_to = o.leads_to; is_list = z; is_size = seven; counts = refl },
           omega (arith, o.meets.claims (λ v. omega (arith, v.1, seven)), claimed),
           record { is_struct = t.0; counts = sym len; data_of = refl; pointers = refl },
@@ -315,7 +319,7 @@ structs_at {r} {from} {to} {m'} {a} o z seven (es, len, all) =
           all.is_sized,
           omega (arith, claimed),
         );
-        paid = paid_both o.paid all.paid;
+        paid = paid_both (paid_words o) all.paid;
         words_are = let rows : element_count es * (d + q) ≡ element_words (tag S a) = ap (λ j. j * (d + q)) len in omega (arith, all.words_are, counted_structs S a z seven, rows);
         caps_are = omega (arith, all.caps_are);
       },
@@ -324,7 +328,7 @@ structs_at {r} {from} {to} {m'} {a} o z seven (es, len, all) =
 pub same_size : {size : StructSize} (S : Segments) (a : Target) → size.data_words ≡ data_words (tag S a) → size.pointers ≡ pointer_count (tag S a) → size ≡ tag_size S a
 same_size S a wide pointers = ap₂ (λ x y. record { data_words = x; pointers = y }) wide pointers
 
-pub structs_walked : {r : Reading} {from to : Tally} {m' : Meter} (start : Place) (size : StructSize) (i : ℕ) → IsMeasured r from.meter m' (ObjectStructs start size i) →
+pub structs_walked : {r : Reading} {from to : Tally} {m' : Meter} (start : Place) (size : StructSize) (i : ℕ) → IsObject Size r from.meter m' (ObjectStructs start size i) →
     WalksRows (inside r start 0) size i (tally (from.words + (1 + i * (size.data_words + size.pointers))) from.caps m') to → WalksPlace r from to
 structs_walked {r} {from} {to} {m'} start size i (a, o, z, seven, (held, seg, at), many, wide, pointers) h =
     let there : inside r start 0 ≡ child_at r a (pred r.levels) (a.start + 1) = same_place r seg (omega (arith, at)) in
@@ -362,15 +366,15 @@ one_row {r} {size} {from} {to} (es, one, walk) = go es one walk
 abbrev pub beginning : Reading → Place → Reading
 beginning r start = record r { levels = pred r.levels; segment = start.segment; at = start.at }
 
-pub struct_row_walked : {r : Reading} {from to : Tally} {m' : Meter} (start : Place) (size : StructSize) → IsMeasured r from.meter m' (ObjectStruct start size) →
+pub struct_row_walked : {r : Reading} {from to : Tally} {m' : Meter} (start : Place) (size : StructSize) → IsObject Size r from.meter m' (ObjectStruct start size) →
     WalksRows (beginning r start) size 1 (tally (from.words + (size.data_words + size.pointers)) from.caps m') to → WalksPlace r from to
 struct_row_walked {r} {from} start size object h = struct_walked {r = r} {from = from} start size object (one_row h)
 
-pub pointers_row_walked : {r : Reading} {from to : Tally} {m' : Meter} (start : Place) (i : ℕ) → IsMeasured r from.meter m' (ObjectPointers start i) →
+pub pointers_row_walked : {r : Reading} {from to : Tally} {m' : Meter} (start : Place) (i : ℕ) → IsObject Size r from.meter m' (ObjectPointers start i) →
     WalksRows (beginning r start) (sized 0 i) 1 (tally (from.words + i) from.caps m') to → WalksPlace r from to
 pointers_row_walked {r} {from} start i object h = pointers_walked {r = r} {from = from} start i object (one_row h)
 
-pub structs_rows_walked : {r : Reading} {from to : Tally} {m' : Meter} (start : Place) (size : StructSize) (i : ℕ) → IsMeasured r from.meter m' (ObjectStructs start size i) →
+pub structs_rows_walked : {r : Reading} {from to : Tally} {m' : Meter} (start : Place) (size : StructSize) (i : ℕ) → IsObject Size r from.meter m' (ObjectStructs start size i) →
     WalksRows (beginning r start) size i (tally (from.words + (1 + i * (size.data_words + size.pointers))) from.caps m') to → WalksPlace r from to
 structs_rows_walked {r} {from} {to} {m'} start size i object h =
     let there : beginning r start ≡ inside r start 0 = same_place r refl (omega arith) in

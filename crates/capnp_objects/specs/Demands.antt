@@ -1,9 +1,12 @@
--- What an object claims and charges, and the demands that every object meets, by the word that describes it.
+-- What an object claims and charges, and the demands that every object meets, by the word that describes it and by what the
+-- object is read for: its value, or its size alone.
 use Rattle.std.specs.Prelude.{◌≡◌, ℕ, ◌+◌, ◌*◌, ◌<◌, ◌≤◌, cond, nat_eq}
 use Rattle.capnp_format.specs.Word.{kind, offset_bits, data_words, pointer_count, element_size, list_count}
 use Rattle.capnp_format.specs.Numbers.{words_for}
 use Rattle.capnp_format.specs.Segments.{Segments, word_at, Target}
 use Rattle.capnp_format.specs.Means.{Claims, count_cost}
+use Rattle.capnp_objects.specs.declared.object.Purpose.{Purpose}
+use Rattle.capnp_objects.specs.declared.object.Purpose.TheVariants.{Value, Size}
 
 -- the words that an object claims, by the word that describes it
 abbrev pub list_claim : ℕ → ℕ → ℕ
@@ -22,19 +25,33 @@ tag S a = word_at S a.segment a.start
 abbrev pub element_words : ℕ → ℕ
 element_words g = offset_bits g * (data_words g + pointer_count g)
 
+-- what n elements of a width charge, where that is none; for the size they are free
+abbrev pub count_charge : Purpose → ℕ → ℕ → ℕ
+count_charge Value width n = count_cost width n
+count_charge Size width n = 0
+
 -- what is charged for elements of no bits
-abbrev pub amplified : Segments → Target → ℕ
-amplified S a =
+abbrev pub amplified : Purpose → Segments → Target → ℕ
+amplified purpose S a =
     cond (nat_eq (kind a.word) 0) 0
-    (cond (nat_eq (element_size a.word) 7) (count_cost (data_words (tag S a) + pointer_count (tag S a)) (offset_bits (tag S a))) (count_cost (element_size a.word) (list_count a.word)))
+    (cond (nat_eq (element_size a.word) 7) (count_charge purpose (data_words (tag S a) + pointer_count (tag S a)) (offset_bits (tag S a))) (count_charge purpose (element_size a.word) (list_count a.word)))
 
 -- what reading an object charges, without its children
-abbrev pub own : Segments → Target → ℕ
-own S a = a.pads + claim a.word + amplified S a
+abbrev pub own : Purpose → Segments → Target → ℕ
+own purpose S a = a.pads + claim a.word + amplified purpose S a
+
+-- The word describes a list of void.
+abbrev pub IsVoidList : ℕ → Type 0
+IsVoidList w = (kind w ≡ 1) × (element_size w ≡ 0)
+
+-- The words that an object claims lie in its segment; for the size a list of void may lie anywhere.
+abbrev pub LiesThere : Purpose → Segments → Target → Type 0
+LiesThere Value S a = Claims S a (claim a.word)
+LiesThere Size S a = (IsVoidList a.word → ⊥) → Claims S a (claim a.word)
 
 -- an object that meets all demands but those on children
-pub record Meets (S : Segments) (n : ℕ) (a : Target) : Type 0 where
+pub record Meets (purpose : Purpose) (S : Segments) (n : ℕ) (a : Target) : Type 0 where
   pub levels : 0 < n
   pub is_object : kind a.word < 2
-  pub claims : Claims S a (claim a.word)
+  pub claims : LiesThere purpose S a
   pub tagged : IsStructList a.word → (kind (tag S a) ≡ 0) × (element_words (tag S a) ≤ list_count a.word)

@@ -13,6 +13,7 @@ use Rattle.capnp_objects.specs.declared.object.Expected.TheVariants.{List, Text}
 use Rattle.capnp_objects.specs.declared.object.Object.{Object}
 use Rattle.capnp_objects.specs.declared.object.Object.TheVariants.{Flat as ObjectFlat, Pointers as ObjectPointers, Structs as ObjectStructs}
 use Rattle.capnp_objects.specs.declared.object.Place.{Place}
+use Rattle.capnp_objects.specs.declared.object.Purpose.TheVariants.{Value}
 use Rattle.capnp_objects.specs.Expected.{another_kind, misfit, narrow_elements, narrow_structs}
 use Rattle.capnp_objects.specs.Landings.{IsEntered, NotEntered}
 
@@ -42,5 +43,5 @@ IsFitting expected a object = (another_kind expected a.word ≡ None) × (object
 -- An object is refused by the name k, from m to m'.
 pub data IsUnsuited (expected : Expected) (S : Segments) (charging : Bool) (a : Target) (m m' : Meter) (k : ErrorKind) : Type 0 where
   another : another_kind expected a.word ≡ Some k → m' ≡ m → IsUnsuited expected S charging a m m' k
-  not_entered : another_kind expected a.word ≡ None → NotEntered S charging 1 a m m' k → IsUnsuited expected S charging a m m' k
-  misfits : another_kind expected a.word ≡ None → IsEntered S charging 1 a m m' → misfit expected S a ≡ Some k → IsUnsuited expected S charging a m m' k
+  not_entered : another_kind expected a.word ≡ None → NotEntered Value S charging 1 a m m' k → IsUnsuited expected S charging a m m' k
+  misfits : another_kind expected a.word ≡ None → IsEntered Value S charging 1 a m m' → misfit expected S a ≡ Some k → IsUnsuited expected S charging a m m' k

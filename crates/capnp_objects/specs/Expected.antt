@@ -16,6 +16,7 @@ use Rattle.capnp_objects.specs.declared.object.Expected.{Expected}
 use Rattle.capnp_objects.specs.declared.object.Expected.TheVariants.{Struct, List, Text, Data}
 use Rattle.capnp_objects.specs.declared.object.Object.{Object}
 use Rattle.capnp_objects.specs.declared.object.Object.TheVariants.{Null as ObjectNull, Struct as ObjectStruct, Flat as ObjectFlat, Pointers as ObjectPointers, Structs as ObjectStructs}
+use Rattle.capnp_objects.specs.declared.object.Purpose.TheVariants.{Value}
 use Rattle.capnp_objects.specs.Demands.{own, Meets}
 use Rattle.capnp_objects.specs.Faults.{LeadsTo}
 use Rattle.capnp_objects.specs.Outcomes.{Entered}
@@ -88,12 +89,12 @@ pub record IsSuited (expected : Expected) (r : Reading) (a : Target) : Type 0 wh
   pub level : too_deep expected r.levels ≡ None
   pub leads_to : LeadsTo r a
   pub of_kind : another_kind expected a.word ≡ None
-  pub meets : Meets r.segments 1 a
+  pub meets : Meets Value r.segments 1 a
   pub fits : misfit expected r.segments a ≡ None
 
 -- The call is answered: the pointer is null, or leads to such an object, and m covers what the object charges.
 unfoldable pub CanBeGiven : Expected → Reading → Meter → Type 0
-CanBeGiven expected r m = (word_of r ≡ 0) ⊎ ((a : Target) × IsSuited expected r a × Affords r.charging m (own r.segments a))
+CanBeGiven expected r m = (word_of r ≡ 0) ⊎ ((a : Target) × IsSuited expected r a × Affords r.charging m (own Value r.segments a))
 
 -- What the pointer leads to, if it can be followed, is of the kind.
 abbrev pub IsOfKind : Expected → Reading → Type 0
@@ -106,8 +107,8 @@ pub data Withheld (expected : Expected) (r : Reading) (m m' : Meter) (k : ErrorK
   no_level : word_of r ≢ 0 → too_deep expected r.levels ≡ Some k → m' ≡ m → Withheld expected r m m' k
   unfollowed : too_deep expected r.levels ≡ None → Unfollowed r m m' k → Withheld expected r m m' k
   of_another_kind : (a : Target) → too_deep expected r.levels ≡ None → FollowsTo r a → another_kind expected a.word ≡ Some k → Paid r.charging m m' a.pads 1 → Withheld expected r m m' k
-  stopped : too_deep expected r.levels ≡ None → IsOfKind expected r → Stopped plain (one_level r) m m' k → Withheld expected r m m' k
-  misfits : (a : Target) → too_deep expected r.levels ≡ None → another_kind expected a.word ≡ None → Entered (one_level r) m m' a → misfit expected r.segments a ≡ Some k → Withheld expected r m m' k
+  stopped : too_deep expected r.levels ≡ None → IsOfKind expected r → Stopped Value plain (one_level r) m m' k → Withheld expected r m m' k
+  misfits : (a : Target) → too_deep expected r.levels ≡ None → another_kind expected a.word ≡ None → Entered Value (one_level r) m m' a → misfit expected r.segments a ≡ Some k → Withheld expected r m m' k
 
 -- An object is as expected, where n levels are left; or the pointer is null.
 abbrev pub IsGiven : Expected → ℕ → Object → Type 0

@@ -7,6 +7,8 @@ use Rattle.capnp_words.specs.Meter.{Meter, Affords}
 use Rattle.capnp_format.specs.Word.{kind, offset_bits, data_words, pointer_count, element_size, list_count, is_double}
 use Rattle.capnp_format.specs.Segments.{Segments, Target, pad}
 use Rattle.capnp_format.specs.Means.{Leads, Claims}
+use Rattle.capnp_objects.specs.declared.object.Purpose.{Purpose}
+use Rattle.capnp_objects.specs.declared.object.Purpose.TheVariants.{Value, Size}
 use Rattle.capnp_objects.specs.Demands.{claim, tag, amplified, IsStructList, Meets}
 use Rattle.capnp_objects.specs.Reading.{Reading, pointers_of, word_of}
 use Rattle.capnp_objects.specs.Wanted.{Form, BreaksAt}
@@ -27,6 +29,11 @@ pub data IsPointer (S : Segments) (a : Target) (q : ℕ) : Type 0 where
 abbrev pub LeadsTo : Reading → Target → Type 0
 LeadsTo r a = Leads r.segments r.segment r.at a
 
+-- So it does for a reading; one for the size takes a level for whatever it leads to, also for a capability.
+abbrev pub LeadsFor : Purpose → Reading → Target → Type 0
+LeadsFor Value r a = LeadsTo r a
+LeadsFor Size r a = LeadsTo r a × (0 < r.levels)
+
 abbrev pub child_at : Reading → Target → ℕ → ℕ → Reading
 child_at r a levels q = record r { levels = levels; segment = a.segment; at = q }
 
@@ -34,7 +41,7 @@ child_at r a levels q = record r { levels = levels; segment = a.segment; at = q 
 -- demands. `under w n` are the levels of the children of an object described by w that is reached with n.
 pub data Somewhere (under : ℕ → ℕ → ℕ) (P : Reading → Type 0) : Reading → Type 0 where
   here : {r : Reading} → P r → Somewhere under P r
-  below : {r : Reading} (a : Target) (q : ℕ) → LeadsTo r a → Meets r.segments r.levels a → IsPointer r.segments a q → Somewhere under P (child_at r a (under a.word r.levels) q) → Somewhere under P r
+  below : {r : Reading} (a : Target) (q : ℕ) → LeadsTo r a → Meets Value r.segments r.levels a → IsPointer r.segments a q → Somewhere under P (child_at r a (under a.word r.levels) q) → Somewhere under P r
 
 -- One of the m places from a place on.
 abbrev pub Among : (ℕ → ℕ → ℕ) → (Reading → Type 0) → Reading → ℕ → Type 0
@@ -53,7 +60,7 @@ one_less w n = pred n
 pub data Charges (r : Reading) (x : ℕ) : Type 0 where
   of_pads : (f : ℕ) → kind (word_of r) ≡ 2 → pad r.segments (word_of r) (is_double (word_of r)) ≡ Some f → x ≡ 1 + is_double (word_of r) → Charges r x
   of_object : (a : Target) → LeadsTo r a → 0 < r.levels → kind a.word < 2 → Claims r.segments a (claim a.word) → x ≡ claim a.word → Charges r x
-  of_elements : (a : Target) → LeadsTo r a → Meets r.segments r.levels a → x ≡ amplified r.segments a → Charges r x
+  of_elements : (a : Target) → LeadsTo r a → Meets Value r.segments r.levels a → x ≡ amplified Value r.segments a → Charges r x
 
 -- A place charges more than the limiter has left.
 abbrev pub Exceeds : Meter → Reading → Type 0

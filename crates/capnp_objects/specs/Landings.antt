@@ -14,7 +14,9 @@ use Rattle.capnp_objects.specs.Refusals.{landing_words, granted_before}
 use Rattle.capnp_objects.specs.declared.object.Object.{Object}
 use Rattle.capnp_objects.specs.declared.object.Object.TheVariants.{Null as ObjectNull, Capability as ObjectCapability, Struct as ObjectStruct, Flat as ObjectFlat, Pointers as ObjectPointers, Structs as ObjectStructs}
 use Rattle.capnp_objects.specs.declared.source.Landing.{Landing}
-use Rattle.capnp_objects.specs.Demands.{claim, tag, amplified, Meets}
+use Rattle.capnp_objects.specs.declared.object.Purpose.{Purpose}
+use Rattle.capnp_objects.specs.declared.object.Purpose.TheVariants.{Value}
+use Rattle.capnp_objects.specs.Demands.{claim, tag, amplified, IsVoidList, Meets}
 use Rattle.capnp_objects.specs.Wanted.{BreaksObject, follow_at}
 use Rattle.capnp_objects.specs.Objects.{IsHeld, StartsAt}
 use Rattle.capnp_objects.specs.Wanted.{plain}
@@ -68,14 +70,14 @@ pub record IsClaimed (S : Segments) (charging : Bool) (n : ℕ) (a : Target) (m 
   pub paid : m' ≡ charged charging m (claim a.word)
 
 -- An object meets its demands, and what it charges by itself is charged, from m to m'.
-pub record IsEntered (S : Segments) (charging : Bool) (n : ℕ) (a : Target) (m m' : Meter) : Type 0 where
-  pub meets : Meets S n a
-  pub covers : Affords charging m (claim a.word + amplified S a)
-  pub paid : m' ≡ charged charging m (claim a.word + amplified S a)
+pub record IsEntered (purpose : Purpose) (S : Segments) (charging : Bool) (n : ℕ) (a : Target) (m m' : Meter) : Type 0 where
+  pub meets : Meets purpose S n a
+  pub covers : Affords charging m (claim a.word + amplified purpose S a)
+  pub paid : m' ≡ charged charging m (claim a.word + amplified purpose S a)
 
 -- An object is not entered, for the reason k: it breaks a demand, or what it claims or what its elements charge is not covered.
-pub data NotEntered (S : Segments) (charging : Bool) (n : ℕ) (a : Target) (m m' : Meter) (k : ErrorKind) : Type 0 where
-  broken : BreaksObject plain S n a k → Affords charging m (granted_before a k) → m' ≡ charged charging m (granted_before a k) → NotEntered S charging n a m m' k
+pub data NotEntered (purpose : Purpose) (S : Segments) (charging : Bool) (n : ℕ) (a : Target) (m m' : Meter) (k : ErrorKind) : Type 0 where
+  broken : BreaksObject purpose plain S n a k → Affords charging m (granted_before a k) → m' ≡ charged charging m (granted_before a k) → NotEntered purpose S charging n a m m' k
   claim_exceeds :
       0 < n →
       kind a.word < 2 →
@@ -83,25 +85,30 @@ pub data NotEntered (S : Segments) (charging : Bool) (n : ℕ) (a : Target) (m m
       (Affords charging m (claim a.word) → ⊥) →
       m' ≡ m →
       k ≡ ReadLimitExceeded →
-      NotEntered S charging n a m m' k
+      NotEntered purpose S charging n a m m' k
   elements_exceed :
-      Meets S n a →
+      Meets purpose S n a →
       Affords charging m (claim a.word) →
       m' ≡ charged charging m (claim a.word) →
-      (Affords charging m' (amplified S a) → ⊥) →
+      (Affords charging m' (amplified purpose S a) → ⊥) →
       k ≡ ReadLimitExceeded →
-      NotEntered S charging n a m m' k
+      NotEntered purpose S charging n a m m' k
 
 -- The object that the target a describes, which is entered, from m to m'.
-abbrev pub IsOpened : Segments → Bool → ℕ → Target → Meter → Meter → Object → Type 0
-IsOpened S charging n a m m' ObjectNull = ⊥
-IsOpened S charging n a m m' (ObjectCapability i) = (a.word % 2 ^ 32 ≡ 3) × (i ≡ upper_half a.word) × (m' ≡ m)
-IsOpened S charging n a m m' (ObjectStruct start size) =
-    IsEntered S charging n a m m' × (kind a.word ≡ 0) × StartsAt S a 0 start × (size.data_words ≡ data_words a.word) × (size.pointers ≡ pointer_count a.word)
-IsOpened S charging n a m m' (ObjectFlat start size count) =
-    IsEntered S charging n a m m' × (kind a.word ≡ 1) × (element_size a.word ≤ 5) × StartsAt S a 0 start × (size_number size ≡ element_size a.word) × (count ≡ list_count a.word)
-IsOpened S charging n a m m' (ObjectPointers start count) =
-    IsEntered S charging n a m m' × (kind a.word ≡ 1) × (element_size a.word ≡ 6) × StartsAt S a 0 start × (count ≡ list_count a.word)
-IsOpened S charging n a m m' (ObjectStructs start size count) =
-    IsEntered S charging n a m m' × (kind a.word ≡ 1) × (element_size a.word ≡ 7) × StartsAt S a 1 start
+abbrev pub IsOpened : Purpose → Segments → Bool → ℕ → Target → Meter → Meter → Object → Type 0
+IsOpened purpose S charging n a m m' ObjectNull = ⊥
+IsOpened purpose S charging n a m m' (ObjectCapability i) = (a.word % 2 ^ 32 ≡ 3) × (i ≡ upper_half a.word) × (m' ≡ m)
+IsOpened purpose S charging n a m m' (ObjectStruct start size) =
+    IsEntered purpose S charging n a m m' × (kind a.word ≡ 0) × StartsAt S a 0 start × (size.data_words ≡ data_words a.word) × (size.pointers ≡ pointer_count a.word)
+IsOpened purpose S charging n a m m' (ObjectFlat start size count) =
+    IsEntered purpose S charging n a m m' × (kind a.word ≡ 1) × (element_size a.word ≤ 5) × StartsAt S a 0 start × (size_number size ≡ element_size a.word) × (count ≡ list_count a.word)
+IsOpened purpose S charging n a m m' (ObjectPointers start count) =
+    IsEntered purpose S charging n a m m' × (kind a.word ≡ 1) × (element_size a.word ≡ 6) × StartsAt S a 0 start × (count ≡ list_count a.word)
+IsOpened purpose S charging n a m m' (ObjectStructs start size count) =
+    IsEntered purpose S charging n a m m' × (kind a.word ≡ 1) × (element_size a.word ≡ 7) × StartsAt S a 1 start
     × (count ≡ offset_bits (tag S a)) × (size.data_words ≡ data_words (tag S a)) × (size.pointers ≡ pointer_count (tag S a))
+
+-- The words that an object claims are not charged, for the reason k. It is read for its value, or for its size and is no
+-- list of void.
+abbrev pub NotClaimed : Segments → Bool → ℕ → Target → Meter → Meter → ErrorKind → Type 0
+NotClaimed S charging n a m m' k = (purpose : Purpose) → (IsVoidList a.word → purpose ≡ Value) → NotEntered purpose S charging n a m m' k

@@ -8,9 +8,10 @@ use Rattle.capnp_words.specs.Sizes.{size_number}
 use Rattle.capnp_objects.specs.declared.object.Place.{Place}
 use Rattle.capnp_objects.specs.declared.object.Object.{Object}
 use Rattle.capnp_objects.specs.declared.object.Object.TheVariants.{Null as ObjectNull, Capability as ObjectCapability, Struct as ObjectStruct, Flat as ObjectFlat, Pointers as ObjectPointers, Structs as ObjectStructs}
+use Rattle.capnp_objects.specs.declared.object.Purpose.{Purpose}
 use Rattle.capnp_objects.specs.Spending.{after}
 use Rattle.capnp_objects.specs.Demands.{tag}
-use Rattle.capnp_objects.specs.Faults.{LeadsTo}
+use Rattle.capnp_objects.specs.Faults.{LeadsFor}
 use Rattle.capnp_objects.specs.Reading.{Reading, word_of}
 use Rattle.capnp_objects.specs.Outcomes.{Entered}
 
@@ -24,28 +25,24 @@ abbrev pub StartsAt : Segments → Target → ℕ → Place → Type 0
 StartsAt S a n here = IsHeld S here × (here.segment ≡ a.segment) × (here.at ≡ a.start + n)
 
 -- What the pointer at a place leads to: its words are checked and charged, from m to m'.
-abbrev pub IsObject : Reading → Meter → Meter → Object → Type 0
-IsObject r m m' ObjectNull = (word_of r ≡ 0) × (m' ≡ m)
-IsObject r m m' (ObjectCapability i) =
-    (a : Target) × LeadsTo r a × (a.word % 2 ^ 32 ≡ 3) × (i ≡ upper_half a.word) × Affords r.charging m a.pads × (m' ≡ after r.charging m a.pads 1)
-IsObject r m m' (ObjectStruct start size) =
-    (a : Target) × Entered r m m' a × (kind a.word ≡ 0) × StartsAt r.segments a 0 start × (size.data_words ≡ data_words a.word) × (size.pointers ≡ pointer_count a.word)
-IsObject r m m' (ObjectFlat start size count) =
-    (a : Target) × Entered r m m' a × (kind a.word ≡ 1) × (element_size a.word ≤ 5) × StartsAt r.segments a 0 start
+abbrev pub IsObject : Purpose → Reading → Meter → Meter → Object → Type 0
+IsObject purpose r m m' ObjectNull = (word_of r ≡ 0) × (m' ≡ m)
+IsObject purpose r m m' (ObjectCapability i) =
+    (a : Target) × LeadsFor purpose r a × (a.word % 2 ^ 32 ≡ 3) × (i ≡ upper_half a.word) × Affords r.charging m a.pads × (m' ≡ after r.charging m a.pads 1)
+IsObject purpose r m m' (ObjectStruct start size) =
+    (a : Target) × Entered purpose r m m' a × (kind a.word ≡ 0) × StartsAt r.segments a 0 start × (size.data_words ≡ data_words a.word) × (size.pointers ≡ pointer_count a.word)
+IsObject purpose r m m' (ObjectFlat start size count) =
+    (a : Target) × Entered purpose r m m' a × (kind a.word ≡ 1) × (element_size a.word ≤ 5) × StartsAt r.segments a 0 start
     × (size_number size ≡ element_size a.word) × (count ≡ list_count a.word)
-IsObject r m m' (ObjectPointers start count) =
-    (a : Target) × Entered r m m' a × (kind a.word ≡ 1) × (element_size a.word ≡ 6) × StartsAt r.segments a 0 start × (count ≡ list_count a.word)
-IsObject r m m' (ObjectStructs start size count) =
-    (a : Target) × Entered r m m' a × (kind a.word ≡ 1) × (element_size a.word ≡ 7) × StartsAt r.segments a 1 start
+IsObject purpose r m m' (ObjectPointers start count) =
+    (a : Target) × Entered purpose r m m' a × (kind a.word ≡ 1) × (element_size a.word ≡ 6) × StartsAt r.segments a 0 start × (count ≡ list_count a.word)
+IsObject purpose r m m' (ObjectStructs start size count) =
+    (a : Target) × Entered purpose r m m' a × (kind a.word ≡ 1) × (element_size a.word ≡ 7) × StartsAt r.segments a 1 start
     × (count ≡ offset_bits (tag r.segments a)) × (size.data_words ≡ data_words (tag r.segments a)) × (size.pointers ≡ pointer_count (tag r.segments a))
 
--- The place leads to a struct that starts there: its words are checked and charged, from m to m'.
-abbrev pub EntersStruct : Reading → Meter → Meter → Place → Type 0
-EntersStruct r m m' start = (a : Target) × Entered r m m' a × (kind a.word ≡ 0) × StartsAt r.segments a 0 start
-
--- The place leads to a list of elements without pointers that starts there: its words are checked and charged, from m to m'.
-abbrev pub EntersFlat : Reading → Meter → Meter → Place → Type 0
-EntersFlat r m m' start = (a : Target) × Entered r m m' a × (kind a.word ≡ 1) × (element_size a.word ≤ 5) × StartsAt r.segments a 0 start
+-- What the pointer at a place leads to where it is near: an object at a position of the place's own segment.
+abbrev pub near_at : Reading → ℕ → Target
+near_at r at = record { word = word_of r; segment = r.segment; start = at; pads = 0 }
 
 -- A list has so few elements that their number fits its bits of a pointer word, and so do the words of structs.
 abbrev pub IsFew : Object → Type 0

@@ -5,6 +5,7 @@ use Rattle.capnp_words.specs.Meter.{Meter, Affords}
 use Rattle.capnp_format.specs.Segments.{Target}
 use Rattle.capnp_format.specs.Tree.{Tree, Trees, Elements, capabilities, capabilities_all, capabilities_elements}
 use Rattle.capnp_format.specs.Means.{Means, MeansAll, MeansElements}
+use Rattle.capnp_objects.specs.declared.object.Purpose.{Purpose}
 use Rattle.capnp_objects.specs.Demands.{own, Meets}
 use Rattle.capnp_objects.specs.Faults.{LeadsTo}
 use Rattle.capnp_objects.specs.Reading.{Reading}
@@ -50,8 +51,8 @@ pub record ReadsElements (form : Form) (r : Reading) (size : StructSize) (m m' :
   pub spent : m' ≡ after r.charging m cost (pointers_in_elements es)
 
 -- The object at a place is entered: its demands are met, and its own words are paid.
-pub record Entered (r : Reading) (m m' : Meter) (a : Target) : Type 0 where
+pub record Entered (purpose : Purpose) (r : Reading) (m m' : Meter) (a : Target) : Type 0 where
   pub leads_to : LeadsTo r a
-  pub meets : Meets r.segments r.levels a
-  pub covers : Affords r.charging m (own r.segments a)
-  pub spent : m' ≡ after r.charging m (own r.segments a) 1
+  pub meets : Meets purpose r.segments r.levels a
+  pub covers : Affords r.charging m (own purpose r.segments a)
+  pub spent : m' ≡ after r.charging m (own purpose r.segments a) 1

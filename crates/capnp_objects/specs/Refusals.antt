@@ -2,15 +2,17 @@
 -- of a whole value in the order of its pointers (docs/FORMAT.md, "Charges and refusals").
 use Rattle.std.specs.Prelude.{◌≡◌, ◌≢◌, ◌⊎◌, ℕ, pred, ◌+◌, ◌%◌, ◌^◌, ◌<◌, cond, nat_eq, Option, Some, None, Ok, Err}
 use Rattle.capnp_words.specs.declared.error.ErrorKind.{ErrorKind}
-use Rattle.capnp_words.specs.declared.error.ErrorKind.TheVariants.{InlineCompositeListsElementsOverrunItsWordCount, InlineCompositeListsOfNonStructTypeAreNotSupported, ReadLimitExceeded}
+use Rattle.capnp_words.specs.declared.error.ErrorKind.TheVariants.{CantHandleNonStructInlineComposite, InlineCompositeListsElementsOverrunItsWordCount, InlineCompositeListsOfNonStructTypeAreNotSupported, ReadLimitExceeded}
 use Rattle.capnp_words.specs.declared.wire_pointer.StructSize.{StructSize}
 use Rattle.capnp_words.specs.Meter.{Meter, Affords}
 use Rattle.capnp_format.specs.Word.{kind, offset_bits, data_words, pointer_count, element_size, list_count, is_double}
 use Rattle.capnp_format.specs.Segments.{Segments, Target, pad}
 use Rattle.capnp_format.specs.Tree.{Trees, Elements, count, element_count}
 use Rattle.capnp_format.specs.Means.{Claims}
+use Rattle.capnp_objects.specs.declared.object.Purpose.{Purpose}
+use Rattle.capnp_objects.specs.declared.object.Purpose.TheVariants.{Value}
 use Rattle.capnp_objects.specs.Demands.{claim, tag, own, IsStructList, Meets}
-use Rattle.capnp_objects.specs.Faults.{LeadsTo, child_at}
+use Rattle.capnp_objects.specs.Faults.{LeadsTo, LeadsFor, child_at}
 use Rattle.capnp_objects.specs.Outcomes.{Entered, ReadsAll, ReadsElements}
 use Rattle.capnp_objects.specs.Reading.{Reading, word_of, behind, pointers_of, tag_size}
 use Rattle.capnp_objects.specs.Spending.{Paid}
@@ -28,6 +30,7 @@ landing_words S x = cond (nat_eq (kind x) 2) (if_there (pad S x (is_double x)) (
 -- tag of a list of structs; else none.
 abbrev pub granted_before : Target → ErrorKind → ℕ
 granted_before a InlineCompositeListsOfNonStructTypeAreNotSupported = claim a.word
+granted_before a CantHandleNonStructInlineComposite = claim a.word
 granted_before a InlineCompositeListsElementsOverrunItsWordCount = claim a.word
 granted_before a k = 0
 
@@ -45,10 +48,10 @@ pub data Unfollowed (r : Reading) (m m' : Meter) (k : ErrorKind) : Type 0 where
 -- where its landing pads are not covered; these, where it leads nowhere; these and what the object claims, where its tag is
 -- wrong, and else these alone, where it breaks a demand; these, where its claim is not covered; both, where the number of
 -- elements of no width is not.
-pub data Stopped (form : Form) (r : Reading) (m m' : Meter) (k : ErrorKind) : Type 0 where
-  pads_exceed : word_of r ≢ 0 → (Affords r.charging m (landing_words r.segments (word_of r)) → ⊥) → Paid r.charging m m' 0 1 → k ≡ ReadLimitExceeded → Stopped form r m m' k
-  nowhere : word_of r ≢ 0 → follow_at r ≡ Err k → Paid r.charging m m' (landing_words r.segments (word_of r)) 1 → Stopped form r m m' k
-  broken : (a : Target) → FollowsTo r a → BreaksObject form r.segments r.levels a k → Paid r.charging m m' (a.pads + granted_before a k) 1 → Stopped form r m m' k
+pub data Stopped (purpose : Purpose) (form : Form) (r : Reading) (m m' : Meter) (k : ErrorKind) : Type 0 where
+  pads_exceed : word_of r ≢ 0 → (Affords r.charging m (landing_words r.segments (word_of r)) → ⊥) → Paid r.charging m m' 0 1 → k ≡ ReadLimitExceeded → Stopped purpose form r m m' k
+  nowhere : word_of r ≢ 0 → follow_at r ≡ Err k → Paid r.charging m m' (landing_words r.segments (word_of r)) 1 → Stopped purpose form r m m' k
+  broken : (a : Target) → FollowsTo r a → BreaksObject purpose form r.segments r.levels a k → Paid r.charging m m' (a.pads + granted_before a k) 1 → Stopped purpose form r m m' k
   claim_exceeds :
       (a : Target) →
       FollowsTo r a →
@@ -58,22 +61,22 @@ pub data Stopped (form : Form) (r : Reading) (m m' : Meter) (k : ErrorKind) : Ty
       (Affords r.charging m (a.pads + claim a.word) → ⊥) →
       Paid r.charging m m' a.pads 1 →
       k ≡ ReadLimitExceeded →
-      Stopped form r m m' k
+      Stopped purpose form r m m' k
   count_exceeds :
       (a : Target) →
       FollowsTo r a →
-      Meets r.segments r.levels a →
-      (Affords r.charging m (own r.segments a) → ⊥) →
+      Meets purpose r.segments r.levels a →
+      (Affords r.charging m (own purpose r.segments a) → ⊥) →
       Paid r.charging m m' (a.pads + claim a.word) 1 →
       k ≡ ReadLimitExceeded →
-      Stopped form r m m' k
+      Stopped purpose form r m m' k
 
 -- One object can be read: the demands at the place itself hold, and m covers what the call charges.
-unfoldable pub CanBeRead : Reading → Meter → Type 0
-CanBeRead r m =
+unfoldable pub CanBeRead : Purpose → Reading → Meter → Type 0
+CanBeRead purpose r m =
     (word_of r ≡ 0)
-    ⊎ ((a : Target) × LeadsTo r a × (a.word % 2 ^ 32 ≡ 3) × Affords r.charging m a.pads)
-    ⊎ ((a : Target) × LeadsTo r a × Meets r.segments r.levels a × Affords r.charging m (own r.segments a))
+    ⊎ ((a : Target) × LeadsFor purpose r a × (a.word % 2 ^ 32 ≡ 3) × Affords r.charging m a.pads)
+    ⊎ ((a : Target) × LeadsTo r a × Meets purpose r.segments r.levels a × Affords r.charging m (own purpose r.segments a))
 
 -- The pointers of an object a before its pointer at position q are read, from m to m'.
 pub data ReadsBefore (form : Form) (r : Reading) (a : Target) (q : ℕ) (m m' : Meter) : Type 0 where
@@ -108,7 +111,7 @@ pub data StopsWithin (form : Form) (P : Reading → Meter → Meter → Type 0) 
   here : {r : Reading} {m m' : Meter} → P r m m' → StopsWithin form P r m m'
   below :
       {r : Reading} {m first mid m' : Meter} (a : Target) (q : ℕ) →
-      Entered r m first a →
+      Entered Value r m first a →
       ReadsBefore form r a q first mid →
       StopsWithin form P (child_at r a (pred r.levels) q) mid m' →
       StopsWithin form P r m m'
@@ -131,17 +134,17 @@ pub record StopsAmongElements (form : Form) (P : Reading → Meter → Meter →
 
 -- The reading of a whole value is refused by the name k: one object is; so of i pointers, and of i elements.
 abbrev pub Refused : Form → Reading → Meter → Meter → ErrorKind → Type 0
-Refused form r m m' k = StopsWithin form (λ s i j. Stopped form s i j k) r m m'
+Refused form r m m' k = StopsWithin form (λ s i j. Stopped Value form s i j k) r m m'
 
 abbrev pub RefusedAll : Form → Reading → ℕ → Meter → Meter → ErrorKind → Type 0
-RefusedAll form r n m m' k = StopsAmong form (λ s i j. Stopped form s i j k) r n m m'
+RefusedAll form r n m m' k = StopsAmong form (λ s i j. Stopped Value form s i j k) r n m m'
 
 abbrev pub RefusedElements : Form → Reading → StructSize → ℕ → Meter → Meter → ErrorKind → Type 0
-RefusedElements form r size n m m' k = StopsAmongElements form (λ s i j. Stopped form s i j k) r size n m m'
+RefusedElements form r size n m m' k = StopsAmongElements form (λ s i j. Stopped Value form s i j k) r size n m m'
 
 -- The reading of one object stops; or the object was read, and what is made of it finds no room.
 abbrev pub IsTried : Form → Reading → Meter → Meter → Type 0
-IsTried form r m m' = ((k : ErrorKind) × Stopped form r m m' k) ⊎ ((a : Target) × Entered r m m' a)
+IsTried form r m m' = ((k : ErrorKind) × Stopped Value form r m m' k) ⊎ ((a : Target) × Entered Value r m m' a)
 
 -- The reading of a whole value is broken off at one object: all before it was read, and it was granted no more than its own
 -- charges. So of i pointers, and of i elements.

@@ -11,9 +11,11 @@ use Rattle.capnp_format.specs.Segments.{Segments, word_at, words_at, HasWords, T
 use Rattle.capnp_format.specs.Tree.{Tree, Null, Capability, Struct, Flat, Pointers, Structs, Trees, no_trees, tree, Elements, no_elements, element, count, element_count, capabilities, capabilities_all, capabilities_elements}
 use Rattle.capnp_format.specs.Means.{Leads, Claims, StructAt, ListAt, IsTag}
 use Rattle.capnp_format.specs.Canonical.{word_count, word_count_all, word_count_elements}
+use Rattle.capnp_objects.specs.declared.object.Purpose.TheVariants.{Size}
 use Rattle.capnp_objects.specs.Demands.{tag, IsStructList}
 use Rattle.capnp_objects.specs.Faults.{LeadsTo, child_at}
-use Rattle.capnp_objects.specs.Measures.{counted_words, Measured, NotMeasured}
+use Rattle.capnp_objects.specs.Measures.{counted_words, NotMeasured}
+use Rattle.capnp_objects.specs.Outcomes.{Entered}
 use Rattle.capnp_objects.specs.Reading.{Reading, pointers_of, tag_size}
 use Rattle.capnp_objects.specs.Spending.{Paid, pointers_in, pointers_in_all, pointers_in_elements}
 
@@ -159,7 +161,7 @@ with_object from a S m = record { words = from.words + counted_words S a; caps =
 -- it is measured, and with its own words, or with it as a capability, the sums are too much.
 pub data SizeStopped (r : Reading) (from : Tally) (m' : Meter) (k : ErrorKind) : Type 0 where
   unmeasured : NotMeasured r from.meter m' k → SizeStopped r from m' k
-  too_large : (a : Target) → Measured r from.meter m' a → 2 ^ 64 ≤ from.words + counted_words r.segments a → k ≡ MessageTooLarge (2 ^ 64 - 1) → SizeStopped r from m' k
+  too_large : (a : Target) → Entered Size r from.meter m' a → 2 ^ 64 ≤ from.words + counted_words r.segments a → k ≡ MessageTooLarge (2 ^ 64 - 1) → SizeStopped r from m' k
   too_many :
       (a : Target) →
       LeadsTo r a →
@@ -176,7 +178,7 @@ pub data SizeStops (k : ErrorKind) : Reading → Tally → Meter → Type 0 wher
   here : {r : Reading} {from : Tally} {m' : Meter} → FitSize from.words from.caps → SizeStopped r from m' k → SizeStops k r from m'
   below :
       {r : Reading} {from mid : Tally} {first m' : Meter} (a : Target) (q : ℕ) →
-      Measured r from.meter first a →
+      Entered Size r from.meter first a →
       WalksBefore r a q (with_object from a r.segments first) mid →
       SizeStops k (child_at r a (pred r.levels) q) mid m' →
       SizeStops k r from m'

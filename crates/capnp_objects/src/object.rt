@@ -96,3 +96,12 @@ pub enum Expected {
     /// A list of bytes.
     Data,
 }
+
+/// What an object is read for.
+#[derive(Clone, Copy)]
+pub enum Purpose {
+    /// Its value.
+    Value,
+    /// Its size alone: a list of void is not looked for, and elements without width are free.
+    Size,
+}

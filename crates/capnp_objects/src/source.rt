@@ -3,24 +3,25 @@
 ghost use Rattle.std.specs.Prelude.{◌≡◌, ◌≢◌, ◌<◌, ◌≤◌, ◌+◌, ◌*◌, ◌^◌, ◌↔◌, ℕ, false, IsTrue, IfOk, IsOk, OnOk, OnErr, IfErr, length};
 ghost use Rattle.capnp_format.specs.Word.{kind, element_size, is_double};
 ghost use Rattle.capnp_format.specs.Segments.{segment, word_at};
-ghost use Rattle.capnp_format.specs.Means.{count_cost};
 ghost use Rattle.capnp_words.specs.Meter.{Affords, charged, counted_once};
 ghost use Rattle.capnp_words.specs.declared.error.ErrorKind.TheVariants.{ReadLimitExceeded};
 ghost use Rattle.capnp_objects.specs.Source.{source_segments, source_charging, levels};
 ghost use Rattle.capnp_format.specs.Bytes.{message};
 ghost use Rattle.capnp_words.specs.Sizes.{size_number};
-ghost use Rattle.capnp_objects.specs.Demands.{claim};
+ghost use Rattle.capnp_objects.specs.declared.object.Purpose.TheVariants.{Value, Size};
+ghost use Rattle.capnp_objects.specs.Demands.{claim, count_charge};
 ghost use Rattle.capnp_objects.specs.Reading.{reading_at, word_of};
-ghost use Rattle.capnp_objects.specs.Wanted.{plain};
-ghost use Rattle.capnp_objects.specs.Objects.{IsObject, EntersStruct, EntersFlat, IsHeld, IsFew};
+ghost use Rattle.capnp_objects.specs.Wanted.{plain, non_struct_tag};
+ghost use Rattle.capnp_objects.specs.Objects.{near_at, IsObject, IsHeld, IsFew};
+ghost use Rattle.capnp_objects.specs.Outcomes.{Entered};
 ghost use Rattle.capnp_objects.specs.Refusals.{Stopped, CanBeRead};
-ghost use Rattle.capnp_objects.specs.Landings.{target, IsPad, FollowsPointer, FailsPointer, FollowsFar, FailsFar, IsClaimed, NotEntered, IsOpened};
+ghost use Rattle.capnp_objects.specs.Landings.{target, IsPad, FollowsPointer, FailsPointer, FollowsFar, FailsFar, IsClaimed, NotClaimed, NotEntered, IsOpened};
 
 mod expected;
 mod measure;
 mod types;
 
-use crate::object::{Object, Place};
+use crate::object::{Object, Place, Purpose};
 use capnp_arena::arena::ReaderArena;
 use capnp_words::error::ErrorKind;
 use capnp_words::read_limiter::ReadLimiter;
@@ -75,25 +76,51 @@ impl<'a, A: ReaderArena> Source<'a, A> {
         lim: &mut ReadLimiter,
     ) -> Result<Object<'a>, ErrorKind>
         requires held { IsHeld (source_segments A.segments self) place }
-        ensures object { IfOk result (IsObject
+        ensures object { IfOk result (IsObject Value
             (reading_at A.ReaderArena self.entry place.entry nesting_limit) lim.old lim.new) }
         ensures few { IfOk result IsFew }
-        ensures exactly { IsOk result ↔ CanBeRead
+        ensures exactly { IsOk result ↔ CanBeRead Value
             (reading_at A.ReaderArena self.entry place.entry nesting_limit) lim.old }
         ensures refused { IfErr result
-            (Stopped plain (reading_at A.ReaderArena self.entry place.entry nesting_limit)
+            (Stopped Value plain (reading_at A.ReaderArena self.entry place.entry nesting_limit)
             lim.old lim.new) }
     {
         let word = place.word();
         if word.is_null() {
             return Ok(Object::Null);
         }
+        self.read_pointer(Purpose::Value, place, word, nesting_limit, lim)
+    }
+
+    // Reads the object that the word at a place leads to, which is not zero. For its size a level has
+    // to be left.
+    #[inline(always)]
+    fn read_pointer(
+        self,
+        purpose: Purpose,
+        place: Place<'a>,
+        word: WirePointer,
+        nesting_limit: i32,
+        lim: &mut ReadLimiter,
+    ) -> Result<Object<'a>, ErrorKind>
+        requires held { IsHeld (source_segments A.segments self) place }
+        requires there { word.0 ≡ word_of (reading_at A.ReaderArena self place nesting_limit) }
+        requires small { word.0 < 2 ^ 64 }
+        requires some { word.0 ≢ 0 }
+        requires level { purpose ≡ Size → 0 < levels nesting_limit }
+        ensures object { IfOk result (IsObject purpose
+            (reading_at A.ReaderArena self.entry place.entry nesting_limit) lim.old lim.new) }
+        ensures few { IfOk result IsFew }
+        ensures refused { IfErr result
+            (Stopped purpose plain (reading_at A.ReaderArena self.entry place.entry nesting_limit)
+            lim.old lim.new) }
+    {
         self.count(lim);
         let landing = match self.follow(place, word, nesting_limit, lim) {
             Ok(landing) => landing,
             Err(k) => return Err(k),
         };
-        self.enter(landing, depth_of(nesting_limit), lim)
+        self.enter(purpose, landing, depth_of(nesting_limit), lim)
     }
 
     /// Reads the struct that a near pointer leads to, as `read_object` does: where it starts in the
@@ -111,11 +138,11 @@ impl<'a, A: ReaderArena> Source<'a, A> {
         requires small { word.0 < 2 ^ 64 }
         requires some { word.0 ≢ 0 }
         requires is_struct { kind word.0 ≡ 0 }
-        ensures object { IfOk result (λ at. EntersStruct
+        ensures object { IfOk result (λ at. Entered Value
             (reading_at A.ReaderArena self.entry place.entry nesting_limit) lim.old lim.new
-            (record place.entry { at = at })) }
+            (near_at (reading_at A.ReaderArena self.entry place.entry nesting_limit) at)) }
         ensures refused { IfErr result
-            (Stopped plain (reading_at A.ReaderArena self.entry place.entry nesting_limit)
+            (Stopped Value plain (reading_at A.ReaderArena self.entry place.entry nesting_limit)
             lim.old lim.new) }
     {
         self.count(lim);
@@ -152,11 +179,11 @@ impl<'a, A: ReaderArena> Source<'a, A> {
         requires is_list { kind word.0 ≡ 1 }
         requires of_bits { (0 < element_size word.0) × (element_size word.0 ≤ 5) }
         requires claimed { words ≡ claim word.0 }
-        ensures object { IfOk result (λ at. EntersFlat
+        ensures object { IfOk result (λ at. Entered Value
             (reading_at A.ReaderArena self.entry place.entry nesting_limit) lim.old lim.new
-            (record place.entry { at = at })) }
+            (near_at (reading_at A.ReaderArena self.entry place.entry nesting_limit) at)) }
         ensures refused { IfErr result
-            (Stopped plain (reading_at A.ReaderArena self.entry place.entry nesting_limit)
+            (Stopped Value plain (reading_at A.ReaderArena self.entry place.entry nesting_limit)
             lim.old lim.new) }
     {
         self.count(lim);
@@ -235,26 +262,29 @@ impl<'a, A: ReaderArena> Source<'a, A> {
         }
     }
 
-    // Enters the object that a pointer leads to, which takes one of `depth` levels.
+    // Enters the object that a pointer leads to, which takes one of `depth` levels. For its size one
+    // has to be left.
     #[inline(always)]
     fn enter(
         self,
+        purpose: Purpose,
         landing: Landing<'a>,
         depth: u32,
         lim: &mut ReadLimiter,
     ) -> Result<Object<'a>, ErrorKind>
         requires held { IsHeld (source_segments A.segments self) landing.start }
-        ensures object { IfOk result (λ x. IsOpened (source_segments A.segments self.entry)
+        requires level { purpose ≡ Size → 0 < depth }
+        ensures object { IfOk result (λ x. IsOpened purpose (source_segments A.segments self.entry)
             (source_charging A.charging self.entry) depth
             (target landing.entry) lim.old lim.new x) }
         ensures few { IfOk result IsFew }
         ensures refused { IfErr result
-            (NotEntered (source_segments A.segments self.entry)
+            (NotEntered purpose (source_segments A.segments self.entry)
             (source_charging A.charging self.entry) depth (target landing.entry) lim.old lim.new) }
     {
         match landing.word.kind() {
-            WirePointerKind::Struct => self.enter_struct(landing, depth, lim),
-            WirePointerKind::List => self.enter_list(landing, depth, lim),
+            WirePointerKind::Struct => self.enter_struct(purpose, landing, depth, lim),
+            WirePointerKind::List => self.enter_list(purpose, landing, depth, lim),
             WirePointerKind::Far => Err(ErrorKind::MalformedDoubleFarPointer),
             WirePointerKind::Other => {
                 if landing.word.is_capability() {
@@ -280,7 +310,7 @@ impl<'a, A: ReaderArena> Source<'a, A> {
         ensures claimed { OnOk result (IsClaimed (source_segments A.segments self.entry)
             (source_charging A.charging self.entry) depth (target landing.entry) lim.old lim.new) }
         ensures refused { IfErr result
-            (NotEntered (source_segments A.segments self.entry)
+            (NotClaimed (source_segments A.segments self.entry)
             (source_charging A.charging self.entry) depth (target landing.entry) lim.old lim.new) }
     {
         if depth == 0 {
@@ -296,18 +326,19 @@ impl<'a, A: ReaderArena> Source<'a, A> {
     // Enters a struct.
     fn enter_struct(
         self,
+        purpose: Purpose,
         landing: Landing<'a>,
         depth: u32,
         lim: &mut ReadLimiter,
     ) -> Result<Object<'a>, ErrorKind>
         requires held { IsHeld (source_segments A.segments self) landing.start }
         requires is_struct { kind landing.word.0 ≡ 0 }
-        ensures object { IfOk result (λ x. IsOpened (source_segments A.segments self.entry)
+        ensures object { IfOk result (λ x. IsOpened purpose (source_segments A.segments self.entry)
             (source_charging A.charging self.entry) depth
             (target landing.entry) lim.old lim.new x) }
         ensures few { IfOk result IsFew }
         ensures refused { IfErr result
-            (NotEntered (source_segments A.segments self.entry)
+            (NotEntered purpose (source_segments A.segments self.entry)
             (source_charging A.charging self.entry) depth (target landing.entry) lim.old lim.new) }
     {
         match self.claim(landing, landing.word.struct_word_size(), depth, lim) {
@@ -323,30 +354,71 @@ impl<'a, A: ReaderArena> Source<'a, A> {
     #[inline(always)]
     fn enter_list(
         self,
+        purpose: Purpose,
         landing: Landing<'a>,
         depth: u32,
         lim: &mut ReadLimiter,
     ) -> Result<Object<'a>, ErrorKind>
         requires held { IsHeld (source_segments A.segments self) landing.start }
         requires is_list { kind landing.word.0 ≡ 1 }
-        ensures object { IfOk result (λ x. IsOpened (source_segments A.segments self.entry)
+        requires level { purpose ≡ Size → 0 < depth }
+        ensures object { IfOk result (λ x. IsOpened purpose (source_segments A.segments self.entry)
             (source_charging A.charging self.entry) depth
             (target landing.entry) lim.old lim.new x) }
         ensures few { IfOk result IsFew }
         ensures refused { IfErr result
-            (NotEntered (source_segments A.segments self.entry)
+            (NotEntered purpose (source_segments A.segments self.entry)
             (source_charging A.charging self.entry) depth (target landing.entry) lim.old lim.new) }
     {
         match landing.word.list_element_size() {
-            ElementSize::InlineComposite => self.enter_structs(landing, depth, lim),
-            ElementSize::Pointer => self.enter_pointers(landing, depth, lim),
-            size => self.enter_flat(landing, size, depth, lim),
+            ElementSize::InlineComposite => self.enter_structs(purpose, landing, depth, lim),
+            ElementSize::Pointer => self.enter_pointers(purpose, landing, depth, lim),
+            ElementSize::Void => self.enter_void(purpose, landing, depth, lim),
+            size => self.enter_flat(purpose, landing, size, depth, lim),
         }
     }
 
-    // Enters a list of elements without pointers.
+    // Enters a list of void, which for its size is neither looked for nor charged.
+    fn enter_void(
+        self,
+        purpose: Purpose,
+        landing: Landing<'a>,
+        depth: u32,
+        lim: &mut ReadLimiter,
+    ) -> Result<Object<'a>, ErrorKind>
+        requires held { IsHeld (source_segments A.segments self) landing.start }
+        requires is_list { kind landing.word.0 ≡ 1 }
+        requires of_void { element_size landing.word.0 ≡ 0 }
+        requires level { purpose ≡ Size → 0 < depth }
+        ensures object { IfOk result (λ x. IsOpened purpose (source_segments A.segments self.entry)
+            (source_charging A.charging self.entry) depth
+            (target landing.entry) lim.old lim.new x) }
+        ensures few { IfOk result IsFew }
+        ensures refused { IfErr result
+            (NotEntered purpose (source_segments A.segments self.entry)
+            (source_charging A.charging self.entry) depth (target landing.entry) lim.old lim.new) }
+    {
+        let start = landing.start;
+        let size = ElementSize::Void;
+        let count = landing.word.list_element_count();
+        match purpose {
+            Purpose::Size => return Ok(Object::Flat { start, size, count }),
+            Purpose::Value => {}
+        }
+        match self.claim(landing, 0, depth, lim) {
+            Ok(()) => {}
+            Err(k) => return Err(k),
+        }
+        match self.charge(u64::from(count), lim) {
+            Ok(()) => Ok(Object::Flat { start, size, count }),
+            Err(k) => Err(k),
+        }
+    }
+
+    // Enters a list of elements of bits or bytes.
     fn enter_flat(
         self,
+        purpose: Purpose,
         landing: Landing<'a>,
         size: ElementSize,
         depth: u32,
@@ -355,23 +427,20 @@ impl<'a, A: ReaderArena> Source<'a, A> {
         requires held { IsHeld (source_segments A.segments self) landing.start }
         requires is_list { kind landing.word.0 ≡ 1 }
         requires is_size { size_number size ≡ element_size landing.word.0 }
+        requires some { 0 < size_number size }
         requires is_flat { size_number size ≤ 5 }
-        ensures object { IfOk result (λ x. IsOpened (source_segments A.segments self.entry)
+        ensures object { IfOk result (λ x. IsOpened purpose (source_segments A.segments self.entry)
             (source_charging A.charging self.entry) depth
             (target landing.entry) lim.old lim.new x) }
         ensures few { IfOk result IsFew }
         ensures refused { IfErr result
-            (NotEntered (source_segments A.segments self.entry)
+            (NotEntered purpose (source_segments A.segments self.entry)
             (source_charging A.charging self.entry) depth (target landing.entry) lim.old lim.new) }
     {
         let count = landing.word.list_element_count();
         let bits = data_bits_per_element(size);
         let words = (u64::from(count) * u64::from(bits) + 63) / 64;
         match self.claim(landing, words as u32, depth, lim) {
-            Ok(()) => {}
-            Err(k) => return Err(k),
-        }
-        match self.charge_count(bits, count, lim) {
             Ok(()) => Ok(Object::Flat {
                 start: landing.start,
                 size,
@@ -384,6 +453,7 @@ impl<'a, A: ReaderArena> Source<'a, A> {
     // Enters a list of pointers.
     fn enter_pointers(
         self,
+        purpose: Purpose,
         landing: Landing<'a>,
         depth: u32,
         lim: &mut ReadLimiter,
@@ -391,12 +461,12 @@ impl<'a, A: ReaderArena> Source<'a, A> {
         requires held { IsHeld (source_segments A.segments self) landing.start }
         requires is_list { kind landing.word.0 ≡ 1 }
         requires of_pointers { element_size landing.word.0 ≡ 6 }
-        ensures object { IfOk result (λ x. IsOpened (source_segments A.segments self.entry)
+        ensures object { IfOk result (λ x. IsOpened purpose (source_segments A.segments self.entry)
             (source_charging A.charging self.entry) depth
             (target landing.entry) lim.old lim.new x) }
         ensures few { IfOk result IsFew }
         ensures refused { IfErr result
-            (NotEntered (source_segments A.segments self.entry)
+            (NotEntered purpose (source_segments A.segments self.entry)
             (source_charging A.charging self.entry) depth (target landing.entry) lim.old lim.new) }
     {
         let count = landing.word.list_element_count();
@@ -412,6 +482,7 @@ impl<'a, A: ReaderArena> Source<'a, A> {
     // Enters a list of structs, whose first word is their tag.
     fn enter_structs(
         self,
+        purpose: Purpose,
         landing: Landing<'a>,
         depth: u32,
         lim: &mut ReadLimiter,
@@ -419,12 +490,12 @@ impl<'a, A: ReaderArena> Source<'a, A> {
         requires held { IsHeld (source_segments A.segments self) landing.start }
         requires is_list { kind landing.word.0 ≡ 1 }
         requires of_structs { element_size landing.word.0 ≡ 7 }
-        ensures object { IfOk result (λ x. IsOpened (source_segments A.segments self.entry)
+        ensures object { IfOk result (λ x. IsOpened purpose (source_segments A.segments self.entry)
             (source_charging A.charging self.entry) depth
             (target landing.entry) lim.old lim.new x) }
         ensures few { IfOk result IsFew }
         ensures refused { IfErr result
-            (NotEntered (source_segments A.segments self.entry)
+            (NotEntered purpose (source_segments A.segments self.entry)
             (source_charging A.charging self.entry) depth (target landing.entry) lim.old lim.new) }
     {
         let words = landing.word.list_inline_composite_word_count();
@@ -434,14 +505,14 @@ impl<'a, A: ReaderArena> Source<'a, A> {
         }
         let tag = landing.start.word();
         if tag.kind() != WirePointerKind::Struct {
-            return Err(ErrorKind::InlineCompositeListsOfNonStructTypeAreNotSupported);
+            return Err(name_of_non_struct_tag(purpose));
         }
         let count = tag.inline_composite_list_element_count();
         let width = tag.struct_word_size();
         if u64::from(count) * u64::from(width) > u64::from(words) {
             return Err(ErrorKind::InlineCompositeListsElementsOverrunItsWordCount);
         }
-        match self.charge_count(width, count, lim) {
+        match self.charge_count(purpose, width, count, lim) {
             Ok(()) => Ok(Object::Structs {
                 start: Place {
                     at: landing.start.at + 1,
@@ -454,20 +525,38 @@ impl<'a, A: ReaderArena> Source<'a, A> {
         }
     }
 
-    // Charges the number of a list's elements where these have no width.
-    fn charge_count(self, width: u32, count: u32, lim: &mut ReadLimiter) -> Result<(), ErrorKind>
+    // Charges the number of a list's elements where these have no width, unless for the size.
+    fn charge_count(
+        self,
+        purpose: Purpose,
+        width: u32,
+        count: u32,
+        lim: &mut ReadLimiter,
+    ) -> Result<(), ErrorKind>
         ensures exactly { IsOk result ↔ Affords (source_charging A.charging self.entry) lim.old
-            (count_cost width count) }
+            (count_charge purpose width count) }
         ensures granted { OnOk result (lim.new ≡ charged
-            (source_charging A.charging self.entry) lim.old (count_cost width count)) }
+            (source_charging A.charging self.entry) lim.old (count_charge purpose width count)) }
         ensures refused { OnErr result (lim.new ≡ lim.old) }
         ensures named { IfErr result (λ k. k ≡ ReadLimitExceeded) }
     {
-        if width == 0 {
-            self.charge(u64::from(count), lim)
-        } else {
-            Ok(())
+        if width > 0 {
+            return Ok(());
         }
+        match purpose {
+            Purpose::Value => self.charge(u64::from(count), lim),
+            Purpose::Size => Ok(()),
+        }
+    }
+}
+
+// How it is refused that a list of structs has no tag.
+fn name_of_non_struct_tag(purpose: Purpose) -> ErrorKind
+    ensures { result ≡ non_struct_tag purpose }
+{
+    match purpose {
+        Purpose::Value => ErrorKind::InlineCompositeListsOfNonStructTypeAreNotSupported,
+        Purpose::Size => ErrorKind::CantHandleNonStructInlineComposite,
     }
 }
 

@@ -14,16 +14,17 @@ use Rattle.capnp_objects.specs.declared.object.Place.{Place}
 use Rattle.capnp_objects.specs.Expected.{one_level}
 use Rattle.capnp_objects.specs.Outcomes.{Entered}
 use Rattle.capnp_objects.specs.Reading.{Reading}
+use Rattle.capnp_objects.specs.declared.object.Purpose.TheVariants.{Value}
 use Rattle.capnp_objects.proofs.Expecting.{IsReadAt}
 use Rattle.capnp_objects.proofs.Parts.{claim_list, claim_flat}
 use Rattle.capnp_readers.specs.Calls.{ShowsBytes}
 
 -- the first n of an object's bytes
 shown : (n : ℕ) {r : Reading} {m m' : Meter} {start : Place} {count : ℕ} {bytes : List ℕ} → n ≤ count → bytes ≡ take n (drop (8 * start.at) start.bytes.now) → IsReadAt r m m' (ObjectFlat start Byte count) →
-    (a : Target) × Entered (one_level r) m m' a × (count ≡ list_count a.word) × ShowsBytes r a n bytes
+    (a : Target) × Entered Value (one_level r) m m' a × (count ≡ list_count a.word) × ShowsBytes r a n bytes
 shown n {r} {m} {m'} {start} {count} {bytes} few is h =
     let a : Target = h.object.0 in
-    let o : Entered (one_level r) m m' a = h.object.1 in
+    let o : Entered Value (one_level r) m m' a = h.object.1 in
     let z = h.object.2 in
     let held = h.object.4.0 in
     let segment_is = h.object.4.1 in
@@ -43,11 +44,11 @@ shown n {r} {m} {m'} {start} {count} {bytes} few is h =
     (a, o, counted, (all, shows, part, long))
 
 pub text_shown : {r : Reading} {m m' : Meter} {start : Place} {count : ℕ} {bytes : List ℕ} → bytes ≡ take (count - 1) (drop (8 * start.at) start.bytes.now) → IsReadAt r m m' (ObjectFlat start Byte count) →
-    (a : Target) × Entered (one_level r) m m' a × ShowsBytes r a (list_count a.word - 1) bytes
+    (a : Target) × Entered Value (one_level r) m m' a × ShowsBytes r a (list_count a.word - 1) bytes
 text_shown {r} {count = count} {bytes} is read =
     let there = shown (count - 1) (omega arith) is read in (there.0, there.1, subst (λ k. ShowsBytes r there.0 (k - 1) bytes) there.2 there.3)
 
 pub data_shown : {r : Reading} {m m' : Meter} {start : Place} {count : ℕ} {bytes : List ℕ} → bytes ≡ take count (drop (8 * start.at) start.bytes.now) → IsReadAt r m m' (ObjectFlat start Byte count) →
-    (a : Target) × Entered (one_level r) m m' a × ShowsBytes r a (list_count a.word) bytes
+    (a : Target) × Entered Value (one_level r) m m' a × ShowsBytes r a (list_count a.word) bytes
 data_shown {r} {count = count} {bytes} is read =
     let there = shown count (omega arith) is read in (there.0, there.1, subst (λ k. ShowsBytes r there.0 k bytes) there.2 there.3)

@@ -7,6 +7,7 @@ use Rattle.capnp_objects.specs.Reading.{Reading}
 use Rattle.capnp_objects.specs.Refusals.{Stopped, pads_exceed, nowhere, broken, claim_exceeds, count_exceeds}
 use Rattle.capnp_objects.specs.Spending.{Paid}
 use Rattle.capnp_objects.specs.Wanted.{plain}
+use Rattle.capnp_objects.specs.declared.object.Purpose.TheVariants.{Value}
 use Rattle.capnp_objects.proofs.Budgets.{paid_both, paid_own}
 use Rattle.capnp_objects.proofs.Walked.{paid_none}
 use Rattle.capnp_readers.specs.Checking.{Progress, FindsBefore, in_struct, in_pointers, in_element, TestEnds, here, below, TestsEnd, Unread, IsUnfit, no_near_pointer, empty_elsewhere, elsewhere, not_padded, other_claim, wide_sections, wide_elements}
@@ -42,7 +43,7 @@ unfit_charged r from m' (wide_sections a e near o start z (ts, len, all) unused)
 unfit_charged r from m' (wide_elements a e near o start list exact (es, len, all, unused)) = (_, _, paid_both (paid_own o) all.paid)
 
 -- So is an object that can't be read.
-stopped_charged : (r : Reading) (m m' : Meter) (k : ErrorKind) → Stopped plain r m m' k → IsCharged r m m'
+stopped_charged : (r : Reading) (m m' : Meter) (k : ErrorKind) → Stopped Value plain r m m' k → IsCharged r m m'
 stopped_charged r m m' k (pads_exceed some over paid named) = (_, _, paid)
 stopped_charged r m m' k (nowhere some leads paid) = (_, _, paid)
 stopped_charged r m m' k (broken a follows breaks paid) = (_, _, paid)

@@ -9,7 +9,6 @@ use Rattle.capnp_format.specs.Segments.{Segments, segment, word_at, words_at, Ta
 use Rattle.capnp_format.specs.Tree.{Tree, Null, Struct, Flat, Pointers, Structs, Trees, no_trees, Elements, no_elements, count, element_count, depth_all, depth_elements}
 use Rattle.capnp_format.specs.Means.{Claims, StructAt, ListAt, IsTag, count_cost}
 use Rattle.capnp_format.specs.Canonical.{Stands, charge, charge_all, charge_elements, used_words, used_trees, data_width, pointer_width}
-use Rattle.capnp_words.specs.declared.error.ErrorKind.{ErrorKind}
 use Rattle.capnp_words.specs.declared.wire_pointer.StructSize.{StructSize}
 use Rattle.capnp_words.specs.Meter.{Meter}
 use Rattle.std.proofs.Common.{true, false, IsTrue, Bool}
@@ -32,9 +31,10 @@ use Rattle.capnp_objects.proofs.Walked.{paid_none, beginning, same_place, same_s
 use Rattle.capnp_objects.specs.declared.object.Object.{Object}
 use Rattle.capnp_objects.specs.declared.object.Object.TheVariants.{Null as ObjectNull, Capability as ObjectCapability, Struct as ObjectStruct, Flat as ObjectFlat, Pointers as ObjectPointers, Structs as ObjectStructs}
 use Rattle.capnp_objects.specs.declared.object.Place.{Place}
-use Rattle.capnp_objects.specs.Objects.{IsObject, EntersStruct}
+use Rattle.capnp_objects.specs.Objects.{near_at, IsObject, IsHeld}
 use Rattle.capnp_words.specs.declared.wire_pointer.ElementSize.{ElementSize}
 use Rattle.capnp_words.specs.Sizes.{size_number}
+use Rattle.capnp_objects.specs.declared.object.Purpose.TheVariants.{Value}
 use Rattle.capnp_readers.specs.Standing.{AllStand, ElementsStand, ElementsAccept, EndsUsed, IsPadded}
 use Rattle.capnp_readers.specs.Checking.{Progress, progress, Finds, FindsAll, FindsElements, IsFound, AreFound, AreFoundRows, IsCanonicalAt, AreCanonicalAt, TestEnds, below, in_struct, in_pointers, in_element, TestsEnd, RowTestsEnd, IsTested, StartsRight, Tells, TellsAll, TellsFlat, TellsStruct, TellsClaimed}
 use Rattle.capnp_readers.proofs.Accepts.{IsNear, near_to, null_stands, empty_stands, struct_stands, pointers_stand, flat_stands, structs_stand, used_where_standing, blanks_stand, data_width-blank, pointer_width-blank, words-blank}
@@ -126,17 +126,17 @@ null_found_at {r} {from} {m'} ready z e = (
   },
 )
 
-pub struct_at : {r : Reading} {m m' : Meter} {a : Target} → Entered r m m' a → kind a.word ≡ 0 → StructAt r.segments r.segment r.at a (data_words a.word) (pointer_count a.word)
+pub struct_at : {r : Reading} {m m' : Meter} {a : Target} → Entered Value r m m' a → kind a.word ≡ 0 → StructAt r.segments r.segment r.at a (data_words a.word) (pointer_count a.word)
 struct_at o z = record { leads_to = o.leads_to; is_struct = z; data_of = refl; pointers = refl }
 
-pub list_at : {r : Reading} {m m' : Meter} {a : Target} (size : ℕ) → Entered r m m' a → kind a.word ≡ 1 → element_size a.word ≡ size → ListAt r.segments r.segment r.at a size (list_count a.word)
+pub list_at : {r : Reading} {m m' : Meter} {a : Target} (size : ℕ) → Entered Value r m m' a → kind a.word ≡ 1 → element_size a.word ≡ size → ListAt r.segments r.segment r.at a size (list_count a.word)
 list_at size o z e = record { leads_to = o.leads_to; is_list = z; is_size = e; counts = refl }
 
-pub empty_found_at : {r : Reading} {from : Progress} {m' : Meter} {a : Target} → IsTested r → Entered r from.meter m' a → kind a.word ≡ 0 → data_words a.word + pointer_count a.word ≡ 0 → a.start ≡ r.at → IsFound r from (progress from.head m')
+pub empty_found_at : {r : Reading} {from : Progress} {m' : Meter} {a : Target} → IsTested r → Entered Value r from.meter m' a → kind a.word ≡ 0 → data_words a.word + pointer_count a.word ≡ 0 → a.start ≡ r.at → IsFound r from (progress from.head m')
 empty_found_at {r} {from} {m'} {a} ready o z none start =
     let near = near_object r ready.near o.leads_to in
     let its : StructAt r.segments r.segment r.at a 0 0 = record { leads_to = o.leads_to; is_struct = z; data_of = omega (arith, none); pointers = omega (arith, none) } in
-    let free : own r.segments a ≡ 0 = omega (arith, own_struct r.segments a z, near.no_pads, none) in (
+    let free : own Value r.segments a ≡ 0 = omega (arith, own_struct r.segments a z, near.no_pads, none) in (
       Struct _ no_trees,
       record {
         stands = empty_stands r.segments r.segment r.at from.head a ready.there (not_far r ready.near) its start;
@@ -161,7 +161,7 @@ list_pointers r a = child_at r a (pred r.levels) a.start
 abbrev pub list_elements : Reading → Target → Reading
 list_elements r a = child_at r a (pred r.levels) (a.start + 1)
 
-struct_finds : {r : Reading} {from to : Progress} {m' : Meter} {a : Target} → IsTested r → Entered r from.meter m' a → kind a.word ≡ 0 → a.start ≡ from.head → 0 < data_words a.word + pointer_count a.word → SectionsUsed r a →
+struct_finds : {r : Reading} {from to : Progress} {m' : Meter} {a : Target} → IsTested r → Entered Value r from.meter m' a → kind a.word ≡ 0 → a.start ≡ from.head → 0 < data_words a.word + pointer_count a.word → SectionsUsed r a →
     AreFound (struct_pointers r a) (pointer_count a.word) (progress (a.start + data_words a.word + pointer_count a.word) m') to → IsFound r from to
 struct_finds {r} {from} {to} {m'} {a} ready o z start some used (ts, len, all) =
     let S : Segments = r.segments in
@@ -176,7 +176,7 @@ struct_finds {r} {from} {to} {m'} {a} ready o z start some used (ts, len, all) =
     let ws : List ℕ = words_at S r.segment h d in
     let long : length ws ≡ d = length_words S r.segment h d room in
     let there : AllStand S r.segment (h + d) (h + d + q) ts = all_at S ts seg (omega (arith, start)) (omega (arith, start)) all.stand in
-    let cost : own S a + charge_all ts ≡ charge (Struct ws ts) = omega (arith, own_struct S a z, near.no_pads, long, len) in (
+    let cost : own Value S a + charge_all ts ≡ charge (Struct ws ts) = omega (arith, own_struct S a z, near.no_pads, long, len) in (
       Struct ws ts,
       record {
         stands = struct_stands S r.segment r.at h a d q ts ready.small ready.there (not_far r ready.near) (struct_at o z) start claims some (used_at S seg start refl used.0) (used_at S seg (omega (arith, start)) refl used.1) len there;
@@ -187,7 +187,7 @@ struct_finds {r} {from} {to} {m'} {a} ready o z start some used (ts, len, all) =
       },
     )
 
-pointers_find : {r : Reading} {from to : Progress} {m' : Meter} {a : Target} → IsTested r → Entered r from.meter m' a → kind a.word ≡ 1 → element_size a.word ≡ 6 → a.start ≡ from.head →
+pointers_find : {r : Reading} {from to : Progress} {m' : Meter} {a : Target} → IsTested r → Entered Value r from.meter m' a → kind a.word ≡ 1 → element_size a.word ≡ 6 → a.start ≡ from.head →
     AreFound (list_pointers r a) (list_count a.word) (progress (a.start + list_count a.word) m') to → IsFound r from to
 pointers_find {r} {from} {to} {m'} {a} ready o z six start (ts, len, all) =
     let S : Segments = r.segments in
@@ -197,7 +197,7 @@ pointers_find {r} {from} {to} {m'} {a} ready o z six start (ts, len, all) =
     let seg = near.same_segment in
     let claims : Claims S a n = omega (arith, o.meets.claims, claim_list a.word 6 z six) in
     let there : AllStand S r.segment h (h + n) ts = all_at S ts seg start (omega (arith, start)) all.stand in
-    let cost : own S a + charge_all ts ≡ charge (Pointers ts) = omega (arith, own_pointers S a z six, near.no_pads, len) in (
+    let cost : own Value S a + charge_all ts ≡ charge (Pointers ts) = omega (arith, own_pointers S a z six, near.no_pads, len) in (
       Pointers ts,
       record {
         stands = pointers_stand S r.segment r.at h a n ts ready.small ready.there (not_far r ready.near) (list_at 6 o z six) start claims len there;
@@ -208,7 +208,7 @@ pointers_find {r} {from} {to} {m'} {a} ready o z six start (ts, len, all) =
       },
     )
 
-flat_finds : {r : Reading} {from : Progress} {m' : Meter} {a : Target} → IsTested r → Entered r from.meter m' a → kind a.word ≡ 1 → element_size a.word ≤ 5 → a.start ≡ from.head →
+flat_finds : {r : Reading} {from : Progress} {m' : Meter} {a : Target} → IsTested r → Entered Value r from.meter m' a → kind a.word ≡ 1 → element_size a.word ≤ 5 → a.start ≡ from.head →
     IsPadded r.segments a.segment a.start (element_size a.word) (list_count a.word) → IsFound r from (progress (a.start + words_for (element_size a.word) (list_count a.word)) m')
 flat_finds {r} {from} {m'} {a} ready o z small start padded =
     let S : Segments = r.segments in
@@ -222,7 +222,7 @@ flat_finds {r} {from} {m'} {a} ready o z small start padded =
     let there : IsPadded S r.segment h size n = subst (λ x. IsPadded S x h size n) seg (subst (λ x. IsPadded S a.segment x size n) start padded) in
     let ns : List ℕ = unpacked size n (words_at S r.segment h (words_for size n)) in
     let long : length ns ≡ n = length-digits _ n _ in
-    let cost : own S a ≡ charge (Flat size ns) = own_flat S a z small ∙ (let e : a.pads + words_for size n + count_cost size n ≡ words_for size n + count_cost size n = omega (arith, near.no_pads) in e) ∙ ap (λ i. words_for size i + count_cost size i) (sym long) in (
+    let cost : own Value S a ≡ charge (Flat size ns) = own_flat S a z small ∙ (let e : a.pads + words_for size n + count_cost size n ≡ words_for size n + count_cost size n = omega (arith, near.no_pads) in e) ∙ ap (λ i. words_for size i + count_cost size i) (sym long) in (
       Flat size ns,
       record {
         stands = flat_stands S r.segment r.at h a size n ready.small ready.there (not_far r ready.near) (list_at size o z refl) small start claims there;
@@ -233,7 +233,7 @@ flat_finds {r} {from} {m'} {a} ready o z small start padded =
       },
     )
 
-structs_find : {r : Reading} {from to : Progress} {m' : Meter} {a : Target} → IsTested r → Entered r from.meter m' a → kind a.word ≡ 1 → element_size a.word ≡ 7 → a.start ≡ from.head → element_words (tag r.segments a) ≡ list_count a.word →
+structs_find : {r : Reading} {from to : Progress} {m' : Meter} {a : Target} → IsTested r → Entered Value r from.meter m' a → kind a.word ≡ 1 → element_size a.word ≡ 7 → a.start ≡ from.head → element_words (tag r.segments a) ≡ list_count a.word →
     AreFoundRows (list_elements r a) (tag_size r.segments a) (offset_bits (tag r.segments a)) (progress (a.start + 1 + list_count a.word) m') to → IsFound r from to
 structs_find {r} {from} {to} {m'} {a} ready o z seven start exact (es, len, dw, pw, all) =
     let S : Segments = r.segments in
@@ -249,7 +249,7 @@ structs_find {r} {from} {to} {m'} {a} ready o z seven start exact (es, len, dw, 
     subst (λ x. ElementsStand S x (h + 1) d q (h + 1 + m) es) seg (subst (λ x. ElementsStand S a.segment (x + 1) d q (x + 1 + m) es) start all.stand) in
     let tagged : IsTag (word_at S r.segment h) (element_count es) d q = subst (λ w. IsTag w (element_count es) d q) its (record { is_struct = (o.meets.tagged (z, seven)).0; counts = sym len; data_of = refl; pointers = refl }) in
     let words : element_count es * (d + q) ≡ m = ap (λ i. i * (d + q)) len ∙ exact in
-    let cost : own S a + charge_elements es ≡ charge (Structs d q es) =
+    let cost : own Value S a + charge_elements es ≡ charge (Structs d q es) =
     ap (λ x. x + charge_elements es) (own_structs S a z seven ∙ ap₂ (λ i j. a.pads + (i + 1) + count_cost (d + q) j) (sym words) (sym len)) ∙ omega (arith, near.no_pads) in (
       Structs d q es,
       record {
@@ -295,7 +295,7 @@ starts_at : (n p h x : ℕ) → (n ≡ 0 → x ≡ p) → (0 < n → x ≡ h) �
 starts_at zero p h x f g = f refl
 starts_at (suc n) p h x f g = let e : x ≡ h = g (omega arith) in grind (arith, nat_tests)
 
-pub unplaced_never : (r : Reading) (m m' : Meter) (h : ℕ) (x : Object) → IsTested r → IsObject r m m' x → (StartsRight x r.at h → ⊥) → IsCanonicalAt r h → ⊥
+pub unplaced_never : (r : Reading) (m m' : Meter) (h : ℕ) (x : Object) → IsTested r → IsObject Value r m m' x → (StartsRight x r.at h → ⊥) → IsCanonicalAt r h → ⊥
 unplaced_never r m m' h ObjectNull ready object other stands = other tt
 unplaced_never r m m' h (ObjectCapability i) ready (a, l, low, index, covers, spent) other stands = let near = near_object r ready.near l in omega (arith, near.same_word, low, ready.near)
 unplaced_never r m m' h (ObjectStruct start size) ready (a, o, z, (held, seg, at), wide, many) other (t, stands) =
@@ -316,7 +316,7 @@ unplaced_never r m m' h (ObjectStructs start size n) ready (a, o, z, seven, (hel
     let (d, q, es, same, f) = structs_found r.segments r.segment r.at h a (list_count a.word) t stands (list_at 7 o z seven) in
     other (omega (arith, at, f.start))
 
-struct_never : {r : Reading} {m m' : Meter} {a : Target} (h : ℕ) → IsTested r → Entered r m m' a → kind a.word ≡ 0 → 0 < data_words a.word + pointer_count a.word →
+struct_never : {r : Reading} {m m' : Meter} {a : Target} (h : ℕ) → IsTested r → Entered Value r m m' a → kind a.word ≡ 0 → 0 < data_words a.word + pointer_count a.word →
     (SectionsUsed r a × AreCanonicalAt (struct_pointers r a) (pointer_count a.word) (a.start + data_words a.word + pointer_count a.word) → ⊥) → IsCanonicalAt r h → ⊥
 struct_never {r} {a = a} h ready o z some fails (t, stands) =
     let S : Segments = r.segments in
@@ -326,7 +326,7 @@ struct_never {r} {a = a} h ready o z some fails (t, stands) =
     let start = sym f.start in
     fails ((used_at S seg start refl f.data_used, used_at S seg (omega (arith, start)) refl f.pointers_used), (ts, len, all_at S ts seg (omega (arith, start)) (omega (arith, start)) all))
 
-pointers_never : {r : Reading} {m m' : Meter} {a : Target} (h : ℕ) → IsTested r → Entered r m m' a → kind a.word ≡ 1 → element_size a.word ≡ 6 →
+pointers_never : {r : Reading} {m m' : Meter} {a : Target} (h : ℕ) → IsTested r → Entered Value r m m' a → kind a.word ≡ 1 → element_size a.word ≡ 6 →
     (AreCanonicalAt (list_pointers r a) (list_count a.word) (a.start + list_count a.word) → ⊥) → IsCanonicalAt r h → ⊥
 pointers_never {r} {a = a} h ready o z six fails (t, stands) =
     let S : Segments = r.segments in
@@ -335,7 +335,7 @@ pointers_never {r} {a = a} h ready o z six fails (t, stands) =
     let start = sym f.start in
     fails (ts, len, all_at S ts (sym f.same_segment) start (omega (arith, start)) all)
 
-flat_never : {r : Reading} {m m' : Meter} {a : Target} (h : ℕ) → IsTested r → Entered r m m' a → kind a.word ≡ 1 → element_size a.word ≤ 5 →
+flat_never : {r : Reading} {m m' : Meter} {a : Target} (h : ℕ) → IsTested r → Entered Value r m m' a → kind a.word ≡ 1 → element_size a.word ≤ 5 →
     (IsPadded r.segments a.segment a.start (element_size a.word) (list_count a.word) → ⊥) → IsCanonicalAt r h → ⊥
 flat_never {r} {a = a} h ready o z small fails (t, stands) =
     let size : ℕ = element_size a.word in
@@ -343,7 +343,7 @@ flat_never {r} {a = a} h ready o z small fails (t, stands) =
     let f = flat_found r.segments r.segment r.at h a size n t stands (list_at size o z refl) small in
     fails (subst (λ x. IsPadded r.segments x a.start size n) (sym f.same_segment) (subst (λ x. IsPadded r.segments r.segment x size n) (sym f.start) f.padded))
 
-structs_never : {r : Reading} {m m' : Meter} {a : Target} (h : ℕ) → IsTested r → Entered r m m' a → kind a.word ≡ 1 → element_size a.word ≡ 7 →
+structs_never : {r : Reading} {m m' : Meter} {a : Target} (h : ℕ) → IsTested r → Entered Value r m m' a → kind a.word ≡ 1 → element_size a.word ≡ 7 →
     (element_words (tag r.segments a) ≡ list_count a.word →
     ElementsAccept r.segments a.segment (a.start + 1) (data_words (tag r.segments a)) (pointer_count (tag r.segments a)) (a.start + 1 + list_count a.word) (offset_bits (tag r.segments a)) → ⊥) →
     IsCanonicalAt r h → ⊥
@@ -364,7 +364,7 @@ structs_never {r} {a = a} h ready o z seven fails (t, stands) =
 -- objects: what the test tells of them, once their own parts are tested
 
 -- A struct without words.
-pub empty_tells : {r : Reading} {m' : Meter} (from : Progress) (start : Place) (size : StructSize) → IsTested r → IsObject r from.meter m' (ObjectStruct start size) → size.data_words + size.pointers ≡ 0 →
+pub empty_tells : {r : Reading} {m' : Meter} (from : Progress) (start : Place) (size : StructSize) → IsTested r → IsObject Value r from.meter m' (ObjectStruct start size) → size.data_words + size.pointers ≡ 0 →
     StartsRight (ObjectStruct start size) r.at from.head → IsFound r from (progress from.head m')
 empty_tells {r} from start size ready (a, o, z, (held, seg, at), wide, many) none right =
     empty_found_at ready o z (omega (arith, none, wide, many)) (let e : start.at ≡ r.at = right ∙ ap (λ n. cond (nat_eq n 0) r.at from.head) none in omega (arith, e, at))
@@ -373,7 +373,7 @@ pub some_starts : (n p h x : ℕ) → 0 < n → x ≡ cond (nat_eq n 0) p h → 
 some_starts zero p h x some e = absurd (omega arith)
 some_starts (suc n) p h x some e = grind (arith, nat_tests)
 
-pub struct_tells : {r : Reading} {m' : Meter} (from : Progress) (m'' : Meter) (start : Place) (size : StructSize) (o : Option ℕ) → IsTested r → IsObject r from.meter m' (ObjectStruct start size) → 0 < size.data_words + size.pointers →
+pub struct_tells : {r : Reading} {m' : Meter} (from : Progress) (m'' : Meter) (start : Place) (size : StructSize) (o : Option ℕ) → IsTested r → IsObject Value r from.meter m' (ObjectStruct start size) → 0 < size.data_words + size.pointers →
     StartsRight (ObjectStruct start size) r.at from.head → TellsStruct (beginning r start) size m' m'' o → Tells r from m'' o
 struct_tells {r} {m'} from m'' start size (Some e) ready (a, o, z, (held, seg, at), wide, many) some right (used, found) =
     let begins : start.at ≡ from.head = some_starts (size.data_words + size.pointers) r.at from.head start.at some right in
@@ -393,7 +393,7 @@ struct_tells {r} {m'} from m'' start size None ready (a, o, z, (held, seg, at), 
           (subst (λ x. AreCanonicalAt x (pointer_count a.word) (a.start + data_words a.word + pointer_count a.word)) there all.1)),
     ))
 
-pub pointers_tell : {r : Reading} {m' : Meter} (from : Progress) (m'' : Meter) (start : Place) (n : ℕ) (o : Option ℕ) → IsTested r → IsObject r from.meter m' (ObjectPointers start n) →
+pub pointers_tell : {r : Reading} {m' : Meter} (from : Progress) (m'' : Meter) (start : Place) (n : ℕ) (o : Option ℕ) → IsTested r → IsObject Value r from.meter m' (ObjectPointers start n) →
     StartsRight (ObjectPointers start n) r.at from.head → TellsAll (beginning r start) n (progress (start.at + n) m') m'' o → Tells r from m'' o
 pointers_tell {r} {m'} from m'' start n (Some e) ready (a, o, z, six, (held, seg, at), many) right found =
     let there : beginning r start ≡ list_pointers r a = same_place r seg (omega (arith, at)) in
@@ -413,7 +413,7 @@ pointers_tell {r} {m'} from m'' start n None ready (a, o, z, six, (held, seg, at
 pub padded_at : {s u p q i j n m : ℕ} (S : Segments) → s ≡ u → p ≡ q → i ≡ j → n ≡ m → IsPadded S s p i n → IsPadded S u q j m
 padded_at {s} {u} {p} {q} {i} {j} {n} {m} S e f g k a = subst (λ x. IsPadded S x q j m) e (subst (λ x. IsPadded S s x j m) f (subst (λ x. IsPadded S s p x m) g (subst (λ x. IsPadded S s p i x) k a)))
 
-pub flat_tells : {r : Reading} {m' : Meter} (from : Progress) (start : Place) (size : ElementSize) (n : ℕ) (o : Option ℕ) → IsTested r → IsObject r from.meter m' (ObjectFlat start size n) →
+pub flat_tells : {r : Reading} {m' : Meter} (from : Progress) (start : Place) (size : ElementSize) (n : ℕ) (o : Option ℕ) → IsTested r → IsObject Value r from.meter m' (ObjectFlat start size n) →
     StartsRight (ObjectFlat start size n) r.at from.head → TellsFlat (words_of start.bytes.now) start.at size n o → Tells r from m' o
 flat_tells {r} {m'} from start size n (Some e) ready (a, o, z, small, (held, seg, at), width, len) right (padded, ends) =
     let goes : a.start + words_for (element_size a.word) (list_count a.word) ≡ e = ap₂ (λ i j. a.start + words_for i j) (sym width) (sym len) ∙ omega (arith, at, ends) in
@@ -430,7 +430,7 @@ first_element r start = record r { levels = pred r.levels; segment = start.segme
 pub same_elements : {s t p q : ℕ} (r : Reading) → s ≡ t → p ≡ q → record r { levels = pred r.levels; segment = s; at = p } ≡ record r { levels = pred r.levels; segment = t; at = q }
 same_elements r e f = ap₂ (λ s p. record r { levels = pred r.levels; segment = s; at = p }) e f
 
-pub structs_tell : {r : Reading} {m' : Meter} (from : Progress) (m'' : Meter) (start : Place) (size : StructSize) (n : ℕ) (o : Option ℕ) → IsTested r → IsObject r from.meter m' (ObjectStructs start size n) →
+pub structs_tell : {r : Reading} {m' : Meter} (from : Progress) (m'' : Meter) (start : Place) (size : StructSize) (n : ℕ) (o : Option ℕ) → IsTested r → IsObject Value r from.meter m' (ObjectStructs start size n) →
     StartsRight (ObjectStructs start size n) r.at from.head → TellsClaimed (first_element r start) size n (list_count (word_of r)) m' m'' o → Tells r from m'' o
 structs_tell {r} {m'} from m'' start size n (Some e) ready (a, o, z, seven, (held, seg, at), many, wide, pointers) right (exact, found) =
     let S : Segments = r.segments in
@@ -579,19 +579,19 @@ rows_unused {r} {size} {n} from seen fails =
 
 -- objects: where the test ends at one of their pointers
 
-struct_ends_at : {P : Reading → Progress → Meter → Type 0} {r : Reading} {from : Progress} {m' m'' : Meter} {a : Target} → kind (word_of r) < 2 → Entered r from.meter m' a → kind a.word ≡ 0 → a.start ≡ from.head →
+struct_ends_at : {P : Reading → Progress → Meter → Type 0} {r : Reading} {from : Progress} {m' m'' : Meter} {a : Target} → kind (word_of r) < 2 → Entered Value r from.meter m' a → kind a.word ≡ 0 → a.start ≡ from.head →
     TestsEnd P (struct_pointers r a) (pointer_count a.word) (progress (a.start + data_words a.word + pointer_count a.word) m') m'' → TestEnds P r from m''
 struct_ends_at {P} {r} {from} {m'} {a = a} near o z start h =
     let goes : a.start + data_words a.word + pointer_count a.word ≡ a.start + claim a.word = omega (arith, claim_struct a.word z) in
     below a near o start (in_struct h.first z h.fewer refl (subst (λ p. FindsAll (struct_pointers r a) (progress p m') h.mid h.first) goes h.are_found)) h.ends
 
-pointers_end_at : {P : Reading → Progress → Meter → Type 0} {r : Reading} {from : Progress} {m' m'' : Meter} {a : Target} → kind (word_of r) < 2 → Entered r from.meter m' a → kind a.word ≡ 1 → element_size a.word ≡ 6 → a.start ≡ from.head →
+pointers_end_at : {P : Reading → Progress → Meter → Type 0} {r : Reading} {from : Progress} {m' m'' : Meter} {a : Target} → kind (word_of r) < 2 → Entered Value r from.meter m' a → kind a.word ≡ 1 → element_size a.word ≡ 6 → a.start ≡ from.head →
     TestsEnd P (list_pointers r a) (list_count a.word) (progress (a.start + list_count a.word) m') m'' → TestEnds P r from m''
 pointers_end_at {P} {r} {from} {m'} {a = a} near o z six start h =
     let goes : a.start + list_count a.word ≡ a.start + claim a.word = ap (λ n. a.start + n) (sym (claim_list a.word 6 z six)) in
     below a near o start (in_pointers h.first z six h.fewer refl (subst (λ p. FindsAll (list_pointers r a) (progress p m') h.mid h.first) goes h.are_found)) h.ends
 
-structs_end_at : {P : Reading → Progress → Meter → Type 0} {r : Reading} {from : Progress} {m' m'' : Meter} {a : Target} → kind (word_of r) < 2 → Entered r from.meter m' a → kind a.word ≡ 1 → element_size a.word ≡ 7 → a.start ≡ from.head →
+structs_end_at : {P : Reading → Progress → Meter → Type 0} {r : Reading} {from : Progress} {m' m'' : Meter} {a : Target} → kind (word_of r) < 2 → Entered Value r from.meter m' a → kind a.word ≡ 1 → element_size a.word ≡ 7 → a.start ≡ from.head →
     element_words (tag r.segments a) ≡ list_count a.word → RowTestsEnd P (list_elements r a) (tag_size r.segments a) (offset_bits (tag r.segments a)) (progress (a.start + 1 + list_count a.word) m') m'' → TestEnds P r from m''
 structs_end_at {P} {r} {from} {m'} {a = a} near o z seven start exact h =
     let goes : a.start + 1 + list_count a.word ≡ a.start + claim a.word = omega (arith, claim_list a.word 7 z seven) in
@@ -599,7 +599,7 @@ structs_end_at {P} {r} {from} {m'} {a = a} near o z seven start exact h =
     (in_element h.first h.ends.first h.mid (z, seven) exact h.fewer h.ends.fewer refl
     (subst (λ p. FindsElements (list_elements r a) (tag_size r.segments a) (progress p m') h.mid h.first) goes h.are_found) h.ends.are_found) h.ends.ends
 
-pub struct_ends : {P : Reading → Progress → Meter → Type 0} {r : Reading} {from : Progress} {m' m'' : Meter} (start : Place) (size : StructSize) → IsTested r → IsObject r from.meter m' (ObjectStruct start size) → 0 < size.data_words + size.pointers →
+pub struct_ends : {P : Reading → Progress → Meter → Type 0} {r : Reading} {from : Progress} {m' m'' : Meter} (start : Place) (size : StructSize) → IsTested r → IsObject Value r from.meter m' (ObjectStruct start size) → 0 < size.data_words + size.pointers →
     StartsRight (ObjectStruct start size) r.at from.head → TestsEnd P (behind (beginning r start) size.data_words) size.pointers (progress (start.at + size.data_words + size.pointers) m') m'' → TestEnds P r from m''
 struct_ends {P} {r} {from} {m'} {m''} start size ready (a, o, z, (held, seg, at), wide, many) some right ends =
     let begins : start.at ≡ from.head = some_starts (size.data_words + size.pointers) r.at from.head start.at some right in
@@ -610,7 +610,7 @@ struct_ends {P} {r} {from} {m'} {m''} start size ready (a, o, z, (held, seg, at)
     (subst (λ q. TestsEnd P (struct_pointers r a) q (progress (start.at + size.data_words + size.pointers) m') m'') many
     (subst (λ x. TestsEnd P x size.pointers (progress (start.at + size.data_words + size.pointers) m') m'') there ends)))
 
-pub pointers_end : {P : Reading → Progress → Meter → Type 0} {r : Reading} {from : Progress} {m' m'' : Meter} (start : Place) (n : ℕ) → IsTested r → IsObject r from.meter m' (ObjectPointers start n) →
+pub pointers_end : {P : Reading → Progress → Meter → Type 0} {r : Reading} {from : Progress} {m' m'' : Meter} (start : Place) (n : ℕ) → IsTested r → IsObject Value r from.meter m' (ObjectPointers start n) →
     StartsRight (ObjectPointers start n) r.at from.head → TestsEnd P (beginning r start) n (progress (start.at + n) m') m'' → TestEnds P r from m''
 pointers_end {P} {r} {from} {m'} {m''} start n ready (a, o, z, six, (held, seg, at), many) right ends =
     let there : beginning r start ≡ list_pointers r a = same_place r seg (omega (arith, at)) in
@@ -620,7 +620,7 @@ pointers_end {P} {r} {from} {m'} {m''} start n ready (a, o, z, six, (held, seg, 
     (subst (λ q. TestsEnd P (list_pointers r a) q (progress (start.at + n) m') m'') many
     (subst (λ x. TestsEnd P x n (progress (start.at + n) m') m'') there ends)))
 
-pub structs_end : {P : Reading → Progress → Meter → Type 0} {r : Reading} {from : Progress} {m' m'' : Meter} (start : Place) (size : StructSize) (n : ℕ) → IsTested r → IsObject r from.meter m' (ObjectStructs start size n) →
+pub structs_end : {P : Reading → Progress → Meter → Type 0} {r : Reading} {from : Progress} {m' m'' : Meter} (start : Place) (size : StructSize) (n : ℕ) → IsTested r → IsObject Value r from.meter m' (ObjectStructs start size n) →
     StartsRight (ObjectStructs start size n) r.at from.head → n * (size.data_words + size.pointers) ≡ list_count (word_of r) →
     RowTestsEnd P (first_element r start) size n (progress (start.at + list_count (word_of r)) m') m'' → TestEnds P r from m''
 structs_end {P} {r} {from} {m'} {m''} start size n ready (a, o, z, seven, (held, seg, at), many, wide, pointers) right exact ends =
@@ -653,20 +653,19 @@ pub elements_begin : {n : ℕ} (r : Reading) (start : Place) → n ≡ pred r.le
 elements_begin r start e f = ap₂ (λ n s. record r { levels = n; segment = s; at = start.at }) e f
 
 -- An object stands in the segment of its pointer.
-pub pointers_here : {r : Reading} {m m' : Meter} (start : Place) (n : ℕ) → IsTested r → IsObject r m m' (ObjectPointers start n) → r.segment ≡ start.segment
+pub pointers_here : {r : Reading} {m m' : Meter} (start : Place) (n : ℕ) → IsTested r → IsObject Value r m m' (ObjectPointers start n) → r.segment ≡ start.segment
 pointers_here {r} start n ready (a, o, z, six, (held, seg, at), many) = sym (seg ∙ (near_object r ready.near o.leads_to).same_segment)
 
-pub structs_here : {r : Reading} {m m' : Meter} (start : Place) (size : StructSize) (n : ℕ) → IsTested r → IsObject r m m' (ObjectStructs start size n) → r.segment ≡ start.segment
+pub structs_here : {r : Reading} {m m' : Meter} (start : Place) (size : StructSize) (n : ℕ) → IsTested r → IsObject Value r m m' (ObjectStructs start size n) → r.segment ≡ start.segment
 structs_here {r} start size n ready (a, o, z, seven, (held, seg, at), many, wide, pointers) = sym (seg ∙ (near_object r ready.near o.leads_to).same_segment)
 
 -- A struct that is entered by the word of its pointer.
-pub struct_object : {r : Reading} {m m' : Meter} (start : Place) (size : StructSize) → IsTested r → EntersStruct r m m' start → size.data_words ≡ data_words (word_of r) → size.pointers ≡ pointer_count (word_of r) → IsObject r m m' (ObjectStruct start size)
-struct_object {r} start size ready (a, o, z, starts) wide many =
-    let same = sym (near_object r ready.near o.leads_to).same_word in
-    (a, o, z, starts, wide ∙ ap data_words same, many ∙ ap pointer_count same)
+pub struct_object : {r : Reading} {m m' : Meter} (start : Place) (size : StructSize) → kind (word_of r) ≡ 0 → IsHeld r.segments start → start.segment ≡ r.segment → Entered Value r m m' (near_at r start.at) →
+    size.data_words ≡ data_words (word_of r) → size.pointers ≡ pointer_count (word_of r) → IsObject Value r m m' (ObjectStruct start size)
+struct_object {r} start size is_struct held there o wide many = (near_at r start.at, o, is_struct, (held, there, omega arith), wide, many)
 
 -- What a word of kind list leads to is a list.
-pub lists_alone : {r : Reading} (m m' : Meter) (x : Object) → IsTested r → kind (word_of r) ≡ 1 → IsObject r m m' x → IsList x
+pub lists_alone : {r : Reading} (m m' : Meter) (x : Object) → IsTested r → kind (word_of r) ≡ 1 → IsObject Value r m m' x → IsList x
 lists_alone {r} m m' ObjectNull ready list object = absurd (omega (arith, list, object.0))
 lists_alone {r} m m' (ObjectCapability i) ready list (a, l, low, index, covers, spent) = let near = near_object r ready.near l in absurd (omega (arith, near.same_word, low, list))
 lists_alone {r} m m' (ObjectStruct start size) ready list (a, o, z, starts, wide, many) = let near = near_object r ready.near o.leads_to in absurd (omega (arith, near.same_word, z, list))
@@ -676,10 +675,10 @@ lists_alone m m' (ObjectStructs start size n) ready list object = tt
 
 -- the words of an object are there
 
-pub struct_room : {r : Reading} {m m' : Meter} (start : Place) (size : StructSize) → IsObject r m m' (ObjectStruct start size) → start.at + (size.data_words + size.pointers) ≤ length (row (beginning r start))
+pub struct_room : {r : Reading} {m m' : Meter} (start : Place) (size : StructSize) → IsObject Value r m m' (ObjectStruct start size) → start.at + (size.data_words + size.pointers) ≤ length (row (beginning r start))
 struct_room {r} start size (a, o, z, (held, seg, at), wide, many) = omega (arith, o.meets.claims, claim_struct a.word z, at, wide, many, ap (λ s. length (segment r.segments s)) seg)
 
-pub structs_room : {r : Reading} {m m' : Meter} (start : Place) (size : StructSize) (n : ℕ) → kind (word_of r) < 2 → IsObject r m m' (ObjectStructs start size n) → start.at + list_count (word_of r) ≤ length (row (first_element r start))
+pub structs_room : {r : Reading} {m m' : Meter} (start : Place) (size : StructSize) (n : ℕ) → kind (word_of r) < 2 → IsObject Value r m m' (ObjectStructs start size n) → start.at + list_count (word_of r) ≤ length (row (first_element r start))
 structs_room {r} start size n near (a, o, z, seven, (held, seg, at), many, wide, pointers) =
     let claimed : list_count (word_of r) ≡ list_count a.word = ap list_count (sym (near_object r near o.leads_to).same_word) in
     omega (arith, o.meets.claims, claim_list a.word 7 z seven, at, claimed, ap (λ s. length (segment r.segments s)) seg)
@@ -698,7 +697,7 @@ seen_now e f g = (
   ]),
 )
 
-pub pointers_room : {r : Reading} {m m' : Meter} (start : Place) (n : ℕ) → IsObject r m m' (ObjectPointers start n) → start.at + n ≤ length (row (beginning r start))
+pub pointers_room : {r : Reading} {m m' : Meter} (start : Place) (n : ℕ) → IsObject Value r m m' (ObjectPointers start n) → start.at + n ≤ length (row (beginning r start))
 pointers_room {r} start n (a, o, z, six, (held, seg, at), many) = omega (arith, o.meets.claims, claim_list a.word 6 z six, at, many, ap (λ s. length (segment r.segments s)) seg)
 
 -- A struct with words starts at the head.

@@ -1,5 +1,5 @@
 -- Where the test for canonical form fails, which is a no: by which object, and what was charged until then.
-use Rattle.std.proofs.Common.{◌≡◌, ◌≢◌, ℕ, ◌+◌, ◌*◌, ◌<◌, ◌⊎◌, inl, inr, Bool, IsTrue, [], ◌∷◌, Option, Some, None, refl, sym, ap, ap₂, ◌∙◌, subst, arith}
+use Rattle.std.proofs.Common.{◌≡◌, ◌≢◌, ℕ, ◌+◌, ◌*◌, ◌<◌, inl, inr, Bool, IsTrue, [], ◌∷◌, Option, Some, None, sym, ap, ap₂, ◌∙◌, subst, arith}
 use Rattle.std.specs.Prelude.{IfNone}
 use Rattle.capnp_format.specs.Word.{kind, offset_bits, pointer_count, list_count}
 use Rattle.capnp_format.specs.Bytes.{words_of}
@@ -14,6 +14,7 @@ use Rattle.capnp_objects.specs.declared.object.Place.{Place}
 use Rattle.capnp_objects.specs.Demands.{claim, tag, element_words}
 use Rattle.capnp_objects.specs.Objects.{IsObject}
 use Rattle.capnp_objects.specs.Reading.{Reading, word_of, behind, tag_size}
+use Rattle.capnp_objects.specs.declared.object.Purpose.TheVariants.{Value}
 use Rattle.capnp_objects.proofs.Parts.{claim_struct, claim_list}
 use Rattle.capnp_objects.proofs.Walked.{beginning, same_place, same_size}
 use Rattle.capnp_readers.specs.Standing.{IsPadded}
@@ -26,16 +27,16 @@ none_so None x f = f x
 none_so (Some a) x f = tt
 
 -- A struct without words that stands elsewhere than at its pointer; one with words, elsewhere than at the head.
-pub empty_fails : {r : Reading} {from : Progress} {m' : Meter} (start : Place) (size : StructSize) → IsTested r → IsObject r from.meter m' (ObjectStruct start size) → size.data_words + size.pointers ≡ 0 → start.at ≢ r.at → TestFails r from m'
+pub empty_fails : {r : Reading} {from : Progress} {m' : Meter} (start : Place) (size : StructSize) → IsTested r → IsObject Value r from.meter m' (ObjectStruct start size) → size.data_words + size.pointers ≡ 0 → start.at ≢ r.at → TestFails r from m'
 empty_fails start size ready (a, o, z, (held, seg, at), wide, many) none other =
     here (empty_elsewhere a ready.near o (z, omega (arith, none, wide, many)) (λ e. other (omega (arith, e, at))))
 
-pub struct_fails : {r : Reading} {from : Progress} {m' : Meter} (start : Place) (size : StructSize) → IsTested r → IsObject r from.meter m' (ObjectStruct start size) → 0 < size.data_words + size.pointers → start.at ≢ from.head → TestFails r from m'
+pub struct_fails : {r : Reading} {from : Progress} {m' : Meter} (start : Place) (size : StructSize) → IsTested r → IsObject Value r from.meter m' (ObjectStruct start size) → 0 < size.data_words + size.pointers → start.at ≢ from.head → TestFails r from m'
 struct_fails start size ready (a, o, z, (held, seg, at), wide, many) some other =
     here (elsewhere a ready.near o (λ none. let e = none.1 in omega (arith, e, some, wide, many)) (λ e. other (omega (arith, e, at))))
 
 -- A list that stands elsewhere than in canonical form.
-pub unplaced_fails : {r : Reading} {from : Progress} {m' : Meter} (x : Object) → IsTested r → kind (word_of r) ≡ 1 → IsObject r from.meter m' x → (StartsRight x r.at from.head → ⊥) → TestFails r from m'
+pub unplaced_fails : {r : Reading} {from : Progress} {m' : Meter} (x : Object) → IsTested r → kind (word_of r) ≡ 1 → IsObject Value r from.meter m' x → (StartsRight x r.at from.head → ⊥) → TestFails r from m'
 unplaced_fails ObjectNull ready list object other = absurd (other tt)
 unplaced_fails {r} {from} {m'} (ObjectCapability i) ready list object other = absurd (lists_alone {r = r} from.meter m' (ObjectCapability i) ready list object)
 unplaced_fails {r} {from} {m'} (ObjectStruct start size) ready list object other = absurd (lists_alone {r = r} from.meter m' (ObjectStruct start size) ready list object)
@@ -47,7 +48,7 @@ unplaced_fails (ObjectStructs start size n) ready list (a, o, z, seven, (held, s
     here (elsewhere a ready.near o (λ none. let e = none.0 in omega (arith, e, z)) (λ e. other (omega (arith, e, at))))
 
 -- A list of numbers with other bits than zeros behind them.
-pub flat_fails : {r : Reading} {from : Progress} {m' : Meter} (start : Place) (size : ElementSize) (n : ℕ) (o : Option ℕ) → IsTested r → IsObject r from.meter m' (ObjectFlat start size n) →
+pub flat_fails : {r : Reading} {from : Progress} {m' : Meter} (start : Place) (size : ElementSize) (n : ℕ) (o : Option ℕ) → IsTested r → IsObject Value r from.meter m' (ObjectFlat start size n) →
     StartsRight (ObjectFlat start size n) r.at from.head → TellsFlat (words_of start.bytes.now) start.at size n o → IfNone o (TestFails r from m')
 flat_fails start size n (Some e) ready object right told = tt
 flat_fails {r} {from} {m'} start size n None ready (a, o, z, small, (held, seg, at), width, len) right fails =
@@ -55,7 +56,7 @@ flat_fails {r} {from} {m'} start size n None ready (a, o, z, small, (held, seg, 
     (subst (λ ws. IsPadded (ws ∷ []) 0 start.at (size_number size) n) (sym held.0) (padded_at r.segments (sym seg) (omega (arith, at)) (sym width) (sym len) padded))))
 
 -- A struct of which a pointer fails, or smaller sections would do.
-pub sections_fail : {r : Reading} {from : Progress} {m' m'' : Meter} (start : Place) (size : StructSize) → IsTested r → IsObject r from.meter m' (ObjectStruct start size) → 0 < size.data_words + size.pointers →
+pub sections_fail : {r : Reading} {from : Progress} {m' m'' : Meter} (start : Place) (size : StructSize) → IsTested r → IsObject Value r from.meter m' (ObjectStruct start size) → 0 < size.data_words + size.pointers →
     StartsRight (ObjectStruct start size) r.at from.head → SectionsFail (beginning r start) size m' m'' → TestFails r from m''
 sections_fail {r} {from} {m'} {m''} start size ready object some right (inl ends) = struct_ends {r = r} {from = from} {m' = m'} {m'' = m''} start size ready object some right ends
 sections_fail {r} {from} {m'} {m''} start size ready (a, o, z, (held, seg, at), wide, many) some right (inr (e, found, unused)) =
@@ -69,7 +70,7 @@ sections_fail {r} {from} {m'} {m''} start size ready (a, o, z, (held, seg, at), 
     (λ used. unused (used_at r.segments (sym seg) (omega (arith, at)) (sym wide) used.0, used_at r.segments (sym seg) (omega (arith, at, wide)) (sym many) used.1)))
 
 -- A list of structs whose elements take other words than it claims, or of which a pointer fails, or smaller elements would do.
-pub claimed_fails : {r : Reading} {from : Progress} {m' m'' : Meter} (start : Place) (size : StructSize) (n : ℕ) → IsTested r → IsObject r from.meter m' (ObjectStructs start size n) →
+pub claimed_fails : {r : Reading} {from : Progress} {m' m'' : Meter} (start : Place) (size : StructSize) (n : ℕ) → IsTested r → IsObject Value r from.meter m' (ObjectStructs start size n) →
     StartsRight (ObjectStructs start size n) r.at from.head → ClaimedFails (first_element r start) size n (list_count (word_of r)) m' m'' → TestFails r from m''
 claimed_fails {r} {from} {m'} {m''} start size n ready (a, o, z, seven, (held, seg, at), many, wide, pointers) right (inl (other, same)) =
     let S : Segments = r.segments in

@@ -12,6 +12,7 @@ use Rattle.capnp_objects.specs.Outcomes.{Entered}
 use Rattle.capnp_objects.specs.Reading.{Reading, word_of, row, behind, pointers_of, tag_size}
 use Rattle.capnp_objects.specs.Refusals.{here as stopped_here}
 use Rattle.capnp_objects.specs.Spending.{Paid}
+use Rattle.capnp_objects.specs.declared.object.Purpose.TheVariants.{Value}
 use Rattle.capnp_format.proofs.Slices.{length_words}
 use Rattle.capnp_format.proofs.Unique.{for_offset}
 use Rattle.capnp_objects.proofs.Budgets.{affords_rest, paid_both, paid_own}
@@ -55,7 +56,7 @@ level_less : (l n : ℕ) → 1 + l ≤ n → l ≤ pred n
 level_less l n h = omega arith
 
 -- What was charged, from the object on, is part of what is covered.
-struct_next : {r : Reading} {from mid : Progress} {first : Meter} {a : Target} (ts : Trees) → kind (word_of r) < 2 → Entered r from.meter first a → kind a.word ≡ 0 → count ts < pointer_count a.word →
+struct_next : {r : Reading} {from mid : Progress} {first : Meter} {a : Target} (ts : Trees) → kind (word_of r) < 2 → Entered Value r from.meter first a → kind a.word ≡ 0 → count ts < pointer_count a.word →
     FindsAll (struct_pointers r a) (behind_object a first) mid ts → CanBeFound r from → CanBeFound (behind (struct_pointers r a) (count ts)) mid
 struct_next {r} {from = from} {mid = mid} {first = first} {a = a} ts near o z less all (t, stands, inside, levels, covers) =
     let S : Segments = r.segments in
@@ -74,7 +75,7 @@ struct_next {r} {from = from} {mid = mid} {first = first} {a = a} ts near o z le
       stand = moved;
       within = room;
       levels = level_less (depth_all us) r.levels deep;
-      before = own S a;
+      before = own Value S a;
       pointers = 1;
       whole = charge t;
       paid = paid_own o;
@@ -83,7 +84,7 @@ struct_next {r} {from = from} {mid = mid} {first = first} {a = a} ts near o z le
     } in
     next_can ts rest all (omega (arith, less, len))
 
-pointers_next : {r : Reading} {from mid : Progress} {first : Meter} {a : Target} (ts : Trees) → kind (word_of r) < 2 → Entered r from.meter first a → kind a.word ≡ 1 → element_size a.word ≡ 6 → count ts < list_count a.word →
+pointers_next : {r : Reading} {from mid : Progress} {first : Meter} {a : Target} (ts : Trees) → kind (word_of r) < 2 → Entered Value r from.meter first a → kind a.word ≡ 1 → element_size a.word ≡ 6 → count ts < list_count a.word →
     FindsAll (list_pointers r a) (behind_object a first) mid ts → CanBeFound r from → CanBeFound (behind (list_pointers r a) (count ts)) mid
 pointers_next {r} {from = from} {mid = mid} {first = first} {a = a} ts near o z six less all (t, stands, inside, levels, covers) =
     let S : Segments = r.segments in
@@ -100,7 +101,7 @@ pointers_next {r} {from = from} {mid = mid} {first = first} {a = a} ts near o z 
       stand = moved;
       within = room;
       levels = level_less (depth_all us) r.levels deep;
-      before = own S a;
+      before = own Value S a;
       pointers = 1;
       whole = charge t;
       paid = paid_own o;
@@ -110,7 +111,7 @@ pointers_next {r} {from = from} {mid = mid} {first = first} {a = a} ts near o z 
     next_can ts rest all (omega (arith, less, len))
 
 -- The first elements of a list of structs are found, and then some pointers of the next one.
-structs_next : {r : Reading} {from between mid : Progress} {first : Meter} {a : Target} (es : Elements) (ts : Trees) → kind (word_of r) < 2 → Entered r from.meter first a → (kind a.word ≡ 1) × (element_size a.word ≡ 7) →
+structs_next : {r : Reading} {from between mid : Progress} {first : Meter} {a : Target} (es : Elements) (ts : Trees) → kind (word_of r) < 2 → Entered Value r from.meter first a → (kind a.word ≡ 1) × (element_size a.word ≡ 7) →
     element_count es < offset_bits (tag r.segments a) → count ts < pointer_count (tag r.segments a) → FindsElements (list_elements r a) (tag_size r.segments a) (behind_object a first) between es →
     FindsAll (pointers_of (list_elements r a) (tag_size r.segments a) (element_count es)) between mid ts → CanBeFound r from →
     CanBeFound (behind (pointers_of (list_elements r a) (tag_size r.segments a) (element_count es)) (count ts)) mid
@@ -137,16 +138,16 @@ structs_next {r} {from = from} {between = between} {mid = mid} {first = first} {
     (subst (λ x. ElementsStand S r.segment (from.head + 1) x q (from.head + 1 + m) fs) wide (subst (λ x. ElementsStand S r.segment (from.head + 1) e x (from.head + 1 + m) fs) many f.elements)))) in
     let next = next_element_stands S a.segment (a.start + 1) d q head es fs rows.stand there (omega (arith, fewer, number)) in
     let deep : 1 + depth_elements fs ≤ r.levels = subst (λ x. x ≤ r.levels) (ap depth same) levels in
-    let cost : charge t ≡ own S a + charge_elements fs =
+    let cost : charge t ≡ own Value S a + charge_elements fs =
     ap charge same
     ∙ ap₂ (λ i j. i + 1 + count_cost j (element_count fs) + charge_elements fs) f.exact (ap₂ (λ x y. x + y) wide many)
     ∙ ap (λ i. m + 1 + count_cost (d + q) i + charge_elements fs) number
-    ∙ (let k : m + 1 + count_cost (d + q) (offset_bits (tag S a)) + charge_elements fs ≡ own S a + charge_elements fs = omega (arith, own_structs S a z seven, close.no_pads) in k) in
+    ∙ (let k : m + 1 + count_cost (d + q) (offset_bits (tag S a)) + charge_elements fs ≡ own Value S a + charge_elements fs = omega (arith, own_structs S a z seven, close.no_pads) in k) in
     let rest : Rest (pointers_of (list_elements r a) (tag_size S a) (element_count es)) between from.meter next.next = record {
       stand = subst (λ h. AllStand S a.segment (a.start + 1 + element_count es * (d + q) + d) h next.next) (sym rows.head_is) next.stand;
       within = omega (arith, rows.head_is, elements_within S a.segment (a.start + 1) d q head es room rows.stand);
       levels = omega (arith, next.levelled, level_less (depth_elements fs) r.levels deep);
-      before = own S a + charge_elements es;
+      before = own Value S a + charge_elements es;
       pointers = _;
       whole = charge t;
       paid = paid_both (paid_own o) rows.paid;

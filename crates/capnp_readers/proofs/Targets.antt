@@ -14,14 +14,15 @@ use Rattle.capnp_readers.specs.Readers.{ShowsStruct, ShowsList, IsListOf, IsTarg
 use Rattle.capnp_objects.specs.declared.object.Place.{Place}
 use Rattle.capnp_objects.specs.declared.object.Object.{Object}
 use Rattle.capnp_objects.specs.declared.object.Object.TheVariants.{Struct as ObjectStruct, Flat as ObjectFlat, Pointers as ObjectPointers}
+use Rattle.capnp_objects.specs.declared.object.Purpose.TheVariants.{Value}
 use Rattle.capnp_readers.specs.declared.readers.PointerReader.{PointerReader}
 use Rattle.capnp_readers.specs.declared.readers.struct_reader.StructReader.{StructReader}
 use Rattle.capnp_readers.specs.declared.readers.list_reader.ListReader.{ListReader}
 use Rattle.capnp_readers.specs.declared.readers.target.Target.TheVariants.{Struct, List}
 
 -- an object that is read with the levels of a reading
-pub read_within : (r : Reading) (m m' : Meter) (x : Object) {n : ℕ} → n ≡ r.levels → IsObject (record r { levels = n }) m m' x → IsObject r m m' x
-read_within r m m' x e h = subst (λ k. IsObject (record r { levels = k }) m m' x) e h
+pub read_within : (r : Reading) (m m' : Meter) (x : Object) {n : ℕ} → n ≡ r.levels → IsObject Value (record r { levels = n }) m m' x → IsObject Value r m m' x
+read_within r m m' x e h = subst (λ k. IsObject Value (record r { levels = k }) m m' x) e h
 
 module _ {A : Type 0} (g : Ghosts A) where
   shows_struct : {S : Segments} {r : StructReader A g} {s t p i d e q f : ℕ} → ShowsStruct g S r s p d q → s ≡ t → p ≡ i → d ≡ e → q ≡ f → ShowsStruct g S r t i e f
@@ -41,18 +42,18 @@ module _ {A : Type 0} (g : Ghosts A) where
   flat_list Pointer a h e s = (e, s)
 
   pub struct_target : (from : PointerReader A g) {m m' : Meter} (start : Place) (size : StructSize) {r : StructReader A g} →
-      IsObject (reading g from) m m' (ObjectStruct start size) → ShowsStruct g (reading g from).segments r start.segment start.at size.data_words size.pointers →
+      IsObject Value (reading g from) m m' (ObjectStruct start size) → ShowsStruct g (reading g from).segments r start.segment start.at size.data_words size.pointers →
       (r.source ≡ from.source) × (r.nesting_limit ≡ from.nesting_limit -ℤ pos 1) → IsTarget g from m m' (Struct r)
   struct_target from start size (a, entered, z, (held, u, at), d, q) shows (same, level) = (a, entered, z, shows_struct shows u (omega arith) d q, same, level)
 
   pub flat_target : (from : PointerReader A g) {m m' : Meter} (start : Place) {size : ElementSize} {count : ℕ} {r : ListReader A g} →
-      IsObject (reading g from) m m' (ObjectFlat start size count) → r.element_size ≡ size → ShowsList g (reading g from).segments r start.segment start.at count 0 0 →
+      IsObject Value (reading g from) m m' (ObjectFlat start size count) → r.element_size ≡ size → ShowsList g (reading g from).segments r start.segment start.at count 0 0 →
       (r.source ≡ from.source) × (r.nesting_limit ≡ from.nesting_limit -ℤ pos 1) → IsTarget g from m m' (List r)
   flat_target from start {r} (a, entered, z, small, (held, u, at), e, counted) wide shows (same, level) =
       (a, entered, z, flat_list r.element_size a (rw wide (omega arith)) (rw wide (sym e)) (shows_list shows u (omega arith) counted), same, level)
 
   pub pointers_target : (from : PointerReader A g) {m m' : Meter} (start : Place) {count : ℕ} {r : ListReader A g} →
-      IsObject (reading g from) m m' (ObjectPointers start count) → r.element_size ≡ Pointer → ShowsList g (reading g from).segments r start.segment start.at count 0 0 →
+      IsObject Value (reading g from) m m' (ObjectPointers start count) → r.element_size ≡ Pointer → ShowsList g (reading g from).segments r start.segment start.at count 0 0 →
       (r.source ≡ from.source) × (r.nesting_limit ≡ from.nesting_limit -ℤ pos 1) → IsTarget g from m m' (List r)
   pointers_target from start {r} (a, entered, z, six, (held, u, at), counted) wide shows (same, level) =
       (a, entered, z, flat_list r.element_size a (rw wide (omega arith)) (rw wide six) (shows_list shows u (omega arith) counted), same, level)

@@ -12,7 +12,8 @@ use Rattle.capnp_words.specs.declared.wire_pointer.StructSize.{StructSize}
 use Rattle.capnp_objects.specs.declared.object.Place.{Place}
 use Rattle.capnp_objects.specs.declared.object.Object.{Object}
 use Rattle.capnp_objects.specs.declared.object.Object.TheVariants.{Null as ObjectNull, Capability as ObjectCapability, Struct as ObjectStruct, Flat as ObjectFlat, Pointers as ObjectPointers, Structs as ObjectStructs}
-use Rattle.capnp_objects.specs.Measures.{IsMeasured}
+use Rattle.capnp_objects.specs.declared.object.Purpose.TheVariants.{Size}
+use Rattle.capnp_objects.specs.Objects.{IsObject}
 use Rattle.capnp_objects.proofs.Parts.{claim_struct, claim_list}
 use Rattle.capnp_objects.specs.Reading.{Reading, row, sized}
 use Rattle.capnp_objects.specs.Sizing.{FitSize, HasSize, HaveSizes, SizeRefused, SizesStop, SizeStops, RowsStop, Tally, tally, WalksPlace, WalksRows}
@@ -60,29 +61,29 @@ no_sizes refused h = stop_never refused h.0 h.1 h.2 h.3 h.4 h.5
 
 -- An object is measured that has pointers, those of these rows.
 pub record Opened (r : Reading) (m m' : Meter) (x : Object) (rows : Rows) : Type 0 where
-  pub is_measured : IsMeasured r m m' x
+  pub is_measured : IsObject Size r m m' x
   pub has : HasRows x rows
 
 -- There is a level for its pointers, and they lie in their segment.
 pub object_level : {r : Reading} {m m' : Meter} {rows : Rows} (x : Object) → Opened r m m' x rows → 0 < r.levels
-object_level (ObjectStruct start size) o = o.is_measured.1.levels
-object_level (ObjectPointers start i) o = o.is_measured.1.levels
-object_level (ObjectStructs start size i) o = o.is_measured.1.levels
+object_level (ObjectStruct start size) o = o.is_measured.1.meets.levels
+object_level (ObjectPointers start i) o = o.is_measured.1.meets.levels
+object_level (ObjectStructs start size i) o = o.is_measured.1.meets.levels
 object_level ObjectNull o = absurd o.has
 object_level (ObjectCapability i) o = absurd o.has
 object_level (ObjectFlat start size i) o = absurd o.has
 
-inside_struct : {r : Reading} {m m' : Meter} (start : Place) (size : StructSize) → IsMeasured r m m' (ObjectStruct start size) → start.at + 1 * (size.data_words + size.pointers) ≤ length (segment r.segments start.segment)
+inside_struct : {r : Reading} {m m' : Meter} (start : Place) (size : StructSize) → IsObject Size r m m' (ObjectStruct start size) → start.at + 1 * (size.data_words + size.pointers) ≤ length (segment r.segments start.segment)
 inside_struct start size (a, o, z, (held, seg, at), wide, many) =
     let room = o.meets.claims (λ v. omega (arith, v.0, z)) in
     rw (seg, wide, many) (omega (arith, room, at, claim_struct a.word z))
 
-inside_pointers : {r : Reading} {m m' : Meter} (start : Place) (i : ℕ) → IsMeasured r m m' (ObjectPointers start i) → start.at + 1 * (0 + i) ≤ length (segment r.segments start.segment)
+inside_pointers : {r : Reading} {m m' : Meter} (start : Place) (i : ℕ) → IsObject Size r m m' (ObjectPointers start i) → start.at + 1 * (0 + i) ≤ length (segment r.segments start.segment)
 inside_pointers start i (a, o, z, six, (held, seg, at), many) =
     let room = o.meets.claims (λ v. omega (arith, v.1, six)) in
     rw seg (omega (arith, room, at, many, claim_list a.word 6 z six))
 
-inside_structs : {r : Reading} {m m' : Meter} (start : Place) (size : StructSize) (i : ℕ) → IsMeasured r m m' (ObjectStructs start size i) → start.at + i * (size.data_words + size.pointers) ≤ length (segment r.segments start.segment)
+inside_structs : {r : Reading} {m m' : Meter} (start : Place) (size : StructSize) (i : ℕ) → IsObject Size r m m' (ObjectStructs start size i) → start.at + i * (size.data_words + size.pointers) ≤ length (segment r.segments start.segment)
 inside_structs start size i (a, o, z, seven, (held, seg, at), len, wide, many) =
     let room = o.meets.claims (λ v. omega (arith, v.1, seven)) in
     rw (seg, len, wide, many) (omega (arith, room, at, claim_list a.word 7 z seven, (o.meets.tagged (z, seven)).1))
@@ -96,7 +97,7 @@ object_inside (ObjectCapability i) o = absurd o.has
 object_inside (ObjectFlat start size i) o = absurd o.has
 
 -- What a walk finds at an object: its own words and no pointers; the pointers that it goes over, or stops at; too many words.
-pub leaf_walked : {r : Reading} {from : Tally} {m' : Meter} (x : Object) → IsMeasured r from.meter m' x → HasNoRows x → ((i : ℕ) → x ≡ ObjectCapability i → ⊥) → WalksPlace r from (tally (from.words + object_words x) from.caps m')
+pub leaf_walked : {r : Reading} {from : Tally} {m' : Meter} (x : Object) → IsObject Size r from.meter m' x → HasNoRows x → ((i : ℕ) → x ≡ ObjectCapability i → ⊥) → WalksPlace r from (tally (from.words + object_words x) from.caps m')
 leaf_walked {r} {from} {m'} ObjectNull object none other = rw add-zero (null_walked {r = r} {from = from} object)
 leaf_walked {r} {from} {m'} (ObjectCapability i) object none other = absurd (other i refl)
 leaf_walked {r} {from} {m'} (ObjectFlat start size i) object none other = flat_walked {r = r} {from = from} start size i object
@@ -122,7 +123,7 @@ object_stops ObjectNull o h = absurd o.has
 object_stops (ObjectCapability i) o h = absurd o.has
 object_stops (ObjectFlat start size i) o h = absurd o.has
 
-pub object_beyond : {r : Reading} {from : Tally} {m' : Meter} (x : Object) → FitSize from.words from.caps → IsMeasured r from.meter m' x → (from.words + object_words x < 2 ^ 64 → ⊥) → SizeStops (MessageTooLarge (2 ^ 64 - 1)) r from m'
+pub object_beyond : {r : Reading} {from : Tally} {m' : Meter} (x : Object) → FitSize from.words from.caps → IsObject Size r from.meter m' x → (from.words + object_words x < 2 ^ 64 → ⊥) → SizeStops (MessageTooLarge (2 ^ 64 - 1)) r from m'
 object_beyond ObjectNull fits object over = absurd (over (omega (arith, fits.0)))
 object_beyond (ObjectCapability i) fits object over = absurd (over (omega (arith, fits.0)))
 object_beyond {r} {from} (ObjectFlat start size i) fits object over = flat_beyond {r = r} {from = from} start size i fits object over

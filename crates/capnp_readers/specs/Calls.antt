@@ -19,6 +19,7 @@ use Rattle.capnp_objects.specs.Expected.{null_default, one_level, CanBeGiven, Wi
 use Rattle.capnp_objects.specs.Outcomes.{Entered}
 use Rattle.capnp_objects.specs.Reading.{Reading, word_of}
 use Rattle.capnp_objects.specs.Source.{default_segment, default_segments}
+use Rattle.capnp_objects.specs.declared.object.Purpose.TheVariants.{Value}
 use Rattle.capnp_readers.specs.Readers.{reading, IsTarget}
 use Rattle.capnp_readers.specs.Sections.{IsWide}
 use Rattle.capnp_readers.specs.declared.readers.PointerReader.{PointerReader}
@@ -111,4 +112,4 @@ module _ {A : Type 0} (g : Ghosts A) where
   -- The bytes that a pointer leads to, in place; of a null pointer none.
   abbrev pub AreBytesRead : Expected → PointerReader A g → Meter → Meter → List ℕ → Type 0
   AreBytesRead expected p m m' bytes =
-      (IsNull p m m' × (bytes ≡ [])) ⊎ ((a : Target) × Entered (one_level (reading g p)) m m' a × ShowsBytes (reading g p) a (bytes_of expected (list_count a.word)) bytes)
+      (IsNull p m m' × (bytes ≡ [])) ⊎ ((a : Target) × Entered Value (one_level (reading g p)) m m' a × ShowsBytes (reading g p) a (bytes_of expected (list_count a.word)) bytes)

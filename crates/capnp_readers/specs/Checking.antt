@@ -24,6 +24,7 @@ use Rattle.capnp_objects.specs.Wanted.{plain}
 use Rattle.capnp_arena.specs.declared.arena.reader_arena.ReaderArena.{Ghosts}
 use Rattle.capnp_objects.specs.Source.{source_segments}
 use Rattle.capnp_objects.specs.declared.source.Source.TheVariants.{Nothing}
+use Rattle.capnp_objects.specs.declared.object.Purpose.TheVariants.{Value}
 use Rattle.capnp_readers.specs.Sizes.{own_words, pointers_read}
 use Rattle.capnp_readers.specs.declared.readers.struct_reader.StructReader.{StructReader}
 use Rattle.capnp_readers.specs.Standing.{AllStand, ElementsStand, Accepts, AllAccept, ElementsAccept, EndsUsed, IsPadded}
@@ -146,7 +147,7 @@ refusal_name w k = k
 pub record Unread (r : Reading) (m m' : Meter) (k : ErrorKind) : Type 0 where
   pub name : ErrorKind
   pub near : kind (word_of r) < 2
-  pub stopped : Stopped plain r m m' name
+  pub stopped : Stopped Value plain r m m' name
   pub named : k ≡ refusal_name (word_of r) name
 
 -- The head behind an object's own words, once these are read.
@@ -188,7 +189,7 @@ pub data TestEnds (P : Reading → Progress → Meter → Type 0) : Reading → 
   below :
       {r child : Reading} {from mid : Progress} {first m' : Meter} (a : Target) →
       kind (word_of r) < 2 →
-      Entered r from.meter first a →
+      Entered Value r from.meter first a →
       a.start ≡ from.head →
       FindsBefore r a child (behind_object a first) mid →
       TestEnds P child mid m' →
@@ -240,12 +241,12 @@ AreFoundTooWide r size n from to =
 -- sections or elements would do.
 pub data IsUnfit (r : Reading) (from : Progress) (m' : Meter) : Type 0 where
   no_near_pointer : (IsPlace r.segments r.segment r.at × (kind (word_of r) < 2) → ⊥) → m' ≡ from.meter → IsUnfit r from m'
-  empty_elsewhere : (a : Target) → kind (word_of r) < 2 → Entered r from.meter m' a → IsEmptyStruct a → a.start ≢ r.at → IsUnfit r from m'
-  elsewhere : (a : Target) → kind (word_of r) < 2 → Entered r from.meter m' a → (IsEmptyStruct a → ⊥) → a.start ≢ from.head → IsUnfit r from m'
+  empty_elsewhere : (a : Target) → kind (word_of r) < 2 → Entered Value r from.meter m' a → IsEmptyStruct a → a.start ≢ r.at → IsUnfit r from m'
+  elsewhere : (a : Target) → kind (word_of r) < 2 → Entered Value r from.meter m' a → (IsEmptyStruct a → ⊥) → a.start ≢ from.head → IsUnfit r from m'
   not_padded :
       (a : Target) →
       kind (word_of r) < 2 →
-      Entered r from.meter m' a →
+      Entered Value r from.meter m' a →
       a.start ≡ from.head →
       kind a.word ≡ 1 →
       element_size a.word ≤ 5 →
@@ -254,7 +255,7 @@ pub data IsUnfit (r : Reading) (from : Progress) (m' : Meter) : Type 0 where
   other_claim :
       (a : Target) →
       kind (word_of r) < 2 →
-      Entered r from.meter m' a →
+      Entered Value r from.meter m' a →
       a.start ≡ from.head →
       IsStructList a.word →
       element_words (tag r.segments a) ≢ list_count a.word →
@@ -262,7 +263,7 @@ pub data IsUnfit (r : Reading) (from : Progress) (m' : Meter) : Type 0 where
   wide_sections :
       {first : Meter} (a : Target) (e : ℕ) →
       kind (word_of r) < 2 →
-      Entered r from.meter first a →
+      Entered Value r from.meter first a →
       a.start ≡ from.head →
       kind a.word ≡ 0 →
       AreFound (child_at r a (pred r.levels) (a.start + data_words a.word)) (pointer_count a.word) (behind_object a first) (progress e m') →
@@ -271,7 +272,7 @@ pub data IsUnfit (r : Reading) (from : Progress) (m' : Meter) : Type 0 where
   wide_elements :
       {first : Meter} (a : Target) (e : ℕ) →
       kind (word_of r) < 2 →
-      Entered r from.meter first a →
+      Entered Value r from.meter first a →
       a.start ≡ from.head →
       IsStructList a.word →
       element_words (tag r.segments a) ≡ list_count a.word →

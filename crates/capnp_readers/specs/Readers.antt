@@ -18,6 +18,7 @@ use Rattle.capnp_objects.specs.declared.object.Object.{Object}
 use Rattle.capnp_readers.specs.Sections.{bytes_for, list_words, step_bits}
 use Rattle.capnp_objects.specs.Source.{source_segments}
 use Rattle.capnp_objects.specs.Spending.{after}
+use Rattle.capnp_objects.specs.declared.object.Purpose.TheVariants.{Value}
 use Rattle.capnp_readers.specs.declared.readers.PointerReader.{PointerReader}
 use Rattle.capnp_readers.specs.declared.readers.struct_reader.StructPlace.{StructPlace}
 use Rattle.capnp_readers.specs.declared.readers.struct_reader.StructReader.{StructReader}
@@ -94,13 +95,13 @@ module _ {A : Type 0} (g : Ghosts A) where
       (a : Target) × LeadsTo (reading from) a × (a.word % 2 ^ 32 ≡ 3) × (i ≡ upper_half a.word)
       × Affords (reading from).charging m a.pads × (m' ≡ after (reading from).charging m a.pads 1)
   IsTarget from m m' (Struct r) =
-      (a : Target) × Entered (reading from) m m' a × (kind a.word ≡ 0)
+      (a : Target) × Entered Value (reading from) m m' a × (kind a.word ≡ 0)
       × ShowsStruct (reading from).segments r a.segment a.start (data_words a.word) (pointer_count a.word)
       × (r.source ≡ from.source) × (r.nesting_limit ≡ from.nesting_limit -ℤ pos 1)
   IsTarget from m m' (List r) =
-      (a : Target) × Entered (reading from) m m' a × (kind a.word ≡ 1) × IsListOf r.element_size (reading from).segments r a
+      (a : Target) × Entered Value (reading from) m m' a × (kind a.word ≡ 1) × IsListOf r.element_size (reading from).segments r a
       × (r.source ≡ from.source) × (r.nesting_limit ≡ from.nesting_limit -ℤ pos 1)
 
   -- An object was read of the pointer.
   abbrev pub WasRead : PointerReader A g → Object → Type 0
-  WasRead from x = (m : Meter) × (m' : Meter) × IsObject (reading from) m m' x
+  WasRead from x = (m : Meter) × (m' : Meter) × IsObject Value (reading from) m m' x

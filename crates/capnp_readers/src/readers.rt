@@ -14,6 +14,7 @@ ghost use Rattle.capnp_objects.specs.Expected.{null_default, one_level, IsGiven}
 ghost use Rattle.capnp_objects.specs.Types.{IsNoCapability, IsOfType, HasType, HasNoType};
 ghost use Rattle.capnp_format.specs.Word.{lower_half, upper_half};
 ghost use Rattle.capnp_objects.specs.Wanted.{plain};
+ghost use Rattle.capnp_objects.specs.declared.object.Purpose.TheVariants.{Value};
 
 mod canonical;
 mod list_reader;
@@ -248,7 +249,7 @@ impl<'a, A: ReaderArena> PointerReader<'a, A> {
         ensures read { IfOk result (λ x.
             IsRead A.ReaderArena expected self.entry x.0 default.entry) }
         ensures object { IfOk result (λ x.
-            IsObject (one_level (reading A.ReaderArena x.0)) lim.old lim.new x.1) }
+            IsObject Value (one_level (reading A.ReaderArena x.0)) lim.old lim.new x.1) }
         ensures given { IfOk result (λ x. IsGiven expected (reading A.ReaderArena x.0).levels x.1) }
         ensures few { IfOk result (λ x. IsFew x.1) }
         ensures exactly { IsOk result ↔ IsAnswered A.ReaderArena
@@ -468,9 +469,9 @@ impl<'a, A: ReaderArena> PointerReader<'a, A> {
     /// by the first fault that is met; it keeps what was charged.
     pub fn next(&self, lim: &mut ReadLimiter) -> Result<Target<'a, A>, ErrorKind>
         ensures target { IfOk result (IsTarget A.ReaderArena self.now lim.old lim.new) }
-        ensures exactly { IsOk result ↔ CanBeRead (reading A.ReaderArena self.now) lim.old }
+        ensures exactly { IsOk result ↔ CanBeRead Value (reading A.ReaderArena self.now) lim.old }
         ensures refused { IfErr result
-            (Stopped plain (reading A.ReaderArena self.now) lim.old lim.new) }
+            (Stopped Value plain (reading A.ReaderArena self.now) lim.old lim.new) }
     {
         match self.source.read_object(self.place, self.nesting_limit, lim) {
             Ok(object) => Ok(self.target_of(object)),
@@ -482,7 +483,7 @@ impl<'a, A: ReaderArena> PointerReader<'a, A> {
     fn target_of(self, object: Object<'a>) -> Target<'a, A>
         requires read { WasRead A.ReaderArena self object }
         ensures { (m : Meter) (m' : Meter)
-            → IsObject (reading A.ReaderArena self.entry) m m' object.entry
+            → IsObject Value (reading A.ReaderArena self.entry) m m' object.entry
             → IsTarget A.ReaderArena self.entry m m' result }
     {
         match object {

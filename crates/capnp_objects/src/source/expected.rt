@@ -2,6 +2,7 @@
 ghost use Rattle.std.specs.Prelude.{◌≡◌, ◌<◌, ◌≤◌, ◌+◌, ◌-◌, ◌*◌, ◌^◌, ◌↔◌, ℕ, IsTrue, IsOk, IfOk, IfErr, length};
 ghost use Rattle.capnp_format.specs.Numbers.{words_for};
 ghost use Rattle.capnp_words.specs.Sizes.{size_number};
+ghost use Rattle.capnp_objects.specs.declared.object.Purpose.TheVariants.{Value};
 ghost use Rattle.capnp_objects.specs.Source.{source_segments, source_charging};
 ghost use Rattle.capnp_objects.specs.Reading.{reading_at};
 ghost use Rattle.capnp_objects.specs.Objects.{IsObject, IsHeld, IsFew};
@@ -10,7 +11,7 @@ ghost use Rattle.capnp_objects.specs.Expected.{too_deep, another_kind, narrow_el
 ghost use Rattle.capnp_objects.specs.Entering.{object_misfit, place_byte, IsAtHand, IsFitting, IsUnsuited};
 
 use super::{Landing, Source, depth_of};
-use crate::object::{Expected, Object, Place};
+use crate::object::{Expected, Object, Place, Purpose};
 use capnp_arena::arena::ReaderArena;
 use capnp_words::error::ErrorKind;
 use capnp_words::read_limiter::ReadLimiter;
@@ -38,7 +39,7 @@ impl<'a, A: ReaderArena> Source<'a, A> {
         lim: &mut ReadLimiter,
     ) -> Result<Object<'a>, ErrorKind>
         requires held { IsHeld (source_segments A.segments self) place }
-        ensures object { IfOk result (IsObject
+        ensures object { IfOk result (IsObject Value
             (one_level (reading_at A.ReaderArena self.entry place.entry nesting_limit))
             lim.old lim.new) }
         ensures given { IfOk result (IsGiven expected
@@ -74,7 +75,7 @@ impl<'a, A: ReaderArena> Source<'a, A> {
         lim: &mut ReadLimiter,
     ) -> Result<Object<'a>, ErrorKind>
         requires held { IsHeld (source_segments A.segments self) landing.start }
-        ensures object { IfOk result (IsOpened (source_segments A.segments self.entry)
+        ensures object { IfOk result (IsOpened Value (source_segments A.segments self.entry)
             (source_charging A.charging self.entry) 1 (target landing.entry) lim.old lim.new) }
         ensures fits { IfOk result (IsFitting expected (target landing.entry)) }
         ensures few { IfOk result IsFew }
@@ -86,7 +87,7 @@ impl<'a, A: ReaderArena> Source<'a, A> {
             Some(kind) => return Err(kind),
             None => {}
         }
-        let object = match self.enter(landing, 1, lim) {
+        let object = match self.enter(Purpose::Value, landing, 1, lim) {
             Ok(object) => object,
             Err(kind) => return Err(kind),
         };

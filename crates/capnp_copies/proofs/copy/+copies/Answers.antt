@@ -15,6 +15,7 @@ use Rattle.capnp_objects.specs.declared.object.Place.{Place}
 use Rattle.capnp_objects.specs.declared.object.Object.TheVariants.{Struct as ObjectStruct}
 use Rattle.capnp_objects.specs.Objects.{IsObject}
 use Rattle.capnp_objects.specs.Reading.{Reading, row, word_of, words_from}
+use Rattle.capnp_objects.specs.declared.object.Purpose.TheVariants.{Value}
 use Rattle.capnp_readers.specs.Readers.{reading}
 use Rattle.capnp_readers.proofs.Checks.{struct_room}
 use Rattle.capnp_copies.proofs.NearRead.{struct_by_word}
@@ -107,7 +108,7 @@ children::copy_near_struct-returns-clause-copied g t c =
     let start : Place = record c.args.from.place { at = c.in-Ok.start } in
     let wide : c.struct_size.result.data_words ≡ data_words (word_of r) = c.struct_size.ensures.data_of ∙ ap data_words c.requires.there in
     let many : c.struct_size.result.pointers ≡ pointer_count (word_of r) = c.struct_size.ensures.pointers_of ∙ ap pointer_count c.requires.there in
-    let object : IsObject r c.args.lim.now c.read_near_struct.new.lim (ObjectStruct start c.struct_size.result) = struct_by_word start c.struct_size.result (omega (arith, near)) (rw nl at c.in-Ok.ensures.object) wide many in
+    let object : IsObject Value r c.args.lim.now c.read_near_struct.new.lim (ObjectStruct start c.struct_size.result) = struct_by_word start c.struct_size.result near c.args.from.held refl (rw nl at c.in-Ok.ensures.object) wide many in
     let less = one_level_in c.args.from.nesting_limit (search rules) in
     ok_so c.copy_struct.result _ _ c.copy_struct.ensures.copied (λ x made. struct_value start less object made)
 
@@ -119,7 +120,7 @@ children::copy_near_struct-returns-clause-refused g t c =
     let start : Place = record c.args.from.place { at = c.in-Ok.start } in
     let wide : c.struct_size.result.data_words ≡ data_words (word_of r) = c.struct_size.ensures.data_of ∙ ap data_words c.requires.there in
     let many : c.struct_size.result.pointers ≡ pointer_count (word_of r) = c.struct_size.ensures.pointers_of ∙ ap pointer_count c.requires.there in
-    let object : IsObject r c.args.lim.now c.read_near_struct.new.lim (ObjectStruct start c.struct_size.result) = struct_by_word start c.struct_size.result (omega (arith, near)) (rw nl at c.in-Ok.ensures.object) wide many in
+    let object : IsObject Value r c.args.lim.now c.read_near_struct.new.lim (ObjectStruct start c.struct_size.result) = struct_by_word start c.struct_size.result near c.args.from.held refl (rw nl at c.in-Ok.ensures.object) wide many in
     let less = one_level_in c.args.from.nesting_limit (search rules) in
     err_so c.copy_struct.result _ _ c.copy_struct.ensures.refused (λ k stop. struct_value_stops start less object stop)
 
@@ -131,7 +132,7 @@ children::copy_near_struct-returns-clause-taken g t c =
     let start : Place = record c.args.from.place { at = c.in-Ok.start } in
     let wide : c.struct_size.result.data_words ≡ data_words (word_of r) = c.struct_size.ensures.data_of ∙ ap data_words c.requires.there in
     let many : c.struct_size.result.pointers ≡ pointer_count (word_of r) = c.struct_size.ensures.pointers_of ∙ ap pointer_count c.requires.there in
-    let object : IsObject r c.args.lim.now c.read_near_struct.new.lim (ObjectStruct start c.struct_size.result) = struct_by_word start c.struct_size.result (omega (arith, near)) (rw nl at c.in-Ok.ensures.object) wide many in
+    let object : IsObject Value r c.args.lim.now c.read_near_struct.new.lim (ObjectStruct start c.struct_size.result) = struct_by_word start c.struct_size.result near c.args.from.held refl (rw nl at c.in-Ok.ensures.object) wide many in
     let less = one_level_in c.args.from.nesting_limit (search rules) in
     taken_so c.copy_struct.result _ _ _ _ (λ x. struct_takes start less object x) (λ x. struct_stop_takes start less object x) c.copy_struct.ensures.taken
 
@@ -143,7 +144,7 @@ children::copy_near_struct-copy_struct-requires g t c κs within =
     let start : Place = record c.args.from.place { at = c.in-Ok.start } in
     let wide : c.struct_size.result.data_words ≡ data_words (word_of r) = c.struct_size.ensures.data_of ∙ ap data_words c.requires.there in
     let many : c.struct_size.result.pointers ≡ pointer_count (word_of r) = c.struct_size.ensures.pointers_of ∙ ap pointer_count c.requires.there in
-    let object : IsObject r c.args.lim.now c.read_near_struct.new.lim (ObjectStruct start c.struct_size.result) = struct_by_word start c.struct_size.result (omega (arith, near)) (rw nl at c.in-Ok.ensures.object) wide many in
+    let object : IsObject Value r c.args.lim.now c.read_near_struct.new.lim (ObjectStruct start c.struct_size.result) = struct_by_word start c.struct_size.result near c.args.from.held refl (rw nl at c.in-Ok.ensures.object) wide many in
     let less = one_level_in c.args.from.nesting_limit (search rules) in
     let LESS = less object.1.meets.levels in
     let SOME = object.1.meets.levels in

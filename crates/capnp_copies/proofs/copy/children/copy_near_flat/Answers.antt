@@ -1,4 +1,4 @@
-use Rattle.std.proofs.Common.{◌≡◌, ap, ◌∙◌, arith, rules}
+use Rattle.std.proofs.Common.{◌≡◌, ap, ◌∙◌, arith, rules, refl}
 use Rattle.std.proofs.lemmas.Int.{to_z-of_z}
 use mir.Syntax.{w32}
 use Rattle.capnp_format.specs.Bytes.{words_of}
@@ -11,6 +11,7 @@ use Rattle.capnp_objects.specs.declared.object.Place.{Place}
 use Rattle.capnp_objects.specs.declared.object.Object.TheVariants.{Flat as ObjectFlat}
 use Rattle.capnp_objects.specs.Objects.{IsObject}
 use Rattle.capnp_objects.specs.Reading.{Reading, word_of}
+use Rattle.capnp_objects.specs.declared.object.Purpose.TheVariants.{Value}
 use Rattle.capnp_readers.specs.Readers.{reading}
 use Rattle.capnp_copies.proofs.FlatRead.{flat_words}
 use Rattle.capnp_copies.proofs.FilledValues.{read_stops, FlatOutcome, flat_value, flat_stops}
@@ -37,7 +38,7 @@ returns-clause-copied g c =
     let size : ElementSize = c.list_element_size-size.result in
     let width : size_number size ≡ element_size (word_of r) = c.list_element_size-size.ensures ∙ ap element_size c.requires.there in
     let many : c.list_element_count-count.result ≡ list_count (word_of r) = c.list_element_count-count.ensures.value ∙ ap list_count c.requires.there in
-    let object : IsObject r c.args.lim.now c.read_near_flat.new.lim (ObjectFlat start size c.list_element_count-count.result) = flat_by_word start size c.list_element_count-count.result (omega (arith, near)) (rw nl at c.in-Ok.ensures.object) width many in
+    let object : IsObject Value r c.args.lim.now c.read_near_flat.new.lim (ObjectFlat start size c.list_element_count-count.result) = flat_by_word start size c.list_element_count-count.result (near, rw c.requires.there at c.requires.of_bits.1) c.args.from.held refl (rw nl at c.in-Ok.ensures.object) width many in
     let outcome : FlatOutcome c.copy_flat.result c.args.id c.args.at (words_for (size_number size) c.list_element_count-count.result) (g.A.BuilderArena.view c.args.arena.now) (g.A.BuilderArena.view c.copy_flat.new.arena) (Flat (size_number size) (unpacked (size_number size) c.list_element_count-count.result (words_of c.part-elements.result.now))) =
     record { copied = c.copy_flat.ensures.copied; granted = c.copy_flat.ensures.granted; refused = c.copy_flat.ensures.refused; kept = c.copy_flat.ensures.kept; memory = c.copy_flat.ensures.memory; stands = c.copy_flat.ensures.stands; fits = λ room. c.copy_flat.ensures.fits (omega (arith, room, flat_words (size_number size) c.list_element_count-count.result (words_of c.part-elements.result.now))) } in
     λ form. flat_value form c.copy_flat.result start size object c.flat_words-words.ensures c.part-elements.ensures.words outcome
@@ -51,7 +52,7 @@ returns-clause-refused g c =
     let size : ElementSize = c.list_element_size-size.result in
     let width : size_number size ≡ element_size (word_of r) = c.list_element_size-size.ensures ∙ ap element_size c.requires.there in
     let many : c.list_element_count-count.result ≡ list_count (word_of r) = c.list_element_count-count.ensures.value ∙ ap list_count c.requires.there in
-    let object : IsObject r c.args.lim.now c.read_near_flat.new.lim (ObjectFlat start size c.list_element_count-count.result) = flat_by_word start size c.list_element_count-count.result (omega (arith, near)) (rw nl at c.in-Ok.ensures.object) width many in
+    let object : IsObject Value r c.args.lim.now c.read_near_flat.new.lim (ObjectFlat start size c.list_element_count-count.result) = flat_by_word start size c.list_element_count-count.result (near, rw c.requires.there at c.requires.of_bits.1) c.args.from.held refl (rw nl at c.in-Ok.ensures.object) width many in
     let outcome : FlatOutcome c.copy_flat.result c.args.id c.args.at (words_for (size_number size) c.list_element_count-count.result) (g.A.BuilderArena.view c.args.arena.now) (g.A.BuilderArena.view c.copy_flat.new.arena) (Flat (size_number size) (unpacked (size_number size) c.list_element_count-count.result (words_of c.part-elements.result.now))) =
     record { copied = c.copy_flat.ensures.copied; granted = c.copy_flat.ensures.granted; refused = c.copy_flat.ensures.refused; kept = c.copy_flat.ensures.kept; memory = c.copy_flat.ensures.memory; stands = c.copy_flat.ensures.stands; fits = λ room. c.copy_flat.ensures.fits (omega (arith, room, flat_words (size_number size) c.list_element_count-count.result (words_of c.part-elements.result.now))) } in
     λ form. flat_stops form c.copy_flat.result start size object c.flat_words-words.ensures c.part-elements.ensures.words (c.requires.place, c.requires.null) outcome
@@ -65,5 +66,5 @@ returns-clause-taken g c =
     let size : ElementSize = c.list_element_size-size.result in
     let width : size_number size ≡ element_size (word_of r) = c.list_element_size-size.ensures ∙ ap element_size c.requires.there in
     let many : c.list_element_count-count.result ≡ list_count (word_of r) = c.list_element_count-count.ensures.value ∙ ap list_count c.requires.there in
-    let object : IsObject r c.args.lim.now c.read_near_flat.new.lim (ObjectFlat start size c.list_element_count-count.result) = flat_by_word start size c.list_element_count-count.result (omega (arith, near)) (rw nl at c.in-Ok.ensures.object) width many in
+    let object : IsObject Value r c.args.lim.now c.read_near_flat.new.lim (ObjectFlat start size c.list_element_count-count.result) = flat_by_word start size c.list_element_count-count.result (near, rw c.requires.there at c.requires.of_bits.1) c.args.from.held refl (rw nl at c.in-Ok.ensures.object) width many in
     λ form. taken_so c.copy_flat.result _ _ _ _ (λ made. flat_takes size start object made) (λ none. flat_stop_takes size start object none) c.copy_flat.ensures.taken

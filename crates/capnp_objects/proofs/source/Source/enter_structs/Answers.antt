@@ -1,13 +1,14 @@
-use Rattle.std.proofs.Common.{◌≡◌, ◌≢◌, ◌<◌, get_or, ap, ◌∙◌, rules}
+use Rattle.std.proofs.Common.{◌≡◌, ◌≢◌, ◌<◌, get_or, ap, ◌∙◌, arith, rules}
 use Rattle.capnp_format.specs.Word.{kind, list_count}
 use Rattle.capnp_format.specs.Segments.{Segments, Target}
 use Rattle.capnp_objects.specs.Demands.{tag, element_words}
 use Rattle.capnp_objects.specs.Source.{source_segments}
 use Rattle.capnp_objects.specs.Landings.{target, broken}
+use Rattle.capnp_objects.proofs.Landings.{untagged}
 use Rattle.capnp_objects.proofs.source.Source.enter_structs.Goals as goal
 
 pub returns-in-Err-clause-refused : goal.returns-in-Err-clause-refused
-returns-in-Err-clause-refused g c = c.in-Err.ensures.refused
+returns-in-Err-clause-refused g c = c.in-Err.ensures.refused c.args.purpose (λ void. absurd (omega (arith, void.1, c.requires.of_structs)))
 
 pub returns-then-ne-clause-refused : goal.returns-then-ne-clause-refused
 returns-then-ne-clause-refused g c =
@@ -16,7 +17,7 @@ returns-then-ne-clause-refused g c =
     let word : c.word-tag.result.0 ≡ tag S a = c.word-tag.ensures.value ∙ ap (λ ws. get_or ws c.args.landing.start.at 0) c.requires.held.0 in
     let other : kind c.word-tag.result.0 ≢ 0 = search rules in
     let paid = c.in-Ok.ensures.claimed in
-    broken (paid.levels, ((c.requires.is_list, c.requires.of_structs), paid.claims, rw word at other)) paid.covers paid.paid
+    rw c.name_of_non_struct_tag.ensures (untagged c.args.purpose paid ((c.requires.is_list, c.requires.of_structs), paid.claims, rw word at other))
 
 pub returns-then-from-clause-refused : goal.returns-then-from-clause-refused
 returns-then-from-clause-refused g c =

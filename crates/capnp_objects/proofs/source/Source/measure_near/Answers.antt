@@ -1,30 +1,56 @@
-use Rattle.std.proofs.Common.{◌≡◌, ap, sym, ◌∙◌}
+use Rattle.std.proofs.Common.{◌≡◌, ◌<◌, ap, sym, refl, ◌∙◌, w32, arith}
 use Rattle.std.proofs.lemmas.Int.{to_z-of_z}
-use Rattle.std.proofs.Common.{w32}
 use Rattle.capnp_objects.specs.Demands.{claim}
-use Rattle.capnp_objects.specs.Measures.{IsReached}
+use Rattle.capnp_objects.specs.declared.object.Purpose.TheVariants.{Size}
+use Rattle.capnp_objects.specs.Objects.{near_at}
+use Rattle.capnp_objects.specs.Measures.{no_level}
 use Rattle.capnp_objects.specs.Reading.{Reading, reading_at}
-use Rattle.capnp_objects.proofs.Measures.{near_reached, near_measured, object_unmeasured}
+use Rattle.capnp_objects.specs.Source.{levels}
+use Rattle.capnp_objects.proofs.Landings.{IsCounted, stops_following}
+use Rattle.capnp_objects.proofs.Measures.{near_landing, near_entered, near_refused}
+use Rattle.capnp_objects.specs.Measures.{stopped}
+use Rattle.capnp_objects.proofs.Parts.{charge_of_size}
 use Rattle.capnp_objects.proofs.source.Source.measure_near.Goals as goal
 
+pub returns-then-depth-eq0-clause-refused : goal.returns-then-depth-eq0-clause-refused
+returns-then-depth-eq0-clause-refused g c =
+    let r : Reading = reading_at g.A.ReaderArena c.args.self c.args.place c.args.nesting_limit in
+    let depth : c.depth_of-depth.result ≡ r.levels = c.depth_of-depth.ensures ∙ ap levels (to_z-of_z w32 c.args.nesting_limit c.ranges.nesting_limit) in
+    no_level (rw c.requires.there at c.requires.some) (sym depth ∙ c.if-depth-eq0.true) refl refl
+
 pub returns-in-Err-clause-refused : goal.returns-in-Err-clause-refused
-returns-in-Err-clause-refused g c = rw (to_z-of_z w32 c.args.nesting_limit c.ranges.nesting_limit) at c.in-Err.ensures.refused
-
-pub claim_words-requires : goal.claim_words-requires
-claim_words-requires g c =
+returns-in-Err-clause-refused g c =
     let r : Reading = reading_at g.A.ReaderArena c.args.self c.args.place c.args.nesting_limit in
-    let reached : IsReached r c.args.lim.now c.reach.new.lim c.in-Ok.landing = rw (to_z-of_z w32 c.args.nesting_limit c.ranges.nesting_limit) at c.in-Ok.ensures.reached in
-    let word : c.in-Ok.landing.word.0 ≡ c.args.word.0 = ap (λ a. a.word) (near_reached reached (rw c.requires.there at c.requires.near)) ∙ sym c.requires.there in
-    record { held = reached.held; is_object = rw word c.requires.near; some = rw word c.requires.of_bits; claimed = c.requires.claimed ∙ ap claim (sym word) }
+    let counted : IsCounted r c.args.lim.now c.count.new.lim = record { some = rw c.requires.there at c.requires.some; by_one = c.count.ensures } in
+    let depth : c.depth_of-depth.result ≡ r.levels = c.depth_of-depth.ensures ∙ ap levels (to_z-of_z w32 c.args.nesting_limit c.ranges.nesting_limit) in
+    let level : 0 < r.levels = rw depth at (let some : 0 < c.depth_of-depth.result = omega (arith, c.if-depth-eq0.false) in some) in
+    stopped level (stops_following counted c.in-Err.ensures.refused)
 
-pub returns-in-Ok-claim_words-clause-object : goal.returns-in-Ok-claim_words-clause-object
-returns-in-Ok-claim_words-clause-object g c =
+pub claim-requires-clause-is_object : goal.claim-requires-clause-is_object
+claim-requires-clause-is_object g c =
     let r : Reading = reading_at g.A.ReaderArena c.args.self c.args.place c.args.nesting_limit in
-    let reached : IsReached r c.args.lim.now c.reach.new.lim c.in-Ok.landing = rw (to_z-of_z w32 c.args.nesting_limit c.ranges.nesting_limit) at c.in-Ok.ensures.reached in
-    near_measured reached (rw c.requires.there at c.requires.near) (rw c.requires.there at c.requires.untagged) c.in-Ok-claim_words.ensures.claimed
+    let there = near_landing r c.in-Ok.ensures.followed (rw c.requires.there at c.requires.near) in
+    let word : c.in-Ok.landing.word.0 ≡ c.args.word.0 = ap (λ a. a.word) there ∙ sym c.requires.there in
+    rw word c.requires.near
 
-pub returns-in-Err-claim_words-clause-refused : goal.returns-in-Err-claim_words-clause-refused
-returns-in-Err-claim_words-clause-refused g c =
+pub claim-requires-clause-claimed : goal.claim-requires-clause-claimed
+claim-requires-clause-claimed g c =
     let r : Reading = reading_at g.A.ReaderArena c.args.self c.args.place c.args.nesting_limit in
-    let reached : IsReached r c.args.lim.now c.reach.new.lim c.in-Ok.landing = rw (to_z-of_z w32 c.args.nesting_limit c.ranges.nesting_limit) at c.in-Ok.ensures.reached in
-    object_unmeasured reached c.in-Err-claim_words.ensures.refused
+    let there = near_landing r c.in-Ok.ensures.followed (rw c.requires.there at c.requires.near) in
+    let word : c.in-Ok.landing.word.0 ≡ c.args.word.0 = ap (λ a. a.word) there ∙ sym c.requires.there in
+    c.requires.claimed ∙ ap claim (sym word)
+
+pub returns-in-Ok-claim-clause-object : goal.returns-in-Ok-claim-clause-object
+returns-in-Ok-claim-clause-object g c =
+    let r : Reading = reading_at g.A.ReaderArena c.args.self c.args.place c.args.nesting_limit in
+    let counted : IsCounted r c.args.lim.now c.count.new.lim = record { some = rw c.requires.there at c.requires.some; by_one = c.count.ensures } in
+    let depth : c.depth_of-depth.result ≡ r.levels = c.depth_of-depth.ensures ∙ ap levels (to_z-of_z w32 c.args.nesting_limit c.ranges.nesting_limit) in
+    near_entered Size counted c.in-Ok.ensures.followed (rw c.requires.there at c.requires.near) (rw c.requires.there at c.requires.untagged) (charge_of_size r.segments (near_at r c.in-Ok.landing.start.at)) (rw depth at c.in-Ok-claim.ensures.claimed)
+
+pub returns-in-Err-claim-clause-refused : goal.returns-in-Err-claim-clause-refused
+returns-in-Err-claim-clause-refused g c =
+    let r : Reading = reading_at g.A.ReaderArena c.args.self c.args.place c.args.nesting_limit in
+    let counted : IsCounted r c.args.lim.now c.count.new.lim = record { some = rw c.requires.there at c.requires.some; by_one = c.count.ensures } in
+    let depth : c.depth_of-depth.result ≡ r.levels = c.depth_of-depth.ensures ∙ ap levels (to_z-of_z w32 c.args.nesting_limit c.ranges.nesting_limit) in
+    let level : 0 < r.levels = rw depth at (let some : 0 < c.depth_of-depth.result = omega (arith, c.if-depth-eq0.false) in some) in
+    near_refused level counted c.in-Ok.ensures.followed (rw c.requires.there at c.requires.near) (rw c.requires.there at c.requires.of_bits) (rw depth at c.in-Err-claim.ensures.refused)

@@ -1,4 +1,4 @@
-use Rattle.std.proofs.Common.{◌≡◌, ◌≢◌, get_or, ap, ◌∙◌, w32, sym, refl, Some, None}
+use Rattle.std.proofs.Common.{◌≡◌, ◌≢◌, get_or, ap, ◌∙◌, w32, sym, refl, Some, None, lit<}
 use Rattle.std.proofs.lemmas.Int.{to_z-of_z}
 use Rattle.std.proofs.lemmas.Bool.{false≢true}
 use Rattle.capnp_words.specs.Meter.{Meter}
@@ -8,6 +8,7 @@ use Rattle.capnp_objects.specs.Landings.{target, IsOpened}
 use Rattle.capnp_objects.specs.Expected.{too_deep, one_level, CanBeGiven, IsGiven, Withheld, no_level, unfollowed}
 use Rattle.capnp_objects.specs.Entering.{IsFitting, IsUnsuited}
 use Rattle.capnp_objects.specs.Reading.{Reading, reading_at, word_of}
+use Rattle.capnp_objects.specs.declared.object.Purpose.TheVariants.{Value}
 use Rattle.capnp_objects.proofs.Landings.{IsCounted, if_err, object_opened, unfollowed as not_followed}
 use Rattle.capnp_objects.proofs.Expecting.{is_entered, given, given_exactly, suited, withheld, level_counted, null_given, not_withheld, if_both}
 use Rattle.capnp_objects.proofs.source.Source.read_expected.Goals as goal
@@ -36,15 +37,15 @@ returns-in-Ok-clause-object g c =
     let some : c.word-word.result.0 ≢ 0 = λ e. false≢true (c.if-is_null.ensures.1 e) in
     let counted : IsCounted r c.args.lim.now c.count.new.lim = record { some = rw word at some; by_one = c.count.ensures } in
     let m : Meter = c.enter_expected.new.lim in
-    if_both c.enter_expected.result _ _ (IsObject (one_level r) c.args.lim.now m)
-    (λ x opened fits. object_opened {r = one_level r} m x (level_counted counted) c.in-Ok.ensures.followed opened) c.enter_expected.ensures.object c.enter_expected.ensures.fits
+    if_both c.enter_expected.result _ _ (IsObject Value (one_level r) c.args.lim.now m)
+    (λ x opened fits. object_opened Value {r = one_level r} m x (λ _. lit< tt) (level_counted counted) c.in-Ok.ensures.followed opened) c.enter_expected.ensures.object c.enter_expected.ensures.fits
 
 pub returns-in-Ok-clause-given : goal.returns-in-Ok-clause-given
 returns-in-Ok-clause-given g c =
     let r : Reading = reading_at g.A.ReaderArena c.args.self c.args.place c.args.nesting_limit in
     let depth : c.depth_of.result ≡ r.levels = c.depth_of.ensures ∙ ap levels (to_z-of_z w32 c.args.nesting_limit c.ranges.nesting_limit) in
     let level : too_deep c.args.expected r.levels ≡ None = rw depth at (sym c.name_of_depth.ensures ∙ c.in-None.is) in
-    if_both c.enter_expected.result (IsOpened r.segments r.charging 1 (target c.in-Ok.landing) c.follow.new.lim c.enter_expected.new.lim) (IsFitting c.args.expected (target c.in-Ok.landing)) (IsGiven c.args.expected r.levels)
+    if_both c.enter_expected.result (IsOpened Value r.segments r.charging 1 (target c.in-Ok.landing) c.follow.new.lim c.enter_expected.new.lim) (IsFitting c.args.expected (target c.in-Ok.landing)) (IsGiven c.args.expected r.levels)
     (λ x opened fits. given x r.levels level fits.1 (is_entered r.segments r.charging opened fits.0)) c.enter_expected.ensures.object c.enter_expected.ensures.fits
 
 pub returns-in-Ok-clause-refused : goal.returns-in-Ok-clause-refused
@@ -67,7 +68,7 @@ returns-in-Ok-clause-exactly g c =
     let depth : c.depth_of.result ≡ r.levels = c.depth_of.ensures ∙ ap levels (to_z-of_z w32 c.args.nesting_limit c.ranges.nesting_limit) in
     let level : too_deep c.args.expected r.levels ≡ None = rw depth at (sym c.name_of_depth.ensures ∙ c.in-None.is) in
     given_exactly c.args.expected r c.args.lim.now c.enter_expected.new.lim c.enter_expected.result
-    (if_both c.enter_expected.result (IsOpened r.segments r.charging 1 (target c.in-Ok.landing) c.follow.new.lim c.enter_expected.new.lim) (IsFitting c.args.expected (target c.in-Ok.landing)) (λ x. CanBeGiven c.args.expected r c.args.lim.now)
+    (if_both c.enter_expected.result (IsOpened Value r.segments r.charging 1 (target c.in-Ok.landing) c.follow.new.lim c.enter_expected.new.lim) (IsFitting c.args.expected (target c.in-Ok.landing)) (λ x. CanBeGiven c.args.expected r c.args.lim.now)
     (λ x opened fits. suited c.args.expected x counted c.in-Ok.ensures.followed level fits.1 (is_entered r.segments r.charging opened fits.0)) c.enter_expected.ensures.object c.enter_expected.ensures.fits)
     (returns-in-Ok-clause-refused g c)
 

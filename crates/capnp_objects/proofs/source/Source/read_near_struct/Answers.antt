@@ -1,54 +1,43 @@
-use Rattle.std.proofs.Common.{◌≡◌, ℕ, ◌+◌, Bool, ap, ◌∙◌, sym, subst, w32, arith, eq-eqb}
+use Rattle.std.proofs.Common.{◌≡◌, ap, ◌∙◌, sym, refl, w32, arith, eq-eqb}
 use Rattle.std.proofs.lemmas.Int.{to_z-of_z}
 use Rattle.capnp_format.specs.Word.{kind}
-use Rattle.capnp_format.specs.Segments.{Segments, Target}
-use Rattle.capnp_words.specs.Meter.{Meter, Affords, charged}
-use Rattle.capnp_objects.specs.declared.source.Landing.{Landing}
-use Rattle.capnp_objects.specs.Source.{levels}
-use Rattle.capnp_objects.specs.Demands.{claim, amplified}
-use Rattle.capnp_objects.specs.Landings.{target, FollowsPointer, IsClaimed, IsEntered}
+use Rattle.capnp_objects.specs.declared.object.Purpose.TheVariants.{Value}
+use Rattle.capnp_objects.specs.Demands.{claim}
+use Rattle.capnp_objects.specs.Objects.{near_at}
 use Rattle.capnp_objects.specs.Reading.{Reading, reading_at, word_of}
-use Rattle.capnp_objects.proofs.Followed.{near_landed}
-use Rattle.capnp_objects.proofs.Landings.{IsCounted, reached, entered, object_refused}
+use Rattle.capnp_objects.specs.Source.{levels}
+use Rattle.capnp_objects.proofs.Landings.{IsCounted, object_refused}
+use Rattle.capnp_objects.proofs.Measures.{near_landing, near_entered}
+use Rattle.capnp_objects.proofs.Parts.{extra_struct}
 use Rattle.capnp_objects.proofs.source.Source.read_near_struct.Goals as goal
 
--- a struct charges what it claims, and nothing else
-struct_entered : {S : Segments} {charging : Bool} {n : ℕ} {a : Target} {m m' : Meter} → kind a.word ≡ 0 → IsClaimed S charging n a m m' → IsEntered S charging n a m m'
-struct_entered {S} {charging} {n} {a} {m} {m'} is_struct o =
-    let none : amplified S a ≡ 0 = search (eq-eqb (kind a.word) 0 is_struct) in
-    let all : claim a.word ≡ claim a.word + amplified S a = omega (arith, none) in
-    record {
-      meets = record { levels = o.levels; is_object = omega (arith, is_struct); claims = o.claims; tagged = λ t. absurd (omega (arith, is_struct, t.0)) };
-      covers = subst (Affords charging m) all o.covers;
-      paid = o.paid ∙ ap (charged charging m) all;
-    }
-
--- the struct of a near pointer is in the pointer's own segment, and described by the pointer
-landed : {m m' : Meter} {l : Landing} (r : Reading) → FollowsPointer r m m' l → kind (word_of r) ≡ 0 → (l.word.0 ≡ word_of r) × (r.segment ≡ l.start.segment)
-landed {m} {m'} {l} r follows near =
-    let there = near_landed r (target l) (λ e. omega (arith, e, near)) follows.leads_to in
-    (ap (λ a. a.word) there, sym (ap (λ a. a.segment) there))
+pub claim-requires-clause-is_object : goal.claim-requires-clause-is_object
+claim-requires-clause-is_object g c =
+    let r : Reading = reading_at g.A.ReaderArena c.args.self c.args.place c.args.nesting_limit in
+    let is_struct : kind (word_of r) ≡ 0 = rw c.requires.there at c.requires.is_struct in
+    let there = near_landing r c.in-Ok.ensures.followed (omega (arith, is_struct)) in
+    omega (arith, ap (λ a. kind a.word) there, is_struct)
 
 pub claim-requires-clause-claimed : goal.claim-requires-clause-claimed
 claim-requires-clause-claimed g c =
     let r : Reading = reading_at g.A.ReaderArena c.args.self c.args.place c.args.nesting_limit in
-    let word : c.args.word.0 ≡ c.in-Ok.landing.word.0 = c.requires.there ∙ sym (landed r c.in-Ok.ensures.followed (rw c.requires.there at c.requires.is_struct)).0 in
+    let is_struct : kind (word_of r) ≡ 0 = rw c.requires.there at c.requires.is_struct in
+    let there = near_landing r c.in-Ok.ensures.followed (omega (arith, is_struct)) in
+    let word : c.in-Ok.landing.word.0 ≡ c.args.word.0 = ap (λ a. a.word) there ∙ sym c.requires.there in
     let claims : c.struct_word_size.result ≡ claim c.args.word.0 = search (c.struct_word_size.ensures, eq-eqb (kind c.args.word.0) 0 c.requires.is_struct) in
-    claims ∙ ap claim word
+    claims ∙ ap claim (sym word)
 
 pub returns-in-Ok-claim-clause-object : goal.returns-in-Ok-claim-clause-object
 returns-in-Ok-claim-clause-object g c =
     let r : Reading = reading_at g.A.ReaderArena c.args.self c.args.place c.args.nesting_limit in
     let counted : IsCounted r c.args.lim.now c.count.new.lim = record { some = rw c.requires.there at c.requires.some; by_one = c.count.ensures } in
     let depth : c.depth_of.result ≡ r.levels = c.depth_of.ensures ∙ ap levels (to_z-of_z w32 c.args.nesting_limit c.ranges.nesting_limit) in
-    let there = landed r c.in-Ok.ensures.followed (rw c.requires.there at c.requires.is_struct) in
-    let is_struct : kind c.in-Ok.landing.word.0 ≡ 0 = ap kind (there.0 ∙ sym c.requires.there) ∙ c.requires.is_struct in
-    let claimed = struct_entered is_struct (rw depth at c.in-Ok-claim.ensures.claimed) in
-    (target c.in-Ok.landing, entered (reached counted c.in-Ok.ensures.followed) claimed, is_struct, (c.requires.held, there.1, omega arith))
+    let is_struct : kind (word_of r) ≡ 0 = rw c.requires.there at c.requires.is_struct in
+    near_entered Value counted c.in-Ok.ensures.followed (omega (arith, is_struct)) (λ t. absurd (omega (arith, is_struct, t.0))) (extra_struct Value r.segments (near_at r c.in-Ok.landing.start.at) is_struct) (rw depth at c.in-Ok-claim.ensures.claimed)
 
 pub returns-in-Err-claim-clause-refused : goal.returns-in-Err-claim-clause-refused
 returns-in-Err-claim-clause-refused g c =
     let r : Reading = reading_at g.A.ReaderArena c.args.self c.args.place c.args.nesting_limit in
     let counted : IsCounted r c.args.lim.now c.count.new.lim = record { some = rw c.requires.there at c.requires.some; by_one = c.count.ensures } in
     let depth : c.depth_of.result ≡ r.levels = c.depth_of.ensures ∙ ap levels (to_z-of_z w32 c.args.nesting_limit c.ranges.nesting_limit) in
-    object_refused counted c.in-Ok.ensures.followed (rw depth at c.in-Err-claim.ensures.refused)
+    object_refused counted c.in-Ok.ensures.followed (rw depth at (c.in-Err-claim.ensures.refused Value (λ void. refl)))

@@ -1,5 +1,5 @@
 use Rattle.std.proofs.Common.{◌≡◌, ℕ, slice_index, nat_eq, cond, pred, ◌+◌, ◌*◌, ◌<◌, ◌≤◌, ◌↔◌, ◌⊎◌, IsTrue, length, inl, inr, refl, sym, ap, ap₂, ◌∙◌, subst, arith, rules}
-use Rattle.std.proofs.lemmas.Bool.{false≢true}
+use Rattle.std.proofs.lemmas.Bool.{false≢true, ne_eqb}
 use Rattle.std.proofs.lemmas.Int.{to_z-of_z}
 use mir.Syntax.{w32}
 use Rattle.capnp_format.specs.Word.{kind, data_words, pointer_count, list_count}
@@ -9,6 +9,7 @@ use Rattle.capnp_objects.specs.declared.object.Object.TheVariants.{Struct as Obj
 use Rattle.capnp_objects.specs.Source.{levels}
 use Rattle.capnp_objects.specs.Objects.{IsObject}
 use Rattle.capnp_objects.specs.Reading.{Reading, row, behind, word_of}
+use Rattle.capnp_objects.specs.declared.object.Purpose.TheVariants.{Value}
 use Rattle.capnp_objects.proofs.Walked.{row_within}
 use Rattle.capnp_readers.specs.Sizes.{reading_on}
 use Rattle.capnp_readers.specs.Checking.{IsTested, Progress, progress, StartsRight, TellsStruct, TellsAll, TellsClaimed, TestsStop, RowTestsStop, TestsFail, SectionsFail, ClaimedFails, AreFoundRows, here, no_near_pointer}
@@ -59,7 +60,7 @@ test_list-returns-then-not-starts_right-clause-tells g t c =
     let r : Reading = reading_on g.A.ReaderArena c.args.from.now c.args.at c.args.nesting_limit in
     let ready : IsTested r = c.requires.tested in
     let nl = to_z-of_z w32 c.args.nesting_limit (search rules) in
-    let object : IsObject r c.args.lim.now c.read_object.new.lim c.in-Ok.object = rw nl at c.in-Ok.ensures.object in
+    let object : IsObject Value r c.args.lim.now c.read_object.new.lim c.in-Ok.object = rw nl at c.in-Ok.ensures.object in
     unplaced_never r c.args.lim.now c.read_object.new.lim c.args.head c.in-Ok.object ready object (λ right. false≢true (sym c.if-not-starts_right.true ∙ c.starts_right.ensures.1 right))
 
 pub test_list-returns-in-Flat-clause-tells : goal.test_list-returns-in-Flat-clause-tells
@@ -67,7 +68,7 @@ test_list-returns-in-Flat-clause-tells g t c =
     let r : Reading = reading_on g.A.ReaderArena c.args.from.now c.args.at c.args.nesting_limit in
     let ready : IsTested r = c.requires.tested in
     let nl = to_z-of_z w32 c.args.nesting_limit (search rules) in
-    let object : IsObject r c.args.lim.now c.read_object.new.lim (ObjectFlat c.in-Flat.start c.in-Flat.size c.in-Flat.count) = rw nl at (rw c.in-Flat.is at c.in-Ok.ensures.object) in
+    let object : IsObject Value r c.args.lim.now c.read_object.new.lim (ObjectFlat c.in-Flat.start c.in-Flat.size c.in-Flat.count) = rw nl at (rw c.in-Flat.is at c.in-Ok.ensures.object) in
     let right : StartsRight (ObjectFlat c.in-Flat.start c.in-Flat.size c.in-Flat.count) c.args.at c.args.head = rw c.in-Flat.is at (c.starts_right.ensures.0 c.if-not-starts_right.false) in
     flat_tells {r = r} (progress c.args.head c.args.lim.now) c.in-Flat.start c.in-Flat.size c.in-Flat.count c.test_flat.result ready object right c.test_flat.ensures
 
@@ -76,7 +77,7 @@ test_list-returns-in-Pointers-clause-tells g t c =
     let r : Reading = reading_on g.A.ReaderArena c.args.from.now c.args.at c.args.nesting_limit in
     let ready : IsTested r = c.requires.tested in
     let nl = to_z-of_z w32 c.args.nesting_limit (search rules) in
-    let object : IsObject r c.args.lim.now c.read_object.new.lim (ObjectPointers c.in-Pointers.start c.in-Pointers.count) = rw nl at (rw c.in-Pointers.is at c.in-Ok.ensures.object) in
+    let object : IsObject Value r c.args.lim.now c.read_object.new.lim (ObjectPointers c.in-Pointers.start c.in-Pointers.count) = rw nl at (rw c.in-Pointers.is at c.in-Ok.ensures.object) in
     let right : StartsRight (ObjectPointers c.in-Pointers.start c.in-Pointers.count) c.args.at c.args.head = rw c.in-Pointers.is at (c.starts_right.ensures.0 c.if-not-starts_right.false) in
     let nm = to_z-of_z w32 c.less.result (search rules) in
     let there = place_begins r c.in-Pointers.start (rw nl at c.less.ensures) (pointers_here {r = r} c.in-Pointers.start c.in-Pointers.count ready object) in
@@ -88,7 +89,7 @@ test_list-returns-in-Pointers-clause-refused g t c =
     let r : Reading = reading_on g.A.ReaderArena c.args.from.now c.args.at c.args.nesting_limit in
     let ready : IsTested r = c.requires.tested in
     let nl = to_z-of_z w32 c.args.nesting_limit (search rules) in
-    let object : IsObject r c.args.lim.now c.read_object.new.lim (ObjectPointers c.in-Pointers.start c.in-Pointers.count) = rw nl at (rw c.in-Pointers.is at c.in-Ok.ensures.object) in
+    let object : IsObject Value r c.args.lim.now c.read_object.new.lim (ObjectPointers c.in-Pointers.start c.in-Pointers.count) = rw nl at (rw c.in-Pointers.is at c.in-Ok.ensures.object) in
     let right : StartsRight (ObjectPointers c.in-Pointers.start c.in-Pointers.count) c.args.at c.args.head = rw c.in-Pointers.is at (c.starts_right.ensures.0 c.if-not-starts_right.false) in
     let nm = to_z-of_z w32 c.less.result (search rules) in
     let there = place_begins r c.in-Pointers.start (rw nl at c.less.ensures) (pointers_here {r = r} c.in-Pointers.start c.in-Pointers.count ready object) in
@@ -100,7 +101,7 @@ test_list-returns-in-Structs-clause-tells g t c =
     let r : Reading = reading_on g.A.ReaderArena c.args.from.now c.args.at c.args.nesting_limit in
     let ready : IsTested r = c.requires.tested in
     let nl = to_z-of_z w32 c.args.nesting_limit (search rules) in
-    let object : IsObject r c.args.lim.now c.read_object.new.lim (ObjectStructs c.in-Structs.start c.in-Structs.size c.in-Structs.count) = rw nl at (rw c.in-Structs.is at c.in-Ok.ensures.object) in
+    let object : IsObject Value r c.args.lim.now c.read_object.new.lim (ObjectStructs c.in-Structs.start c.in-Structs.size c.in-Structs.count) = rw nl at (rw c.in-Structs.is at c.in-Ok.ensures.object) in
     let right : StartsRight (ObjectStructs c.in-Structs.start c.in-Structs.size c.in-Structs.count) c.args.at c.args.head = rw c.in-Structs.is at (c.starts_right.ensures.0 c.if-not-starts_right.false) in
     let nk = to_z-of_z w32 c.less-inner.result (search rules) in
     let there = elements_begin r c.in-Structs.start (rw nl at c.less-inner.ensures) (structs_here {r = r} c.in-Structs.start c.in-Structs.size c.in-Structs.count ready object) in
@@ -113,7 +114,7 @@ test_list-returns-in-Structs-clause-refused g t c =
     let r : Reading = reading_on g.A.ReaderArena c.args.from.now c.args.at c.args.nesting_limit in
     let ready : IsTested r = c.requires.tested in
     let nl = to_z-of_z w32 c.args.nesting_limit (search rules) in
-    let object : IsObject r c.args.lim.now c.read_object.new.lim (ObjectStructs c.in-Structs.start c.in-Structs.size c.in-Structs.count) = rw nl at (rw c.in-Structs.is at c.in-Ok.ensures.object) in
+    let object : IsObject Value r c.args.lim.now c.read_object.new.lim (ObjectStructs c.in-Structs.start c.in-Structs.size c.in-Structs.count) = rw nl at (rw c.in-Structs.is at c.in-Ok.ensures.object) in
     let right : StartsRight (ObjectStructs c.in-Structs.start c.in-Structs.size c.in-Structs.count) c.args.at c.args.head = rw c.in-Structs.is at (c.starts_right.ensures.0 c.if-not-starts_right.false) in
     let nk = to_z-of_z w32 c.less-inner.result (search rules) in
     let there = elements_begin r c.in-Structs.start (rw nl at c.less-inner.ensures) (structs_here {r = r} c.in-Structs.start c.in-Structs.size c.in-Structs.count ready object) in
@@ -179,8 +180,8 @@ test_struct-returns-then-start-at-clause-tells g t c =
     let nl = to_z-of_z w32 c.args.nesting_limit (search rules) in
     let start = record c.args.from.now.place { at = c.in-Ok.start } in
     let size = c.struct_size-size.result in
-    let object : IsObject r c.args.lim.now c.read_near_struct.new.lim (ObjectStruct start size) =
-    struct_object {r = r} start size ready (rw nl at c.in-Ok.ensures.object) (c.struct_size-size.ensures.data_of ∙ ap data_words c.requires.there) (c.struct_size-size.ensures.pointers_of ∙ ap pointer_count c.requires.there) in
+    let object : IsObject Value r c.args.lim.now c.read_near_struct.new.lim (ObjectStruct start size) =
+    struct_object {r = r} start size (rw c.requires.there at c.requires.is_struct) c.args.from.now.held refl (rw nl at c.in-Ok.ensures.object) (c.struct_size-size.ensures.data_of ∙ ap data_words c.requires.there) (c.struct_size-size.ensures.pointers_of ∙ ap pointer_count c.requires.there) in
     let none : size.data_words + size.pointers ≡ 0 = sym c.total.ensures ∙ c.if-total-eq0.true in
     empty_tells {r = r} (progress c.args.head c.args.lim.now) start size ready object none (c.if-start-at.true ∙ sym (ap (λ n. cond (nat_eq n 0) c.args.at c.args.head) none))
 
@@ -191,8 +192,8 @@ test_struct-returns-clause-tells g t c =
     let nl = to_z-of_z w32 c.args.nesting_limit (search rules) in
     let start = record c.args.from.now.place { at = c.in-Ok.start } in
     let size = c.struct_size-size.result in
-    let object : IsObject r c.args.lim.now c.read_near_struct.new.lim (ObjectStruct start size) =
-    struct_object {r = r} start size ready (rw nl at c.in-Ok.ensures.object) (c.struct_size-size.ensures.data_of ∙ ap data_words c.requires.there) (c.struct_size-size.ensures.pointers_of ∙ ap pointer_count c.requires.there) in
+    let object : IsObject Value r c.args.lim.now c.read_near_struct.new.lim (ObjectStruct start size) =
+    struct_object {r = r} start size (rw c.requires.there at c.requires.is_struct) c.args.from.now.held refl (rw nl at c.in-Ok.ensures.object) (c.struct_size-size.ensures.data_of ∙ ap data_words c.requires.there) (c.struct_size-size.ensures.pointers_of ∙ ap pointer_count c.requires.there) in
     let some : 0 < size.data_words + size.pointers = omega (arith, c.total.ensures, c.if-total-eq0.false) in
     let nm = to_z-of_z w32 c.less.result (search rules) in
     let there = place_begins r start (rw nl at c.less.ensures) refl in
@@ -206,8 +207,8 @@ test_struct-returns-clause-refused g t c =
     let nl = to_z-of_z w32 c.args.nesting_limit (search rules) in
     let start = record c.args.from.now.place { at = c.in-Ok.start } in
     let size = c.struct_size-size.result in
-    let object : IsObject r c.args.lim.now c.read_near_struct.new.lim (ObjectStruct start size) =
-    struct_object {r = r} start size ready (rw nl at c.in-Ok.ensures.object) (c.struct_size-size.ensures.data_of ∙ ap data_words c.requires.there) (c.struct_size-size.ensures.pointers_of ∙ ap pointer_count c.requires.there) in
+    let object : IsObject Value r c.args.lim.now c.read_near_struct.new.lim (ObjectStruct start size) =
+    struct_object {r = r} start size (rw c.requires.there at c.requires.is_struct) c.args.from.now.held refl (rw nl at c.in-Ok.ensures.object) (c.struct_size-size.ensures.data_of ∙ ap data_words c.requires.there) (c.struct_size-size.ensures.pointers_of ∙ ap pointer_count c.requires.there) in
     let some : 0 < size.data_words + size.pointers = omega (arith, c.total.ensures, c.if-total-eq0.false) in
     let nm = to_z-of_z w32 c.less.result (search rules) in
     let there = place_begins r start (rw nl at c.less.ensures) refl in
@@ -219,7 +220,7 @@ test_list-test_children-requires g t c κs within =
     let r : Reading = reading_on g.A.ReaderArena c.args.from.now c.args.at c.args.nesting_limit in
     let ready : IsTested r = c.requires.tested in
     let nl = to_z-of_z w32 c.args.nesting_limit (search rules) in
-    let object : IsObject r c.args.lim.now c.read_object.new.lim (ObjectPointers c.in-Pointers.start c.in-Pointers.count) = rw nl at (rw c.in-Pointers.is at c.in-Ok.ensures.object) in
+    let object : IsObject Value r c.args.lim.now c.read_object.new.lim (ObjectPointers c.in-Pointers.start c.in-Pointers.count) = rw nl at (rw c.in-Pointers.is at c.in-Ok.ensures.object) in
     let room = subst (λ i. c.in-Pointers.start.at + c.in-Pointers.count ≤ length (segment r.segments i)) (sym (pointers_here {r = r} c.in-Pointers.start c.in-Pointers.count ready object)) (pointers_room {r = r} c.in-Pointers.start c.in-Pointers.count object) in
     (search rules, (search rules, room))
 
@@ -228,7 +229,7 @@ test_list-test_structs-requires g t c κs within =
     let r : Reading = reading_on g.A.ReaderArena c.args.from.now c.args.at c.args.nesting_limit in
     let ready : IsTested r = c.requires.tested in
     let nl = to_z-of_z w32 c.args.nesting_limit (search rules) in
-    let object : IsObject r c.args.lim.now c.read_object.new.lim (ObjectStructs c.in-Structs.start c.in-Structs.size c.in-Structs.count) = rw nl at (rw c.in-Structs.is at c.in-Ok.ensures.object) in
+    let object : IsObject Value r c.args.lim.now c.read_object.new.lim (ObjectStructs c.in-Structs.start c.in-Structs.size c.in-Structs.count) = rw nl at (rw c.in-Structs.is at c.in-Ok.ensures.object) in
     let nk = to_z-of_z w32 c.less-inner.result (search rules) in
     let falls = level_falls (levels c.args.nesting_limit) object.1.meets.levels in
     let inner : levels c.less-inner.result ≡ pred (levels c.args.nesting_limit) = rw nl at c.less-inner.ensures in
@@ -248,10 +249,26 @@ test_struct-returns-else-start-at-clause-failed g t c =
     let nl = to_z-of_z w32 c.args.nesting_limit (search rules) in
     let start = record c.args.from.now.place { at = c.in-Ok.start } in
     let size = c.struct_size-size.result in
-    let object : IsObject r c.args.lim.now c.read_near_struct.new.lim (ObjectStruct start size) =
-    struct_object {r = r} start size ready (rw nl at c.in-Ok.ensures.object) (c.struct_size-size.ensures.data_of ∙ ap data_words c.requires.there) (c.struct_size-size.ensures.pointers_of ∙ ap pointer_count c.requires.there) in
+    let object : IsObject Value r c.args.lim.now c.read_near_struct.new.lim (ObjectStruct start size) =
+    struct_object {r = r} start size (rw c.requires.there at c.requires.is_struct) c.args.from.now.held refl (rw nl at c.in-Ok.ensures.object) (c.struct_size-size.ensures.data_of ∙ ap data_words c.requires.there) (c.struct_size-size.ensures.pointers_of ∙ ap pointer_count c.requires.there) in
     let none : size.data_words + size.pointers ≡ 0 = sym c.total.ensures ∙ c.if-total-eq0.true in
     empty_fails {r = r} {from = progress c.args.head c.args.lim.now} start size ready object none c.if-start-at.false
+
+-- a struct of some words that starts elsewhere than at the head doesn't start right
+head_right : {n h x : ℕ} (p : ℕ) → 0 < n → x ≡ cond (nat_eq n 0) p h → x ≡ h
+head_right {n} {h} p some e = e ∙ ap (λ b. cond b p h) (ne_eqb n 0 (λ none. omega (arith, none, some)))
+
+pub test_struct-returns-then-start-head-clause-tells : goal.test_struct-returns-then-start-head-clause-tells
+test_struct-returns-then-start-head-clause-tells g t c =
+    let r : Reading = reading_on g.A.ReaderArena c.args.from.now c.args.at c.args.nesting_limit in
+    let ready : IsTested r = c.requires.tested in
+    let nl = to_z-of_z w32 c.args.nesting_limit (search rules) in
+    let start = record c.args.from.now.place { at = c.in-Ok.start } in
+    let size = c.struct_size-size.result in
+    let object : IsObject Value r c.args.lim.now c.read_near_struct.new.lim (ObjectStruct start size) =
+    struct_object {r = r} start size (rw c.requires.there at c.requires.is_struct) c.args.from.now.held refl (rw nl at c.in-Ok.ensures.object) (c.struct_size-size.ensures.data_of ∙ ap data_words c.requires.there) (c.struct_size-size.ensures.pointers_of ∙ ap pointer_count c.requires.there) in
+    let some : 0 < size.data_words + size.pointers = omega (arith, c.total.ensures, c.if-total-eq0.false) in
+    unplaced_never r c.args.lim.now c.read_near_struct.new.lim c.args.head (ObjectStruct start size) ready object (λ right. c.if-start-head.true (head_right c.args.at some right))
 
 pub test_struct-returns-then-start-head-clause-failed : goal.test_struct-returns-then-start-head-clause-failed
 test_struct-returns-then-start-head-clause-failed g t c =
@@ -260,8 +277,8 @@ test_struct-returns-then-start-head-clause-failed g t c =
     let nl = to_z-of_z w32 c.args.nesting_limit (search rules) in
     let start = record c.args.from.now.place { at = c.in-Ok.start } in
     let size = c.struct_size-size.result in
-    let object : IsObject r c.args.lim.now c.read_near_struct.new.lim (ObjectStruct start size) =
-    struct_object {r = r} start size ready (rw nl at c.in-Ok.ensures.object) (c.struct_size-size.ensures.data_of ∙ ap data_words c.requires.there) (c.struct_size-size.ensures.pointers_of ∙ ap pointer_count c.requires.there) in
+    let object : IsObject Value r c.args.lim.now c.read_near_struct.new.lim (ObjectStruct start size) =
+    struct_object {r = r} start size (rw c.requires.there at c.requires.is_struct) c.args.from.now.held refl (rw nl at c.in-Ok.ensures.object) (c.struct_size-size.ensures.data_of ∙ ap data_words c.requires.there) (c.struct_size-size.ensures.pointers_of ∙ ap pointer_count c.requires.there) in
     let some : 0 < size.data_words + size.pointers = omega (arith, c.total.ensures, c.if-total-eq0.false) in
     struct_fails {r = r} {from = progress c.args.head c.args.lim.now} start size ready object some c.if-start-head.true
 
@@ -272,8 +289,8 @@ test_struct-returns-clause-failed g t c =
     let nl = to_z-of_z w32 c.args.nesting_limit (search rules) in
     let start = record c.args.from.now.place { at = c.in-Ok.start } in
     let size = c.struct_size-size.result in
-    let object : IsObject r c.args.lim.now c.read_near_struct.new.lim (ObjectStruct start size) =
-    struct_object {r = r} start size ready (rw nl at c.in-Ok.ensures.object) (c.struct_size-size.ensures.data_of ∙ ap data_words c.requires.there) (c.struct_size-size.ensures.pointers_of ∙ ap pointer_count c.requires.there) in
+    let object : IsObject Value r c.args.lim.now c.read_near_struct.new.lim (ObjectStruct start size) =
+    struct_object {r = r} start size (rw c.requires.there at c.requires.is_struct) c.args.from.now.held refl (rw nl at c.in-Ok.ensures.object) (c.struct_size-size.ensures.data_of ∙ ap data_words c.requires.there) (c.struct_size-size.ensures.pointers_of ∙ ap pointer_count c.requires.there) in
     let some : 0 < size.data_words + size.pointers = omega (arith, c.total.ensures, c.if-total-eq0.false) in
     let nm = to_z-of_z w32 c.less.result (search rules) in
     let there = place_begins r start (rw nl at c.less.ensures) refl in
@@ -285,7 +302,7 @@ test_list-returns-then-not-starts_right-clause-failed g t c =
     let r : Reading = reading_on g.A.ReaderArena c.args.from.now c.args.at c.args.nesting_limit in
     let ready : IsTested r = c.requires.tested in
     let nl = to_z-of_z w32 c.args.nesting_limit (search rules) in
-    let object : IsObject r c.args.lim.now c.read_object.new.lim c.in-Ok.object = rw nl at c.in-Ok.ensures.object in
+    let object : IsObject Value r c.args.lim.now c.read_object.new.lim c.in-Ok.object = rw nl at c.in-Ok.ensures.object in
     unplaced_fails {r = r} {from = progress c.args.head c.args.lim.now} c.in-Ok.object ready (rw c.requires.there at c.requires.is_list) object (λ right. false≢true (sym c.if-not-starts_right.true ∙ c.starts_right.ensures.1 right))
 
 pub test_list-returns-in-Flat-clause-failed : goal.test_list-returns-in-Flat-clause-failed
@@ -293,7 +310,7 @@ test_list-returns-in-Flat-clause-failed g t c =
     let r : Reading = reading_on g.A.ReaderArena c.args.from.now c.args.at c.args.nesting_limit in
     let ready : IsTested r = c.requires.tested in
     let nl = to_z-of_z w32 c.args.nesting_limit (search rules) in
-    let object : IsObject r c.args.lim.now c.read_object.new.lim (ObjectFlat c.in-Flat.start c.in-Flat.size c.in-Flat.count) = rw nl at (rw c.in-Flat.is at c.in-Ok.ensures.object) in
+    let object : IsObject Value r c.args.lim.now c.read_object.new.lim (ObjectFlat c.in-Flat.start c.in-Flat.size c.in-Flat.count) = rw nl at (rw c.in-Flat.is at c.in-Ok.ensures.object) in
     let right : StartsRight (ObjectFlat c.in-Flat.start c.in-Flat.size c.in-Flat.count) c.args.at c.args.head = rw c.in-Flat.is at (c.starts_right.ensures.0 c.if-not-starts_right.false) in
     flat_fails {r = r} {from = progress c.args.head c.args.lim.now} c.in-Flat.start c.in-Flat.size c.in-Flat.count c.test_flat.result ready object right c.test_flat.ensures
 
@@ -302,7 +319,7 @@ test_list-returns-in-Pointers-clause-failed g t c =
     let r : Reading = reading_on g.A.ReaderArena c.args.from.now c.args.at c.args.nesting_limit in
     let ready : IsTested r = c.requires.tested in
     let nl = to_z-of_z w32 c.args.nesting_limit (search rules) in
-    let object : IsObject r c.args.lim.now c.read_object.new.lim (ObjectPointers c.in-Pointers.start c.in-Pointers.count) = rw nl at (rw c.in-Pointers.is at c.in-Ok.ensures.object) in
+    let object : IsObject Value r c.args.lim.now c.read_object.new.lim (ObjectPointers c.in-Pointers.start c.in-Pointers.count) = rw nl at (rw c.in-Pointers.is at c.in-Ok.ensures.object) in
     let right : StartsRight (ObjectPointers c.in-Pointers.start c.in-Pointers.count) c.args.at c.args.head = rw c.in-Pointers.is at (c.starts_right.ensures.0 c.if-not-starts_right.false) in
     let nm = to_z-of_z w32 c.less.result (search rules) in
     let there = place_begins r c.in-Pointers.start (rw nl at c.less.ensures) (pointers_here {r = r} c.in-Pointers.start c.in-Pointers.count ready object) in
@@ -314,7 +331,7 @@ test_list-returns-in-Structs-clause-failed g t c =
     let r : Reading = reading_on g.A.ReaderArena c.args.from.now c.args.at c.args.nesting_limit in
     let ready : IsTested r = c.requires.tested in
     let nl = to_z-of_z w32 c.args.nesting_limit (search rules) in
-    let object : IsObject r c.args.lim.now c.read_object.new.lim (ObjectStructs c.in-Structs.start c.in-Structs.size c.in-Structs.count) = rw nl at (rw c.in-Structs.is at c.in-Ok.ensures.object) in
+    let object : IsObject Value r c.args.lim.now c.read_object.new.lim (ObjectStructs c.in-Structs.start c.in-Structs.size c.in-Structs.count) = rw nl at (rw c.in-Structs.is at c.in-Ok.ensures.object) in
     let right : StartsRight (ObjectStructs c.in-Structs.start c.in-Structs.size c.in-Structs.count) c.args.at c.args.head = rw c.in-Structs.is at (c.starts_right.ensures.0 c.if-not-starts_right.false) in
     let nk = to_z-of_z w32 c.less-inner.result (search rules) in
     let there = elements_begin r c.in-Structs.start (rw nl at c.less-inner.ensures) (structs_here {r = r} c.in-Structs.start c.in-Structs.size c.in-Structs.count ready object) in

@@ -5,7 +5,10 @@ use mir.Syntax.{w32}
 use Rattle.capnp_objects.specs.declared.object.Object.TheVariants.{Capability as ObjectCapability}
 use Rattle.capnp_format.specs.Segments.{Target}
 use Rattle.capnp_format.specs.Word.{kind, data_words, pointer_count}
-use Rattle.capnp_objects.specs.Measures.{counted_words, Measured, IsMeasured, near_at}
+use Rattle.capnp_objects.specs.declared.object.Purpose.TheVariants.{Size}
+use Rattle.capnp_objects.specs.Measures.{counted_words}
+use Rattle.capnp_objects.specs.Objects.{IsObject, near_at}
+use Rattle.capnp_objects.specs.Outcomes.{Entered}
 use Rattle.capnp_objects.specs.Reading.{Reading, row, sized, word_of}
 use Rattle.capnp_objects.specs.Sizing.{Tally, SizeStops, here, unmeasured}
 use Rattle.capnp_objects.proofs.Walked.{counted_struct, struct_at, walks_none, pointer_walked, walks_no_element, row_walked, row_within, rows_without, null_walked, capability_walked}
@@ -26,7 +29,7 @@ pub add_object-returns-in-Err-add_words-clause-refused : goal.add_object-returns
 add_object-returns-in-Err-add_words-clause-refused g t c =
     let r : Reading = reading_on g.A.ReaderArena c.args.from.now c.args.at c.args.nesting_limit in
     let nl = to_z-of_z w32 c.args.nesting_limit c.ranges.nesting_limit in
-    let object : IsMeasured r c.args.lim.now c.measure_object.new.lim c.in-Ok.object = rw nl at c.in-Ok.ensures.object in
+    let object : IsObject Size r c.args.lim.now c.measure_object.new.lim c.in-Ok.object = rw nl at c.in-Ok.ensures.object in
     let over : c.args.walk.now.size.word_count + object_words c.in-Ok.object < 2 ^ 64 → ⊥ = λ h. false≢true ((rw c.words_of_object.ensures at c.in-Err-add_words.ensures.exactly).1 h) in
     rw c.in-Err-add_words.ensures.named (object_beyond {r = r} {from = so_far c.args.walk.now.size c.args.lim.now} c.in-Ok.object c.requires.fits object over)
 
@@ -34,7 +37,7 @@ pub add_object-returns-in-Capability-clause-sized : goal.add_object-returns-in-C
 add_object-returns-in-Capability-clause-sized g t c =
     let r : Reading = reading_on g.A.ReaderArena c.args.from.now c.args.at c.args.nesting_limit in
     let nl = to_z-of_z w32 c.args.nesting_limit c.ranges.nesting_limit in
-    let object : IsMeasured r c.args.lim.now c.measure_object.new.lim (ObjectCapability c.in-Capability.field-0) = rw nl at (rw c.in-Capability.is at c.in-Ok.ensures.object) in
+    let object : IsObject Size r c.args.lim.now c.measure_object.new.lim (ObjectCapability c.in-Capability.field-0) = rw nl at (rw c.in-Capability.is at c.in-Ok.ensures.object) in
     let sum = rw (c.words_of_object.ensures, c.in-Capability.is) at c.in-Ok-add_words.ensures.sum in
     let words = sum.0 ∙ add-zero c.args.walk.now.size.word_count in
     ok_so c.add_capability.result c.add_capability.ensures.sum (λ _ h. rw (h.0, h.1, words, sum.1) (capability_walked {r = r} {from = so_far c.args.walk.now.size c.args.lim.now} object))
@@ -44,7 +47,7 @@ add_object-returns-in-Capability-clause-refused g t c =
     let r : Reading = reading_on g.A.ReaderArena c.args.from.now c.args.at c.args.nesting_limit in
     let from : Tally = so_far c.args.walk.now.size c.args.lim.now in
     let nl = to_z-of_z w32 c.args.nesting_limit c.ranges.nesting_limit in
-    let object : IsMeasured r c.args.lim.now c.measure_object.new.lim (ObjectCapability c.in-Capability.field-0) = rw nl at (rw c.in-Capability.is at c.in-Ok.ensures.object) in
+    let object : IsObject Size r c.args.lim.now c.measure_object.new.lim (ObjectCapability c.in-Capability.field-0) = rw nl at (rw c.in-Capability.is at c.in-Ok.ensures.object) in
     beyond_with c.add_capability.result c.add_capability.new.self.refusal (λ k. SizeStops k r from c.measure_object.new.lim) (rw c.in-Ok-add_words.ensures.sum.1 at c.add_capability.ensures.exactly) c.add_capability.ensures.named
     (λ over. capability_beyond {r = r} {from = from} c.requires.fits object over)
 
@@ -52,7 +55,7 @@ pub add_object-returns-in_default-rows_of_object-clause-sized : goal.add_object-
 add_object-returns-in_default-rows_of_object-clause-sized g t c =
     let r : Reading = reading_on g.A.ReaderArena c.args.from.now c.args.at c.args.nesting_limit in
     let nl = to_z-of_z w32 c.args.nesting_limit c.ranges.nesting_limit in
-    let object : IsMeasured r c.args.lim.now c.measure_object.new.lim c.in-Ok.object = rw nl at c.in-Ok.ensures.object in
+    let object : IsObject Size r c.args.lim.now c.measure_object.new.lim c.in-Ok.object = rw nl at c.in-Ok.ensures.object in
     let sum = rw c.words_of_object.ensures at c.in-Ok-add_words.ensures.sum in
     rw (sum.0, sum.1) (leaf_walked {r = r} {from = so_far c.args.walk.now.size c.args.lim.now} c.in-Ok.object object c.in_default-rows_of_object.ensures c.in_default.not-Capability)
 
@@ -124,7 +127,7 @@ pub add_struct-returns-in-Err-add_words-clause-refused : goal.add_struct-returns
 add_struct-returns-in-Err-add_words-clause-refused g t c =
     let r : Reading = reading_on g.A.ReaderArena c.args.from.now c.args.at c.args.nesting_limit in
     let a : Target = near_at r c.in-Ok.start in
-    let measured : Measured r c.args.lim.now c.measure_near.new.lim a = rw (to_z-of_z w32 c.args.nesting_limit c.ranges.nesting_limit) at c.in-Ok.ensures.object in
+    let measured : Entered Size r c.args.lim.now c.measure_near.new.lim a = rw (to_z-of_z w32 c.args.nesting_limit c.ranges.nesting_limit) at c.in-Ok.ensures.object in
     let is_struct : kind (word_of r) ≡ 0 = rw c.requires.there at c.requires.is_struct in
     let words : c.from.result ≡ counted_words r.segments a = c.from.ensures ∙ c.struct_word_size-words.ensures ∙ ap (λ x. data_words x + pointer_count x) c.requires.there ∙ sym (counted_struct r.segments a is_struct) in
     rw c.in-Err-add_words.ensures.named (beyond_at {r = r} {from = so_far c.args.walk.now.size c.args.lim.now} {a = a} c.from.result c.requires.fits measured words (λ h. false≢true (c.in-Err-add_words.ensures.exactly.1 h)))
@@ -133,7 +136,7 @@ pub add_struct-returns-then-count-eq0-clause-sized : goal.add_struct-returns-the
 add_struct-returns-then-count-eq0-clause-sized g t c =
     let r : Reading = reading_on g.A.ReaderArena c.args.from.now c.args.at c.args.nesting_limit in
     let a : Target = near_at r c.in-Ok.start in
-    let measured : Measured r c.args.lim.now c.measure_near.new.lim a = rw (to_z-of_z w32 c.args.nesting_limit c.ranges.nesting_limit) at c.in-Ok.ensures.object in
+    let measured : Entered Size r c.args.lim.now c.measure_near.new.lim a = rw (to_z-of_z w32 c.args.nesting_limit c.ranges.nesting_limit) at c.in-Ok.ensures.object in
     let is_struct : kind (word_of r) ≡ 0 = rw c.requires.there at c.requires.is_struct in
     let words : c.from.result ≡ counted_words r.segments a = c.from.ensures ∙ c.struct_word_size-words.ensures ∙ ap (λ x. data_words x + pointer_count x) c.requires.there ∙ sym (counted_struct r.segments a is_struct) in
     let many : pointer_count (word_of r) ≡ 0 = sym (c.from-count.ensures ∙ c.struct_size-size.ensures.pointers_of ∙ ap pointer_count c.requires.there) ∙ c.if-count-eq0.true in
@@ -144,9 +147,9 @@ pub add_struct-returns-clause-sized : goal.add_struct-returns-clause-sized
 add_struct-returns-clause-sized g t c =
     let r : Reading = reading_on g.A.ReaderArena c.args.from.now c.args.at c.args.nesting_limit in
     let a : Target = near_at r c.in-Ok.start in
-    let measured : Measured r c.args.lim.now c.measure_near.new.lim a = rw (to_z-of_z w32 c.args.nesting_limit c.ranges.nesting_limit) at c.in-Ok.ensures.object in
+    let measured : Entered Size r c.args.lim.now c.measure_near.new.lim a = rw (to_z-of_z w32 c.args.nesting_limit c.ranges.nesting_limit) at c.in-Ok.ensures.object in
     let is_struct : kind (word_of r) ≡ 0 = rw c.requires.there at c.requires.is_struct in
-    let less = one_level_in c.args.nesting_limit c.ranges.nesting_limit measured.levels in
+    let less = one_level_in c.args.nesting_limit c.ranges.nesting_limit measured.meets.levels in
     let words : c.from.result ≡ counted_words r.segments a = c.from.ensures ∙ c.struct_word_size-words.ensures ∙ ap (λ x. data_words x + pointer_count x) c.requires.there ∙ sym (counted_struct r.segments a is_struct) in
     let wide : c.from-2.result ≡ data_words (word_of r) = c.from-2.ensures ∙ c.struct_size-size.ensures.data_of ∙ ap data_words c.requires.there in
     let many : c.from-count.result ≡ pointer_count (word_of r) = c.from-count.ensures ∙ c.struct_size-size.ensures.pointers_of ∙ ap pointer_count c.requires.there in
@@ -157,9 +160,9 @@ pub add_struct-returns-clause-refused : goal.add_struct-returns-clause-refused
 add_struct-returns-clause-refused g t c =
     let r : Reading = reading_on g.A.ReaderArena c.args.from.now c.args.at c.args.nesting_limit in
     let a : Target = near_at r c.in-Ok.start in
-    let measured : Measured r c.args.lim.now c.measure_near.new.lim a = rw (to_z-of_z w32 c.args.nesting_limit c.ranges.nesting_limit) at c.in-Ok.ensures.object in
+    let measured : Entered Size r c.args.lim.now c.measure_near.new.lim a = rw (to_z-of_z w32 c.args.nesting_limit c.ranges.nesting_limit) at c.in-Ok.ensures.object in
     let is_struct : kind (word_of r) ≡ 0 = rw c.requires.there at c.requires.is_struct in
-    let less = one_level_in c.args.nesting_limit c.ranges.nesting_limit measured.levels in
+    let less = one_level_in c.args.nesting_limit c.ranges.nesting_limit measured.meets.levels in
     let words : c.from.result ≡ counted_words r.segments a = c.from.ensures ∙ c.struct_word_size-words.ensures ∙ ap (λ x. data_words x + pointer_count x) c.requires.there ∙ sym (counted_struct r.segments a is_struct) in
     let wide : c.from-2.result ≡ data_words (word_of r) = c.from-2.ensures ∙ c.struct_size-size.ensures.data_of ∙ ap data_words c.requires.there in
     let many : c.from-count.result ≡ pointer_count (word_of r) = c.from-count.ensures ∙ c.struct_size-size.ensures.pointers_of ∙ ap pointer_count c.requires.there in

@@ -3,7 +3,9 @@ use Rattle.std.proofs.lemmas.Int.{to_z-of_z}
 use mir.Syntax.{w32}
 use Rattle.capnp_format.specs.Word.{kind, element_size, list_count}
 use Rattle.capnp_format.specs.Numbers.{words_for}
-use Rattle.capnp_objects.specs.Measures.{Measured, near_at}
+use Rattle.capnp_objects.specs.declared.object.Purpose.TheVariants.{Size}
+use Rattle.capnp_objects.specs.Objects.{near_at}
+use Rattle.capnp_objects.specs.Outcomes.{Entered}
 use Rattle.capnp_objects.specs.Reading.{Reading, word_of}
 use Rattle.capnp_objects.specs.Sizing.{WalksPlace, SizeStops, here, unmeasured}
 use Rattle.capnp_objects.proofs.Walked.{counted_flat, flat_at}
@@ -22,7 +24,7 @@ pub returns-in-Ok-clause-sized : goal.returns-in-Ok-clause-sized
 returns-in-Ok-clause-sized g c =
     let r : Reading = reading_on g.A.ReaderArena c.args.from.now c.args.at c.args.nesting_limit in
     let w : ℕ = word_of r in
-    let measured : Measured r c.args.lim.now c.measure_near.new.lim (near_at r c.in-Ok.field-0) = rw (to_z-of_z w32 c.args.nesting_limit c.ranges.nesting_limit) at c.in-Ok.ensures.object in
+    let measured : Entered Size r c.args.lim.now c.measure_near.new.lim (near_at r c.in-Ok.field-0) = rw (to_z-of_z w32 c.args.nesting_limit c.ranges.nesting_limit) at c.in-Ok.ensures.object in
     let words : c.from.result ≡ words_for (element_size w) (list_count w) = c.from.ensures ∙ c.flat_words-words.ensures ∙ ap₂ words_for c.list_element_size.ensures c.list_element_count.ensures.value ∙ ap (λ x. words_for (element_size x) (list_count x)) c.requires.there in
     let is_list : kind w ≡ 1 = rw c.requires.there at c.requires.is_list in
     let small : element_size w ≤ 5 = rw c.requires.there at c.requires.of_bits.1 in
@@ -35,7 +37,7 @@ returns-in-Ok-clause-refused g c =
     let w : ℕ = word_of r in
     let from = so_far c.args.walk.now.size c.args.lim.now in
     let a = near_at r c.in-Ok.field-0 in
-    let measured : Measured r c.args.lim.now c.measure_near.new.lim a = rw (to_z-of_z w32 c.args.nesting_limit c.ranges.nesting_limit) at c.in-Ok.ensures.object in
+    let measured : Entered Size r c.args.lim.now c.measure_near.new.lim a = rw (to_z-of_z w32 c.args.nesting_limit c.ranges.nesting_limit) at c.in-Ok.ensures.object in
     let words : c.from.result ≡ words_for (element_size w) (list_count w) = c.from.ensures ∙ c.flat_words-words.ensures ∙ ap₂ words_for c.list_element_size.ensures c.list_element_count.ensures.value ∙ ap (λ x. words_for (element_size x) (list_count x)) c.requires.there in
     let is_list : kind w ≡ 1 = rw c.requires.there at c.requires.is_list in
     let small : element_size w ≤ 5 = rw c.requires.there at c.requires.of_bits.1 in
