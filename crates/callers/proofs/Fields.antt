@@ -6,7 +6,7 @@ use Rattle.capnp_format.specs.Tree.{Tree, Null, Struct}
 use Rattle.capnp_format.specs.Forest.{IsForest, target}
 use Rattle.capnp_words.specs.declared.wire_pointer.StructSize.{StructSize}
 use Rattle.capnp_readers.specs.declared.readers.struct_reader.StructPlace.{StructPlace}
-use Rattle.capnp_making.specs.Made.{zeros, nulls, zero_struct}
+use Rattle.capnp_making.specs.Made.{words_of_zero, nulls, zero_struct}
 use Rattle.capnp_making.specs.Path.{Child, PathLeads, put_tree, tree_at}
 use Rattle.capnp_making.specs.Stored.{Puts}
 use Rattle.capnp_making.proofs.Placed.{count-nulls}
@@ -21,11 +21,11 @@ null_first zero = refl
 null_first (suc q) = refl
 
 pub field_put : (S M R : Segments) (t y : Tree) (size : StructSize) (place : StructPlace) → IsForest S t → Puts S M 0 0 (zero_struct size) → IsStructOf M 0 0 size place → 0 < size.pointers → Puts M R place.segment (place.pointers_at) y →
-    IsForest R (Struct (zeros size.data_words) (put_tree (nulls size.pointers) 0 y))
+    IsForest R (Struct (words_of_zero size.data_words) (put_tree (nulls size.pointers) 0 y))
 field_put S M R t y size place forest first leads some puts =
     let (is_segment, is_byte, is_bits, is_pointers, is_count) = leads.starts in
     let made = root_put S M t (zero_struct size) forest first in
-    let long : length (zeros size.data_words) ≡ size.data_words = length-replicate {A = ℕ} size.data_words 0 in
-    let at : (target M 0 0).start + length (zeros size.data_words) + 0 ≡ place.pointers_at = omega (arith, is_pointers, long) in
+    let long : length (words_of_zero size.data_words) ≡ size.data_words = length-replicate {A = ℕ} size.data_words 0 in
+    let at : (target M 0 0).start + length (words_of_zero size.data_words) + 0 ≡ place.pointers_at = omega (arith, is_pointers, long) in
     let path : PathLeads M 0 0 (zero_struct size) (Child 0 ∷ []) place.segment (place.pointers_at) Null = (omega (arith, count-nulls size.pointers), (sym is_segment, at, null_first size.pointers)) in
     forest_updated M R (zero_struct size) (Child 0 ∷ []) place.segment (place.pointers_at) Null y made path (puts Null (stored_within M 0 0 (zero_struct size) (Child 0 ∷ []) place.segment (place.pointers_at) Null path (forest_stored M (zero_struct size) made)))

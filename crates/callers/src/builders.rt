@@ -8,7 +8,7 @@ ghost use Rattle.capnp_format.specs.Bytes.{message};
 ghost use Rattle.capnp_format.specs.Forest.{IsForest};
 ghost use Rattle.capnp_format.specs.Segments.{IsPlace};
 ghost use Rattle.capnp_format.specs.Tree.{Tree, Null, Struct};
-ghost use Rattle.capnp_making.specs.Made.{zeros, nulls, zero_struct};
+ghost use Rattle.capnp_making.specs.Made.{words_of_zero, nulls, zero_struct};
 ghost use Rattle.capnp_making.specs.Path.{put_tree};
 ghost use Rattle.callers.specs.Meaning.{MeansTheSame, AreReadBack};
 
@@ -40,10 +40,11 @@ pub fn two_structs<A: BuilderArena>(arena: &mut A, outer: StructSize, inner: Str
     requires some { 0 < outer.pointers }
     ensures both { result ≡ Built.Both
         → IsForest (A.view arena.new).words
-        (Struct (zeros outer.data_words) (put_tree (nulls outer.pointers) 0 (zero_struct inner))) }
+        (Struct (words_of_zero outer.data_words)
+        (put_tree (nulls outer.pointers) 0 (zero_struct inner))) }
     ensures root { result ≡ Built.Root
         → IsForest (A.view arena.new).words
-        (Struct (zeros outer.data_words) (put_tree (nulls outer.pointers) 0 Null)) }
+        (Struct (words_of_zero outer.data_words) (put_tree (nulls outer.pointers) 0 Null)) }
     ensures nothing { result ≡ Built.Nothing → IsForest (A.view arena.new).words Null }
 {
     let place = match root_struct(arena, outer) {

@@ -25,7 +25,7 @@ use Rattle.capnp_making.proofs.Replaced.{replaced_again}
 use Rattle.capnp_readers.specs.declared.readers.struct_reader.StructPlace.{StructPlace}
 use Rattle.capnp_builders.specs.Content.{content_byte, with_fields, with_content, AreCleared}
 use Rattle.capnp_builders.specs.Laws.{HoldContent, up_to, TakesBytes, ContentTaken, ContentStopped}
-use Rattle.capnp_builders.specs.Places.{StartsAt}
+use Rattle.capnp_builders.specs.Places.{StructStartsAt}
 
 -- From S to R a place that leads to a gets another struct, and leads to a still.
 abbrev pub Turns : Segments → Segments → ℕ → ℕ → Target → Tree → Tree → Type 0
@@ -165,7 +165,7 @@ abbrev pub HasTaken : (List ℕ → Trees → Tree) → Segments → Segments �
 HasTaken F S R s p d q a ws ts us bits bytes = (vs : List ℕ) × HoldContent vs d bits bytes × Turns S R s p a (F ws ts) (F vs (up_to q us))
 
 pub filled : (F : List ℕ → Trees → Tree) (path : ℕ → List Step) (S M R : Segments) (s p d q : ℕ) (a : Target) (c n : ℕ) (ws : List ℕ) (ts us : Trees) (place : StructPlace) (bits : ℕ) (bytes : List ℕ) → IsContent F path s p d q a c n → Holds (F ws) S s p a ts →
-    length ws ≡ d → count ts ≡ q → StartsAt place a.segment c d q → TakesBytes S M place bits bytes → AreFilled M R place.segment place.pointers_at us → count us ≤ q → HasTaken F S R s p d q a ws ts us bits bytes
+    length ws ≡ d → count ts ≡ q → StructStartsAt place a.segment c d q → TakesBytes S M place bits bytes → AreFilled M R place.segment place.pointers_at us → count us ≤ q → HasTaken F S R s p d q a ws ts us bits bytes
 filled F path S M R s p d q a c n ws ts us place bits bytes h y wide len (of_segment, of_byte, of_bits, of_pointers, of_count) takes fills few =
     let f : ℕ → ℕ = content_byte bits bytes in
     let vs : List ℕ = put_bytes ws f (8 * d) in
@@ -191,7 +191,7 @@ filled F path S M R s p d q a c n ws ts us place bits bytes h y wide len (of_seg
 
 -- where the copy behind the first ones is refused
 pub stopped : (F : List ℕ → Trees → Tree) (path : ℕ → List Step) (S M K R : Segments) (s p d q : ℕ) (a : Target) (c n : ℕ) (ws : List ℕ) (ts us : Trees) (place : StructPlace) (bits : ℕ) (bytes : List ℕ) → IsContent F path s p d q a c n → Holds (F ws) S s p a ts →
-    length ws ≡ d → count ts ≡ q → StartsAt place a.segment c d q → TakesBytes S M place bits bytes → AreFilled M K place.segment place.pointers_at us → count us < q →
+    length ws ≡ d → count ts ≡ q → StructStartsAt place a.segment c d q → TakesBytes S M place bits bytes → AreFilled M K place.segment place.pointers_at us → count us < q →
     IsReplaced K R place.segment (place.pointers_at + count us) Null Null → HasTaken F S R s p d q a ws ts us bits bytes
 stopped F path S M K R s p d q a c n ws ts us place bits bytes h y wide len (of_segment, of_byte, of_bits, of_pointers, of_count) takes fills fewer null =
     let (vs, hold, turns) = filled F path S M K s p d q a c n ws ts us place bits bytes h y wide len (of_segment, of_byte, of_bits, of_pointers, of_count) takes fills (omega (arith, fewer)) in

@@ -7,14 +7,14 @@ use Rattle.capnp_words.specs.declared.wire_pointer.ElementSize.{ElementSize}
 use Rattle.capnp_words.specs.declared.wire_pointer.ElementSize.TheVariants.{Void, Bit, Byte, TwoBytes, FourBytes, EightBytes, Pointer, InlineComposite}
 use Rattle.capnp_words.specs.declared.wire_pointer.StructSize.{StructSize}
 use Rattle.capnp_readers.specs.Readers.{IsListPlace}
-use Rattle.capnp_readers.specs.Sections.{list_words, step_bits, data_bits}
+use Rattle.capnp_readers.specs.Sections.{elements_words, step_bits, data_bits}
 use Rattle.capnp_readers.specs.declared.readers.list_reader.ListPlace.{ListPlace}
 use Rattle.capnp_readers.proofs.Sections.{words_within}
 use Rattle.capnp_builders.proofs.FieldPlaces.{aligned_to, field_aligned}
 use Rattle.capnp_builders.specs.Elements.{lowest_bits, WritesElement, HasElement}
 
 -- the data of an element lies among the words of all
-data_within : (size : ElementSize) (sections : StructSize) (count i : ℕ) → i < count → i * step_bits size sections + data_bits size sections ≤ 64 * list_words size count (sections.data_words + sections.pointers)
+data_within : (size : ElementSize) (sections : StructSize) (count i : ℕ) → i < count → i * step_bits size sections + data_bits size sections ≤ 64 * elements_words size count (sections.data_words + sections.pointers)
 data_within Void sections count i l = omega arith
 data_within Bit sections count i l = omega (arith, l)
 data_within Byte sections count i l = omega (arith, l)

@@ -9,7 +9,7 @@ use Rattle.capnp_format.specs.Tree.{Tree, Null, Capability, Struct, Flat, Pointe
 use Rattle.capnp_format.specs.Means.{Means}
 use Rattle.capnp_format.specs.Forest.{target, target_in}
 use Rattle.capnp_making.specs.declared.existing.ExistingBytes.{ExistingBytes}
-use Rattle.capnp_making.specs.Existing.{LieIn, is_unfound, bytes_at, data_in, text_in, text_of, ends_in_zero}
+use Rattle.capnp_making.specs.Existing.{BytesLieIn, is_unfound, bytes_at, data_in, text_in, text_found, ends_in_zero}
 use Rattle.capnp_making.specs.Stored.{IsStored}
 use Rattle.capnp_making.specs.Memory.{refusals_for}
 use Rattle.capnp_making.proofs.Leading.{leads_segment}
@@ -28,13 +28,13 @@ picked_first true r found k e = (refl, e)
 picked_first false r found k e = cc
 
 -- bytes of a list that a pointer leads to, or fewer
-inside : (S : Segments) (s p n m : ℕ) (a : Target) → a.segment < length S → a.start + words_for 2 n ≤ length (segment S a.segment) → m ≤ n → LieIn S (bytes_at a m)
+inside : (S : Segments) (s p n m : ℕ) (a : Target) → a.segment < length S → a.start + words_for 2 n ≤ length (segment S a.segment) → m ≤ n → BytesLieIn S (bytes_at a m)
 inside S s p n m a there claim few = (there, omega (arith, claim))
 
-pub data_inside : (S : Segments) (s p : ℕ) (t : Tree) (b : ExistingBytes) → s < length S → IsStored S s p t → data_in (target S s p) t ≡ Ok (Some b) → LieIn S b
+pub data_inside : (S : Segments) (s p : ℕ) (t : Tree) (b : ExistingBytes) → s < length S → IsStored S s p t → data_in (target S s p) t ≡ Ok (Some b) → BytesLieIn S b
 data_inside S s p t b there stored e = let m = stored.means in meant m.0 m.1 t m.2 e
   where
-    meant : (n c : ℕ) (t : Tree) → Means S n s p t c → data_in (target S s p) t ≡ Ok (Some b) → LieIn S b
+    meant : (n c : ℕ) (t : Tree) → Means S n s p t c → data_in (target S s p) t ≡ Ok (Some b) → BytesLieIn S b
     meant n c Null m e = cc
     meant n c (Capability i) m e = cc
     meant n c (Struct ws ts) m e = cc
@@ -42,28 +42,28 @@ data_inside S s p t b there stored e = let m = stored.means in meant m.0 m.1 t m
         let is_a : target S s p ≡ a = ap target_in o.leads_to.1 in
         let (x, is_b) = picked (nat_eq size 2) (bytes_at (target S s p) (length ns)) b ExistingListPointerIsNotByteSized e in
         let bytes : size ≡ 2 = eqb-true size 2 x in
-        subst (LieIn S) is_b (rw is_a (inside S s p (length ns) (length ns) a (leads_segment S s p a there o.leads_to.1) (rw bytes at claim) (omega arith)))
+        subst (BytesLieIn S) is_b (rw is_a (inside S s p (length ns) (length ns) a (leads_segment S s p a there o.leads_to.1) (rw bytes at claim) (omega arith)))
     meant n c (Pointers ts) m e = cc
     meant n c (Structs d q es) m e = cc
 
-pub text_inside : (S : Segments) (s p : ℕ) (t : Tree) (b : ExistingBytes) → s < length S → IsStored S s p t → text_in (target S s p) t ≡ Ok (Some b) → LieIn S b
+pub text_inside : (S : Segments) (s p : ℕ) (t : Tree) (b : ExistingBytes) → s < length S → IsStored S s p t → text_in (target S s p) t ≡ Ok (Some b) → BytesLieIn S b
 text_inside S s p t b there stored e = let m = stored.means in meant m.0 m.1 t m.2 e
   where
-    meant : (n c : ℕ) (t : Tree) → Means S n s p t c → text_in (target S s p) t ≡ Ok (Some b) → LieIn S b
+    meant : (n c : ℕ) (t : Tree) → Means S n s p t c → text_in (target S s p) t ≡ Ok (Some b) → BytesLieIn S b
     meant n c Null m e = cc
     meant n c (Capability i) m e = cc
     meant n c (Struct ws ts) m e = cc
     meant n c (Flat size ns) (a, some, small, o, claim, g, k) e =
         let is_a : target S s p ≡ a = ap target_in o.leads_to.1 in
-        let (x, text) = picked_first (nat_eq size 2) (text_of (target S s p) ns) b ExistingListPointerIsNotByteSized e in
+        let (x, text) = picked_first (nat_eq size 2) (text_found (target S s p) ns) b ExistingListPointerIsNotByteSized e in
         let (y, is_b) = picked (ends_in_zero ns) (bytes_at (target S s p) (length ns - 1)) b TextBlobMissingNULTerminator text in
         let bytes : size ≡ 2 = eqb-true size 2 x in
-        subst (LieIn S) is_b (rw is_a (inside S s p (length ns) (length ns - 1) a (leads_segment S s p a there o.leads_to.1) (rw bytes at claim) (omega arith)))
+        subst (BytesLieIn S) is_b (rw is_a (inside S s p (length ns) (length ns - 1) a (leads_segment S s p a there o.leads_to.1) (rw bytes at claim) (omega arith)))
     meant n c (Pointers ts) m e = cc
     meant n c (Structs d q es) m e = cc
 
 -- bytes that were found are what the call gives
-pub bytes_found : (S : Segments) (s : ℕ) (q : Found) (found : Option ExistingBytes) (r : Result ExistingBytes ErrorKind) → q ≡ Ok found → ((b : ExistingBytes) → q ≡ Ok (Some b) → LieIn S b) → IfSome found (λ b. LieIn S b → r ≡ Ok b) →
+pub bytes_found : (S : Segments) (s : ℕ) (q : Found) (found : Option ExistingBytes) (r : Result ExistingBytes ErrorKind) → q ≡ Ok found → ((b : ExistingBytes) → q ≡ Ok (Some b) → BytesLieIn S b) → IfSome found (λ b. BytesLieIn S b → r ≡ Ok b) →
     (IsNone found → r ≡ Ok (no_bytes s)) → r ≡ bytes_given s q
 bytes_found S s q (Some b) r e inside some none = some (inside b e) ∙ sym (ap (bytes_given s) e)
 bytes_found S s q None r e inside some none = none refl ∙ sym (ap (bytes_given s) e)

@@ -15,12 +15,12 @@ use Rattle.capnp_making.proofs.Leading.{leads_segment}
 use Rattle.capnp_readers.specs.declared.readers.list_reader.ListPlace.{ListPlace}
 use Rattle.capnp_readers.specs.declared.readers.struct_reader.StructPlace.{StructPlace}
 use Rattle.capnp_making.specs.Makes.{CallAt, call_at}
-use Rattle.capnp_widening.specs.Opening.{Opens, struct_opened, LeadsToOne, LeadsToAll, OpensStruct as OpensOne, OpensList as OpensAll}
+use Rattle.capnp_widening.specs.Opening.{Opens, struct_opened, LeadsToOne, LeadsToAll, OpensExistingStruct as OpensOne, OpensExistingList as OpensAll}
 use Rattle.capnp_widening.specs.Widened.{list_widened}
 use Rattle.capnp_widening.proofs.StructSteps.{the_struct, same_struct}
 use Rattle.capnp_builders.specs.Found.{list_given, void_list}
 use Rattle.capnp_builders.specs.Opening.{IsStructGiven, IsListGiven, OpensStruct, OpensList}
-use Rattle.capnp_builders.specs.Places.{StartsAt}
+use Rattle.capnp_builders.specs.Places.{StructStartsAt}
 use Rattle.capnp_builders.proofs.FoundLists.{given_inside}
 
 -- another form of what is given, and of a refusal
@@ -53,7 +53,7 @@ struct_exists S s p ws ts there stored = at_level stored.means.0 stored.means.1 
 pub record PlaceOf (S : Segments) (s : ℕ) (e : ExistingStruct) (place : StructPlace) : Type 0 where
   pub there : s < length S
   pub small : length (segment S e.segment) < 2 ^ 32
-  pub starts : e.start + e.size.data_words < 2 ^ 32 → StartsAt place e.segment e.start e.size.data_words e.size.pointers
+  pub starts : e.start + e.size.data_words < 2 ^ 32 → StructStartsAt place e.segment e.start e.size.data_words e.size.pointers
 
 one_given : (S : Segments) (s p : ℕ) (ws : List ℕ) (ts : Trees) (e : ExistingStruct) (place : StructPlace) → PlaceOf S s e place → IsStored S s p (Struct ws ts) → the_struct S s p ws ts ≡ e →
     e.start + e.size.data_words + e.size.pointers ≤ length (segment S e.segment) → IsStructGiven S s p (Struct ws ts) place

@@ -44,8 +44,8 @@ abbrev pub HasOnlyNull : Building → Type 0
 HasOnlyNull b = segment b.segments b.segment ≡ 0 ∷ []
 
 -- the message has one segment of one word, which is zero
-abbrev pub IsFresh : Building → Type 0
-IsFresh b = b.segments ≡ (0 ∷ []) ∷ []
+abbrev pub IsFreshMessage : Building → Type 0
+IsFreshMessage b = b.segments ≡ (0 ∷ []) ∷ []
 
 -- What is read has a value, in canonical form one without capabilities, at a cost that m covers, and the words to be kept of it
 -- fit.
@@ -70,6 +70,6 @@ abbrev pub OfStored : Building → (Tree → Type 0) → Type 0
 OfStored b P = (t : Tree) → Stores b t → P t
 
 -- A call that is done with its builder gives a value by which Q holds of the message that is left; or it is refused, and so it is with some message.
-abbrev pub Leaves : {B C : Type 0} → (B → View) → (B → C) → (View → Result C ErrorKind → Type 0) → Result B ErrorKind → Type 0
-Leaves view_in value_in Q (Ok b) = Q (view_in b) (Ok (value_in b))
-Leaves view_in value_in Q (Err k) = (new : View) × Q new (Err k)
+abbrev pub LeavesMessage : {B C : Type 0} → (B → View) → (B → C) → (View → Result C ErrorKind → Type 0) → Result B ErrorKind → Type 0
+LeavesMessage view_in value_in Q (Ok b) = Q (view_in b) (Ok (value_in b))
+LeavesMessage view_in value_in Q (Err k) = (new : View) × Q new (Err k)

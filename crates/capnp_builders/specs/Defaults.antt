@@ -38,8 +38,8 @@ abbrev pub RefusesDefault : List ℕ → Change → ErrorKind → Type 0
 RefusesDefault bytes c k = HasFault of_default (default_root bytes) k ⊎ FindsNoRoom (default_root bytes) c k
 
 -- A default is of fewer than 2^32 words.
-abbrev pub IsFew : Option (Bor (List ℕ)) → Type 0
-IsFew default = IfSome default (λ d. length d.now / 8 < 2 ^ 32)
+abbrev pub IsShortDefault : Option (Bor (List ℕ)) → Type 0
+IsShortDefault default = IfSome default (λ d. length d.now / 8 < 2 ^ 32)
 
 -- What a call does with its default: nothing; or it is refused by a name; or the value of these bytes is copied in place of null.
 pub data DefaultUse : Type 0 where
@@ -65,8 +65,8 @@ abbrev pub blob_default : Option (Bor (List ℕ)) → Tree → DefaultUse
 blob_default default t = default_use (denied ExistingPointerIsNotAList) default t
 
 -- There is no default, or one whose first word is null: an object isn't put in place of null.
-abbrev pub LeavesNull : Option (Bor (List ℕ)) → Type 0
-LeavesNull default = object_default default Null ≡ ignored
+abbrev pub IsIgnoredDefault : Option (Bor (List ℕ)) → Type 0
+IsIgnoredDefault default = object_default default Null ≡ ignored
 
 -- The value u of a default, which has no capabilities, is stored in place of null, and no more words are taken than reading it costs.
 pub record PutsDefault (bytes : List ℕ) (c : CallAt) (u : Tree) : Type 0 where

@@ -7,7 +7,7 @@ use Rattle.capnp_words.specs.declared.wire_pointer.ElementSize.{ElementSize}
 use Rattle.capnp_words.specs.declared.wire_pointer.ElementSize.TheVariants.{Void}
 use Rattle.capnp_words.specs.declared.error.ErrorKind.{ErrorKind}
 use Rattle.capnp_making.specs.Existing.{list_in, data_in, text_in}
-use Rattle.capnp_making.specs.InPlace.{bytes_of}
+use Rattle.capnp_making.specs.InPlace.{bytes_there}
 use Rattle.capnp_making.specs.declared.existing.ExistingBytes.{ExistingBytes}
 use Rattle.capnp_making.specs.declared.existing.ExistingList.{ExistingList}
 use Rattle.capnp_readers.specs.declared.readers.list_reader.ListPlace.{ListPlace}
@@ -15,8 +15,8 @@ use Rattle.capnp_making.specs.Makes.{CallAt}
 use Rattle.capnp_builders.specs.Defaults.{object_default, blob_default, WithDefault}
 
 -- The place of a list that is found.
-abbrev pub place_of : ExistingList → ListPlace
-place_of l = record { segment = l.segment; byte = 8 * l.start; size = l.size; struct_size = l.struct_size; count = l.count }
+abbrev pub found_list_place : ExistingList → ListPlace
+found_list_place l = record { segment = l.segment; byte = 8 * l.start; size = l.size; struct_size = l.struct_size; count = l.count }
 
 -- A void list of none, in segment id.
 abbrev pub void_list : ℕ → ListPlace
@@ -28,7 +28,7 @@ no_bytes id = record { segment = id; start = 0; length = 0 }
 
 -- What a call gives at a pointer of segment id, by what is found: a list of none, or no bytes, where that is null.
 abbrev pub list_given : ℕ → Result (Option ExistingList) ErrorKind → Result ListPlace ErrorKind
-list_given id (Ok (Some l)) = Ok (place_of l)
+list_given id (Ok (Some l)) = Ok (found_list_place l)
 list_given id (Ok None) = Ok (void_list id)
 list_given id (Err k) = Err k
 
@@ -38,27 +38,27 @@ bytes_given id (Ok None) = Ok (no_bytes id)
 bytes_given id (Err k) = Err k
 
 -- A call gives what is found where t stands, and nothing is changed.
-abbrev pub GivesList : ElementSize → Result ListPlace ErrorKind → CallAt → Tree → Type 0
-GivesList size result c t = (result ≡ list_given c.segment (list_in (target c.old.words c.segment c.at) size t)) × (c.new ≡ c.old)
+abbrev pub GivesFoundList : ElementSize → Result ListPlace ErrorKind → CallAt → Tree → Type 0
+GivesFoundList size result c t = (result ≡ list_given c.segment (list_in (target c.old.words c.segment c.at) size t)) × (c.new ≡ c.old)
 
-abbrev pub GivesData : Result ExistingBytes ErrorKind → CallAt → Tree → Type 0
-GivesData result c t = (result ≡ bytes_given c.segment (data_in (target c.old.words c.segment c.at) t)) × (c.new ≡ c.old)
+abbrev pub GivesFoundData : Result ExistingBytes ErrorKind → CallAt → Tree → Type 0
+GivesFoundData result c t = (result ≡ bytes_given c.segment (data_in (target c.old.words c.segment c.at) t)) × (c.new ≡ c.old)
 
-abbrev pub GivesText : Result ExistingBytes ErrorKind → CallAt → Tree → Type 0
-GivesText result c t = (result ≡ bytes_given c.segment (text_in (target c.old.words c.segment c.at) t)) × (c.new ≡ c.old)
+abbrev pub GivesFoundText : Result ExistingBytes ErrorKind → CallAt → Tree → Type 0
+GivesFoundText result c t = (result ≡ bytes_given c.segment (text_in (target c.old.words c.segment c.at) t)) × (c.new ≡ c.old)
 
 -- A call puts its default in place of null, and then gives the list that stands; or the data, or the text.
 abbrev pub FindsList : ElementSize → Option (Bor (List ℕ)) → Result ListPlace ErrorKind → CallAt → Tree → Type 0
-FindsList size default result c t = WithDefault (object_default default t) c t (GivesList size result) result
+FindsList size default result c t = WithDefault (object_default default t) c t (GivesFoundList size result) result
 
 abbrev pub FindsData : Option (Bor (List ℕ)) → Result ExistingBytes ErrorKind → CallAt → Tree → Type 0
-FindsData default result c t = WithDefault (blob_default default t) c t (GivesData result) result
+FindsData default result c t = WithDefault (blob_default default t) c t (GivesFoundData result) result
 
 abbrev pub FindsText : Option (Bor (List ℕ)) → Result ExistingBytes ErrorKind → CallAt → Tree → Type 0
-FindsText default result c t = WithDefault (blob_default default t) c t (GivesText result) result
+FindsText default result c t = WithDefault (blob_default default t) c t (GivesFoundText result) result
 
 -- What is found is lent for writing; or the call is refused by the same name.
 abbrev pub IsLent : {B : Type 0} → (B → List ℕ) → List (List ℕ) → Result ExistingBytes ErrorKind → Result B ErrorKind → Type 0
-IsLent now segments (Ok b) (Ok s) = now s ≡ bytes_of segments b
+IsLent now segments (Ok b) (Ok s) = now s ≡ bytes_there segments b
 IsLent now segments (Err k) (Err l) = l ≡ k
 IsLent now segments found result = ⊥

@@ -16,7 +16,7 @@ use Rattle.capnp_readers.specs.declared.readers.list_reader.ListPlace.{ListPlace
 use Rattle.capnp_readers.specs.declared.readers.struct_reader.StructPlace.{StructPlace}
 use Rattle.capnp_making.specs.Makes.{CallAt}
 use Rattle.capnp_widening.specs.Opening.{Opens, struct_opened}
-use Rattle.capnp_widening.specs.Rooms.{ListFits, OpeningFits}
+use Rattle.capnp_widening.specs.Rooms.{WiderListFits, OpeningFits}
 use Rattle.capnp_widening.specs.Widened.{list_widened}
 use Rattle.capnp_builders.specs.Defaults.{object_default, FitsWithDefault, WithDefault}
 use Rattle.capnp_builders.specs.Found.{list_given, void_list}
@@ -52,7 +52,7 @@ abbrev pub StructFindFits : StructSize → Option (Bor (List ℕ)) → View → 
 StructFindFits size default v s p = (t : Tree) × IsStored v.words s p t × FitsWithDefault (object_default default t) v s p (λ m. OpeningFits m s p size)
 
 abbrev pub StructsFindFits : StructSize → Option (Bor (List ℕ)) → View → ℕ → ℕ → Type 0
-StructsFindFits size default v s p = (t : Tree) × IsStored v.words s p t × FitsWithDefault (object_default default t) v s p (λ m. ListFits m s p size)
+StructsFindFits size default v s p = (t : Tree) × IsStored v.words s p t × FitsWithDefault (object_default default t) v s p (λ m. WiderListFits m s p size)
 
 -- A call takes the words of a new struct of a size, and a landing pad's where it needs one.
 abbrev pub TakesForNewStruct : StructSize → CallAt → Type 0

@@ -14,13 +14,13 @@ use Rattle.capnp_readers.specs.declared.readers.struct_reader.StructPlace.{Struc
 use Rattle.capnp_readers.specs.declared.readers.list_reader.ListPlace.{ListPlace}
 
 -- A struct of d data words and q pointers starts at position p of segment s.
-abbrev pub StartsAt : StructPlace → ℕ → ℕ → ℕ → ℕ → Type 0
-StartsAt place s p d q =
+abbrev pub StructStartsAt : StructPlace → ℕ → ℕ → ℕ → ℕ → Type 0
+StructStartsAt place s p d q =
     (place.segment ≡ s) × (place.byte ≡ 8 * p) × (place.bits ≡ 64 * d) × (place.pointers_at ≡ p + d) × (place.pointers ≡ q)
 
 -- The pointer at a place leads to a struct of this size, whose sections lie in the message.
 pub record IsStructOf (S : Segments) (s p : ℕ) (size : StructSize) (place : StructPlace) : Type 0 where
-  pub starts : StartsAt place (target S s p).segment (target S s p).start size.data_words size.pointers
+  pub starts : StructStartsAt place (target S s p).segment (target S s p).start size.data_words size.pointers
   pub inside : IsStructPlace S place
 
 -- The pointer at a place leads to a list of so many elements, which are no structs and lie in the message.
@@ -45,8 +45,8 @@ abbrev pub IsElementOfSize : ElementSize → ListPlace → ℕ → StructPlace �
 IsElementOfSize InlineComposite list i place =
     let d = list.struct_size.data_words in
     let q = list.struct_size.pointers in
-    StartsAt place list.segment (list.byte / 8 + i * (d + q)) d q
-IsElementOfSize Pointer list i place = StartsAt place list.segment (list.byte / 8 + i) 0 1
+    StructStartsAt place list.segment (list.byte / 8 + i * (d + q)) d q
+IsElementOfSize Pointer list i place = StructStartsAt place list.segment (list.byte / 8 + i) 0 1
 IsElementOfSize size list i place =
     let bits = element_bits (size_number size) in
     (place.segment ≡ list.segment) × (place.byte ≡ list.byte + i * (bits / 8)) × (place.bits ≡ bits) × (place.pointers_at ≡ list.byte / 8) × (place.pointers ≡ 0)

@@ -6,7 +6,7 @@ ghost use Rattle.capnp_format.specs.Tree.{Null, Capability, Flat, count};
 ghost use Rattle.capnp_format.specs.Word.{capability_word, struct_word};
 ghost use Rattle.capnp_format.specs.Numbers.{words_for};
 ghost use Rattle.capnp_making.specs.Existing.{AreInside, capability_of};
-ghost use Rattle.capnp_making.specs.InPlace.{bytes_of, rewritten, AreBytes, AreZeroOnce, Overwrites};
+ghost use Rattle.capnp_making.specs.InPlace.{bytes_there, rewritten, AreBytes, AreZeroOnce, Overwrites};
 ghost use Rattle.capnp_words.specs.Sizes.{size_number};
 ghost use Rattle.capnp_making.specs.Made.{zero_struct, zero_structs, zero_list, list_words};
 ghost use Rattle.capnp_making.specs.Makes.{AsksForObject, MakesObject};
@@ -69,7 +69,7 @@ pub struct PointerBuilder<'a, A> {
 impl<'a, A: BuilderArena> PointerBuilder<'a, A> {
     ghost use Rattle.std.specs.Borrow.{sem, follows, Array, u8 as byte};
     ghost use Rattle.capnp_arena.specs.View.{KeepsLimits};
-    ghost use Rattle.capnp_builders.specs.Building.{Becomes, IsFresh, CopyFits, HasOnlyNull, IsNull, IsThere, KeepsBuilder, Leaves, built, calling, calling_last};
+    ghost use Rattle.capnp_builders.specs.Building.{Becomes, IsFreshMessage, CopyFits, HasOnlyNull, IsNull, IsThere, KeepsBuilder, LeavesMessage, built, calling, calling_last};
     ghost use Rattle.capnp_builders.specs.Kept.{PutsCopy, PutsStruct, PutsList, OnceCleared, FillsSegment, FillsMessage, copying};
     ghost use Rattle.capnp_builders.specs.Lent.{with_arena};
     ghost use Rattle.capnp_builders.specs.contracts.builders.PointerBuilder.{the_row};
@@ -214,7 +214,7 @@ impl<'a, A: BuilderArena> PointerBuilder<'a, A> {
     pub fn init_struct(mut self, size: StructSize) -> Result<StructBuilder<'a, A>, ErrorKind>
         requires { IsThere (built A.view self) }
         ensures same { IfOk result (λ b. b.arena.ghost_name ≡ self.entry.arena.ghost_name) }
-        ensures object { Leaves (λ b. A.view b.arena.now) (λ b. b.place)
+        ensures object { LeavesMessage (λ b. A.view b.arena.now) (λ b. b.place)
             (λ new r. MakesObject r (calling_last A.view self.entry new)
             (zero_struct size) (size.data_words + size.pointers)) result }
         ensures leads { IfOk result (λ b.
@@ -291,7 +291,7 @@ impl<'a, A: BuilderArena> PointerBuilder<'a, A> {
         requires few { count < 2 ^ 29 }
         requires plain { size_number size ≤ 6 }
         ensures same { IfOk result (λ b. b.arena.ghost_name ≡ self.entry.arena.ghost_name) }
-        ensures object { Leaves (λ b. A.view b.arena.now) (λ b. b.place)
+        ensures object { LeavesMessage (λ b. A.view b.arena.now) (λ b. b.place)
             (λ new r. MakesObject r (calling_last A.view self.entry new)
             (zero_list (size_number size) count) (list_words (size_number size) count)) result }
         ensures leads { IfOk result (λ b.
@@ -349,7 +349,7 @@ impl<'a, A: BuilderArena> PointerBuilder<'a, A> {
         requires few { count < 2 ^ 30 }
         requires words { count * (size.data_words + size.pointers) < 2 ^ 29 }
         ensures same { IfOk result (λ b. b.arena.ghost_name ≡ self.entry.arena.ghost_name) }
-        ensures object { Leaves (λ b. A.view b.arena.now) (λ b. b.place)
+        ensures object { LeavesMessage (λ b. A.view b.arena.now) (λ b. b.place)
             (λ new r. MakesObject r (calling_last A.view self.entry new)
             (zero_structs count size) (1 + count * (size.data_words + size.pointers))) result }
         ensures leads { IfOk result (λ b. IsStructListOf
@@ -371,7 +371,7 @@ impl<'a, A: BuilderArena> PointerBuilder<'a, A> {
             (Array byte 0) self.entry.ghost_name result.ghost_name
             (λ ws. with_arena self.old
             (rewritten A.with_bytes A.segments self.old.arena.now bytes ws))) }
-        ensures now { result.now ≡ bytes_of (A.segments self.old.arena.now) bytes }
+        ensures now { result.now ≡ bytes_there (A.segments self.old.arena.now) bytes }
         ensures count { length result.now ≡ bytes.length }
         ensures written { (ws : List ℕ) → AreBytes bytes.length ws →
             Overwrites (A.view self.old.arena.now).words
@@ -502,7 +502,7 @@ impl<'a, A: BuilderArena> PointerBuilder<'a, A> {
             → IfOk result
             (λ _. FillsSegment (reading B.ReaderArena from.entry)
             (copying A.view canonicalize self.old self.new lim.old lim.new)) }
-        ensures alone { IsFresh (built A.view self.old)
+        ensures alone { IsFreshMessage (built A.view self.old)
             → IfOk result
             (λ _. FillsMessage (reading B.ReaderArena from.entry)
             (copying A.view canonicalize self.old self.new lim.old lim.new)) }

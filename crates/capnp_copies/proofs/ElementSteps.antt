@@ -8,7 +8,7 @@ use Rattle.capnp_format.proofs.Slices.{length_words}
 use Rattle.capnp_arena.specs.View.{View}
 use Rattle.capnp_arena.specs.Written.{with_segment, with_words, overwritten}
 use Rattle.capnp_objects.specs.Outcomes.{ReadsElements}
-use Rattle.capnp_objects.specs.Reading.{Reading, behind, row, words_from}
+use Rattle.capnp_objects.specs.Reading.{Reading, behind, segment_read, words_from}
 use Rattle.capnp_objects.specs.Wanted.{Form}
 use Rattle.capnp_objects.proofs.Copies.{with_last_element}
 use Rattle.capnp_copies.specs.Forms.{kept_each, kept_elements}
@@ -46,7 +46,7 @@ children_put {b} {r} {sizes} {old} {mid} {new} {id} {at} {us} put children =
 -- position at on.
 pub record ElementsFit (r : Reading) (sizes : ElementSizes) (n : ℕ) (W : List ℕ) (at : ℕ) : Type 0 where
   pub room : at + n * (sizes.kept.data_words + sizes.kept.pointers) ≡ length W
-  pub inside : r.at + n * (sizes.source.data_words + sizes.source.pointers) ≤ length (row r)
+  pub inside : r.at + n * (sizes.source.data_words + sizes.source.pointers) ≤ length (segment_read r)
   pub less_data : sizes.kept.data_words ≤ sizes.source.data_words
   pub less_pointers : sizes.kept.pointers ≤ sizes.source.pointers
 
@@ -119,7 +119,7 @@ next_row {b} {r} {sizes} {n} {i} {w} {id} {at} {old} {mid} here =
       null = λ j b. ap (λ xs. get_or xs (at + i * w + e + j) 0) same ∙ row_null laid k (at + i * w + e + j) (omega arith) (omega arith);
     }
 
-pub next_inside : {r : Reading} {sizes : ElementSizes} {n i w at : ℕ} {c : Call} (width : ℕ) → AtRow r sizes n i w c at → width ≡ sizes.source.data_words + sizes.source.pointers → r.at + i * width + (sizes.source.data_words + sizes.source.pointers) ≤ length (row r)
+pub next_inside : {r : Reading} {sizes : ElementSizes} {n i w at : ℕ} {c : Call} (width : ℕ) → AtRow r sizes n i w c at → width ≡ sizes.source.data_words + sizes.source.pointers → r.at + i * width + (sizes.source.data_words + sizes.source.pointers) ≤ length (segment_read r)
 next_inside {r} {sizes} {n} {i} width here is =
     let a : ℕ = sizes.source.data_words + sizes.source.pointers in
     let less : suc i ≤ n = here.more in
@@ -144,7 +144,7 @@ row_put {b} {r} {sizes} {n} {i} {w} {id} {at} {old} {mid} {new} {m} {m'} {m''} h
     let left : ℕ = n - (i + 1) in
     let more : n - i ≡ suc left = omega (arith, here.more) in
     let us : List ℕ = words_at r.segments r.segment (r.at + i * (d + v)) e in
-    let inside : r.at + i * (d + v) + (d + v) ≤ length (row r) = next_inside (d + v) here refl in
+    let inside : r.at + i * (d + v) + (d + v) ≤ length (segment_read r) = next_inside (d + v) here refl in
     let count_us : length us ≡ e = length_words r.segments r.segment (r.at + i * (d + v)) e (omega (arith, here.fits.less_data)) in
     let F : List ℕ = take at (segment M id) in
     let laid : Laid = record { front = F; size = sizes.kept; elements = fs; shaped = x.shaped } in

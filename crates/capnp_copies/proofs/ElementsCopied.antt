@@ -13,7 +13,7 @@ use Rattle.capnp_copies.proofs.Shapes.{AreShapedElements, length-rows, length-el
 use Rattle.capnp_copies.proofs.ElementsLaid.{Laid, rows_end}
 use Rattle.capnp_copies.proofs.UsedChildren.{take_trees-trim, fill_nulls, null_behind}
 use Rattle.capnp_objects.specs.Outcomes.{ReadsAll, ReadsElements}
-use Rattle.capnp_objects.specs.Reading.{Reading, pointers_of, row}
+use Rattle.capnp_objects.specs.Reading.{Reading, pointers_of, segment_read}
 use Rattle.capnp_objects.specs.Spending.{pointers_in_all, pointers_in_elements}
 use Rattle.capnp_objects.specs.Wanted.{canonical}
 use Rattle.capnp_objects.proofs.Copies.{with_last_element, count-with_last_element, read_element, pointers_in-with_last_element}
@@ -56,8 +56,8 @@ pub record Another (r : Reading) (size least : StructSize) (m m' : Meter) (es : 
 
 -- The n elements lie in the segment, and the pointers of this size that are kept of each are all that are used.
 pub record SourceFits (r : Reading) (size least : StructSize) (n : ℕ) : Type 0 where
-  pub inside : r.at + n * (size.data_words + size.pointers) ≤ length (row r)
-  pub used : pointers_used (row r) r.at size.data_words size.pointers n ≤ least.pointers
+  pub inside : r.at + n * (size.data_words + size.pointers) ≤ length (segment_read r)
+  pub used : pointers_used (segment_read r) r.at size.data_words size.pointers n ≤ least.pointers
   pub less : least.pointers ≤ size.pointers
 
 -- how far a row is from the end of all
@@ -72,8 +72,8 @@ another {r} {size} {least} {i} {m} {m'} {m''} {es} {ts} fits all less len one =
     let q : ℕ = size.pointers in
     let j : ℕ = element_count es in
     let at : ℕ = r.at + j * (d + q) + d in
-    let room : at + q ≤ length (row r) = omega (arith, row_ends j i (d + q) less, fits.inside) in
-    let f = fill_nulls q one (omega (arith, fits.less)) (λ k a b. null_behind (pointers_of r size j) q k (omega (arith, pointers_within (row r) r.at size i j less, fits.used)) b) in
+    let room : at + q ≤ length (segment_read r) = omega (arith, row_ends j i (d + q) less, fits.inside) in
+    let f = fill_nulls q one (omega (arith, fits.less)) (λ k a b. null_behind (pointers_of r size j) q k (omega (arith, pointers_within (segment_read r) r.at size i j less, fits.used)) b) in
     let ws : List ℕ = words_at r.segments r.segment (r.at + j * (d + q)) d in
     record {
       all = with_last_element es ws f.all;

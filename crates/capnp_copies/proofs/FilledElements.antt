@@ -14,7 +14,7 @@ use Rattle.capnp_making.proofs.Memory.{keeps_itself, keeps_both, keeps_written, 
 use Rattle.capnp_making.proofs.WordsPut.{words_put}
 use Rattle.capnp_objects.specs.Outcomes.{ReadsAll}
 use Rattle.capnp_objects.specs.Refusals.{RefusedAll, StopsAmong, BreaksOffAmong}
-use Rattle.capnp_objects.specs.Reading.{Reading, behind, row, words_from, pointers_of}
+use Rattle.capnp_objects.specs.Reading.{Reading, behind, segment_read, words_from, pointers_of}
 use Rattle.capnp_objects.specs.Wanted.{Form, canonical}
 use Rattle.capnp_objects.proofs.Copies.{read_no_element, with_last_element}
 use Rattle.capnp_copies.specs.Changes.{WantsWords, change, CopiesChildren, StopsAtChildren, CopiesElement, StopsAtElement, CopiesRows, CopiesElements, StopsAtElements}
@@ -32,7 +32,7 @@ use Rattle.capnp_copies.proofs.KeptForms.{SourceKept, one_more, stops_sooner, bl
 
 -- The data words that are kept of an element are written at a place.
 pub record DataWritten (r : Reading) (sizes : ElementSizes) (old mid : View) (s p : ℕ) : Type 0 where
-  pub inside : r.at + sizes.kept.data_words ≤ length (row r)
+  pub inside : r.at + sizes.kept.data_words ≤ length (segment_read r)
   pub room : p + sizes.kept.data_words ≤ length (segment old.words s)
   pub writes : mid ≡ record old { words = with_words old.words s p (words_from r sizes.kept.data_words) }
 
@@ -167,7 +167,7 @@ module _ {r : Reading} {sizes : ElementSizes} {n i : ℕ} {b : Form} {s p : ℕ}
       elements_ahead old.words mid.words s p d q laid (p + i * (d + q) + d + j) here.rows.made (omega (arith, rows_before)) (omega (arith, end, here.room))
       ∙ ap (word_at old.words s) same ∙ here.zero (i * (d + q) + d + j) (omega (arith, end))
 
-  pub next_inside : r.at + i * (sizes.source.data_words + sizes.source.pointers) + (sizes.source.data_words + sizes.source.pointers) ≤ length (row r)
+  pub next_inside : r.at + i * (sizes.source.data_words + sizes.source.pointers) + (sizes.source.data_words + sizes.source.pointers) ≤ length (segment_read r)
   next_inside = omega (arith, row_end i n (sizes.source.data_words + sizes.source.pointers) here.more, here.fits.inside)
 
   abbrev next_words : List ℕ

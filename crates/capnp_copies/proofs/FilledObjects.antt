@@ -10,7 +10,7 @@ use Rattle.capnp_format.specs.Word.{struct_word}
 use Rattle.capnp_format.proofs.Slices.{length_words}
 use Rattle.capnp_arena.specs.View.{View}
 use Rattle.capnp_arena.specs.Written.{with_word, with_words}
-use Rattle.capnp_making.specs.Made.{zero_struct, zero_structs, zeros, nulls}
+use Rattle.capnp_making.specs.Made.{zero_struct, zero_structs, words_of_zero, nulls}
 use Rattle.capnp_making.specs.Memory.{HasRoom, KeepsMemory, IsRefusedFor, RefusesWords, StandsBehind, TakesWords}
 use Rattle.capnp_making.specs.Near.{HasOwnRoom, HasStructRoom, StartsBehind, with_struct}
 use Rattle.capnp_making.specs.Stored.{IsReplaced}
@@ -20,9 +20,9 @@ use Rattle.capnp_making.proofs.FillingChains.{elements_grow}
 use Rattle.capnp_making.proofs.FillingMade.{IsBegun, null_stored, struct_ready, struct_done, struct_whole, pointers_done, pointers_whole, structs_done, structs_whole}
 use Rattle.capnp_making.proofs.Memory.{keeps_both, keeps_written, keeps_then_spends, words_refused_after, made_refused}
 use Rattle.capnp_making.proofs.WordsPut.{words_put}
-use Rattle.capnp_objects.specs.Reading.{Reading, behind, row, words_from}
+use Rattle.capnp_objects.specs.Reading.{Reading, behind, segment_read, words_from}
 use Rattle.capnp_objects.specs.Wanted.{Form, canonical}
-use Rattle.capnp_copies.specs.Changes.{KeepsSections, KeepsWidths, KeepsPointers, change, Leaves, CopiesChildren, StopsAtChildren, CopiesPointers, StopsAtPointers, CopiesStruct, StopsAtStruct, CopiesElements, StopsAtElements, CopiesStructs, StopsAtStructs}
+use Rattle.capnp_copies.specs.Changes.{KeepsSections, KeepsWidths, KeepsPointers, change, LeavesSomeValue, CopiesChildren, StopsAtChildren, CopiesPointers, StopsAtPointers, CopiesStruct, StopsAtStruct, CopiesElements, StopsAtElements, CopiesStructs, StopsAtStructs}
 use Rattle.capnp_copies.specs.Forms.{kept, kept_each, kept_elements}
 use Rattle.capnp_copies.specs.declared.widths.ElementSizes.{ElementSizes}
 use Rattle.capnp_copies.proofs.FilledChildren.{children_grow}
@@ -39,7 +39,7 @@ pub nothing_left : (S R : Segments) (s p : ℕ) → IsPlace S s p → word_at S 
 nothing_left S R s p place null same = subst (λ T. IsReplaced S T s p Null Null) (sym same) (unchanged S s p Null (null_stored S s p place null))
 
 pub nothing_made : (b : Form) (s p n : ℕ) (old new : View) (m m' : Meter) (k : ErrorKind) → IsPlace old.words s p → word_at old.words s p ≡ 0 → IsRefusedFor old new n k → new.words ≡ old.words → (HasRoom old s n → ⊥) →
-    RefusesWords old new n k × Leaves (change b s p old new m m') k
+    RefusesWords old new n k × LeavesSomeValue (change b s p old new m m') k
 nothing_made b s p n old new m m' k place null named same full =
     let r = made_refused old new s n k named same full in
     (r.0, ((Null, nothing_left old.words new.words s p place null same), r.1))
@@ -48,7 +48,7 @@ nothing_made b s p n old new m m' k place null named same full =
 
 -- A struct is made and starts at h, and its data words are written.
 pub record StructBegun (b : Form) (r : Reading) (size least : StructSize) (s p : ℕ) (old made mid : View) (h : Start) : Type 0 where
-  pub inside : r.at + (size.data_words + size.pointers) ≤ length (row r)
+  pub inside : r.at + (size.data_words + size.pointers) ≤ length (segment_read r)
   pub sections : KeepsSections b r size least
   pub less_data : least.data_words ≤ size.data_words
   pub less_pointers : least.pointers ≤ size.pointers
@@ -69,8 +69,8 @@ module _ {b : Form} {r : Reading} {size least : StructSize} {s p : ℕ} {old mad
   long : length ws ≡ least.data_words
   long = length_words r.segments r.segment r.at least.data_words (omega (arith, o.inside, o.less_data))
 
-  is_begun : IsBegun old.words made.words s p (length ws + least.pointers) h (Struct (zeros (length ws)) (nulls least.pointers))
-  is_begun = subst (λ d. IsBegun old.words made.words s p (d + least.pointers) h (Struct (zeros d) (nulls least.pointers))) (sym long) o.begun
+  is_begun : IsBegun old.words made.words s p (length ws + least.pointers) h (Struct (words_of_zero (length ws)) (nulls least.pointers))
+  is_begun = subst (λ d. IsBegun old.words made.words s p (d + least.pointers) h (Struct (words_of_zero d) (nulls least.pointers))) (sym long) o.begun
 
   writes : mid.words ≡ with_words made.words h.segment h.at ws
   writes = ap (λ (v : View). v.words) o.writes
@@ -172,7 +172,7 @@ pub widths_keep : (b : Form) (r : Reading) (sizes : ElementSizes) (i : ℕ) → 
 widths_keep canonical r sizes i widths = omega (arith, widths.of_pointers)
 widths_keep _ r sizes i same = same
 
-pub structs_copied : {b : Form} {r : Reading} {sizes : ElementSizes} {i s p : ℕ} {old mid new : View} {h : Start} {m m' : Meter} → r.at + i * (sizes.source.data_words + sizes.source.pointers) ≤ length (row r) → KeepsWidths b r sizes.source i sizes.kept →
+pub structs_copied : {b : Form} {r : Reading} {sizes : ElementSizes} {i s p : ℕ} {old mid new : View} {h : Start} {m m' : Meter} → r.at + i * (sizes.source.data_words + sizes.source.pointers) ≤ length (segment_read r) → KeepsWidths b r sizes.source i sizes.kept →
     ObjectBegun s p (1 + i * (sizes.kept.data_words + sizes.kept.pointers)) old mid h (zero_structs i sizes.kept) → StructsMade i s p sizes.kept old mid h → CopiesElements r sizes i (change b h.segment (h.at + 1) mid new m m') → CopiesStructs r sizes.source i (change b s p old new m m')
 structs_copied {b} {r} {sizes} {i} {s} {p} {old} {mid} {new} {h} inside widths o near elements =
     let d : ℕ = sizes.kept.data_words in
@@ -188,7 +188,7 @@ structs_copied {b} {r} {sizes} {i} {s} {p} {old} {mid} {new} {h} inside widths o
       stands = structs_tight {r = r} {sizes = sizes} b (elements_grow mid.words new.words h.segment (h.at + 1) d q (cut_to d q (kept_elements b es)) elements.made (omega (arith, cut_kept-count b d q es, elements.counts, ap (λ j. j * (d + q)) (cut_kept-count b d q es ∙ elements.counts), o.begun.inside.1))).segments inside widths near elements;
     }
 
-pub structs_stop : {b : Form} {r : Reading} {sizes : ElementSizes} {i s p : ℕ} {old mid new : View} {h : Start} {m m' : Meter} {k : ErrorKind} → r.at + i * (sizes.source.data_words + sizes.source.pointers) ≤ length (row r) → KeepsWidths b r sizes.source i sizes.kept →
+pub structs_stop : {b : Form} {r : Reading} {sizes : ElementSizes} {i s p : ℕ} {old mid new : View} {h : Start} {m m' : Meter} {k : ErrorKind} → r.at + i * (sizes.source.data_words + sizes.source.pointers) ≤ length (segment_read r) → KeepsWidths b r sizes.source i sizes.kept →
     ObjectBegun s p (1 + i * (sizes.kept.data_words + sizes.kept.pointers)) old mid h (zero_structs i sizes.kept) → StructsMade i s p sizes.kept old mid h →
     StopsAtElements r sizes i (change b h.segment (h.at + 1) mid new m m') k → StopsAtStructs r sizes.source i (change b s p old new m m') k
 structs_stop {b} {r} {sizes} {i} {s} {p} {old} {mid} {new} {h} {m} {m'} {k} inside widths o near stop = record {

@@ -10,7 +10,7 @@ use Rattle.capnp_format.specs.Word.{struct_word}
 use Rattle.capnp_format.proofs.Slices.{length_words}
 use Rattle.capnp_arena.specs.View.{View}
 use Rattle.capnp_arena.specs.Written.{with_word, with_words}
-use Rattle.capnp_making.specs.Made.{zero_struct, zeros, nulls}
+use Rattle.capnp_making.specs.Made.{zero_struct, words_of_zero, nulls}
 use Rattle.capnp_making.specs.Memory.{KeepsMemory, StandsBehind, TakesWords}
 use Rattle.capnp_making.specs.Near.{HasStructRoom, with_struct}
 use Rattle.capnp_making.specs.Stored.{IsReplaced}
@@ -19,7 +19,7 @@ use Rattle.capnp_making.proofs.FillingMade.{IsBegun, struct_ready, struct_done, 
 use Rattle.capnp_making.proofs.Memory.{keeps_both, keeps_written, keeps_then_spends, words_refused_after}
 use Rattle.capnp_making.proofs.WordsPut.{words_put}
 use Rattle.capnp_objects.specs.Outcomes.{ReadsAll}
-use Rattle.capnp_objects.specs.Reading.{Reading, row, words_from}
+use Rattle.capnp_objects.specs.Reading.{Reading, segment_read, words_from}
 use Rattle.capnp_objects.specs.Spending.{pointers_in_all}
 use Rattle.capnp_objects.specs.Wanted.{Form, canonical}
 use Rattle.capnp_copies.specs.Changes.{change, CopiesChildren, StopsAtChildren}
@@ -45,7 +45,7 @@ pub record SectionsKept (b : Form) (ws : List ℕ) (r : Reading) (q : ℕ) (m m'
   pub costs : are_read.cost ≡ n
   pub follows : pointers_in_all all ≡ k
 
-pub sections_kept : (b : Form) (ws : List ℕ) (r : Reading) (q : ℕ) (m m' : Meter) (ts : Trees) → r.at + q ≤ length (row r) → count ts ≡ kept_count b (words_from r q) → (read : ReadsAll b r m m' ts) →
+pub sections_kept : (b : Form) (ws : List ℕ) (r : Reading) (q : ℕ) (m m' : Meter) (ts : Trees) → r.at + q ≤ length (segment_read r) → count ts ≡ kept_count b (words_from r q) → (read : ReadsAll b r m m' ts) →
     SectionsKept b ws r q m m' ts read.cost (pointers_in_all ts)
 sections_kept canonical ws r q m m' ts inside len all =
     let few : count ts ≤ q = omega (arith, kept_count-le canonical (words_from r q), length_words r.segments r.segment r.at q inside, len) in
@@ -86,8 +86,8 @@ module _ {b : Form} {ws : List ℕ} {r : Reading} {q : ℕ} {least : StructSize}
   fewer : least.pointers ≤ q
   fewer = omega (arith, o.cut.of_pointers, kept_count-le b (words_from r q), length_words r.segments r.segment r.at q o.cut.inside)
 
-  is_begun : IsBegun old.words made.words s p (length section + least.pointers) h (Struct (zeros (length section)) (nulls least.pointers))
-  is_begun = subst (λ d. IsBegun old.words made.words s p (d + least.pointers) h (Struct (zeros d) (nulls least.pointers))) (sym long) o.begun
+  is_begun : IsBegun old.words made.words s p (length section + least.pointers) h (Struct (words_of_zero (length section)) (nulls least.pointers))
+  is_begun = subst (λ d. IsBegun old.words made.words s p (d + least.pointers) h (Struct (words_of_zero d) (nulls least.pointers))) (sym long) o.begun
 
   writes : mid.words ≡ with_words made.words h.segment h.at section
   writes = ap (λ (v : View). v.words) o.writes
@@ -126,7 +126,7 @@ module _ {b : Form} {ws : List ℕ} {r : Reading} {q : ℕ} {least : StructSize}
   pub sections_null : (i : ℕ) → i < least.pointers → word_at mid.words h.segment (h.at + least.data_words + i) ≡ 0
   sections_null i l = subst (λ d. word_at mid.words h.segment (h.at + d + i) ≡ 0) long ((struct_ready old.words made.words mid.words s p least.pointers h section is_begun writes).1 i l)
 
-  pub sections_inside : r.at + least.pointers ≤ length (row r)
+  pub sections_inside : r.at + least.pointers ≤ length (segment_read r)
   sections_inside = omega (arith, fewer, o.cut.inside)
 
   pub sections_copied : {new : View} {m m' : Meter} → CopiesChildren r least.pointers (change b h.segment (h.at + least.data_words) mid new m m') → CopiesSections ws r q (change b s p old new m m')

@@ -19,7 +19,7 @@ use Rattle.capnp_words.specs.declared.wire_pointer.ElementSize.{ElementSize}
 use Rattle.capnp_words.specs.declared.wire_pointer.ElementSize.TheVariants.{Void, Bit, Byte, TwoBytes, FourBytes, EightBytes, Pointer, InlineComposite}
 use Rattle.capnp_words.specs.Sizes.{size_number}
 use Rattle.capnp_format.specs.Numbers.{words_for, unpacked}
-use Rattle.capnp_making.specs.Made.{LeadsTo}
+use Rattle.capnp_making.specs.Made.{LeadsToStart, structs_words}
 use Rattle.capnp_making.specs.Memory.{Lengthens, IsNextRoom, TakesWords, StandsBehind, KeepsMemory, IsRefusedFor}
 use Rattle.capnp_making.specs.Near.{HasOwnRoom}
 use Rattle.capnp_making.specs.Zeroed.{IsPruned}
@@ -31,7 +31,7 @@ use Rattle.capnp_objects.specs.Demands.{own, tag}
 use Rattle.capnp_objects.specs.Faults.{child_at}
 use Rattle.capnp_objects.specs.Objects.{IsObject}
 use Rattle.capnp_objects.specs.Outcomes.{Spends, Reads, ReadsAll, ReadsElements, Entered}
-use Rattle.capnp_objects.specs.Reading.{Reading, behind, row, words_from, pointers_of, tag_size}
+use Rattle.capnp_objects.specs.Reading.{Reading, behind, segment_read, words_from, pointers_of, tag_size}
 use Rattle.capnp_objects.specs.Refusals.{Stopped, ReadsBefore, in_struct, in_pointers, in_element, StopsWithin, here, below, BreaksOff, BreaksOffAmong, BreaksOffAmongElements}
 use Rattle.capnp_objects.specs.Spending.{pointers_in, pointers_in_all, pointers_in_elements}
 use Rattle.capnp_objects.specs.Wanted.{Form, plain, canonical, of_default}
@@ -47,7 +47,7 @@ use Rattle.capnp_copies.specs.Changes.{Change, change, KeepsSections, StayInSegm
 use Rattle.capnp_copies.specs.Costs.{cost_before, cost_until, cost_among, cost_among_elements, followed_before, followed_until, followed_among, followed_among_elements}
 use Rattle.capnp_copies.specs.ListValues.{ListElements}
 use Rattle.capnp_copies.specs.StructValues.{kept_count}
-use Rattle.capnp_copies.specs.Growth.{message_words, TakesNone, Makes, no_object, near, far, both, MakesAtMost, Gains, TakesForValue, TakesUntilStop, TakesForAll, TakesAmong, TakesForElements, TakesAmongElements, TakesNothing, TakesForListOf, of_numbers, of_pointers, of_structs, structs_words, PadsApart, TakesFew, FewTaken}
+use Rattle.capnp_copies.specs.Growth.{message_words, TakesNone, Makes, no_object, near, far, both, MakesAtMost, Gains, TakesForValue, TakesUntilStop, TakesForAll, TakesAmong, TakesForElements, TakesAmongElements, TakesNothing, TakesForListOf, of_numbers, of_pointers, of_structs, PadsApart, TakesFew, FewTaken}
 use Rattle.capnp_copies.specs.declared.widths.ElementSizes.{ElementSizes}
 use Rattle.capnp_copies.proofs.Copying.{there}
 use Rattle.capnp_copies.proofs.FilledSections.{sections_kept}
@@ -140,14 +140,14 @@ pub record Begins (id k n : ℕ) (old mid : View) : Type 0 where
   pub far : old.room id < length (segment old.words id) + n → IsNextRoom old (n + 1) k
 
 -- so a struct, which may have no words
-empty_start : (S R : Segments) (s p : ℕ) (h : Start) → IsPlace S s p → R ≡ with_word S s p (struct_word (2 ^ 30 - 1) 0 0) → LeadsTo R s p h → h.segment ≡ s
+empty_start : (S R : Segments) (s p : ℕ) (h : Start) → IsPlace S s p → R ≡ with_word S s p (struct_word (2 ^ 30 - 1) 0 0) → LeadsToStart R s p h → h.segment ≡ s
 empty_start S R s p h place writes lead =
     let x : ℕ = struct_word (2 ^ 30 - 1) 0 0 in
     let made = empty_made S R s p x place (word_put S R s p x place writes) refl in
     lead.0 ∙ ap (λ o. (target_in o).segment) made.leads_there.1
 
 pub struct_begins : (s p : ℕ) (least : StructSize) (old made : View) (h : Start) → IsPlace old.words s p → TakesWords old made s (least.data_words + least.pointers) → KeepsMemory old made → StandsBehind old s (least.data_words + least.pointers) h →
-    LeadsTo made.words s p h → (least.data_words + least.pointers ≡ 0 → made.words ≡ with_word old.words s p (struct_word (2 ^ 30 - 1) 0 0)) → Begins s h.segment (least.data_words + least.pointers) old made
+    LeadsToStart made.words s p h → (least.data_words + least.pointers ≡ 0 → made.words ≡ with_word old.words s p (struct_word (2 ^ 30 - 1) 0 0)) → Begins s h.segment (least.data_words + least.pointers) old made
 struct_begins s p least old made h place taken memory behind lead empty = record {
   there = there old.words s p place;
   taken = taken;
@@ -300,13 +300,13 @@ until_within before after x = record { off = x.off; made = made_within before af
 
 -- A struct is made of the pointers that are kept: all of them are read.
 
-pub sections_taken : (r : Reading) (size least : StructSize) {b : Form} {s k p p' n l : ℕ} {old mid new : View} {m m' : Meter} → r.at + (size.data_words + size.pointers) ≤ length (row r) → KeepsSections b r size least → Begins s k n old mid → n ≤ l →
+pub sections_taken : (r : Reading) (size least : StructSize) {b : Form} {s k p p' n l : ℕ} {old mid new : View} {m m' : Meter} → r.at + (size.data_words + size.pointers) ≤ length (segment_read r) → KeepsSections b r size least → Begins s k n old mid → n ≤ l →
     TakesForAll (behind r size.data_words) least.pointers 0 0 (change b k p' mid new m m') → TakesForAll (behind r size.data_words) size.pointers l 1 (change b s p old new m m')
 sections_taken r size least {b} {m = m} {m'} room kept begun less x =
     let f = struct_kept b r size least m m' x.children room kept x.counts x.are_read in
     record { children = f.all; counts = f.counts; are_read = f.are_read; made = made_more (omega (arith, less, f.costs)) (omega (arith, f.follows)) (made_object begun x.made) }
 
-pub cut_taken : {r : Reading} {b : Form} {q used n l s k p p' : ℕ} {old mid new : View} {m m' : Meter} → r.at + q ≤ length (row r) → used ≡ kept_count b (words_from r q) → Begins s k n old mid → n ≤ l → TakesForAll r used 0 0 (change b k p' mid new m m') → TakesForAll r q l 1 (change b s p old new m m')
+pub cut_taken : {r : Reading} {b : Form} {q used n l s k p p' : ℕ} {old mid new : View} {m m' : Meter} → r.at + q ≤ length (segment_read r) → used ≡ kept_count b (words_from r q) → Begins s k n old mid → n ≤ l → TakesForAll r used 0 0 (change b k p' mid new m m') → TakesForAll r q l 1 (change b s p old new m m')
 cut_taken {r} {b} {q} {m = m} {m'} room cut begun less x =
     let f = sections_kept b [] r q m m' x.children room (x.counts ∙ cut) x.are_read in
     record { children = f.all; counts = f.counts; are_read = f.are_read; made = made_more (omega (arith, less, f.costs)) (omega (arith, f.follows)) (made_object begun x.made) }
@@ -392,7 +392,7 @@ pointers_stop_take {r} {b} {s} {levels = levels} {i} {old} {new} {m' = m'} {m''}
     ]
 
 pub structs_take : {r : Reading} {b : Form} {s p levels i : ℕ} {old new : View} {m m' m'' : Meter} {size : StructSize} (start : Place) → (0 < r.levels → levels ≡ pred r.levels) → IsObject Value r m m' (ObjectStructs start size i) →
-    TakesForElements (inside r levels start) size i (structs_words size i) 1 (change b s p old new m' m'') → TakesForValue r (change b s p old new m m'')
+    TakesForElements (inside r levels start) size i (structs_words i size) 1 (change b s p old new m' m'') → TakesForValue r (change b s p old new m m'')
 unfolding read_structs
 structs_take {r} {b} {s} {levels = levels} {i} {old} {new} {m' = m'} {m''} {size} start less (a, o, z, seven, (held, eu, eb), ei, ed, eq) x =
     let en = less o.meets.levels in
@@ -406,7 +406,7 @@ structs_take {r} {b} {s} {levels = levels} {i} {old} {new} {m' = m'} {m''} {size
     }
 
 pub structs_stop_take : {r : Reading} {b : Form} {s p levels i : ℕ} {old new : View} {m m' m'' : Meter} {size : StructSize} (start : Place) → (0 < r.levels → levels ≡ pred r.levels) → IsObject Value r m m' (ObjectStructs start size i) →
-    TakesNothing (change b s p old new m' m'') ⊎ TakesAmongElements (inside r levels start) size i (structs_words size i) 1 (change b s p old new m' m'') → TakesUntilStop r (change b s p old new m m'')
+    TakesNothing (change b s p old new m' m'') ⊎ TakesAmongElements (inside r levels start) size i (structs_words i size) 1 (change b s p old new m' m'') → TakesUntilStop r (change b s p old new m m'')
 unfolding stops_structs
 structs_stop_take {r} {b} {s} {levels = levels} {i} {old} {new} {m' = m'} {m''} {size} start less (a, o, z, seven, (held, eu, eb), ei, ed, eq) tried =
     let en = less o.meets.levels in

@@ -13,7 +13,7 @@ use Rattle.capnp_making.specs.Filled.{AreElementsFilled}
 use Rattle.capnp_making.proofs.WordsPut.{none_over}
 use Rattle.capnp_objects.specs.Outcomes.{ReadsAll, ReadsElements, MeanThere, ElementsMean}
 use Rattle.capnp_objects.specs.Refusals.{StopsAmong}
-use Rattle.capnp_objects.specs.Reading.{Reading, behind, row, words_from, pointers_of}
+use Rattle.capnp_objects.specs.Reading.{Reading, behind, segment_read, words_from, pointers_of}
 use Rattle.capnp_objects.specs.Spending.{pointers_in_all, pointers_in_elements}
 use Rattle.capnp_objects.specs.Wanted.{Form, canonical}
 use Rattle.capnp_objects.proofs.Copies.{with_last_element, count-with_last_element, pointers_in-with_last_element, read_element, read_none, read_no_element}
@@ -44,7 +44,7 @@ pub record StructKept (b : Form) (r : Reading) (size least : StructSize) (m m' :
   pub costs : are_read.cost ≡ n
   pub follows : pointers_in_all all ≡ k
 
-pub struct_kept : (b : Form) (r : Reading) (size least : StructSize) (m m' : Meter) (ts : Trees) → r.at + (size.data_words + size.pointers) ≤ length (row r) → KeepsSections b r size least → count ts ≡ least.pointers →
+pub struct_kept : (b : Form) (r : Reading) (size least : StructSize) (m m' : Meter) (ts : Trees) → r.at + (size.data_words + size.pointers) ≤ length (segment_read r) → KeepsSections b r size least → count ts ≡ least.pointers →
     (read : ReadsAll b (behind r size.data_words) m m' ts) → StructKept b r size least m m' ts read.cost (pointers_in_all ts)
 struct_kept canonical r size least m m' ts inside uses len all =
     let f = struct_filled inside uses len all in
@@ -66,7 +66,7 @@ pub record SectionsMeant (b : Form) (ws : List ℕ) (r : Reading) (least : Struc
 
 -- The sections that are kept of a struct of these data words, of whose pointers r is the first of q.
 pub record SectionsCut (b : Form) (ws : List ℕ) (r : Reading) (q : ℕ) (least : StructSize) : Type 0 where
-  pub inside : r.at + q ≤ length (row r)
+  pub inside : r.at + q ≤ length (segment_read r)
   pub of_data : least.data_words ≡ kept_count b ws
   pub of_pointers : least.pointers ≡ kept_count b (words_from r q)
 
@@ -86,7 +86,7 @@ sections_meant _ {ws} {r} {q} {least} us c cut len all =
     let whole : take_trees least.pointers us ≡ us = ap (λ i. take_trees i us) (sym counts) ∙ take_count us in
     record { counts = ap count whole ∙ counts; means = subst (λ ts. MeanThere r ts c) (sym whole) all; words = omega (arith, cut.of_data, counts, ap word_count_all whole) }
 
-pub sections_cut : (b : Form) (r : Reading) (size least : StructSize) → r.at + (size.data_words + size.pointers) ≤ length (row r) → KeepsSections b r size least → SectionsCut b (words_from r size.data_words) (behind r size.data_words) size.pointers least
+pub sections_cut : (b : Form) (r : Reading) (size least : StructSize) → r.at + (size.data_words + size.pointers) ≤ length (segment_read r) → KeepsSections b r size least → SectionsCut b (words_from r size.data_words) (behind r size.data_words) size.pointers least
 sections_cut canonical r size least inside uses = record { inside = omega (arith, inside); of_data = uses.of_data; of_pointers = uses.of_pointers }
 sections_cut _ r size least inside same = record {
   inside = omega (arith, inside);
@@ -101,7 +101,7 @@ cut_same S n s p d q no_elements c h = refl
 cut_same S n s p d q (element ws ts es) c (a, b, long, len, words, all, rest, g) =
     ap₂ (λ (xs : List ℕ) us. element xs us (cut_to d q es)) (take_all d ws (omega arith)) (ap (λ i. take_trees i ts) (sym len) ∙ take_count ts) ∙ ap (element ws ts) (cut_same S n s (p + d + q) d q es b rest)
 
-pub list_kept : (b : Form) (r : Reading) (size least : StructSize) (es : Elements) (c : ℕ) → r.at + element_count es * (size.data_words + size.pointers) ≤ length (row r) → KeepsWidths b r size (element_count es) least → ElementsMean r size es c →
+pub list_kept : (b : Form) (r : Reading) (size least : StructSize) (es : Elements) (c : ℕ) → r.at + element_count es * (size.data_words + size.pointers) ≤ length (segment_read r) → KeepsWidths b r size (element_count es) least → ElementsMean r size es c →
     kept b (Structs size.data_words size.pointers es) ≡ Structs least.data_words least.pointers (cut_to least.data_words least.pointers (kept_elements b es))
 list_kept canonical r size least es c inside widths all =
     let is_least : AreLeast r size least (element_count es) = record { of_data = widths.of_data; of_pointers = widths.of_pointers } in
@@ -110,10 +110,10 @@ list_kept _ r size least es c inside same all =
     ap (Structs size.data_words size.pointers) (sym (cut_same r.segments r.levels r.segment r.at size.data_words size.pointers es c all)) ∙ ap (λ s. Structs s.data_words s.pointers (cut_to s.data_words s.pointers es)) (sym same)
 
 -- it takes so many words
-pub words_of_kept_list : (b : Form) (r : Reading) (size least : StructSize) (i : ℕ) (es : Elements) (c : ℕ) → r.at + i * (size.data_words + size.pointers) ≤ length (row r) → KeepsWidths b r size i least → element_count es ≡ i → ElementsMean r size es c →
+pub words_of_kept_list : (b : Form) (r : Reading) (size least : StructSize) (i : ℕ) (es : Elements) (c : ℕ) → r.at + i * (size.data_words + size.pointers) ≤ length (segment_read r) → KeepsWidths b r size i least → element_count es ≡ i → ElementsMean r size es c →
     word_count (kept b (Structs size.data_words size.pointers es)) ≡ 1 + i * (least.data_words + least.pointers) + word_count_elements (cut_to least.data_words least.pointers (kept_elements b es))
 words_of_kept_list b r size least i es c inside widths len all =
-    ap word_count (list_kept b r size least es c (subst (λ k. r.at + k * (size.data_words + size.pointers) ≤ length (row r)) (sym len) inside) (subst (λ k. KeepsWidths b r size k least) (sym len) widths) all)
+    ap word_count (list_kept b r size least es c (subst (λ k. r.at + k * (size.data_words + size.pointers) ≤ length (segment_read r)) (sym len) inside) (subst (λ k. KeepsWidths b r size k least) (sym len) widths) all)
     ∙ ap (λ j. 1 + j * (least.data_words + least.pointers) + word_count_elements (cut_to least.data_words least.pointers (kept_elements b es))) (cut_kept-count b least.data_words least.pointers es ∙ len)
 
 row_end : (j n w : ℕ) → j < n → j * w + w ≤ n * w
@@ -121,7 +121,7 @@ row_end j n w less = let f : suc j * w ≤ n * w = grind arith in omega (arith, 
 
 -- The n elements lie in the source, and no section that is used is cut.
 pub record SourceKept (b : Form) (r : Reading) (sizes : ElementSizes) (n : ℕ) : Type 0 where
-  pub inside : r.at + n * (sizes.source.data_words + sizes.source.pointers) ≤ length (row r)
+  pub inside : r.at + n * (sizes.source.data_words + sizes.source.pointers) ≤ length (segment_read r)
   pub less_data : sizes.kept.data_words ≤ sizes.source.data_words
   pub less_pointers : sizes.kept.pointers ≤ sizes.source.pointers
   pub used : KeepsPointers b r sizes n
@@ -134,7 +134,7 @@ row_kept canonical r sizes n j us c fits less len all =
     let q : ℕ = sizes.source.pointers in
     let end = row_end j n (d + q) less in
     let u = used_children (pointers_of r sizes.source j) us c (omega (arith, end, fits.inside)) len all in
-    means_taken (pointers_of r sizes.source j) us c sizes.kept.pointers (omega (arith, u, pointers_within (row r) r.at sizes.source n j less, fits.used)) all
+    means_taken (pointers_of r sizes.source j) us c sizes.kept.pointers (omega (arith, u, pointers_within (segment_read r) r.at sizes.source n j less, fits.used)) all
 row_kept _ r sizes n j us c fits less len all =
     subst (λ ts. MeanThere (pointers_of r sizes.source j) ts c) (sym (ap (λ i. take_trees i us) (ap (λ s. s.pointers) fits.used ∙ sym len) ∙ take_count us)) all
 

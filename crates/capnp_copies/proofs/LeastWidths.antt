@@ -5,7 +5,7 @@ use Rattle.capnp_format.specs.Segments.{Segments, segment, word_at, words_at}
 use Rattle.capnp_format.specs.Tree.{Tree, Null, Capability, Struct, Flat, Pointers, Structs, Trees, no_trees, tree, Elements, no_elements, element, count, element_count}
 use Rattle.capnp_words.specs.declared.wire_pointer.StructSize.{StructSize}
 use Rattle.capnp_objects.specs.Outcomes.{MeansThere, MeanThere, ElementsMean}
-use Rattle.capnp_objects.specs.Reading.{Reading, behind, row, word_of, words_from}
+use Rattle.capnp_objects.specs.Reading.{Reading, behind, segment_read, word_of, words_from}
 use Rattle.capnp_format.specs.Canonical.{used_from, used_words, is_null, used_trees, data_width, pointer_width}
 use Rattle.capnp_copies.specs.Widths.{data_used, pointers_used}
 
@@ -22,7 +22,7 @@ words_at-more : (S : Segments) (s p n : ℕ) → p < length (segment S s) → wo
 words_at-more S s p n l = ap (take (suc n)) (drop_more (segment S s) p 0 l)
 
 -- so the children that are used are as many as the used words of the pointers
-pub used_where_meant : (r : Reading) (ts : Trees) (c : ℕ) → r.at + count ts ≤ length (row r) → MeanThere r ts c → used_words (words_from r (count ts)) ≡ used_trees ts
+pub used_where_meant : (r : Reading) (ts : Trees) (c : ℕ) → r.at + count ts ≤ length (segment_read r) → MeanThere r ts c → used_words (words_from r (count ts)) ≡ used_trees ts
 used_where_meant r no_trees c l h = refl
 used_where_meant r (tree t ts) c l (k, m, one, rest, g) =
     ap used_words (words_at-more r.segments r.segment r.at (count ts) (omega arith))
@@ -33,19 +33,19 @@ abbrev next : Reading → StructSize → Reading
 next r size = record r { at = r.at + size.data_words + size.pointers }
 
 -- the least widths of elements are those of their words
-pub data_where_meant : (r : Reading) (size : StructSize) (es : Elements) (c : ℕ) → ElementsMean r size es c → data_width es ≡ data_used (row r) r.at size.data_words size.pointers (element_count es)
+pub data_where_meant : (r : Reading) (size : StructSize) (es : Elements) (c : ℕ) → ElementsMean r size es c → data_width es ≡ data_used (segment_read r) r.at size.data_words size.pointers (element_count es)
 data_where_meant r size no_elements c h = refl
 data_where_meant r size (element ws ts es) c (k, l, long, len, e, all, rest, g) =
     let d : ℕ = size.data_words in
     let q : ℕ = size.pointers in
     ap₂ max (ap used_words (sym e ∙ ap (λ m. words_from r m) long))
-    (data_where_meant (next r size) size es l rest ∙ ap (λ i. data_used (row r) i d q (element_count es)) (let b : r.at + d + q ≡ r.at + (d + q) = omega arith in b))
+    (data_where_meant (next r size) size es l rest ∙ ap (λ i. data_used (segment_read r) i d q (element_count es)) (let b : r.at + d + q ≡ r.at + (d + q) = omega arith in b))
 
-pub pointers_where_meant : (r : Reading) (size : StructSize) (es : Elements) (c : ℕ) → r.at + element_count es * (size.data_words + size.pointers) ≤ length (row r) → ElementsMean r size es c →
-    pointer_width es ≡ pointers_used (row r) r.at size.data_words size.pointers (element_count es)
+pub pointers_where_meant : (r : Reading) (size : StructSize) (es : Elements) (c : ℕ) → r.at + element_count es * (size.data_words + size.pointers) ≤ length (segment_read r) → ElementsMean r size es c →
+    pointer_width es ≡ pointers_used (segment_read r) r.at size.data_words size.pointers (element_count es)
 pointers_where_meant r size no_elements c l h = refl
 pointers_where_meant r size (element ws ts es) c l (k, m, long, len, e, all, rest, g) =
     let d : ℕ = size.data_words in
     let q : ℕ = size.pointers in
     ap₂ max (sym (used_where_meant (behind r d) ts k (omega (arith, len)) all) ∙ ap (λ i. used_words (words_from (behind r d) i)) len)
-    (pointers_where_meant (next r size) size es m (omega arith) rest ∙ ap (λ i. pointers_used (row r) i d q (element_count es)) (let b : r.at + d + q ≡ r.at + (d + q) = omega arith in b))
+    (pointers_where_meant (next r size) size es m (omega arith) rest ∙ ap (λ i. pointers_used (segment_read r) i d q (element_count es)) (let b : r.at + d + q ≡ r.at + (d + q) = omega arith in b))

@@ -10,7 +10,7 @@ use Rattle.capnp_format.specs.Canonical.{trim, trim_elements, cut_to, pointer, r
 use Rattle.capnp_arena.specs.View.{View}
 use Rattle.capnp_arena.specs.Written.{with_segment, with_word}
 use Rattle.capnp_objects.specs.Outcomes.{ElementsMean}
-use Rattle.capnp_objects.specs.Reading.{Reading, row}
+use Rattle.capnp_objects.specs.Reading.{Reading, segment_read}
 use Rattle.capnp_objects.specs.Wanted.{Form}
 use Rattle.capnp_copies.specs.Forms.{kept_elements}
 use Rattle.capnp_copies.specs.Copied.{rows_laid}
@@ -26,18 +26,18 @@ use Rattle.capnp_copies.proofs.UsedChildren.{trim-structs}
 
 -- The sections are the least that lose nothing of i elements.
 pub record AreLeast (r : Reading) (size least : StructSize) (i : ℕ) : Type 0 where
-  pub of_data : least.data_words ≡ data_used (row r) r.at size.data_words size.pointers i
-  pub of_pointers : least.pointers ≡ pointers_used (row r) r.at size.data_words size.pointers i
+  pub of_data : least.data_words ≡ data_used (segment_read r) r.at size.data_words size.pointers i
+  pub of_pointers : least.pointers ≡ pointers_used (segment_read r) r.at size.data_words size.pointers i
 
 -- the canonical form of a list of structs, its elements being meant
 
-pub trimmed_list : {r : Reading} {size least : StructSize} {i : ℕ} (es : Elements) (c : ℕ) → r.at + i * (size.data_words + size.pointers) ≤ length (row r) → AreLeast r size least i → element_count es ≡ i → ElementsMean r size es c →
+pub trimmed_list : {r : Reading} {size least : StructSize} {i : ℕ} (es : Elements) (c : ℕ) → r.at + i * (size.data_words + size.pointers) ≤ length (segment_read r) → AreLeast r size least i → element_count es ≡ i → ElementsMean r size es c →
     trim (Structs size.data_words size.pointers es) ≡ Structs least.data_words least.pointers (cut_to least.data_words least.pointers (trim_elements es))
 trimmed_list {r} {size} {least} {i} es c inside is_least len all =
     let d : ℕ = size.data_words in
     let q : ℕ = size.pointers in
-    let of_data : data_used (row r) r.at d q (element_count es) ≡ least.data_words = rw len (sym is_least.of_data) in
-    let of_pointers : pointers_used (row r) r.at d q (element_count es) ≡ least.pointers = rw len (sym is_least.of_pointers) in
+    let of_data : data_used (segment_read r) r.at d q (element_count es) ≡ least.data_words = rw len (sym is_least.of_data) in
+    let of_pointers : pointers_used (segment_read r) r.at d q (element_count es) ≡ least.pointers = rw len (sym is_least.of_pointers) in
     trim-structs d q es
     ∙ ap₂ (λ j k. Structs j k (cut_to j k (trim_elements es))) (data_where_meant r size es c all ∙ of_data)
     (pointers_where_meant r size es c (rw len inside) all ∙ of_pointers)

@@ -20,7 +20,7 @@ use Rattle.capnp_objects.specs.Objects.{IsHeld}
 use Rattle.capnp_objects.specs.Reading.{words_from}
 use Rattle.capnp_objects.specs.declared.object.Place.{Place}
 use Rattle.capnp_objects.specs.Wanted.{Form}
-use Rattle.capnp_readers.specs.Sections.{IsPart, HasRoom, list_words}
+use Rattle.capnp_readers.specs.Sections.{IsPart, HasWordsFrom, elements_words}
 use Rattle.capnp_copies.specs.Changes.{Change, change, Fits, CopiesPointers, StopsAtPointers, CopiesStructs, StopsAtStructs}
 use Rattle.capnp_copies.specs.Copies.{IsCopied}
 use Rattle.capnp_copies.specs.ListValues.{ListElements, FitsListPointer, IsTooLong, ReadsList, ListExceeds, CopiesList, StopsAtList}
@@ -60,7 +60,7 @@ few_numbers TwoBytes n width flat fits = fits
 few_numbers FourBytes n width flat fits = fits
 few_numbers EightBytes n width flat fits = fits
 
-number_words : (size : ElementSize) (n width : ℕ) → size_number size ≤ 5 → list_words size n width ≡ words_for (size_number size) n
+number_words : (size : ElementSize) (n width : ℕ) → size_number size ≤ 5 → elements_words size n width ≡ words_for (size_number size) n
 number_words InlineComposite n width flat = absurd (omega (arith, flat))
 number_words Pointer n width flat = absurd (omega (arith, flat))
 number_words Void n width flat = refl
@@ -76,7 +76,7 @@ pub record AreHeld (S : Segments) (start : Place) (n : ℕ) (bytes : List ℕ) :
   pub counts : length (words_of bytes) ≡ n
   pub stand : words_of bytes ≡ words_at S start.segment start.at n
 
-words_held : (S : Segments) (start : Place) (n : ℕ) (bytes : List ℕ) → IsHeld S start → IsPart start (8 * start.at) (64 * n) bytes → HasRoom S start n → AreHeld S start n bytes
+words_held : (S : Segments) (start : Place) (n : ℕ) (bytes : List ℕ) → IsHeld S start → IsPart start (8 * start.at) (64 * n) bytes → HasWordsFrom S start n → AreHeld S start n bytes
 words_held S start n bytes held part room =
     let bs : List ℕ = start.bytes.now in
     let size : (64 * n + 7) / 8 ≡ 8 * n = omega arith in
@@ -91,9 +91,9 @@ words_held S start n bytes held part room =
       stand = ap words_of cut ∙ words_of-take n (drop (8 * start.at) bs) (omega (arith, rest, inside)) ∙ ap (take n) (words_of-drop start.at bs (omega (arith, inside)) ∙ ap (drop start.at) held.0);
     }
 
-pub numbers_held : (S : Segments) (start : Place) (size : ElementSize) (n width : ℕ) (bytes : List ℕ) → size_number size ≤ 5 → IsHeld S start → IsPart start (8 * start.at) (64 * list_words size n width) bytes → HasRoom S start (list_words size n width) →
+pub numbers_held : (S : Segments) (start : Place) (size : ElementSize) (n width : ℕ) (bytes : List ℕ) → size_number size ≤ 5 → IsHeld S start → IsPart start (8 * start.at) (64 * elements_words size n width) bytes → HasWordsFrom S start (elements_words size n width) →
     AreHeld S start (words_for (size_number size) n) bytes
-numbers_held S start size n width bytes flat held part room = subst (λ i. AreHeld S start i bytes) (number_words size n width flat) (words_held S start (list_words size n width) bytes held part room)
+numbers_held S start size n width bytes flat held part room = subst (λ i. AreHeld S start i bytes) (number_words size n width flat) (words_held S start (elements_words size n width) bytes held part room)
 
 -- what is made of them
 

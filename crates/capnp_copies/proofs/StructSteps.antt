@@ -9,7 +9,7 @@ use Rattle.capnp_format.specs.Canonical.{used_words, take_trees, trim, trim_each
 use Rattle.capnp_arena.specs.View.{View}
 use Rattle.capnp_arena.specs.Written.{with_segment, with_word}
 use Rattle.capnp_objects.specs.Outcomes.{ReadsAll, MeanThere}
-use Rattle.capnp_objects.specs.Reading.{Reading, behind, row, words_from}
+use Rattle.capnp_objects.specs.Reading.{Reading, behind, segment_read, words_from}
 use Rattle.capnp_objects.specs.Spending.{pointers_in_all}
 use Rattle.capnp_objects.specs.Wanted.{canonical, Form}
 use Rattle.capnp_copies.specs.Forms.{kept_each}
@@ -43,7 +43,7 @@ pointers_put {b} {r} {old} {mid} {last} {new} {id} {at} {head} {q} {x} place tak
 
 -- what of a struct is used, its children being meant: its canonical form
 
-trimmed_struct : {r : Reading} {size used : StructSize} (us : Trees) (c : ℕ) → r.at + (size.data_words + size.pointers) ≤ length (row r) → Uses r size used → count us ≡ size.pointers → MeanThere (behind r size.data_words) us c →
+trimmed_struct : {r : Reading} {size used : StructSize} (us : Trees) (c : ℕ) → r.at + (size.data_words + size.pointers) ≤ length (segment_read r) → Uses r size used → count us ≡ size.pointers → MeanThere (behind r size.data_words) us c →
     trim (Struct (words_from r size.data_words) us) ≡ Struct (take (used_words (words_from r size.data_words)) (words_from r size.data_words)) (trim_each (take_trees used.pointers us))
 trimmed_struct {r} {size} {used} us c inside uses len all =
     let ws : List ℕ = words_from r size.data_words in
@@ -59,7 +59,7 @@ pub record FilledStruct (r : Reading) (size : StructSize) (m m' : Meter) (ts : T
   pub costs : are_read.cost ≡ n
   pub follows : pointers_in_all all ≡ k
 
-pub struct_filled : {r : Reading} {size used : StructSize} {m m' : Meter} {ts : Trees} → r.at + (size.data_words + size.pointers) ≤ length (row r) → Uses r size used → count ts ≡ used.pointers → (read : ReadsAll canonical (behind r size.data_words) m m' ts) → FilledStruct r size m m' ts read.cost (pointers_in_all ts)
+pub struct_filled : {r : Reading} {size used : StructSize} {m m' : Meter} {ts : Trees} → r.at + (size.data_words + size.pointers) ≤ length (segment_read r) → Uses r size used → count ts ≡ used.pointers → (read : ReadsAll canonical (behind r size.data_words) m m' ts) → FilledStruct r size m m' ts read.cost (pointers_in_all ts)
 struct_filled {r} {size} {used} {m} {m'} {ts} inside uses len all =
     let ws : List ℕ = words_from r size.data_words in
     let f = fill_nulls size.pointers all (omega (arith, uses.less_pointers)) (λ i a b. null_behind (behind r size.data_words) size.pointers i (omega (arith, uses.of_pointers, len)) b) in

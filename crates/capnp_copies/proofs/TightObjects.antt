@@ -12,7 +12,7 @@ use Rattle.capnp_arena.specs.Written.{with_segment, with_word, with_words, exten
 use Rattle.capnp_making.specs.Memory.{KeepsMemory, StandsBehind, TakesWords as TakesRoom}
 use Rattle.capnp_making.specs.Near.{HasOwnRoom, HasStructRoom, HasStructsRoom, StartsBehind, offset_behind, with_struct, with_list, with_struct_list}
 use Rattle.capnp_making.specs.declared.making.Start.{Start}
-use Rattle.capnp_objects.specs.Reading.{Reading, row}
+use Rattle.capnp_objects.specs.Reading.{Reading, segment_read}
 use Rattle.capnp_objects.specs.Wanted.{Form}
 use Rattle.capnp_copies.specs.Changes.{KeepsWidths, change, StayInSegment, StandsWhereItFits, EndsInZeros, CopiesChildren, CopiesElements}
 use Rattle.capnp_copies.specs.Forms.{kept, kept_each}
@@ -234,7 +234,7 @@ ends_in_zeros {i} {s} {p} {least} {old} {mid} {new} {h} {m} {m'} b o room =
     ap (λ xs. get_or xs j 0) (here ∙ shape) ∙ get_or-append_right (segment P s) ws H j 0 refl (omega (arith, less)) ∙ ap (λ k. get_or ws k 0) next ∙ get_or-zeros (i * w) (j - (H + 1))) in
     record { ends = omega (arith, first, width, ap length here); zero = zero }
 
-pub structs_tight : {r : Reading} {sizes : ElementSizes} {i s p : ℕ} {old mid new : View} {h : Start} {m m' : Meter} (b : Form) → length mid.words ≤ length new.words → r.at + i * (sizes.source.data_words + sizes.source.pointers) ≤ length (row r) → KeepsWidths b r sizes.source i sizes.kept → StructsMade i s p sizes.kept old mid h →
+pub structs_tight : {r : Reading} {sizes : ElementSizes} {i s p : ℕ} {old mid new : View} {h : Start} {m m' : Meter} (b : Form) → length mid.words ≤ length new.words → r.at + i * (sizes.source.data_words + sizes.source.pointers) ≤ length (segment_read r) → KeepsWidths b r sizes.source i sizes.kept → StructsMade i s p sizes.kept old mid h →
     (elements : CopiesElements r sizes i (change b h.segment (h.at + 1) mid new m m')) → StandsWhereItFits (change b s p old new m m') (Structs sizes.source.data_words sizes.source.pointers elements.elements)
 structs_tight {r} {sizes} {i} {s} {p} {old} {mid} {new} {h} {m} {m'} b longer inside widths o elements fits =
     let S : Segments = old.words in
@@ -252,7 +252,7 @@ structs_tight {r} {sizes} {i} {s} {p} {old} {mid} {new} {h} {m} {m'} b longer in
     let fs : Elements = cut_kept b sizes es in
     let whole : Tree = Structs sizes.source.data_words sizes.source.pointers es in
     let form : kept b whole ≡ Structs d q fs =
-    list_kept b r sizes.source sizes.kept es elements.are_read.cost (subst (λ k. r.at + k * (sizes.source.data_words + sizes.source.pointers) ≤ length (row r)) (sym elements.counts) inside) (subst (λ k. KeepsWidths b r sizes.source k sizes.kept) (sym elements.counts) widths) elements.are_read.means in
+    list_kept b r sizes.source sizes.kept es elements.are_read.cost (subst (λ k. r.at + k * (sizes.source.data_words + sizes.source.pointers) ≤ length (segment_read r)) (sym elements.counts) inside) (subst (λ k. KeepsWidths b r sizes.source k sizes.kept) (sym elements.counts) widths) elements.are_read.means in
     let all_words : ℕ = word_count (kept b whole) in
     let words : all_words ≡ 1 + i * w + word_count_elements fs = ap word_count form ∙ ap (λ j. 1 + j * w + word_count_elements fs) (cut_kept-count b d q es ∙ elements.counts) in
     let room : HasStructsRoom old s i sizes.kept = own_room old mid new s p (1 + i * w) o.place o.taken longer (stay_fewer old new s all_words (1 + i * w) (omega (arith, words)) fits) in

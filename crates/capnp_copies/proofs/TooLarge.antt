@@ -15,7 +15,7 @@ use Rattle.capnp_making.specs.Near.{HasOwnRoom, StartsBehind}
 use Rattle.capnp_making.specs.declared.making.Start.{Start}
 use Rattle.capnp_objects.specs.Objects.{IsObject}
 use Rattle.capnp_objects.specs.Outcomes.{Reads, MeansThere, MeanThere}
-use Rattle.capnp_objects.specs.Reading.{Reading, behind, row, pointers_of, sized, tag_size}
+use Rattle.capnp_objects.specs.Reading.{Reading, behind, segment_read, pointers_of, sized, tag_size}
 use Rattle.capnp_objects.specs.Demands.{tag}
 use Rattle.capnp_objects.specs.Faults.{child_at}
 use Rattle.capnp_objects.specs.Wanted.{Form}
@@ -106,7 +106,7 @@ sections_too_large {s} {p} {used} {room} {all} {old} {made} {h} b least ts o lon
     no_words no_trees f = ap word_count_all (kept_none b)
     no_words (tree t ts) f = absurd (omega (arith, f))
 
-pub struct_too_large : (r : Reading) (size least : StructSize) {s p used room : ℕ} {old made : View} {h : Start} (b : Form) → ObjectMade s p (least.data_words + least.pointers) old made h → r.at + (size.data_words + size.pointers) ≤ length (row r) → KeepsSections b r size least →
+pub struct_too_large : (r : Reading) (size least : StructSize) {s p used room : ℕ} {old made : View} {h : Start} (b : Form) → ObjectMade s p (least.data_words + least.pointers) old made h → r.at + (size.data_words + size.pointers) ≤ length (segment_read r) → KeepsSections b r size least →
     used ≡ length (segment made.words h.segment) → room ≡ made.room h.segment → used ≤ room → AreTooLarge b (behind r size.data_words) least.pointers used room → IsTooLargeStruct b r size (length (segment old.words s)) (old.room s)
 struct_too_large r size least b o in_row sections long same within large = λ us c len all.
     (let k = sections_meant b us c (sections_cut b r size least in_row sections) len all in
@@ -131,7 +131,7 @@ pointers_too_large b r {i} {s} {p} {old} {made} {h} o at_end large = λ us c len
     omega (arith, no))
 
 -- the elements of a list of structs
-pub structs_too_large : (r : Reading) (sizes : ElementSizes) {i s p : ℕ} {old made : View} {h : Start} → ObjectMade s p (1 + i * (sizes.kept.data_words + sizes.kept.pointers)) old made h → r.at + i * (sizes.source.data_words + sizes.source.pointers) ≤ length (row r) →
+pub structs_too_large : (r : Reading) (sizes : ElementSizes) {i s p : ℕ} {old made : View} {h : Start} → ObjectMade s p (1 + i * (sizes.kept.data_words + sizes.kept.pointers)) old made h → r.at + i * (sizes.source.data_words + sizes.source.pointers) ≤ length (segment_read r) →
     (b : Form) → KeepsWidths b r sizes.source i sizes.kept → (HasOwnRoom old s (1 + i * (sizes.kept.data_words + sizes.kept.pointers)) → AreTooLargeElements b r sizes i (length (segment made.words h.segment)) (made.room h.segment)) →
     IsTooLargeList b r sizes.source i (length (segment old.words s)) (old.room s)
 structs_too_large r sizes {i} {s} {p} {old} {made} {h} o in_row b widths large = λ es c len all.
@@ -153,7 +153,7 @@ no_sections_room {least = least} s old b cut full us c len all =
     let none : (HasOwnRoom old s (least.data_words + least.pointers)) → ⊥ = λ room. full (inl room) in
     omega (arith, none, (sections_meant b us c cut len all).words)
 
-pub no_struct_room : (r : Reading) (size least : StructSize) (s : ℕ) (old : View) (b : Form) → r.at + (size.data_words + size.pointers) ≤ length (row r) → KeepsSections b r size least → (HasRoom old s (least.data_words + least.pointers) → ⊥) →
+pub no_struct_room : (r : Reading) (size least : StructSize) (s : ℕ) (old : View) (b : Form) → r.at + (size.data_words + size.pointers) ≤ length (segment_read r) → KeepsSections b r size least → (HasRoom old s (least.data_words + least.pointers) → ⊥) →
     IsTooLargeStruct b r size (length (segment old.words s)) (old.room s)
 no_struct_room r size least s old b in_row sections full = λ us c len all. no_sections_room s old b (sections_cut b r size least in_row sections) full us c len all
 
@@ -162,7 +162,7 @@ no_pointers_room b r i s old full = λ us c len all.
     (let none : (HasOwnRoom old s i) → ⊥ = λ room. full (inl room) in
     omega (arith, none, pointers_words b i us len))
 
-pub no_structs_room : (r : Reading) (size least : StructSize) (i s : ℕ) (old : View) (b : Form) → r.at + i * (size.data_words + size.pointers) ≤ length (row r) → KeepsWidths b r size i least → (HasRoom old s (1 + i * (least.data_words + least.pointers)) → ⊥) →
+pub no_structs_room : (r : Reading) (size least : StructSize) (i s : ℕ) (old : View) (b : Form) → r.at + i * (size.data_words + size.pointers) ≤ length (segment_read r) → KeepsWidths b r size i least → (HasRoom old s (1 + i * (least.data_words + least.pointers)) → ⊥) →
     IsTooLargeList b r size i (length (segment old.words s)) (old.room s)
 no_structs_room r size least i s old b in_row widths full = λ es c len all.
     (let none : (HasOwnRoom old s (1 + i * (least.data_words + least.pointers))) → ⊥ = λ room. full (inl room) in

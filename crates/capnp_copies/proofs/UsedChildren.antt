@@ -10,7 +10,7 @@ use Rattle.capnp_format.proofs.Appending.{append_trees, count-append, means_join
 use Rattle.capnp_copies.proofs.LeastWidths.{used_where_meant}
 use Rattle.capnp_objects.specs.Spending.{after, pointers_in_all}
 use Rattle.capnp_objects.specs.Outcomes.{MeansThere, MeanThere, ReadsAll}
-use Rattle.capnp_objects.specs.Reading.{Reading, behind, row, words_from}
+use Rattle.capnp_objects.specs.Reading.{Reading, behind, segment_read, words_from}
 use Rattle.capnp_objects.specs.Wanted.{canonical}
 
 -- nothing is used behind the used words
@@ -26,7 +26,7 @@ pub null_behind : (r : Reading) (n i : ℕ) → used_words (words_from r n) ≤ 
 null_behind r n i u l = sym (word_of r.segments r.segment r.at n i l) ∙ behind_used (words_from r n) i u
 
 -- the children that are used are as many as the used words of the pointers
-pub used_children : {q : ℕ} (r : Reading) (ts : Trees) (c : ℕ) → r.at + q ≤ length (row r) → count ts ≡ q → MeanThere r ts c → used_trees ts ≡ used_words (words_from r q)
+pub used_children : {q : ℕ} (r : Reading) (ts : Trees) (c : ℕ) → r.at + q ≤ length (segment_read r) → count ts ≡ q → MeanThere r ts c → used_trees ts ≡ used_words (words_from r q)
 used_children r ts c l len all = sym (used_where_meant r ts c (omega (arith, len)) all) ∙ ap (λ i. used_words (words_from r i)) len
 
 -- trimming the children first changes no width

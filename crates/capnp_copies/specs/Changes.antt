@@ -18,7 +18,7 @@ use Rattle.capnp_objects.specs.Demands.{IsStructList, tag}
 use Rattle.capnp_objects.specs.Faults.{child_at}
 use Rattle.capnp_objects.specs.Outcomes.{Entered, Reads, ReadsAll, ReadsElements}
 use Rattle.capnp_objects.specs.Refusals.{Refused, RefusedAll, RefusedElements, StopsWithin, StopsAmong, StopsAmongElements, BreaksOff, BreaksOffAmong, BreaksOffAmongElements}
-use Rattle.capnp_objects.specs.Reading.{Reading, behind, row, sized, tag_size, words_from}
+use Rattle.capnp_objects.specs.Reading.{Reading, behind, segment_read, sized, tag_size, words_from}
 use Rattle.capnp_objects.specs.Wanted.{Form, canonical}
 use Rattle.capnp_objects.specs.declared.object.Purpose.TheVariants.{Value}
 use Rattle.capnp_copies.specs.Forms.{kept, kept_each, kept_elements}
@@ -35,8 +35,8 @@ KeepsSections canonical r size least = Uses r size least
 KeepsSections _ r size least = least ≡ size
 
 pub record AreLeastWidths (r : Reading) (size : StructSize) (i : ℕ) (least : StructSize) : Type 0 where
-  pub of_data : least.data_words ≡ data_used (row r) r.at size.data_words size.pointers i
-  pub of_pointers : least.pointers ≡ pointers_used (row r) r.at size.data_words size.pointers i
+  pub of_data : least.data_words ≡ data_used (segment_read r) r.at size.data_words size.pointers i
+  pub of_pointers : least.pointers ≡ pointers_used (segment_read r) r.at size.data_words size.pointers i
 
 abbrev pub KeepsWidths : Form → Reading → StructSize → ℕ → StructSize → Type 0
 KeepsWidths canonical r size i least = AreLeastWidths r size i least
@@ -44,7 +44,7 @@ KeepsWidths _ r size i least = least ≡ size
 
 -- No pointer that is used of i elements is cut.
 abbrev pub KeepsPointers : Form → Reading → ElementSizes → ℕ → Type 0
-KeepsPointers canonical r sizes i = pointers_used (row r) r.at sizes.source.data_words sizes.source.pointers i ≤ sizes.kept.pointers
+KeepsPointers canonical r sizes i = pointers_used (segment_read r) r.at sizes.source.data_words sizes.source.pointers i ≤ sizes.kept.pointers
 KeepsPointers _ r sizes i = sizes.kept ≡ sizes.source
 
 -- A call that copies to a place, or from a place of a segment on: the arena and the read limiter, before it and after it.
@@ -100,8 +100,8 @@ abbrev pub LacksRoom : Change → ErrorKind → (ℕ → Type 0) → (ℕ → �
 LacksRoom c k Q P = (n : ℕ) × RefusesWords c.old c.new n k × Q n × P (length (segment c.old.words c.segment)) (c.old.room c.segment)
 
 -- n words more than its segment has are more than it has room for.
-abbrev pub Exceeds : Change → ℕ → Type 0
-Exceeds c n = c.old.room c.segment < length (segment c.old.words c.segment) + n
+abbrev pub ExceedsRoom : Change → ℕ → Type 0
+ExceedsRoom c n = c.old.room c.segment < length (segment c.old.words c.segment) + n
 
 -- n words are wanted for an object of what a place means; of i pointers from a place on; of i elements.
 abbrev pub WantedAt : Reading → Change → ℕ → Type 0
@@ -134,8 +134,8 @@ abbrev pub PutsAtNull : Change → Tree → Type 0
 PutsAtNull c t = IsReplaced c.old.words c.new.words c.segment c.at Null t × KeepsMemory c.old c.new
 
 -- The call is refused by the name k, and leaves some value there, and what it allocated.
-abbrev pub Leaves : Change → ErrorKind → Type 0
-Leaves c k = ((t : Tree) × IsReplaced c.old.words c.new.words c.segment c.at Null t) × SpendsMemory c.old c.new k
+abbrev pub LeavesSomeValue : Change → ErrorKind → Type 0
+LeavesSomeValue c k = ((t : Tree) × IsReplaced c.old.words c.new.words c.segment c.at Null t) × SpendsMemory c.old c.new k
 
 -- The arena has no room for an object of what a place means, by the name k.
 abbrev pub FindsNoRoom : Reading → Change → ErrorKind → Type 0
@@ -159,7 +159,7 @@ pub record CopiesValue (r : Reading) (c : Change) : Type 0 where
 pub record StopsAtValue (r : Reading) (c : Change) (k : ErrorKind) : Type 0 where
   pub why : RefusesValue r c k
   pub off : BreaksOff c.form r c.before c.after
-  pub left : Leaves c k
+  pub left : LeavesSomeValue c k
 
 -- A call copies what i pointers from a place on mean.
 pub record CopiesChildren (r : Reading) (i : ℕ) (c : Change) : Type 0 where
@@ -189,7 +189,7 @@ pub record CopiesPointers (r : Reading) (i : ℕ) (c : Change) : Type 0 where
 pub record StopsAtPointers (r : Reading) (i : ℕ) (c : Change) (k : ErrorKind) : Type 0 where
   pub why : LacksRoom c k (λ n. ((c.after ≡ c.before) × (n ≡ i)) ⊎ WantedAmong r i c n) (IsTooLargePointers c.form r i) ⊎ RefusedAll c.form r i c.before c.after k
   pub off : (c.after ≡ c.before) ⊎ BreaksOffAmong c.form r i c.before c.after
-  pub left : Leaves c k
+  pub left : LeavesSomeValue c k
 
 -- A call copies the struct of this size at a place.
 pub record CopiesStruct (r : Reading) (size : StructSize) (c : Change) : Type 0 where
@@ -213,7 +213,7 @@ WantedForStructs r size i c n =
 pub record StopsAtStruct (r : Reading) (size : StructSize) (c : Change) (k : ErrorKind) : Type 0 where
   pub why : LacksRoom c k (WantedForStruct r size c) (IsTooLargeStruct c.form r size) ⊎ RefusedAll c.form (behind r size.data_words) size.pointers c.before c.after k
   pub off : (c.after ≡ c.before) ⊎ BreaksOffAmong c.form (behind r size.data_words) size.pointers c.before c.after
-  pub left : Leaves c k
+  pub left : LeavesSomeValue c k
 
 -- A call copies the list of i structs of this size from a place on.
 pub record CopiesStructs (r : Reading) (size : StructSize) (i : ℕ) (c : Change) : Type 0 where
@@ -226,7 +226,7 @@ pub record CopiesStructs (r : Reading) (size : StructSize) (i : ℕ) (c : Change
 pub record StopsAtStructs (r : Reading) (size : StructSize) (i : ℕ) (c : Change) (k : ErrorKind) : Type 0 where
   pub why : LacksRoom c k (WantedForStructs r size i c) (IsTooLargeList c.form r size i) ⊎ RefusedElements c.form r size i c.before c.after k
   pub off : (c.after ≡ c.before) ⊎ BreaksOffAmongElements c.form r size i c.before c.after
-  pub left : Leaves c k
+  pub left : LeavesSomeValue c k
 
 -- A call copies i elements of a list of structs, cut to the sections that are kept, where the rows of so many others are still to
 -- come.

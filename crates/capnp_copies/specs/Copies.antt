@@ -7,7 +7,7 @@ use Rattle.capnp_format.specs.Canonical.{word_count}
 use Rattle.capnp_arena.specs.Written.{with_segment}
 use Rattle.capnp_objects.specs.Outcomes.{MeansThere}
 use Rattle.capnp_objects.specs.Reading.{Reading}
-use Rattle.capnp_objects.specs.Wanted.{Form, Takes}
+use Rattle.capnp_objects.specs.Wanted.{Form, AllowsCapabilities}
 use Rattle.capnp_copies.specs.Forms.{kept}
 use Rattle.capnp_copies.specs.Copied.{copied, with_children}
 
@@ -23,4 +23,4 @@ AreCopied M M' id at ts = M' ≡ with_segment M id (with_children (segment M id)
 -- the words to be kept of it fit behind so many words of a segment with this room.
 abbrev pub CanBeCopied : Form → Reading → Meter → ℕ → ℕ → Type 0
 CanBeCopied form r m used room =
-    (t : Tree) × (c : ℕ) × MeansThere r t c × Takes form (capabilities t) × Affords r.charging m c × (used + word_count (kept form t) ≤ room)
+    (t : Tree) × (c : ℕ) × MeansThere r t c × AllowsCapabilities form (capabilities t) × Affords r.charging m c × (used + word_count (kept form t) ≤ room)

@@ -9,6 +9,7 @@ use Rattle.capnp_format.specs.Tree.{Tree, Trees, Elements, count, element_count}
 use Rattle.capnp_arena.specs.Taking.{SameRoomBelow}
 use Rattle.capnp_arena.specs.View.{View}
 use Rattle.capnp_arena.specs.declared.arena.reader_arena.ReaderArena.{Ghosts}
+use Rattle.capnp_making.specs.Made.{structs_words}
 use Rattle.capnp_making.specs.Memory.{Lengthens, IsNextRoom}
 use Rattle.capnp_making.specs.Near.{HasOwnRoom}
 use Rattle.capnp_objects.specs.Outcomes.{Reads, ReadsAll, ReadsElements}
@@ -139,13 +140,9 @@ TakesForObject result r i n c = MatchResult result (λ _. TakesForAll r i n 1 c)
 abbrev pub TakesForSections : {A E : Type 0} → Result A E → Reading → StructSize → Change → Type 0
 TakesForSections result r size c = TakesForObject result (behind r size.data_words) size.pointers (size.data_words + size.pointers) c
 
--- The words of a list of i such structs, with its tag.
-abbrev pub structs_words : StructSize → ℕ → ℕ
-structs_words size i = 1 + i * (size.data_words + size.pointers)
-
 abbrev pub TakesForStructs : {A E : Type 0} → Result A E → Reading → StructSize → ℕ → Change → Type 0
 TakesForStructs result r size i c =
-    MatchResult result (λ _. TakesForElements r size i (structs_words size i) 1 c) (λ _. TakesNothing c ⊎ TakesAmongElements r size i (structs_words size i) 1 c)
+    MatchResult result (λ _. TakesForElements r size i (structs_words i size) 1 c) (λ _. TakesNothing c ⊎ TakesAmongElements r size i (structs_words i size) 1 c)
 
 -- What a copy takes for a list that is read.
 pub data TakesForListOf {A E : Type 0} (result : Result A E) (list : ListElements) (c : Change) : Type 0 where

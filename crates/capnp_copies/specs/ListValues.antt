@@ -19,7 +19,7 @@ use Rattle.capnp_objects.specs.Refusals.{RefusedAll, RefusedElements, BreaksOffA
 use Rattle.capnp_objects.specs.Reading.{Reading, reading_at, words_from}
 use Rattle.capnp_objects.specs.Wanted.{Form}
 use Rattle.capnp_readers.specs.declared.readers.list_reader.ListReader.{ListReader}
-use Rattle.capnp_copies.specs.Changes.{Change, KeepsWidths, WantedAmong, WantedAmongElements, PutsAtNull, Leaves, StandsWhereItFits, Exceeds}
+use Rattle.capnp_copies.specs.Changes.{Change, KeepsWidths, WantedAmong, WantedAmongElements, PutsAtNull, LeavesSomeValue, StandsWhereItFits, ExceedsRoom}
 use Rattle.capnp_copies.specs.Forms.{kept}
 
 -- So many elements of a size, with these sections where they are structs, of which the first is read at a place.
@@ -76,7 +76,7 @@ WantedInList list c n =
 
 -- Whatever is read of it, what is kept of that is too large for its segment.
 abbrev pub ListExceeds : ListElements → Change → Type 0
-ListExceeds list c = (t : Tree) (m : Meter) → ReadsList c.form list c.before m t → Exceeds c (word_count (kept c.form t))
+ListExceeds list c = (t : Tree) (m : Meter) → ReadsList c.form list c.before m t → ExceedsRoom c (word_count (kept c.form t))
 
 -- It can be read, has no more elements than a pointer can say, and what is kept of it fits behind the words of its pointer's
 -- segment.
@@ -107,7 +107,7 @@ ListStands list c = (t : Tree) → ReadsList c.form list c.before c.after t → 
 pub record StopsAtList (list : ListElements) (c : Change) (k : ErrorKind) : Type 0 where
   pub why : RefusesElements list c k
   pub off : (c.after ≡ c.before) ⊎ BreaksOffList c.form list c.before c.after
-  pub left : Leaves c k
+  pub left : LeavesSomeValue c k
 
 module _ {A : Type 0} (g : Ghosts A) where
   -- The elements of a list that is read.

@@ -19,7 +19,7 @@ use Rattle.capnp_objects.specs.Refusals.{Refused, RefusedAll, StopsWithin, Break
 use Rattle.capnp_objects.specs.Reading.{Reading, behind, words_from}
 use Rattle.capnp_readers.specs.Sizes.{pointers_read}
 use Rattle.capnp_readers.specs.declared.readers.struct_reader.StructReader.{StructReader}
-use Rattle.capnp_copies.specs.Changes.{Change, LacksRoom, WantsWords, WantedAmong, PutsAtNull, Leaves, StandsWhereItFits, Exceeds}
+use Rattle.capnp_copies.specs.Changes.{Change, LacksRoom, WantsWords, WantedAmong, PutsAtNull, LeavesSomeValue, StandsWhereItFits, ExceedsRoom}
 use Rattle.capnp_copies.specs.Forms.{kept, kept_each}
 use Rattle.capnp_copies.specs.Rooms.{AreTooLarge}
 
@@ -64,7 +64,7 @@ WantedInSections ws r q c n =
 
 -- Whatever is read of its pointers, what is kept of it is too large for its segment.
 abbrev pub SectionsExceed : List ℕ → Reading → ℕ → Change → Type 0
-SectionsExceed ws r q c = (ts : Trees) (m : Meter) → count ts ≡ q → ReadsAll c.form r c.before m ts → Exceeds c (word_count (kept c.form (Struct ws ts)))
+SectionsExceed ws r q c = (ts : Trees) (m : Meter) → count ts ≡ q → ReadsAll c.form r c.before m ts → ExceedsRoom c (word_count (kept c.form (Struct ws ts)))
 
 -- What its pointers mean can be read, its data section is no wider than one can be, and what is kept of it fits its segment.
 abbrev pub SectionsFit : List ℕ → Reading → ℕ → Change → Type 0
@@ -83,7 +83,7 @@ RefusesSections ws r q c k = LacksSections ws r q c k ⊎ RefusedAll c.form r q 
 pub record StopsAtSections (ws : List ℕ) (r : Reading) (q : ℕ) (c : Change) (k : ErrorKind) : Type 0 where
   pub why : RefusesSections ws r q c k
   pub off : (c.after ≡ c.before) ⊎ BreaksOffAmong c.form r q c.before c.after
-  pub left : Leaves c k
+  pub left : LeavesSomeValue c k
 
 -- Of i pointers from a place on the first are read and copied as they stand; the next one is refused by the name k, and stays
 -- null.

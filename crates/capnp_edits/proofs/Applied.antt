@@ -15,7 +15,7 @@ use Rattle.capnp_making.specs.Existing.{struct_in}
 use Rattle.capnp_making.specs.Fields.{put_field}
 use Rattle.capnp_making.specs.Makes.{MakesObject, call_at}
 use Rattle.capnp_making.specs.Memory.{IsRefusedFor}
-use Rattle.capnp_making.specs.Path.{Element, struct_at, put_struct, update, PathLeads, one_word}
+use Rattle.capnp_making.specs.Path.{Element, struct_at, put_struct, update, PathLeads, word_interval}
 use Rattle.capnp_making.specs.Stored.{IsStored, IsReplaced, Puts}
 use Rattle.capnp_making.proofs.Extents.{once_held, times-first}
 use Rattle.capnp_making.proofs.FieldsWritten.{data_field_written, element_has_words, element_field_written}
@@ -23,7 +23,7 @@ use Rattle.capnp_making.proofs.Replaced.{forest_stored, forest_updated, stored_w
 use Rattle.capnp_readers.specs.declared.readers.PointerPlace.{PointerPlace}
 use Rattle.capnp_builders.specs.Places.{Field}
 use Rattle.capnp_edits.specs.declared.edit.Edit.{Edit}
-use Rattle.capnp_edits.specs.Paths.{Spot, PointerTo, ElementOf, path_of, found, IsPointerFound, IsElementFound, IsFound}
+use Rattle.capnp_edits.specs.Paths.{Spot, PointerTo, ElementOf, path_of, found, IsPointerFound, IsElementFound, IsPathFound}
 use Rattle.capnp_edits.specs.declared.edit.tasks.Task.{Task}
 use Rattle.capnp_edits.specs.declared.edit.tasks.Task.TheVariants.{Make, Point, InStruct, Write, Search, CopyRoot}
 use Rattle.capnp_edits.specs.declared.edit.tasks.Object.{Object}
@@ -32,7 +32,7 @@ use Rattle.capnp_edits.specs.declared.edit.tasks.Part.{Part}
 use Rattle.capnp_edits.specs.declared.edit.tasks.StructChange.{StructChange}
 use Rattle.capnp_edits.specs.declared.edit.tasks.StructChange.TheVariants.{Bits, Content}
 use Rattle.capnp_edits.specs.Tasks.{task_of}
-use Rattle.capnp_edits.specs.Edits.{refusal_of, bits_of, value_of, words_of, Making, becomes, denied, with_written, struct_changed, made_at, made, IsOfMemory, is_of_place, Does, DoesAt, Leaves, as_it_stands, is_done, is_denied, is_allocated, is_not_allocated, IsReplacedIf, leads_to, are_written, are_outside, PutsBits, Takes, leads_nowhere, IsApplied, refusals_after}
+use Rattle.capnp_edits.specs.Edits.{refusal_of, bits_of, value_of, words_made, Making, becomes, denied, with_written, struct_changed, made_at, made, IsOfMemory, is_of_place, Does, DoesAt, Leaves, as_it_stands, is_done, is_denied, is_allocated, is_not_allocated, IsReplacedIf, leads_to, are_written, are_outside, PutsBits, Takes, leads_nowhere, IsApplied, refusals_after}
 use Rattle.capnp_edits.specs.Steps.{KeepsLengths, IsOfPlace, IsDoneAt}
 use Rattle.capnp_edits.proofs.Steps.{first, same_some, struct_of}
 use Rattle.capnp_edits.proofs.Walks.{found-append, update-append}
@@ -94,7 +94,7 @@ named_refusal (Ok x) P k why e = absurd (cc)
 named_refusal (Err j) P k why e = subst P (same_some j k e) why
 
 -- a call that makes an object
-pub object_made : {A : Type 0} (result : Result A ErrorKind) (old new : View) (place : PointerPlace) (object : Object) → MakesObject result (call_at place.segment place.word old new) (value_of object) (words_of object) →
+pub object_made : {A : Type 0} (result : Result A ErrorKind) (old new : View) (place : PointerPlace) (object : Object) → MakesObject result (call_at place.segment place.word old new) (value_of object) (words_made object) →
     IsDoneAt old new place (Make object) (refusal_of result)
 object_made (Ok x) old new place object made = record {
   done = λ t stored. record { left = Some (value_of object); leaves = as_it_stands (is_allocated Null (value_of object) refl refl refl); stands = made.made t stored };
@@ -105,13 +105,13 @@ object_made (Ok x) old new place object made = record {
   taken = λ some. made.memory.taken;
 }
 object_made (Err k) old new place object made =
-    let why : IsRefusedFor old new (words_of object) k = made.memory.named in
+    let why : IsRefusedFor old new (words_made object) k = made.memory.named in
     record {
-      done = λ t stored. record { left = Some Null; leaves = as_it_stands (is_not_allocated Null (value_of object) k refl (of_memory old new (words_of object) k why) refl refl); stands = made.refused t stored };
-      counted = counted old new (words_of object) k why;
-      named = λ j e. inr (subst (IsRefusedFor old new (words_of object)) (same_some k j e) why);
+      done = λ t stored. record { left = Some Null; leaves = as_it_stands (is_not_allocated Null (value_of object) k refl (of_memory old new (words_made object) k why) refl refl); stands = made.refused t stored };
+      counted = counted old new (words_made object) k why;
+      named = λ j e. inr (subst (IsRefusedFor old new (words_made object)) (same_some k j e) why);
       fits = λ room j e. absurd (let h = made.memory.fits room in cc);
-      nowhere = λ e. absurd (of_no_place k (of_memory old new (words_of object) k why) (same_some k NoSuchPlace e));
+      nowhere = λ e. absurd (of_no_place k (of_memory old new (words_made object) k why) (same_some k NoSuchPlace e));
       taken = λ some. made.only;
     }
 
@@ -288,9 +288,9 @@ out_applied S e out t forest = (t, forest, takes (found t (path_of e.path.now)) 
     takes None is = leads_nowhere is refl refl
 
 -- nowhere
-pub applied_nowhere : (S : Segments) (e : Edit) → ((t : Tree) → IsStored S 0 0 t → IsFound S 0 0 t (path_of e.path.now) None) → IsApplied S S e (Some NoSuchPlace)
+pub applied_nowhere : (S : Segments) (e : Edit) → ((t : Tree) → IsStored S 0 0 t → IsPathFound S 0 0 t (path_of e.path.now) None) → IsApplied S S e (Some NoSuchPlace)
 applied_nowhere S e none t forest = (t, forest, leads_nowhere (ap (found t) (sym (append-nil (path_of e.path.now))) ∙ none t (forest_stored S t forest) []) refl refl)
 
 -- a forest has a root
 pub no_forest : (S : Segments) (e : Edit) (r : Option ErrorKind) → (1 ≤ length (segment S 0) → ⊥) → IsApplied S S e r
-no_forest S e r empty t forest = absurd (empty (omega (arith, (forest_stored S t forest).inside 0 0 (omega (arith, times-first (one_word 0 0) (cover S 0 0 t) 0 0, once_held 0 0)))))
+no_forest S e r empty t forest = absurd (empty (omega (arith, (forest_stored S t forest).inside 0 0 (omega (arith, times-first (word_interval 0 0) (cover S 0 0 t) 0 0, once_held 0 0)))))

@@ -13,7 +13,7 @@ use Rattle.capnp_format.specs.Tree.{Tree, Null, Capability, Struct, Flat, Pointe
 use Rattle.capnp_format.specs.Forest.{target}
 use Rattle.capnp_making.specs.declared.existing.ExistingBytes.{ExistingBytes}
 use Rattle.capnp_making.specs.declared.existing.ExistingList.{ExistingList}
-use Rattle.capnp_making.specs.Existing.{size_of, plain_misfit, structs_misfit, plain_list, struct_list, unless, list_in, bytes_at, ends_in_zero, text_of, text_in, data_in, LieIn}
+use Rattle.capnp_making.specs.Existing.{size_of, plain_misfit, structs_misfit, plain_list, struct_list, unless, list_in, bytes_at, ends_in_zero, text_found, text_in, data_in, BytesLieIn}
 use Rattle.capnp_making.specs.Fields.{with_field}
 use Rattle.capnp_making.specs.Path.{put_struct}
 use Rattle.capnp_making.specs.Stored.{IsStored, IsReplaced}
@@ -67,7 +67,7 @@ text_anywhere f alike a b Null = refl
 text_anywhere f alike a b (Capability i) = refl
 text_anywhere f alike a b (Struct ws ts) = refl
 text_anywhere f alike a b (Flat s ns) =
-    either f (nat_eq s 2) (text_of a ns) (text_of b ns) ExistingListPointerIsNotByteSized (bytes_fit f alike (ends_in_zero ns) a b (length ns - 1) TextBlobMissingNULTerminator)
+    either f (nat_eq s 2) (text_found a ns) (text_found b ns) ExistingListPointerIsNotByteSized (bytes_fit f alike (ends_in_zero ns) a b (length ns - 1) TextBlobMissingNULTerminator)
 text_anywhere f alike a b (Pointers ts) = refl
 text_anywhere f alike a b (Structs d q es) = refl
 
@@ -212,7 +212,7 @@ data_written_at S R s p (Structs d q es) b i v is_b stored less small written = 
 
 pub text_written_at : (S R : Segments) (s p : ℕ) (t : Tree) (b : ExistingBytes) (i v : ℕ) → Ok (Some b) ≡ text_in (target S s p) t → IsStored S s p t → i < b.length → v < 256 → R ≡ with_field S b.segment (8 * (8 * b.start + i)) 8 v → IsReplaced S R s p t (with_lowest i 8 v t)
 text_written_at S R s p (Flat z ns) b i v is_b stored less small written =
-    let (x, text) = picked_first (nat_eq z 2) (text_of (target S s p) ns) b ExistingListPointerIsNotByteSized is_b in
+    let (x, text) = picked_first (nat_eq z 2) (text_found (target S s p) ns) b ExistingListPointerIsNotByteSized is_b in
     let (y, same) = picked (ends_in_zero ns) (bytes_at (target S s p) (length ns - 1)) b TextBlobMissingNULTerminator text in
     let l : i < length ns - 1 = subst (λ z. i < z.length) same less in
     byte_written S R s p z ns i v (eqb-true z 2 x) (omega (arith, l)) small stored (subst (λ z. R ≡ with_field S z.segment (8 * (8 * z.start + i)) 8 v) same written)
@@ -251,7 +251,7 @@ element_does S R place size i v r looked inside range is_found puts t stored = d
 -- where bytes are looked for, and how a byte of them is written
 record Looks (look : Target → Tree → Result (Option ExistingBytes) ErrorKind) (i v : ℕ) : Type 0 where
   long : (a b : Target) (t : Tree) → length_of (look a t) ≡ length_of (look b t)
-  inside : (S : Segments) (s p : ℕ) (t : Tree) (b : ExistingBytes) → s < length S → IsStored S s p t → look (target S s p) t ≡ Ok (Some b) → LieIn S b
+  inside : (S : Segments) (s p : ℕ) (t : Tree) (b : ExistingBytes) → s < length S → IsStored S s p t → look (target S s p) t ≡ Ok (Some b) → BytesLieIn S b
   written : (S R : Segments) (s p : ℕ) (t : Tree) (b : ExistingBytes) → Ok (Some b) ≡ look (target S s p) t → IsStored S s p t → i < b.length → R ≡ with_field S b.segment (8 * (8 * b.start + i)) 8 v → IsReplaced S R s p t (with_lowest i 8 v t)
 
 byte_does : (S R : Segments) (place : PointerPlace) (i v : ℕ) (look : Target → Tree → Result (Option ExistingBytes) ErrorKind) (r : Option ErrorKind) (looked : Result (Option ExistingBytes) ErrorKind) (t : Tree) →

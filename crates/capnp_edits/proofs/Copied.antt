@@ -46,7 +46,7 @@ use Rattle.capnp_edits.specs.declared.edit.copying.Copying.{Copying}
 use Rattle.capnp_edits.specs.declared.edit.copying.Wanted.{Wanted}
 use Rattle.capnp_edits.specs.declared.edit.copying.Wanted.TheVariants.{Value, Struct as AStruct, List as AList}
 use Rattle.capnp_edits.specs.declared.edit.tasks.Task.TheVariants.{CopyRoot}
-use Rattle.capnp_edits.specs.Sources.{copy_at, words_in, root_of, once_at_root, as_wanted, HasRoot, IsOpened, CanBeCopiedAs, IsRootless, IsWithheld, IsUnread, FitsBehind, Sections, LeadsToStruct, LeadsToList, RefusesAs, CopiedOrRefused}
+use Rattle.capnp_edits.specs.Sources.{copy_at, words_in, root_of, once_at_root, as_wanted, HasRoot, IsRootReader, CanBeCopiedAs, IsRootless, IsWithheld, HasNothingToCopy, FitsBehind, Sections, LeadsToStruct, LeadsToList, RefusesAs, CopiedOrRefused}
 use Rattle.capnp_edits.specs.Edits.{as_it_stands, refusal_of, IsOfMemory, is_of_place, refusals_after, CopiesRoot, root_copied, root_not_copied, root_unread, Does, is_copied, is_not_copied, is_unread}
 use Rattle.capnp_edits.specs.Steps.{call_to, result_of, IsDoneAt, IsWholeRefused, TakesForWanted, TakesForWhole}
 use Rattle.capnp_edits.proofs.Taken.{value_taken, object_taken, list_taken}
@@ -208,7 +208,7 @@ withheld_at g expected from m m' k (inl (unread, same)) = elim unread [ ]
 withheld_at g expected from m m' k (inr h) = where_read g expected from (λ p. Withheld expected (reading g p) m m' k) h
 
 -- The calls on a root's reader.
-pub struct_copied : {A B : Type 0} (result : Result B ErrorKind) (c : Copying) (g : Ghosts A) (from : PointerReader A g) (v : StructReader A g) (m n m' : Meter) (old new : View) (place : PointerPlace) → c.wanted ≡ AStruct → IsOpened g c.source from m →
+pub struct_copied : {A B : Type 0} (result : Result B ErrorKind) (c : Copying) (g : Ghosts A) (from : PointerReader A g) (v : StructReader A g) (m n m' : Meter) (old new : View) (place : PointerPlace) → c.wanted ≡ AStruct → IsRootReader g c.source from m →
     length v.content.now ≡ bytes_for v.bits → WhereRead g (call g from ExpectedStruct None) (λ p. IsStructRead g p m n v) → IfOk result (λ x. PutsStruct g v (change (form_of c.canonicalize) place.segment place.word old new n m')) →
     IfErr result (RefusesStruct g v (change (form_of c.canonicalize) place.segment place.word old new n m')) → TakesForStruct g result v (change (form_of c.canonicalize) place.segment place.word old new n m') → Tried result c old new place
 struct_copied result c g from v m n m' old new place is here long read done refused taken =
@@ -219,7 +219,7 @@ struct_copied result c g from v m n m' old new place is here long read done refu
     struct_tried result c s m' old new place is here.root (subst (λ y. LeadsToStruct (root_of c.source) y s) here.once (subst (λ r. LeadsToStruct r m s) here.reads leads)) done refused
     (subst (λ x. TakesForObject result s.first s.pointers x (change (form_of c.canonicalize) place.segment place.word old new n m')) own taken)
 
-pub list_copied : {A B : Type 0} (result : Result B ErrorKind) (c : Copying) (g : Ghosts A) (from : PointerReader A g) (v : ListReader A g) (m n m' : Meter) (old new : View) (place : PointerPlace) → c.wanted ≡ AList → IsOpened g c.source from m →
+pub list_copied : {A B : Type 0} (result : Result B ErrorKind) (c : Copying) (g : Ghosts A) (from : PointerReader A g) (v : ListReader A g) (m n m' : Meter) (old new : View) (place : PointerPlace) → c.wanted ≡ AList → IsRootReader g c.source from m →
     GivesList g Void (call g from (ExpectedList Void) None) m n v → IfOk result (λ x. PutsList g v (change (form_of c.canonicalize) place.segment place.word old new n m')) →
     IfErr result (RefusesList g v (change (form_of c.canonicalize) place.segment place.word old new n m')) → TakesForList g result v (change (form_of c.canonicalize) place.segment place.word old new n m') → Tried result c old new place
 list_copied result c g from v m n m' old new place is here read done refused taken =
@@ -227,24 +227,24 @@ list_copied result c g from v m n m' old new place is here read done refused tak
     let leads : LeadsToList (reading g from) m n l = list_at g from m n v (where_read g (ExpectedList Void) from (λ p. IsListRead g Void p m n v) read) in
     list_tried result c l n m' old new place is here.root (subst (λ y. LeadsToList (root_of c.source) y n l) here.once (subst (λ r. LeadsToList r m n l) here.reads leads)) done refused taken
 
-unread_as : {A : Type 0} (g : Ghosts A) (c : Copying) (expected : Expected) (from : PointerReader A g) (m m' : Meter) (k : ErrorKind) → ((r : Reading) (i j : Meter) → Withheld expected r i j k → IsWithheld c.wanted r i j k) → IsOpened g c.source from m →
-    IsRefused g (call g from expected None) m m' k → IsUnread c k
+unread_as : {A : Type 0} (g : Ghosts A) (c : Copying) (expected : Expected) (from : PointerReader A g) (m m' : Meter) (k : ErrorKind) → ((r : Reading) (i j : Meter) → Withheld expected r i j k → IsWithheld c.wanted r i j k) → IsRootReader g c.source from m →
+    IsRefused g (call g from expected None) m m' k → HasNothingToCopy c k
 unread_as g c expected from m m' k wanted here refused =
     let h = wanted (reading g from) m m' (withheld_at g expected from m m' k refused) in
     inr (here.root, (m', subst (λ y. IsWithheld c.wanted (root_of c.source) y m' k) here.once (subst (λ r. IsWithheld c.wanted r m m' k) here.reads h)))
 
-pub struct_unread : {A : Type 0} (g : Ghosts A) (c : Copying) (from : PointerReader A g) (m m' : Meter) (k : ErrorKind) → c.wanted ≡ AStruct → IsOpened g c.source from m → IsRefused g (call g from ExpectedStruct None) m m' k → IsUnread c k
+pub struct_unread : {A : Type 0} (g : Ghosts A) (c : Copying) (from : PointerReader A g) (m m' : Meter) (k : ErrorKind) → c.wanted ≡ AStruct → IsRootReader g c.source from m → IsRefused g (call g from ExpectedStruct None) m m' k → HasNothingToCopy c k
 struct_unread g c from m m' k is here refused = unread_as g c ExpectedStruct from m m' k (λ r i j h. subst (λ w. IsWithheld w r i j k) (sym is) h) here refused
 
-pub list_unread : {A : Type 0} (g : Ghosts A) (c : Copying) (from : PointerReader A g) (m m' : Meter) (k : ErrorKind) → c.wanted ≡ AList → IsOpened g c.source from m → IsRefused g (call g from (ExpectedList Void) None) m m' k → IsUnread c k
+pub list_unread : {A : Type 0} (g : Ghosts A) (c : Copying) (from : PointerReader A g) (m m' : Meter) (k : ErrorKind) → c.wanted ≡ AList → IsRootReader g c.source from m → IsRefused g (call g from (ExpectedList Void) None) m m' k → HasNothingToCopy c k
 list_unread g c from m m' k is here refused = unread_as g c (ExpectedList Void) from m m' k (λ r i j h. subst (λ w. IsWithheld w r i j k) (sym is) h) here refused
 
-pub struct_found : {A : Type 0} (g : Ghosts A) (c : Copying) (from : PointerReader A g) (m : Meter) (v : View) (id : ℕ) → c.wanted ≡ AStruct → IsOpened g c.source from m → FitsBehind v id c → IsAnswered g (call g from ExpectedStruct None) m
+pub struct_found : {A : Type 0} (g : Ghosts A) (c : Copying) (from : PointerReader A g) (m : Meter) (v : View) (id : ℕ) → c.wanted ≡ AStruct → IsRootReader g c.source from m → FitsBehind v id c → IsAnswered g (call g from ExpectedStruct None) m
 struct_found g c from m v id is here fits =
     let given = struct_given c (root_of c.source) (once_at_root c.source) (length (segment v.words id)) (v.room id) is fits.fits in
     answered g ExpectedStruct from m (subst (λ y. CanBeGiven ExpectedStruct (reading g from) y) (sym here.once) (subst (λ r. CanBeGiven ExpectedStruct r (once_at_root c.source)) (sym here.reads) given))
 
-pub list_found : {A : Type 0} (g : Ghosts A) (c : Copying) (from : PointerReader A g) (m : Meter) (v : View) (id : ℕ) → c.wanted ≡ AList → IsOpened g c.source from m → FitsBehind v id c → IsAnswered g (call g from (ExpectedList Void) None) m
+pub list_found : {A : Type 0} (g : Ghosts A) (c : Copying) (from : PointerReader A g) (m : Meter) (v : View) (id : ℕ) → c.wanted ≡ AList → IsRootReader g c.source from m → FitsBehind v id c → IsAnswered g (call g from (ExpectedList Void) None) m
 list_found g c from m v id is here fits =
     let given = list_given c (root_of c.source) (once_at_root c.source) (length (segment v.words id)) (v.room id) is fits.fits in
     answered g (ExpectedList Void) from m (subst (λ y. CanBeGiven (ExpectedList Void) (reading g from) y) (sym here.once) (subst (λ r. CanBeGiven (ExpectedList Void) r (once_at_root c.source)) (sym here.reads) given))
@@ -351,11 +351,11 @@ other_rootless k (inl e) = ap is_of_call e
 other_rootless k (inr (inl e)) = ap is_of_call e
 other_rootless k (inr (inr e)) = ap is_of_call e
 
-other_unread : (c : Copying) (k : ErrorKind) → IsUnread c k → is_of_call k ≡ false
+other_unread : (c : Copying) (k : ErrorKind) → HasNothingToCopy c k → is_of_call k ≡ false
 other_unread c k (inl rootless) = other_rootless k (rootless_named c.source k rootless)
 other_unread c k (inr (has, (m, withheld))) = other_unwanted c.wanted (root_of c.source) (once_at_root c.source) m k withheld
 
-pub unread_counted : (c : Copying) (k : ErrorKind) (n : ℕ) → IsUnread c k → n ≡ refusals_after (Some k) n
+pub unread_counted : (c : Copying) (k : ErrorKind) (n : ℕ) → HasNothingToCopy c k → n ≡ refusals_after (Some k) n
 unread_counted c k n unread = sym (not_the_allocator k (λ e. false≢true (sym (other_unread c k unread) ∙ ap is_of_call e)) n)
 
 -- a copy is never refused for a place

@@ -26,7 +26,7 @@ use Rattle.capnp_objects.specs.Reading.{Reading, word_of, words_from, sized, tag
 use Rattle.capnp_objects.specs.Refusals.{Refused, RefusedAll, RefusedElements}
 use Rattle.capnp_objects.specs.Source.{levels}
 use Rattle.capnp_objects.specs.Spending.{after, pointers_in_all, pointers_in_elements}
-use Rattle.capnp_objects.specs.Wanted.{Form, Takes}
+use Rattle.capnp_objects.specs.Wanted.{Form, AllowsCapabilities}
 use Rattle.capnp_objects.specs.declared.object.Purpose.TheVariants.{Value}
 use Rattle.capnp_objects.proofs.Budgets.{affords_rest, paid_own}
 use Rattle.capnp_objects.proofs.Faultless.{same_target}
@@ -34,7 +34,7 @@ use Rattle.capnp_objects.proofs.Objects.{read_null, read_flat, read_pointers, re
 use Rattle.capnp_objects.proofs.Parts.{claim_list, claim_flat}
 use Rattle.capnp_objects.proofs.Refusals.{stops_pointers, stops_structs, unreadable}
 use Rattle.capnp_readers.specs.Calls.{IsListRead}
-use Rattle.capnp_readers.specs.Readers.{reading, IsListOf, ShowsList}
+use Rattle.capnp_readers.specs.Readers.{reading, IsTargetList, ShowsList}
 use Rattle.capnp_readers.specs.declared.readers.PointerReader.{PointerReader}
 use Rattle.capnp_readers.specs.declared.readers.list_reader.ListReader.{ListReader}
 use Rattle.capnp_copies.specs.Changes.{change}
@@ -60,7 +60,7 @@ plain_there g p m m' v a o z source nesting size e small no_bits (is, shows) =
 
 list_there : {A : Type 0} (g : Ghosts A) (p : PointerReader A g) (m m' : Meter) (v : ListReader A g) (a : Target) → Entered Value (reading g p) m m' a → kind a.word ≡ 1 → v.source ≡ p.source →
     v.nesting_limit ≡ (p.nesting_limit -ℤ pos 1) →
-    (size : ElementSize) → v.element_size ≡ size → (size_number size ≡ 1 → ⊥) → IsListOf g size (reading g p).segments v a → LeadsToList (reading g p) m m' (elements_read g v)
+    (size : ElementSize) → v.element_size ≡ size → (size_number size ≡ 1 → ⊥) → IsTargetList g size (reading g p).segments v a → LeadsToList (reading g p) m m' (elements_read g v)
 list_there g p m m' v a o z source nesting InlineComposite e no_bits (seven, shows) =
     let level : levels v.nesting_limit ≡ pred (levels p.nesting_limit) = ap levels nesting ∙ level_less p.nesting_limit o.meets.levels in
     a_struct_list a o (z, seven) e (ap₂ sized shows.data_of shows.pointers_of) (rw (source, shows.segment_is, shows.elements_start, level) refl) shows.counts
@@ -291,7 +291,7 @@ flat_matches form r m n l size ns c (a_struct_list b at k s sections first count
     let same : b ≡ a = same_target r.segments r.segment r.at at.leads_to.1 o.leads_to.1 in
     absurd (omega (arith, k.1, ap (λ (x : Target). element_size x.word) same, o.is_size, small))
 
-pointers_match : (form : Form) (r : Reading) (m n : Meter) (l : ListElements) (ts : Trees) (c : ℕ) → LeadsToList r m n l → MeansThere r (Pointers ts) c → Takes form (capabilities (Pointers ts)) →
+pointers_match : (form : Form) (r : Reading) (m n : Meter) (l : ListElements) (ts : Trees) (c : ℕ) → LeadsToList r m n l → MeansThere r (Pointers ts) c → AllowsCapabilities form (capabilities (Pointers ts)) →
     Affords r.charging m c → ListMatches form l n (Pointers ts)
 pointers_match form r m n l ts c (no_list null void none same) (a, k, some, o, claims, all, g) takes covers = absurd (o.leads_to.0 null)
 pointers_match form r m n l ts c (a_plain_list b at z s few no_bits first counts) (a, k, some, o, claims, all, g) takes covers =
@@ -309,7 +309,7 @@ pointers_match form r m n l ts c (a_struct_list b at z s sections first counts) 
     absurd (omega (arith, z.1, ap (λ (x : Target). element_size x.word) same, o.is_size))
 
 structs_match : (form : Form) (r : Reading) (m n : Meter) (l : ListElements) (d q : ℕ) (es : Elements) (c : ℕ) → LeadsToList r m n l → MeansThere r (Structs d q es) c →
-    Takes form (capabilities (Structs d q es)) → Affords r.charging m c → ListMatches form l n (Structs d q es)
+    AllowsCapabilities form (capabilities (Structs d q es)) → Affords r.charging m c → ListMatches form l n (Structs d q es)
 structs_match form r m n l d q es c (no_list null void none same) (a, i, k, some, o, claims, t, fits, all, g) takes covers = absurd (o.leads_to.0 null)
 structs_match form r m n l d q es c (a_plain_list b at z s few no_bits first counts) (a, i, k, some, o, claims, t, fits, all, g) takes covers =
     let same : b ≡ a = same_target r.segments r.segment r.at at.leads_to.1 o.leads_to.1 in
@@ -330,7 +330,7 @@ structs_match form r m n l d q es c (a_struct_list b at z s sections first count
     let pointers_of : q ≡ l.sections.pointers = sym (ap (λ (x : StructSize). x.pointers) rows) in
     (end, (s, data_of, pointers_of, sym many, subst (λ x. ReadsElements form x l.sections n end es) (sym there) sized_so))
 
-list_matches : (form : Form) (r : Reading) (m n : Meter) (l : ListElements) (t : Tree) (c : ℕ) (copied : Tree) → LeadsToList r m n l → MeansThere r t c → Takes form (capabilities t) →
+list_matches : (form : Form) (r : Reading) (m n : Meter) (l : ListElements) (t : Tree) (c : ℕ) (copied : Tree) → LeadsToList r m n l → MeansThere r t c → AllowsCapabilities form (capabilities t) →
     Affords r.charging m c → as_wanted AList t ≡ Some copied →
     ListMatches form l n copied
 list_matches form r m n l Null c copied leads means takes covers e = subst (ListMatches form l n) (same_some (Flat 0 []) copied e) (null_matches form r m n l leads means.0)

@@ -21,7 +21,7 @@ use Rattle.capnp_objects.specs.Reading.{Reading}
 use Rattle.capnp_objects.specs.Refusals.{Refused, RefusedAll}
 use Rattle.capnp_objects.specs.Source.{levels}
 use Rattle.capnp_objects.specs.Spending.{after, pointers_in_all}
-use Rattle.capnp_objects.specs.Wanted.{Form, Takes}
+use Rattle.capnp_objects.specs.Wanted.{Form, AllowsCapabilities}
 use Rattle.capnp_objects.proofs.Budgets.{after_none, affords_none, affords_rest, paid_own}
 use Rattle.capnp_objects.proofs.Copies.{read_none}
 use Rattle.capnp_objects.proofs.Faultless.{same_target}
@@ -159,7 +159,7 @@ record SectionsMatch (form : Form) (s : Sections) (copied : Tree) : Type 0 where
   is_struct : copied ≡ Struct s.words children
   narrow : length s.words < 2 ^ 16
 
-struct_matches : (form : Form) (r : Reading) (m : Meter) (s : Sections) (t : Tree) (c : ℕ) (copied : Tree) → LeadsToStruct r m s → MeansThere r t c → Takes form (capabilities t) → Affords r.charging m c → as_wanted AStruct t ≡ Some copied →
+struct_matches : (form : Form) (r : Reading) (m : Meter) (s : Sections) (t : Tree) (c : ℕ) (copied : Tree) → LeadsToStruct r m s → MeansThere r t c → AllowsCapabilities form (capabilities t) → Affords r.charging m c → as_wanted AStruct t ≡ Some copied →
     SectionsMatch form s copied
 struct_matches form r m s Null c copied (no_struct null ws none same) means takes covers e = record {
   children = no_trees;

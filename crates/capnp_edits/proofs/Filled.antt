@@ -55,9 +55,9 @@ use Rattle.capnp_edits.specs.declared.edit.tasks.StructChange.{StructChange}
 use Rattle.capnp_edits.specs.declared.edit.tasks.StructChange.TheVariants.{Bits, Content}
 use Rattle.capnp_edits.specs.Tasks.{task_of}
 use Rattle.capnp_edits.specs.Paths.{path_of, found, IsElementFound, ElementOf}
-use Rattle.capnp_edits.specs.Sources.{copying, root_of, once_at_root, HasRoot, IsOpened, Sections, LeadsToStruct, no_struct, a_struct, ContentRead, ContentFitsBehind, IsUnread, FilledOrRefused}
+use Rattle.capnp_edits.specs.Sources.{copying_from, root_of, once_at_root, HasRoot, IsRootReader, Sections, LeadsToStruct, no_struct, a_struct, ContentRead, ContentFitsBehind, HasNothingToCopy, FilledOrRefused}
 use Rattle.capnp_edits.specs.Edits.{as_it_stands, refusal_of, bits_of, struct_changed, made, fills, sections, is_of_place, PutsBits, FillsAt, Changes, all_filled, first_filled, none_filled, refusals_after, IsApplied, Takes, leads_to, is_filled, is_half_filled, is_not_filled, DoesAt}
-use Rattle.capnp_edits.specs.Steps.{IsStructAt, IsContentRefused, TakesForContent, IsDoneAt, IsChanged}
+use Rattle.capnp_edits.specs.Steps.{IsStructAt, IsContentRefused, TakesForContentFrom, IsDoneAt, IsChanged}
 use Rattle.capnp_edits.proofs.Taken.{bits_lengths, pointers_taken}
 use Rattle.capnp_edits.proofs.Applied.{of_allocation, of_no_place, of_place, named_refusal, none_counted, kept_nowhere, refused_there, never_refused, denied_at, no_struct as is_none, written_at, element_struct, element_spot, applied_bits}
 use Rattle.capnp_edits.proofs.Copied.{where_read}
@@ -70,7 +70,7 @@ record SourceStruct {A : Type 0} (g : Ghosts A) (source : Source) (v : StructRea
   leads : LeadsToStruct (root_of source) (once_at_root source) (record { words = words_of v.content.now; first = pointers_read g v; pointers = v.pointer_count; limiter = n })
   bits : v.bits ≡ 64 * length (words_of v.content.now)
 
-source_struct : {A : Type 0} (g : Ghosts A) (source : Source) (from : PointerReader A g) (v : StructReader A g) (m n : Meter) → IsOpened g source from m → length v.content.now ≡ bytes_for v.bits →
+source_struct : {A : Type 0} (g : Ghosts A) (source : Source) (from : PointerReader A g) (v : StructReader A g) (m n : Meter) → IsRootReader g source from m → length v.content.now ≡ bytes_for v.bits →
     WhereRead g (call g from ExpectedStruct None) (λ p. IsStructRead g p m n v) → SourceStruct g source v n
 source_struct g source from v m n opened long read =
     let there : IsStructRead g from m n v = where_read g ExpectedStruct from (λ p. IsStructRead g p m n v) read in
@@ -98,7 +98,7 @@ content_read g source v n m' ts root s are_read = record {
 }
 
 -- what copying over a struct leaves
-pub fill_done : {A B : Type 0} (result : Result B ErrorKind) (g : Ghosts A) (source : Source) (from : PointerReader A g) (v : StructReader A g) (m n m' : Meter) (old new : View) (place : StructPlace) → IsOpened g source from m →
+pub fill_done : {A B : Type 0} (result : Result B ErrorKind) (g : Ghosts A) (source : Source) (from : PointerReader A g) (v : StructReader A g) (m n m' : Meter) (old new : View) (place : StructPlace) → IsRootReader g source from m →
     length v.content.now ≡ bytes_for v.bits → WhereRead g (call g from ExpectedStruct None) (λ p. IsStructRead g p m n v) → IfOk result (λ x. TakesContent g v place (pointers_copied place old new n m')) →
     IfErr result (StopsAtContent g v place (pointers_copied place old new n m')) → FillsAt old.words new.words place source (refusal_of result)
 fill_done (Ok x) g source from v m n m' old new place opened long read (mid, taking, copies) refused =
@@ -128,7 +128,7 @@ pub fill_counted : {A B : Type 0} (result : Result B ErrorKind) (g : Ghosts A) (
 fill_counted (Ok x) g v n m' old new place (mid, taking, copies) refused = ap (λ (y : View). y.refusals) copies.memory.0 ∙ ap (λ (y : View). y.refusals) taking.limits
 fill_counted (Err k) g v n m' old new place copied (mid, taking, stops) = stops.memory.2 ∙ ap (refusals_for k) (ap (λ (y : View). y.refusals) taking.limits)
 
-pub fill_named : {A B : Type 0} (result : Result B ErrorKind) (g : Ghosts A) (source : Source) (from : PointerReader A g) (v : StructReader A g) (m n m' : Meter) (old new : View) (place : StructPlace) → IsOpened g source from m →
+pub fill_named : {A B : Type 0} (result : Result B ErrorKind) (g : Ghosts A) (source : Source) (from : PointerReader A g) (v : StructReader A g) (m n m' : Meter) (old new : View) (place : StructPlace) → IsRootReader g source from m →
     length v.content.now ≡ bytes_for v.bits → WhereRead g (call g from ExpectedStruct None) (λ p. IsStructRead g p m n v) → IfErr result (StopsAtContent g v place (pointers_copied place old new n m')) →
     IfErr result (IsContentRefused old new place source)
 fill_named (Ok x) g source from v m n m' old new place opened long read refused = tt
@@ -144,9 +144,9 @@ fill_named (Err k) g source from v m n m' old new place opened long read (mid, t
       why = stops.why;
     })
 
-pub fill_taken : {A B : Type 0} (result : Result B ErrorKind) (g : Ghosts A) (source : Source) (from : PointerReader A g) (v : StructReader A g) (m n m' : Meter) (old new : View) (place : StructPlace) → IsOpened g source from m →
+pub fill_taken : {A B : Type 0} (result : Result B ErrorKind) (g : Ghosts A) (source : Source) (from : PointerReader A g) (v : StructReader A g) (m n m' : Meter) (old new : View) (place : StructPlace) → IsRootReader g source from m →
     length v.content.now ≡ bytes_for v.bits → WhereRead g (call g from ExpectedStruct None) (λ p. IsStructRead g p m n v) → TakesForCopy g result v place (pointers_copied place old new n m') →
-    TakesForContent old new place source (refusal_of result)
+    TakesForContentFrom old new place source (refusal_of result)
 fill_taken result g source from v m n m' old new place opened long read taken =
     let s = source_struct g source from v m n opened long read in
     inr (
@@ -174,7 +174,7 @@ sections_aligned e some =
     (rw eight refl, rw eight (omega arith))
 
 -- a struct of no words takes nothing
-pub fill_nothing : {A : Type 0} (g : Ghosts A) (source : Source) (from : PointerReader A g) (v : StructReader A g) (m n : Meter) (S : Segments) (e : ExistingStruct) → IsOpened g source from m → length v.content.now ≡ bytes_for v.bits →
+pub fill_nothing : {A : Type 0} (g : Ghosts A) (source : Source) (from : PointerReader A g) (v : StructReader A g) (m n : Meter) (S : Segments) (e : ExistingStruct) → IsRootReader g source from m → length v.content.now ≡ bytes_for v.bits →
     WhereRead g (call g from ExpectedStruct None) (λ p. IsStructRead g p m n v) → e.size.data_words + e.size.pointers ≡ 0 → FillsAt S S (sections e) source None
 fill_nothing g source from v m n S e opened long read empty =
     let s = source_struct g source from v m n opened long read in
@@ -188,8 +188,8 @@ fill_nothing g source from v m n S e opened long read empty =
       fills_first = refl;
     }) (omega (arith, no_pointers)) refl refl
 
-pub nothing_taken : {A : Type 0} (g : Ghosts A) (source : Source) (from : PointerReader A g) (v : StructReader A g) (m n : Meter) (old : View) (e : ExistingStruct) → IsOpened g source from m → length v.content.now ≡ bytes_for v.bits →
-    WhereRead g (call g from ExpectedStruct None) (λ p. IsStructRead g p m n v) → e.size.data_words + e.size.pointers ≡ 0 → TakesForContent old old (sections e) source None
+pub nothing_taken : {A : Type 0} (g : Ghosts A) (source : Source) (from : PointerReader A g) (v : StructReader A g) (m n : Meter) (old : View) (e : ExistingStruct) → IsRootReader g source from m → length v.content.now ≡ bytes_for v.bits →
+    WhereRead g (call g from ExpectedStruct None) (λ p. IsStructRead g p m n v) → e.size.data_words + e.size.pointers ≡ 0 → TakesForContentFrom old old (sections e) source None
 nothing_taken g source from v m n old e opened long read empty =
     let s = source_struct g source from v m n opened long read in
     let no_pointers : e.size.pointers ≡ 0 = omega (arith, empty) in
@@ -213,7 +213,7 @@ bits_changed result old new e n puts limits named kept = record {
 }
 
 pub content_changed : {A : Type 0} (result : Result A ErrorKind) (old new : View) (e : ExistingStruct) (source : Source) → FillsAt old.words new.words (sections e) source (refusal_of result) → new.refusals ≡ refusals_after (refusal_of result) old.refusals →
-    IfErr result (IsContentRefused old new (sections e) source) → TakesForContent old new (sections e) source (refusal_of result) → (ContentFitsBehind old e.segment source e.size.pointers → IsOk result) →
+    IfErr result (IsContentRefused old new (sections e) source) → TakesForContentFrom old new (sections e) source (refusal_of result) → (ContentFitsBehind old e.segment source e.size.pointers → IsOk result) →
     IsChanged old new e (Content source) (refusal_of result)
 content_changed result old new e source filled counted why taken fits = record {
   done = filled;
@@ -380,10 +380,10 @@ filled_or_refused source q k whole counts (inr (part, fewer, (m, refused))) =
     (read_stop (min q part.from.pointers) part.are_read fewer (unreadable refused)).only whole.children moved.cost (counts ∙ ap (min q) (sym pointers)) moved.means moved.takes moved.covers
 
 -- content that can be read, and has room, is not refused
-pub fill_unread : (v : View) (id : ℕ) (source : Source) (q : ℕ) (k : ErrorKind) → IsUnread (copying source AStruct false) k → ContentFitsBehind v id source q → ⊥
+pub fill_unread : (v : View) (id : ℕ) (source : Source) (q : ℕ) (k : ErrorKind) → HasNothingToCopy (copying_from source AStruct false) k → ContentFitsBehind v id source q → ⊥
 fill_unread v id source q k unread (all, counts, room) = filled_or_refused source q k all counts (inl unread)
 
-pub fill_fits : {A : Type 0} (g : Ghosts A) (source : Source) (from : PointerReader A g) (v : StructReader A g) (m n m' : Meter) (old new : View) (place : StructPlace) → IsOpened g source from m → length v.content.now ≡ bytes_for v.bits →
+pub fill_fits : {A : Type 0} (g : Ghosts A) (source : Source) (from : PointerReader A g) (v : StructReader A g) (m n m' : Meter) (old new : View) (place : StructPlace) → IsRootReader g source from m → length v.content.now ≡ bytes_for v.bits →
     WhereRead g (call g from ExpectedStruct None) (λ p. IsStructRead g p m n v) → ContentFitsBehind old place.segment source place.pointers → ContentFits g v place (pointers_copied place old new n m')
 fill_fits g source from v m n m' old new place opened long read (all, counts, room) = go all.from.pointers v.pointer_count refl refl
   where

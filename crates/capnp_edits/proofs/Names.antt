@@ -8,7 +8,7 @@ use Rattle.capnp_words.specs.declared.wire_pointer.StructSize.{StructSize}
 use Rattle.capnp_format.specs.Segments.{Segments, word_at, Target, near, pad}
 use Rattle.capnp_format.specs.Tree.{Tree, Null, Capability, Struct, Flat, Pointers, Structs, count, element_count}
 use Rattle.capnp_making.specs.declared.existing.ExistingList.{ExistingList}
-use Rattle.capnp_making.specs.Existing.{is_unfound, size_of, plain_misfit, structs_misfit, plain_list, struct_list, unless, list_in, bytes_at, ends_in_zero, text_of, text_in, data_in}
+use Rattle.capnp_making.specs.Existing.{is_unfound, size_of, plain_misfit, structs_misfit, plain_list, struct_list, unless, list_in, bytes_at, ends_in_zero, text_found, text_in, data_in}
 use Rattle.capnp_format.specs.Word.{kind, upper_half, far_position, is_double}
 use Rattle.capnp_objects.specs.Faults.{here, below, HasFault}
 use Rattle.capnp_objects.specs.Follow.{◌>=>◌, or_named, existing, follow_far, follow}
@@ -108,7 +108,7 @@ pub text_unfound : (a : Target) (t : Tree) → is_unfound_at (text_in a t) ≡ t
 text_unfound a Null = refl
 text_unfound a (Capability i) = refl
 text_unfound a (Struct ws ts) = refl
-text_unfound a (Flat s ns) = unfound_either (nat_eq s 2) (text_of a ns) (Err ExistingListPointerIsNotByteSized) (unfound_either (ends_in_zero ns) _ (Err TextBlobMissingNULTerminator) refl refl) refl
+text_unfound a (Flat s ns) = unfound_either (nat_eq s 2) (text_found a ns) (Err ExistingListPointerIsNotByteSized) (unfound_either (ends_in_zero ns) _ (Err TextBlobMissingNULTerminator) refl refl) refl
 text_unfound a (Pointers ts) = refl
 text_unfound a (Structs d q es) = refl
 

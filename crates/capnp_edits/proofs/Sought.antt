@@ -34,22 +34,22 @@ use Rattle.capnp_making.specs.Makes.{CallAt}
 use Rattle.capnp_widening.specs.Opening.{Opens, struct_opened}
 use Rattle.capnp_widening.specs.RowsRemade.{RefusesWider}
 use Rattle.capnp_widening.specs.Widened.{list_widened, IsNoWider}
-use Rattle.capnp_builders.specs.Defaults.{IsFew, DefaultUse, ignored, denied as is_denied_by, copied as is_copied_from, use_of_words, default_use, default_root, default_copy, RefusesDefault, WithDefault, DefaultFits}
-use Rattle.capnp_builders.specs.Found.{list_given, bytes_given, GivesList, GivesData, GivesText, FindsList, FindsData, FindsText}
+use Rattle.capnp_builders.specs.Defaults.{IsShortDefault, DefaultUse, ignored, denied as is_denied_by, copied as is_copied_from, use_of_words, default_use, default_root, default_copy, RefusesDefault, WithDefault, DefaultFits}
+use Rattle.capnp_builders.specs.Found.{list_given, bytes_given, GivesFoundList, GivesFoundData, GivesFoundText, FindsList, FindsData, FindsText}
 use Rattle.capnp_builders.specs.Opening.{IsStructGiven, IsListGiven, OpensStruct, OpensList, FindsStruct, FindsStructs, StructFindFits, StructsFindFits}
 use Rattle.capnp_edits.specs.declared.edit.tasks.Task.TheVariants.{Search}
 use Rattle.capnp_edits.specs.declared.edit.tasks.Sought.{Sought}
 use Rattle.capnp_edits.specs.declared.edit.tasks.Sought.TheVariants.{Struct as ForStruct, List as ForList, StructList as ForStructs, Text as ForText, Data as ForData}
 use Rattle.capnp_edits.specs.Tasks.{is_small_default, is_in_range}
 use Rattle.capnp_edits.specs.Edits.{refusal_of, Making, becomes, nowhere, unchanged, opened, looked_for, with_default, is_of_place, IsOfMemory, Yields, is_done, is_denied, is_allocated, is_not_allocated, as_it_stands, default_put, default_dropped, IsReplacedIf, DoesAt, Does}
-use Rattle.capnp_edits.specs.Steps.{TaskFits, IsOpeningRefused, IsSearchRefused, Finds, IsDoneAt}
+use Rattle.capnp_edits.specs.Steps.{TaskFits, IsOpeningRefused, IsSearchRefused, FindsSought, IsDoneAt}
 use Rattle.capnp_edits.proofs.Applied.{never_refused, of_allocation, of_no_place, denied_at}
 use Rattle.capnp_edits.proofs.Contents.{list_anywhere, data_anywhere, text_anywhere}
 use Rattle.capnp_edits.proofs.Names.{elsewhere, struct_elsewhere, structs_elsewhere, list_elsewhere, data_elsewhere, text_elsewhere, fault_elsewhere, unfound_name, list_unfound, data_unfound, text_unfound}
 use Rattle.capnp_edits.proofs.Steps.{same_some}
 
 -- a small default has few words
-pub few_words : (default : Option (Bor (List ℕ))) → is_small_default default ≡ true → IsFew default
+pub few_words : (default : Option (Bor (List ℕ))) → is_small_default default ≡ true → IsShortDefault default
 few_words None e = tt
 few_words (Some d) e = few (length d.now / 8) e
   where
@@ -110,17 +110,17 @@ bytes_refusal id (Ok (Some b)) = refl
 bytes_refusal id (Ok None) = refl
 bytes_refusal id (Err k) = refl
 
-list_so : (result : Result ListPlace ErrorKind) (size : ElementSize) → DoesSo (GivesList size result) (looked_for (ForList size)) result
+list_so : (result : Result ListPlace ErrorKind) (size : ElementSize) → DoesSo (GivesFoundList size result) (looked_for (ForList size)) result
 list_so result size c t stored h =
     let a : Target = target c.old.words c.segment c.at in
     kept_so (list_in nowhere size t) result c t stored (ap refusal_of h.0 ∙ list_refusal c.segment (list_in a size t) ∙ list_anywhere refusal_of (λ l k e. refl) a nowhere size t) h.1
 
-data_so : (result : Result ExistingBytes ErrorKind) → DoesSo (GivesData result) (looked_for ForData) result
+data_so : (result : Result ExistingBytes ErrorKind) → DoesSo (GivesFoundData result) (looked_for ForData) result
 data_so result c t stored h =
     let a : Target = target c.old.words c.segment c.at in
     kept_so (data_in nowhere t) result c t stored (ap refusal_of h.0 ∙ bytes_refusal c.segment (data_in a t) ∙ data_anywhere refusal_of (λ b d e. refl) a nowhere t) h.1
 
-text_so : (result : Result ExistingBytes ErrorKind) → DoesSo (GivesText result) (looked_for ForText) result
+text_so : (result : Result ExistingBytes ErrorKind) → DoesSo (GivesFoundText result) (looked_for ForText) result
 text_so result c t stored h =
     let a : Target = target c.old.words c.segment c.at in
     kept_so (text_in nowhere t) result c t stored (ap refusal_of h.0 ∙ bytes_refusal c.segment (text_in a t) ∙ text_anywhere refusal_of (λ b d e. refl) a nowhere t) h.1
@@ -201,13 +201,13 @@ bytes_err id (Ok (Some b)) k e = absurd (cc)
 bytes_err id (Ok None) k e = absurd (cc)
 bytes_err id (Err j) k e = ap Err (let same : j ≡ k = cc in same)
 
-list_why : (size : ElementSize) (k : ErrorKind) → WhySo (GivesList size (Err k)) k
+list_why : (size : ElementSize) (k : ErrorKind) → WhySo (GivesFoundList size (Err k)) k
 list_why size k c t h = inl (elsewhere (list_in (target c.old.words c.segment c.at) size t) k (list_elsewhere (target c.old.words c.segment c.at) size t) (list_err c.segment (list_in (target c.old.words c.segment c.at) size t) k h.0), h.1)
 
-data_why : (k : ErrorKind) → WhySo (GivesData (Err k)) k
+data_why : (k : ErrorKind) → WhySo (GivesFoundData (Err k)) k
 data_why k c t h = inl (elsewhere (data_in (target c.old.words c.segment c.at) t) k (data_elsewhere (target c.old.words c.segment c.at) t) (bytes_err c.segment (data_in (target c.old.words c.segment c.at) t) k h.0), h.1)
 
-text_why : (k : ErrorKind) → WhySo (GivesText (Err k)) k
+text_why : (k : ErrorKind) → WhySo (GivesFoundText (Err k)) k
 text_why k c t h = inl (elsewhere (text_in (target c.old.words c.segment c.at) t) k (text_elsewhere (target c.old.words c.segment c.at) t) (bytes_err c.segment (text_in (target c.old.words c.segment c.at) t) k h.0), h.1)
 
 -- Why a search is refused: as what stands is; or as the value of its default is, which is put first; or as the copy of that is.
@@ -284,7 +284,7 @@ never_nowhere c default k (as_copy d is spent named) e = absurd (elim (dropped_n
 -- what a call leaves that is refused, or isn't
 search_done : {B : Type 0} (result : Result B ErrorKind) (sought : Sought) (default : Option (Bor (List ℕ))) (c : CallAt) → Does c.old.words c.new.words (place_in c) (Search sought default) (refusal_of result) → OnOk result (KeepsMemory c.old c.new) →
     IfErr result (SpendsMemory c.old c.new) → IfErr result (Why c default) → (TaskFits c.old (place_in c) (Search sought default) → IfErr result (λ k. is_of_place k ≡ true)) →
-    ((t : Tree) → IsStored c.old.words c.segment c.at t → Finds sought default (refusal_of result) c t) → IsDoneAt c.old c.new (place_in c) (Search sought default) (refusal_of result)
+    ((t : Tree) → IsStored c.old.words c.segment c.at t → FindsSought sought default (refusal_of result) c t) → IsDoneAt c.old c.new (place_in c) (Search sought default) (refusal_of result)
 search_done (Ok x) sought default c does granted memory why fits finds = record {
   done = does;
   counted = ap (λ (v : View). v.refusals) granted.0;
@@ -306,13 +306,13 @@ search_done (Err k) sought default c does granted memory why fits finds = record
 abbrev NamedSo : (CallAt → Tree → Type 0) → ErrorKind → Type 0
 NamedSo P k = (c : CallAt) (t : Tree) → P c t → is_unfound k ≡ true
 
-list_name : (size : ElementSize) (k : ErrorKind) → NamedSo (GivesList size (Err k)) k
+list_name : (size : ElementSize) (k : ErrorKind) → NamedSo (GivesFoundList size (Err k)) k
 list_name size k c t h = unfound_name (list_in (target c.old.words c.segment c.at) size t) k (list_unfound (target c.old.words c.segment c.at) size t) (list_err c.segment (list_in (target c.old.words c.segment c.at) size t) k h.0)
 
-data_name : (k : ErrorKind) → NamedSo (GivesData (Err k)) k
+data_name : (k : ErrorKind) → NamedSo (GivesFoundData (Err k)) k
 data_name k c t h = unfound_name (data_in (target c.old.words c.segment c.at) t) k (data_unfound (target c.old.words c.segment c.at) t) (bytes_err c.segment (data_in (target c.old.words c.segment c.at) t) k h.0)
 
-text_name : (k : ErrorKind) → NamedSo (GivesText (Err k)) k
+text_name : (k : ErrorKind) → NamedSo (GivesFoundText (Err k)) k
 text_name k c t h = unfound_name (text_in (target c.old.words c.segment c.at) t) k (text_unfound (target c.old.words c.segment c.at) t) (bytes_err c.segment (text_in (target c.old.words c.segment c.at) t) k h.0)
 
 unfound_place : (k : ErrorKind) → is_unfound k ≡ true → is_of_place k ≡ true
@@ -403,9 +403,9 @@ pub list_sought : (result : Result ListPlace ErrorKind) (size : ElementSize) (de
     OnOk result (KeepsMemory c.old c.new) → IfErr result (SpendsMemory c.old c.new) → IsDoneAt c.old c.new (place_in c) (Search (ForList size) default) (refusal_of result)
 list_sought result size default c there found set granted memory =
     search_done result (ForList size) default c
-    (λ t stored. with_does result ignored default (looked_for (ForList size)) (GivesList size result) c t stored (list_so result size) (found t stored)) granted memory
-    (why_if result ignored default (GivesList size) c there (λ b. tt) (list_why size) found (λ some. set_same result c.old c.new (set some).0))
-    (λ room. found_fits result ignored default (GivesList size) c there (λ b. tt) (list_name size) found (λ some. (set some).1) room) (λ t stored. (result, refl, found t stored))
+    (λ t stored. with_does result ignored default (looked_for (ForList size)) (GivesFoundList size result) c t stored (list_so result size) (found t stored)) granted memory
+    (why_if result ignored default (GivesFoundList size) c there (λ b. tt) (list_why size) found (λ some. set_same result c.old c.new (set some).0))
+    (λ room. found_fits result ignored default (GivesFoundList size) c there (λ b. tt) (list_name size) found (λ some. (set some).1) room) (λ t stored. (result, refl, found t stored))
 
 pub data_sought : (result : Result ExistingBytes ErrorKind) (default : Option (Bor (List ℕ))) (c : CallAt) → IsPlace c.old.words c.segment c.at →
     ((t : Tree) → IsStored c.old.words c.segment c.at t → FindsData default result c t) → ((word_at c.old.words c.segment c.at ≡ 0 → ⊥) → (c.new ≡ c.old) × IfErr result (λ k. is_unfound k ≡ true)) →
@@ -413,9 +413,9 @@ pub data_sought : (result : Result ExistingBytes ErrorKind) (default : Option (B
 data_sought result default c there found set granted memory =
     let of_null : DefaultUse = is_denied_by ExistingPointerIsNotAList in
     search_done result ForData default c
-    (λ t stored. with_does result of_null default (looked_for ForData) (GivesData result) c t stored (data_so result) (found t stored)) granted memory
-    (why_if result of_null default GivesData c there (λ b. tt) data_why found (λ some. set_same result c.old c.new (set some).0))
-    (λ room. found_fits result of_null default GivesData c there (λ b. refl) data_name found (λ some. (set some).1) room) (λ t stored. (result, refl, found t stored))
+    (λ t stored. with_does result of_null default (looked_for ForData) (GivesFoundData result) c t stored (data_so result) (found t stored)) granted memory
+    (why_if result of_null default GivesFoundData c there (λ b. tt) data_why found (λ some. set_same result c.old c.new (set some).0))
+    (λ room. found_fits result of_null default GivesFoundData c there (λ b. refl) data_name found (λ some. (set some).1) room) (λ t stored. (result, refl, found t stored))
 
 pub text_sought : (result : Result ExistingBytes ErrorKind) (default : Option (Bor (List ℕ))) (c : CallAt) → IsPlace c.old.words c.segment c.at →
     ((t : Tree) → IsStored c.old.words c.segment c.at t → FindsText default result c t) → ((word_at c.old.words c.segment c.at ≡ 0 → ⊥) → (c.new ≡ c.old) × IfErr result (λ k. is_unfound k ≡ true)) →
@@ -423,9 +423,9 @@ pub text_sought : (result : Result ExistingBytes ErrorKind) (default : Option (B
 text_sought result default c there found set granted memory =
     let of_null : DefaultUse = is_denied_by ExistingPointerIsNotAList in
     search_done result ForText default c
-    (λ t stored. with_does result of_null default (looked_for ForText) (GivesText result) c t stored (text_so result) (found t stored)) granted memory
-    (why_if result of_null default GivesText c there (λ b. tt) text_why found (λ some. set_same result c.old c.new (set some).0))
-    (λ room. found_fits result of_null default GivesText c there (λ b. refl) text_name found (λ some. (set some).1) room) (λ t stored. (result, refl, found t stored))
+    (λ t stored. with_does result of_null default (looked_for ForText) (GivesFoundText result) c t stored (text_so result) (found t stored)) granted memory
+    (why_if result of_null default GivesFoundText c there (λ b. tt) text_why found (λ some. set_same result c.old c.new (set some).0))
+    (λ room. found_fits result of_null default GivesFoundText c there (λ b. refl) text_name found (λ some. (set some).1) room) (λ t stored. (result, refl, found t stored))
 
 -- the numbers of a list that is looked for
 pub list_range : (size : ElementSize) (default : Option (Bor (List ℕ))) → is_in_range (Search (ForList size) default) ≡ true → (size_number size ≤ 6) × (is_small_default default ≡ true)

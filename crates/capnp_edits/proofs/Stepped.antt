@@ -9,14 +9,14 @@ use Rattle.capnp_format.specs.Segments.{Segments, segment}
 use Rattle.capnp_format.specs.Tree.{Tree, Struct, Pointers, Structs, count, element_count}
 use Rattle.capnp_making.proofs.Extents.{once_held, times-first}
 use Rattle.capnp_making.proofs.Replaced.{forest_stored}
-use Rattle.capnp_making.specs.Path.{Step, Child, Element, tree_at, struct_at, next, PathLeads, one_word}
+use Rattle.capnp_making.specs.Path.{Step, Child, Element, tree_at, struct_at, next, PathLeads, word_interval}
 use Rattle.capnp_making.specs.Stored.{IsStored}
 use Rattle.capnp_edits.specs.declared.edit.Edit.{Edit}
 use Rattle.capnp_edits.specs.declared.edit.tasks.Task.{Task}
 use Rattle.capnp_edits.specs.declared.edit.path.Place.{Place}
 use Rattle.capnp_edits.specs.declared.edit.path.Place.TheVariants.{Pointer as AtPointer, Element as AtElement}
 use Rattle.capnp_edits.specs.Edits.{is_of_place, IsApplied, refusals_after}
-use Rattle.capnp_edits.specs.Paths.{PointerTo, ElementOf, path_of, found, IsFound}
+use Rattle.capnp_edits.specs.Paths.{PointerTo, ElementOf, path_of, found, IsPathFound}
 use Rattle.capnp_edits.specs.Steps.{FitsAt, IsOfPlace, IsRefusedAt, TakesAt, IsStep, AreSteps, StepIsThere}
 use Rattle.capnp_edits.specs.Tasks.{task_of}
 use Rattle.capnp_edits.proofs.Applied.{no_forest}
@@ -25,7 +25,7 @@ use Rattle.capnp_edits.proofs.Walks.{found-append}
 
 -- an edit at its place
 pub step_at : (old new : View) (edit : Edit) (there : Place) (task : Task) (r : Option ErrorKind) → task_of edit.op ≡ Some task → 1 ≤ length (segment old.words 0) → IsApplied old.words new.words edit r → new.refusals ≡ refusals_after r old.refusals →
-    ((t : Tree) → IsStored old.words 0 0 t → IsFound old.words 0 0 t (path_of edit.path.now) (Some there)) → ((k : ErrorKind) → r ≡ Some k → IsOfPlace old new k ⊎ IsRefusedAt old new task k there) →
+    ((t : Tree) → IsStored old.words 0 0 t → IsPathFound old.words 0 0 t (path_of edit.path.now) (Some there)) → ((k : ErrorKind) → r ≡ Some k → IsOfPlace old new k ⊎ IsRefusedAt old new task k there) →
     (FitsAt old task there → (k : ErrorKind) → r ≡ Some k → is_of_place k ≡ true) → (r ≡ Some NoSuchPlace → new ≡ old) → ((r ≡ Some NoSuchPlace → ⊥) → TakesAt old new task r there) → IsStep old new edit r
 step_at old new edit there task r is root applied counted leads named fits nowhere taken = record {
   applied = applied;
@@ -48,7 +48,7 @@ step_at old new edit there task r is root applied counted leads named fits nowhe
 of_missing : (k : ErrorKind) → Some NoSuchPlace ≡ Some k → is_of_place k ≡ true
 of_missing k e = sym (ap is_of_place (same_some NoSuchPlace k e))
 
-pub nothing_done : (v : View) (edit : Edit) (place : Option Place) → IsApplied v.words v.words edit (Some NoSuchPlace) → ((t : Tree) → IsStored v.words 0 0 t → IsFound v.words 0 0 t (path_of edit.path.now) place) → IsStep v v edit (Some NoSuchPlace)
+pub nothing_done : (v : View) (edit : Edit) (place : Option Place) → IsApplied v.words v.words edit (Some NoSuchPlace) → ((t : Tree) → IsStored v.words 0 0 t → IsPathFound v.words 0 0 t (path_of edit.path.now) place) → IsStep v v edit (Some NoSuchPlace)
 nothing_done v edit place applied leads = record {
   applied = applied;
   counted = refl;
@@ -65,7 +65,7 @@ nothing_done v edit place applied leads = record {
 
 -- what is stored at the root has a word
 root_held : (S : Segments) (t : Tree) → IsStored S 0 0 t → 1 ≤ length (segment S 0)
-root_held S t stored = omega (arith, stored.inside 0 0 (omega (arith, times-first (one_word 0 0) (cover S 0 0 t) 0 0, once_held 0 0)))
+root_held S t stored = omega (arith, stored.inside 0 0 (omega (arith, times-first (word_interval 0 0) (cover S 0 0 t) 0 0, once_held 0 0)))
 
 pub rootless_done : (v : View) (edit : Edit) → (1 ≤ length (segment v.words 0) → ⊥) → IsStep v v edit (Some NoSuchPlace)
 rootless_done v edit empty = nothing_done v edit None (no_forest v.words edit (Some NoSuchPlace) empty) (λ t stored. absurd (empty (root_held v.words t stored)))
@@ -121,7 +121,7 @@ step_is_there old new edit r t x u q s forest leads = go s.place (s.leads t (for
     spot : found t path ≡ Some (PointerTo x)
     spot = leads_spot old.words 0 0 t path u q x leads
 
-    go : (place : Option Place) → IsFound old.words 0 0 t path place → place ≡ Some (AtPointer (record { segment = u; word = q }))
+    go : (place : Option Place) → IsPathFound old.words 0 0 t path place → place ≡ Some (AtPointer (record { segment = u; word = q }))
     go None none = absurd (no_spot x (sym spot ∙ ap (found t) (sym (append-nil path)) ∙ none []))
     go (Some (AtPointer place)) f =
         let same = same_end old.words 0 0 t path place.segment place.word f.value u q x f.leads leads in

@@ -8,7 +8,7 @@ use Rattle.capnp_format.specs.Numbers.{element_bits, words_for}
 use Rattle.capnp_format.specs.Segments.{Segments, Target}
 use Rattle.capnp_format.specs.Tree.{Tree, Null, Capability, Struct, Flat, Structs, count, capabilities}
 use Rattle.capnp_format.specs.Forest.{IsForest}
-use Rattle.capnp_making.specs.Existing.{is_unfound, list_in, data_in, text_in, LieIn}
+use Rattle.capnp_making.specs.Existing.{is_unfound, list_in, data_in, text_in, BytesLieIn}
 use Rattle.capnp_making.specs.Fields.{with_bits, put_field, with_field}
 use Rattle.capnp_making.specs.Filled.{AreFilled}
 use Rattle.capnp_making.specs.Memory.{refusals_for}
@@ -31,7 +31,7 @@ use Rattle.capnp_edits.specs.declared.edit.Source.{Source}
 use Rattle.capnp_readers.specs.Sections.{step_bits, data_bits}
 use Rattle.capnp_readers.specs.declared.readers.PointerPlace.{PointerPlace}
 use Rattle.capnp_builders.specs.declared.builders.PointerBuilder.{PointerBuilder}
-use Rattle.capnp_builders.specs.Found.{place_of as list_place}
+use Rattle.capnp_builders.specs.Found.{found_list_place as list_place}
 use Rattle.capnp_builders.specs.Places.{Field, field}
 use Rattle.capnp_edits.specs.declared.edit.Edit.{Edit}
 use Rattle.capnp_edits.specs.declared.edit.copying.Copying.{Copying}
@@ -48,7 +48,7 @@ use Rattle.capnp_edits.specs.declared.edit.tasks.Part.TheVariants.{ListElement, 
 use Rattle.capnp_edits.specs.declared.edit.tasks.Sought.{Sought}
 use Rattle.capnp_edits.specs.declared.edit.tasks.Sought.TheVariants.{Struct as ForStruct, List as ForList, StructList as ForStructs, Text as ForText, Data as ForData}
 use Rattle.capnp_edits.specs.Tasks.{task_of}
-use Rattle.capnp_edits.specs.Sources.{copying, Copies, ContentRead, Fills, FillsAll, IsNextUnreadable, IsUnread, IsUnreadable}
+use Rattle.capnp_edits.specs.Sources.{copying_from, Copies, ContentRead, Fills, FillsAll, IsNextUnreadable, HasNothingToCopy, IsUnreadable}
 use Rattle.capnp_edits.specs.Paths.{Spot, PointerTo, ElementOf, path_of, found}
 
 -- The name by which a call is refused, if it is.
@@ -153,13 +153,13 @@ value_of (ZeroText n) = zero_list 2 (n + 1)
 value_of (Text bytes) = Flat 2 (bytes.now ++ 0 ∷ [])
 value_of (Data bytes) = Flat 2 bytes.now
 
-abbrev pub words_of : Object → ℕ
-words_of (ZeroStruct size) = size.data_words + size.pointers
-words_of (ZeroList size n) = list_words (size_number size) n
-words_of (ZeroStructs n size) = 1 + n * (size.data_words + size.pointers)
-words_of (ZeroText n) = list_words 2 (n + 1)
-words_of (Text bytes) = words_for 2 (length bytes.now + 1)
-words_of (Data bytes) = words_for 2 (length bytes.now)
+abbrev pub words_made : Object → ℕ
+words_made (ZeroStruct size) = size.data_words + size.pointers
+words_made (ZeroList size n) = list_words (size_number size) n
+words_made (ZeroStructs n size) = 1 + n * (size.data_words + size.pointers)
+words_made (ZeroText n) = list_words 2 (n + 1)
+words_made (Text bytes) = words_for 2 (length bytes.now + 1)
+words_made (Data bytes) = words_for 2 (length bytes.now)
 
 -- What a task makes where a path leads; or by what name it is refused, and nothing is changed.
 abbrev pub made_at : Task → Spot → Making
@@ -219,10 +219,10 @@ pub data Yields (making : Making) (r : Option ErrorKind) (o : Option Tree) : Typ
   is_not_allocated : (t u : Tree) (k : ErrorKind) → making ≡ allocates t u → IsOfMemory k → r ≡ Some k → o ≡ Some t → Yields making r o
   is_copied : (c : Copying) (u : Tree) → making ≡ copies c → Copies c u → r ≡ None → o ≡ Some u → Yields making r o
   is_not_copied : (c : Copying) (k : ErrorKind) → making ≡ copies c → IsOfMemory k ⊎ IsUnreadable c k → r ≡ Some k → o ≡ Some Null → Yields making r o
-  is_unread : (c : Copying) (k : ErrorKind) → making ≡ copies c → IsUnread c k → r ≡ Some k → o ≡ None → Yields making r o
+  is_unread : (c : Copying) (k : ErrorKind) → making ≡ copies c → HasNothingToCopy c k → r ≡ Some k → o ≡ None → Yields making r o
   is_filled : (source : Source) (d q : ℕ) (u : Tree) → making ≡ fills source d q → FillsAll source d q u → r ≡ None → o ≡ Some u → Yields making r o
   is_half_filled : (source : Source) (d q : ℕ) (k : ErrorKind) (u : Tree) → making ≡ fills source d q → FillsFirst source d q k u → r ≡ Some k → o ≡ Some u → Yields making r o
-  is_not_filled : (source : Source) (d q : ℕ) (k : ErrorKind) → making ≡ fills source d q → IsUnread (copying source AStruct false) k → r ≡ Some k → o ≡ None → Yields making r o
+  is_not_filled : (source : Source) (d q : ℕ) (k : ErrorKind) → making ≡ fills source d q → HasNothingToCopy (copying_from source AStruct false) k → r ≡ Some k → o ≡ None → Yields making r o
 
 -- The value of a default, by its bytes, without capabilities.
 abbrev pub MeansDefault : List ℕ → Tree → Type 0
@@ -270,7 +270,7 @@ pub data PutsBits (S R : Segments) (e : ExistingStruct) (f : Field) (r : Option 
 pub data CopiesRoot (S R : Segments) (place : PointerPlace) (c : Copying) (r : Option ErrorKind) : Type 0 where
   root_copied : (u : Tree) → Copies c u → r ≡ None → Puts S R place.segment place.word u → CopiesRoot S R place c r
   root_not_copied : (k : ErrorKind) → IsOfMemory k ⊎ IsUnreadable c k → r ≡ Some k → Puts S R place.segment place.word Null → CopiesRoot S R place c r
-  root_unread : (k : ErrorKind) → IsUnread c k → r ≡ Some k → R ≡ S → CopiesRoot S R place c r
+  root_unread : (k : ErrorKind) → HasNothingToCopy c k → r ≡ Some k → R ≡ S → CopiesRoot S R place c r
 
 -- Where the sections of a struct are.
 abbrev pub sections : ExistingStruct → StructPlace
@@ -301,7 +301,7 @@ pub data FillsAt (S R : Segments) (place : StructPlace) (source : Source) (r : O
       IsNextRefused source f.content k →
       r ≡ Some k →
       FillsAt S R place source r
-  none_filled : (k : ErrorKind) → IsUnread (copying source AStruct false) k → R ≡ S → r ≡ Some k → FillsAt S R place source r
+  none_filled : (k : ErrorKind) → HasNothingToCopy (copying_from source AStruct false) k → R ≡ S → r ≡ Some k → FillsAt S R place source r
 
 -- What a change leaves of a struct of a message: its bits are written; or content is copied over it.
 abbrev pub Changes : Segments → Segments → ExistingStruct → StructChange → Option ErrorKind → Type 0
@@ -321,7 +321,7 @@ pub data PutsElement (S R : Segments) (looked : Result (Option ExistingList) Err
 -- The same of a byte of a text or data.
 pub data PutsByte (S R : Segments) (looked : Result (Option ExistingBytes) ErrorKind) (i v : ℕ) (r : Option ErrorKind) : Type 0 where
   byte_put : (b : ExistingBytes) → looked ≡ Ok (Some b) → i < b.length → r ≡ None → R ≡ with_field S b.segment (8 * (8 * b.start + i)) 8 v → PutsByte S R looked i v r
-  byte_past : (b : ExistingBytes) → looked ≡ Ok (Some b) → (LieIn S b → b.length ≤ i) → r ≡ Some NoSuchPlace → R ≡ S → PutsByte S R looked i v r
+  byte_past : (b : ExistingBytes) → looked ≡ Ok (Some b) → (BytesLieIn S b → b.length ≤ i) → r ≡ Some NoSuchPlace → R ≡ S → PutsByte S R looked i v r
   no_bytes_there : looked ≡ Ok None → r ≡ Some NoSuchPlace → R ≡ S → PutsByte S R looked i v r
   bytes_denied : (k : ErrorKind) → looked ≡ Err k → r ≡ Some k → R ≡ S → PutsByte S R looked i v r
 

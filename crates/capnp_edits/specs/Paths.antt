@@ -4,7 +4,7 @@ use Rattle.capnp_format.specs.Segments.{Segments, IsPlace}
 use Rattle.capnp_words.specs.Sizes.{size_number}
 use Rattle.capnp_format.specs.Tree.{Tree, Struct, Pointers, Structs, Elements, count, element_count}
 use Rattle.capnp_format.specs.Forest.{target}
-use Rattle.capnp_making.specs.Existing.{LiesIn}
+use Rattle.capnp_making.specs.Existing.{StructLiesIn}
 use Rattle.capnp_making.specs.Stored.{IsStored}
 use Rattle.capnp_making.specs.Path.{Step, Child, Element, tree_at, struct_at, next, PathLeads}
 use Rattle.capnp_making.specs.declared.existing.ExistingList.{ExistingList}
@@ -59,15 +59,15 @@ pub record IsElementFound (S : Segments) (s p : ℕ) (t : Tree) (path : List Ste
   pub start_is : e.start ≡ (target S list_segment list_at).start + 1 + index * (e.size.data_words + e.size.pointers)
 
 -- Where a path leads; if nowhere, then no longer path leads anywhere.
-abbrev pub IsFound : Segments → ℕ → ℕ → Tree → List Step → Option Place → Type 0
-IsFound S s p t path (Some (AtPointer place)) = IsPointerFound S s p t path place.segment place.word
-IsFound S s p t path (Some (AtElement e)) = IsElementFound S s p t path e
-IsFound S s p t path None = (more : List Step) → found t (path ++ more) ≡ None
+abbrev pub IsPathFound : Segments → ℕ → ℕ → Tree → List Step → Option Place → Type 0
+IsPathFound S s p t path (Some (AtPointer place)) = IsPointerFound S s p t path place.segment place.word
+IsPathFound S s p t path (Some (AtElement e)) = IsElementFound S s p t path e
+IsPathFound S s p t path None = (more : List Step) → found t (path ++ more) ≡ None
 
 -- A place lies in the message.
-abbrev pub LieThere : Segments → Place → Type 0
-LieThere S (AtPointer place) = IsPlace S place.segment place.word
-LieThere S (AtElement e) = LiesIn S e
+abbrev pub PlaceLiesIn : Segments → Place → Type 0
+PlaceLiesIn S (AtPointer place) = IsPlace S place.segment place.word
+PlaceLiesIn S (AtElement e) = StructLiesIn S e
 
 -- The pointer of a struct by its index, if there is one.
 abbrev pub child_in : ExistingStruct → ℕ → Option Place
@@ -85,11 +85,11 @@ element_in l i = cond (nat_eq (size_number l.size) 6) (Some (pointer_element l i
 
 -- A place lies in the message, if it is one.
 abbrev pub LieThereIf : Segments → Option Place → Type 0
-LieThereIf S (Some place) = LieThere S place
+LieThereIf S (Some place) = PlaceLiesIn S place
 LieThereIf S None = ⊤
 
 -- What a step from a place gives: r.
 abbrev pub Steps : Segments → Place → Step → Option Place → Type 0
-Steps S (AtPointer place) step r = (t : Tree) → IsStored S place.segment place.word t → IsFound S place.segment place.word t (step ∷ []) r
+Steps S (AtPointer place) step r = (t : Tree) → IsStored S place.segment place.word t → IsPathFound S place.segment place.word t (step ∷ []) r
 Steps S (AtElement e) (Child i) r = LieThereIf S (child_in e i) → r ≡ child_in e i
 Steps S (AtElement e) (Element i) r = r ≡ None

@@ -23,7 +23,7 @@ use Rattle.capnp_objects.specs.Outcomes.{Reads, ReadsAll, Entered, MeansThere}
 use Rattle.capnp_objects.specs.Reading.{Reading, word_of, behind, tag_size}
 use Rattle.capnp_objects.specs.Refusals.{Refused}
 use Rattle.capnp_objects.specs.Source.{levels}
-use Rattle.capnp_objects.specs.Wanted.{Takes, plain}
+use Rattle.capnp_objects.specs.Wanted.{AllowsCapabilities, plain}
 use Rattle.capnp_readers.specs.Readers.{reading}
 use Rattle.capnp_readers.specs.declared.readers.PointerReader.{PointerReader}
 use Rattle.capnp_copies.specs.Changes.{Change, RefusesValue, change}
@@ -38,8 +38,8 @@ use Rattle.capnp_edits.specs.declared.edit.copying.Wanted.{Wanted}
 use Rattle.capnp_edits.specs.declared.edit.copying.Wanted.TheVariants.{Value, Struct as AStruct, List as AList}
 use Rattle.capnp_objects.specs.declared.object.Purpose.TheVariants.{Value as ForValue}
 
-abbrev pub copying : Source → Wanted → Bool → Copying
-copying source wanted canonicalize = record { source = source; wanted = wanted; canonicalize = canonicalize }
+abbrev pub copying_from : Source → Wanted → Bool → Copying
+copying_from source wanted canonicalize = record { source = source; wanted = wanted; canonicalize = canonicalize }
 
 -- The segments of a source, and its root, read within the nesting limit.
 abbrev pub words_in : Source → Segments
@@ -78,7 +78,7 @@ IsRootless source k =
     × (Holds (words_in source) 0 0 1 → k ≡ ReadLimitExceeded)
 
 -- A reader is at the root, whose word is charged.
-pub record IsOpened {A : Type 0} (g : Ghosts A) (source : Source) (from : PointerReader A g) (m : Meter) : Type 0 where
+pub record IsRootReader {A : Type 0} (g : Ghosts A) (source : Source) (from : PointerReader A g) (m : Meter) : Type 0 where
   pub root : HasRoot source
   pub reads : reading g from ≡ root_of source
   pub once : m ≡ once_at_root source
@@ -90,8 +90,8 @@ IsWithheld AStruct r m m' k = Withheld ExpectedStruct r m m' k
 IsWithheld AList r m m' k = Withheld (ExpectedList Void) r m m' k
 
 -- There is nothing to be copied, by the name k: the root isn't reached, or what is wanted isn't found there.
-abbrev pub IsUnread : Copying → ErrorKind → Type 0
-IsUnread c k = IsRootless c.source k ⊎ (HasRoot c.source × ((m : Meter) × IsWithheld c.wanted (root_of c.source) (once_at_root c.source) m k))
+abbrev pub HasNothingToCopy : Copying → ErrorKind → Type 0
+HasNothingToCopy c k = IsRootless c.source k ⊎ (HasRoot c.source × ((m : Meter) × IsWithheld c.wanted (root_of c.source) (once_at_root c.source) m k))
 
 -- The root means a value within the limits that is as wanted, and a copy keeps u of it.
 pub record Copies (c : Copying) (u : Tree) : Type 0 where
@@ -109,7 +109,7 @@ pub record CanBeCopiedAs (c : Copying) (r : Reading) (m : Meter) (used room : �
   pub value : Tree
   pub cost : ℕ
   pub means : MeansThere r value cost
-  pub takes : Takes (form_of c.canonicalize) (capabilities value)
+  pub takes : AllowsCapabilities (form_of c.canonicalize) (capabilities value)
   pub covers : Affords r.charging m cost
   pub copied : Tree
   pub is_wanted : as_wanted c.wanted value ≡ Some copied
@@ -215,10 +215,10 @@ IsCopyRefused call c k = (m : Meter) × RefusesAs c.wanted (root_of c.source) (c
 
 -- Where there is a value to be copied, reading isn't refused.
 abbrev pub CopiedOrRefused : Type 0
-CopiedOrRefused = (c : Copying) (u : Tree) (k : ErrorKind) → Copies c u → IsUnread c k ⊎ IsUnreadable c k → ⊥
+CopiedOrRefused = (c : Copying) (u : Tree) (k : ErrorKind) → Copies c u → HasNothingToCopy c k ⊎ IsUnreadable c k → ⊥
 
 -- Where the pointers can be read that a source's struct and one of q pointers both have, reading isn't refused.
 abbrev pub FilledOrRefused : Type 0
 FilledOrRefused =
     (source : Source) (q : ℕ) (k : ErrorKind) (all : ContentRead source) → count all.children ≡ min q all.from.pointers
-    → IsUnread (copying source AStruct false) k ⊎ ((some : ContentRead source) × (count some.children < min q some.from.pointers) × IsNextUnreadable source some k) → ⊥
+    → HasNothingToCopy (copying_from source AStruct false) k ⊎ ((some : ContentRead source) × (count some.children < min q some.from.pointers) × IsNextUnreadable source some k) → ⊥

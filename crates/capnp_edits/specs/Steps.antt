@@ -42,9 +42,9 @@ use Rattle.capnp_edits.specs.declared.edit.tasks.Sought.TheVariants.{Struct as F
 use Rattle.capnp_edits.specs.Tasks.{task_of}
 use Rattle.capnp_edits.specs.declared.edit.path.Place.{Place}
 use Rattle.capnp_edits.specs.declared.edit.path.Place.TheVariants.{Pointer as AtPointer, Element as AtElement}
-use Rattle.capnp_edits.specs.Paths.{path_of, IsFound}
-use Rattle.capnp_edits.specs.Sources.{copying, root_of, once_at_root, Sections, LeadsToStruct, LeadsToList, ContentRead, ContentFitsBehind, IsUnread, FitsBehind, copy_at, IsCopyRefused}
-use Rattle.capnp_edits.specs.Edits.{refusal_of, is_of_place, words_of, refusals_after, sections, Changes, Does, IsApplied}
+use Rattle.capnp_edits.specs.Paths.{path_of, IsPathFound}
+use Rattle.capnp_edits.specs.Sources.{copying_from, root_of, once_at_root, Sections, LeadsToStruct, LeadsToList, ContentRead, ContentFitsBehind, HasNothingToCopy, FitsBehind, copy_at, IsCopyRefused}
+use Rattle.capnp_edits.specs.Edits.{refusal_of, is_of_place, words_made, refusals_after, sections, Changes, Does, IsApplied}
 
 -- A call at the place of a pointer.
 abbrev pub call_to : PointerPlace → View → View → CallAt
@@ -60,7 +60,7 @@ IsStructAt S place e = (t : Tree) → IsStored S place.segment place.word t → 
 
 -- There is nothing to be copied, by an outcome that says so, and all is as it was.
 abbrev pub CopiesNothing : Copying → View → View → Option ErrorKind → Type 0
-CopiesNothing c old new r = (k : ErrorKind) × (r ≡ Some k) × IsUnread c k × (new ≡ old)
+CopiesNothing c old new r = (k : ErrorKind) × (r ≡ Some k) × HasNothingToCopy c k × (new ≡ old)
 
 -- Room.
 
@@ -72,7 +72,7 @@ ChangeFits old e (Content source) = ContentFitsBehind old e.segment source e.siz
 -- What a task makes at a pointer has room there, as the builder's call asks for it: the words of one object; what is kept of a copy; a change of the struct
 -- there; the value of a default, and what becomes of a struct or a list of structs that is opened. A task that takes no words asks for none.
 abbrev pub TaskFits : View → PointerPlace → Task → Type 0
-TaskFits old place (Make object) = HasRoom old place.segment (words_of object)
+TaskFits old place (Make object) = HasRoom old place.segment (words_made object)
 TaskFits old place (InStruct change) = (e : ExistingStruct) → IsStructAt old.words place e → ChangeFits old e change
 TaskFits old place (Search (ForStruct size) default) = StructFindFits size default old place.segment place.word
 TaskFits old place (Search (ForStructs size) default) = StructsFindFits size default old place.segment place.word
@@ -90,7 +90,7 @@ FitsAt old task (AtElement e) = ⊤
 
 -- The copy of a whole value is refused by a name: its source isn't read, and all is as it was; or as the copy of what was read is.
 abbrev pub IsWholeRefused : CallAt → Copying → ErrorKind → Type 0
-IsWholeRefused call c k = (IsUnread c k × (call.new ≡ call.old)) ⊎ IsCopyRefused call c k
+IsWholeRefused call c k = (HasNothingToCopy c k × (call.new ≡ call.old)) ⊎ IsCopyRefused call c k
 
 -- n words are wanted for an object of what the pointer behind those that are read means.
 abbrev pub WantsNext : (source : Source) → ContentRead source → Meter → ℕ → Type 0
@@ -113,7 +113,7 @@ pub record StopsFilling (old new : View) (place : StructPlace) (source : Source)
 -- Content isn't copied over a struct, or not all of it.
 abbrev pub IsContentRefused : View → View → StructPlace → Source → ErrorKind → Type 0
 IsContentRefused old new place source k =
-    (IsUnread (copying source AStruct false) k × (new ≡ old)) ⊎ StopsFilling old new place source k
+    (HasNothingToCopy (copying_from source AStruct false) k × (new ≡ old)) ⊎ StopsFilling old new place source k
 
 -- What is looked for isn't opened: all is as it was; or memory is refused, and truly.
 abbrev pub IsOpeningRefused : View → View → ErrorKind → Type 0
@@ -137,7 +137,7 @@ IsChangeRefused old new e (Content source) k = IsContentRefused old new (section
 
 -- The builder's call is refused by a name. One that makes an object is so for want of memory or room for its words, and truly.
 abbrev pub IsCallRefused : CallAt → Task → ErrorKind → Type 0
-IsCallRefused call (Make object) k = IsRefusedFor call.old call.new (words_of object) k
+IsCallRefused call (Make object) k = IsRefusedFor call.old call.new (words_made object) k
 IsCallRefused call (InStruct change) k =
     (e : ExistingStruct) × IsStructAt call.old.words (record { segment = call.segment; word = call.at }) e
     × IsChangeRefused call.old call.new e change k
@@ -184,9 +184,9 @@ TakesForWhole call c r =
 abbrev pub TakesForPointersOf : Sections → StructPlace → Option ErrorKind → Change → Type 0
 TakesForPointersOf s place r c = TakesForPointers (result_of r) s.first (min place.pointers s.pointers) (record c { before = s.limiter })
 
-abbrev pub TakesForContent : View → View → StructPlace → Source → Option ErrorKind → Type 0
-TakesForContent old new place source r =
-    CopiesNothing (copying source AStruct false) old new r
+abbrev pub TakesForContentFrom : View → View → StructPlace → Source → Option ErrorKind → Type 0
+TakesForContentFrom old new place source r =
+    CopiesNothing (copying_from source AStruct false) old new r
     ⊎ (
     (s : Sections) × (m : Meter) × LeadsToStruct (root_of source) (once_at_root source) s
     × TakesForPointersOf s place r (change plain place.segment place.pointers_at old new (once_at_root source) m)
@@ -194,27 +194,27 @@ TakesForContent old new place source r =
 
 -- A search of a value that stands does as the builder's call says, which finds something, or is refused by the same name.
 abbrev pub FindsAs : {B : Type 0} → Option ErrorKind → (Result B ErrorKind → Type 0) → Type 0
-FindsAs {B} r Finds = (result : Result B ErrorKind) × (refusal_of result ≡ r) × Finds result
+FindsAs {B} r FindsSought = (result : Result B ErrorKind) × (refusal_of result ≡ r) × FindsSought result
 
-abbrev pub Finds : Sought → Option (Bor (List ℕ)) → Option ErrorKind → CallAt → Tree → Type 0
-Finds (ForStruct size) default r call t = FindsAs r (λ result. FindsStruct size default result call t)
-Finds (ForList size) default r call t = FindsAs r (λ result. FindsList size default result call t)
-Finds (ForStructs size) default r call t = FindsAs r (λ result. FindsStructs size default result call t)
-Finds ForText default r call t = FindsAs r (λ result. FindsText default result call t)
-Finds ForData default r call t = FindsAs r (λ result. FindsData default result call t)
+abbrev pub FindsSought : Sought → Option (Bor (List ℕ)) → Option ErrorKind → CallAt → Tree → Type 0
+FindsSought (ForStruct size) default r call t = FindsAs r (λ result. FindsStruct size default result call t)
+FindsSought (ForList size) default r call t = FindsAs r (λ result. FindsList size default result call t)
+FindsSought (ForStructs size) default r call t = FindsAs r (λ result. FindsStructs size default result call t)
+FindsSought ForText default r call t = FindsAs r (λ result. FindsText default result call t)
+FindsSought ForData default r call t = FindsAs r (λ result. FindsData default result call t)
 
 -- The words that a change of a struct takes.
 abbrev pub TakesForChange : View → View → ExistingStruct → StructChange → Option ErrorKind → Type 0
 TakesForChange old new e (Bits n) r = KeepsLengths old.words new.words
-TakesForChange old new e (Content source) r = TakesForContent old new (sections e) source r
+TakesForChange old new e (Content source) r = TakesForContentFrom old new (sections e) source r
 
 -- A task at a pointer takes words as the builder's call says.
 abbrev pub TakesFor : CallAt → Task → Option ErrorKind → Type 0
-TakesFor call (Make object) r = TakesObject call (words_of object) r
+TakesFor call (Make object) r = TakesObject call (words_made object) r
 TakesFor call (InStruct change) r =
     (e : ExistingStruct) × IsStructAt call.old.words (record { segment = call.segment; word = call.at }) e
     × TakesForChange call.old call.new e change r
-TakesFor call (Search sought default) r = (t : Tree) → IsStored call.old.words call.segment call.at t → Finds sought default r call t
+TakesFor call (Search sought default) r = (t : Tree) → IsStored call.old.words call.segment call.at t → FindsSought sought default r call t
 TakesFor call (CopyRoot c) r = TakesForWhole call c r
 TakesFor call task r = KeepsLengths call.old.words call.new.words
 
@@ -254,7 +254,7 @@ pub record IsStep (old new : View) (edit : Edit) (r : Option ErrorKind) : Type 0
   pub applied : IsApplied old.words new.words edit r
   pub counted : new.refusals ≡ refusals_after r old.refusals
   pub place : Option Place
-  pub leads : (t : Tree) → IsStored old.words 0 0 t → IsFound old.words 0 0 t (path_of edit.path.now) place
+  pub leads : (t : Tree) → IsStored old.words 0 0 t → IsPathFound old.words 0 0 t (path_of edit.path.now) place
   pub missing : place ≡ None → r ≡ Some NoSuchPlace
   pub out_of_range : task_of edit.op ≡ None → r ≡ Some NoSuchPlace
   pub rootless : length (segment old.words 0) ≡ 0 → r ≡ Some NoSuchPlace

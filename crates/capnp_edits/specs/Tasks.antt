@@ -14,7 +14,7 @@ use Rattle.capnp_edits.specs.declared.edit.tasks.Object.TheVariants.{ZeroStruct,
 use Rattle.capnp_edits.specs.declared.edit.tasks.StructChange.TheVariants.{Bits, Content}
 use Rattle.capnp_edits.specs.declared.edit.tasks.Part.TheVariants.{ListElement, TextByte, DataByte}
 use Rattle.capnp_edits.specs.declared.edit.tasks.Sought.TheVariants.{Struct as ForStruct, List as ForList, StructList as ForStructs, Text as ForText, Data as ForData}
-use Rattle.capnp_edits.specs.Sources.{copying}
+use Rattle.capnp_edits.specs.Sources.{copying_from}
 
 -- A bit, or a number of 1, 2, 4 or 8 bytes, has no more bits than its element size.
 abbrev pub is_number : ElementSize → ℕ → Bool
@@ -63,7 +63,7 @@ task_of (GetList size default) = if_in_range (Search (ForList size) default)
 task_of (GetStructList size default) = if_in_range (Search (ForStructs size) default)
 task_of (GetText default) = if_in_range (Search ForText default)
 task_of (GetData default) = if_in_range (Search ForData default)
-task_of (CopyFrom source canonicalize) = if_in_range (CopyRoot (copying source Value canonicalize))
-task_of (SetStruct source canonicalize) = if_in_range (CopyRoot (copying source AStruct canonicalize))
-task_of (SetList source canonicalize) = if_in_range (CopyRoot (copying source AList canonicalize))
+task_of (CopyFrom source canonicalize) = if_in_range (CopyRoot (copying_from source Value canonicalize))
+task_of (SetStruct source canonicalize) = if_in_range (CopyRoot (copying_from source AStruct canonicalize))
+task_of (SetList source canonicalize) = if_in_range (CopyRoot (copying_from source AList canonicalize))
 task_of (CopyContent source) = if_in_range (InStruct (Content source))

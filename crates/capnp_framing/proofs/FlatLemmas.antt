@@ -11,7 +11,7 @@ use Rattle.capnp_format.specs.Segments.{Segments}
 use Rattle.capnp_format.proofs.WordsOf.{small_word, words}
 use Rattle.capnp_arena.specs.Limits.{IsSmall}
 use Rattle.capnp_framing.specs.Flat.{BeginsWithFrame, first_told, part_at, parts}
-use Rattle.capnp_framing.specs.Frames.{AreWords, contents, lengths, padding_size}
+use Rattle.capnp_framing.specs.Frames.{AreSegmentWords, contents, lengths, padding_size}
 use Rattle.capnp_framing.specs.Reading.{max_length, total, words_told}
 use Rattle.capnp_framing.proofs.ReadingLemmas.{AtTable, frame_read, small_from_short}
 use Rattle.capnp_framing.proofs.TableLemmas.{below_take, bytes-words}
@@ -49,7 +49,7 @@ pub record AreParts (n : ℕ) (table bytes : List ℕ) (S : Segments) : Type 0 w
   pub told : lengths S ≡ take (4 * n) table
   pub is : contents S ≡ take (8 * words_told n table) bytes
   pub short : All (λ ws. length ws < 2 ^ 32) S
-  pub words : All AreWords S
+  pub words : All AreSegmentWords S
   pub sum : total S ≡ words_told n table
 
 abbrev AreBytes : List ℕ → Type 0
@@ -69,7 +69,7 @@ are_parts zero table bytes t b room whole = record {
   told = refl;
   is = refl;
   short = All-nil (λ (ws : List ℕ). length ws < 2 ^ 32);
-  words = All-nil AreWords;
+  words = All-nil AreSegmentWords;
   sum = refl;
 }
 are_parts (suc n) table bytes t b room whole =
@@ -95,7 +95,7 @@ are_parts (suc n) table bytes t b room whole =
           ∙ sym (take-add (8 * k) (8 * words_told n (drop 4 table)) bytes)
           ∙ ap (λ m. take m bytes) (let e : 8 * k + 8 * words_told n (drop 4 table) ≡ 8 * words_told (suc n) table = omega arith in e);
       short = All-cons (λ (vs : List ℕ). length vs < 2 ^ 32) ws S (omega (arith, count, below)) rest.short;
-      words = All-cons AreWords ws S (All-from_get_or (λ w. w < 2 ^ 64) ws 0 (λ i inside. small_word part small i)) rest.words;
+      words = All-cons AreSegmentWords ws S (All-from_get_or (λ w. w < 2 ^ 64) ws 0 (λ i inside. small_word part small i)) rest.words;
       sum = omega (arith, count, rest.sum);
     }
 

@@ -6,7 +6,7 @@ use Rattle.std.proofs.lemmas.List.{length-replicate}
 use Rattle.std.proofs.lemmas.List.Elements.{All-head, All-tail}
 use Rattle.std.proofs.lemmas.Nat.{from_le_bytes-to_le_bytes_4, from_le_bytes-to_le_bytes_8}
 use Rattle.capnp_format.specs.Segments.{Segments}
-use Rattle.capnp_framing.specs.Frames.{AreWords, bytes_of_words, lengths, contents, padding_size, IsFrameOf, frame_with, frame}
+use Rattle.capnp_framing.specs.Frames.{AreSegmentWords, bytes_of_words, lengths, contents, padding_size, IsFrameOf, frame_with, frame}
 use Rattle.capnp_framing.specs.Laws.{OneFrameBegins, OneMessage, WrittenIsFrame, SameFrames}
 
 -- two lists with the same front of one length
@@ -48,7 +48,7 @@ same_lengths (ws ∷ S) (vs ∷ R) {us = us} {vs = zs} l short few e =
     let rest = same_lengths S R (omega arith) (All-tail IsShort ws S short) (All-tail IsShort vs R few) first.1 in
     ((first.0, rest.0), rest.1)
 
-same_words : (ws vs : List ℕ) {us zs : List ℕ} → length ws ≡ length vs → AreWords ws → AreWords vs → bytes_of_words ws ++ us ≡ bytes_of_words vs ++ zs → (ws ≡ vs) × (us ≡ zs)
+same_words : (ws vs : List ℕ) {us zs : List ℕ} → length ws ≡ length vs → AreSegmentWords ws → AreSegmentWords vs → bytes_of_words ws ++ us ≡ bytes_of_words vs ++ zs → (ws ≡ vs) × (us ≡ zs)
 same_words [] [] l small few e = (refl, e)
 same_words [] (v ∷ vs) l small few e = absurd (omega arith)
 same_words (w ∷ ws) [] l small few e = absurd (omega arith)
@@ -57,13 +57,13 @@ same_words (w ∷ ws) (v ∷ vs) {us = us} {zs = zs} l small few e =
     let rest = same_words ws vs (omega arith) (All-tail (λ x. x < 2 ^ 64) w ws small) (All-tail (λ x. x < 2 ^ 64) v vs few) first.1 in
     (ap₂ (λ x (xs : List ℕ). x ∷ xs) first.0 rest.0, rest.1)
 
-same_contents : (S R : Segments) {us vs : List ℕ} → AreAsLong S R → All AreWords S → All AreWords R → contents S ++ us ≡ contents R ++ vs → (S ≡ R) × (us ≡ vs)
+same_contents : (S R : Segments) {us vs : List ℕ} → AreAsLong S R → All AreSegmentWords S → All AreSegmentWords R → contents S ++ us ≡ contents R ++ vs → (S ≡ R) × (us ≡ vs)
 same_contents [] [] l small few e = (refl, e)
 same_contents [] (vs ∷ R) l small few e = absurd l
 same_contents (ws ∷ S) [] l small few e = absurd l
 same_contents (ws ∷ S) (vs ∷ R) {us = us} {vs = zs} l small few e =
-    let first = same_words ws vs l.0 (All-head AreWords ws S small) (All-head AreWords vs R few) (sym (append_assoc (bytes_of_words ws) (contents S) us) ∙ e ∙ append_assoc (bytes_of_words vs) (contents R) zs) in
-    let rest = same_contents S R l.1 (All-tail AreWords ws S small) (All-tail AreWords vs R few) first.1 in
+    let first = same_words ws vs l.0 (All-head AreSegmentWords ws S small) (All-head AreSegmentWords vs R few) (sym (append_assoc (bytes_of_words ws) (contents S) us) ∙ e ∙ append_assoc (bytes_of_words vs) (contents R) zs) in
+    let rest = same_contents S R l.1 (All-tail AreSegmentWords ws S small) (All-tail AreSegmentWords vs R few) first.1 in
     (ap₂ (λ (x : List ℕ) (xs : Segments). x ∷ xs) first.0 rest.0, rest.1)
 
 behind : (p : List ℕ) (S : Segments) (rest : List ℕ) → frame_with p S ++ rest ≡ to_le_bytes w32 (length S - 1) ++ (lengths S ++ (p ++ (contents S ++ rest)))

@@ -13,8 +13,8 @@ use borrow.Rule.Slice.PartMut.{put_mid}
 use Rattle.capnp_format.specs.Segments.{Segments}
 use Rattle.capnp_format.proofs.WordsOf.{words}
 use Rattle.std.proofs.lemmas.List.Elements.{All-head, All-tail}
-use Rattle.capnp_framing.specs.Frames.{AreWords, IsFrameOf, bytes_of_words, contents, lengths, padding_size}
-use Rattle.capnp_framing.specs.Reading.{HasTable, NoFrame, WhyUnread, message_words, segments_told, table_size, count_cut, table_cut, too_long, too_many, total, words_cut, words_told}
+use Rattle.capnp_framing.specs.Frames.{AreSegmentWords, IsFrameOf, bytes_of_words, contents, lengths, padding_size}
+use Rattle.capnp_framing.specs.Reading.{HasTable, NoFrame, WhyUnread, words_in_table, segments_told, table_size, count_cut, table_cut, too_long, too_many, total, words_cut, words_told}
 use Rattle.capnp_framing.specs.declared.framing.frame_error.FrameError.TheVariants.{MessageTooLong, Truncated}
 use Rattle.capnp_framing.specs.declared.devices.Input.{Ghosts}
 use Rattle.capnp_framing.specs.declared.framing.frame_error.FrameError.{FrameError}
@@ -132,7 +132,7 @@ has_table {first} {tab} {n} rest h =
     let told = table_told rest h in
     record { count = omega (arith, long); few = omega (arith, told, h.few); table = subst (λ k. table_size k ≤ length (first ++ (tab ++ rest))) (sym told) (omega (arith, long)) }
 
-table_words : {first tab : List ℕ} {n : ℕ} (rest zs : List ℕ) → AtTable first tab n → message_words (first ++ (tab ++ rest)) ≡ words_told n (tab ++ zs)
+table_words : {first tab : List ℕ} {n : ℕ} (rest zs : List ℕ) → AtTable first tab n → words_in_table (first ++ (tab ++ rest)) ≡ words_told n (tab ++ zs)
 table_words {first} {tab} {n} rest zs h = ap₂ words_told (table_told rest h) (drop_at first (tab ++ rest) 4 h.four) ∙ told_front n tab rest zs (omega (arith, h.size))
 
 pub long_table : {first tab : List ℕ} {n : ℕ} (rest zs : List ℕ) (w most : ℕ) → AtTable first tab n → w ≡ words_told n (tab ++ zs) → most < w → NoFrame (first ++ (tab ++ rest)) most (MessageTooLong w)
@@ -142,7 +142,7 @@ pub cut_table : {first tab : List ℕ} {n : ℕ} (rest zs : List ℕ) (w most : 
 cut_table {first} {tab} {n} rest zs w most h e l cut =
     let same = table_words rest zs h in
     let long : length (first ++ (tab ++ rest)) ≡ 4 + (4 * n + padding_size n) + length rest = omega (arith, length-append first (tab ++ rest), length-append tab rest, h.four, h.size) in
-    words_cut (has_table rest h) (omega (arith, same, e)) (subst (λ k. length (first ++ (tab ++ rest)) < table_size k + 8 * message_words (first ++ (tab ++ rest))) (sym (table_told rest h)) (omega (arith, long, same, e))) refl
+    words_cut (has_table rest h) (omega (arith, same, e)) (subst (λ k. length (first ++ (tab ++ rest)) < table_size k + 8 * words_in_table (first ++ (tab ++ rest))) (sym (table_told rest h)) (omega (arith, long, same, e))) refl
 
 -- what was read of known bytes, and what is left
 pub read_so : (a b c : Option (List ℕ)) (first tab : List ℕ) (Q P : List ℕ → Type 0) → Consumes a b first → Consumes b c tab → IfSome c Q → ((rest : List ℕ) → Q rest → P (first ++ (tab ++ rest))) → IfSome a P
@@ -157,7 +157,7 @@ whatever (Some x) = tt
 
 -- all pieces are a frame
 pub frame_read : {first tab : List ℕ} {n : ℕ} (zs : List ℕ) (S : Segments) → AtTable first tab n → ((i : ℕ) → get_or first i 0 < 256) → length S ≡ n → lengths S ≡ take (4 * n) (tab ++ zs) →
-    All (λ ws. length ws < 2 ^ 32) S → All AreWords S → IsFrameOf S (first ++ (tab ++ contents S))
+    All (λ ws. length ws < 2 ^ 32) S → All AreSegmentWords S → IsFrameOf S (first ++ (tab ++ contents S))
 frame_read {first} {tab} {n} zs S h below count told short words = record {
   message = record { some = omega (arith, count, h.told); few = omega (arith, count, h.few); short = short; words = words };
   padding = drop (4 * n) tab;
@@ -213,7 +213,7 @@ frame_is_read S bytes rest most e f small wrong =
     ∙ append_assoc first (lengths S ++ (f.padding ++ contents S)) rest
     ∙ ap (λ (xs : List ℕ). first ++ xs) (append_assoc (lengths S) (f.padding ++ contents S) rest ∙ ap (λ (xs : List ℕ). lengths S ++ xs) (append_assoc f.padding (contents S) rest) ∙ sym (append_assoc (lengths S) f.padding behind)) in
     let told : segments_told (first ++ (tab ++ behind)) ≡ n = table_told behind h in
-    let words : message_words (first ++ (tab ++ behind)) ≡ total S =
+    let words : words_in_table (first ++ (tab ++ behind)) ≡ total S =
     table_words behind [] h ∙ ap (words_told n) (append_nil tab) ∙ lengths_told S f.padding f.message.short in
     let long : length (first ++ (tab ++ behind)) ≡ 4 + (4 * n + padding_size n) + (8 * total S + length rest) =
     omega (arith, length-append first (tab ++ behind), length-append tab behind, length-append (contents S) rest, contents-length S, h.four, h.size) in
@@ -223,7 +223,7 @@ frame_is_read S bytes rest most e f small wrong =
     append_nil : (xs : List ℕ) → xs ++ [] ≡ xs
     append_nil xs = append-nil xs
 
-    refused : {xs : List ℕ} → NoFrame xs most e → segments_told xs ≡ length S → message_words xs ≡ total S → length xs ≡ 4 + (4 * length S + padding_size (length S)) + (8 * total S + length rest) → table_size (segments_told xs) ≡ 4 + 4 * length S + padding_size (length S) → ⊥
+    refused : {xs : List ℕ} → NoFrame xs most e → segments_told xs ≡ length S → words_in_table xs ≡ total S → length xs ≡ 4 + (4 * length S + padding_size (length S)) + (8 * total S + length rest) → table_size (segments_told xs) ≡ 4 + 4 * length S + padding_size (length S) → ⊥
     refused (count_cut some less k) told words long whole = omega (arith, long, less)
     refused (too_many there more k) told words long whole = let few = f.message.few in omega (arith, told, more, few)
     refused (table_cut there few less k) told words long whole = omega (arith, long, less, whole)

@@ -25,19 +25,19 @@ abbrev pub padding_size : ℕ → ℕ
 padding_size n = 4 * ((n + 1) % 2)
 
 -- The greatest number of segments of a frame, which is this project's limit.
-abbrev pub max_segments : ℕ
-max_segments = 512
+abbrev pub max_frame_segments : ℕ
+max_frame_segments = 512
 
 -- Each word is one of 64 bits.
-abbrev pub AreWords : List ℕ → Type 0
-AreWords ws = All (λ w. w < 2 ^ 64) ws
+abbrev pub AreSegmentWords : List ℕ → Type 0
+AreSegmentWords ws = All (λ w. w < 2 ^ 64) ws
 
 -- A frame holds 1 to 512 segments, each of fewer than 2^32 words of 64 bits.
 pub record CanBeFramed (S : Segments) : Type 0 where
   pub some : 1 ≤ length S
-  pub few : length S ≤ max_segments
+  pub few : length S ≤ max_frame_segments
   pub short : All (λ ws. length ws < 2 ^ 32) S
-  pub words : All AreWords S
+  pub words : All AreSegmentWords S
 
 -- The bytes of a message, with this padding.
 abbrev pub frame_with : List ℕ → Segments → List ℕ

@@ -5,17 +5,17 @@ use Rattle.capnp_framing.specs.declared.framing.frame_error.FrameError.{FrameErr
 use Rattle.capnp_framing.specs.declared.framing.frame_error.FrameError.TheVariants.{NoSegments, TooManySegments, MessageTooLong, Truncated, ReadFailed, WriteFailed, AllocationFailed}
 
 -- the name of a refusal
-abbrev pub name_of : FrameError → List ℕ
-name_of NoSegments = codes "NoSegments"
-name_of (TooManySegments _) = codes "TooManySegments"
-name_of (MessageTooLong _) = codes "MessageTooLong"
-name_of Truncated = codes "Truncated"
-name_of ReadFailed = codes "ReadFailed"
-name_of WriteFailed = codes "WriteFailed"
-name_of AllocationFailed = codes "AllocationFailed"
+abbrev pub frame_error_name : FrameError → List ℕ
+frame_error_name NoSegments = codes "NoSegments"
+frame_error_name (TooManySegments _) = codes "TooManySegments"
+frame_error_name (MessageTooLong _) = codes "MessageTooLong"
+frame_error_name Truncated = codes "Truncated"
+frame_error_name ReadFailed = codes "ReadFailed"
+frame_error_name WriteFailed = codes "WriteFailed"
+frame_error_name AllocationFailed = codes "AllocationFailed"
 
 -- the text that `{}` writes
-abbrev pub text_of : FrameError → List ℕ
-text_of (TooManySegments n) = codes "TooManySegments(" ++ decimal n ++ codes ")"
-text_of (MessageTooLong n) = codes "MessageTooLong(" ++ decimal n ++ codes ")"
-text_of e = name_of e
+abbrev pub frame_error_text : FrameError → List ℕ
+frame_error_text (TooManySegments n) = codes "TooManySegments(" ++ decimal n ++ codes ")"
+frame_error_text (MessageTooLong n) = codes "MessageTooLong(" ++ decimal n ++ codes ")"
+frame_error_text e = frame_error_name e

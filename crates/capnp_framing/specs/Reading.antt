@@ -3,14 +3,14 @@ use Rattle.std.specs.Prelude.{◌≡◌, ◌⊎◌, ℕ, ◌+◌, ◌*◌, ◌<�
 use Rattle.std.specs.Int.{from_le_bytes, w32}
 use Rattle.std.specs.Io.KnownBytes.{Consumes}
 use Rattle.capnp_format.specs.Segments.{Segments}
-use Rattle.capnp_framing.specs.Frames.{IsFrameOf, max_segments, padding_size}
+use Rattle.capnp_framing.specs.Frames.{IsFrameOf, max_frame_segments, padding_size}
 use Rattle.capnp_framing.specs.declared.devices.Input.{Ghosts}
 use Rattle.capnp_framing.specs.declared.framing.frame_error.FrameError.{FrameError}
 use Rattle.capnp_framing.specs.declared.framing.frame_error.FrameError.TheVariants.{NoSegments, TooManySegments, MessageTooLong, Truncated, ReadFailed}
 
 -- The refusal e of n segments, which make no frame: there are none, or too many.
 abbrev pub IsRefusedNumber : ℕ → FrameError → Type 0
-IsRefusedNumber n e = ((e ≡ NoSegments) × (n ≡ 0)) ⊎ ((e ≡ TooManySegments n) × (max_segments < n))
+IsRefusedNumber n e = ((e ≡ NoSegments) × (n ≡ 0)) ⊎ ((e ≡ TooManySegments n) × (max_frame_segments < n))
 
 -- The number of segments that the first bytes tell.
 abbrev pub segments_told : List ℕ → ℕ
@@ -37,20 +37,20 @@ total (ws ∷ S) = length ws + total S
 -- The whole table is there.
 pub record HasTable (bytes : List ℕ) : Type 0 where
   pub count : 4 ≤ length bytes
-  pub few : segments_told bytes ≤ max_segments
+  pub few : segments_told bytes ≤ max_frame_segments
   pub table : table_size (segments_told bytes) ≤ length bytes
 
 -- How many words the table tells.
-abbrev pub message_words : List ℕ → ℕ
-message_words bytes = words_told (segments_told bytes) (drop 4 bytes)
+abbrev pub words_in_table : List ℕ → ℕ
+words_in_table bytes = words_told (segments_told bytes) (drop 4 bytes)
 
 -- Bytes that are not none begin with no frame of at most so many words, for the reason e: the first that stands, in this order.
 pub data NoFrame (bytes : List ℕ) (most : ℕ) (e : FrameError) : Type 0 where
   count_cut : 0 < length bytes → length bytes < 4 → e ≡ Truncated → NoFrame bytes most e
-  too_many : 4 ≤ length bytes → max_segments < segments_told bytes → e ≡ TooManySegments (segments_told bytes) → NoFrame bytes most e
-  table_cut : 4 ≤ length bytes → segments_told bytes ≤ max_segments → length bytes < table_size (segments_told bytes) → e ≡ Truncated → NoFrame bytes most e
-  too_long : HasTable bytes → most < message_words bytes → e ≡ MessageTooLong (message_words bytes) → NoFrame bytes most e
-  words_cut : HasTable bytes → message_words bytes ≤ most → length bytes < table_size (segments_told bytes) + 8 * message_words bytes → e ≡ Truncated → NoFrame bytes most e
+  too_many : 4 ≤ length bytes → max_frame_segments < segments_told bytes → e ≡ TooManySegments (segments_told bytes) → NoFrame bytes most e
+  table_cut : 4 ≤ length bytes → segments_told bytes ≤ max_frame_segments → length bytes < table_size (segments_told bytes) → e ≡ Truncated → NoFrame bytes most e
+  too_long : HasTable bytes → most < words_in_table bytes → e ≡ MessageTooLong (words_in_table bytes) → NoFrame bytes most e
+  words_cut : HasTable bytes → words_in_table bytes ≤ most → length bytes < table_size (segments_told bytes) + 8 * words_in_table bytes → e ≡ Truncated → NoFrame bytes most e
 
 module _ {R : Type 0} (g : Ghosts R) where
   -- Of n bytes that were to be read not all came, for the reason e: the input ended before, or it failed.

@@ -20,7 +20,8 @@ use Rattle.capnp_copies.specs.Changes.{RefusesValue, StandsAsRead, StandsWhereIt
 use Rattle.capnp_builders.specs.Building.{Building, HasOnlyNull, IsNull, built}
 use Rattle.capnp_builders.specs.Kept.{FillsMessage}
 use Rattle.capnp_builders.specs.declared.builders.PointerBuilder.{PointerBuilder}
-use Rattle.capnp_layout.specs.Answers.{CoversRoot, IsMadeWhereAlone, IsWantOfRoom, IsRead, LacksMemoryOr, RefusesCopy, RefusesCopyAnywhere, RefusesMessage, is_message_too_large, root_of}
+use Rattle.capnp_edits.specs.Edits.{IsOfMemory}
+use Rattle.capnp_layout.specs.Answers.{CoversRoot, IsMadeWhereAlone, IsReadWithin, LacksMemoryOr, RefusesCopy, RefusesCopyAnywhere, RefusesMessage, is_message_too_large, message_root}
 use Rattle.capnp_layout.specs.Answers.RefusesMessage.{below_root}
 use Rattle.capnp_layout.specs.declared.tool.args.Args.TheVariants.{Canon}
 use Rattle.capnp_arena.specs.declared.arena.reader_arena_impl.ReaderOptions.{ReaderOptions}
@@ -56,7 +57,7 @@ left_after true m c i = refl
 left_after false m c i = refl
 
 -- a copy to the root of a fresh message is made, if that has one segment afterwards
-pub made_copy : (r : Reading) (left : Option ℕ) (s p : ℕ) (old made : View) (l m : Meter) → l ≡ unused left → FillsMessage r (change canonical s p old made l m) → (t : Tree) × IsRead r left m.left t × IsMadeWhereAlone made t
+pub made_copy : (r : Reading) (left : Option ℕ) (s p : ℕ) (old made : View) (l m : Meter) → l ≡ unused left → FillsMessage r (change canonical s p old made l m) → (t : Tree) × IsReadWithin r left m.left t × IsMadeWhereAlone made t
 made_copy r left s p old made l m begun (t, reads, copy) =
     let spent = ap (λ (y : Meter). y.left) reads.spent ∙ left_after r.charging l reads.cost (pointers_in t) ∙ ap (λ (y : Meter). (charged r.charging y reads.cost).left) begun in
     (t, (reads.cost, reads.means, reads.takes tt, subst (λ (x : Meter). Affords r.charging x reads.cost) begun reads.covers, spent), copy)
@@ -83,7 +84,7 @@ kept_room old new s p fresh kept =
     kept.1 0 some ∙ ap old.room (sym fresh.first) ∙ fresh.holds
 
 -- the names by which words are refused are want of room
-want_of_words : (old new : View) (n : ℕ) (k : ErrorKind) → RefusesWords old new n k → IsWantOfRoom k
+want_of_words : (old new : View) (n : ℕ) (k : ErrorKind) → RefusesWords old new n k → IsOfMemory k
 want_of_words old new n k (inl memory, none) = inl memory.0
 want_of_words old new n k (inr (inl large), none) = inr (_, large.0)
 want_of_words old new n k (inr (inr many), none) = inr (_, many.0)
@@ -107,12 +108,12 @@ offers_kept (Some at) P words some none = ap (λ (v : View). v.offers) some.1
 offers_kept None P words some none = ap (λ (v : View). v.offers) (none refl)
 
 -- want of room is no name of a reading that is refused
-pub never_read : {r : Reading} {l m : Meter} {k : ErrorKind} → IsWantOfRoom k → Refused canonical r l m k → ⊥
+pub never_read : {r : Reading} {l m : Meter} {k : ErrorKind} → IsOfMemory k → Refused canonical r l m k → ⊥
 never_read {r} {l} {m} (inl e) refused = not_for_memory (subst (Refused canonical r l m) e refused)
 never_read {r} {l} {m} (inr (w, e)) refused = not_for_size w (subst (Refused canonical r l m) e refused)
 
 -- a copy that finds no room anywhere needs more words than fewer than there are in its segment
-pub refused_try : {r : Reading} {left : Option ℕ} {k : ErrorKind} (more room w : ℕ) → room ≤ more → IsWantOfRoom k → RefusesCopyAnywhere r left more k → RefusesCopy r left room (MessageTooLarge w)
+pub refused_try : {r : Reading} {left : Option ℕ} {k : ErrorKind} (more room w : ℕ) → room ≤ more → IsOfMemory k → RefusesCopyAnywhere r left more k → RefusesCopy r left room (MessageTooLarge w)
 refused_try more room w least want (inl (named, large)) = inl (w, refl, λ t c means. (let beyond = large t c means in omega arith))
 refused_try more room w least want (inr (m, refused)) = absurd (never_read want refused)
 
@@ -134,12 +135,12 @@ covers_root (Some b) c one rest = omega arith
 
 -- what refuses a copy of the root refuses the message
 pub copy_refused : (options : ReaderOptions) {r : Reading} {segments : List (List ℕ)} {left : Option ℕ} {old new : ℕ} {k : ErrorKind}
-    → r ≡ root_of (message segments) (levels options.nesting_limit) → left ≡ less options.traversal_limit_in_words 1 → CoversRoot (message segments) options.traversal_limit_in_words
+    → r ≡ message_root (message segments) (levels options.nesting_limit) → left ≡ less options.traversal_limit_in_words 1 → CoversRoot (message segments) options.traversal_limit_in_words
     → LacksMemoryOr old new k (RefusesCopy r left max_segment_words k) → LacksMemoryOr old new k (RefusesMessage segments (Canon options) k)
 copy_refused options same rest covers (inl memory) = inl memory
 copy_refused options {segments = segments} {left = left} {k = k} same rest covers (inr (refused, kept)) =
     inr (
       below_root covers
-          (subst (λ (x : Option ℕ). RefusesCopy (root_of (message segments) (levels options.nesting_limit)) x max_segment_words k) rest (subst (λ (x : Reading). RefusesCopy x left max_segment_words k) same refused)),
+          (subst (λ (x : Option ℕ). RefusesCopy (message_root (message segments) (levels options.nesting_limit)) x max_segment_words k) rest (subst (λ (x : Reading). RefusesCopy x left max_segment_words k) same refused)),
       kept,
     )

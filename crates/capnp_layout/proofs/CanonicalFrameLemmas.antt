@@ -8,14 +8,14 @@ use Rattle.capnp_format.specs.Canonical.{encoding, trim}
 use Rattle.capnp_arena.specs.Allocations.{max_segment_words}
 use Rattle.capnp_framing.specs.Frames.{frame}
 use Rattle.capnp_objects.specs.Reading.{Reading}
-use Rattle.capnp_layout.specs.Answers.{IsRead, LacksMemoryOr, RefusesCopy}
+use Rattle.capnp_layout.specs.Answers.{IsReadWithin, LacksMemoryOr, RefusesCopy}
 
 -- the frame of what was made is that of the canonical words, and so much is left as the copy leaves
-pub frame_written : {X E : Type 0} (r : Reading) (words : Segments) {before left after now : Option ℕ} (o : Result X E) (P : List ℕ → Type 0) → before ≡ left → now ≡ after → (t : Tree) × IsRead r before after t × (words ≡ encoding (trim t) ∷ []) → OnOk o (P (frame words)) →
-    OnOk o ((t : Tree) × IsRead r left now t × P (frame (encoding (trim t) ∷ [])))
+pub frame_written : {X E : Type 0} (r : Reading) (words : Segments) {before left after now : Option ℕ} (o : Result X E) (P : List ℕ → Type 0) → before ≡ left → now ≡ after → (t : Tree) × IsReadWithin r before after t × (words ≡ encoding (trim t) ∷ []) → OnOk o (P (frame words)) →
+    OnOk o ((t : Tree) × IsReadWithin r left now t × P (frame (encoding (trim t) ∷ [])))
 frame_written r words {before = before} {now = now} (Ok x) P same settled (t, read, is_made) printed =
-    let there = subst (λ (a : Option ℕ). IsRead r before a t) (sym settled) read in
-    (t, subst (λ (l : Option ℕ). IsRead r l now t) same there, subst (λ (S : Segments). P (frame S)) is_made printed)
+    let there = subst (λ (a : Option ℕ). IsReadWithin r before a t) (sym settled) read in
+    (t, subst (λ (l : Option ℕ). IsReadWithin r l now t) same there, subst (λ (S : Segments). P (frame S)) is_made printed)
 frame_written r words (Err k) P same settled copied printed = tt
 
 -- a copy that is refused is refused for want of memory, or as the copy within the limit is

@@ -15,11 +15,11 @@ use Rattle.capnp_objects.specs.Reading.{Reading}
 use Rattle.capnp_objects.specs.Spending.{Paid}
 use Rattle.capnp_readers.specs.Checking.{IsCanonicalAt, IsFound, TestFails, TestStops, progress}
 use Rattle.capnp_readers.proofs.NeverStops.{stops_never}
-use Rattle.capnp_layout.specs.Answers.{CoversRoot, root_of}
+use Rattle.capnp_layout.specs.Answers.{CoversRoot, message_root}
 use Rattle.capnp_framing.specs.Frames.{frame}
 use Rattle.capnp_framing.specs.Reading.{total}
 use Rattle.capnp_framing.proofs.FrameLemmas.{same_frames}
-use Rattle.capnp_layout.specs.CanonicalMessages.{CanBeTested, IsCanonical, IsCanonicalOf, IsPaid, MeansItsValue, MessageTestFails, OneCanonicalValue, SameCanonicalFrames}
+use Rattle.capnp_layout.specs.CanonicalMessages.{CanBeTested, IsCanonicalMessage, IsCanonicalOf, IsPaid, MeansItsValue, MessageTestFails, OneCanonicalValue, SameCanonicalFrames}
 use Rattle.capnp_layout.proofs.CanonLemmas.{covers_root}
 use Rattle.capnp_layout.proofs.RunLemmas.{covers_rest}
 use Rattle.capnp_layout.proofs.TryLemmas.{total-message}
@@ -76,12 +76,12 @@ paid_both {m} {c = c} {i = i} one paid = record {
 
 -- What the answer of the test of a message is: whether it is canonical, what is paid for it, and where it fails.
 pub record IsAnswered (S : Segments) (n : ℕ) (m m' : Meter) (yes : Bool) : Type 0 where
-  pub exactly : IsTrue yes ↔ IsCanonical S
+  pub exactly : IsTrue yes ↔ IsCanonicalMessage S
   pub paid : yes ≡ true → IsPaid S m m'
   pub failed : yes ≡ false → MessageTestFails S n m m'
 
 -- where the test finds a value, the message is canonical exactly where the words end there
-pub found_answers : {S : Segments} {n h : ℕ} {m m' : Meter} (ends : Bool) → length S ≡ 1 → CoversRoot S m.left → IsFound (root_of S n) (progress 1 (spent m 1)) (progress h m') → IsTrue ends ↔ (h ≡ length (segment S 0)) → IsAnswered S n m m' ends
+pub found_answers : {S : Segments} {n h : ℕ} {m m' : Meter} (ends : Bool) → length S ≡ 1 → CoversRoot S m.left → IsFound (message_root S n) (progress 1 (spent m 1)) (progress h m') → IsTrue ends ↔ (h ≡ length (segment S 0)) → IsAnswered S n m m' ends
 found_answers {S} {n} {h} {m} {m'} ends one covers (t, finds) same =
     let full = λ (is : h ≡ length (segment S 0)). stands_alone one finds.stands (sym finds.head_is ∙ is) in
     record {
@@ -111,7 +111,7 @@ found_answers {S} {n} {h} {m} {m'} ends one covers (t, finds) same =
     }
 
 -- where it finds none, the message isn't canonical
-pub none_answers : {S : Segments} {n : ℕ} {m m' : Meter} → CoversRoot S m.left → IsTrue false ↔ IsCanonicalAt (root_of S n) 1 → TestFails (root_of S n) (progress 1 (spent m 1)) m' → IsAnswered S n m m' false
+pub none_answers : {S : Segments} {n : ℕ} {m m' : Meter} → CoversRoot S m.left → IsTrue false ↔ IsCanonicalAt (message_root S n) 1 → TestFails (message_root S n) (progress 1 (spent m 1)) m' → IsAnswered S n m m' false
 none_answers covers same fails = record {
   exactly = (λ wrong. absurd (let never : false ≡ true = wrong in cc), λ (t, canonical). same.1 (t, canonical_stands canonical));
   paid = λ wrong. absurd (cc);
@@ -136,13 +136,13 @@ same_canonical_frames S R t u framed as_framed canonical other = (
 
 -- The root of a message is read: r is its place, m what the limiter has left of what it had.
 pub record IsRootRead (S : Segments) (n : ℕ) (old : Meter) (r : Reading) (m : Meter) : Type 0 where
-  pub place : r ≡ root_of S n
+  pub place : r ≡ message_root S n
   pub left : m ≡ spent old 1
   pub covers : CoversRoot S old.left
 
 -- what holds where the root is read holds at the root
-moved : {S : Segments} {n : ℕ} {old : Meter} {r : Reading} {m : Meter} (P : Reading → Meter → Type 0) → IsRootRead S n old r m → P r m → P (root_of S n) (spent old 1)
-moved {S} {n} {m = m} P root held = subst (P (root_of S n)) root.left (subst (λ (x : Reading). P x m) root.place held)
+moved : {S : Segments} {n : ℕ} {old : Meter} {r : Reading} {m : Meter} (P : Reading → Meter → Type 0) → IsRootRead S n old r m → P r m → P (message_root S n) (spent old 1)
+moved {S} {n} {m = m} P root held = subst (P (message_root S n)) root.left (subst (λ (x : Reading). P x m) root.place held)
 
 pub read_answers : {S : Segments} {n : ℕ} {old : Meter} {r : Reading} {m m' : Meter} (h : ℕ) (ends : Bool) → IsRootRead S n old r m → length S ≡ 1 → IsFound r (progress 1 m) (progress h m') → IsTrue ends ↔ (h ≡ length (segment S 0)) → IsAnswered S n old m' ends
 read_answers {m' = m'} h ends root one found same = found_answers ends one root.covers (moved (λ r m. IsFound r (progress 1 m) (progress h m')) root found) same

@@ -12,7 +12,7 @@ use Rattle.capnp_objects.specs.Source.{levels}
 use Rattle.capnp_readers.specs.Checking.{IsCanonicalAt, IsFound, Progress, progress, TestStops}
 use Rattle.capnp_readers.proofs.NeverStops.{stops_never}
 use Rattle.capnp_layout.specs.declared.tool.args.Args.TheVariants.{Check}
-use Rattle.capnp_layout.specs.Answers.{CheckOf, CoversRoot, RefusesMessage, root_of}
+use Rattle.capnp_layout.specs.Answers.{CheckOf, CoversRoot, RefusesMessage, message_root}
 use Rattle.capnp_layout.specs.Answers.RefusesMessage.{below_root}
 use Rattle.capnp_layout.proofs.CanonLemmas.{covers_root}
 use Rattle.capnp_layout.proofs.RunLemmas.{covers_rest}
@@ -20,15 +20,15 @@ use Rattle.capnp_layout.proofs.RunLemmas.{covers_rest}
 -- The root of the message of these segments is read, within the limits of a reader's options: the budget covers the root pointer,
 -- and m is what it has left.
 pub record AtRoot (segments : List (List ℕ)) (options : ReaderOptions) (r : Reading) (m : Meter) : Type 0 where
-  pub place : r ≡ root_of (message segments) (levels options.nesting_limit)
+  pub place : r ≡ message_root (message segments) (levels options.nesting_limit)
   pub left : m ≡ unused (less options.traversal_limit_in_words 1)
   pub covers : CoversRoot (message segments) options.traversal_limit_in_words
 
 -- what holds where the root is read holds at the root
 moved : {segments : List (List ℕ)} {options : ReaderOptions} {r : Reading} {m : Meter} (P : Reading → Meter → Type 0) → AtRoot segments options r m → P r m
-    → P (root_of (message segments) (levels options.nesting_limit)) (unused (less options.traversal_limit_in_words 1))
+    → P (message_root (message segments) (levels options.nesting_limit)) (unused (less options.traversal_limit_in_words 1))
 moved {segments = segments} {options = options} {m = m} P root held =
-    subst (P (root_of (message segments) (levels options.nesting_limit))) root.left (subst (λ (x : Reading). P x m) root.place held)
+    subst (P (message_root (message segments) (levels options.nesting_limit))) root.left (subst (λ (x : Reading). P x m) root.place held)
 
 -- what the test answers is so
 check_read : {segments : List (List ℕ)} {options : ReaderOptions} {r : Reading} {m : Meter} {to : Progress} (b : Bool) → AtRoot segments options r m
@@ -37,7 +37,7 @@ check_read {options = options} {to = to} true root same found =
     let (t, finds) = moved (λ r m. IsFound r (progress 1 m) to) root (found refl) in
     (t, record { stands = finds.stands; levels = finds.levels; covered = covers_root options.traversal_limit_in_words (charge t) root.covers.covered finds.paid.covers })
 check_read {segments = segments} {options = options} false root same found =
-    let never : IsCanonicalAt (root_of (message segments) (levels options.nesting_limit)) 1 → false ≡ true = moved (λ r m. IsCanonicalAt r 1 → false ≡ true) root same.1 in
+    let never : IsCanonicalAt (message_root (message segments) (levels options.nesting_limit)) 1 → false ≡ true = moved (λ r m. IsCanonicalAt r 1 → false ≡ true) root same.1 in
     record { at_root = root.covers; none = λ t stands. (let wrong : false ≡ true = never (t, stands) in cc) }
 
 pub check_answers : {segments : List (List ℕ)} {options : ReaderOptions} {r : Reading} {m : Meter} (result : Result Bool ErrorKind) (to : Progress) → AtRoot segments options r m

@@ -17,7 +17,7 @@ use Rattle.capnp_layout.specs.Lines.{segments_of}
 use Rattle.capnp_layout.specs.Refusals.{refusal_line}
 use Rattle.capnp_layout.specs.declared.tool.refusal.Refusal.TheVariants.{Layout}
 use Rattle.capnp_layout.specs.Runs.{HasMoreLines, IsBadInput, WhereItIsAnswered, WritesCountedRefusal}
-use Rattle.capnp_layout.specs.Answers.{IsDoneOr, IsRefused, LacksMemoryOr, RefusesMessage, ValueOf}
+use Rattle.capnp_layout.specs.Answers.{IsDoneOr, IsRefusedOutcome, LacksMemoryOr, RefusesMessage, ValueOf}
 use Rattle.capnp_layout.specs.Commands.{AnswersRefusal, HasAnswer, IsWithin, WantsMemory, WhereAnswered}
 use Rattle.capnp_layout.specs.Answers.RefusesMessage.{beyond_limits, at_root, below_root}
 use Rattle.capnp_layout.specs.Answers.RefusesRoot.{no_root, no_budget}
@@ -64,7 +64,7 @@ text_refused (Some text) args lines P held kept (inr ((r, why, written), same)) 
 
 -- where the lines of a text have an answer, memory alone is refused
 pub wants_memory : (text : Option (List ℕ)) (args : Args) (lines : List (List ℕ)) (outcome : Outcome) (P : List ℕ → Type 0) {old mid new : ℕ}
-    → IfSome text (λ t. segments_of t ≡ Some lines) → mid ≡ old → WhereAnswered lines args (IsDoneOr outcome (WantsMemory mid new P)) → IsRefused outcome → WhereItIsAnswered text args (WantsMemory old new P)
+    → IfSome text (λ t. segments_of t ≡ Some lines) → mid ≡ old → WhereAnswered lines args (IsDoneOr outcome (WantsMemory mid new P)) → IsRefusedOutcome outcome → WhereItIsAnswered text args (WantsMemory old new P)
 wants_memory None args lines outcome P held kept exactly refused = tt
 wants_memory (Some text) args lines outcome P {old} {mid} {new} held kept exactly refused = λ given found within answered.
     let same : given ≡ lines = (let both : Some given ≡ Some lines = sym found ∙ held in cc) in

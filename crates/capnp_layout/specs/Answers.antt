@@ -16,6 +16,7 @@ use Rattle.capnp_arena.specs.Checks.{misplaced}
 use Rattle.capnp_arena.specs.Limits.{IsSmall}
 use Rattle.capnp_arena.specs.View.{View}
 use Rattle.capnp_arena.specs.declared.arena.reader_arena_impl.ReaderOptions.{ReaderOptions}
+use Rattle.capnp_edits.specs.Edits.{IsOfMemory}
 use Rattle.capnp_layout.specs.declared.tool.args.Args.{Args}
 use Rattle.capnp_layout.specs.declared.tool.args.Args.TheVariants.{Canon, Check, Size}
 use Rattle.capnp_layout.specs.declared.tool.engine.Outcome.{Outcome}
@@ -72,8 +73,8 @@ is_message_too_large _ = false
 
 -- A place means a value t without capabilities, so many words, if there is a limit, cover what reading it costs, and those that are
 -- left after that cost are these.
-abbrev pub IsRead : Reading → Option ℕ → Option ℕ → Tree → Type 0
-IsRead r left after t =
+abbrev pub IsReadWithin : Reading → Option ℕ → Option ℕ → Tree → Type 0
+IsReadWithin r left after t =
     (c : ℕ) × MeansThere r t c × (capabilities t ≡ 0) × Affords r.charging (unused left) c × (after ≡ (charged r.charging (unused left) c).left)
 
 -- A copy of what a place means, into a fresh segment of so many words, is refused by the name k: it needs more words, or
@@ -81,22 +82,18 @@ IsRead r left after t =
 abbrev pub RefusesCopy : Reading → Option ℕ → ℕ → ErrorKind → Type 0
 RefusesCopy r left room k = ((w : ℕ) × (k ≡ MessageTooLarge w) × IsTooLarge canonical r 1 room) ⊎ ((m : Meter) × Refused canonical r (unused left) m k)
 
--- A refusal says that there is no room, or no memory for more.
-abbrev pub IsWantOfRoom : ErrorKind → Type 0
-IsWantOfRoom k = (k ≡ AllocationFailed) ⊎ ((w : ℕ) × (k ≡ MessageTooLarge w))
-
 -- A copy of what a place means, into a fresh segment with this room and into further ones where they are to be had, is refused by
 -- the name k: there is none, and it needs more words than that room; or reading it is refused.
 abbrev pub RefusesCopyAnywhere : Reading → Option ℕ → ℕ → ErrorKind → Type 0
-RefusesCopyAnywhere r left room k = (IsWantOfRoom k × IsTooLarge canonical r 1 room) ⊎ ((m : Meter) × Refused canonical r (unused left) m k)
+RefusesCopyAnywhere r left room k = (IsOfMemory k × IsTooLarge canonical r 1 room) ⊎ ((m : Meter) × Refused canonical r (unused left) m k)
 
 -- Memory was refused once more, from a count to another; or that is not so, and P holds.
 abbrev pub LacksMemoryOr : ℕ → ℕ → ErrorKind → Type 0 → Type 0
 LacksMemoryOr old new k P = ((k ≡ AllocationFailed) × (new ≡ one_more old)) ⊎ (P × (new ≡ old))
 
 -- The root of a message, where reading is charged and n levels may be entered.
-abbrev pub root_of : Segments → ℕ → Reading
-root_of S n = record { segments = S; charging = true; of_default = false; levels = n; segment = 0; at = 0 }
+abbrev pub message_root : Segments → ℕ → Reading
+message_root S n = record { segments = S; charging = true; of_default = false; levels = n; segment = 0; at = 0 }
 
 -- The root of a message means a value t without capabilities within n levels, and the budget covers what reading it costs, and one word for the root pointer.
 pub record HasValue (S : Segments) (n : ℕ) (budget : Option ℕ) (t : Tree) : Type 0 where
@@ -113,7 +110,7 @@ pub record CoversRoot (S : Segments) (budget : Option ℕ) : Type 0 where
 
 -- The canonical words of t stand at the root of a message, the first object right behind the root pointer. t is no deeper than n
 -- levels, and the budget covers what reading them costs, and one word for the root pointer.
-pub record IsCanonical (S : Segments) (n : ℕ) (budget : Option ℕ) (t : Tree) : Type 0 where
+pub record IsCanonicalWithin (S : Segments) (n : ℕ) (budget : Option ℕ) (t : Tree) : Type 0 where
   pub stands : Stands S 0 0 1 t
   pub levels : depth t ≤ n
   pub covered : FitsIn budget (1 + charge t)
@@ -128,7 +125,7 @@ pub record IsNotCanonical (S : Segments) (budget : Option ℕ) : Type 0 where
 pub record HasTotals (S : Segments) (n : ℕ) (budget : Option ℕ) (words caps : ℕ) : Type 0 where
   pub at_root : CoversRoot S budget
   pub after : Meter
-  pub totals : Totals (root_of S n) (unused (less budget 1)) after words caps
+  pub totals : Totals (message_root S n) (unused (less budget 1)) after words caps
   pub of_value : (t : Tree) (m cost : ℕ) → Means S m 0 0 t cost → (words ≡ word_count t) × (caps ≡ capabilities t)
 
 -- The root pointer of a message is refused by the name k.
@@ -139,12 +136,12 @@ pub data RefusesRoot (S : Segments) (budget : Option ℕ) (k : ErrorKind) : Type
   no_budget : k ≡ ReadLimitExceeded → IsPlace S 0 0 → budget ≡ Some 0 → RefusesRoot S budget k
 
 -- A message that was made has one segment, the canonical words of t.
-abbrev pub IsMade : View → Tree → Type 0
-IsMade made t = made.words ≡ encoding (trim t) ∷ []
+abbrev pub HoldsCanonicalWords : View → Tree → Type 0
+HoldsCanonicalWords made t = made.words ≡ encoding (trim t) ∷ []
 
 -- If it has one segment, it was made so.
 abbrev pub IsMadeWhereAlone : View → Tree → Type 0
-IsMadeWhereAlone made t = length made.words ≡ 1 → IsMade made t
+IsMadeWhereAlone made t = length made.words ≡ 1 → HoldsCanonicalWords made t
 
 -- A message has one segment, or P holds.
 abbrev pub IsAloneOr : View → Type 0 → Type 0
@@ -153,7 +150,7 @@ IsAloneOr made P = (length made.words ≡ 1) ⊎ P
 -- The test of the message of these segments says that canonical words stand at its root, within the limits of a reader's options,
 -- or that none do.
 abbrev pub CheckOf : List (List ℕ) → ReaderOptions → Bool → Type 0
-CheckOf segments options true = (t : Tree) × IsCanonical (message segments) (levels options.nesting_limit) options.traversal_limit_in_words t
+CheckOf segments options true = (t : Tree) × IsCanonicalWithin (message segments) (levels options.nesting_limit) options.traversal_limit_in_words t
 CheckOf segments options false = IsNotCanonical (message segments) options.traversal_limit_in_words
 
 -- The root of the message of these segments means t, within the limits of a reader's options; or the walk that takes a size
@@ -164,18 +161,18 @@ ValueOf segments options t = HasValue (message segments) (levels options.nesting
 abbrev pub SizeOf : List (List ℕ) → ReaderOptions → ℕ → ℕ → Type 0
 SizeOf segments options words caps = HasTotals (message segments) (levels options.nesting_limit) options.traversal_limit_in_words words caps
 
-abbrev pub IsSized : List (List ℕ) → ReaderOptions → Type 0
-IsSized segments options =
+abbrev pub HasSizeWithin : List (List ℕ) → ReaderOptions → Type 0
+HasSizeWithin segments options =
     CoversRoot (message segments) options.traversal_limit_in_words
-    × HasSize (root_of (message segments) (levels options.nesting_limit)) (unused (less options.traversal_limit_in_words 1))
+    × HasSize (message_root (message segments) (levels options.nesting_limit)) (unused (less options.traversal_limit_in_words 1))
 
 -- A command refuses what a root leads to by the name k: the copy is refused, or needs more words than a segment holds; the
 -- test for canonical form stops, or the walk that takes a size is refused.
-abbrev pub RefusesValue : Args → Reading → Option ℕ → ErrorKind → Type 0
-RefusesValue (Canon options) r left k = RefusesCopy r left max_segment_words k
-RefusesValue (Check options) r left k = (m : Meter) × TestStops k r (progress 1 (unused left)) m
-RefusesValue (Size options) r left k = (m : Meter) × SizeRefused r (unused left) m k
-RefusesValue _ r left k = ⊥
+abbrev pub RefusesCommand : Args → Reading → Option ℕ → ErrorKind → Type 0
+RefusesCommand (Canon options) r left k = RefusesCopy r left max_segment_words k
+RefusesCommand (Check options) r left k = (m : Meter) × TestStops k r (progress 1 (unused left)) m
+RefusesCommand (Size options) r left k = (m : Meter) × SizeRefused r (unused left) m k
+RefusesCommand _ r left k = ⊥
 
 -- Why a command refuses a message, by the bytes of its segments, by the name k.
 pub data RefusesMessage (segments : List (List ℕ)) (args : Args) (k : ErrorKind) : Type 0 where
@@ -186,7 +183,7 @@ pub data RefusesMessage (segments : List (List ℕ)) (args : Args) (k : ErrorKin
   -- the budget covers the root pointer, and what it leads to is refused, with what the budget has left for it
   below_root :
       CoversRoot (message segments) (budget_of args) →
-      RefusesValue args (root_of (message segments) (levels_of args)) (less (budget_of args) 1) k →
+      RefusesCommand args (message_root (message segments) (levels_of args)) (less (budget_of args) 1) k →
       RefusesMessage segments args k
 
 -- The words of a message of one segment are written as a line, of which P holds.
@@ -197,9 +194,9 @@ AnswersWords made P = (words : List ℕ) → made.words ≡ words ∷ [] → P (
 abbrev pub IsDone : Outcome → Type 0
 IsDone outcome = outcome ≡ Done
 
-abbrev pub IsRefused : Outcome → Type 0
-IsRefused outcome = outcome ≡ RefusedOutcome
+abbrev pub IsRefusedOutcome : Outcome → Type 0
+IsRefusedOutcome outcome = outcome ≡ RefusedOutcome
 
 -- It is done, or the output failed, or it is refused and P holds.
 abbrev pub IsDoneOr : Outcome → Type 0 → Type 0
-IsDoneOr outcome P = IsDone outcome ⊎ (outcome ≡ WriteFailed) ⊎ (IsRefused outcome × P)
+IsDoneOr outcome P = IsDone outcome ⊎ (outcome ≡ WriteFailed) ⊎ (IsRefusedOutcome outcome × P)

@@ -1,7 +1,7 @@
 -- The names of refusals by which no canonical frame is written, and what the limiter of a copy has left.
 use Rattle.std.specs.Prelude.{ℕ, ◌≤◌, List, Option, Some, None}
 use Rattle.capnp_words.specs.Names.{name_of}
-use Rattle.capnp_framing.specs.Names.{name_of as frame_name}
+use Rattle.capnp_framing.specs.Names.{frame_error_name as frame_name}
 use Rattle.capnp_layout.specs.declared.framing.canonical_error.CanonicalError.{CanonicalError}
 use Rattle.capnp_layout.specs.declared.framing.canonical_error.CanonicalError.TheVariants.{Layout, Frame}
 

@@ -10,7 +10,7 @@ use Rattle.capnp_format.specs.Canonical.{IsEncodable, IsFree, IsTrimmed, charge,
 use Rattle.capnp_framing.specs.Frames.{CanBeFramed, frame}
 use Rattle.capnp_objects.specs.Spending.{Paid, pointers_in}
 use Rattle.capnp_readers.specs.Checking.{Finds, TestFails, TestStops, progress}
-use Rattle.capnp_layout.specs.Answers.{CoversRoot, RefusesRoot, root_of}
+use Rattle.capnp_layout.specs.Answers.{CoversRoot, RefusesRoot, message_root}
 
 -- A message is the canonical one of t: one segment, which holds t's canonical words and nothing else.
 pub record IsCanonicalOf (S : Segments) (t : Tree) : Type 0 where
@@ -21,8 +21,8 @@ pub record IsCanonicalOf (S : Segments) (t : Tree) : Type 0 where
   pub is : S ≡ encoding t ∷ []
 
 -- It is that of some value.
-abbrev pub IsCanonical : Segments → Type 0
-IsCanonical S = (t : Tree) × IsCanonicalOf S t
+abbrev pub IsCanonicalMessage : Segments → Type 0
+IsCanonicalMessage S = (t : Tree) × IsCanonicalOf S t
 
 -- The test of a canonical message charges what reading its value costs and a word for the root pointer, and counts each pointer.
 abbrev pub IsPaid : Segments → Meter → Meter → Type 0
@@ -36,18 +36,18 @@ CanBeTested S n m = (t : Tree) × IsCanonicalOf S t × (depth t ≤ n) × FitsIn
 -- charged; or a word is charged for that, and the test of what the root leads to stops.
 abbrev pub RefusesTest : Segments → ℕ → Meter → Meter → ErrorKind → Type 0
 RefusesTest S n m m' k =
-    (RefusesRoot S m.left k × (m' ≡ m)) ⊎ (CoversRoot S m.left × TestStops k (root_of S n) (progress 1 (spent m 1)) m')
+    (RefusesRoot S m.left k × (m' ≡ m)) ⊎ (CoversRoot S m.left × TestStops k (message_root S n) (progress 1 (spent m 1)) m')
 
 -- The canonical words of some value stand at the root of a message, and more words behind them.
 abbrev pub HasMoreBehind : Segments → ℕ → Meter → Meter → Type 0
 HasMoreBehind S n m m' =
-    (t : Tree) × (h : ℕ) × Finds (root_of S n) (progress 1 m) (progress h m') t × (1 + word_count t < length (segment S 0))
+    (t : Tree) × (h : ℕ) × Finds (message_root S n) (progress 1 m) (progress h m') t × (1 + word_count t < length (segment S 0))
 
 -- The test of a message of one segment says no, and leaves the limiter as m': a word is charged for the root pointer, and the test
 -- of what it leads to fails, or goes to its end with more words behind.
 abbrev pub MessageTestFails : Segments → ℕ → Meter → Meter → Type 0
 MessageTestFails S n m m' =
-    CoversRoot S m.left × (TestFails (root_of S n) (progress 1 (spent m 1)) m' ⊎ HasMoreBehind S n (spent m 1) m')
+    CoversRoot S m.left × (TestFails (message_root S n) (progress 1 (spent m 1)) m' ⊎ HasMoreBehind S n (spent m 1) m')
 
 -- A message is the canonical one of one value at most.
 abbrev pub OneCanonicalValue : Type 0

@@ -14,15 +14,15 @@ use Rattle.capnp_arena.specs.View.{View}
 use Rattle.capnp_arena.specs.declared.arena.reader_arena_impl.ReaderOptions.{ReaderOptions}
 use Rattle.capnp_objects.specs.Source.{levels}
 use Rattle.capnp_framing.specs.Flat.{BeginsWithFrame}
-use Rattle.capnp_framing.specs.Frames.{frame, max_segments}
+use Rattle.capnp_framing.specs.Frames.{frame, max_frame_segments}
 use Rattle.capnp_framing.specs.Reading.{IsRefusedNumber, NoFrame}
 use Rattle.capnp_framing.specs.declared.framing.frame_error.FrameError.{FrameError}
 use Rattle.capnp_layout.specs.declared.tool.args.Args.{Args}
 use Rattle.capnp_layout.specs.declared.tool.args.Args.TheVariants.{Canon, Check, Size, Frame, Unframe, FramedCanon, FramedCheck}
 use Rattle.capnp_layout.specs.declared.tool.refusal.Refusal.{Refusal}
 use Rattle.capnp_layout.specs.declared.tool.refusal.Refusal.TheVariants.{Layout, Frame as NoFrameFor, NoMessage}
-use Rattle.capnp_layout.specs.Answers.{CheckOf, IsSized, RefusesMessage, SizeOf, ValueOf, canonical_line, check_line, digits_of, size_line}
-use Rattle.capnp_layout.specs.CanonicalMessages.{CanBeTested, IsCanonical, RefusesTest}
+use Rattle.capnp_layout.specs.Answers.{CheckOf, HasSizeWithin, RefusesMessage, SizeOf, ValueOf, canonical_line, check_line, digits_of, size_line}
+use Rattle.capnp_layout.specs.CanonicalMessages.{CanBeTested, IsCanonicalMessage, RefusesTest}
 use Rattle.capnp_layout.specs.Refusals.{refusal_line}
 
 -- the line of a message's frame
@@ -51,7 +51,7 @@ pub record HoldsFrame (lines : List (List ℕ)) (S : Segments) : Type 0 where
 
 -- The only line holds the frame of a message, and the answer tells whether that is canonical as a whole.
 abbrev pub TellsCanonical : List (List ℕ) → Bool → Type 0
-TellsCanonical lines b = (S : Segments) × HoldsFrame lines S × (IsTrue b ↔ IsCanonical S)
+TellsCanonical lines b = (S : Segments) × HoldsFrame lines S × (IsTrue b ↔ IsCanonicalMessage S)
 
 -- A command takes one line at most, which holds a frame.
 abbrev pub TakesOneLine : Args → Type 0
@@ -70,7 +70,7 @@ abbrev pub Answers : List (List ℕ) → Args → (List ℕ → Type 0) → Type
 Answers lines (Canon options) P = (t : Tree) × ValueOf lines options t × P (canonical_line t)
 Answers lines (Check options) P = (yes : Bool) × CheckOf lines options yes × P (check_line yes)
 Answers lines (Size options) P = (words : ℕ) × (caps : ℕ) × SizeOf lines options words caps × P (size_line words caps)
-Answers lines Frame P = (1 ≤ length lines) × (length lines ≤ max_segments) × P (frame_line (message lines))
+Answers lines Frame P = (1 ≤ length lines) × (length lines ≤ max_frame_segments) × P (frame_line (message lines))
 Answers lines Unframe P = (S : Segments) × HoldsFrame lines S × P (segment_lines S)
 Answers lines (FramedCanon options) P = (t : Tree) × ValueOf lines options t × P (frame_line (encoding (trim t) ∷ []))
 Answers lines (FramedCheck options) P = (yes : Bool) × TellsCanonical lines yes × P (message_line yes)
@@ -84,8 +84,8 @@ AnswersFrame made P = (S : Segments) → made.words ≡ S → P (frame_line S)
 abbrev pub HasAnswer : List (List ℕ) → Args → Type 0
 HasAnswer lines (Canon options) = (t : Tree) × ValueOf lines options t × (1 + word_count (trim t) ≤ max_segment_words)
 HasAnswer lines (Check options) = CheckOf lines options true
-HasAnswer lines (Size options) = IsSized lines options
-HasAnswer lines Frame = (1 ≤ length lines) × (length lines ≤ max_segments)
+HasAnswer lines (Size options) = HasSizeWithin lines options
+HasAnswer lines Frame = (1 ≤ length lines) × (length lines ≤ max_frame_segments)
 HasAnswer lines Unframe = (S : Segments) × HoldsFrame lines S
 HasAnswer lines (FramedCanon options) = (t : Tree) × ValueOf lines options t × (1 + word_count (trim t) ≤ max_segment_words)
 HasAnswer lines (FramedCheck options) =

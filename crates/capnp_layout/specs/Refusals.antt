@@ -1,7 +1,7 @@
 -- The names of the program's refusals, and the lines that name them.
 use Rattle.std.specs.Prelude.{ℕ, List, [], ◌∷◌, ◌++◌, codes}
 use Rattle.capnp_words.specs.Names.{name_of}
-use Rattle.capnp_framing.specs.Names.{name_of as frame_name}
+use Rattle.capnp_framing.specs.Names.{frame_error_name as frame_name}
 use Rattle.capnp_layout.specs.declared.tool.refusal.Refusal.{Refusal}
 use Rattle.capnp_layout.specs.declared.tool.refusal.Refusal.TheVariants.{Layout, Frame, NoMessage}
 

@@ -8,7 +8,7 @@ use Rattle.capnp_format.specs.Tree.{Tree, Null, Capability, Struct, Flat, Pointe
 use Rattle.capnp_format.specs.Means.{Means}
 use Rattle.capnp_format.specs.Forest.{Interval, times, pads_of, object_of, target_in, cover, cover_all, cover_elements}
 use Rattle.capnp_format.proofs.Frame.{Agree, times-append, agree_here, agree_rest, frame, frame_all}
-use Rattle.capnp_making.specs.Path.{tree_at, one_word, extent}
+use Rattle.capnp_making.specs.Path.{tree_at, word_interval, extent}
 use Rattle.capnp_making.proofs.Paths.{means_child}
 use Rattle.capnp_making.specs.Zeroed.{row, IsZeroed, IsApart, AreApart, IsObjectAt, object_cover, child_extents, rest}
 use Rattle.capnp_making.proofs.Zeros.{zeroed_again, nothing_zeroed}
@@ -42,8 +42,8 @@ pub apart_kept : (S K : Segments) (s p : ℕ) (t : Tree) (is : List Interval) �
 apart_kept S K s p t is z few a =
     let agree : Agree S K (extent S s p t) = kept_agrees S K is (extent S s p t) z few in
     let m = a.means in
-    let f = frame S K m.0 s p t m.1 (zeroed_grows S K is z) (agree_here S K (one_word s p) (cover S s p t) agree p (omega arith) (omega arith)) (agree_rest S K (one_word s p) (cover S s p t) agree) m.2 in
-    let same : extent K s p t ≡ extent S s p t = ap (λ js. one_word s p ∷ js) f.1 in
+    let f = frame S K m.0 s p t m.1 (zeroed_grows S K is z) (agree_here S K (word_interval s p) (cover S s p t) agree p (omega arith) (omega arith)) (agree_rest S K (word_interval s p) (cover S s p t) agree) m.2 in
+    let same : extent K s p t ≡ extent S s p t = ap (λ js. word_interval s p ∷ js) f.1 in
     (record { means = (m.0, m.1, f.0); apart = λ v r. subst (λ js. times js v r ≤ 1) (sym same) (a.apart v r) }, same)
 
 pub all_kept : (S K : Segments) (s p : ℕ) (ts : Trees) (is : List Interval) → IsZeroed S K is → ((v r : ℕ) → times is v r + times (row s p (count ts) ∷ cover_all S s p ts) v r ≤ 1) → AreApart S s p ts →

@@ -16,7 +16,7 @@ use Rattle.capnp_format.proofs.Lies.{pow_pow}
 use Rattle.capnp_format.proofs.WordsOf.{length-words_of, words_of-part, small_word}
 use Rattle.capnp_arena.specs.Written.{overwritten}
 use Rattle.capnp_making.specs.InPlace.{segments_with, AreBytes, Overwrites}
-use Rattle.capnp_making.specs.Made.{zeros, LeadsTo}
+use Rattle.capnp_making.specs.Made.{words_of_zero, LeadsToStart}
 use Rattle.capnp_making.specs.Stored.{IsStored, IsReplaced}
 use Rattle.capnp_making.specs.declared.existing.ExistingBytes.{ExistingBytes}
 use Rattle.capnp_making.specs.declared.making.Start.{Start}
@@ -31,7 +31,7 @@ each_small [] h i = omega arith
 each_small (w ∷ ws) h zero = h.0
 each_small (w ∷ ws) h (suc i) = each_small ws h.1 i
 
-below_zeros : (n : ℕ) → AreBelow 256 (zeros n)
+below_zeros : (n : ℕ) → AreBelow 256 (words_of_zero n)
 below_zeros zero = tt
 below_zeros (suc n) = (omega arith, below_zeros n)
 
@@ -49,9 +49,9 @@ elements_below S s p ns x =
     go n c (a, some, few, o, claim, is, g) = subst (AreBelow 256) (sym is) (digits_below 256 (length ns) (from_digits (2 ^ 64) (words_at S a.segment a.start (words_for 2 (length ns)))) (omega arith))
 
 -- the bytes of the words in which elements stand: these, and zeros behind them
-bytes_of_packed : (k : ℕ) (ns old : List ℕ) → AreBelow 256 ns → AreBelow 256 old → length old ≡ 8 * k → words_for 2 (length ns) ≡ k → words_of old ≡ packed 2 ns → old ≡ ns ++ zeros (8 * k - length ns)
+bytes_of_packed : (k : ℕ) (ns old : List ℕ) → AreBelow 256 ns → AreBelow 256 old → length old ≡ 8 * k → words_for 2 (length ns) ≡ k → words_of old ≡ packed 2 ns → old ≡ ns ++ words_of_zero (8 * k - length ns)
 bytes_of_packed k ns old small below long wide shows =
-    let z : List ℕ = zeros (8 * k - length ns) in
+    let z : List ℕ = words_of_zero (8 * k - length ns) in
     let all : List ℕ = ns ++ z in
     let count : length all ≡ 8 * k = omega (arith, wide, length-append ns z, length-replicate {A = ℕ} (8 * k - length ns) 0) in
     let bytes : AreBelow 256 all = below_both ns z small (below_zeros (8 * k - length ns)) in
@@ -67,7 +67,7 @@ packed_front : (bs : List ℕ) (a k : ℕ) (ns xs : List ℕ) → length xs ≤ 
     (length (words_of (over_front bs a k xs)) ≡ k) × (words_of (over_front bs a k xs) ≡ packed 2 (xs ++ drop (length xs) ns))
 packed_front bs a k ns xs few wide room small below elements shown =
     let ms : List ℕ = xs ++ drop (length xs) ns in
-    let z : List ℕ = zeros (8 * k - length ns) in
+    let z : List ℕ = words_of_zero (8 * k - length ns) in
     let old : List ℕ = take (8 * k) (drop (8 * a) bs) in
     let new : List ℕ = over_front bs a k xs in
     let long : length new ≡ 8 * k = length-front bs a k xs (omega (arith, wide)) room in
@@ -82,7 +82,7 @@ packed_front bs a k ns xs few wide room small below elements shown =
     (count, sym (ap₂ (λ j y. digits (2 ^ 64) j y) (ap (words_for 2) all ∙ wide) number ∙ digits_again (2 ^ 64) k (words_of new) words_small count))
 
 -- some bytes over the first ones of a list of bytes
-some_over : (S R : Segments) (s p : ℕ) (ns : List ℕ) (h : Start) (xs : List ℕ) (w : WritesBytes S R h xs) → AreBelow 256 xs → AreBelow 256 (slice_index_or w.old h.segment []) → IsStored S s p (Flat 2 ns) → LeadsTo S s p h → 0 < length xs → length xs ≤ length ns →
+some_over : (S R : Segments) (s p : ℕ) (ns : List ℕ) (h : Start) (xs : List ℕ) (w : WritesBytes S R h xs) → AreBelow 256 xs → AreBelow 256 (slice_index_or w.old h.segment []) → IsStored S s p (Flat 2 ns) → LeadsToStart S s p h → 0 < length xs → length xs ≤ length ns →
     IsReplaced S R s p (Flat 2 ns) (Flat 2 (xs ++ drop (length xs) ns))
 some_over S R s p ns h xs w small below x lead some few =
     let u = (target S s p).segment in

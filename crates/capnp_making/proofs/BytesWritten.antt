@@ -16,7 +16,7 @@ use Rattle.capnp_format.proofs.WordsOf.{words, length-words_of, words_of-put_mid
 use Rattle.capnp_arena.proofs.MessageLemmas.{segment-message}
 use Rattle.capnp_arena.specs.Written.{with_segment, with_words, overwritten}
 use Rattle.capnp_making.specs.declared.making.Start.{Start}
-use Rattle.capnp_making.specs.Made.{zeros, LeadsTo}
+use Rattle.capnp_making.specs.Made.{words_of_zero, LeadsToStart}
 use Rattle.capnp_making.specs.Overwritten.{HoldsBytes, bytes_over}
 use Rattle.capnp_making.specs.Zeroed.{row}
 use Rattle.capnp_making.specs.Stored.{IsStored, IsReplaced}
@@ -75,7 +75,7 @@ words_over bs a k xs l m =
     ap words_of (over_words bs a k xs l m) ∙ words_of-put_mid a k bs N m long ∙ ap (λ j. take a (words_of bs) ++ (words_of N ++ drop j (drop a (words_of bs)))) count
 
 -- numbers of zeros
-pub from_zeros : (n : ℕ) → from_digits 256 (zeros n) ≡ 0
+pub from_zeros : (n : ℕ) → from_digits 256 (words_of_zero n) ≡ 0
 from_zeros zero = refl
 from_zeros (suc n) = omega (arith, from_zeros n)
 
@@ -83,8 +83,8 @@ no_words : (n : ℕ) → from_digits (2 ^ 64) (digits (2 ^ 64) n 0) ≡ 0
 no_words zero = refl
 no_words (suc n) = omega (arith, no_words n)
 
-pub zeros_packed : (n : ℕ) → from_digits (2 ^ 64) (packed 2 (zeros n)) ≡ 0
-zeros_packed n = ap (λ x. from_digits (2 ^ 64) (digits (2 ^ 64) (words_for 2 (length (zeros n))) x)) (from_zeros n) ∙ no_words (words_for 2 (length (zeros n)))
+pub zeros_packed : (n : ℕ) → from_digits (2 ^ 64) (packed 2 (words_of_zero n)) ≡ 0
+zeros_packed n = ap (λ x. from_digits (2 ^ 64) (digits (2 ^ 64) (words_for 2 (length (words_of_zero n))) x)) (from_zeros n) ∙ no_words (words_for 2 (length (words_of_zero n)))
 
 -- bytes whose number is zero
 zero_byte : (xs : List ℕ) (i : ℕ) → from_digits 256 xs ≡ 0 → get_or xs i 0 ≡ 0
@@ -156,21 +156,21 @@ flat_claims S s p size ns x =
     go n c (a, some, le, o, claim, e, g) = subst (λ b. b.start + words_for size (length ns) ≤ length (segment S b.segment)) (sym (ap target_in o.leads_to.1)) claim
 
 -- such bytes over the first ones of a list of zero bytes are a list of bytes
-packed_over : (bs : List ℕ) (a k n : ℕ) (xs : List ℕ) → length xs ≤ n → words_for 2 n ≡ k → 8 * (a + k) ≤ length bs → ((i : ℕ) → get_or xs i 0 < 256) → take k (drop a (words_of bs)) ≡ packed 2 (zeros n) →
-    (length (words_of (over_front bs a k xs)) ≡ k) × (words_of (over_front bs a k xs) ≡ packed 2 (xs ++ zeros (n - length xs)))
+packed_over : (bs : List ℕ) (a k n : ℕ) (xs : List ℕ) → length xs ≤ n → words_for 2 n ≡ k → 8 * (a + k) ≤ length bs → ((i : ℕ) → get_or xs i 0 < 256) → take k (drop a (words_of bs)) ≡ packed 2 (words_of_zero n) →
+    (length (words_of (over_front bs a k xs)) ≡ k) × (words_of (over_front bs a k xs) ≡ packed 2 (xs ++ words_of_zero (n - length xs)))
 packed_over bs a k n xs few wide room small zero_words =
-    let ms : List ℕ = xs ++ zeros (n - length xs) in
+    let ms : List ℕ = xs ++ words_of_zero (n - length xs) in
     let old : List ℕ = take (8 * k) (drop (8 * a) bs) in
     let new : List ℕ = over_front bs a k xs in
     let long : length new ≡ 8 * k = length-front bs a k xs (omega (arith, wide)) room in
     let count : length (words_of new) ≡ k = length-words_of k new (omega (arith, long)) (omega (arith, long)) in
-    let shows : words_of old ≡ packed 2 (zeros n) = words_of-part a k (8 * a) (8 * k) bs refl refl room ∙ zero_words in
+    let shows : words_of old ≡ packed 2 (words_of_zero n) = words_of-part a k (8 * a) (8 * k) bs refl refl room ∙ zero_words in
     let nothing : from_digits 256 old ≡ 0 = sym (words_are_bytes k old (omega (arith, length-take (8 * k) (drop (8 * a) bs), length-drop (8 * a) bs))) ∙ ap (from_digits (2 ^ 64)) shows ∙ zeros_packed n in
     let rest : from_digits 256 (drop (length xs) old) ≡ 0 = zero_rest (length xs) old nothing in
     let number : from_digits 256 ms ≡ from_digits (2 ^ 64) (words_of new) =
-    same_number xs (zeros (n - length xs)) (from_zeros (n - length xs)) ∙ sym (same_number xs (drop (length xs) old) rest) ∙ sym (words_are_bytes k new long) in
+    same_number xs (words_of_zero (n - length xs)) (from_zeros (n - length xs)) ∙ sym (same_number xs (drop (length xs) old) rest) ∙ sym (words_are_bytes k new long) in
     let below : AreBelow (2 ^ 64) (words_of new) = all_below (2 ^ 64) (words_of new) (small_word new (small_bytes xs (drop (length xs) old) small rest)) in
-    let all : length ms ≡ n = omega (arith, few, length-append xs (zeros (n - length xs)), length-replicate {A = ℕ} (n - length xs) 0) in
+    let all : length ms ≡ n = omega (arith, few, length-append xs (words_of_zero (n - length xs)), length-replicate {A = ℕ} (n - length xs) 0) in
     (count, sym (ap₂ (λ j y. digits (2 ^ 64) j y) (ap (words_for 2) all ∙ wide) number ∙ digits_again (2 ^ 64) k (words_of new) below count))
 
 -- From S to R the bytes xs are written from the word h on, if they lie in its segment, and nothing else is.
@@ -229,45 +229,45 @@ written_beside S R h xs k w enough claim v r before = elim (cases_eq (length xs)
     ]
 
 -- some bytes over the first ones of a list of zero bytes
-some_bytes : (S R : Segments) (s p n : ℕ) (h : Start) (xs : List ℕ) → WritesBytes S R h xs → IsStored S s p (Flat 2 (zeros n)) → LeadsTo S s p h → 0 < length xs → length xs ≤ n →
-    IsReplaced S R s p (Flat 2 (zeros n)) (Flat 2 (xs ++ zeros (n - length xs)))
+some_bytes : (S R : Segments) (s p n : ℕ) (h : Start) (xs : List ℕ) → WritesBytes S R h xs → IsStored S s p (Flat 2 (words_of_zero n)) → LeadsToStart S s p h → 0 < length xs → length xs ≤ n →
+    IsReplaced S R s p (Flat 2 (words_of_zero n)) (Flat 2 (xs ++ words_of_zero (n - length xs)))
 some_bytes S R s p n h xs w x lead some few =
     let u = (target S s p).segment in
     let a = (target S s p).start in
-    let k = words_for 2 (length (zeros n)) in
-    let ms : List ℕ = xs ++ zeros (n - length xs) in
-    let ln : length (zeros n) ≡ n = length-replicate {A = ℕ} n 0 in
-    let same_length : length ms ≡ length (zeros n) = omega (arith, ln, length-append xs (zeros (n - length xs)), length-replicate {A = ℕ} (n - length xs) 0) in
-    let claim : a + k ≤ length (segment S u) = flat_claims S s p 2 (zeros n) x in
+    let k = words_for 2 (length (words_of_zero n)) in
+    let ms : List ℕ = xs ++ words_of_zero (n - length xs) in
+    let ln : length (words_of_zero n) ≡ n = length-replicate {A = ℕ} n 0 in
+    let same_length : length ms ≡ length (words_of_zero n) = omega (arith, ln, length-append xs (words_of_zero (n - length xs)), length-replicate {A = ℕ} (n - length xs) 0) in
+    let claim : a + k ≤ length (segment S u) = flat_claims S s p 2 (words_of_zero n) x in
     let bs : List ℕ = slice_index_or w.old u [] in
     let (shown, room, whole) = whole_words S R h xs u a k w lead.0 lead.1 some (omega (arith, ln)) claim in
     let list = packed_over bs a k n xs few (ap (words_for 2) (sym ln)) room w.small (ap (λ ws. take k (drop a ws)) (sym shown) ∙ x.tidy) in
     let done = words_written S R u a k (words_of (over_front bs a k xs)) (omega (arith, ln)) list.0 claim whole in
-    flat_written S R s p 2 (zeros n) ms done.long x same_length (all_below 256 ms (small_bytes xs (zeros (n - length xs)) w.small (from_zeros (n - length xs)))) done.but (done.here ∙ list.1)
+    flat_written S R s p 2 (words_of_zero n) ms done.long x same_length (all_below 256 ms (small_bytes xs (words_of_zero (n - length xs)) w.small (from_zeros (n - length xs)))) done.but (done.here ∙ list.1)
 
 -- no bytes over them
-no_bytes : (n : ℕ) (xs : List ℕ) → length xs ≡ 0 → Flat 2 (zeros n) ≡ Flat 2 (xs ++ zeros (n - length xs))
-no_bytes n [] l = ap (λ m. Flat 2 (zeros m)) (let e : n ≡ n - 0 = omega arith in e)
+no_bytes : (n : ℕ) (xs : List ℕ) → length xs ≡ 0 → Flat 2 (words_of_zero n) ≡ Flat 2 (xs ++ words_of_zero (n - length xs))
+no_bytes n [] l = ap (λ m. Flat 2 (words_of_zero m)) (let e : n ≡ n - 0 = omega arith in e)
 no_bytes n (y ∷ xs) l = absurd (omega arith)
 
 -- a list of zero bytes in place of a value, and then bytes over its first ones
-pub bytes_written : (Q S R : Segments) (s p n : ℕ) (t : Tree) (h : Start) (xs : List ℕ) → WritesBytes S R h xs → IsReplaced Q S s p t (Flat 2 (zeros n)) → LeadsTo S s p h → length xs ≤ n → IsReplaced Q R s p t (Flat 2 (xs ++ zeros (n - length xs)))
+pub bytes_written : (Q S R : Segments) (s p n : ℕ) (t : Tree) (h : Start) (xs : List ℕ) → WritesBytes S R h xs → IsReplaced Q S s p t (Flat 2 (words_of_zero n)) → LeadsToStart S s p h → length xs ≤ n → IsReplaced Q R s p t (Flat 2 (xs ++ words_of_zero (n - length xs)))
 bytes_written Q S R s p n t h xs w made lead few = elim (cases_eq (length xs) 0) [
-  | inl e ↦ subst (λ y. IsReplaced Q R s p t y) (no_bytes n xs e) (subst (λ T. IsReplaced Q T s p t (Flat 2 (zeros n))) (sym (w.nothing e)) made)
-  | inr some ↦ replaced_again Q S R s p t (Flat 2 (zeros n)) (Flat 2 (xs ++ zeros (n - length xs))) made (some_bytes S R s p n h xs w made.stored lead (omega arith) few)
+  | inl e ↦ subst (λ y. IsReplaced Q R s p t y) (no_bytes n xs e) (subst (λ T. IsReplaced Q T s p t (Flat 2 (words_of_zero n))) (sym (w.nothing e)) made)
+  | inr some ↦ replaced_again Q S R s p t (Flat 2 (words_of_zero n)) (Flat 2 (xs ++ words_of_zero (n - length xs))) made (some_bytes S R s p n h xs w made.stored lead (omega arith) few)
 ]
 
 -- and the pointer to the list leads where it led
-pub bytes_target : (S R : Segments) (s p n : ℕ) (h : Start) (xs : List ℕ) → WritesBytes S R h xs → IsStored S s p (Flat 2 (zeros n)) → LeadsTo S s p h → length xs ≤ n → LeadsTo R s p h
+pub bytes_target : (S R : Segments) (s p n : ℕ) (h : Start) (xs : List ℕ) → WritesBytes S R h xs → IsStored S s p (Flat 2 (words_of_zero n)) → LeadsToStart S s p h → length xs ≤ n → LeadsToStart R s p h
 bytes_target S R s p n h xs w x lead few = elim (cases_eq (length xs) 0) [
-  | inl e ↦ subst (λ T. LeadsTo T s p h) (sym (w.nothing e)) lead
+  | inl e ↦ subst (λ T. LeadsToStart T s p h) (sym (w.nothing e)) lead
   | inr some ↦ (
-      let k = words_for 2 (length (zeros n)) in
-      let ln : length (zeros n) ≡ n = length-replicate {A = ℕ} n 0 in
-      let claim : h.at + k ≤ length (segment S h.segment) = omega (arith, flat_claims S s p 2 (zeros n) x, lead.1, ap (λ u. length (segment S u)) lead.0) in
+      let k = words_for 2 (length (words_of_zero n)) in
+      let ln : length (words_of_zero n) ≡ n = length-replicate {A = ℕ} n 0 in
+      let claim : h.at + k ≤ length (segment S h.segment) = omega (arith, flat_claims S s p 2 (words_of_zero n) x, lead.1, ap (λ u. length (segment S u)) lead.0) in
       let done = words_there S R h xs k w (omega (arith, some)) (omega (arith, few, ln)) claim in
       let but = subst (SameBut S R) (ap₂ (λ u b. row u b k) lead.0 lead.1) done.but in
-      let same : target R s p ≡ target S s p = flat_target S R s p 2 (zeros n) done.long x but in
+      let same : target R s p ≡ target S s p = flat_target S R s p 2 (words_of_zero n) done.long x but in
       (lead.0 ∙ sym (ap (λ b. b.segment) same), lead.1 ∙ sym (ap (λ b. b.start) same))
       )
 ]

@@ -13,7 +13,7 @@ use Rattle.capnp_format.specs.Forest.{Interval, times, object_of, target, target
 use Rattle.capnp_format.proofs.Bounds.{digits_below}
 use Rattle.capnp_arena.specs.Written.{with_word}
 use Rattle.capnp_making.specs.Fields.{with_bits, put_field, with_field}
-use Rattle.capnp_making.specs.Path.{struct_at, put_struct, with_words, one_word}
+use Rattle.capnp_making.specs.Path.{struct_at, put_struct, with_data, word_interval}
 use Rattle.capnp_making.specs.Stored.{IsStored, IsReplaced}
 use Rattle.capnp_making.proofs.FieldDigits.{field_in_words, from_digits-set, from_digits-part}
 use Rattle.capnp_making.proofs.WithBits.{with_bits-below}
@@ -25,7 +25,7 @@ use Rattle.capnp_making.proofs.Zeros.{there, segment_here}
 put_lengths : {S R : Segments} {s p x : ℕ} → IsPut S R s p x → SameLengths S R
 put_lengths w = record { segments = w.segments; words = w.words }
 
-in_interval : (i : Interval) (p v r : ℕ) → i.start ≤ p → p < i.start + i.words → times (one_word i.segment p ∷ []) v r ≤ times (i ∷ []) v r
+in_interval : (i : Interval) (p v r : ℕ) → i.start ≤ p → p < i.start + i.words → times (word_interval i.segment p ∷ []) v r ≤ times (i ∷ []) v r
 in_interval i p v r l m = grind (arith, nat_tests)
 
 put_same_but : (S R : Segments) (i : Interval) (p x : ℕ) → i.start ≤ p → p < i.start + i.words → IsPut S R i.segment p x → SameBut S R i
@@ -108,7 +108,7 @@ element_word_written S R s p d q es i ws ts j x a l is f e =
         let made : R ≡ with_word S b.segment (first + j) x = e ∙ ap (λ (t : Target). with_word S t.segment (t.start + 1 + i * (d + q) + j) x) to_b in
         let place : first + j < length (segment S b.segment) = omega (arith, claim, f, words.0, row_within i (element_count es) d q m l fits) in
         let w = word_put S R b.segment (first + j) x place made in
-        subst (λ u. IsReplaced S R s p (Structs d q es) (Structs d q (put_struct es i u))) (ap (λ u. with_words u (set ws j x)) is)
+        subst (λ u. IsReplaced S R s p (Structs d q es) (Structs d q (put_struct es i u))) (ap (λ u. with_data u (set ws j x)) is)
         (element_data_written S R s p d q es i (set ws j x) (put_lengths w) a l (length-set ws j x ∙ words.0)
         (subst (λ (t : Target). SameBut S R (element_words t d q i)) (sym to_b) (put_same_but S R (element_words b d q i) (first + j) x (omega arith) (omega (arith, f, words.0)) w))
         (subst (λ (t : Target). HasWords R t.segment (t.start + 1 + i * (d + q)) (set ws j x)) (sym to_b) (put_has_words S R b.segment first j x ws made (there S b.segment (first + j) place) f words.1)))

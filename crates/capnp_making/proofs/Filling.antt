@@ -8,7 +8,7 @@ use Rattle.capnp_format.specs.Forest.{Interval, times, pads_of, object_of, targe
 use Rattle.capnp_format.proofs.Frame.{leads_agree}
 use Rattle.capnp_making.specs.Filled.{AreFilled}
 use Rattle.capnp_making.specs.Made.{nulls}
-use Rattle.capnp_making.specs.Path.{Step, Child, Element, tree_at, put_tree, update, PathLeads, one_word}
+use Rattle.capnp_making.specs.Path.{Step, Child, Element, tree_at, put_tree, update, PathLeads, word_interval}
 use Rattle.capnp_making.specs.Stored.{IsStored, IsReplaced}
 use Rattle.capnp_making.proofs.Extents.{word_within, once_held, times-first, times-object}
 use Rattle.capnp_making.proofs.Placed.{count-nulls}
@@ -37,7 +37,7 @@ pub still_leads : (S R : Segments) (s p n : ℕ) (a : Target) (x : Tree) (more :
     ((v r : ℕ) → times (cover S s p x) v r ≡ times (pads_of (word_at S s p)) v r + times (object_of a n ∷ []) v r + times more v r) →
     Grows S R → ((v r : ℕ) → times (object_of a n ∷ []) v r ≡ 0 → r < length (segment S v) → word_at R v r ≡ word_at S v r) → Leads R s p a
 still_leads S R s p n a x more l y parts grows same =
-    let whole = λ (v r : ℕ). times-first (one_word s p) (cover S s p x) v r in
+    let whole = λ (v r : ℕ). times-first (word_interval s p) (cover S s p x) v r in
     let here : word_at R s p ≡ word_at S s p = same s p (omega (arith, whole s p, parts s p, y.apart s p, once_held s p)) (y.inside s p (omega (arith, whole s p, once_held s p))) in
     leads_agree (record { grows = grows; same = here }) (λ v r m. same v r (omega (arith, whole v r, parts v r, y.apart v r)) (y.inside v r (omega (arith, whole v r, parts v r)))) l
 
@@ -80,8 +80,8 @@ holder_put F path S R s p q a b n X i u h y len l puts =
     let way = h.leads S X i y.leads len l in
     let one = puts (stored_within S s p (F X) (path i) a.segment (b + i) (tree_at X i) way y.stored) in
     let (more, parts, below) = h.covers S X len y.leads in
-    let whole = λ (v r : ℕ). times-first (one_word s p) (cover S s p (F X)) v r in
-    let child = λ (v r : ℕ). times-first (one_word a.segment (b + i)) (cover S a.segment (b + i) (tree_at X i)) v r in
+    let whole = λ (v r : ℕ). times-first (word_interval s p) (cover S s p (F X)) v r in
+    let child = λ (v r : ℕ). times-first (word_interval a.segment (b + i)) (cover S a.segment (b + i) (tree_at X i)) v r in
     let within = λ (v r : ℕ). word_within a n (b + i) v r (omega (arith, h.low)) (omega (arith, h.high, l)) in
     let apart = y.stored.apart in
     let here : word_at R s p ≡ word_at S s p =

@@ -8,8 +8,8 @@ use Rattle.capnp_format.specs.Means.{Leads}
 use Rattle.capnp_format.specs.Forest.{times, pads_of, object_of, target, target_in, cover, cover_all, cover_elements}
 use Rattle.capnp_format.proofs.Frame.{times-append}
 use Rattle.capnp_making.specs.Filled.{AreFilled, IsElementFilled, AreElementsFilled, ArePartlyFilled}
-use Rattle.capnp_making.specs.Made.{zeros, nulls, zero_elements}
-use Rattle.capnp_making.specs.Path.{Child, Element, put, put_tree, struct_at, put_struct, with_words, next, tree_at}
+use Rattle.capnp_making.specs.Made.{words_of_zero, nulls, zero_elements}
+use Rattle.capnp_making.specs.Path.{Child, Element, put, put_tree, struct_at, put_struct, with_data, next, tree_at}
 use Rattle.capnp_making.specs.Stored.{IsStored, IsReplaced}
 use Rattle.capnp_making.specs.Zeroed.{row}
 use Rattle.capnp_making.proofs.Filling.{IsHolder, Holds, in_struct, holder_filled, put_from, put_all, still_leads, unchanged}
@@ -25,10 +25,10 @@ pub part_of_object : (a : Target) (b n k v r : ℕ) → a.start ≤ b → b + n 
 part_of_object a b n k v r l m e = grind (arith, nat_tests)
 
 -- a struct of zeros and nulls gets its data words
-pub struct_written : (S R : Segments) (s p q : ℕ) (a : Target) (ws : List ℕ) → Holds (Struct (zeros (length ws))) S s p a (nulls q) → ArePut S R a.segment a.start ws →
-    IsReplaced S R s p (Struct (zeros (length ws)) (nulls q)) (Struct ws (nulls q)) × Leads R s p a
+pub struct_written : (S R : Segments) (s p q : ℕ) (a : Target) (ws : List ℕ) → Holds (Struct (words_of_zero (length ws))) S s p a (nulls q) → ArePut S R a.segment a.start ws →
+    IsReplaced S R s p (Struct (words_of_zero (length ws)) (nulls q)) (Struct ws (nulls q)) × Leads R s p a
 struct_written S R s p q a ws y laid =
-    let zs : List ℕ = zeros (length ws) in
+    let zs : List ℕ = words_of_zero (length ws) in
     let ld : length zs ≡ length ws = length-replicate {A = ℕ} (length ws) 0 in
     let to_a : a ≡ target S s p = sym (ap target_in y.leads.1) in
     let k = length zs + count (nulls q) in (
@@ -121,7 +121,7 @@ structs_claim S s p d q a X y l = let (n, c, (b, m, k, some, o, claim, tag, fits
     subst (λ z. z.start + 1 + element_count X * (d + q) ≤ length (segment S z.segment)) same (omega arith)
 
 -- element number i, of zeros and nulls, gets its words and the first of its pointers, or all
-element_filled : (S R : Segments) (s p d q : ℕ) (a : Target) (X : Elements) (i : ℕ) (ws : List ℕ) (ts : Trees) → IsStored S s p (Structs d q X) → Leads S s p a → i < element_count X → struct_at X i ≡ Struct (zeros d) (nulls q) → length ws ≡ d → count ts ≤ q →
+element_filled : (S R : Segments) (s p d q : ℕ) (a : Target) (X : Elements) (i : ℕ) (ws : List ℕ) (ts : Trees) → IsStored S s p (Structs d q X) → Leads S s p a → i < element_count X → struct_at X i ≡ Struct (words_of_zero d) (nulls q) → length ws ≡ d → count ts ≤ q →
     IsElementFilled S R a.segment (a.start + 1 + i * (d + q)) ws ts → IsReplaced S R s p (Structs d q X) (Structs d q (put_struct X i (Struct ws (put_from (nulls q) 0 ts)))) × Leads R s p a
 element_filled S R s p d q a X i ws ts y l less blank ld lq f =
     let T = f.written in
@@ -132,7 +132,7 @@ element_filled S R s p d q a X i ws ts y l less blank ld lq f =
     let w = 1 + element_count X * (d + q) in
     let E = put_struct X i (Struct ws (nulls q)) in
     let words : IsReplaced S T s p (Structs d q X) (Structs d q E) =
-    subst (λ t. IsReplaced S T s p (Structs d q X) (Structs d q (put_struct X i (with_words t ws)))) blank
+    subst (λ t. IsReplaced S T s p (Structs d q X) (Structs d q (put_struct X i (with_data t ws)))) blank
     (element_data_written S T s p d q X i ws laid.long y less ld
     (subst (λ b. (v r : ℕ) → times (row b.segment (b.start + 1 + i * (d + q)) d ∷ []) v r ≡ 0 → word_at T v r ≡ word_at S v r) to_a (λ v r e. laid.kept v r (subst (λ k. times (row a.segment (a.start + 1 + i * (d + q)) k ∷ []) v r ≡ 0) (sym ld) e)))
     (subst (λ b. HasWords T b.segment (b.start + 1 + i * (d + q)) ws) to_a laid.here)) in
@@ -158,7 +158,7 @@ put_elements-all : (d q : ℕ) (es : Elements) → put_elements (zero_elements d
 put_elements-all d q no_elements = refl
 put_elements-all d q (element ws ts es) = put_elements_behind (zero_elements d q (element_count es)) es ws ts 0 ∙ ap (element ws ts) (put_elements-all d q es)
 
-blank_at : (d q n i : ℕ) → i < n → struct_at (zero_elements d q n) i ≡ Struct (zeros d) (nulls q)
+blank_at : (d q n i : ℕ) → i < n → struct_at (zero_elements d q n) i ≡ Struct (words_of_zero d) (nulls q)
 blank_at d q zero i l = absurd (omega arith)
 blank_at d q (suc n) zero l = refl
 blank_at d q (suc n) (suc i) l = blank_at d q n i (omega arith)
@@ -167,7 +167,7 @@ blank_at d q (suc n) (suc i) l = blank_at d q n i (omega arith)
 record AreBlank (S : Segments) (s p d q : ℕ) (a : Target) (X : Elements) (i : ℕ) : Type 0 where
   pub stored : IsStored S s p (Structs d q X)
   pub leads : Leads S s p a
-  pub blank : (j : ℕ) → i ≤ j → j < element_count X → struct_at X j ≡ Struct (zeros d) (nulls q)
+  pub blank : (j : ℕ) → i ≤ j → j < element_count X → struct_at X j ≡ Struct (words_of_zero d) (nulls q)
 
 -- the elements from the i-th on are filled
 record FilledTo (S R : Segments) (s p d q : ℕ) (a : Target) (X Y : Elements) (i : ℕ) : Type 0 where

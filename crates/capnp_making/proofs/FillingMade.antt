@@ -12,8 +12,8 @@ use Rattle.capnp_format.specs.Forest.{times, target, target_in}
 use Rattle.capnp_format.proofs.Digits.{length-digits}
 use Rattle.capnp_arena.specs.Written.{with_words}
 use Rattle.capnp_making.specs.Filled.{AreFilled, AreElementsFilled, ArePartlyFilled}
-use Rattle.capnp_making.specs.Made.{LeadsTo, LieFrom, zeros, nulls, zero_elements}
-use Rattle.capnp_making.specs.Path.{Child, Element, one_word}
+use Rattle.capnp_making.specs.Made.{LeadsToStart, WordsLieFrom, words_of_zero, nulls, zero_elements}
+use Rattle.capnp_making.specs.Path.{Child, Element, word_interval}
 use Rattle.capnp_making.specs.Stored.{IsStored, IsReplaced}
 use Rattle.capnp_making.specs.Zeroed.{row}
 use Rattle.capnp_making.specs.declared.making.Start.{Start}
@@ -33,14 +33,14 @@ null_stored S s p place none = record {
   tidy = tt;
 }
   where
-    once : (v r : ℕ) → times (one_word s p ∷ []) v r ≤ 1
+    once : (v r : ℕ) → times (word_interval s p ∷ []) v r ≤ 1
     once v r = grind (arith, nat_tests)
 
 -- From S to M an object of n words is made, which starts at h: the place holds t.
 pub record IsBegun (S M : Segments) (s p n : ℕ) (h : Start) (t : Tree) : Type 0 where
   pub made : IsReplaced S M s p Null t
-  pub start : LeadsTo M s p h
-  pub inside : LieFrom M n h
+  pub start : LeadsToStart M s p h
+  pub inside : WordsLieFrom M n h
 
 leads_of : (S : Segments) (s p : ℕ) (a : Target) → Leads S s p a → Leads S s p (target S s p)
 leads_of S s p a l = subst (Leads S s p) (sym (ap target_in l.1)) l
@@ -68,12 +68,12 @@ pointers_nulls : (S : Segments) (s p q i : ℕ) → IsStored S s p (Pointers (nu
 pointers_nulls S s p q i y l = let (n, c, (a, k, some, o, claim, all, g)) = y.means in
     subst (λ b. word_at S b.segment (b.start + i) ≡ 0) (sym (ap target_in o.leads_to.1)) (nulls_zero S _ a.segment a.start q k i all l)
 
-zeros_zero : (S : Segments) (s p d i : ℕ) → HasWords S s p (zeros d) → i < d → word_at S s (p + i) ≡ 0
+zeros_zero : (S : Segments) (s p d i : ℕ) → HasWords S s p (words_of_zero d) → i < d → word_at S s (p + i) ≡ 0
 zeros_zero S s p d i h l =
-    let ld : length (zeros d) ≡ d = length-replicate {A = ℕ} d 0 in
-    sym (get_or-drop p (segment S s) i 0) ∙ sym (get_or-take (length (zeros d)) (drop p (segment S s)) i 0 (omega arith)) ∙ ap (λ ws. get_or ws i 0) h ∙ zero_of d i
+    let ld : length (words_of_zero d) ≡ d = length-replicate {A = ℕ} d 0 in
+    sym (get_or-drop p (segment S s) i 0) ∙ sym (get_or-take (length (words_of_zero d)) (drop p (segment S s)) i 0 (omega arith)) ∙ ap (λ ws. get_or ws i 0) h ∙ zero_of d i
   where
-    zero_of : (d i : ℕ) → get_or (zeros d) i 0 ≡ 0
+    zero_of : (d i : ℕ) → get_or (words_of_zero d) i 0 ≡ 0
     zero_of zero i = refl
     zero_of (suc d) zero = refl
     zero_of (suc d) (suc i) = zero_of d i
@@ -96,29 +96,29 @@ structs_zero S s p d q k i y l = let (n, c, (a, m, j, some, o, claim, tag, fits,
 
 -- a struct, begun, its data words written, and then its pointers filled
 
-pub struct_ready : (S M T : Segments) (s p q : ℕ) (h : Start) (ws : List ℕ) → IsBegun S M s p (length ws + q) h (Struct (zeros (length ws)) (nulls q)) → T ≡ with_words M h.segment h.at ws →
+pub struct_ready : (S M T : Segments) (s p q : ℕ) (h : Start) (ws : List ℕ) → IsBegun S M s p (length ws + q) h (Struct (words_of_zero (length ws)) (nulls q)) → T ≡ with_words M h.segment h.at ws →
     (h.at + length ws + q ≤ length (segment T h.segment)) × ((i : ℕ) → i < q → word_at T h.segment (h.at + length ws + i) ≡ 0)
 struct_ready S M T s p q h ws b e =
-    let ld : length (zeros (length ws)) ≡ length ws = length-replicate {A = ℕ} (length ws) 0 in
+    let ld : length (words_of_zero (length ws)) ≡ length ws = length-replicate {A = ℕ} (length ws) 0 in
     let laid = words_put M T h.segment h.at ws (omega (arith, b.inside.1)) e in
-    let null : (i : ℕ) → i < q → word_at M h.segment (h.at + length ws + i) ≡ 0 = λ i l. rw (b.start.0, b.start.1, sym ld) (struct_nulls M s p q (zeros (length ws)) i b.made.stored l) in
+    let null : (i : ℕ) → i < q → word_at M h.segment (h.at + length ws + i) ≡ 0 = λ i l. rw (b.start.0, b.start.1, sym ld) (struct_nulls M s p q (words_of_zero (length ws)) i b.made.stored l) in
     (omega (arith, b.inside.1, laid.long.words h.segment), λ i l. laid.kept h.segment (h.at + length ws + i) (past_row h.segment h.at (length ws) (h.at + length ws + i) (omega arith)) ∙ null i l)
   where
     past_row : (s p n r : ℕ) → p + n ≤ r → times (row s p n ∷ []) s r ≡ 0
     past_row s p n r l = grind (arith, nat_tests)
 
-pub struct_done : (S M T R : Segments) (s p q : ℕ) (h : Start) (ws : List ℕ) (ts : Trees) → IsBegun S M s p (length ws + q) h (Struct (zeros (length ws)) (nulls q)) → T ≡ with_words M h.segment h.at ws → AreFilled T R h.segment (h.at + length ws) ts → count ts ≤ q →
+pub struct_done : (S M T R : Segments) (s p q : ℕ) (h : Start) (ws : List ℕ) (ts : Trees) → IsBegun S M s p (length ws + q) h (Struct (words_of_zero (length ws)) (nulls q)) → T ≡ with_words M h.segment h.at ws → AreFilled T R h.segment (h.at + length ws) ts → count ts ≤ q →
     IsReplaced S R s p Null (Struct ws (put_from (nulls q) 0 ts))
 struct_done S M T R s p q h ws ts b e f few =
     let a = target M s p in
-    let zs = zeros (length ws) in
+    let zs = words_of_zero (length ws) in
     let laid : ArePut M T a.segment a.start ws = rw (b.start.0, b.start.1) at (words_put M T h.segment h.at ws (omega (arith, b.inside.1)) e) in
     let filled : AreFilled T R a.segment (a.start + length ws) ts = rw (b.start.0, b.start.1) at f in
     let written = struct_written M T s p q a ws (record { stored = b.made.stored; leads = struct_leads M s p zs (nulls q) b.made.stored }) laid in
     let done = holder_filled (Struct ws) (λ i. Child i ∷ []) T R s p q a (a.start + length ws) (length ws + q) ts (struct_holder s p q a ws) (record { stored = written.0.stored; leads = written.1 }) few filled in
     replaced_again S T R s p Null (Struct ws (nulls q)) _ (replaced_again S M T s p Null (Struct zs (nulls q)) _ b.made written.0) done.0
 
-pub struct_whole : (S M T R : Segments) (s p q : ℕ) (h : Start) (ws : List ℕ) (ts : Trees) → IsBegun S M s p (length ws + q) h (Struct (zeros (length ws)) (nulls q)) → T ≡ with_words M h.segment h.at ws → AreFilled T R h.segment (h.at + length ws) ts → count ts ≡ q →
+pub struct_whole : (S M T R : Segments) (s p q : ℕ) (h : Start) (ws : List ℕ) (ts : Trees) → IsBegun S M s p (length ws + q) h (Struct (words_of_zero (length ws)) (nulls q)) → T ≡ with_words M h.segment h.at ws → AreFilled T R h.segment (h.at + length ws) ts → count ts ≡ q →
     IsReplaced S R s p Null (Struct ws ts)
 struct_whole S M T R s p q h ws ts b e f full =
     subst (λ X. IsReplaced S R s p Null (Struct ws X)) (ap (λ k. put_from (nulls k) 0 ts) (sym full) ∙ put_all ts) (struct_done S M T R s p q h ws ts b e f (le_of_eq full))
@@ -159,13 +159,13 @@ structs_done S M R s p d q n h b f =
 
 -- a list of numbers
 
-pub flat_whole : (S M R : Segments) (s p size n : ℕ) (h : Start) (ns : List ℕ) → IsBegun S M s p (words_for size n) h (Flat size (zeros n)) → length ns ≡ n → AreBelow (2 ^ element_bits size) ns → R ≡ with_words M h.segment h.at (packed size ns) → IsReplaced S R s p Null (Flat size ns)
+pub flat_whole : (S M R : Segments) (s p size n : ℕ) (h : Start) (ns : List ℕ) → IsBegun S M s p (words_for size n) h (Flat size (words_of_zero n)) → length ns ≡ n → AreBelow (2 ^ element_bits size) ns → R ≡ with_words M h.segment h.at (packed size ns) → IsReplaced S R s p Null (Flat size ns)
 flat_whole S M R s p size n h ns b len small e =
     let a = target M s p in
     let w = words_for size n in
-    let lz : length (zeros n) ≡ n = length-replicate {A = ℕ} n 0 in
+    let lz : length (words_of_zero n) ≡ n = length-replicate {A = ℕ} n 0 in
     let long : length (packed size ns) ≡ w = length-digits _ (words_for size (length ns)) _ ∙ ap (words_for size) len in
     let laid : ArePut M R a.segment a.start (packed size ns) = rw (b.start.0, b.start.1) at (words_put M R h.segment h.at (packed size ns) (omega (arith, b.inside.1, long)) e) in
-    replaced_again S M R s p Null (Flat size (zeros n)) _ b.made
-    (flat_written M R s p size (zeros n) ns laid.long b.made.stored (len ∙ sym lz) small
+    replaced_again S M R s p Null (Flat size (words_of_zero n)) _ b.made
+    (flat_written M R s p size (words_of_zero n) ns laid.long b.made.stored (len ∙ sym lz) small
     (rw (ap (words_for size) lz, sym long) laid.kept) (rw (ap (words_for size) lz, sym long) laid.here))

@@ -12,7 +12,7 @@ use Rattle.capnp_format.proofs.Lies.{reaches_offset, near_leads}
 use Rattle.capnp_format.proofs.Following.{IsOffsetTo}
 use Rattle.capnp_arena.specs.Taking.{IsTaken, with_another}
 use Rattle.capnp_arena.specs.Written.{with_word, extended}
-use Rattle.capnp_making.specs.Path.{one_word}
+use Rattle.capnp_making.specs.Path.{word_interval}
 use Rattle.capnp_making.proofs.Leading.{single_far_leads}
 use Rattle.capnp_making.specs.Zeroed.{row, IsPruned, IsPrunedBut}
 use Rattle.capnp_making.specs.Made.{IsGrown, IsMade}
@@ -95,7 +95,7 @@ pub record IsPut (S R : Segments) (s p x : ℕ) : Type 0 where
   pub segments : length R ≡ length S
   pub words : (v : ℕ) → length (segment R v) ≡ length (segment S v)
   pub here : word_at R s p ≡ x
-  pub kept : (v r : ℕ) → times (one_word s p ∷ []) v r ≡ 0 → word_at R v r ≡ word_at S v r
+  pub kept : (v r : ℕ) → times (word_interval s p ∷ []) v r ≡ 0 → word_at R v r ≡ word_at S v r
 
 pub word_put : (S R : Segments) (s p x : ℕ) → p < length (segment S s) → R ≡ with_word S s p x → IsPut S R s p x
 word_put S R s p x l e =
@@ -107,7 +107,7 @@ word_put S R s p x l e =
       words = lengths_kept S s made (length-set W p x);
       here = word_here S s p made ok ∙ get_or-set_same W p x 0 l;
       kept = λ v r h. elim (cases_eq v s) [
-        | inl f ↦ ap (λ u. word_at (with_word S s p x) u r) f ∙ word_here S s r made ok ∙ get_or-set_other W p r x 0 (λ g. omega (arith, of_row s p 1 r (omega arith) (omega arith), ap (λ u. times (one_word s p ∷ []) u r) f)) ∙ ap (λ u. word_at S u r) (sym f)
+        | inl f ↦ ap (λ u. word_at (with_word S s p x) u r) f ∙ word_here S s r made ok ∙ get_or-set_other W p r x 0 (λ g. omega (arith, of_row s p 1 r (omega arith) (omega arith), ap (λ u. times (word_interval s p ∷ []) u r) f)) ∙ ap (λ u. word_at S u r) (sym f)
         | inr f ↦ word_other S s v r made f
       ];
     })
@@ -130,8 +130,8 @@ not_far x n = ap (λ b. cond b (record { segment = upper_half x; start = far_pos
 is_far : (x : ℕ) → kind x ≡ 2 → pads_of x ≡ record { segment = upper_half x; start = far_position x; words = 1 + is_double x } ∷ []
 is_far x n = ap (λ b. cond b (record { segment = upper_half x; start = far_position x; words = 1 + is_double x } ∷ []) []) (eq-eqb (kind x) 2 n)
 
-pub outside : (s p v r : ℕ) → (v ≡ s → r ≡ p → ⊥) → times (one_word s p ∷ []) v r ≡ 0
-outside s p v r h = elim (cases_eq (times (one_word s p ∷ []) v r) 0) [
+pub outside : (s p v r : ℕ) → (v ≡ s → r ≡ p → ⊥) → times (word_interval s p ∷ []) v r ≡ 0
+outside s p v r h = elim (cases_eq (times (word_interval s p ∷ []) v r) 0) [
   | inl e ↦ e
   | inr e ↦ (let i = in_row s p 1 v r (omega arith) in absurd (h i.0 (omega (arith, i.1, i.2))))
 ]
@@ -166,7 +166,7 @@ pub made_far : (S T U R : Segments) (s p k q n x f : ℕ) → p < length (segmen
 made_far S T U R s p k q n x f place g e h near reaches off far single at to =
     let pad = word_put T U k q x (omega (arith, g.room)) e in
     let put = word_put U R s p f (omega (arith, g.grows.words s, pad.words s)) h in
-    let other : times (one_word s p ∷ []) k q ≡ 0 = outside s p k q (λ u w. omega (arith, g.behind, subst (λ z. p < length (segment S z)) (sym u) place)) in
+    let other : times (word_interval s p ∷ []) k q ≡ 0 = outside s p k q (λ u w. omega (arith, g.behind, subst (λ z. p < length (segment S z)) (sym u) place)) in
     let there_x : word_at R k q ≡ x = put.kept k q other ∙ pad.here in
     let one : pads_of (word_at R s p) ≡ row k q 1 ∷ [] = ap pads_of put.here ∙ is_far f far ∙ rw (at, to, single) refl in
     let offset : IsOffsetTo q (offset_bits x) (q + 1) = subst (λ o. IsOffsetTo q o (q + 1)) (sym off) (reaches_offset q (q + 1) reaches) in

@@ -7,7 +7,7 @@ use Rattle.capnp_format.specs.Tree.{Tree, Null, Capability, Struct, Flat, Pointe
 use Rattle.capnp_format.specs.Means.{MeansAll, IsTag}
 use Rattle.capnp_format.specs.Forest.{times, pads_of, object_of, cover_all, cover_elements}
 use Rattle.capnp_format.proofs.Frame.{Agree, times-append, agree_here, agree_rest, frame_all, frame_elements}
-use Rattle.capnp_making.specs.Path.{one_word, extent}
+use Rattle.capnp_making.specs.Path.{word_interval, extent}
 use Rattle.capnp_making.specs.Zeroed.{row, IsZeroed, PadsInside, IsApart, AreApart, AreApartElements, IsObjectAt, object_cover, IsObjectApart}
 use Rattle.capnp_making.proofs.Zeros.{zeroed_again}
 use Rattle.capnp_format.proofs.ZeroWords.{zero_is_null}
@@ -38,7 +38,7 @@ object_kept S R n a (Structs d q es) grows h (k, x, e, tag, claim, all) =
     ((k, x, e, subst (λ y. IsTag y (element_count es) d q) (sym first) tag, le_trans claim (grows.words a.segment), f.0), ap (λ js. own ∷ js) f.1)
 
 -- the pointer becomes zero, then its object and all below it, then its pads
-pub object_done : (S R K L : Segments) (s p : ℕ) (t : Tree) (b : Target) → word_at S s p ≢ 0 → ((a : Target) → leads S s p ≡ Some a → Some b ≡ Some a) → IsZeroed S R (one_word s p ∷ []) →
+pub object_done : (S R K L : Segments) (s p : ℕ) (t : Tree) (b : Target) → word_at S s p ≢ 0 → ((a : Target) → leads S s p ≡ Some a → Some b ≡ Some a) → IsZeroed S R (word_interval s p ∷ []) →
     ((u : Tree) → IsObjectApart R b u → IsZeroed R K (object_cover R b u)) → (PadsInside K (word_at S s p) → IsZeroed K L (pads_of (word_at S s p))) → IsApart S s p t → IsZeroed S L (extent S s p t)
 object_done S R K L s p t b some goes z object pads a =
     let m = a.means in
@@ -46,15 +46,15 @@ object_done S R K L s p t b some goes z object pads a =
     let same : b ≡ c = let f = goes c e in cc in
     let O = object_cover S c t in
     let P = pads_of (word_at S s p) in
-    let all : (v r : ℕ) → times (extent S s p t) v r ≡ times (one_word s p ∷ []) v r + (times P v r + times O v r) =
-    λ v r. let f = ap (λ js. times (one_word s p ∷ js) v r) covers in let g = times-append P O v r in omega (arith, f, g) in
+    let all : (v r : ℕ) → times (extent S s p t) v r ≡ times (word_interval s p ∷ []) v r + (times P v r + times O v r) =
+    λ v r. let f = ap (λ js. times (word_interval s p ∷ js) v r) covers in let g = times-append P O v r in omega (arith, f, g) in
     let agree : Agree S R O = λ v r l. z.kept v r (omega (arith, all v r, a.apart v r)) in
-    let k = object_kept S R (pred m.0) c t (zeroed_grows S R (one_word s p ∷ []) z) agree o in
+    let k = object_kept S R (pred m.0) c t (zeroed_grows S R (word_interval s p ∷ []) z) agree o in
     let apart : IsObjectApart R c t = record { stands = (pred m.0, k.0); apart = λ v r. let f = ap (λ js. times js v r) k.1 in omega (arith, f, all v r, a.apart v r) } in
     let gone : IsZeroed R K O = subst (λ js. IsZeroed R K js) k.1 (subst (λ x. IsZeroed R K (object_cover R x t)) same (object t (subst (λ x. IsObjectApart R x t) (sym same) apart))) in
     let inside : PadsInside K (word_at S s p) = λ f. let l = pads_inside S s p c e f in omega (arith, l, z.words (upper_half (word_at S s p)), gone.words (upper_half (word_at S s p))) in
-    let first : IsZeroed S K (one_word s p ∷ O) = zeroed_again S R K (one_word s p ∷ []) O (one_word s p ∷ O) (λ v r. (λ x. omega arith, λ x. omega arith)) z gone in
-    zeroed_again S K L (one_word s p ∷ O) P (extent S s p t) (λ v r. let f = all v r in (λ x. omega (arith, f), λ x. omega (arith, f))) first (pads inside)
+    let first : IsZeroed S K (word_interval s p ∷ O) = zeroed_again S R K (word_interval s p ∷ []) O (word_interval s p ∷ O) (λ v r. (λ x. omega arith, λ x. omega arith)) z gone in
+    zeroed_again S K L (word_interval s p ∷ O) P (extent S s p t) (λ v r. let f = all v r in (λ x. omega (arith, f), λ x. omega (arith, f))) first (pads inside)
 
 -- a pointer that leads nowhere means nothing
 pub nowhere_apart : (S : Segments) (s p : ℕ) (t : Tree) → word_at S s p ≢ 0 → ((a : Target) → leads S s p ≡ Some a → None ≡ Some a) → IsApart S s p t → ⊥
@@ -64,7 +64,7 @@ pub null_done : (S : Segments) (s p : ℕ) (t : Tree) → word_at S s p ≡ 0 �
 null_done S s p t e a = let n = zero_is_null S s p t a.means.0 a.means.1 e a.means.2 in
     record { segments = refl; words = λ v. refl; zero = λ v r l. let i = place v r (subst (λ u. 0 < times (extent S s p u) v r) n l) in ap (λ x. word_at S x r) i.0 ∙ ap (λ x. word_at S s x) i.1 ∙ e; kept = λ v r l. refl }
   where
-    place : (v r : ℕ) → 0 < times (one_word s p ∷ []) v r → (v ≡ s) × (r ≡ p)
+    place : (v r : ℕ) → 0 < times (word_interval s p ∷ []) v r → (v ≡ s) × (r ≡ p)
     place v r l = (grind (arith, nat_tests), grind (arith, nat_tests))
 
 -- the object of each kind

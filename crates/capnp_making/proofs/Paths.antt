@@ -5,7 +5,7 @@ use Rattle.capnp_format.specs.Segments.{Segments, segment, word_at, Target, lead
 use Rattle.capnp_format.specs.Tree.{Tree, Struct, Pointers, Structs, Trees, no_trees, tree, Elements, no_elements, element, count, element_count}
 use Rattle.capnp_format.specs.Means.{IsTag, count_cost, Means, MeansAll, MeansElements}
 use Rattle.capnp_format.specs.Forest.{Interval, times, pads_of, object_of, target, target_in, cover, cover_all, cover_elements, IsTidy, AreTidy, AreTidyElements}
-use Rattle.capnp_making.specs.Path.{Step, Child, Element, tree_at, put_tree, struct_at, put_struct, next, put, update, PathLeads, one_word, extent}
+use Rattle.capnp_making.specs.Path.{Step, Child, Element, tree_at, put_tree, struct_at, put_struct, next, put, update, PathLeads, word_interval, extent}
 use Rattle.capnp_format.specs.Segments.{Grows}
 use Rattle.capnp_format.proofs.Frame.{Agree, times-append, agree_left, agree_right, has_words_kept, list_kept, frame, frame_all, frame_elements}
 use Rattle.capnp_making.proofs.Replace.{cover_others, times-others, cover_other_elements, put_tree-count}
@@ -186,10 +186,10 @@ part_within S n s p (Struct ws ts) c (Child i ∷ path) u q x h (a, k, some, o, 
     omega (
       arith,
       part_within S (pred n) a.segment here (tree_at ts i) child.0 path u q x way child.1 v r,
-      times-first (one_word s p) (cover S s p (Struct ws ts)) v r,
+      times-first (word_interval s p) (cover S s p (Struct ws ts)) v r,
       times-object S s p (length ws + count ts) a (λ b. cover_all S b.segment (b.start + length ws) ts) v r o.leads_to.1,
       times-others S a.segment (a.start + length ws) ts i v r h.0,
-      times-first (one_word a.segment here) (cover S a.segment here (tree_at ts i)) v r,
+      times-first (word_interval a.segment here) (cover S a.segment here (tree_at ts i)) v r,
       word_within a (length ws + count ts) here v r (omega arith) (omega arith),
     )
 part_within S n s p (Pointers ts) c (Element i ∷ path) u q x h (a, k, some, o, claim, all, g) v r =
@@ -199,10 +199,10 @@ part_within S n s p (Pointers ts) c (Element i ∷ path) u q x h (a, k, some, o,
     omega (
       arith,
       part_within S (pred n) a.segment here (tree_at ts i) child.0 path u q x way child.1 v r,
-      times-first (one_word s p) (cover S s p (Pointers ts)) v r,
+      times-first (word_interval s p) (cover S s p (Pointers ts)) v r,
       times-object S s p (count ts) a (λ b. cover_all S b.segment b.start ts) v r o.leads_to.1,
       times-others S a.segment a.start ts i v r h.0,
-      times-first (one_word a.segment here) (cover S a.segment here (tree_at ts i)) v r,
+      times-first (word_interval a.segment here) (cover S a.segment here (tree_at ts i)) v r,
       word_within a (count ts) here v r (omega arith) (omega arith),
     )
 part_within S n s p (Structs d w es) c (Element i ∷ Child j ∷ path) u q x h (a, m, k, some, o, claim, tag, fits, all, g) v r =
@@ -213,23 +213,23 @@ part_within S n s p (Structs d w es) c (Element i ∷ Child j ∷ path) u q x h 
     omega (
       arith,
       part_within S (pred n) a.segment here old child.0 path u q x way child.1 v r,
-      times-first (one_word s p) (cover S s p (Structs d w es)) v r,
+      times-first (word_interval s p) (cover S s p (Structs d w es)) v r,
       times-object S s p (1 + element_count es * (d + w)) a (λ b. cover_elements S b.segment (b.start + 1) d w es) v r o.leads_to.1,
       times-other-elements S (pred n) a.segment (a.start + 1) d w es k i j v r h.0 h.1 all,
-      times-first (one_word a.segment here) (cover S a.segment here old) v r,
+      times-first (word_interval a.segment here) (cover S a.segment here old) v r,
       word_within a (1 + element_count es * (d + w)) here v r (omega arith) (omega (arith, row_within i (element_count es) (d + w) (d + j) h.0 (omega arith))),
     )
 part_within S n s p t c (step ∷ path) u q x h m v r = absurd h
 
 -- an object's extent in R beside its extent in S
 object_covers : (S R : Segments) (s p n m : ℕ) (a : Target) (more more' : Target → List Interval) (v r : ℕ) → word_at R s p ≡ word_at S s p → leads S s p ≡ Some a → leads R s p ≡ Some a → m ≡ n →
-    times (one_word s p ∷ pads_of (word_at R s p) ++ object_of (target R s p) m ∷ more' (target R s p)) v r + times (more a) v r
-    ≡ times (one_word s p ∷ pads_of (word_at S s p) ++ object_of (target S s p) n ∷ more (target S s p)) v r + times (more' a) v r
+    times (word_interval s p ∷ pads_of (word_at R s p) ++ object_of (target R s p) m ∷ more' (target R s p)) v r + times (more a) v r
+    ≡ times (word_interval s p ∷ pads_of (word_at S s p) ++ object_of (target S s p) n ∷ more (target S s p)) v r + times (more' a) v r
 object_covers S R s p n m a more more' v r same l k e =
     omega (
       arith,
-      times-first (one_word s p) (pads_of (word_at R s p) ++ object_of (target R s p) m ∷ more' (target R s p)) v r,
-      times-first (one_word s p) (pads_of (word_at S s p) ++ object_of (target S s p) n ∷ more (target S s p)) v r,
+      times-first (word_interval s p) (pads_of (word_at R s p) ++ object_of (target R s p) m ∷ more' (target R s p)) v r,
+      times-first (word_interval s p) (pads_of (word_at S s p) ++ object_of (target S s p) n ∷ more (target S s p)) v r,
       times-object R s p m a more' v r k,
       times-object S s p n a more v r l,
       ap (λ x. times (pads_of x) v r) same,
@@ -283,8 +283,8 @@ updated S R n m s p (Struct ws ts) c (Child i ∷ path) u q x y e grows levels h
         done.covers v r,
         times-others S a.segment from ts i v r h.0,
         below.covers v r,
-        times-first (one_word a.segment here) (cover S a.segment here old) v r,
-        times-first (one_word a.segment here) (cover R a.segment here inner) v r,
+        times-first (word_interval a.segment here) (cover S a.segment here old) v r,
+        times-first (word_interval a.segment here) (cover R a.segment here inner) v r,
       );
       tidy = λ v w. at_target S R s p a (λ b. AreTidy S b.segment (b.start + length ws) ts) (λ b. AreTidy R b.segment (b.start + length ws) (put_tree ts i inner)) o.leads_to.1 keep.leads_to.1
           (λ z. done.tidy z (below.tidy (tidy_child S a.segment from ts i h.0 z) w)) v;
@@ -317,8 +317,8 @@ updated S R n m s p (Pointers ts) c (Element i ∷ path) u q x y e grows levels 
         done.covers v r,
         times-others S a.segment a.start ts i v r h.0,
         below.covers v r,
-        times-first (one_word a.segment here) (cover S a.segment here old) v r,
-        times-first (one_word a.segment here) (cover R a.segment here inner) v r,
+        times-first (word_interval a.segment here) (cover S a.segment here old) v r,
+        times-first (word_interval a.segment here) (cover R a.segment here inner) v r,
       );
       tidy = λ v w. at_target S R s p a (λ b. AreTidy S b.segment b.start ts) (λ b. AreTidy R b.segment b.start (put_tree ts i inner)) o.leads_to.1 keep.leads_to.1
           (λ z. done.tidy z (below.tidy (tidy_child S a.segment a.start ts i h.0 z) w)) v;
@@ -359,8 +359,8 @@ updated S R n m s p (Structs d w es) c (Element i ∷ Child j ∷ path) u q x y 
         done.covers v r,
         times-other-elements S (pred n) a.segment from d w es k i j v r h.0 h.1 all,
         below.covers v r,
-        times-first (one_word a.segment here) (cover S a.segment here old) v r,
-        times-first (one_word a.segment here) (cover R a.segment here inner) v r,
+        times-first (word_interval a.segment here) (cover S a.segment here old) v r,
+        times-first (word_interval a.segment here) (cover R a.segment here inner) v r,
       );
       tidy = λ v z. at_target S R s p a (λ b. (list_count b.word ≡ width) × AreTidyElements S b.segment (b.start + 1) d w es) (λ b. (list_count b.word ≡ element_count written * (d + w)) × AreTidyElements R b.segment (b.start + 1) d w written)
           o.leads_to.1 keep.leads_to.1 (λ f. (f.0 ∙ ap (λ l. l * (d + w)) (sym done.counts), done.tidy f.1 (below.tidy (tidy_element_child S (pred n) a.segment from d w es k i j h.0 h.1 all f.1) z))) v;

@@ -14,7 +14,7 @@ use Rattle.capnp_making.specs.Stored.{IsStored, IsReplaced}
 use Rattle.capnp_making.proofs.Replaced.{cleared, placed}
 use Rattle.capnp_format.proofs.Lies.{near_leads}
 use Rattle.capnp_making.specs.Zeroed.{row, IsZeroed, IsApart}
-use Rattle.capnp_making.specs.Made.{IsMade, zeros, nulls}
+use Rattle.capnp_making.specs.Made.{IsMade, words_of_zero, nulls}
 use Rattle.capnp_making.proofs.MadeWords.{IsPut, not_far}
 use Rattle.capnp_making.proofs.Zeros.{there, in_row, of_row}
 
@@ -25,7 +25,7 @@ zeroed_replaced S R s p t h a =
     cleared S R s p t z.segments z.words a z.zero z.kept
 
 -- words of zero
-pub zeros_stand : (R : Segments) (s b n : ℕ) → ((r : ℕ) → b ≤ r → r < b + n → word_at R s r ≡ 0) → b + n ≤ length (segment R s) → words_at R s b n ≡ zeros n
+pub zeros_stand : (R : Segments) (s b n : ℕ) → ((r : ℕ) → b ≤ r → r < b + n → word_at R s r ≡ 0) → b + n ≤ length (segment R s) → words_at R s b n ≡ words_of_zero n
 zeros_stand R s b zero h l = refl
 zeros_stand R s b (suc n) h l =
     let W = segment R s in
@@ -57,28 +57,28 @@ nulls_cover R s b (suc k) = nulls_cover R s (b + 1) k
 
 -- a struct made anew
 pub struct_made : (S R : Segments) (s p d q : ℕ) (a : Target) → p < length (segment S s) → IsMade S R s p a (d + q) → kind a.word ≡ 0 → data_words a.word ≡ d → pointer_count a.word ≡ q →
-    IsReplaced S R s p Null (Struct (zeros d) (nulls q))
+    IsReplaced S R s p Null (Struct (words_of_zero d) (nulls q))
 struct_made S R s p d q a place m is_struct is_d is_q =
-    let ld : length (zeros d) ≡ d = length-replicate {A = ℕ} d 0 in
+    let ld : length (words_of_zero d) ≡ d = length-replicate {A = ℕ} d 0 in
     let lq : count (nulls q) ≡ q = count-nulls q in
     let zero_here = new_zero S R s p a (d + q) m in
     let here : target R s p ≡ a = ap target_in m.leads_there.1 in
-    let covers : cover R s p (Struct (zeros d) (nulls q)) ≡ pads_of (word_at R s p) ++ object_of a (d + q) ∷ [] =
-    ap (λ b. pads_of (word_at R s p) ++ object_of b (length (zeros d) + count (nulls q)) ∷ cover_all R b.segment (b.start + length (zeros d)) (nulls q)) here
-    ∙ ap₂ (λ n js. pads_of (word_at R s p) ++ object_of a n ∷ js) (ap₂ (λ x y. x + y) ld lq) (nulls_cover R a.segment (a.start + length (zeros d)) q) in
-    let same : (v r : ℕ) → times (cover R s p (Struct (zeros d) (nulls q))) v r ≡ times (pads_of (word_at R s p) ++ object_of a (d + q) ∷ []) v r = λ v r. ap (λ js. times js v r) covers in
-    let words : words_at R a.segment a.start (length (zeros d)) ≡ zeros d = ap (words_at R a.segment a.start) ld ∙ zeros_stand R a.segment a.start d (λ r x y. zero_here r x (omega arith)) (omega (arith, m.claims)) in
-    let means : Means R 1 s p (Struct (zeros d) (nulls q)) (a.pads + (length (zeros d) + count (nulls q)) + 0) = (
+    let covers : cover R s p (Struct (words_of_zero d) (nulls q)) ≡ pads_of (word_at R s p) ++ object_of a (d + q) ∷ [] =
+    ap (λ b. pads_of (word_at R s p) ++ object_of b (length (words_of_zero d) + count (nulls q)) ∷ cover_all R b.segment (b.start + length (words_of_zero d)) (nulls q)) here
+    ∙ ap₂ (λ n js. pads_of (word_at R s p) ++ object_of a n ∷ js) (ap₂ (λ x y. x + y) ld lq) (nulls_cover R a.segment (a.start + length (words_of_zero d)) q) in
+    let same : (v r : ℕ) → times (cover R s p (Struct (words_of_zero d) (nulls q))) v r ≡ times (pads_of (word_at R s p) ++ object_of a (d + q) ∷ []) v r = λ v r. ap (λ js. times js v r) covers in
+    let words : words_at R a.segment a.start (length (words_of_zero d)) ≡ words_of_zero d = ap (words_at R a.segment a.start) ld ∙ zeros_stand R a.segment a.start d (λ r x y. zero_here r x (omega arith)) (omega (arith, m.claims)) in
+    let means : Means R 1 s p (Struct (words_of_zero d) (nulls q)) (a.pads + (length (words_of_zero d) + count (nulls q)) + 0) = (
       a,
       0,
       omega arith,
       record { leads_to = m.leads_there; is_struct = is_struct; data_of = is_d ∙ sym ld; pointers = is_q ∙ sym lq },
       omega (arith, m.claims, ld, lq),
       words,
-      nulls_mean R 0 a.segment (a.start + length (zeros d)) q (λ r x y. zero_here r (omega arith) (omega (arith, ld))),
+      nulls_mean R 0 a.segment (a.start + length (words_of_zero d)) q (λ r x y. zero_here r (omega arith) (omega (arith, ld))),
       refl,
     ) in
-    placed S R s p (Struct (zeros d) (nulls q)) 1 (a.pads + (length (zeros d) + count (nulls q)) + 0) m.grows place means (nulls_tidy R (target R s p).segment ((target R s p).start + length (zeros d)) q)
+    placed S R s p (Struct (words_of_zero d) (nulls q)) 1 (a.pads + (length (words_of_zero d) + count (nulls q)) + 0) m.grows place means (nulls_tidy R (target R s p).segment ((target R s p).start + length (words_of_zero d)) q)
     (λ v r. omega (arith, same v r, m.once v r)) (λ v r l. m.fresh v r (omega (arith, same v r))) m.kept
     (λ v r none l. m.zero v r (omega (arith, same v r, times-append (pads_of (word_at R s p)) (object_of a (d + q) ∷ []) v r)) l)
 

@@ -11,7 +11,7 @@ use Rattle.capnp_format.specs.Forest.{times, pads_of, object_of, target, target_
 use Rattle.capnp_format.proofs.Frame.{times-append}
 use Rattle.capnp_making.specs.Stored.{IsReplaced}
 use Rattle.capnp_making.proofs.Replaced.{placed}
-use Rattle.capnp_making.specs.Made.{IsMade, zeros, nulls, zero_list, list_words}
+use Rattle.capnp_making.specs.Made.{IsMade, words_of_zero, nulls, zero_list, list_words}
 use Rattle.capnp_making.proofs.Placed.{new_zero, zeros_stand, count-nulls, nulls_mean, nulls_tidy, nulls_cover}
 
 zero_rest : (b : ℕ) → 0 % b ≡ 0
@@ -20,41 +20,41 @@ zero_rest b = grind arith
 zero_part : (b : ℕ) → 0 / b ≡ 0
 zero_part b = grind arith
 
-no_digits : (b n : ℕ) → digits b n 0 ≡ zeros n
+no_digits : (b n : ℕ) → digits b n 0 ≡ words_of_zero n
 no_digits b zero = refl
 no_digits b (suc n) = ap₂ (λ x xs. x ∷ xs) (zero_rest b) (ap (digits b n) (zero_part b) ∙ no_digits b n)
 
-from_zeros : (b n : ℕ) → from_digits b (zeros n) ≡ 0
+from_zeros : (b n : ℕ) → from_digits b (words_of_zero n) ≡ 0
 from_zeros b zero = refl
 from_zeros b (suc n) = ap (λ x. 0 + b * x) (from_zeros b n) ∙ nothing b
   where
     nothing : (b : ℕ) → 0 + b * 0 ≡ 0
     nothing b = grind arith
 
-unpacked_zeros : (size n w : ℕ) → unpacked size n (zeros w) ≡ zeros n
+unpacked_zeros : (size n w : ℕ) → unpacked size n (words_of_zero w) ≡ words_of_zero n
 unpacked_zeros size n w = ap (digits (2 ^ element_bits size) n) (from_zeros (2 ^ 64) w) ∙ no_digits (2 ^ element_bits size) n
 
-packed_zeros : (size n : ℕ) → packed size (zeros n) ≡ zeros (words_for size n)
+packed_zeros : (size n : ℕ) → packed size (words_of_zero n) ≡ words_of_zero (words_for size n)
 packed_zeros size n =
-    ap (digits (2 ^ 64) (words_for size (length (zeros n)))) (from_zeros (2 ^ element_bits size) n) ∙ no_digits (2 ^ 64) (words_for size (length (zeros n))) ∙ ap (λ k. zeros (words_for size k)) (length-replicate {A = ℕ} n 0)
+    ap (digits (2 ^ 64) (words_for size (length (words_of_zero n)))) (from_zeros (2 ^ element_bits size) n) ∙ no_digits (2 ^ 64) (words_for size (length (words_of_zero n))) ∙ ap (λ k. words_of_zero (words_for size k)) (length-replicate {A = ℕ} n 0)
 
 -- a list of numbers made anew
 pub flat_made : (S R : Segments) (s p size n : ℕ) (a : Target) → p < length (segment S s) → size ≤ 5 → IsMade S R s p a (words_for size n) → kind a.word ≡ 1 → element_size a.word ≡ size → list_count a.word ≡ n →
-    IsReplaced S R s p Null (Flat size (zeros n))
+    IsReplaced S R s p Null (Flat size (words_of_zero n))
 flat_made S R s p size n a place small m is_list is_size is_n =
     let w = words_for size n in
-    let ln : length (zeros n) ≡ n = length-replicate {A = ℕ} n 0 in
-    let lw : words_for size (length (zeros n)) ≡ w = ap (words_for size) ln in
+    let ln : length (words_of_zero n) ≡ n = length-replicate {A = ℕ} n 0 in
+    let lw : words_for size (length (words_of_zero n)) ≡ w = ap (words_for size) ln in
     let zero_here = new_zero S R s p a w m in
     let here : target R s p ≡ a = ap target_in m.leads_there.1 in
-    let covers : cover R s p (Flat size (zeros n)) ≡ pads_of (word_at R s p) ++ object_of a w ∷ [] =
+    let covers : cover R s p (Flat size (words_of_zero n)) ≡ pads_of (word_at R s p) ++ object_of a w ∷ [] =
     ap₂ (λ b k. pads_of (word_at R s p) ++ object_of b k ∷ []) here lw in
-    let same : (v r : ℕ) → times (cover R s p (Flat size (zeros n))) v r ≡ times (pads_of (word_at R s p) ++ object_of a w ∷ []) v r = λ v r. ap (λ js. times js v r) covers in
-    let stand : words_at R a.segment a.start w ≡ zeros w = zeros_stand R a.segment a.start w zero_here m.claims in
-    let content : zeros n ≡ unpacked size (length (zeros n)) (words_at R a.segment a.start (words_for size (length (zeros n)))) =
+    let same : (v r : ℕ) → times (cover R s p (Flat size (words_of_zero n))) v r ≡ times (pads_of (word_at R s p) ++ object_of a w ∷ []) v r = λ v r. ap (λ js. times js v r) covers in
+    let stand : words_at R a.segment a.start w ≡ words_of_zero w = zeros_stand R a.segment a.start w zero_here m.claims in
+    let content : words_of_zero n ≡ unpacked size (length (words_of_zero n)) (words_at R a.segment a.start (words_for size (length (words_of_zero n)))) =
     sym (ap₂ (λ k j. unpacked size k (words_at R a.segment a.start j)) ln lw ∙ ap (unpacked size n) stand ∙ unpacked_zeros size n w) in
-    let c : ℕ = a.pads + words_for size (length (zeros n)) + count_cost size (length (zeros n)) in
-    let means : Means R 1 s p (Flat size (zeros n)) c = (
+    let c : ℕ = a.pads + words_for size (length (words_of_zero n)) + count_cost size (length (words_of_zero n)) in
+    let means : Means R 1 s p (Flat size (words_of_zero n)) c = (
       a,
       omega arith,
       small,
@@ -63,8 +63,8 @@ flat_made S R s p size n a place small m is_list is_size is_n =
       content,
       refl,
     ) in
-    let tidy : IsTidy R s p (Flat size (zeros n)) = ap₂ (λ b k. words_at R b.segment b.start k) here lw ∙ stand ∙ sym (packed_zeros size n) in
-    placed S R s p (Flat size (zeros n)) 1 c m.grows place means tidy (λ v r. omega (arith, same v r, m.once v r)) (λ v r l. m.fresh v r (omega (arith, same v r))) m.kept
+    let tidy : IsTidy R s p (Flat size (words_of_zero n)) = ap₂ (λ b k. words_at R b.segment b.start k) here lw ∙ stand ∙ sym (packed_zeros size n) in
+    placed S R s p (Flat size (words_of_zero n)) 1 c m.grows place means tidy (λ v r. omega (arith, same v r, m.once v r)) (λ v r l. m.fresh v r (omega (arith, same v r))) m.kept
     (λ v r none l. m.zero v r (omega (arith, same v r, times-append (pads_of (word_at R s p)) (object_of a w ∷ []) v r)) l)
 
 -- a list of null pointers made anew
@@ -97,12 +97,12 @@ list_made S R s p size n a place small m is_list is_size is_n =
     elim (cases_eq size 6) [
       | inl e ↦ (
           let six = eq-eqb size 6 e in
-          subst (IsReplaced S R s p Null) (sym (ap (λ b. cond b (Pointers (nulls n)) (Flat size (zeros n))) six))
+          subst (IsReplaced S R s p Null) (sym (ap (λ b. cond b (Pointers (nulls n)) (Flat size (words_of_zero n))) six))
           (pointers_made S R s p n a place (subst (IsMade S R s p a) (ap (λ b. cond b n (words_for size n)) six) m) is_list (is_size ∙ e) is_n)
           )
       | inr other ↦ (
           let flat = ne_eqb size 6 other in
-          subst (IsReplaced S R s p Null) (sym (ap (λ b. cond b (Pointers (nulls n)) (Flat size (zeros n))) flat))
+          subst (IsReplaced S R s p Null) (sym (ap (λ b. cond b (Pointers (nulls n)) (Flat size (words_of_zero n))) flat))
           (flat_made S R s p size n a place (omega arith) (subst (IsMade S R s p a) (ap (λ b. cond b n (words_for size n)) flat) m) is_list is_size is_n)
           )
     ]

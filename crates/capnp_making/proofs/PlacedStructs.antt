@@ -8,9 +8,9 @@ use Rattle.capnp_format.specs.Means.{Leads, Means, MeansElements, IsTag, count_c
 use Rattle.capnp_format.specs.Forest.{times, pads_of, object_of, target, target_in, cover, cover_elements, IsTidy, AreTidyElements}
 use Rattle.capnp_format.proofs.Frame.{Agree, times-append, leads_agree}
 use Rattle.capnp_arena.specs.Written.{with_word}
-use Rattle.capnp_making.specs.Path.{one_word}
+use Rattle.capnp_making.specs.Path.{word_interval}
 use Rattle.capnp_making.specs.Stored.{IsReplaced}
-use Rattle.capnp_making.specs.Made.{IsMade, zeros, zero_elements}
+use Rattle.capnp_making.specs.Made.{IsMade, words_of_zero, zero_elements}
 use Rattle.capnp_format.proofs.Lies.{near_leads}
 use Rattle.capnp_making.proofs.MadeWords.{IsPut, word_put, not_far, outside}
 use Rattle.capnp_making.proofs.Placed.{new_zero, zeros_stand, count-nulls, nulls_mean, nulls_tidy, nulls_cover}
@@ -39,7 +39,7 @@ count-zero_elements d q (suc n) = ap suc (count-zero_elements d q n)
 zero_elements_mean : (R : Segments) (n s p d q k : ℕ) → p + k * (d + q) ≤ length (segment R s) → ((r : ℕ) → p ≤ r → r < p + k * (d + q) → word_at R s r ≡ 0) → MeansElements R n s p d q (zero_elements d q k) 0
 zero_elements_mean R n s p d q zero fits h = refl
 zero_elements_mean R n s p d q (suc k) fits h =
-    let ld : length (zeros d) ≡ d = length-replicate {A = ℕ} d 0 in
+    let ld : length (words_of_zero d) ≡ d = length-replicate {A = ℕ} d 0 in
     let row : (suc k) * (d + q) ≡ d + q + k * (d + q) = omega arith in (
       0,
       0,
@@ -96,7 +96,7 @@ structs_made S M R s p d q n x a place list tag e =
     let parts = λ (v r : ℕ). times-append (pads_of (word_at M s p)) (object_of a (1 + w) ∷ []) v r in
     let first : times (object_of a (1 + w) ∷ []) a.segment a.start ≡ 1 = of_row a.segment a.start (1 + w) a.start (omega arith) (omega arith) in
     let new : length (segment S a.segment) ≤ a.start = (m.fresh a.segment a.start (omega (arith, parts a.segment a.start, first))).0 in
-    let other : (v r : ℕ) → r < length (segment S v) → times (one_word a.segment a.start ∷ []) v r ≡ 0 = λ v r l. outside a.segment a.start v r (λ f g. omega (arith, subst (λ u. r < length (segment S u)) f l)) in
+    let other : (v r : ℕ) → r < length (segment S v) → times (word_interval a.segment a.start ∷ []) v r ≡ 0 = λ v r l. outside a.segment a.start v r (λ f g. omega (arith, subst (λ u. r < length (segment S u)) f l)) in
     let (same, there) = still_leads S M R s p w x a place m put in
     let le : element_count es ≡ n = count-zero_elements d q n in
     let lw : element_count es * (d + q) ≡ w = ap (λ k. k * (d + q)) le in

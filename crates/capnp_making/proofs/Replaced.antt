@@ -7,7 +7,7 @@ use Rattle.capnp_format.specs.Segments.{Segments, segment, word_at}
 use Rattle.capnp_format.specs.Tree.{Tree, Null, Struct, Pointers, Structs}
 use Rattle.capnp_format.specs.Means.{Means}
 use Rattle.capnp_format.specs.Forest.{times, target_in, cover, IsTidy, AreTidy, AreTidyElements, IsForest}
-use Rattle.capnp_making.specs.Path.{Step, Child, Element, tree_at, struct_at, next, update, PathLeads, one_word, extent}
+use Rattle.capnp_making.specs.Path.{Step, Child, Element, tree_at, struct_at, next, update, PathLeads, word_interval, extent}
 use Rattle.capnp_making.specs.Stored.{IsStored, IsReplaced}
 use Rattle.capnp_format.specs.Segments.{Grows}
 use Rattle.capnp_format.proofs.Frame.{Agree, frame}
@@ -145,7 +145,7 @@ forest_updated S R t path u q x y a h b =
 pub cleared : (S R : Segments) (s p : ℕ) (t : Tree) → length R ≡ length S → ((v : ℕ) → length (segment R v) ≡ length (segment S v)) → IsStored S s p t → ((v r : ℕ) → 0 < times (extent S s p t) v r → word_at R v r ≡ 0) →
     ((v r : ℕ) → times (extent S s p t) v r ≡ 0 → word_at R v r ≡ word_at S v r) → IsReplaced S R s p t Null
 cleared S R s p t long longs a gone same =
-    let own = λ (v r : ℕ). times-first (one_word s p) (cover S s p t) v r in
+    let own = λ (v r : ℕ). times-first (word_interval s p) (cover S s p t) v r in
     record {
       segments = le_of_eq (sym long);
       words = λ v. le_of_eq (sym (longs v));
@@ -166,10 +166,10 @@ cleared S R s p t long longs a gone same =
 -- a value written into new words, over Null
 pub placed : (S R : Segments) (s p : ℕ) (u : Tree) (n c : ℕ) → Grows S R → p < length (segment S s) → Means R n s p u c → IsTidy R s p u →
     ((v r : ℕ) → times (cover R s p u) v r ≤ 1) → ((v r : ℕ) → 0 < times (cover R s p u) v r → (length (segment S v) ≤ r) × (r < length (segment R v))) →
-    ((v r : ℕ) → times (one_word s p ∷ []) v r ≡ 0 → r < length (segment S v) → word_at R v r ≡ word_at S v r) → ((v r : ℕ) → times (cover R s p u) v r ≡ 0 → length (segment S v) ≤ r → word_at R v r ≡ 0) → IsReplaced S R s p Null u
+    ((v r : ℕ) → times (word_interval s p ∷ []) v r ≡ 0 → r < length (segment S v) → word_at R v r ≡ word_at S v r) → ((v r : ℕ) → times (cover R s p u) v r ≡ 0 → length (segment S v) ≤ r → word_at R v r ≡ 0) → IsReplaced S R s p Null u
 placed S R s p u n c grows place m y once new same zeros =
-    let own = λ (v r : ℕ). times-first (one_word s p) (cover R s p u) v r in
-    let there = λ (v r : ℕ) (l : 0 < times (one_word s p ∷ []) v r). place_held s p S v r place l in
+    let own = λ (v r : ℕ). times-first (word_interval s p) (cover R s p u) v r in
+    let there = λ (v r : ℕ) (l : 0 < times (word_interval s p ∷ []) v r). place_held s p S v r place l in
     record {
       segments = grows.segments;
       words = grows.words;
@@ -177,7 +177,7 @@ placed S R s p u n c grows place m y once new same zeros =
         means = (n, c, m);
         apart = λ v r. elim (cases_eq (times (cover R s p u) v r) 0) [
           | inl e ↦ omega (arith, own v r, once_at_most s p v r)
-          | inr some ↦ elim (cases_eq (times (one_word s p ∷ []) v r) 0) [
+          | inr some ↦ elim (cases_eq (times (word_interval s p ∷ []) v r) 0) [
             | inl e ↦ omega (arith, own v r, once v r)
             | inr f ↦ absurd (omega (arith, (new v r (omega arith)).0, there v r (omega arith)))
           ]
@@ -199,24 +199,24 @@ placed S R s p u n c grows place m y once new same zeros =
       kept = λ v r none l. same v r (omega arith) l;
     }
   where
-    once_at_most : (s p v r : ℕ) → times (one_word s p ∷ []) v r ≤ 1
+    once_at_most : (s p v r : ℕ) → times (word_interval s p ∷ []) v r ≤ 1
     once_at_most s p v r = grind (arith, nat_tests)
 
-    is_place : (s p v r : ℕ) → 0 < times (one_word s p ∷ []) v r → (v ≡ s) × (r ≡ p)
+    is_place : (s p v r : ℕ) → 0 < times (word_interval s p ∷ []) v r → (v ≡ s) × (r ≡ p)
     is_place s p v r l = (grind (arith, nat_tests), grind (arith, nat_tests))
 
-    place_held : (s p : ℕ) (S : Segments) (v r : ℕ) → p < length (segment S s) → 0 < times (one_word s p ∷ []) v r → r < length (segment S v)
+    place_held : (s p : ℕ) (S : Segments) (v r : ℕ) → p < length (segment S s) → 0 < times (word_interval s p ∷ []) v r → r < length (segment S v)
     place_held s p S v r place l = let e = is_place s p v r l in rw (e.0, e.1) place
 
 -- new words alone, all of them zero
 pub grown : (S R : Segments) (s p : ℕ) (t : Tree) → Grows S R → IsStored S s p t → ((v r : ℕ) → r < length (segment S v) → word_at R v r ≡ word_at S v r) → ((v r : ℕ) → length (segment S v) ≤ r → word_at R v r ≡ 0) → IsReplaced S R s p t t
 grown S R s p t grows a same zeros =
     let m = a.means in
-    let own = λ (v r : ℕ). times-first (one_word s p) (cover S s p t) v r in
+    let own = λ (v r : ℕ). times-first (word_interval s p) (cover S s p t) v r in
     let here : word_at R s p ≡ word_at S s p = same s p (a.inside s p (omega (arith, own s p, once_held s p))) in
     let agree : Agree S R (cover S s p t) = λ v r l. same v r (a.inside v r (omega (arith, own v r))) in
     let f = frame S R m.0 s p t m.1 grows here agree m.2 in
-    let eq = λ (v r : ℕ). ap (λ is. times (one_word s p ∷ is) v r) f.1 in
+    let eq = λ (v r : ℕ). ap (λ is. times (word_interval s p ∷ is) v r) f.1 in
     record {
       segments = grows.segments;
       words = grows.words;

@@ -7,7 +7,7 @@ use Rattle.capnp_arena.specs.Taking.{IsFirstFit, IsFull, GrowsSegment, GainsSegm
 use Rattle.capnp_arena.specs.View.{View, KeepsLimits}
 use Rattle.capnp_arena.specs.Written.{extended}
 use Rattle.capnp_format.specs.Forest.{target}
-use Rattle.capnp_making.specs.Made.{LeadsTo}
+use Rattle.capnp_making.specs.Made.{LeadsToStart}
 use Rattle.capnp_making.specs.Makes.{call_at}
 use Rattle.capnp_making.specs.Memory.{Lengthens, IsNextRoom, TakesWords, StandsBehind, start_of}
 use Rattle.capnp_making.specs.Near.{HasOwnRoom, StartsBehind, LeadsToEnd}
@@ -138,11 +138,11 @@ pub starts_after : (S M : Segments) (id : ℕ) (h : Start) → IsPruned S M → 
 starts_after S M id h pruned x = (x.0, x.1 ∙ pruned.words id)
 
 -- what starts at h starts where the pointer to it leads
-start_led : (S : Segments) (s p : ℕ) (h : Start) → LeadsTo S s p h → h ≡ start_of (target S s p)
+start_led : (S : Segments) (s p : ℕ) (h : Start) → LeadsToStart S s p h → h ≡ start_of (target S s p)
 start_led S s p h lead = ap₂ (λ (u b : ℕ). let x : Start = record { segment = u; at = b } in x) lead.0 lead.1
 
-pub leads_behind : (old new : View) (id at n : ℕ) (h : Start) → LeadsTo new.words id at h → StandsBehind old id n h → StandsBehind old id n (start_of (target new.words id at))
+pub leads_behind : (old new : View) (id at n : ℕ) (h : Start) → LeadsToStart new.words id at h → StandsBehind old id n h → StandsBehind old id n (start_of (target new.words id at))
 leads_behind old new id at n h lead x = subst (StandsBehind old id n) (start_led new.words id at h lead) x
 
-pub leads_to_end : (old new : View) (id at n : ℕ) (h : Start) → LeadsTo new.words id at h → (HasOwnRoom old id n → StartsBehind old.words id h) → LeadsToEnd (call_at id at old new) n
+pub leads_to_end : (old new : View) (id at n : ℕ) (h : Start) → LeadsToStart new.words id at h → (HasOwnRoom old id n → StartsBehind old.words id h) → LeadsToEnd (call_at id at old new) n
 leads_to_end old new id at n h lead x = λ fits. subst (StartsBehind old.words id) (start_led new.words id at h lead) (x fits)

@@ -9,7 +9,7 @@ use Rattle.capnp_format.specs.Tree.{Tree, Struct, Flat, Structs, Trees, Elements
 use Rattle.capnp_format.specs.Word.{list_count}
 use Rattle.capnp_format.specs.Means.{Leads, IsTag, count_cost, Means, MeansAll, MeansElements}
 use Rattle.capnp_format.specs.Forest.{Interval, times, pads_of, object_of, target, target_in, cover, cover_all, cover_elements, IsTidy, AreTidy, AreTidyElements}
-use Rattle.capnp_making.specs.Path.{struct_at, put_struct, with_words, one_word, extent}
+use Rattle.capnp_making.specs.Path.{struct_at, put_struct, with_data, word_interval, extent}
 use Rattle.capnp_making.specs.Stored.{IsStored, IsReplaced}
 use Rattle.capnp_format.specs.Segments.{Grows}
 use Rattle.capnp_format.proofs.Frame.{Agree, SameWords, agree_left, agree_right, leads_agree, list_kept, has_words_kept, frame_all, frame_elements, same_cover}
@@ -33,7 +33,7 @@ SameBut S R i = (v r : ℕ) → times (i ∷ []) v r ≡ 0 → word_at R v r ≡
 pub same_extent : (S R : Segments) (s p : ℕ) (t u : Tree) (n c : ℕ) → SameLengths S R → IsStored S s p t → ((v r : ℕ) → times (extent S s p t) v r ≡ 0 → word_at R v r ≡ word_at S v r) →
     Means R n s p u c → cover R s p u ≡ cover S s p t → IsTidy R s p u → IsReplaced S R s p t u
 same_extent S R s p t u n c long a same m e y =
-    let eq = λ (v r : ℕ). ap (λ is. times (one_word s p ∷ is) v r) e in
+    let eq = λ (v r : ℕ). ap (λ is. times (word_interval s p ∷ is) v r) e in
     record {
       segments = le_of_eq (sym long.segments);
       words = λ v. le_of_eq (sym (long.words v));
@@ -64,9 +64,9 @@ record Stays (S R : Segments) (s p : ℕ) (a : Target) (rest : List Interval) : 
   rest_agrees : Agree S R rest
 
 stays : (S R : Segments) (s p n : ℕ) (a : Target) (i : Interval) (more : Target → List Interval) → Grows S R → Leads S s p a → ((v r : ℕ) → times (i ∷ []) v r ≤ times (object_of a n ∷ []) v r) → SameBut S R i →
-    ((v r : ℕ) → times (one_word s p ∷ pads_of (word_at S s p) ++ object_of (target S s p) n ∷ more (target S s p)) v r ≤ 1) → Stays S R s p a (more a)
+    ((v r : ℕ) → times (word_interval s p ∷ pads_of (word_at S s p) ++ object_of (target S s p) n ∷ more (target S s p)) v r ≤ 1) → Stays S R s p a (more a)
 stays S R s p n a i more grows l part h apart =
-    let whole = λ (v r : ℕ). times-first (one_word s p) (pads_of (word_at S s p) ++ object_of (target S s p) n ∷ more (target S s p)) v r in
+    let whole = λ (v r : ℕ). times-first (word_interval s p) (pads_of (word_at S s p) ++ object_of (target S s p) n ∷ more (target S s p)) v r in
     let at = λ (v r : ℕ). times-object S s p n a more v r l.1 in
     let same : word_at R s p ≡ word_at S s p = h s p (omega (arith, whole s p, at s p, apart s p, part s p, once_held s p)) in
     record {
@@ -96,7 +96,7 @@ data_written S R s p ws vs ts long a len but here =
         same_extent S R s p (Struct ws ts) (Struct vs ts) n c long x
         (λ v r none. but_a v r (omega (
           arith,
-          times-first (one_word s p) (cover S s p (Struct ws ts)) v r,
+          times-first (word_interval s p) (cover S s p (Struct ws ts)) v r,
           times-object S s p (length ws + count ts) a (λ b. cover_all S b.segment (b.start + length ws) ts) v r o.leads_to.1,
           shorter_object a (length ws) (length ws + count ts) v r (omega arith),
         ))) (
@@ -134,7 +134,7 @@ flat_written S R s p size ns ms long a len small but here =
         let same_words : words_for size (length ms) ≡ k = ap (words_for size) len in
         let packed_here : words_at R a.segment a.start (words_for size (length ms)) ≡ packed size ms = ap (words_at R a.segment a.start) same_words ∙ here_a in
         same_extent S R s p (Flat size ns) (Flat size ms) n (a.pads + words_for size (length ms) + count_cost size (length ms)) long x
-        (λ v r none. but_a v r (omega (arith, times-first (one_word s p) (cover S s p (Flat size ns)) v r, times-object S s p k a (λ _. []) v r o.leads_to.1))) (
+        (λ v r none. but_a v r (omega (arith, times-first (word_interval s p) (cover S s p (Flat size ns)) v r, times-object S s p k a (λ _. []) v r o.leads_to.1))) (
           a,
           some,
           le,
@@ -163,10 +163,10 @@ flat_target S R s p size ns long x but =
 -- the data words of one element
 record ElementWritten (S R : Segments) (n s p d q : ℕ) (es : Elements) (i : ℕ) (vs : List ℕ) : Type 0 where
   cost : ℕ
-  means : MeansElements R n s p d q (put_struct es i (with_words (struct_at es i) vs)) cost
-  covers : cover_elements R s p d q (put_struct es i (with_words (struct_at es i) vs)) ≡ cover_elements S s p d q es
-  counts : element_count (put_struct es i (with_words (struct_at es i) vs)) ≡ element_count es
-  tidy : AreTidyElements S s p d q es → AreTidyElements R s p d q (put_struct es i (with_words (struct_at es i) vs))
+  means : MeansElements R n s p d q (put_struct es i (with_data (struct_at es i) vs)) cost
+  covers : cover_elements R s p d q (put_struct es i (with_data (struct_at es i) vs)) ≡ cover_elements S s p d q es
+  counts : element_count (put_struct es i (with_data (struct_at es i) vs)) ≡ element_count es
+  tidy : AreTidyElements S s p d q es → AreTidyElements R s p d q (put_struct es i (with_data (struct_at es i) vs))
 
 element_written : (S R : Segments) (n s p d q : ℕ) (es : Elements) (c i : ℕ) (vs : List ℕ) → Grows S R → i < element_count es → length vs ≡ d → p + element_count es * (d + q) ≤ length (segment S s) → HasWords R s (p + i * (d + q)) vs →
     ((r : ℕ) → p ≤ r → r < p + element_count es * (d + q) → (r < p + i * (d + q)) ⊎ (p + i * (d + q) + d ≤ r) → word_at R s r ≡ word_at S s r) → Agree S R (cover_elements S s p d q es) → MeansElements S n s p d q es c →
@@ -220,18 +220,18 @@ row_fits : (i n d q : ℕ) → i < n → i * (d + q) + d ≤ n * (d + q)
 row_fits i n d q l = grind arith
 
 pub element_data_written : (S R : Segments) (s p d q : ℕ) (es : Elements) (i : ℕ) (vs : List ℕ) → SameLengths S R → IsStored S s p (Structs d q es) → i < element_count es → length vs ≡ d → SameBut S R (element_words (target S s p) d q i) →
-    HasWords R (target S s p).segment ((target S s p).start + 1 + i * (d + q)) vs → IsReplaced S R s p (Structs d q es) (Structs d q (put_struct es i (with_words (struct_at es i) vs)))
+    HasWords R (target S s p).segment ((target S s p).start + 1 + i * (d + q)) vs → IsReplaced S R s p (Structs d q es) (Structs d q (put_struct es i (with_data (struct_at es i) vs)))
 element_data_written S R s p d q es i vs long a l len but here =
     let m = a.means in
     element_data_written_at S R s p d q es i vs m.0 m.1 long a l len but here m.2
   where
     element_data_written_at : (S R : Segments) (s p d q : ℕ) (es : Elements) (i : ℕ) (vs : List ℕ) (n c : ℕ) → SameLengths S R → IsStored S s p (Structs d q es) → i < element_count es → length vs ≡ d → SameBut S R (element_words (target S s p) d q i) →
-        HasWords R (target S s p).segment ((target S s p).start + 1 + i * (d + q)) vs → Means S n s p (Structs d q es) c → IsReplaced S R s p (Structs d q es) (Structs d q (put_struct es i (with_words (struct_at es i) vs)))
+        HasWords R (target S s p).segment ((target S s p).start + 1 + i * (d + q)) vs → Means S n s p (Structs d q es) c → IsReplaced S R s p (Structs d q es) (Structs d q (put_struct es i (with_data (struct_at es i) vs)))
     element_data_written_at S R s p d q es i vs n c long x l len but here (a, m, k, some, o, claim, tag, fits, all, g) =
         let grows = same_grows S R long in
         let to_a = ap target_in o.leads_to.1 in
         let width = element_count es * (d + q) in
-        let written = put_struct es i (with_words (struct_at es i) vs) in
+        let written = put_struct es i (with_data (struct_at es i) vs) in
         let but_a = subst (λ b. SameBut S R (element_words b d q i)) to_a but in
         let here_a = subst (λ b. HasWords R b.segment (b.start + 1 + i * (d + q)) vs) to_a here in
         let part = λ (v r : ℕ). words_in_row a d q i (element_count es) v r (row_fits i (element_count es) d q l) in
@@ -241,7 +241,7 @@ element_data_written S R s p d q es i vs long a l len but here =
         same_extent S R s p (Structs d q es) (Structs d q written) n (a.pads + (m + 1) + count_cost (d + q) (element_count written) + done.cost) long x
         (λ v r none. but_a v r (omega (
           arith,
-          times-first (one_word s p) (cover S s p (Structs d q es)) v r,
+          times-first (word_interval s p) (cover S s p (Structs d q es)) v r,
           times-object S s p (1 + width) a (λ b. cover_elements S b.segment (b.start + 1) d q es) v r o.leads_to.1,
           part v r,
         ))) (

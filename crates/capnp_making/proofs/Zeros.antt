@@ -9,7 +9,7 @@ use Rattle.capnp_arena.specs.Written.{with_segment, overwritten, with_words, wit
 pub use Rattle.capnp_arena.proofs.WordsOver.{segment_here, segment_other, word_here, word_other, lengths_kept, length-over, over_within, over_beside}
 pub use Rattle.capnp_format.proofs.Frame.{in_row, of_row}
 pub use Rattle.capnp_format.proofs.Slices.{there}
-use Rattle.capnp_making.specs.Path.{one_word}
+use Rattle.capnp_making.specs.Path.{word_interval}
 use Rattle.capnp_making.specs.Zeroed.{row, IsZeroed, nonzero_words, nonzeros, IsPruned}
 
 -- a segment that is written has no more words that are not zero, if these have no more
@@ -42,7 +42,7 @@ over_zero xs zero n = over_front xs n
 over_zero [] (suc p) n = over_front [] n
 over_zero (x ∷ xs) (suc p) n = omega (arith, over_zero xs p n)
 
-pub here_once : (s p : ℕ) → 0 < times (one_word s p ∷ []) s p
+pub here_once : (s p : ℕ) → 0 < times (word_interval s p ∷ []) s p
 here_once s p = omega (arith, of_row s p 1 p (omega arith) (omega arith))
 
 -- each word is as it was, or zero
@@ -89,21 +89,21 @@ words_zeroed S R s p n some l e =
     ]
 
 -- one word becomes zero
-pub word_zeroed : (S R : Segments) (s p : ℕ) → p < length (segment S s) → R ≡ with_word S s p 0 → IsZeroed S R (one_word s p ∷ []) × IsPruned S R × (word_at S s p ≢ 0 → suc (nonzeros R) ≡ nonzeros S)
+pub word_zeroed : (S R : Segments) (s p : ℕ) → p < length (segment S s) → R ≡ with_word S s p 0 → IsZeroed S R (word_interval s p ∷ []) × IsPruned S R × (word_at S s p ≢ 0 → suc (nonzeros R) ≡ nonzeros S)
 word_zeroed S R s p l e =
     let W = segment S s in
     let here : s < length S = there S s p l in
     let made : List ℕ = set W p 0 in
     let long : length made ≡ length W = length-set W p 0 in
     let same : (v : ℕ) → length (segment (with_word S s p 0) v) ≡ length (segment S v) = lengths_kept S s made long in
-    subst (λ T. IsZeroed S T (one_word s p ∷ []) × IsPruned S T × (word_at S s p ≢ 0 → suc (nonzeros T) ≡ nonzeros S)) (sym e) (
-    let z : IsZeroed S (with_word S s p 0) (one_word s p ∷ []) = record {
+    subst (λ T. IsZeroed S T (word_interval s p ∷ []) × IsPruned S T × (word_at S s p ≢ 0 → suc (nonzeros T) ≡ nonzeros S)) (sym e) (
+    let z : IsZeroed S (with_word S s p 0) (word_interval s p ∷ []) = record {
       segments = length-set S s made;
       words = same;
       zero = λ v r h. let i = in_row s p 1 v r h in
           ap (λ u. word_at (with_word S s p 0) u r) i.0 ∙ word_here S s r made here ∙ ap (λ q. get_or made q 0) (let f : r ≡ p = omega (arith, i.1, i.2) in f) ∙ get_or-set_same W p 0 0 l;
       kept = λ v r h. elim (cases_eq v s) [
-        | inl f ↦ ap (λ u. word_at (with_word S s p 0) u r) f ∙ word_here S s r made here ∙ get_or-set_other W p r 0 0 (λ g. omega (arith, of_row s p 1 r (omega arith) (omega arith), ap (λ u. times (one_word s p ∷ []) u r) f)) ∙ ap (λ u. word_at S u r) (sym f)
+        | inl f ↦ ap (λ u. word_at (with_word S s p 0) u r) f ∙ word_here S s r made here ∙ get_or-set_other W p r 0 0 (λ g. omega (arith, of_row s p 1 r (omega arith) (omega arith), ap (λ u. times (word_interval s p ∷ []) u r) f)) ∙ ap (λ u. word_at S u r) (sym f)
         | inr f ↦ word_other S s v r made f
       ];
     } in (

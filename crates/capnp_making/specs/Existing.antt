@@ -115,8 +115,8 @@ struct_in a (Struct ws ts) = Some (record { segment = a.segment; start = a.start
 struct_in a t = None
 
 -- The sections of a struct lie in their segment.
-abbrev pub LiesIn : Segments → ExistingStruct → Type 0
-LiesIn S e = e.start + e.size.data_words + e.size.pointers ≤ length (segment S e.segment)
+abbrev pub StructLiesIn : Segments → ExistingStruct → Type 0
+StructLiesIn S e = e.start + e.size.data_words + e.size.pointers ≤ length (segment S e.segment)
 
 -- So many bytes from where a pointer leads.
 abbrev pub bytes_at : Target → ℕ → ExistingBytes
@@ -136,8 +136,8 @@ abbrev pub AreInside : Segments → ExistingBytes → Type 0
 AreInside S b = b.start + words_for 2 b.length ≤ length (segment S b.segment)
 
 -- The words that hold bytes lie in their segment, which is there.
-abbrev pub LieIn : Segments → ExistingBytes → Type 0
-LieIn S b = (b.segment < length S) × AreInside S b
+abbrev pub BytesLieIn : Segments → ExistingBytes → Type 0
+BytesLieIn S b = (b.segment < length S) × AreInside S b
 
 -- n bytes from a word on.
 abbrev pub bytes_in : List ℕ → ℕ → ℕ → List ℕ
@@ -149,14 +149,14 @@ ends_in_zero [] = false
 ends_in_zero (n ∷ ns) = nat_eq (get_or (n ∷ ns) (length ns) 0) 0
 
 -- The text that bytes are, without the last one.
-abbrev pub text_of : Target → List ℕ → Result (Option ExistingBytes) ErrorKind
-text_of a ns = cond (ends_in_zero ns) (Ok (Some (bytes_at a (length ns - 1)))) (Err TextBlobMissingNULTerminator)
+abbrev pub text_found : Target → List ℕ → Result (Option ExistingBytes) ErrorKind
+text_found a ns = cond (ends_in_zero ns) (Ok (Some (bytes_at a (length ns - 1)))) (Err TextBlobMissingNULTerminator)
 
 -- The text that a value is.
 abbrev pub text_in : Target → Tree → Result (Option ExistingBytes) ErrorKind
 text_in a Null = Ok None
 text_in a (Capability i) = Err ExistingPointerIsNotAList
 text_in a (Struct ws ts) = Err ExistingPointerIsNotAList
-text_in a (Flat size ns) = cond (nat_eq size 2) (text_of a ns) (Err ExistingListPointerIsNotByteSized)
+text_in a (Flat size ns) = cond (nat_eq size 2) (text_found a ns) (Err ExistingListPointerIsNotByteSized)
 text_in a (Pointers ts) = Err ExistingListPointerIsNotByteSized
 text_in a (Structs d q es) = Err ExistingListPointerIsNotByteSized

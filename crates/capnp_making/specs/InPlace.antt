@@ -9,8 +9,8 @@ use Rattle.capnp_making.specs.Stored.{IsStored, IsReplaced}
 use Rattle.capnp_making.specs.declared.existing.ExistingBytes.{ExistingBytes}
 
 -- The bytes at a place of the segments.
-abbrev pub bytes_of : List (List ℕ) → ExistingBytes → List ℕ
-bytes_of B b = take b.length (drop (8 * b.start) (slice_index_or B b.segment []))
+abbrev pub bytes_there : List (List ℕ) → ExistingBytes → List ℕ
+bytes_there B b = take b.length (drop (8 * b.start) (slice_index_or B b.segment []))
 
 -- The bytes of their segment, where these are others.
 abbrev pub segment_with : List (List ℕ) → ExistingBytes → List ℕ → List ℕ

@@ -1,5 +1,5 @@
 -- Objects made anew, all zero.
-use Rattle.std.specs.Prelude.{◌≡◌, ℕ, zero, suc, ◌+◌, ◌<◌, ◌≤◌, ◌^◌, List, [], ◌∷◌, ◌++◌, length, replicate, cond, nat_eq}
+use Rattle.std.specs.Prelude.{◌≡◌, ℕ, zero, suc, ◌+◌, ◌*◌, ◌<◌, ◌≤◌, ◌^◌, List, [], ◌∷◌, ◌++◌, length, replicate, cond, nat_eq}
 use Rattle.capnp_format.specs.Word.{kind, data_words, pointer_count, element_size, list_count}
 use Rattle.capnp_words.specs.Sizes.{size_number}
 use Rattle.capnp_words.specs.declared.wire_pointer.StructSize.{StructSize}
@@ -8,7 +8,7 @@ use Rattle.capnp_format.specs.Numbers.{words_for}
 use Rattle.capnp_format.specs.Tree.{Tree, Null, Struct, Flat, Pointers, Structs, Trees, no_trees, tree, Elements, no_elements, element}
 use Rattle.capnp_format.specs.Means.{Leads}
 use Rattle.capnp_format.specs.Forest.{times, pads_of, object_of, target}
-use Rattle.capnp_making.specs.Path.{one_word}
+use Rattle.capnp_making.specs.Path.{word_interval}
 use Rattle.capnp_making.specs.declared.making.Shape.{Shape}
 use Rattle.capnp_making.specs.declared.making.Start.{Start}
 use Rattle.capnp_making.specs.declared.making.Shape.TheVariants.{Struct as StructShape, List as ListShape}
@@ -19,9 +19,9 @@ IsShape (StructShape size) x = (kind x ≡ 0) × (data_words x ≡ size.data_wor
 IsShape (ListShape size n) x = (kind x ≡ 1) × (element_size x ≡ size_number size) × (list_count x ≡ n)
 
 -- A list's count fits its bits.
-abbrev pub IsFew : Shape → Type 0
-IsFew (StructShape size) = Unit {0}
-IsFew (ListShape size n) = n < 2 ^ 29
+abbrev pub CountFits : Shape → Type 0
+CountFits (StructShape size) = Unit {0}
+CountFits (ListShape size n) = n < 2 ^ 29
 
 -- A struct has a word.
 abbrev pub AsksWords : Shape → Type 0
@@ -29,8 +29,8 @@ AsksWords (StructShape size) = 0 < size.data_words + size.pointers
 AsksWords (ListShape size n) = Unit {0}
 
 -- Words of zero, null pointers, and structs of these.
-abbrev pub zeros : ℕ → List ℕ
-zeros n = replicate n 0
+abbrev pub words_of_zero : ℕ → List ℕ
+words_of_zero n = replicate n 0
 
 abbrev pub nulls : ℕ → Trees
 nulls zero = no_trees
@@ -38,22 +38,26 @@ nulls (suc n) = tree Null (nulls n)
 
 abbrev pub zero_elements : ℕ → ℕ → ℕ → Elements
 zero_elements d q zero = no_elements
-zero_elements d q (suc n) = element (zeros d) (nulls q) (zero_elements d q n)
+zero_elements d q (suc n) = element (words_of_zero d) (nulls q) (zero_elements d q n)
 
 -- A struct, and a list of n structs, all zero.
 abbrev pub zero_struct : StructSize → Tree
-zero_struct size = Struct (zeros size.data_words) (nulls size.pointers)
+zero_struct size = Struct (words_of_zero size.data_words) (nulls size.pointers)
 
 abbrev pub zero_structs : ℕ → StructSize → Tree
 zero_structs n size = Structs size.data_words size.pointers (zero_elements size.data_words size.pointers n)
 
 -- A list of n elements that are no structs, all zero or null, by the number of its element size.
 abbrev pub zero_list : ℕ → ℕ → Tree
-zero_list size n = cond (nat_eq size 6) (Pointers (nulls n)) (Flat size (zeros n))
+zero_list size n = cond (nat_eq size 6) (Pointers (nulls n)) (Flat size (words_of_zero n))
 
 -- How many words n elements of a size take that are no structs.
 abbrev pub list_words : ℕ → ℕ → ℕ
 list_words size n = cond (nat_eq size 6) n (words_for size n)
+
+-- The words of a list of n structs of a size, its tag included.
+abbrev pub structs_words : ℕ → StructSize → ℕ
+structs_words n size = 1 + n * (size.data_words + size.pointers)
 
 -- From S to R there are n words more from position p of segment s on, behind what was there, and all new words are zero.
 pub record IsGrown (S R : Segments) (s p n : ℕ) : Type 0 where
@@ -72,7 +76,7 @@ pub record IsMade (S R : Segments) (s p : ℕ) (a : Target) (n : ℕ) : Type 0 w
   pub claims : a.start + n ≤ length (segment R a.segment)
   pub once : (v r : ℕ) → times (pads_of (word_at R s p) ++ object_of a n ∷ []) v r ≤ 1
   pub fresh : (v r : ℕ) → 0 < times (pads_of (word_at R s p) ++ object_of a n ∷ []) v r → (length (segment S v) ≤ r) × (r < length (segment R v))
-  pub kept : (v r : ℕ) → times (one_word s p ∷ []) v r ≡ 0 → r < length (segment S v) → word_at R v r ≡ word_at S v r
+  pub kept : (v r : ℕ) → times (word_interval s p ∷ []) v r ≡ 0 → r < length (segment S v) → word_at R v r ≡ word_at S v r
   pub zero : (v r : ℕ) → times (pads_of (word_at R s p)) v r ≡ 0 → length (segment S v) ≤ r → word_at R v r ≡ 0
 
 -- From S to R the pointer at a place is written, and leads to a new object of n words of a shape, which starts at h.
@@ -80,9 +84,9 @@ abbrev pub IsMadeAt : Segments → Segments → ℕ → ℕ → Shape → ℕ �
 IsMadeAt S R s p shape n h = (a : Target) × IsMade S R s p a n × IsShape shape a.word × (h.segment ≡ a.segment) × (h.at ≡ a.start)
 
 -- The pointer at a place leads to what starts at h.
-abbrev pub LeadsTo : Segments → ℕ → ℕ → Start → Type 0
-LeadsTo S s p h = (h.segment ≡ (target S s p).segment) × (h.at ≡ (target S s p).start)
+abbrev pub LeadsToStart : Segments → ℕ → ℕ → Start → Type 0
+LeadsToStart S s p h = (h.segment ≡ (target S s p).segment) × (h.at ≡ (target S s p).start)
 
 -- n words from h on lie in a segment that is there.
-abbrev pub LieFrom : Segments → ℕ → Start → Type 0
-LieFrom S n h = (h.segment < length S) × (h.at + n ≤ length (segment S h.segment))
+abbrev pub WordsLieFrom : Segments → ℕ → Start → Type 0
+WordsLieFrom S n h = (h.segment < length S) × (h.at + n ≤ length (segment S h.segment))

@@ -4,7 +4,7 @@ use Rattle.capnp_words.specs.declared.error.ErrorKind.{ErrorKind}
 use Rattle.capnp_format.specs.Forest.{target}
 use Rattle.capnp_format.specs.Tree.{Tree, Null}
 use Rattle.capnp_arena.specs.View.{View}
-use Rattle.capnp_making.specs.Made.{LeadsTo, LieFrom}
+use Rattle.capnp_making.specs.Made.{LeadsToStart, WordsLieFrom}
 use Rattle.capnp_making.specs.Memory.{HasRoom, KeepsMemory, TakesWords, StandsBehind, start_of, IsRefusedFor, CanRefuse, LeavesNull}
 use Rattle.capnp_making.specs.Stored.{Puts, ZeroesOld}
 use Rattle.capnp_making.specs.Zeroed.{IsPruned}
@@ -40,8 +40,8 @@ pub record MakesObject {A : Type 0} (result : Result A ErrorKind) (c : CallAt) (
 
 -- The object of n words that a call made starts at h: its pointer leads there, its words are there, and they stand behind all that were there.
 pub record ObjectStartsAt (c : CallAt) (n : ℕ) (h : Start) : Type 0 where
-  pub leads : LeadsTo c.new.words c.segment c.at h
-  pub inside : LieFrom c.new.words n h
+  pub leads : LeadsToStart c.new.words c.segment c.at h
+  pub inside : WordsLieFrom c.new.words n h
   pub behind : StandsBehind c.old c.segment n h
 
 -- What can be known of a call that makes an object of n words at a place, and keeps no message, whatever comes of it: it is never refused where there is

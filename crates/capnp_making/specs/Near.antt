@@ -8,7 +8,7 @@ use Rattle.capnp_arena.specs.View.{View}
 use Rattle.capnp_arena.specs.Written.{with_word, extended}
 use Rattle.capnp_words.specs.Sizes.{size_number}
 use Rattle.capnp_words.specs.declared.wire_pointer.StructSize.{StructSize}
-use Rattle.capnp_making.specs.Made.{zeros, list_words}
+use Rattle.capnp_making.specs.Made.{words_of_zero, list_words}
 use Rattle.capnp_making.specs.Makes.{CallAt}
 use Rattle.capnp_making.specs.Memory.{start_of}
 use Rattle.capnp_making.specs.declared.making.Shape.{Shape}
@@ -48,15 +48,15 @@ shape_word (StructShape size) offset = struct_word offset size.data_words size.p
 shape_word (ListShape size n) offset = list_word offset (size_number size) n
 
 abbrev pub with_shape : Segments → ℕ → ℕ → Shape → ℕ → Segments
-with_shape S id p shape n = with_object S id p (shape_word shape (offset_behind S id p)) (zeros n)
+with_shape S id p shape n = with_object S id p (shape_word shape (offset_behind S id p)) (words_of_zero n)
 
 -- a struct, a list of n elements that are no structs, and a list of n structs, all zero, each with its pointer
 abbrev pub with_struct : Segments → ℕ → ℕ → StructSize → Segments
-with_struct S id p size = with_object S id p (struct_word (offset_behind S id p) size.data_words size.pointers) (zeros (size.data_words + size.pointers))
+with_struct S id p size = with_object S id p (struct_word (offset_behind S id p) size.data_words size.pointers) (words_of_zero (size.data_words + size.pointers))
 
 abbrev pub with_list : Segments → ℕ → ℕ → ℕ → ℕ → Segments
-with_list S id p size n = with_object S id p (list_word (offset_behind S id p) size n) (zeros (list_words size n))
+with_list S id p size n = with_object S id p (list_word (offset_behind S id p) size n) (words_of_zero (list_words size n))
 
 abbrev pub with_struct_list : Segments → ℕ → ℕ → ℕ → StructSize → Segments
 with_struct_list S id p n size =
-    with_object S id p (list_word (offset_behind S id p) 7 (n * (size.data_words + size.pointers))) (struct_word n size.data_words size.pointers ∷ zeros (n * (size.data_words + size.pointers)))
+    with_object S id p (list_word (offset_behind S id p) 7 (n * (size.data_words + size.pointers))) (struct_word n size.data_words size.pointers ∷ words_of_zero (n * (size.data_words + size.pointers)))

@@ -32,9 +32,9 @@ put_struct (element ws ts es) (suc i) u = element ws ts (put_struct es i u)
 put_struct es i u = es
 
 -- a struct with other data words
-abbrev pub with_words : Tree → List ℕ → Tree
-with_words (Struct ws ts) vs = Struct vs ts
-with_words t vs = t
+abbrev pub with_data : Tree → List ℕ → Tree
+with_data (Struct ws ts) vs = Struct vs ts
+with_data t vs = t
 
 abbrev pub next : Tree → Step → Tree
 next (Struct ws ts) (Child i) = tree_at ts i
@@ -66,9 +66,9 @@ PathLeads S s p (Structs d k es) (Element i ∷ Child j ∷ path) u q x =
 PathLeads S s p t path u q x = ⊥
 
 -- the word at a place
-abbrev pub one_word : ℕ → ℕ → Interval
-one_word s p = record { segment = s; start = p; words = 1 }
+abbrev pub word_interval : ℕ → ℕ → Interval
+word_interval s p = record { segment = s; start = p; words = 1 }
 
 -- the word at a place that means a value, and what is reached from there
 abbrev pub extent : Segments → ℕ → ℕ → Tree → List Interval
-extent S s p t = one_word s p ∷ cover S s p t
+extent S s p t = word_interval s p ∷ cover S s p t

@@ -8,7 +8,7 @@ use Rattle.capnp_format.specs.Means.{Means, MeansAll, MeansElements, Claims, IsT
 pub use Rattle.capnp_format.specs.Forest.{row, PadsInside, object_cover}
 use Rattle.capnp_format.specs.Forest.{Interval, times, cover_all, cover_elements}
 use Rattle.capnp_words.specs.declared.wire_pointer.StructSize.{StructSize}
-use Rattle.capnp_making.specs.Path.{one_word, extent}
+use Rattle.capnp_making.specs.Path.{word_interval, extent}
 
 -- From S to R the words in these intervals become zero; all others stay.
 pub record IsZeroed (S R : Segments) (is : List Interval) : Type 0 where
@@ -38,7 +38,7 @@ pub record IsPrunedBut (S R : Segments) (s p x : ℕ) : Type 0 where
   pub segments : length R ≡ length S
   pub words : (v : ℕ) → length (segment R v) ≡ length (segment S v)
   pub here : word_at R s p ≡ x
-  pub only : (v r : ℕ) → times (one_word s p ∷ []) v r ≡ 0 → (word_at R v r ≡ word_at S v r) ⊎ (word_at R v r ≡ 0)
+  pub only : (v r : ℕ) → times (word_interval s p ∷ []) v r ≡ 0 → (word_at R v r ≡ word_at S v r) ⊎ (word_at R v r ≡ 0)
 
 -- A place means a value, which holds no word twice.
 pub record IsApart (S : Segments) (s p : ℕ) (t : Tree) : Type 0 where

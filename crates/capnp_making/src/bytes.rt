@@ -6,7 +6,7 @@ ghost use Rattle.capnp_format.specs.Numbers.{words_for};
 ghost use Rattle.capnp_format.specs.Segments.{segment, IsPlace};
 ghost use Rattle.capnp_format.specs.Tree.{Flat};
 ghost use Rattle.capnp_arena.specs.View.{KeepsLimits};
-ghost use Rattle.capnp_making.specs.Made.{zeros};
+ghost use Rattle.capnp_making.specs.Made.{words_of_zero};
 ghost use Rattle.capnp_making.specs.Makes.{MakesObject, call_at};
 ghost use Rattle.capnp_making.specs.Near.{LeadsToEnd};
 ghost use Rattle.capnp_making.specs.Overwritten.{HoldsBytes, bytes_over};
@@ -77,9 +77,10 @@ fn set_bytes<A: BuilderArena>(
     requires enough { length from.now ≤ count }
     requires few { count < 2 ^ 29 }
     ensures object { MakesObject result (call_at id at (A.view arena.old) (A.view arena.new))
-        (Flat 2 (from.now ++ zeros (count - length from.now))) (words_for 2 count) }
+        (Flat 2 (from.now ++ words_of_zero (count - length from.now))) (words_for 2 count) }
     ensures once_zeroed { OnOk result (PutsOnceZeroed (A.view arena.old).words
-        (A.view arena.new).words id at (Flat 2 (from.now ++ zeros (count - length from.now)))) }
+        (A.view arena.new).words id at
+        (Flat 2 (from.now ++ words_of_zero (count - length from.now)))) }
     ensures at_end { OnOk result (LeadsToEnd (call_at id at (A.view arena.old) (A.view arena.new))
         (words_for 2 count)) }
 {

@@ -10,7 +10,7 @@ ghost use Rattle.capnp_format.specs.Word.{list_count};
 ghost use Rattle.capnp_words.specs.Sizes.{size_number};
 ghost use Rattle.capnp_making.specs.Landings.{target_of};
 ghost use Rattle.capnp_making.specs.Stored.{IsStored};
-ghost use Rattle.capnp_making.specs.Existing.{LieIn, capability_of, capability_in, listed, landing_in, is_unfound, plain_misfit, structs_misfit, unless, plain_list, tagged_list, list_in, data_in, text_in, struct_in, AreInside, LiesIn, bytes_in, ends_in_zero};
+ghost use Rattle.capnp_making.specs.Existing.{BytesLieIn, capability_of, capability_in, listed, landing_in, is_unfound, plain_misfit, structs_misfit, unless, plain_list, tagged_list, list_in, data_in, text_in, struct_in, AreInside, StructLiesIn, bytes_in, ends_in_zero};
 
 use crate::landing::{Landing, landing_of, length_of, word_of};
 use capnp_arena::arena::BuilderArena;
@@ -86,7 +86,7 @@ pub fn get_capability<A: BuilderArena>(arena: &A, id: u32, at: u32) -> Result<u3
 pub fn get_struct<A: BuilderArena>(arena: &A, id: u32, at: u32) -> Option<ExistingStruct>
     ensures found { (t : Tree) → IsStored (A.view arena.now).words id at t
         → result ≡ struct_in (target (A.view arena.now).words id at) t }
-    ensures inside { IfSome result (LiesIn (A.view arena.now).words) }
+    ensures inside { IfSome result (StructLiesIn (A.view arena.now).words) }
 {
     let word = word_of(arena, id, at);
     if word.is_null() {
@@ -114,7 +114,7 @@ fn struct_of<A: BuilderArena>(
     requires some { word.0 ≢ 0 }
     ensures found { (t : Tree) → IsStored (A.view arena.now).words id at t
         → result ≡ struct_in (target (A.view arena.now).words id at) t }
-    ensures inside { IfSome result (LiesIn (A.view arena.now).words) }
+    ensures inside { IfSome result (StructLiesIn (A.view arena.now).words) }
 {
     match landing_of(arena, id, at, word) {
         Some(landing) => {
@@ -149,7 +149,7 @@ fn struct_behind_pad<A: BuilderArena>(
     requires some { word.0 ≢ 0 }
     ensures found { (t : Tree) → IsStored (A.view arena.now).words id at t
         → result ≡ struct_in (target (A.view arena.now).words id at) t }
-    ensures inside { IfSome result (LiesIn (A.view arena.now).words) }
+    ensures inside { IfSome result (StructLiesIn (A.view arena.now).words) }
 {
     struct_of(arena, id, at, word)
 }
@@ -366,7 +366,7 @@ pub fn get_text<A: BuilderArena>(
 
 /// Whether bytes lie in a segment that is there.
 pub fn are_inside<A: BuilderArena>(arena: &A, bytes: ExistingBytes) -> bool
-    ensures { IsTrue result ↔ LieIn (A.view arena.now).words bytes }
+    ensures { IsTrue result ↔ BytesLieIn (A.view arena.now).words bytes }
 {
     match arena.get_segment(bytes.segment) {
         Ok(segment) => {

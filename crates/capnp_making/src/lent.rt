@@ -5,7 +5,7 @@ ghost use Rattle.capnp_format.specs.Numbers.{words_for};
 ghost use Rattle.capnp_format.specs.Segments.{IsPlace};
 ghost use Rattle.capnp_arena.specs.Written.{overwritten};
 ghost use Rattle.capnp_making.specs.Existing.{AreInside};
-ghost use Rattle.capnp_making.specs.InPlace.{bytes_of, rewritten, segments_with, AreBytes, AreZeroOnce, Overwrites};
+ghost use Rattle.capnp_making.specs.InPlace.{bytes_there, rewritten, segments_with, AreBytes, AreZeroOnce, Overwrites};
 ghost use Rattle.capnp_making.specs.Makes.{AsksForObject};
 
 use crate::existing::ExistingBytes;
@@ -36,7 +36,7 @@ pub fn bytes_mut<A: BuilderArena>(arena: &mut A, bytes: ExistingBytes) -> &mut [
     requires inside { AreInside (A.view arena.old).words bytes }
     ensures* lends { sem 𝓛 (Lends A.row (Array byte 0) arena.entry result
         (rewritten A.with_bytes A.segments arena.old bytes)) }
-    ensures now { result.now ≡ bytes_of (A.segments arena.old) bytes }
+    ensures now { result.now ≡ bytes_there (A.segments arena.old) bytes }
     ensures count { length result.now ≡ bytes.length }
     ensures segments { (ws : List ℕ) → length ws ≡ bytes.length →
         A.segments (rewritten A.with_bytes A.segments arena.old bytes ws)

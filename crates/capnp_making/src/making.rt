@@ -11,7 +11,7 @@ ghost use Rattle.capnp_format.specs.Word.{offset_bits, struct_word, capability_w
 ghost use Rattle.capnp_words.specs.Sizes.{size_number};
 ghost use Rattle.capnp_arena.specs.Taking.{IsFirstFit};
 ghost use Rattle.capnp_arena.specs.View.{KeepsLimits};
-ghost use Rattle.capnp_making.specs.Made.{IsShape, IsFew, AsksWords, zero_struct, zero_structs, zero_list, list_words, IsMadeAt};
+ghost use Rattle.capnp_making.specs.Made.{IsShape, CountFits, AsksWords, zero_struct, zero_structs, zero_list, list_words, IsMadeAt};
 ghost use Rattle.capnp_making.specs.Makes.{Allocates, MakesObject, ObjectStartsAt, call_at};
 ghost use Rattle.capnp_making.specs.Memory.{KeepsMemory, TakesNext, StandsBehind, IsRefusedFor};
 ghost use Rattle.capnp_making.specs.Near.{HasOwnRoom, HasStructRoom, HasStructsRoom, StartsBehind, shape_word, with_shape, with_struct, with_list, with_struct_list};
@@ -48,7 +48,7 @@ pub struct Start {
 /// The pointer to an object of a segment, from a position of that segment.
 pub fn pointer_to(shape: Shape, position: u32, target: u32) -> WirePointer
     requires reaches { Reaches position target }
-    requires few { IsFew shape }
+    requires few { CountFits shape }
     ensures word { result.0 ≡ shape_word shape (offset_to position target) }
     ensures shape { IsShape shape result.0 }
     ensures offset { offset_bits result.0 ≡ offset_to position target }
@@ -74,7 +74,7 @@ fn put_object<A: BuilderArena>(
     amount: u32,
 ) -> Result<Start, ErrorKind>
     requires place { IsPlace (A.view arena.old).words id at }
-    requires few { IsFew shape }
+    requires few { CountFits shape }
     requires some { AsksWords shape }
     requires small { amount < 2 ^ 31 }
     ensures made { IfOk result (IsMadeAt (A.view arena.old).words
@@ -116,7 +116,7 @@ fn put_far<A: BuilderArena>(
     amount: u32,
 ) -> Result<Start, ErrorKind>
     requires place { IsPlace (A.view arena.old).words id at }
-    requires few { IsFew shape }
+    requires few { CountFits shape }
     requires small { amount < 2 ^ 31 }
     ensures made { IfOk result (IsMadeAt (A.view arena.old).words
         (A.view arena.new).words id at shape amount) }

@@ -13,9 +13,9 @@ use Rattle.capnp_objects.specs.Refusals.{FollowsTo}
 use Rattle.capnp_objects.specs.Demands.{claim, tag, element_words}
 use Rattle.capnp_objects.specs.Faults.{of_struct, of_list, of_element, here, below, LeadsTo, child_at, one_less, Among, AmongElements, HasFault}
 use Rattle.capnp_objects.specs.Outcomes.{MeansThere, MeanThere, ElementsMean}
-use Rattle.capnp_objects.specs.Wanted.{BreaksObject, BreaksAt, Takes, follow_at}
+use Rattle.capnp_objects.specs.Wanted.{BreaksObject, BreaksAt, AllowsCapabilities, follow_at}
 use Rattle.capnp_objects.specs.Wanted.{Form, plain, canonical, of_default}
-use Rattle.capnp_objects.specs.Reading.{Reading, word_of, behind, row, words_from, tag_size}
+use Rattle.capnp_objects.specs.Reading.{Reading, word_of, behind, segment_read, words_from, tag_size}
 use Rattle.capnp_objects.specs.declared.object.Purpose.TheVariants.{Value}
 use Rattle.capnp_objects.proofs.Followed.{leads_to, leads_there}
 use Rattle.capnp_objects.proofs.Parts.{claim_struct, claim_list, claim_flat}
@@ -36,16 +36,16 @@ within_or_not (suc a) zero = inr (omega arith)
 within_or_not (suc a) (suc b) = elim (within_or_not a b) [ inl h ↦ inl (omega arith) | inr h ↦ inr (omega arith) ]
 
 abbrev pub Found : Form → Reading → Type 0
-Found form r = (t : Tree) × (c : ℕ) × MeansThere r t c × Takes form (capabilities t)
+Found form r = (t : Tree) × (c : ℕ) × MeansThere r t c × AllowsCapabilities form (capabilities t)
 
 abbrev pub Choice : Form → Reading → Type 0
 Choice form r = Found form r ⊎ ((k : ErrorKind) × HasFault form r k)
 
 abbrev FoundAll : Form → Reading → ℕ → Type 0
-FoundAll form r m = (ts : Trees) × (c : ℕ) × (count ts ≡ m) × MeanThere r ts c × Takes form (capabilities_all ts)
+FoundAll form r m = (ts : Trees) × (c : ℕ) × (count ts ≡ m) × MeanThere r ts c × AllowsCapabilities form (capabilities_all ts)
 
 abbrev FoundElements : Form → Reading → StructSize → ℕ → Type 0
-FoundElements form r size m = (es : Elements) × (c : ℕ) × (element_count es ≡ m) × ElementsMean r size es c × Takes form (capabilities_elements es)
+FoundElements form r size m = (es : Elements) × (c : ℕ) × (element_count es ≡ m) × ElementsMean r size es c × AllowsCapabilities form (capabilities_elements es)
 
 -- every place of a segment
 abbrev Everywhere : Form → Reading → Type 0
@@ -61,7 +61,7 @@ choose_all form r h (suc m) = elim (h r.at) [
   | inr f ↦ inr (f.0, (r.at, omega arith, omega arith, f.1))
 ]
 
-choose_elements : (form : Form) (r : Reading) → Everywhere form r → (size : StructSize) (m : ℕ) → r.at + m * (size.data_words + size.pointers) ≤ length (row r) →
+choose_elements : (form : Form) (r : Reading) → Everywhere form r → (size : StructSize) (m : ℕ) → r.at + m * (size.data_words + size.pointers) ≤ length (segment_read r) →
     FoundElements form r size m ⊎ ((k : ErrorKind) × AmongElements one_less (BreaksAt form k) r size m)
 choose_elements form r h size zero fits = inl (no_elements, 0, refl, refl, λ e. refl)
 choose_elements form r h size (suc m) fits = elim (choose_all form (behind r size.data_words) h size.pointers) [

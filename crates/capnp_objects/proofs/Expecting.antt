@@ -18,7 +18,7 @@ use Rattle.capnp_objects.specs.Demands.{tag}
 use Rattle.capnp_objects.specs.Entering.{IsUnsuited, another, not_entered, misfits as unsuited_misfits, object_misfit, place_byte}
 use Rattle.capnp_objects.specs.Expected.{too_deep, another_kind, misfit, byte_of, narrow_elements, narrow_structs, one_level, IsSuited, CanBeGiven, IsOfKind, Withheld, no_level, unfollowed, of_another_kind, stopped, misfits, IsGiven}
 use Rattle.capnp_objects.specs.Faults.{LeadsTo}
-use Rattle.capnp_objects.specs.Landings.{target, FollowsPointer, IsEntered, IsOpened}
+use Rattle.capnp_objects.specs.Landings.{landing_target, FollowsPointer, IsEntered, IsOpened}
 use Rattle.capnp_objects.specs.Objects.{IsObject}
 use Rattle.capnp_objects.specs.Outcomes.{Entered}
 use Rattle.capnp_objects.specs.Reading.{Reading, word_of, tag_size}
@@ -194,22 +194,22 @@ level_unfollowed (exceeding some short paid named) = exceeding some short paid n
 level_unfollowed (leading_nowhere some h paid) = leading_nowhere some h paid
 
 pub withheld : (expected : Expected) {r : Reading} {m m₁ m₂ m₃ : Meter} {l : Landing} {k : ErrorKind} → IsCounted r m m₁ → FollowsPointer r m₁ m₂ l → too_deep expected r.levels ≡ None →
-    IsUnsuited expected r.segments r.charging (target l) m₂ m₃ k → Withheld expected r m m₃ k
+    IsUnsuited expected r.segments r.charging (landing_target l) m₂ m₃ k → Withheld expected r m m₃ k
 withheld expected {r} {m} {m₁} {m₂} {m₃} {l} {k} o f level (another e same) =
-    let there = reached o f in of_another_kind (target l) level there.follows e (subst (λ y. Paid r.charging m y l.pads 1) (sym same) there.paid)
+    let there = reached o f in of_another_kind (landing_target l) level there.follows e (subst (λ y. Paid r.charging m y l.pads 1) (sym same) there.paid)
 withheld expected {r} {m} {m₁} {m₂} {m₃} {l} {k} o f level (not_entered e h) =
-    let of_kind : IsOfKind expected r = λ b same. (let g = f.leads_to in let b_is : b ≡ target l = cc (g, same) in rw b_is e) in
+    let of_kind : IsOfKind expected r = λ b same. (let g = f.leads_to in let b_is : b ≡ landing_target l = cc (g, same) in rw b_is e) in
     stopped level of_kind (object_refused {r = one_level r} (level_counted o) f h)
 withheld expected {r} {m} {m₁} {m₂} {m₃} {l} {k} o f level (unsuited_misfits e h fits) =
-    misfits (target l) level e (entered (reached {r = one_level r} (level_counted o) f) h) fits
+    misfits (landing_target l) level e (entered (reached {r = one_level r} (level_counted o) f) h) fits
 
 -- the place means what the call expects
 pub suited : (expected : Expected) {r : Reading} {m m₁ m₂ m₃ : Meter} {l : Landing} (x : Object) → IsCounted r m m₁ → FollowsPointer r m₁ m₂ l → too_deep expected r.levels ≡ None →
-    object_misfit expected x ≡ None → IsEnteredAs expected r.segments r.charging (target l) m₂ m₃ x → CanBeGiven expected r m
+    object_misfit expected x ≡ None → IsEnteredAs expected r.segments r.charging (landing_target l) m₂ m₃ x → CanBeGiven expected r m
 unfolding CanBeGiven
 suited expected {r} {m} {m₁} {m₂} {m₃} {l} x o f level fits h =
-    let all : Entered Value (one_level r) m m₃ (target l) = entered (reached {r = one_level r} (level_counted o) f) (entered_object x h) in
-    inr (target l, record { level = level; leads_to = all.leads_to; of_kind = h.of_kind; meets = all.meets; fits = sym (misfit_of x h) ∙ fits }, all.covers)
+    let all : Entered Value (one_level r) m m₃ (landing_target l) = entered (reached {r = one_level r} (level_counted o) f) (entered_object x h) in
+    inr (landing_target l, record { level = level; leads_to = all.leads_to; of_kind = h.of_kind; meets = all.meets; fits = sym (misfit_of x h) ∙ fits }, all.covers)
 
 can_be_read : (expected : Expected) (r : Reading) (m : Meter) → CanBeGiven expected r m → CanBeRead Value (one_level r) m
 unfolding CanBeGiven CanBeRead

@@ -6,7 +6,7 @@ use Rattle.capnp_format.specs.Segments.{Segments, Target, leads}
 use Rattle.capnp_format.specs.Tree.{capabilities}
 use Rattle.capnp_objects.specs.Demands.{LiesThere, Meets}
 use Rattle.capnp_objects.specs.Faults.{IsPointer, Somewhere, here, below, LeadsTo, child_at, one_less}
-use Rattle.capnp_objects.specs.Wanted.{IsOutside, BreaksObject, BreaksAt, IsCanonical, IsOfDefault, RefusesCapabilities, Takes}
+use Rattle.capnp_objects.specs.Wanted.{IsOutside, BreaksObject, BreaksAt, IsCanonical, IsOfDefault, RefusesCapabilities, AllowsCapabilities}
 use Rattle.capnp_objects.specs.Wanted.{Form, plain, canonical, of_default}
 use Rattle.capnp_objects.specs.Reading.{Reading}
 use Rattle.capnp_objects.specs.declared.object.Purpose.{Purpose}
@@ -65,7 +65,7 @@ target_sound {r} {a} form k l s (some, inr (b, f, h)) =
     let q : a ≡ b = cc e in
     not_refused Value k s (rw q h)
 
-not_broken : {r : Reading} {m c : ℕ} (form : Form) (k : ErrorKind) → Takes form m → Parts r m c → BreaksAt form k r → ⊥
+not_broken : {r : Reading} {m c : ℕ} (form : Form) (k : ErrorKind) → AllowsCapabilities form m → Parts r m c → BreaksAt form k r → ⊥
 not_broken form k takes (is_null z) b = b.0 z
 not_broken {r} form k takes (is_capability a l low one g) b = target_sound {r = r} form k l (sound_capability low (λ e. omega (arith, takes e, one))) b
 not_broken {r} form k takes (is_inner a l i) b = target_sound {r = r} form k l (sound_object i.meets) b
@@ -76,7 +76,7 @@ inner_child {r} {m} {c} {b} {q} (is_capability a la low one g) l o i =
     absurd (let e = same_target r.segments r.segment r.at la.1 l.1 in let w : a.word % 2 ^ 32 ≡ b.word % 2 ^ 32 = ap (λ x. x.word % 2 ^ 32) e in omega (arith, w, low, o.is_object))
 inner_child {r} {m} {c} {b} {q} (is_inner a la h) l o i = let e : b ≡ a = sym (same_target r.segments r.segment r.at la.1 l.1) in rw e (h.children q (rw (sym e) i))
 
-pub no_fault : (form : Form) (k : ErrorKind) {r : Reading} → Somewhere one_less (BreaksAt form k) r → (m : ℕ) → Takes form m → Meant r m → ⊥
+pub no_fault : (form : Form) (k : ErrorKind) {r : Reading} → Somewhere one_less (BreaksAt form k) r → (m : ℕ) → AllowsCapabilities form m → Meant r m → ⊥
 no_fault form k {r} (here b) m takes (t, c, h, le) = not_broken form k (λ e. omega (arith, takes e, le)) (means_parts r t c h) b
 no_fault form k {r} (below a q l o i rest) m takes (t, c, h, le) =
     no_fault form k rest (capabilities t) (λ e. omega (arith, takes e, le)) (inner_child (means_parts r t c h) l o i)

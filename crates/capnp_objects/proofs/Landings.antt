@@ -32,7 +32,7 @@ use Rattle.capnp_objects.specs.Wanted.{IsOutside, HasNoTag, non_struct_tag, Brea
 use Rattle.capnp_objects.specs.Objects.{IsObject, IsHeld}
 use Rattle.capnp_objects.specs.Outcomes.{Entered}
 use Rattle.capnp_objects.specs.Refusals.{if_there, landing_words, granted_before, Unfollowed, exceeding, leading_nowhere, Stopped, pads_exceed as stopped_pads, nowhere as stopped_nowhere, broken as stopped_broken, claim_exceeds as stopped_claim, count_exceeds as stopped_count}
-use Rattle.capnp_objects.specs.Landings.{target, IsPad, IsFollowed, NotFollowed, nowhere, pads_exceed, FollowsPointer, FailsPointer, IsClaimed, IsEntered, NotEntered, broken, claim_exceeds, elements_exceed, IsOpened}
+use Rattle.capnp_objects.specs.Landings.{landing_target, IsPad, IsFollowed, NotFollowed, nowhere, pads_exceed, FollowsPointer, FailsPointer, IsClaimed, IsEntered, NotEntered, broken, claim_exceeds, elements_exceed, IsOpened}
 use Rattle.capnp_objects.specs.Wanted.{Form, plain}
 use Rattle.capnp_objects.specs.Reading.{Reading, reading_at, word_of}
 use Rattle.capnp_objects.specs.declared.object.Purpose.{Purpose}
@@ -283,7 +283,7 @@ charged_first {r} {m} {m'} {m''} {g} o paid =
     let none : 0 + g ≡ g = omega arith in
     subst (λ i. Paid r.charging m m'' i 1) none (paid_both (paid_one o) paid)
 
-pub reached : {r : Reading} {m m' m'' : Meter} {l : Landing} → IsCounted r m m' → FollowsPointer r m' m'' l → Reached r m m'' (target l)
+pub reached : {r : Reading} {m m' m'' : Meter} {l : Landing} → IsCounted r m m' → FollowsPointer r m' m'' l → Reached r m m'' (landing_target l)
 reached {r} {m} {m'} {m''} {l} o f = record { follows = (o.some, f.leads_to); paid = charged_first o (paid_charged f.covers f.paid) }
 
 pub entered : {purpose : Purpose} {r : Reading} {m m' m'' : Meter} {a : Target} → Reached r m m' a → IsEntered purpose r.segments r.charging r.levels a m' m'' → Entered purpose r m m'' a
@@ -312,7 +312,7 @@ opened purpose {r} {m} {m'} {a} m'' (ObjectPointers start count) level o (e, z, 
 opened purpose {r} {m} {m'} {a} m'' (ObjectStructs start size count) level o (e, z, seven, there, len, d, q) = (a, entered o e, z, seven, there, len, d, q)
 
 pub object_opened : (purpose : Purpose) {r : Reading} {m m₁ m₂ : Meter} {l : Landing} (m₃ : Meter) (x : Object) → (purpose ≡ Size → 0 < r.levels) → IsCounted r m m₁ → FollowsPointer r m₁ m₂ l →
-    IsOpened purpose r.segments r.charging r.levels (target l) m₂ m₃ x → IsObject purpose r m m₃ x
+    IsOpened purpose r.segments r.charging r.levels (landing_target l) m₂ m₃ x → IsObject purpose r m m₃ x
 object_opened purpose m₃ x level o f h = opened purpose m₃ x level (reached o f) h
 
 -- the refusals
@@ -338,7 +338,7 @@ stops_entering {purpose} {r} {m} {m'} {m''} {a} {k} o (elements_exceed meets cov
     stopped_count a o.follows meets (λ h. short (affords_rest (amplified purpose r.segments a) (own purpose r.segments a) more (omega arith) h)) more named
 
 pub object_refused : {purpose : Purpose} {r : Reading} {m m₁ m₂ m₃ : Meter} {l : Landing} {k : ErrorKind} → IsCounted r m m₁ → FollowsPointer r m₁ m₂ l →
-    NotEntered purpose r.segments r.charging r.levels (target l) m₂ m₃ k → Stopped purpose plain r m m₃ k
+    NotEntered purpose r.segments r.charging r.levels (landing_target l) m₂ m₃ k → Stopped purpose plain r m m₃ k
 object_refused o f h = stops_entering (reached o f) h
 
 -- the words that an object claims are charged, and for its elements g more

@@ -7,7 +7,7 @@ use Rattle.capnp_format.specs.Word.{kind}
 use Rattle.capnp_format.specs.Segments.{Target}
 use Rattle.capnp_words.specs.declared.wire_pointer.PointerType.{PointerType}
 use Rattle.capnp_objects.specs.declared.source.Landing.{Landing}
-use Rattle.capnp_objects.specs.Landings.{target, FollowsPointer}
+use Rattle.capnp_objects.specs.Landings.{landing_target, FollowsPointer}
 use Rattle.capnp_objects.specs.Reading.{Reading, word_of}
 use Rattle.capnp_objects.specs.Refusals.{FollowsTo, exceeding, leading_nowhere}
 use Rattle.capnp_objects.specs.Types.{type_of, HasType, HasNoType, not_followed, of_no_type}
@@ -24,12 +24,12 @@ not_far : (w : ℕ) (t : PointerType) → type_of w ≡ Ok t → kind w ≢ 2
 not_far w t e two = absurd (let f : type_of w ≡ Err UnexpectedFarPointer = (rw two refl) in cc (e, f))
 
 -- the outcome once the pointer is followed
-pub has_type : {r : Reading} {m m₁ m₂ : Meter} {l : Landing} (t : PointerType) → IsCounted r m m₁ → FollowsPointer r m₁ m₂ l → type_of (target l).word ≡ Ok t → HasType r m
+pub has_type : {r : Reading} {m m₁ m₂ : Meter} {l : Landing} (t : PointerType) → IsCounted r m m₁ → FollowsPointer r m₁ m₂ l → type_of (landing_target l).word ≡ Ok t → HasType r m
 unfolding HasType
-has_type {l = l} t o f e = let there = reached o f in inr (target l, t, there.follows, e, there.paid.covers)
+has_type {l = l} t o f e = let there = reached o f in inr (landing_target l, t, there.follows, e, there.paid.covers)
 
-pub has_no_type : {r : Reading} {m m₁ m₂ : Meter} {l : Landing} {k : ErrorKind} → IsCounted r m m₁ → FollowsPointer r m₁ m₂ l → type_of (target l).word ≡ Err k → HasNoType r m m₂ k
-has_no_type {l = l} o f e = let there = reached o f in of_no_type (target l) there.follows e there.paid
+pub has_no_type : {r : Reading} {m m₁ m₂ : Meter} {l : Landing} {k : ErrorKind} → IsCounted r m m₁ → FollowsPointer r m₁ m₂ l → type_of (landing_target l).word ≡ Err k → HasNoType r m m₂ k
+has_no_type {l = l} o f e = let there = reached o f in of_no_type (landing_target l) there.follows e there.paid
 
 not_untyped_null : {r : Reading} {m m' : Meter} {k : ErrorKind} → word_of r ≡ 0 → HasNoType r m m' k → ⊥
 not_untyped_null null (not_followed (exceeding some short paid named)) = some null

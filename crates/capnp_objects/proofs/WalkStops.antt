@@ -21,7 +21,7 @@ use Rattle.capnp_objects.specs.Outcomes.{Entered}
 use Rattle.capnp_objects.specs.Objects.{IsObject}
 use Rattle.capnp_objects.specs.Refusals.{CanBeRead}
 use Rattle.capnp_objects.specs.Reading.{Reading, behind, pointers_of, tag_size, sized}
-use Rattle.capnp_objects.specs.Sizing.{Sized, SizedAll, SizedThere, SizedAllThere, ElementsSized, FitSize, Tally, tally, WalksAll, WalksElements, WalksRows, WalksBefore, in_struct, in_pointers, in_element, with_object, SizeStopped, unmeasured, too_large, too_many, SizeStops, here, below, SizesStop, RowsStop}
+use Rattle.capnp_objects.specs.Sizing.{Sized, SizedAll, SizedThere, SizedAllThere, ElementsSized, FitSize, Tally, tally, WalksAll, WalksElements, WalksRows, WalksBefore, in_struct, in_pointers, in_element, with_object_counted, SizeStopped, unmeasured, too_large, too_many, SizeStops, here, below, SizesStop, RowsStop}
 use Rattle.capnp_objects.specs.Spending.{Paid, after}
 use Rattle.capnp_objects.proofs.Budgets.{affords_rest, after_none}
 use Rattle.capnp_objects.proofs.Measures.{can_not, paid_words}
@@ -38,15 +38,15 @@ row_stops {r} {size} {i} {from} {mid} {m'} {k} j (es, len, all) lt stops =
     record { first = es; fewer = omega (arith, len, lt); mid = mid; are_walked = all; stops = subst (λ x. SizesStop (pointers_of r size x) size.pointers mid m' k) (sym len) stops }
 
 pub struct_stops_at : {r : Reading} {from : Tally} {m' m'' : Meter} {a : Target} {k : ErrorKind} → Entered Size r from.meter m' a → kind a.word ≡ 0 →
-    SizesStop (child_at r a (pred r.levels) (a.start + data_words a.word)) (pointer_count a.word) (with_object from a r.segments m') m'' k → SizeStops k r from m''
+    SizesStop (child_at r a (pred r.levels) (a.start + data_words a.word)) (pointer_count a.word) (with_object_counted from a r.segments m') m'' k → SizeStops k r from m''
 struct_stops_at {a = a} o z h = below a (a.start + data_words a.word + count h.first) o (in_struct h.first z h.fewer refl h.are_walked) h.stops
 
 pointers_stop_at : {r : Reading} {from : Tally} {m' m'' : Meter} {a : Target} {k : ErrorKind} → Entered Size r from.meter m' a → kind a.word ≡ 1 → element_size a.word ≡ 6 →
-    SizesStop (child_at r a (pred r.levels) a.start) (list_count a.word) (with_object from a r.segments m') m'' k → SizeStops k r from m''
+    SizesStop (child_at r a (pred r.levels) a.start) (list_count a.word) (with_object_counted from a r.segments m') m'' k → SizeStops k r from m''
 pointers_stop_at {a = a} o z six h = below a (a.start + count h.first) o (in_pointers h.first z six h.fewer refl h.are_walked) h.stops
 
 structs_stop_at : {r : Reading} {from : Tally} {m' m'' : Meter} {a : Target} {k : ErrorKind} → Entered Size r from.meter m' a → kind a.word ≡ 1 → element_size a.word ≡ 7 →
-    RowsStop (child_at r a (pred r.levels) (a.start + 1)) (tag_size r.segments a) (offset_bits (tag r.segments a)) (with_object from a r.segments m') m'' k → SizeStops k r from m''
+    RowsStop (child_at r a (pred r.levels) (a.start + 1)) (tag_size r.segments a) (offset_bits (tag r.segments a)) (with_object_counted from a r.segments m') m'' k → SizeStops k r from m''
 structs_stop_at {r = r} {a = a} o z seven h =
     below a ((pointers_of (child_at r a (pred r.levels) (a.start + 1)) (tag_size r.segments a) (element_count h.first)).at + count h.stops.first) o
     (in_element h.first h.stops.first h.mid (z, seven) h.fewer h.stops.fewer refl h.are_walked h.stops.are_walked) h.stops.stops
@@ -68,7 +68,7 @@ pointers_stop {r} {from} {m'} {m''} {k} start i (a, o, z, six, (held, seg, at), 
     let there : inside r start 0 ≡ child_at r a (pred r.levels) (a.start + 0) = same_place r seg (omega (arith, at)) in
     let counted : i ≡ counted_words r.segments a = many ∙ sym (counted_pointers r.segments a z six) in
     pointers_stop_at {r = r} o z six (
-    subst (λ p. SizesStop (child_at r a (pred r.levels) p) (list_count a.word) (with_object from a r.segments m') m'' k) none
+    subst (λ p. SizesStop (child_at r a (pred r.levels) p) (list_count a.word) (with_object_counted from a r.segments m') m'' k) none
     (subst (λ w. SizesStop (child_at r a (pred r.levels) (a.start + 0)) (list_count a.word) (tally (from.words + w) from.caps m') m'' k) counted
     (subst (λ q. SizesStop (child_at r a (pred r.levels) (a.start + 0)) q (tally (from.words + i) from.caps m') m'' k) many
     (subst (λ x. SizesStop x i (tally (from.words + i) from.caps m') m'' k) there h))))
@@ -306,7 +306,7 @@ in_list_of_structs r {a} (Structs d q es) c (b, m, k, some, o, claims, t, fits, 
     )
 in_list_of_structs r {a} t c h l z seven = absurd (let e : form t ≡ 5 = sized_form r t c h ∙ form_there r a l ∙ form_structs a.word z seven in omega arith)
 
-never_below : {r : Reading} (from : Tally) {mid : Tally} {first : Meter} {q : ℕ} {a : Target} → Entered Size r from.meter first a → WalksBefore r a q (with_object from a r.segments first) mid → Never (child_at r a (pred r.levels) q) mid → Never r from
+never_below : {r : Reading} (from : Tally) {mid : Tally} {first : Meter} {q : ℕ} {a : Target} → Entered Size r from.meter first a → WalksBefore r a q (with_object_counted from a r.segments first) mid → Never (child_at r a (pred r.levels) q) mid → Never r from
 never_below {r} from {mid} {first} {q} {a} o (in_struct ts z fewer e all) child t c h fits covers =
     let x = in_a_struct r {a = a} t c h o.leads_to z in
     never_all (pointer_count a.word) all fewer (subst (λ y. Never (child_at r a (pred r.levels) y) mid) e child) x.0 x.1 x.2 x.3 (omega (arith, fits.0, x.4), omega (arith, fits.1, x.5)) (affords_rest x.1 c (paid_words o) x.6 covers)

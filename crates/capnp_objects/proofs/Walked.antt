@@ -18,8 +18,8 @@ use Rattle.capnp_objects.specs.Measures.{counted_words}
 use Rattle.capnp_objects.specs.declared.object.Purpose.TheVariants.{Size}
 use Rattle.capnp_objects.specs.Outcomes.{Entered}
 use Rattle.capnp_objects.specs.Objects.{IsObject}
-use Rattle.capnp_objects.specs.Reading.{Reading, behind, row, pointers_of, tag_size, sized}
-use Rattle.capnp_objects.specs.Sizing.{Sized, SizedAll, SizedThere, SizedAllThere, ElementsSized, Tally, tally, Walks, WalksAll, WalksElements, WalksPlace, WalksPointers, WalksRows, with_object}
+use Rattle.capnp_objects.specs.Reading.{Reading, behind, segment_read, pointers_of, tag_size, sized}
+use Rattle.capnp_objects.specs.Sizing.{Sized, SizedAll, SizedThere, SizedAllThere, ElementsSized, Tally, tally, Walks, WalksAll, WalksElements, WalksPlace, WalksPointers, WalksRows, with_object_counted}
 use Rattle.capnp_objects.specs.Spending.{Paid, pointers_in_all}
 use Rattle.capnp_format.proofs.Children.{with_last, count-with_last}
 use Rattle.capnp_format.proofs.Slices.{length_words}
@@ -124,7 +124,7 @@ pub walks_no_element : (r : Reading) (size : StructSize) (from : Tally) → Walk
 walks_no_element r size from = record { cost = 0; is_sized = refl; paid = paid_none r from.meter; words_are = omega arith; caps_are = omega arith }
 
 walks_element : {r : Reading} {size : StructSize} {from mid to : Tally} {es : Elements} {ts : Trees} → WalksElements r size from mid es →
-    r.at + element_count es * (size.data_words + size.pointers) + size.data_words ≤ length (row r) → count ts ≡ size.pointers → WalksAll (pointers_of r size (element_count es)) mid to ts →
+    r.at + element_count es * (size.data_words + size.pointers) + size.data_words ≤ length (segment_read r) → count ts ≡ size.pointers → WalksAll (pointers_of r size (element_count es)) mid to ts →
     WalksElements r size from to (with_last_element es (words_at r.segments r.segment (r.at + element_count es * (size.data_words + size.pointers)) size.data_words) ts)
 walks_element {r} {size} {from} {mid} {to} {es} {ts} all fits len one =
     let d : ℕ = size.data_words in
@@ -140,13 +140,13 @@ walks_element {r} {size} {from} {mid} {to} {es} {ts} all fits len one =
       caps_are = omega (arith, all.caps_are, one.caps_are, capabilities-with_last_element es ws ts);
     }
 
-pub row_walked : {r : Reading} {size : StructSize} {i : ℕ} {from mid to : Tally} → WalksRows r size i from mid → r.at + i * (size.data_words + size.pointers) + size.data_words ≤ length (row r) →
+pub row_walked : {r : Reading} {size : StructSize} {i : ℕ} {from mid to : Tally} → WalksRows r size i from mid → r.at + i * (size.data_words + size.pointers) + size.data_words ≤ length (segment_read r) →
     WalksPointers (pointers_of r size i) size.pointers mid to → WalksRows r size (i + 1) from to
 row_walked {r} {size} {i} {from} {mid} {to} (es, len, all) fits (ts, many, one) =
     let ws : List ℕ = words_at r.segments r.segment (r.at + element_count es * (size.data_words + size.pointers)) size.data_words in (
       with_last_element es ws ts,
       omega (arith, count-with_last_element es ws ts, len),
-      walks_element all (subst (λ j. r.at + j * (size.data_words + size.pointers) + size.data_words ≤ length (row r)) (sym len) fits) many (subst (λ j. WalksAll (pointers_of r size j) mid to ts) (sym len) one),
+      walks_element all (subst (λ j. r.at + j * (size.data_words + size.pointers) + size.data_words ≤ length (segment_read r)) (sym len) fits) many (subst (λ j. WalksAll (pointers_of r size j) mid to ts) (sym len) one),
     )
 
 rows_within : (i j w : ℕ) → i < j → suc i * w ≤ j * w
@@ -156,12 +156,12 @@ pub row_within : (i j w : ℕ) → i < j → i * w + w ≤ j * w
 row_within i j w l = omega (arith, rows_within i j w l)
 
 -- elements without pointers
-pub rows_without : (r : Reading) (size : StructSize) (i : ℕ) (from : Tally) → size.pointers ≡ 0 → r.at + i * (size.data_words + size.pointers) ≤ length (row r) → WalksRows r size i from from
+pub rows_without : (r : Reading) (size : StructSize) (i : ℕ) (from : Tally) → size.pointers ≡ 0 → r.at + i * (size.data_words + size.pointers) ≤ length (segment_read r) → WalksRows r size i from from
 rows_without r size zero from none fits = (no_elements, refl, walks_no_element r size from)
 rows_without r size (suc i) from none fits =
     let e : i + 1 ≡ suc i = omega arith in
     let last : WalksPointers (pointers_of r size i) size.pointers from from = (no_trees, sym none, walks_none (pointers_of r size i) from) in
-    let before : r.at + i * (size.data_words + size.pointers) + (size.data_words + size.pointers) ≤ length (row r) = omega (arith, fits, row_within i (suc i) (size.data_words + size.pointers) (omega arith)) in
+    let before : r.at + i * (size.data_words + size.pointers) + (size.data_words + size.pointers) ≤ length (segment_read r) = omega (arith, fits, row_within i (suc i) (size.data_words + size.pointers) (omega arith)) in
     subst (λ j. WalksRows r size j from from) e (row_walked (rows_without r size i from none (omega (arith, before))) (omega (arith, before)) last)
 
 -- objects
@@ -222,13 +222,13 @@ pub same_place : {s t p q : ℕ} (r : Reading) → s ≡ t → p ≡ q → recor
 same_place r e f = ap₂ (λ s p. record r { levels = pred r.levels; segment = s; at = p }) e f
 
 pub struct_at : {r : Reading} {from to : Tally} {m' : Meter} {a : Target} → Entered Size r from.meter m' a → kind a.word ≡ 0 →
-    WalksPointers (child_at r a (pred r.levels) (a.start + data_words a.word)) (pointer_count a.word) (with_object from a r.segments m') to → WalksPlace r from to
+    WalksPointers (child_at r a (pred r.levels) (a.start + data_words a.word)) (pointer_count a.word) (with_object_counted from a r.segments m') to → WalksPlace r from to
 struct_at {r} {from} {to} {m'} {a} o z (ts, len, all) =
     let S : Segments = r.segments in
     let d : ℕ = data_words a.word in
     let q : ℕ = pointer_count a.word in
     let claimed : claim a.word ≡ d + q = claim_struct a.word z in
-    let room : a.start + (d + q) ≤ length (row (child_at r a 0 0)) = omega (arith, o.meets.claims (λ v. omega (arith, v.0, z)), claimed) in
+    let room : a.start + (d + q) ≤ length (segment_read (child_at r a 0 0)) = omega (arith, o.meets.claims (λ v. omega (arith, v.0, z)), claimed) in
     let ws : List ℕ = words_at S a.segment a.start d in
     let long : length ws ≡ d = length_words S a.segment a.start d (omega (arith, room)) in (
       Struct ws ts,
@@ -261,7 +261,7 @@ struct_walked {r} {from} {to} {m'} start size (a, o, z, (held, seg, at), wide, m
     (subst (λ x. WalksPointers x size.pointers (tally (from.words + (size.data_words + size.pointers)) from.caps m') to) there h)))
 
 pointers_at : {r : Reading} {from to : Tally} {m' : Meter} {a : Target} → Entered Size r from.meter m' a → kind a.word ≡ 1 → element_size a.word ≡ 6 →
-    WalksPointers (child_at r a (pred r.levels) a.start) (list_count a.word) (with_object from a r.segments m') to → WalksPlace r from to
+    WalksPointers (child_at r a (pred r.levels) a.start) (list_count a.word) (with_object_counted from a r.segments m') to → WalksPlace r from to
 pointers_at {r} {from} {to} {m'} {a} o z six (ts, len, all) =
     let S : Segments = r.segments in
     let claimed : claim a.word ≡ list_count a.word = claim_list a.word 6 z six in (
@@ -290,13 +290,13 @@ pointers_walked {r} {from} {to} {m'} start i (a, o, z, six, (held, seg, at), man
     let there : inside r start 0 ≡ child_at r a (pred r.levels) (a.start + 0) = same_place r seg (omega (arith, at)) in
     let counted : i ≡ counted_words r.segments a = many ∙ sym (counted_pointers r.segments a z six) in
     pointers_at {r = r} o z six (
-    subst (λ p. WalksPointers (child_at r a (pred r.levels) p) (list_count a.word) (with_object from a r.segments m') to) none
+    subst (λ p. WalksPointers (child_at r a (pred r.levels) p) (list_count a.word) (with_object_counted from a r.segments m') to) none
     (subst (λ w. WalksPointers (child_at r a (pred r.levels) (a.start + 0)) (list_count a.word) (tally (from.words + w) from.caps m') to) counted
     (subst (λ q. WalksPointers (child_at r a (pred r.levels) (a.start + 0)) q (tally (from.words + i) from.caps m') to) many
     (subst (λ x. WalksPointers x i (tally (from.words + i) from.caps m') to) there h))))
 
 structs_at : {r : Reading} {from to : Tally} {m' : Meter} {a : Target} → Entered Size r from.meter m' a → kind a.word ≡ 1 → element_size a.word ≡ 7 →
-    WalksRows (child_at r a (pred r.levels) (a.start + 1)) (tag_size r.segments a) (offset_bits (tag r.segments a)) (with_object from a r.segments m') to → WalksPlace r from to
+    WalksRows (child_at r a (pred r.levels) (a.start + 1)) (tag_size r.segments a) (offset_bits (tag r.segments a)) (with_object_counted from a r.segments m') to → WalksPlace r from to
 structs_at {r} {from} {to} {m'} {a} o z seven (es, len, all) =
     let S : Segments = r.segments in
     let d : ℕ = data_words (tag S a) in

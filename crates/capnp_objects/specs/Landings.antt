@@ -22,8 +22,8 @@ use Rattle.capnp_objects.specs.Objects.{IsHeld, StartsAt}
 use Rattle.capnp_objects.specs.Wanted.{plain}
 
 -- The target that a landing is at.
-abbrev pub target : Landing → Target
-target l = record { word = l.word.0; segment = l.start.segment; start = l.start.at; pads = l.pads }
+abbrev pub landing_target : Landing → Target
+landing_target l = record { word = l.word.0; segment = l.start.segment; start = l.start.at; pads = l.pads }
 
 -- The landing pad of the far pointer x, whose words are checked and charged, from m to m'.
 pub record IsPad (S : Segments) (charging : Bool) (x : ℕ) (m m' : Meter) (here : Place) : Type 0 where
@@ -39,7 +39,7 @@ pub record IsPad (S : Segments) (charging : Bool) (x : ℕ) (m m' : Meter) (here
 -- The word x is followed, which gives r: to this landing, whose pads are charged, from m to m'.
 pub record IsFollowed (S : Segments) (charging : Bool) (r : Result Target ErrorKind) (m m' : Meter) (l : Landing) : Type 0 where
   pub held : IsHeld S l.start
-  pub leads_to : r ≡ Ok (target l)
+  pub leads_to : r ≡ Ok (landing_target l)
   pub covers : Affords charging m l.pads
   pub paid : m' ≡ charged charging m l.pads
 

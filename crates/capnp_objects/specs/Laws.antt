@@ -12,7 +12,7 @@ use Rattle.capnp_objects.specs.Outcomes.{MeansThere, Reads}
 use Rattle.capnp_objects.specs.Reading.{Reading}
 use Rattle.capnp_objects.specs.Refusals.{Refused, BreaksOff}
 use Rattle.capnp_objects.specs.Sizing.{SizedThere, Totals}
-use Rattle.capnp_objects.specs.Wanted.{Form, Takes}
+use Rattle.capnp_objects.specs.Wanted.{Form, AllowsCapabilities}
 
 -- The demand that is named is broken at a reached place; or the read limit is named, and a reached place charges more than
 -- is left.
@@ -27,7 +27,7 @@ LimitOfCharges = (form : Form) (r : Reading) (m m' : Meter) → Refused form r m
 -- The place means no value that is taken, within both limits.
 abbrev pub RefusedRightly : Type 0
 RefusedRightly =
-    (form : Form) (r : Reading) (m m' : Meter) (k : ErrorKind) → Refused form r m m' k → (t : Tree) (c : ℕ) → MeansThere r t c → Takes form (capabilities t) → Affords r.charging m c → ⊥
+    (form : Form) (r : Reading) (m m' : Meter) (k : ErrorKind) → Refused form r m m' k → (t : Tree) (c : ℕ) → MeansThere r t c → AllowsCapabilities form (capabilities t) → Affords r.charging m c → ⊥
 
 -- Every charge is covered: there is no limit, or nothing is charged.
 abbrev pub IsUnlimited : Bool → Meter → Type 0
@@ -40,7 +40,7 @@ RefusedUnlimited = (form : Form) (r : Reading) (m m' : Meter) (k : ErrorKind) �
 -- A place means a value that is taken, within its levels, or some reached place breaks a demand.
 abbrev pub ValueOrFault : Type 0
 ValueOrFault =
-    (form : Form) (r : Reading) → ((t : Tree) × (c : ℕ) × MeansThere r t c × Takes form (capabilities t)) ⊎ ((k : ErrorKind) × HasFault form r k)
+    (form : Form) (r : Reading) → ((t : Tree) × (c : ℕ) × MeansThere r t c × AllowsCapabilities form (capabilities t)) ⊎ ((k : ErrorKind) × HasFault form r k)
 
 -- Under a budget of x words at most x + 1 pointers are followed, whether a value is read, refused, or broken off.
 abbrev pub FewFollowed : Type 0

@@ -10,7 +10,7 @@ use Rattle.capnp_objects.specs.Demands.{own, Meets}
 use Rattle.capnp_objects.specs.Faults.{LeadsTo}
 use Rattle.capnp_objects.specs.Reading.{Reading}
 use Rattle.capnp_objects.specs.Spending.{after, pointers_in, pointers_in_all, pointers_in_elements}
-use Rattle.capnp_objects.specs.Wanted.{Form, Takes}
+use Rattle.capnp_objects.specs.Wanted.{Form, AllowsCapabilities}
 
 -- The place means t within the levels, at a cost; pointers one behind the other mean ts; elements of this size mean es.
 abbrev pub MeansThere : Reading → Tree → ℕ → Type 0
@@ -30,7 +30,7 @@ Spends charging m m' limit = (g : ℕ) × (r : ℕ) × Affords charging m g × (
 pub record Reads (form : Form) (r : Reading) (m m' : Meter) (t : Tree) : Type 0 where
   pub cost : ℕ
   pub means : MeansThere r t cost
-  pub takes : Takes form (capabilities t)
+  pub takes : AllowsCapabilities form (capabilities t)
   pub covers : Affords r.charging m cost
   pub spent : m' ≡ after r.charging m cost (pointers_in t)
 
@@ -38,7 +38,7 @@ pub record Reads (form : Form) (r : Reading) (m m' : Meter) (t : Tree) : Type 0 
 pub record ReadsAll (form : Form) (r : Reading) (m m' : Meter) (ts : Trees) : Type 0 where
   pub cost : ℕ
   pub means : MeanThere r ts cost
-  pub takes : Takes form (capabilities_all ts)
+  pub takes : AllowsCapabilities form (capabilities_all ts)
   pub covers : Affords r.charging m cost
   pub spent : m' ≡ after r.charging m cost (pointers_in_all ts)
 
@@ -46,7 +46,7 @@ pub record ReadsAll (form : Form) (r : Reading) (m m' : Meter) (ts : Trees) : Ty
 pub record ReadsElements (form : Form) (r : Reading) (size : StructSize) (m m' : Meter) (es : Elements) : Type 0 where
   pub cost : ℕ
   pub means : ElementsMean r size es cost
-  pub takes : Takes form (capabilities_elements es)
+  pub takes : AllowsCapabilities form (capabilities_elements es)
   pub covers : Affords r.charging m cost
   pub spent : m' ≡ after r.charging m cost (pointers_in_elements es)
 

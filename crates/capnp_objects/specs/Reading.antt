@@ -38,8 +38,8 @@ abbrev pub behind : Reading → ℕ → Reading
 behind r n = record r { at = r.at + n }
 
 -- The words of its segment, and the n words from the place on.
-abbrev pub row : Reading → List ℕ
-row r = segment r.segments r.segment
+abbrev pub segment_read : Reading → List ℕ
+segment_read r = segment r.segments r.segment
 
 abbrev pub words_from : Reading → ℕ → List ℕ
 words_from r n = words_at r.segments r.segment r.at n

@@ -154,8 +154,8 @@ pub data WalksBefore (r : Reading) (a : Target) (q : ℕ) (from to : Tally) : Ty
       WalksBefore r a q from to
 
 -- The tally with the words that an object counts, once it is measured.
-abbrev pub with_object : Tally → Target → Segments → Meter → Tally
-with_object from a S m = record { words = from.words + counted_words S a; caps = from.caps; meter = m }
+abbrev pub with_object_counted : Tally → Target → Segments → Meter → Tally
+with_object_counted from a S m = record { words = from.words + counted_words S a; caps = from.caps; meter = m }
 
 -- The walk stops at one object, with the limiter m', by the name k. The sums before it fit. The object can't be measured; or
 -- it is measured, and with its own words, or with it as a capability, the sums are too much.
@@ -179,7 +179,7 @@ pub data SizeStops (k : ErrorKind) : Reading → Tally → Meter → Type 0 wher
   below :
       {r : Reading} {from mid : Tally} {first m' : Meter} (a : Target) (q : ℕ) →
       Entered Size r from.meter first a →
-      WalksBefore r a q (with_object from a r.segments first) mid →
+      WalksBefore r a q (with_object_counted from a r.segments first) mid →
       SizeStops k (child_at r a (pred r.levels) q) mid m' →
       SizeStops k r from m'
 

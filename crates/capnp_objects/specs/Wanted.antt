@@ -79,5 +79,5 @@ abbrev pub BreaksAt : Form → ErrorKind → Reading → Type 0
 BreaksAt form k r = (word_of r ≢ 0) × FailsThere r (BreaksObject Value form r.segments r.levels) k
 
 -- What a reading of a whole value takes: every value, or one without capabilities.
-abbrev pub Takes : Form → ℕ → Type 0
-Takes form capabilities = RefusesCapabilities form → capabilities ≡ 0
+abbrev pub AllowsCapabilities : Form → ℕ → Type 0
+AllowsCapabilities form capabilities = RefusesCapabilities form → capabilities ≡ 0

@@ -15,7 +15,7 @@ ghost use Rattle.capnp_objects.specs.Wanted.{plain, non_struct_tag};
 ghost use Rattle.capnp_objects.specs.Objects.{near_at, IsObject, IsHeld, IsFew};
 ghost use Rattle.capnp_objects.specs.Outcomes.{Entered};
 ghost use Rattle.capnp_objects.specs.Refusals.{Stopped, CanBeRead};
-ghost use Rattle.capnp_objects.specs.Landings.{target, IsPad, FollowsPointer, FailsPointer, FollowsFar, FailsFar, IsClaimed, NotClaimed, NotEntered, IsOpened};
+ghost use Rattle.capnp_objects.specs.Landings.{landing_target, IsPad, FollowsPointer, FailsPointer, FollowsFar, FailsFar, IsClaimed, NotClaimed, NotEntered, IsOpened};
 
 mod expected;
 mod measure;
@@ -276,11 +276,12 @@ impl<'a, A: ReaderArena> Source<'a, A> {
         requires level { purpose ≡ Size → 0 < depth }
         ensures object { IfOk result (λ x. IsOpened purpose (source_segments A.segments self.entry)
             (source_charging A.charging self.entry) depth
-            (target landing.entry) lim.old lim.new x) }
+            (landing_target landing.entry) lim.old lim.new x) }
         ensures few { IfOk result IsFew }
         ensures refused { IfErr result
             (NotEntered purpose (source_segments A.segments self.entry)
-            (source_charging A.charging self.entry) depth (target landing.entry) lim.old lim.new) }
+            (source_charging A.charging self.entry) depth (landing_target landing.entry) lim.old
+            lim.new) }
     {
         match landing.word.kind() {
             WirePointerKind::Struct => self.enter_struct(purpose, landing, depth, lim),
@@ -308,10 +309,12 @@ impl<'a, A: ReaderArena> Source<'a, A> {
         requires is_object { kind landing.word.0 < 2 }
         requires claimed { words ≡ claim landing.word.0 }
         ensures claimed { OnOk result (IsClaimed (source_segments A.segments self.entry)
-            (source_charging A.charging self.entry) depth (target landing.entry) lim.old lim.new) }
+            (source_charging A.charging self.entry) depth (landing_target landing.entry) lim.old
+            lim.new) }
         ensures refused { IfErr result
             (NotClaimed (source_segments A.segments self.entry)
-            (source_charging A.charging self.entry) depth (target landing.entry) lim.old lim.new) }
+            (source_charging A.charging self.entry) depth (landing_target landing.entry) lim.old
+            lim.new) }
     {
         if depth == 0 {
             return Err(ErrorKind::MessageIsTooDeeplyNestedOrContainsCycles);
@@ -335,11 +338,12 @@ impl<'a, A: ReaderArena> Source<'a, A> {
         requires is_struct { kind landing.word.0 ≡ 0 }
         ensures object { IfOk result (λ x. IsOpened purpose (source_segments A.segments self.entry)
             (source_charging A.charging self.entry) depth
-            (target landing.entry) lim.old lim.new x) }
+            (landing_target landing.entry) lim.old lim.new x) }
         ensures few { IfOk result IsFew }
         ensures refused { IfErr result
             (NotEntered purpose (source_segments A.segments self.entry)
-            (source_charging A.charging self.entry) depth (target landing.entry) lim.old lim.new) }
+            (source_charging A.charging self.entry) depth (landing_target landing.entry) lim.old
+            lim.new) }
     {
         match self.claim(landing, landing.word.struct_word_size(), depth, lim) {
             Ok(()) => Ok(Object::Struct {
@@ -364,11 +368,12 @@ impl<'a, A: ReaderArena> Source<'a, A> {
         requires level { purpose ≡ Size → 0 < depth }
         ensures object { IfOk result (λ x. IsOpened purpose (source_segments A.segments self.entry)
             (source_charging A.charging self.entry) depth
-            (target landing.entry) lim.old lim.new x) }
+            (landing_target landing.entry) lim.old lim.new x) }
         ensures few { IfOk result IsFew }
         ensures refused { IfErr result
             (NotEntered purpose (source_segments A.segments self.entry)
-            (source_charging A.charging self.entry) depth (target landing.entry) lim.old lim.new) }
+            (source_charging A.charging self.entry) depth (landing_target landing.entry) lim.old
+            lim.new) }
     {
         match landing.word.list_element_size() {
             ElementSize::InlineComposite => self.enter_structs(purpose, landing, depth, lim),
@@ -392,11 +397,12 @@ impl<'a, A: ReaderArena> Source<'a, A> {
         requires level { purpose ≡ Size → 0 < depth }
         ensures object { IfOk result (λ x. IsOpened purpose (source_segments A.segments self.entry)
             (source_charging A.charging self.entry) depth
-            (target landing.entry) lim.old lim.new x) }
+            (landing_target landing.entry) lim.old lim.new x) }
         ensures few { IfOk result IsFew }
         ensures refused { IfErr result
             (NotEntered purpose (source_segments A.segments self.entry)
-            (source_charging A.charging self.entry) depth (target landing.entry) lim.old lim.new) }
+            (source_charging A.charging self.entry) depth (landing_target landing.entry) lim.old
+            lim.new) }
     {
         let start = landing.start;
         let size = ElementSize::Void;
@@ -431,11 +437,12 @@ impl<'a, A: ReaderArena> Source<'a, A> {
         requires is_flat { size_number size ≤ 5 }
         ensures object { IfOk result (λ x. IsOpened purpose (source_segments A.segments self.entry)
             (source_charging A.charging self.entry) depth
-            (target landing.entry) lim.old lim.new x) }
+            (landing_target landing.entry) lim.old lim.new x) }
         ensures few { IfOk result IsFew }
         ensures refused { IfErr result
             (NotEntered purpose (source_segments A.segments self.entry)
-            (source_charging A.charging self.entry) depth (target landing.entry) lim.old lim.new) }
+            (source_charging A.charging self.entry) depth (landing_target landing.entry) lim.old
+            lim.new) }
     {
         let count = landing.word.list_element_count();
         let bits = data_bits_per_element(size);
@@ -463,11 +470,12 @@ impl<'a, A: ReaderArena> Source<'a, A> {
         requires of_pointers { element_size landing.word.0 ≡ 6 }
         ensures object { IfOk result (λ x. IsOpened purpose (source_segments A.segments self.entry)
             (source_charging A.charging self.entry) depth
-            (target landing.entry) lim.old lim.new x) }
+            (landing_target landing.entry) lim.old lim.new x) }
         ensures few { IfOk result IsFew }
         ensures refused { IfErr result
             (NotEntered purpose (source_segments A.segments self.entry)
-            (source_charging A.charging self.entry) depth (target landing.entry) lim.old lim.new) }
+            (source_charging A.charging self.entry) depth (landing_target landing.entry) lim.old
+            lim.new) }
     {
         let count = landing.word.list_element_count();
         match self.claim(landing, count, depth, lim) {
@@ -492,11 +500,12 @@ impl<'a, A: ReaderArena> Source<'a, A> {
         requires of_structs { element_size landing.word.0 ≡ 7 }
         ensures object { IfOk result (λ x. IsOpened purpose (source_segments A.segments self.entry)
             (source_charging A.charging self.entry) depth
-            (target landing.entry) lim.old lim.new x) }
+            (landing_target landing.entry) lim.old lim.new x) }
         ensures few { IfOk result IsFew }
         ensures refused { IfErr result
             (NotEntered purpose (source_segments A.segments self.entry)
-            (source_charging A.charging self.entry) depth (target landing.entry) lim.old lim.new) }
+            (source_charging A.charging self.entry) depth (landing_target landing.entry) lim.old
+            lim.new) }
     {
         let words = landing.word.list_inline_composite_word_count();
         match self.claim(landing, words + 1, depth, lim) {

@@ -17,8 +17,8 @@ use Rattle.capnp_format.specs.Numbers.{element_bits}
 use Rattle.capnp_format.specs.Segments.{word_at}
 use Rattle.capnp_objects.specs.Reading.{word_of, tag_size}
 use Rattle.capnp_objects.specs.Source.{default_segment, default_segments}
-use Rattle.capnp_readers.specs.Readers.{reading, IsListOf, IsTarget}
-use Rattle.capnp_readers.specs.Calls.{IsDefault, IsRead, without_default, not_null, of_default, IsUnread, short_default, of_null_default, call, IsAnswered, IsNull}
+use Rattle.capnp_readers.specs.Readers.{reading, IsTargetList, IsTarget}
+use Rattle.capnp_readers.specs.Calls.{IsDefault, IsRead, without_default, not_null, of_default, IsUnread, short_default, of_null_default, call, IsAnswered, IsNullUncharged}
 use Rattle.capnp_readers.specs.Sections.{IsWide}
 use Rattle.capnp_readers.specs.declared.readers.PointerReader.{PointerReader}
 use Rattle.capnp_readers.specs.declared.readers.list_reader.ListReader.{ListReader}
@@ -116,7 +116,7 @@ module _ {A : Type 0} (g : Ghosts A) where
     pub target : IsTarget g p m m' t
 
   -- a target of another kind than the object that was read is null
-  pub no_struct : {p : PointerReader A g} {m m' : Meter} {x : Object} (t : ReadTarget A g) → IsGiven ExpectsStruct (reading g p).levels x → IsShown p m m' x t → ((r : StructReader A g) → t ≡ StructTarget r → ⊥) → IsNull g p m m'
+  pub no_struct : {p : PointerReader A g} {m m' : Meter} {x : Object} (t : ReadTarget A g) → IsGiven ExpectsStruct (reading g p).levels x → IsShown p m m' x t → ((r : StructReader A g) → t ≡ StructTarget r → ⊥) → IsNullUncharged g p m m'
   no_struct NullTarget given h other = h.target
   no_struct {p} {x = x} (CapTarget i) given h other = elim (struct_or_null x given h.read) [
     | inl null ↦ null
@@ -128,7 +128,7 @@ module _ {A : Type 0} (g : Ghosts A) where
     | inr (b, there, z) ↦ absurd (let same : h.target.0 ≡ b = same_target (reading g p).segments (reading g p).segment (reading g p).at h.target.1.leads_to.1 there.1 in let k = rw (← same) at z in let one = h.target.2 in omega (arith, k, one))
   ]
 
-  pub no_list : (size : ElementSize) {p : PointerReader A g} {m m' : Meter} {x : Object} (t : ReadTarget A g) → IsGiven (ExpectsList size) (reading g p).levels x → IsShown p m m' x t → ((r : ListReader A g) → t ≡ ListTarget r → ⊥) → IsNull g p m m'
+  pub no_list : (size : ElementSize) {p : PointerReader A g} {m m' : Meter} {x : Object} (t : ReadTarget A g) → IsGiven (ExpectsList size) (reading g p).levels x → IsShown p m m' x t → ((r : ListReader A g) → t ≡ ListTarget r → ⊥) → IsNullUncharged g p m m'
   no_list size NullTarget given h other = h.target
   no_list size {p} {x = x} (CapTarget i) given h other = elim (list_or_null size x given h.read) [
     | inl null ↦ null
@@ -142,7 +142,7 @@ module _ {A : Type 0} (g : Ghosts A) where
 
   -- the elements of a list that fits are wide enough
   wide_list : (size : ElementSize) {p : PointerReader A g} {m m' : Meter} {x : Object} {r : ListReader A g} (h : IsShown p m m' x (ListTarget r)) (found : ElementSize) → misfit (ExpectsList size) (reading g p).segments h.target.0 ≡ None →
-      IsListOf g found (reading g p).segments r h.target.0 → IsWide size found r.struct_size
+      IsTargetList g found (reading g p).segments r h.target.0 → IsWide size found r.struct_size
   wide_list size {p} {r = r} h InlineComposite fits list =
       (let sections : r.struct_size ≡ tag_size (reading g p).segments h.target.0 = ap₂ (λ i j. record { data_words = i; pointers = j }) list.1.data_of list.1.pointers_of in wide_structs size r.struct_size (rw sections (rw list.0 at fits)))
   wide_list size h Void fits list = let wide = wide_elements size 0 (rw list.0 at fits) in record { bits = wide.0; pointers = λ six. absurd (omega (arith, wide.1 six)); whole = wide.2 }

@@ -15,7 +15,7 @@ use Rattle.std.proofs.Common.{true, false, IsTrue, Bool}
 use Rattle.capnp_objects.specs.Demands.{claim, tag, own, element_words}
 use Rattle.capnp_objects.specs.Faults.{LeadsTo, child_at}
 use Rattle.capnp_objects.specs.Outcomes.{Entered}
-use Rattle.capnp_objects.specs.Reading.{Reading, word_of, row, behind, pointers_of, tag_size}
+use Rattle.capnp_objects.specs.Reading.{Reading, word_of, segment_read, behind, pointers_of, tag_size}
 use Rattle.capnp_objects.specs.Spending.{Paid, pointers_in_all, pointers_in_elements}
 use Rattle.capnp_format.proofs.Children.{with_last, count-with_last}
 use Rattle.capnp_format.proofs.ManyEmpty.{blank, blank-count}
@@ -54,7 +54,7 @@ one_level_more l zero some h = absurd (omega arith)
 one_level_more l (suc n) some h = omega arith
 
 -- The place that is tested, by the bytes that are read there.
-pub tested : (r : Reading) (bytes : List ℕ) → words_of bytes ≡ row r → ((i : ℕ) → slice_index (words_of bytes) i < 2 ^ 64) → r.at < length (words_of bytes) → kind (slice_index (words_of bytes) r.at) < 2 → IsTested r
+pub tested : (r : Reading) (bytes : List ℕ) → words_of bytes ≡ segment_read r → ((i : ℕ) → slice_index (words_of bytes) i < 2 ^ 64) → r.at < length (words_of bytes) → kind (slice_index (words_of bytes) r.at) < 2 → IsTested r
 tested r bytes e small at near = record {
   small = λ p. subst (λ ws. slice_index ws p < 2 ^ 64) e (small p);
   there = subst (λ ws. r.at < length ws) e at;
@@ -96,7 +96,7 @@ abbrev pub data_of_row : Reading → StructSize → ℕ → List ℕ
 data_of_row r size j = words_at r.segments r.segment (r.at + j * (size.data_words + size.pointers)) size.data_words
 
 pub finds_element : {r : Reading} {size : StructSize} {from mid to : Progress} {es : Elements} {ts : Trees} → FindsElements r size from mid es →
-    r.at + element_count es * (size.data_words + size.pointers) + size.data_words ≤ length (row r) → count ts ≡ size.pointers → FindsAll (pointers_of r size (element_count es)) mid to ts →
+    r.at + element_count es * (size.data_words + size.pointers) + size.data_words ≤ length (segment_read r) → count ts ≡ size.pointers → FindsAll (pointers_of r size (element_count es)) mid to ts →
     FindsElements r size from to (with_last_element es (data_of_row r size (element_count es)) ts)
 finds_element {r} {size} {from} {mid} {to} {es} {ts} all fits len one =
     let d : ℕ = size.data_words in
@@ -180,7 +180,7 @@ struct_finds {r} {from} {to} {m'} {a} ready o z start some used (ts, len, all) =
       Struct ws ts,
       record {
         stands = struct_stands S r.segment r.at h a d q ts ready.small ready.there (not_far r ready.near) (struct_at o z) start claims some (used_at S seg start refl used.0) (used_at S seg (omega (arith, start)) refl used.1) len there;
-        inside = for_offset (Struct ws ts) (h ≤ length (row r)) (omega (arith, room));
+        inside = for_offset (Struct ws ts) (h ≤ length (segment_read r)) (omega (arith, room));
         levels = one_level_more (depth_all ts) r.levels o.meets.levels all.levels;
         paid = subst (λ c. Paid r.charging from.meter to.meter c (1 + pointers_in_all ts)) cost (paid_both (paid_own o) all.paid);
         head_is = omega (arith, all.head_is, start, long, len);
@@ -201,7 +201,7 @@ pointers_find {r} {from} {to} {m'} {a} ready o z six start (ts, len, all) =
       Pointers ts,
       record {
         stands = pointers_stand S r.segment r.at h a n ts ready.small ready.there (not_far r ready.near) (list_at 6 o z six) start claims len there;
-        inside = for_offset (Pointers ts) (h ≤ length (row r)) (omega (arith, claims, start, ap (λ x. length (segment S x)) seg));
+        inside = for_offset (Pointers ts) (h ≤ length (segment_read r)) (omega (arith, claims, start, ap (λ x. length (segment S x)) seg));
         levels = one_level_more (depth_all ts) r.levels o.meets.levels all.levels;
         paid = subst (λ c. Paid r.charging from.meter to.meter c (1 + pointers_in_all ts)) cost (paid_both (paid_own o) all.paid);
         head_is = omega (arith, all.head_is, start, len);
@@ -226,7 +226,7 @@ flat_finds {r} {from} {m'} {a} ready o z small start padded =
       Flat size ns,
       record {
         stands = flat_stands S r.segment r.at h a size n ready.small ready.there (not_far r ready.near) (list_at size o z refl) small start claims there;
-        inside = for_offset (Flat size ns) (h ≤ length (row r)) (omega (arith, claims, start, ap (λ x. length (segment S x)) seg));
+        inside = for_offset (Flat size ns) (h ≤ length (segment_read r)) (omega (arith, claims, start, ap (λ x. length (segment S x)) seg));
         levels = omega (arith, o.meets.levels);
         paid = subst (λ c. Paid r.charging from.meter m' c 1) cost (paid_own o);
         head_is = ap₂ (λ x y. x + words_for size y) start (sym long);
@@ -254,7 +254,7 @@ structs_find {r} {from} {to} {m'} {a} ready o z seven start exact (es, len, dw, 
       Structs d q es,
       record {
         stands = structs_stand S r.segment r.at h a m (element_count es) d q es ready.small ready.there (not_far r ready.near) (list_at 7 o z seven) start claims tagged words refl dw pw there;
-        inside = for_offset (Structs d q es) (h ≤ length (row r)) (omega (arith, claims, start, ap (λ x. length (segment S x)) seg));
+        inside = for_offset (Structs d q es) (h ≤ length (segment_read r)) (omega (arith, claims, start, ap (λ x. length (segment S x)) seg));
         levels = one_level_more (depth_elements es) r.levels o.meets.levels all.levels;
         paid = subst (λ c. Paid r.charging from.meter to.meter c (1 + pointers_in_elements es)) cost (paid_both (paid_own o) all.paid);
         head_is = omega (arith, all.head_is, start, words);
@@ -516,7 +516,7 @@ width_reached a b d x l m e f = (
   ])),
 )
 
-pub row_seen : {r : Reading} {size : StructSize} {i : ℕ} {from mid to : Progress} {b c : Bool} (b' c' : Bool) → AreSeen r size i from mid b c → r.at + i * (size.data_words + size.pointers) + (size.data_words + size.pointers) ≤ length (row r) →
+pub row_seen : {r : Reading} {size : StructSize} {i : ℕ} {from mid to : Progress} {b c : Bool} (b' c' : Bool) → AreSeen r size i from mid b c → r.at + i * (size.data_words + size.pointers) + (size.data_words + size.pointers) ≤ length (segment_read r) →
     AreFound (pointers_of r size i) size.pointers mid to → IsTrue b' ↔ (IsTrue b ⊎ RowDataUsed r size i) → IsTrue c' ↔ (IsTrue c ⊎ RowPointersUsed r size i) → AreSeen r size (i + 1) from to b' c'
 row_seen {r} {size} {i} {from} {mid} {to} {b} {c} b' c' seen fits (ts, len, all) f g =
     let S : Segments = r.segments in
@@ -675,10 +675,10 @@ lists_alone m m' (ObjectStructs start size n) ready list object = tt
 
 -- the words of an object are there
 
-pub struct_room : {r : Reading} {m m' : Meter} (start : Place) (size : StructSize) → IsObject Value r m m' (ObjectStruct start size) → start.at + (size.data_words + size.pointers) ≤ length (row (beginning r start))
+pub struct_room : {r : Reading} {m m' : Meter} (start : Place) (size : StructSize) → IsObject Value r m m' (ObjectStruct start size) → start.at + (size.data_words + size.pointers) ≤ length (segment_read (beginning r start))
 struct_room {r} start size (a, o, z, (held, seg, at), wide, many) = omega (arith, o.meets.claims, claim_struct a.word z, at, wide, many, ap (λ s. length (segment r.segments s)) seg)
 
-pub structs_room : {r : Reading} {m m' : Meter} (start : Place) (size : StructSize) (n : ℕ) → kind (word_of r) < 2 → IsObject Value r m m' (ObjectStructs start size n) → start.at + list_count (word_of r) ≤ length (row (first_element r start))
+pub structs_room : {r : Reading} {m m' : Meter} (start : Place) (size : StructSize) (n : ℕ) → kind (word_of r) < 2 → IsObject Value r m m' (ObjectStructs start size n) → start.at + list_count (word_of r) ≤ length (segment_read (first_element r start))
 structs_room {r} start size n near (a, o, z, seven, (held, seg, at), many, wide, pointers) =
     let claimed : list_count (word_of r) ≡ list_count a.word = ap list_count (sym (near_object r near o.leads_to).same_word) in
     omega (arith, o.meets.claims, claim_list a.word 7 z seven, at, claimed, ap (λ s. length (segment r.segments s)) seg)
@@ -697,7 +697,7 @@ seen_now e f g = (
   ]),
 )
 
-pub pointers_room : {r : Reading} {m m' : Meter} (start : Place) (n : ℕ) → IsObject Value r m m' (ObjectPointers start n) → start.at + n ≤ length (row (beginning r start))
+pub pointers_room : {r : Reading} {m m' : Meter} (start : Place) (n : ℕ) → IsObject Value r m m' (ObjectPointers start n) → start.at + n ≤ length (segment_read (beginning r start))
 pointers_room {r} start n (a, o, z, six, (held, seg, at), many) = omega (arith, o.meets.claims, claim_list a.word 6 z six, at, many, ap (λ s. length (segment r.segments s)) seg)
 
 -- A struct with words starts at the head.

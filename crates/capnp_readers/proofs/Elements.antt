@@ -4,12 +4,12 @@ use Rattle.capnp_words.specs.declared.wire_pointer.ElementSize.{ElementSize}
 use Rattle.capnp_words.specs.declared.wire_pointer.ElementSize.TheVariants.{Void, Bit, Byte, TwoBytes, FourBytes, EightBytes, Pointer, InlineComposite}
 use Rattle.capnp_words.specs.declared.wire_pointer.StructSize.{StructSize}
 use Rattle.capnp_arena.specs.declared.arena.reader_arena.ReaderArena.{Ghosts}
-use Rattle.capnp_readers.specs.Sections.{list_words, step_bits, data_bits}
+use Rattle.capnp_readers.specs.Sections.{elements_words, step_bits, data_bits}
 use Rattle.capnp_readers.specs.declared.readers.list_reader.ListReader.{ListReader}
 use Rattle.capnp_readers.proofs.Sections.{words_within}
 
 -- the data of an element lies among the bits of all
-data_among : (size : ElementSize) (sections : StructSize) (n i : ℕ) → i < n → i * step_bits size sections + data_bits size sections ≤ 64 * list_words size n (sections.data_words + sections.pointers)
+data_among : (size : ElementSize) (sections : StructSize) (n i : ℕ) → i < n → i * step_bits size sections + data_bits size sections ≤ 64 * elements_words size n (sections.data_words + sections.pointers)
 data_among InlineComposite sections n i l = omega (arith, words_within (sections.data_words + sections.pointers) n i l)
 data_among Pointer sections n i l = omega arith
 data_among Void sections n i l = omega arith

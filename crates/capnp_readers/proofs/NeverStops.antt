@@ -9,7 +9,7 @@ use Rattle.capnp_words.specs.Meter.{Meter, Affords}
 use Rattle.capnp_words.specs.declared.error.ErrorKind.{ErrorKind}
 use Rattle.capnp_objects.specs.Demands.{claim, tag, own}
 use Rattle.capnp_objects.specs.Outcomes.{Entered}
-use Rattle.capnp_objects.specs.Reading.{Reading, word_of, row, behind, pointers_of, tag_size}
+use Rattle.capnp_objects.specs.Reading.{Reading, word_of, segment_read, behind, pointers_of, tag_size}
 use Rattle.capnp_objects.specs.Refusals.{here as stopped_here}
 use Rattle.capnp_objects.specs.Spending.{Paid}
 use Rattle.capnp_objects.specs.declared.object.Purpose.TheVariants.{Value}
@@ -31,7 +31,7 @@ use Rattle.capnp_readers.proofs.Takes.{stands_means_at}
 -- The pointer that comes next where a row of more pointers stands can be found, if what was charged before it is part of what is covered.
 record Rest (r : Reading) (from : Progress) (m : Meter) (us : Trees) : Type 0 where
   stand : AllStand r.segments r.segment r.at from.head us
-  within : from.head ≤ length (row r)
+  within : from.head ≤ length (segment_read r)
   levels : depth_all us ≤ r.levels
   before : ℕ
   pointers : ℕ
@@ -44,10 +44,10 @@ next_can : {r : Reading} {from mid : Progress} {m : Meter} {us : Trees} (ts : Tr
 next_can {r} {from} {mid} {m} {us} ts rest all less =
     let S : Segments = r.segments in
     let next = next_stands S r.segment r.at from.head ts us all.stand rest.stand less in
-    let inside : mid.head ≤ length (row r) = omega (arith, all.head_is, all_within S r.segment r.at from.head ts rest.within all.stand) in (
+    let inside : mid.head ≤ length (segment_read r) = omega (arith, all.head_is, all_within S r.segment r.at from.head ts rest.within all.stand) in (
       next.next,
       subst (λ h. Stands S r.segment (r.at + count ts) h next.next) (sym all.head_is) next.stands,
-      for_offset next.next (mid.head ≤ length (row r)) inside,
+      for_offset next.next (mid.head ≤ length (segment_read r)) inside,
       omega (arith, next.levelled, rest.levels),
       affords_rest (charge next.next) rest.whole (paid_both rest.paid all.paid) (omega (arith, next.charged, rest.fits)) rest.covers,
     )
@@ -164,7 +164,7 @@ stops_never {r = r} {from = from} (below {mid = mid} a near o start (in_pointers
 stops_never {r = r} {from = from} (below {mid = mid} a near o start (in_element es ts between list exact fewer less e rows all) stops) can =
     stops_never stops (subst (λ x. CanBeFound x mid) (sym e) (structs_next es ts near o list fewer less rows all can))
 
-pub row_stops_never : {k : ErrorKind} {r : Reading} {i : ℕ} {from : Progress} {m' : Meter} → TestsStop r i from m' k → from.head ≤ length (row r) → CanAllBeFound r i from → ⊥
+pub row_stops_never : {k : ErrorKind} {r : Reading} {i : ℕ} {from : Progress} {m' : Meter} → TestsStop r i from m' k → from.head ≤ length (segment_read r) → CanAllBeFound r i from → ⊥
 row_stops_never {r = r} {from = from} h inside (us, len, stand, levels, covers) =
     let rest : Rest r from from.meter us = record { stand = stand; within = inside; levels = levels; before = 0; pointers = 0; whole = charge_all us; paid = paid_none r from.meter; fits = omega arith; covers = covers } in
     stops_never h.ends (next_can h.first rest h.are_found (omega (arith, h.fewer, len)))

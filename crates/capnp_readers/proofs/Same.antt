@@ -10,7 +10,7 @@ use Rattle.capnp_format.proofs.Trimmed.{trim-depth}
 use Rattle.capnp_format.proofs.Unique.{Standing, for_offset}
 use Rattle.capnp_format.proofs.LawLemmas.{canonical_cost, one_stands}
 use Rattle.capnp_words.specs.Meter.{Affords}
-use Rattle.capnp_objects.specs.Reading.{Reading, row}
+use Rattle.capnp_objects.specs.Reading.{Reading, segment_read}
 use Rattle.capnp_objects.proofs.Budgets.{affords_rest}
 use Rattle.capnp_objects.proofs.Walked.{paid_none}
 use Rattle.capnp_readers.specs.Checking.{Progress, Finds}
@@ -22,7 +22,7 @@ copy_is_answered r q m m' h t read copy =
     let deep : depth (trim t) ≤ q.levels = omega (arith, trim-depth t, depth_within t (record { means = read.means }), copy.levels) in
     let cost : charge (trim t) ≤ read.cost = canonical_cost r.segments r.levels r.segment r.at t read.cost copy.words read.means in
     let covers : Affords r.charging m (charge (trim t)) = affords_rest (charge (trim t)) read.cost (paid_none r m) (omega (arith, cost)) read.covers in
-    (trim t, copy.stands, for_offset (trim t) (h ≤ length (row q)) copy.inside, deep, subst (λ b. Affords b m (charge (trim t))) (sym copy.charging) covers)
+    (trim t, copy.stands, for_offset (trim t) (h ≤ length (segment_read q)) copy.inside, deep, subst (λ b. Affords b m (charge (trim t))) (sym copy.charging) covers)
 
 pub found_is_meant : FoundIsMeant
 found_is_meant r from to t f = stands_means_at r.segments r.levels r.segment r.at from.head t f.levels f.inside f.stands

@@ -13,7 +13,7 @@ use Rattle.capnp_words.specs.declared.wire_pointer.ElementSize.TheVariants.{Void
 use Rattle.capnp_words.specs.declared.wire_pointer.StructSize.{StructSize}
 use Rattle.capnp_objects.specs.Objects.{IsHeld}
 use Rattle.capnp_objects.specs.declared.object.Place.{Place}
-use Rattle.capnp_readers.specs.Sections.{IsInside, IsPart, bytes_for, HoldsPointer, list_words, pointers_behind}
+use Rattle.capnp_readers.specs.Sections.{IsInside, IsPart, bytes_for, HoldsPointer, elements_words, pointers_behind}
 use Rattle.capnp_objects.specs.Source.{default_segments}
 use Rattle.capnp_arena.specs.declared.arena.reader_arena.ReaderArena.{Ghosts}
 use Rattle.capnp_readers.specs.declared.readers.list_reader.ListReader.{ListReader}
@@ -37,7 +37,7 @@ inside_bytes bits n offset some h =
     omega (arith, le-div (offset + 1) (bits / 8) n some (le-div ((offset + 1) * n) bits 8 (omega arith) bytes))
 
 -- the pointers of an element lie among the elements' words
-pub pointers_within : (size : ElementSize) (sections : StructSize) (count i : ℕ) → HoldsPointer size sections → i < count → pointers_behind size sections i < list_words size count (sections.data_words + sections.pointers)
+pub pointers_within : (size : ElementSize) (sections : StructSize) (count i : ℕ) → HoldsPointer size sections → i < count → pointers_behind size sections i < elements_words size count (sections.data_words + sections.pointers)
 pointers_within Pointer sections count i h l = l
 pointers_within InlineComposite sections count i h l =
     omega (arith, mul-add-lt i (sections.data_words + sections.pointers) sections.data_words count l (omega arith), mul_comm count (sections.data_words + sections.pointers))
@@ -56,10 +56,10 @@ held_words S start (words_are, whole, small) = omega (arith, whole, small)
 pub words_within : (width count i : ℕ) → i < count → i * width + width ≤ count * width
 words_within width count i h = grind (arith, rows)
 
-pub struct_within : (size : ElementSize) (width count i : ℕ) → size ≡ InlineComposite → i < count → i * width + width ≤ list_words size count width
+pub struct_within : (size : ElementSize) (width count i : ℕ) → size ≡ InlineComposite → i < count → i * width + width ≤ elements_words size count width
 struct_within size width count i e h = rw e (words_within width count i h)
 
-pub flat_words : (size : ElementSize) (n width : ℕ) → size_number size ≤ 5 → list_words size n width ≡ words_for (size_number size) n
+pub flat_words : (size : ElementSize) (n width : ℕ) → size_number size ≤ 5 → elements_words size n width ≡ words_for (size_number size) n
 flat_words Pointer n width h = absurd (omega arith)
 flat_words InlineComposite n width h = absurd (omega arith)
 flat_words Void n width h = refl
@@ -108,7 +108,7 @@ module _ {A : Type 0} (g : Ghosts A) where
       rw e (
       let size = list.element_size in
       let width = list.struct_size.data_words + list.struct_size.pointers in
-      let all = bytes_for (64 * list_words size list.count width) in
+      let all = bytes_for (64 * elements_words size list.count width) in
       let b = element_bits (size_number size) / 8 in
       let n : i * b + b - i * b ≡ b = omega arith in
       let words : all ≡ 8 * words_for (size_number size) list.count = omega (arith, flat_words size list.count width flat) in

@@ -10,7 +10,7 @@ use Rattle.capnp_words.specs.declared.wire_pointer.StructSize.{StructSize}
 use Rattle.capnp_arena.specs.declared.arena.reader_arena.ReaderArena.{Ghosts}
 use Rattle.capnp_objects.specs.Objects.{IsObject}
 use Rattle.capnp_objects.specs.Reading.{Reading}
-use Rattle.capnp_readers.specs.Readers.{ShowsStruct, ShowsList, IsListOf, IsTarget, reading}
+use Rattle.capnp_readers.specs.Readers.{ShowsStruct, ShowsList, IsTargetList, IsTarget, reading}
 use Rattle.capnp_objects.specs.declared.object.Place.{Place}
 use Rattle.capnp_objects.specs.declared.object.Object.{Object}
 use Rattle.capnp_objects.specs.declared.object.Object.TheVariants.{Struct as ObjectStruct, Flat as ObjectFlat, Pointers as ObjectPointers}
@@ -31,7 +31,7 @@ module _ {A : Type 0} (g : Ghosts A) where
   shows_list : {S : Segments} {r : ListReader A g} {s t p i n k : ℕ} → ShowsList g S r s p n 0 0 → s ≡ t → p ≡ i → n ≡ k → ShowsList g S r t i k 0 0
   shows_list h a b c = rw (← a, ← b, ← c) h
 
-  flat_list : (size : ElementSize) {S : Segments} {r : ListReader A g} (a : Target) → size_number size ≤ 6 → element_size a.word ≡ size_number size → ShowsList g S r a.segment a.start (list_count a.word) 0 0 → IsListOf g size S r a
+  flat_list : (size : ElementSize) {S : Segments} {r : ListReader A g} (a : Target) → size_number size ≤ 6 → element_size a.word ≡ size_number size → ShowsList g S r a.segment a.start (list_count a.word) 0 0 → IsTargetList g size S r a
   flat_list InlineComposite a h e s = absurd (omega arith)
   flat_list Void a h e s = (e, s)
   flat_list Bit a h e s = (e, s)

@@ -15,7 +15,7 @@ use Rattle.capnp_objects.specs.declared.object.Object.TheVariants.{Null as Objec
 use Rattle.capnp_objects.specs.declared.object.Purpose.TheVariants.{Size}
 use Rattle.capnp_objects.specs.Objects.{IsObject}
 use Rattle.capnp_objects.proofs.Parts.{claim_struct, claim_list}
-use Rattle.capnp_objects.specs.Reading.{Reading, row, sized}
+use Rattle.capnp_objects.specs.Reading.{Reading, segment_read, sized}
 use Rattle.capnp_objects.specs.Sizing.{FitSize, HasSize, HaveSizes, SizeRefused, SizesStop, SizeStops, RowsStop, Tally, tally, WalksPlace, WalksRows}
 use Rattle.capnp_objects.specs.Source.{levels}
 use Rattle.capnp_objects.proofs.Walked.{beginning, null_walked, flat_walked, struct_row_walked, pointers_row_walked, structs_rows_walked}
@@ -88,7 +88,7 @@ inside_structs start size i (a, o, z, seven, (held, seg, at), len, wide, many) =
     let room = o.meets.claims (λ v. omega (arith, v.1, seven)) in
     rw (seg, len, wide, many) (omega (arith, room, at, claim_list a.word 7 z seven, (o.meets.tagged (z, seven)).1))
 
-pub object_inside : {r : Reading} {m m' : Meter} {rows : Rows} (x : Object) → Opened r m m' x rows → rows.start.at + rows.count * (rows.data_words + rows.pointers) ≤ length (row (beginning r rows.start))
+pub object_inside : {r : Reading} {m m' : Meter} {rows : Rows} (x : Object) → Opened r m m' x rows → rows.start.at + rows.count * (rows.data_words + rows.pointers) ≤ length (segment_read (beginning r rows.start))
 object_inside {r} {m} {m'} (ObjectStruct start size) o = rw (o.has.0, o.has.1, o.has.2, o.has.3) (inside_struct {r = r} {m = m} {m' = m'} start size o.is_measured)
 object_inside {r} {m} {m'} (ObjectPointers start i) o = rw (o.has.0, o.has.1, o.has.2, o.has.3) (inside_pointers {r = r} {m = m} {m' = m'} start i o.is_measured)
 object_inside {r} {m} {m'} (ObjectStructs start size i) o = rw (o.has.0, o.has.1, o.has.2, o.has.3) (inside_structs {r = r} {m = m} {m' = m'} start size i o.is_measured)

@@ -83,33 +83,33 @@ module _ {A : Type 0} (g : Ghosts A) where
   IsRefused c m m' k = (IsUnread c.expected c.from k c.default × (m' ≡ m)) ⊎ WhereRead c (λ p. Withheld c.expected (reading g p) m m' k)
 
   -- The pointer is null, and nothing is counted or charged.
-  abbrev pub IsNull : PointerReader A g → Meter → Meter → Type 0
-  IsNull p m m' = (word_of (reading g p) ≡ 0) × (m' ≡ m)
+  abbrev pub IsNullUncharged : PointerReader A g → Meter → Meter → Type 0
+  IsNullUncharged p m m' = (word_of (reading g p) ≡ 0) × (m' ≡ m)
 
   -- The struct that a pointer leads to, its words checked and charged, from m to m'; of a null pointer the struct from nothing.
   abbrev pub IsNoStruct : StructReader A g → Type 0
   IsNoStruct r = (r.source ≡ Nothing) × (r.bits ≡ 0) × (r.pointer_count ≡ 0) × (r.nesting_limit ≡ pos (2 ^ 31 - 1))
 
   abbrev pub IsStructRead : PointerReader A g → Meter → Meter → StructReader A g → Type 0
-  IsStructRead p m m' r = (IsNull p m m' × IsNoStruct r) ⊎ IsTarget g p m m' (StructTarget r)
+  IsStructRead p m m' r = (IsNullUncharged p m m' × IsNoStruct r) ⊎ IsTarget g p m m' (StructTarget r)
 
   -- The list that a pointer leads to, of elements that are wide enough; of a null pointer the list from nothing.
   abbrev pub IsNoList : ListReader A g → Type 0
   IsNoList r = (r.source ≡ Nothing) × (r.element_size ≡ Void) × (r.count ≡ 0) × (r.nesting_limit ≡ pos (2 ^ 31 - 1))
 
   abbrev pub IsListRead : ElementSize → PointerReader A g → Meter → Meter → ListReader A g → Type 0
-  IsListRead expected p m m' r = (IsNull p m m' × IsNoList r) ⊎ (IsTarget g p m m' (ListTarget r) × IsWide expected r.element_size r.struct_size)
+  IsListRead expected p m m' r = (IsNullUncharged p m m' × IsNoList r) ⊎ (IsTarget g p m m' (ListTarget r) × IsWide expected r.element_size r.struct_size)
 
   -- A call gives the list that is read of its pointer, or of the default's.
   abbrev pub GivesList : ElementSize → Call → Meter → Meter → ListReader A g → Type 0
   GivesList expected c m m' r = WhereRead c (λ p. IsListRead expected p m m' r)
 
   -- How many bytes of a list of n bytes are a text's, without its last 0, or are data.
-  abbrev pub bytes_of : Expected → ℕ → ℕ
-  bytes_of Text n = n - 1
-  bytes_of expected n = n
+  abbrev pub byte_count : Expected → ℕ → ℕ
+  byte_count Text n = n - 1
+  byte_count expected n = n
 
   -- The bytes that a pointer leads to, in place; of a null pointer none.
   abbrev pub AreBytesRead : Expected → PointerReader A g → Meter → Meter → List ℕ → Type 0
   AreBytesRead expected p m m' bytes =
-      (IsNull p m m' × (bytes ≡ [])) ⊎ ((a : Target) × Entered Value (one_level (reading g p)) m m' a × ShowsBytes (reading g p) a (bytes_of expected (list_count a.word)) bytes)
+      (IsNullUncharged p m m' × (bytes ≡ [])) ⊎ ((a : Target) × Entered Value (one_level (reading g p)) m m' a × ShowsBytes (reading g p) a (byte_count expected (list_count a.word)) bytes)

@@ -17,7 +17,7 @@ use Rattle.capnp_objects.specs.declared.object.Object.TheVariants.{Null as Objec
 use Rattle.capnp_objects.specs.Demands.{claim, tag, element_words, IsStructList}
 use Rattle.capnp_objects.specs.Faults.{child_at}
 use Rattle.capnp_objects.specs.Outcomes.{Entered}
-use Rattle.capnp_objects.specs.Reading.{Reading, word_of, row, behind, pointers_of, sized, tag_size}
+use Rattle.capnp_objects.specs.Reading.{Reading, word_of, segment_read, behind, pointers_of, sized, tag_size}
 use Rattle.capnp_objects.specs.Refusals.{Stopped}
 use Rattle.capnp_objects.specs.Spending.{Paid, pointers_in, pointers_in_all, pointers_in_elements}
 use Rattle.capnp_objects.specs.Wanted.{plain}
@@ -40,7 +40,7 @@ progress h m = record { head = h; meter = m }
 -- The canonical words of t stand at a place and a head: the levels are enough, its cost is paid, and the head moves behind them.
 pub record Finds (r : Reading) (from to : Progress) (t : Tree) : Type 0 where
   pub stands : Stands r.segments r.segment r.at from.head t
-  pub inside : ForOffset t (from.head ≤ length (row r))
+  pub inside : ForOffset t (from.head ≤ length (segment_read r))
   pub levels : depth t ≤ r.levels
   pub paid : Paid r.charging from.meter to.meter (charge t) (pointers_in t)
   pub head_is : to.head ≡ from.head + word_count t
@@ -132,23 +132,23 @@ TellsClaimed r size n claimed m m' None = n * (size.data_words + size.pointers) 
 -- pointers.
 abbrev pub CanBeFound : Reading → Progress → Type 0
 CanBeFound r from =
-    (t : Tree) × Stands r.segments r.segment r.at from.head t × ForOffset t (from.head ≤ length (row r)) × (depth t ≤ r.levels) × Affords r.charging from.meter (charge t)
+    (t : Tree) × Stands r.segments r.segment r.at from.head t × ForOffset t (from.head ≤ length (segment_read r)) × (depth t ≤ r.levels) × Affords r.charging from.meter (charge t)
 
 abbrev pub CanAllBeFound : Reading → ℕ → Progress → Type 0
 CanAllBeFound r i from =
     (ts : Trees) × (count ts ≡ i) × AllStand r.segments r.segment r.at from.head ts × (depth_all ts ≤ r.levels) × Affords r.charging from.meter (charge_all ts)
 
 -- The name of a refusal: a list that has no level is refused by another than a struct is.
-abbrev pub refusal_name : ℕ → ErrorKind → ErrorKind
-refusal_name w MessageIsTooDeeplyNestedOrContainsCycles = cond (nat_eq (kind w) 1) NestingLimitExceeded MessageIsTooDeeplyNestedOrContainsCycles
-refusal_name w k = k
+abbrev pub level_refusal_name : ℕ → ErrorKind → ErrorKind
+level_refusal_name w MessageIsTooDeeplyNestedOrContainsCycles = cond (nat_eq (kind w) 1) NestingLimitExceeded MessageIsTooDeeplyNestedOrContainsCycles
+level_refusal_name w k = k
 
 -- The object of a near pointer can't be read, from m to m', for the reason k: its reading stops as any other does.
 pub record Unread (r : Reading) (m m' : Meter) (k : ErrorKind) : Type 0 where
   pub name : ErrorKind
   pub near : kind (word_of r) < 2
   pub stopped : Stopped Value plain r m m' name
-  pub named : k ≡ refusal_name (word_of r) name
+  pub named : k ≡ level_refusal_name (word_of r) name
 
 -- The head behind an object's own words, once these are read.
 abbrev pub behind_object : Target → Meter → Progress

@@ -7,7 +7,7 @@ use Rattle.capnp_format.specs.Canonical.{Stands, charge, trim}
 use Rattle.capnp_format.specs.Segments.{words_at, AreWords}
 use Rattle.capnp_objects.specs.Outcomes.{MeansThere, Reads}
 use Rattle.capnp_objects.specs.Spending.{Paid}
-use Rattle.capnp_objects.specs.Reading.{Reading, word_of, row}
+use Rattle.capnp_objects.specs.Reading.{Reading, word_of, segment_read}
 use Rattle.capnp_objects.specs.Wanted.{canonical}
 use Rattle.capnp_readers.specs.Checking.{Progress, progress, Finds, CanBeFound, CanAllBeFound, TestStops, TestsStop, TestFails, TestsFail}
 
@@ -17,7 +17,7 @@ abbrev pub CanonicalIsAnswered : Type 0
 CanonicalIsAnswered = (k : ErrorKind) (r : Reading) (from : Progress) (m' : Meter) → TestStops k r from m' → CanBeFound r from → ⊥
 
 abbrev pub CanonicalPointersAreAnswered : Type 0
-CanonicalPointersAreAnswered = (k : ErrorKind) (r : Reading) (i : ℕ) (from : Progress) (m' : Meter) → TestsStop r i from m' k → from.head ≤ length (row r) → CanAllBeFound r i from → ⊥
+CanonicalPointersAreAnswered = (k : ErrorKind) (r : Reading) (i : ℕ) (from : Progress) (m' : Meter) → TestsStop r i from m' k → from.head ≤ length (segment_read r) → CanAllBeFound r i from → ⊥
 
 -- The canonical words of a value stand at a place with a head in its segment, which is read within the same levels, and charged as
 -- the place that means the value is.
@@ -25,7 +25,7 @@ pub record IsCopyThere (r q : Reading) (h : ℕ) (t : Tree) : Type 0 where
   pub words : AreWords r.segments
   pub levels : q.levels ≡ r.levels
   pub charging : q.charging ≡ r.charging
-  pub inside : h ≤ length (row q)
+  pub inside : h ≤ length (segment_read q)
   pub stands : Stands q.segments q.segment q.at h (trim t)
 
 -- What is read for a canonical copy within some limits, and stands as canonical words, is tested within the same limits.

@@ -15,7 +15,7 @@ use Rattle.capnp_objects.specs.Reading.{Reading, reading_at, word_of}
 use Rattle.capnp_objects.specs.Outcomes.{Entered}
 use Rattle.capnp_objects.specs.Objects.{IsObject}
 use Rattle.capnp_objects.specs.declared.object.Object.{Object}
-use Rattle.capnp_readers.specs.Sections.{bytes_for, list_words, step_bits}
+use Rattle.capnp_readers.specs.Sections.{bytes_for, elements_words, step_bits}
 use Rattle.capnp_objects.specs.Source.{source_segments}
 use Rattle.capnp_objects.specs.Spending.{after}
 use Rattle.capnp_objects.specs.declared.object.Purpose.TheVariants.{Value}
@@ -36,7 +36,7 @@ IsStructPlace S place =
 abbrev pub IsListPlace : Segments → ListPlace → Type 0
 IsListPlace S place =
     (place.segment < length S) × (place.byte % 8 ≡ 0)
-    × (place.byte + 8 * list_words place.size place.count (place.struct_size.data_words + place.struct_size.pointers) ≤ 8 * length (segment S place.segment))
+    × (place.byte + 8 * elements_words place.size place.count (place.struct_size.data_words + place.struct_size.pointers) ≤ 8 * length (segment S place.segment))
 
 module _ {A : Type 0} (g : Ghosts A) where
   -- A reader shows the struct of d data words and q pointers that starts at position p of segment s.
@@ -51,7 +51,7 @@ module _ {A : Type 0} (g : Ghosts A) where
   -- A reader shows the list of n elements that starts at position p of segment s, with d data words and q pointers each where
   -- they are structs, and else with 0 of both.
   pub record ShowsList (S : Segments) (r : ListReader A g) (s p n d q : ℕ) : Type 0 where
-    pub words_are : words_of r.content.now ≡ words_at S s p (list_words r.element_size n (d + q))
+    pub words_are : words_of r.content.now ≡ words_at S s p (elements_words r.element_size n (d + q))
     pub segment_is : r.start.segment ≡ s
     pub elements_start : r.start.at ≡ p
     pub counts : r.count ≡ n
@@ -74,10 +74,10 @@ module _ {A : Type 0} (g : Ghosts A) where
   ShowsElement list i r = ShowsOfSize list.element_size list i r
 
   -- The list of a target, by its size: one of structs starts behind its tag.
-  abbrev pub IsListOf : ElementSize → Segments → ListReader A g → Target → Type 0
-  IsListOf InlineComposite S r a =
+  abbrev pub IsTargetList : ElementSize → Segments → ListReader A g → Target → Type 0
+  IsTargetList InlineComposite S r a =
       (element_size a.word ≡ 7) × ShowsList S r a.segment (a.start + 1) (offset_bits (tag S a)) (data_words (tag S a)) (pointer_count (tag S a))
-  IsListOf size S r a = (element_size a.word ≡ size_number size) × ShowsList S r a.segment a.start (list_count a.word) 0 0
+  IsTargetList size S r a = (element_size a.word ≡ size_number size) × ShowsList S r a.segment a.start (list_count a.word) 0 0
 
   -- The bit of a list's words at which element number i starts.
   abbrev pub element_start : ListReader A g → ℕ → ℕ
@@ -99,7 +99,7 @@ module _ {A : Type 0} (g : Ghosts A) where
       × ShowsStruct (reading from).segments r a.segment a.start (data_words a.word) (pointer_count a.word)
       × (r.source ≡ from.source) × (r.nesting_limit ≡ from.nesting_limit -ℤ pos 1)
   IsTarget from m m' (List r) =
-      (a : Target) × Entered Value (reading from) m m' a × (kind a.word ≡ 1) × IsListOf r.element_size (reading from).segments r a
+      (a : Target) × Entered Value (reading from) m m' a × (kind a.word ≡ 1) × IsTargetList r.element_size (reading from).segments r a
       × (r.source ≡ from.source) × (r.nesting_limit ≡ from.nesting_limit -ℤ pos 1)
 
   -- An object was read of the pointer.

@@ -25,14 +25,14 @@ abbrev pub bit_at : List ℕ → ℕ → ℕ
 bit_at bytes i = slice_index bytes (i / 8) / 2 ^ (i % 8) % 2
 
 -- So many words from a place on lie in its segment.
-abbrev pub HasRoom : Segments → Place → ℕ → Type 0
-HasRoom S here n = here.at + n ≤ length (segment S here.segment)
+abbrev pub HasWordsFrom : Segments → Place → ℕ → Type 0
+HasWordsFrom S here n = here.at + n ≤ length (segment S here.segment)
 
 -- How many words the elements of a list take: n elements, of a width in words where they are structs ("Lists").
-abbrev pub list_words : ElementSize → ℕ → ℕ → ℕ
-list_words InlineComposite n width = n * width
-list_words Pointer n width = n
-list_words size n width = words_for (size_number size) n
+abbrev pub elements_words : ElementSize → ℕ → ℕ → ℕ
+elements_words InlineComposite n width = n * width
+elements_words Pointer n width = n
+elements_words size n width = words_for (size_number size) n
 
 -- Elements that are no structs have no sections.
 abbrev pub IsSized : ElementSize → StructSize → Type 0

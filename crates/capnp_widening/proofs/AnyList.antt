@@ -12,7 +12,7 @@ use Rattle.capnp_making.specs.declared.existing.ExistingList.{ExistingList}
 use Rattle.capnp_making.specs.Existing.{list_in, plain_list, struct_list, size_of, unless}
 use Rattle.capnp_making.specs.Stored.{IsStored}
 use Rattle.capnp_making.proofs.Filling.{unchanged}
-use Rattle.capnp_widening.specs.RowsRemade.{ListLiesIn, BecomesList, IsList, WidensTo, WidensList, LeadsToList}
+use Rattle.capnp_widening.specs.RowsRemade.{ListLiesIn, BecomesList, IsList, WidensTo, WidensList, LeadsToWiderList}
 use Rattle.capnp_widening.specs.Widened.{list_widened}
 use Rattle.capnp_widening.proofs.ListSteps.{structs_stored}
 use Rattle.capnp_widening.proofs.Listed.{same_list, no_list, not_a_list, flat_found, void_fits}
@@ -54,7 +54,7 @@ null_stays S s p size found = λ t x.
 same_tree : (x y : Tree) → ◌≡◌ {A = Result Tree ErrorKind} (Ok x) (Ok y) → x ≡ y
 same_tree x y e = cc
 
-pub null_leads : (S : Segments) (s p : ℕ) (size : StructSize) → ((t : Tree) → IsStored S s p t → Ok None ≡ list_in (target S s p) Void t) → LeadsToList S S s p size None
+pub null_leads : (S : Segments) (s p : ℕ) (size : StructSize) → ((t : Tree) → IsStored S s p t → Ok None ≡ list_in (target S s p) Void t) → LeadsToWiderList S S s p size None
 null_leads S s p size found = λ t u x e.
     (let null : t ≡ Null = none_is_null (target S s p) t (sym (found t x)) in
     let same : u ≡ Null = sym (same_tree Null u (ap (list_widened size.data_words size.pointers) (sym null) ∙ e)) in
@@ -75,7 +75,7 @@ list_widens S R s p size l m found w = λ t x.
     (let (u, e, b) = w t (x, sym (found t x)) in
     (u, e, b.replaced))
 
-pub list_leads : (S R : Segments) (s p : ℕ) (size : StructSize) (l m : ExistingList) → ((t : Tree) → IsStored S s p t → Ok (Some l) ≡ list_in (target S s p) Void t) → WidensTo S R s p l size m → LeadsToList S R s p size (Some m)
+pub list_leads : (S R : Segments) (s p : ℕ) (size : StructSize) (l m : ExistingList) → ((t : Tree) → IsStored S s p t → Ok (Some l) ≡ list_in (target S s p) Void t) → WidensTo S R s p l size m → LeadsToWiderList S R s p size (Some m)
 list_leads S R s p size l m found w = λ t u x e.
     (let (v, f, b) = w t (x, sym (found t x)) in
     let same : v ≡ u = same_tree v u (sym f ∙ e) in

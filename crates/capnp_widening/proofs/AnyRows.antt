@@ -7,7 +7,7 @@ use Rattle.capnp_words.specs.declared.wire_pointer.StructSize.{StructSize}
 use Rattle.capnp_making.specs.Stored.{IsStored}
 use Rattle.capnp_widening.specs.declared.remaking.ElementRows.{ElementRows}
 use Rattle.capnp_widening.specs.declared.widening.Room.{Room}
-use Rattle.capnp_widening.specs.RowsRemade.{RowsInside, rows_in, as_structs, HasRows, BecomesList, RemakesRows, LeavesRows}
+use Rattle.capnp_widening.specs.RowsRemade.{RowsInside, rows_in, as_structs, StoresRows, BecomesList, RemakesRows, LeavesRows}
 use Rattle.capnp_widening.specs.Widened.{GrowsByZeros}
 use Rattle.capnp_widening.proofs.ListSteps.{ListSteps, ListUndone, list_at, same_size, struct_rows, structs_stored, structs_become, structs_left}
 use Rattle.capnp_widening.proofs.PointerSteps.{pointer_rows, pointers_stored, pointers_become, pointers_left, void_rows, void_stored, void_become, void_left}
@@ -55,7 +55,7 @@ rows_left S T B D P U Z id at old size h s = λ t i. go t i.0 i.1
     go (Pointers ts) x e = pointers_left S T B D P U Z id at ts size h x (subst (λ o. ListUndone S T B D P U Z id o size h) (sym (same_rows (pointer_rows S id at ts) old e)) s)
 
 -- its words lie in their segment
-pub rows_inside : (S : Segments) (id at : ℕ) (t : Tree) (old : ElementRows) → HasRows S id at t old → RowsInside S old
+pub rows_inside : (S : Segments) (id at : ℕ) (t : Tree) (old : ElementRows) → StoresRows S id at t old → RowsInside S old
 rows_inside S id at t old h = go t h.0 h.1
   where
     go : (u : Tree) → IsStored S id at u → rows_in (target S id at) u ≡ Some old → RowsInside S old

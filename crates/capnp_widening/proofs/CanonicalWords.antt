@@ -8,11 +8,11 @@ use Rattle.capnp_format.specs.Forest.{target}
 use Rattle.capnp_words.specs.declared.error.ErrorKind.{ErrorKind}
 use Rattle.capnp_making.specs.Path.{Step, Child, Element, tree_at, put_tree, struct_at, put_struct, next, put, update, PathLeads}
 use Rattle.capnp_making.proofs.Replaced.{stored_within, replaced_within, forest_stored, forest_updated}
-use Rattle.capnp_widening.specs.Laws.{SameWords, HaveSize, WiderStruct, WiderList, StructWithin, ListWithin, StructOfMessage, ListOfMessage}
+use Rattle.capnp_widening.specs.Laws.{SameCanonicalForm, HaveSize, WiderStruct, WiderList, StructWithin, ListWithin, StructOfMessage, ListOfMessage}
 use Rattle.capnp_widening.specs.Widened.{fill_words, fill_trees, fill_elements, limited}
 use Rattle.capnp_widening.proofs.Filling.{trim-filled, trim-filled_list, trim-update}
 
-same_words : (t u : Tree) → trim u ≡ trim t → SameWords t u
+same_words : (t u : Tree) → trim u ≡ trim t → SameCanonicalForm t u
 same_words t u e = (e, ap encoding e)
 
 pub wider_struct : WiderStruct
@@ -62,7 +62,7 @@ update_same S s p (Structs d w es) (Element i ∷ Child j ∷ path) u q x h =
 update_same S s p t (step ∷ path) u q x h = absurd h
 
 -- another value of the same canonical form there
-same_at : (S : Segments) (s p : ℕ) (t : Tree) (path : List Step) (u q : ℕ) (x y : Tree) → PathLeads S s p t path u q x → trim y ≡ trim x → SameWords t (update t path y)
+same_at : (S : Segments) (s p : ℕ) (t : Tree) (path : List Step) (u q : ℕ) (x y : Tree) → PathLeads S s p t path u q x → trim y ≡ trim x → SameCanonicalForm t (update t path y)
 same_at S s p t path u q x y h e = same_words t (update t path y) (trim-update S s p t path u q x y x h e ∙ ap trim (update_same S s p t path u q x h))
 
 pub struct_within : StructWithin

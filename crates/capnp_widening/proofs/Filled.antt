@@ -4,11 +4,11 @@ use Rattle.capnp_format.specs.Segments.{Segments}
 use Rattle.capnp_format.specs.Tree.{Struct, Trees, no_trees, tree, count}
 use Rattle.capnp_making.specs.Stored.{IsStored, IsReplaced}
 use Rattle.capnp_making.proofs.Filling.{unchanged}
-use Rattle.capnp_making.specs.Made.{zeros, nulls}
+use Rattle.capnp_making.specs.Made.{words_of_zero, nulls}
 use Rattle.capnp_widening.specs.Widened.{fill_words, fill_trees}
 
 pub wide_words : (d : ℕ) (ws : List ℕ) → d ≤ length ws → fill_words d ws ≡ ws
-wide_words d ws l = ap (λ n. ws ++ zeros n) (let e : d - length ws ≡ 0 = omega arith in e) ∙ append-nil ws
+wide_words d ws l = ap (λ n. ws ++ words_of_zero n) (let e : d - length ws ≡ 0 = omega arith in e) ∙ append-nil ws
 
 pub wide_trees : (k : ℕ) (ts : Trees) → k ≤ count ts → fill_trees k ts ≡ ts
 wide_trees zero no_trees l = refl
@@ -17,7 +17,7 @@ wide_trees (suc k) no_trees l = absurd (omega arith)
 wide_trees (suc k) (tree t ts) l = ap (tree t) (wide_trees k ts (omega arith))
 
 pub greater_words : (d : ℕ) (ws : List ℕ) → fill_words (max (length ws) d) ws ≡ fill_words d ws
-greater_words d ws = ap (λ n. ws ++ zeros n) (let e : max (length ws) d - length ws ≡ d - length ws = omega arith in e)
+greater_words d ws = ap (λ n. ws ++ words_of_zero n) (let e : max (length ws) d - length ws ≡ d - length ws = omega arith in e)
 
 pub greater_trees : (k : ℕ) (ts : Trees) → fill_trees (max (count ts) k) ts ≡ fill_trees k ts
 greater_trees k no_trees = ap nulls (let e : max 0 k ≡ k = omega arith in e)

@@ -6,16 +6,16 @@ use Rattle.capnp_format.specs.Segments.{Segments}
 use Rattle.capnp_format.specs.Forest.{target}
 use Rattle.capnp_making.specs.Path.{Step, Child, Element, tree_at, put_tree, struct_at, put_struct, next, put, update, PathLeads}
 use Rattle.capnp_format.specs.Canonical.{used_from, used_words, is_null, used_trees, take_trees, data_width, pointer_width, cut_to, cut_struct, cut_structs, trim, trim_each, trim_elements}
-use Rattle.capnp_making.specs.Made.{zeros, nulls}
+use Rattle.capnp_making.specs.Made.{words_of_zero, nulls}
 use Rattle.capnp_widening.specs.Laws.{HaveSize}
 use Rattle.capnp_widening.specs.Widened.{fill_words, fill_trees, fill_elements}
 use Rattle.capnp_format.proofs.Trimming.{used_words-le, used_trees-le, trim_each-count}
 
-used_words-zeros : (n : ℕ) → used_words (zeros n) ≡ 0
+used_words-zeros : (n : ℕ) → used_words (words_of_zero n) ≡ 0
 used_words-zeros zero = refl
 used_words-zeros (suc n) = ap (used_from (nat_eq 0 0)) (used_words-zeros n)
 
-used_words-fill : (n : ℕ) (ws : List ℕ) → used_words (ws ++ zeros n) ≡ used_words ws
+used_words-fill : (n : ℕ) (ws : List ℕ) → used_words (ws ++ words_of_zero n) ≡ used_words ws
 used_words-fill n [] = used_words-zeros n
 used_words-fill n (x ∷ xs) = ap (used_from (nat_eq x 0)) (used_words-fill n xs)
 
@@ -28,7 +28,7 @@ used_trees-fill n no_trees = used_trees-nulls n
 used_trees-fill zero (tree t ts) = refl
 used_trees-fill (suc n) (tree t ts) = ap (used_from (is_null t)) (used_trees-fill n ts)
 
-take-fill : (m n : ℕ) (ws : List ℕ) → m ≤ length ws → take m (ws ++ zeros n) ≡ take m ws
+take-fill : (m n : ℕ) (ws : List ℕ) → m ≤ length ws → take m (ws ++ words_of_zero n) ≡ take m ws
 take-fill m n ws l = rw take-append-le
 
 take_trees-fill : (m n : ℕ) (ts : Trees) → m ≤ count ts → take_trees m (fill_trees n ts) ≡ take_trees m ts
@@ -51,7 +51,7 @@ trim-filled d q ws ts =
     let more = d - length ws in
     let us = trim_each ts in
     ap₂ Struct
-    (ap (λ n. take n (ws ++ zeros more)) (used_words-fill more ws) ∙ take-fill (used_words ws) more ws (used_words-le ws))
+    (ap (λ n. take n (ws ++ words_of_zero more)) (used_words-fill more ws) ∙ take-fill (used_words ws) more ws (used_words-le ws))
     (ap (λ x. take_trees (used_trees x) x) (trim_each-fill q ts) ∙ ap (λ n. take_trees n (fill_trees q us)) (used_trees-fill q us) ∙ take_trees-fill (used_trees us) q us (used_trees-le us))
 
 trim_elements-fill : (d q : ℕ) (es : Elements) → trim_elements (fill_elements d q es) ≡ fill_elements d q (trim_elements es)

@@ -6,7 +6,7 @@ use Rattle.capnp_format.specs.Word.{kind, element_size, list_count}
 use Rattle.capnp_format.specs.Tree.{Structs, Elements, no_elements, element, element_count}
 use Rattle.capnp_format.specs.Means.{IsTag, Means, MeansElements}
 use Rattle.capnp_format.specs.Forest.{times, target, target_in, cover, cover_elements}
-use Rattle.capnp_making.specs.Path.{struct_at, one_word}
+use Rattle.capnp_making.specs.Path.{struct_at, word_interval}
 use Rattle.capnp_making.specs.Stored.{IsStored, IsReplaced}
 use Rattle.capnp_making.specs.Zeroed.{row}
 use Rattle.capnp_making.proofs.BelowElements.{element_within}
@@ -15,8 +15,8 @@ use Rattle.capnp_making.specs.Made.{IsGrown}
 use Rattle.capnp_making.proofs.Below.{split_row}
 use Rattle.capnp_making.proofs.Extents.{times-first, times-object}
 use Rattle.capnp_widening.proofs.Basics.{once_row}
-use Rattle.capnp_widening.specs.Moved.{row_of_moves, rows_of_moves, new_places, old_pads, new_pads, fresh_pads, pads_in_rows, IsMoved, IsRehoused, AllStand}
-use Rattle.capnp_widening.specs.Widened.{words_in, fill_words, fill_elements}
+use Rattle.capnp_widening.specs.Moved.{row_of_moves, rows_of_moves, new_places, old_pads, new_pads, fresh_pads, pads_in_rows, IsMoved, IsRehoused, HaveValuesInside}
+use Rattle.capnp_widening.specs.Widened.{struct_data_words, fill_words, fill_elements}
 use Rattle.capnp_widening.proofs.Movings.{new_places-append, row_new_places, same_old, same_new}
 use Rattle.capnp_widening.proofs.Remade.{IsRemade, before_last, is_rehoused, all_moved, moves_same, object_word, leads_last, IsBegun}
 use Rattle.capnp_widening.proofs.Rows.{rows_moved, rows_old_pads, rows_new_pads, elements_stand, rows_new_places}
@@ -24,13 +24,13 @@ use Rattle.capnp_widening.proofs.StructRemade.{word_of_words, words_by_each, fil
 use Rattle.capnp_widening.proofs.Widenings.{structs_widened, length-fill_words}
 
 -- what the elements of a list are, as words
-pub element_words : (S : Segments) (n s p d q : ℕ) (es : Elements) (c i : ℕ) → MeansElements S n s p d q es c → i < element_count es → HasWords S s (p + i * (d + q)) (words_in (struct_at es i)) × (length (words_in (struct_at es i)) ≡ d)
+pub element_words : (S : Segments) (n s p d q : ℕ) (es : Elements) (c i : ℕ) → MeansElements S n s p d q es c → i < element_count es → HasWords S s (p + i * (d + q)) (struct_data_words (struct_at es i)) × (length (struct_data_words (struct_at es i)) ≡ d)
 element_words S n s p d q no_elements c i m l = absurd (omega arith)
 element_words S n s p d q (element ws ts es) c zero (a, b, long, len, words, all, rest, g) l =
     (subst (λ z. HasWords S s z ws) (let e : p ≡ p + 0 * (d + q) = omega arith in e) words, long)
 element_words S n s p d q (element ws ts es) c (suc i) (a, b, long, len, words, all, rest, g) l =
     let r = element_words S n s (p + d + q) d q es b i rest (omega arith) in
-    (subst (λ z. HasWords S s z (words_in (struct_at es i))) (let e : p + d + q + i * (d + q) ≡ p + suc i * (d + q) = omega arith in e) r.0, r.1)
+    (subst (λ z. HasWords S s z (struct_data_words (struct_at es i))) (let e : p + d + q + i * (d + q) ≡ p + suc i * (d + q) = omega arith in e) r.0, r.1)
 
 -- rows of one width share no word
 pub same_row : (w i j a b : ℕ) → a < w → b < w → i * w + a ≡ j * w + b → (i ≡ j) × (a ≡ b)
@@ -72,7 +72,7 @@ beside_rows s p w v r z d k n i j fits li lj o = elim (cases_eq (times (new_plac
 -- the words of a list of structs
 pub record ListParts (S : Segments) (u q d k : ℕ) (es : Elements) (a : Target) : Type 0 where
   pub fits : a.start + (1 + element_count es * (d + k)) ≤ length (segment S a.segment)
-  pub element : (i : ℕ) → i < element_count es → HasWords S a.segment (a.start + 1 + i * (d + k)) (words_in (struct_at es i)) × (length (words_in (struct_at es i)) ≡ d)
+  pub element : (i : ℕ) → i < element_count es → HasWords S a.segment (a.start + 1 + i * (d + k)) (struct_data_words (struct_at es i)) × (length (struct_data_words (struct_at es i)) ≡ d)
 
 pub list_parts : (S : Segments) (u q d k : ℕ) (es : Elements) → IsStored S u q (Structs d k es) → ListParts S u q d k es (target S u q)
 list_parts S u q d k es x = at_level x.means.0 x.means.1 x.means.2
@@ -127,7 +127,7 @@ structs_remade S T D P R Q u q d k es e f b v at pads x c tag h is_list is_size 
     (let w : word_at M b.segment (b.start + 1 + i * z + j) ≡ word_at D v (at + pads + 1 + i * z + j) = ap₂ (λ y o. word_at M y o) h.segment_of (there i j) ∙ unmoved i j l (omega (arith, m)) (inl m) in w) in
     structs_widened S M Q u q d k es e f b fresh x r' (record {
       rows = record {
-        words = λ i l. (let ws = words_in (struct_at es i) in
+        words = λ i l. (let ws = struct_data_words (struct_at es i) in
             let (has, long) = parts.element i l in
             let full : length (fill_words e ws) ≡ wd = omega (arith, length-fill_words e ws, long) in
             words_by_each M b.segment (b.start + 1 + i * z) (fill_words e ws) (omega (arith, full, r.claim, element_within z n i l))
@@ -202,11 +202,11 @@ structs_begun S T D u q d k es e f v at pads x g segments words kept c =
       | inr o ↦ (let i = in_row v (at + pads) (1 + element_count es * (max d e + max k f)) y w (omega arith) in absurd (omega (arith, l, i.1, g.behind, ap (λ s. length (segment S s)) i.0)))
     ]
 
-    at_level : (m o : ℕ) → Means S m u q (Structs d k es) o → (y r z : ℕ) → AllStand S (rows_of_moves (target S u q).segment ((target S u q).start + 1 + d) (d + k) y r z k (element_count es))
+    at_level : (m o : ℕ) → Means S m u q (Structs d k es) o → (y r z : ℕ) → HaveValuesInside S (rows_of_moves (target S u q).segment ((target S u q).start + 1 + d) (d + k) y r z k (element_count es))
     at_level m o (a, i, l, some, at_a, claim, tag, fits, all, h) = λ y r z.
-        (let parts = λ (b w : ℕ). times-first (one_word u q) (cover S u q (Structs d k es)) b w in
+        (let parts = λ (b w : ℕ). times-first (word_interval u q) (cover S u q (Structs d k es)) b w in
         let object = λ (b w : ℕ). times-object S u q (1 + element_count es * (d + k)) a (λ t. cover_elements S t.segment (t.start + 1) d k es) b w at_a.leads_to.1 in
-        subst (λ t. AllStand S (rows_of_moves t.segment (t.start + 1 + d) (d + k) y r z k (element_count es))) (sym (ap target_in at_a.leads_to.1))
+        subst (λ t. HaveValuesInside S (rows_of_moves t.segment (t.start + 1 + d) (d + k) y r z k (element_count es))) (sym (ap target_in at_a.leads_to.1))
         (elements_stand S (pred m) a.segment (a.start + 1) d k y r z es l all
         (λ b w held. x.inside b w (omega (
           arith,
@@ -217,5 +217,5 @@ structs_begun S T D u q d k es e f v at pads x g segments words kept c =
           times-first (row a.segment (a.start + 1) (element_count es * (d + k))) (cover_elements S a.segment (a.start + 1) d k es) b w,
         )))))
 
-    rows_stand : (y r z : ℕ) → AllStand S (rows_of_moves (target S u q).segment ((target S u q).start + 1 + d) (d + k) y r z k (element_count es))
+    rows_stand : (y r z : ℕ) → HaveValuesInside S (rows_of_moves (target S u q).segment ((target S u q).start + 1 + d) (d + k) y r z k (element_count es))
     rows_stand = at_level x.means.0 x.means.1 x.means.2

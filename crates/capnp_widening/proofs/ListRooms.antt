@@ -14,8 +14,8 @@ use Rattle.capnp_making.specs.Memory.{HasRoom}
 use Rattle.capnp_making.specs.Near.{HasOwnRoom}
 use Rattle.capnp_making.specs.Made.{zero_elements}
 use Rattle.capnp_widening.specs.declared.remaking.ElementRows.{ElementRows}
-use Rattle.capnp_widening.specs.Rooms.{TakesAtMost, object_words, pointers_in, HasRoomFor, RowsFit, TakesForRows}
-use Rattle.capnp_widening.specs.RowsRemade.{HasRows, IsList}
+use Rattle.capnp_widening.specs.Rooms.{GrowsByAtMost, widened_words, direct_pointers, HasRoomFor, RemadeRowsFit, GrowsForRows}
+use Rattle.capnp_widening.specs.RowsRemade.{StoresRows, IsList}
 use Rattle.capnp_widening.specs.Widened.{fill_elements, struct_for_each, struct_for_each_tree, limited, list_widened}
 use Rattle.capnp_widening.proofs.Listed.{structs_widen}
 use Rattle.capnp_widening.proofs.ListsWidened.{count-struct_for_each, count-struct_for_each_tree, count-zero_elements}
@@ -32,10 +32,10 @@ limited_to n t u e = by_test (nat_lt n (2 ^ 29)) e
 
 -- what becomes of a list, by the rows that it is
 pub record AreRows (S : Segments) (s p : ℕ) (t u : Tree) (rows : ElementRows) (size : StructSize) : Type 0 where
-  pub has : HasRows S s p t rows
+  pub has : StoresRows S s p t rows
   pub there : (target S s p).segment ≡ rows.segment
-  pub words : object_words u ≡ 1 + rows.count * (size.data_words + size.pointers)
-  pub pointers : pointers_in t ≡ rows.count * rows.size.pointers
+  pub words : widened_words u ≡ 1 + rows.count * (size.data_words + size.pointers)
+  pub pointers : direct_pointers t ≡ rows.count * rows.size.pointers
 
 pub pointers_are : (S : Segments) (s p : ℕ) (t u : Tree) (l : ExistingList) (size wide : StructSize) → size_number l.size ≡ 6 → wide.data_words ≡ size.data_words → wide.pointers ≡ max 1 size.pointers → IsList S s p t l →
     list_widened size.data_words size.pointers t ≡ Ok u → AreRows S s p t u (pointers_of l) wide
@@ -48,8 +48,8 @@ pointers_are S s p t u l size wide is wd wp i e =
     record {
       has = has_pointers S s p t l k i.0;
       there = sym (ap (λ (o : ExistingList). o.segment) k.list);
-      words = ap object_words same ∙ ap₂ (λ x y. 1 + x * y) (count-struct_for_each_tree d q k.children ∙ sym n) (ap₂ (λ x y. x + y) (sym wd) (sym wp));
-      pointers = ap pointers_in k.tree_of ∙ omega (arith, n);
+      words = ap widened_words same ∙ ap₂ (λ x y. 1 + x * y) (count-struct_for_each_tree d q k.children ∙ sym n) (ap₂ (λ x y. x + y) (sym wd) (sym wp));
+      pointers = ap direct_pointers k.tree_of ∙ omega (arith, n);
     }
 
 pub void_are : (S : Segments) (s p n : ℕ) (t u : Tree) (l : ExistingList) (size : StructSize) → size_number l.size ≡ 0 → ((a : Target) → leads S s p ≡ Some a → n ≡ list_count a.word) → IsList S s p t l →
@@ -62,8 +62,8 @@ void_are S s p n t u l size is counts i e =
     record {
       has = k.has;
       there = sym (ap (λ (o : ExistingList). o.segment) (are_numbers S s p t l (omega (arith, is)) i).list);
-      words = ap object_words same ∙ ap (λ x. 1 + x * (d + q)) (count-zero_elements d q (length k.numbers) ∙ sym k.counts);
-      pointers = ap pointers_in k.tree_of ∙ omega arith;
+      words = ap widened_words same ∙ ap (λ x. 1 + x * (d + q)) (count-zero_elements d q (length k.numbers) ∙ sym k.counts);
+      pointers = ap direct_pointers k.tree_of ∙ omega arith;
     }
 
 pub structs_are : (S : Segments) (s p : ℕ) (t u : Tree) (l : ExistingList) (size wide : StructSize) → size_number l.size ≡ 7 → (size.data_words ≤ l.struct_size.data_words → size.pointers ≤ l.struct_size.pointers → ⊥) →
@@ -80,42 +80,42 @@ structs_are S s p t u l size wide is narrow wd wp i e =
     record {
       has = has_rows S s p t l k i.0;
       there = sym (ap (λ (o : ExistingList). o.segment) k.list);
-      words = ap object_words same ∙ ap₂ (λ x y. 1 + x * y) (count-fill_elements d q k.elements ∙ sym n) (ap₂ (λ x y. x + y) (sym wd) (sym wp));
-      pointers = ap pointers_in k.tree ∙ ap (λ x. x * g) (sym n);
+      words = ap widened_words same ∙ ap₂ (λ x y. 1 + x * y) (count-fill_elements d q k.elements ∙ sym n) (ap₂ (λ x y. x + y) (sym wd) (sym wp));
+      pointers = ap direct_pointers k.tree ∙ ap (λ x. x * g) (sym n);
     }
 
 -- so the room for it is the room for the rows
-pub rows_fit : (v : View) (s p : ℕ) (t u : Tree) (rows : ElementRows) (size : StructSize) → AreRows v.words s p t u rows size → HasRoomFor v s p t u → RowsFit v s rows size
+pub rows_fit : (v : View) (s p : ℕ) (t u : Tree) (rows : ElementRows) (size : StructSize) → AreRows v.words s p t u rows size → HasRoomFor v s p t u → RemadeRowsFit v s rows size
 rows_fit v s p t u rows size r (inl fits) = inl (subst (λ m. HasRoom v s m) (ap₂ (λ x y. x + 2 * y) r.words r.pointers) fits)
 rows_fit v s p t u rows size r (inr (here, fits)) = inr (sym r.there ∙ here, subst (λ m. HasOwnRoom v s m) r.words fits)
 
-pub rows_few : (S R : Segments) (s p : ℕ) (t u : Tree) (rows : ElementRows) (size : StructSize) → AreRows S s p t u rows size → TakesForRows S R rows size → TakesAtMost S R (object_words u + 1 + 2 * pointers_in t)
-rows_few S R s p t u rows size r few = subst (λ m. TakesAtMost S R m) (sym (ap₂ (λ x y. x + 1 + 2 * y) r.words r.pointers)) few
+pub rows_few : (S R : Segments) (s p : ℕ) (t u : Tree) (rows : ElementRows) (size : StructSize) → AreRows S s p t u rows size → GrowsForRows S R rows size → GrowsByAtMost S R (widened_words u + 1 + 2 * direct_pointers t)
+rows_few S R s p t u rows size r few = subst (λ m. GrowsByAtMost S R m) (sym (ap₂ (λ x y. x + 1 + 2 * y) r.words r.pointers)) few
 
 -- no room is that large
 room_small : (v : View) (s n : ℕ) → ((k : ℕ) → v.room k < 2 ^ 29) → HasRoom v s n → n < 2 ^ 29
 room_small v s n small (inl fits) = omega (arith, fits, small s)
 room_small v s n small (inr (k, fit)) = omega (arith, fit.1, small k)
 
-pub rows_small : (v : View) (s : ℕ) (rows : ElementRows) (size : StructSize) → ((k : ℕ) → v.room k < 2 ^ 29) → RowsFit v s rows size → rows.count * (size.data_words + size.pointers) < 2 ^ 29
+pub rows_small : (v : View) (s : ℕ) (rows : ElementRows) (size : StructSize) → ((k : ℕ) → v.room k < 2 ^ 29) → RemadeRowsFit v s rows size → rows.count * (size.data_words + size.pointers) < 2 ^ 29
 rows_small v s rows size small (inl fits) = omega (arith, room_small v s _ small fits)
 rows_small v s rows size small (inr (here, fits)) = omega (arith, fits, small s)
 
 -- numbers have no pointers
 pub numbers_take : (S : Segments) (s p : ℕ) (t u : Tree) (l : ExistingList) (size wide : StructSize) → 2 ≤ size_number l.size → size_number l.size ≤ 5 → wide.data_words ≡ max 1 size.data_words → wide.pointers ≡ size.pointers →
-    IsList S s p t l → list_widened size.data_words size.pointers t ≡ Ok u → (object_words u ≡ 1 + l.count * (wide.data_words + wide.pointers)) × (pointers_in t ≡ 0)
+    IsList S s p t l → list_widened size.data_words size.pointers t ≡ Ok u → (widened_words u ≡ 1 + l.count * (wide.data_words + wide.pointers)) × (direct_pointers t ≡ 0)
 numbers_take S s p t u l size wide two five wd wp i e =
     let k = are_numbers S s p t l five i in
     let d = size.data_words in
     let q = size.pointers in
     let n : l.count ≡ length k.numbers = ap (λ (o : ExistingList). o.count) k.list in
     let same : u ≡ Structs (max 1 d) q (struct_for_each d q k.numbers) = limited_to _ _ u (sym (ap (list_widened d q) k.tree_of ∙ numbers_limited d q (size_number l.size) k.numbers two) ∙ e) in (
-      ap object_words same ∙ ap₂ (λ x y. 1 + x * y) (count-struct_for_each d q k.numbers ∙ sym n) (ap₂ (λ x y. x + y) (sym wd) (sym wp)),
-      ap pointers_in k.tree_of,
+      ap widened_words same ∙ ap₂ (λ x y. 1 + x * y) (count-struct_for_each d q k.numbers ∙ sym n) (ap₂ (λ x y. x + y) (sym wd) (sym wp)),
+      ap direct_pointers k.tree_of,
     )
 
-pub numbers_fit : (v : View) (s p m : ℕ) (t u : Tree) → (object_words u ≡ m) × (pointers_in t ≡ 0) → HasRoomFor v s p t u → HasRoom v s m
-numbers_fit v s p m t u (e, none) (inl fits) = subst (λ i. HasRoom v s i) (let f : object_words u + 2 * pointers_in t ≡ m = omega (arith, e, none) in f) fits
+pub numbers_fit : (v : View) (s p m : ℕ) (t u : Tree) → (widened_words u ≡ m) × (direct_pointers t ≡ 0) → HasRoomFor v s p t u → HasRoom v s m
+numbers_fit v s p m t u (e, none) (inl fits) = subst (λ i. HasRoom v s i) (let f : widened_words u + 2 * direct_pointers t ≡ m = omega (arith, e, none) in f) fits
 numbers_fit v s p m t u (e, none) (inr (here, fits)) = inl (subst (λ i. HasOwnRoom v s i) e fits)
 
 pub numbers_small : (v : View) (s n : ℕ) → ((k : ℕ) → v.room k < 2 ^ 29) → HasRoom v s (1 + n) → n < 2 ^ 29

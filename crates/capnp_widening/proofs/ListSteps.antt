@@ -9,7 +9,7 @@ use Rattle.capnp_format.specs.Forest.{Interval, times, pads_of, object_of, targe
 use Rattle.capnp_format.proofs.Frame.{times-append}
 use Rattle.capnp_words.specs.declared.wire_pointer.StructSize.{StructSize}
 use Rattle.capnp_words.specs.declared.wire_pointer.ElementSize.TheVariants.{InlineComposite}
-use Rattle.capnp_making.specs.Path.{one_word}
+use Rattle.capnp_making.specs.Path.{word_interval}
 use Rattle.capnp_making.specs.Stored.{IsStored}
 use Rattle.capnp_making.specs.Zeroed.{row, IsZeroed, PadsInside}
 use Rattle.capnp_making.specs.declared.existing.ExistingList.{ExistingList}
@@ -71,7 +71,7 @@ object_remade S T D P R Z Q id at t n inner b v p pads wide ms o begun moves set
     let both = λ (y w : ℕ). times-append (pads_of word) (object_of a n ∷ []) y w in
     let covered = λ (y w : ℕ). (let e : times (pads_of word ++ object_of a n ∷ []) y w ≤ times (cover S id at t) y w =
     omega (arith, both y w, ap (λ is. times is y w) o.whole, times-append (pads_of word) (object_of a n ∷ inner) y w, times-first (object_of a n) inner y w) in e) in
-    let first = λ (y w : ℕ). times-first (one_word id at) (cover S id at t) y w in
+    let first = λ (y w : ℕ). times-first (word_interval id at) (cover S id at t) y w in
     record {
       begun = begun;
       moves = moves;

@@ -15,9 +15,9 @@ use Rattle.capnp_making.specs.Existing.{list_in}
 use Rattle.capnp_making.specs.Memory.{KeepsMemory}
 use Rattle.capnp_making.specs.Stored.{IsStored}
 use Rattle.capnp_making.specs.Makes.{call_at, CallAt}
-use Rattle.capnp_widening.specs.Opening.{Opens, OpensList, HasSections, HasWideStructs, LeadsToAll, refusal_of_words, refusal_of_elements}
-use Rattle.capnp_widening.specs.Rooms.{TakesForList}
-use Rattle.capnp_widening.specs.RowsRemade.{WidensList, LeadsToList, RefusesWider}
+use Rattle.capnp_widening.specs.Opening.{Opens, OpensExistingList, HasSections, HasWideStructs, LeadsToAll, refusal_of_words, refusal_of_elements}
+use Rattle.capnp_widening.specs.Rooms.{GrowsForList}
+use Rattle.capnp_widening.specs.RowsRemade.{WidensList, LeadsToWiderList, RefusesWider}
 use Rattle.capnp_widening.specs.Widened.{fill_elements, LeavesAll, limited, list_widened}
 use Rattle.capnp_widening.proofs.Listed.{same_list, no_list, not_a_list, structs_widen}
 use Rattle.capnp_widening.proofs.PlainLists.{are_numbers, are_pointers}
@@ -28,7 +28,7 @@ use Rattle.capnp_widening.proofs.StructsOpened.{stands_grown}
 not_null : (a : ExistingList) (S : Segments) (s p : ℕ) (t : Tree) → list_in (target S s p) Void t ≡ Ok (Some a) → t ≡ Null → ⊥
 not_null a S s p t found null = no_list a (sym (ap (list_in (target S s p) Void) null) ∙ found)
 
-opens : (size : StructSize) (r : Result (Option ExistingList) ErrorKind) (c : CallAt) (t : Tree) → (t ≡ Null → ⊥) → Opens size LeadsToAll c t (list_widened size.data_words size.pointers t) r → OpensList size r c t
+opens : (size : StructSize) (r : Result (Option ExistingList) ErrorKind) (c : CallAt) (t : Tree) → (t ≡ Null → ⊥) → Opens size LeadsToAll c t (list_widened size.data_words size.pointers t) r → OpensExistingList size r c t
 opens size r c Null some o = absurd (some refl)
 opens size r c (Capability i) some o = o
 opens size r c (Struct ws ts) some o = o
@@ -102,14 +102,14 @@ same_result k u e = cc
 -- What the call that makes it so says.
 pub record Widens (a b : View) (s p : ℕ) (size : StructSize) (r : Result (Option ExistingList) ErrorKind) : Type 0 where
   pub widened : OnOk r (WidensList a.words b.words s p size)
-  pub leads : IfOk r (LeadsToList a.words b.words s p size)
+  pub leads : IfOk r (LeadsToWiderList a.words b.words s p size)
   pub granted : OnOk r (KeepsMemory a b)
   pub refused : OnErr r (LeavesAll a.words b.words s p)
   pub named : IfErr r (RefusesWider a b s p size)
-  pub few : TakesForList a.words b.words s p size
+  pub few : GrowsForList a.words b.words s p size
 
 pub list_made : (a b : View) (s p : ℕ) (t : Tree) (l : ExistingList) (size : StructSize) (r : Result (Option ExistingList) ErrorKind) → IsStored a.words s p t → list_in (target a.words s p) Void t ≡ Ok (Some l) → (HasWideStructs size l → ⊥) →
-    None ≡ refusal_of_elements size l.size l.struct_size l.count → Widens a b s p size r → OpensList size r (call_at s p a b) t
+    None ≡ refusal_of_elements size l.size l.struct_size l.count → Widens a b s p size r → OpensExistingList size r (call_at s p a b) t
 list_made a b s p t l size (Ok m) stored found narrow none w =
     let (u, e, made) = w.widened t stored in
     opens size (Ok m) (call_at s p a b) t (not_null l a.words s p t found)

@@ -7,11 +7,11 @@ use Rattle.capnp_format.specs.Numbers.{words_for}
 use Rattle.capnp_format.specs.Tree.{Tree, Flat, Pointers, Structs, Trees, no_trees, tree, Elements, no_elements, element, count, element_count}
 use Rattle.capnp_format.specs.Means.{ListAt, IsTag, count_cost, Means, MeansAll, MeansElements}
 use Rattle.capnp_format.specs.Forest.{Interval, times, pads_of, object_of, target, target_in, cover, cover_all, cover_elements, AreTidy, AreTidyElements}
-use Rattle.capnp_making.specs.Path.{struct_at, one_word, extent}
+use Rattle.capnp_making.specs.Path.{struct_at, word_interval, extent}
 use Rattle.capnp_making.specs.Stored.{IsStored, IsReplaced}
 use Rattle.capnp_widening.specs.Moved.{IsMoved, pads_from, pads_in_rows, IsRehoused}
-use Rattle.capnp_making.specs.Made.{nulls, zeros, zero_elements}
-use Rattle.capnp_widening.specs.Widened.{words_in, fill_words, fill_trees, struct_for_each, struct_for_each_tree}
+use Rattle.capnp_making.specs.Made.{nulls, words_of_zero, zero_elements}
+use Rattle.capnp_widening.specs.Widened.{struct_data_words, fill_words, fill_trees, struct_for_each, struct_for_each_tree}
 use Rattle.capnp_format.proofs.Frame.{SameWords, times-append, frame_all, frame_elements}
 use Rattle.capnp_making.proofs.Extents.{times-first, times-object}
 use Rattle.capnp_making.proofs.Tidy.{tidy_kept_all, tidy_kept_elements}
@@ -47,7 +47,7 @@ list_stands S M Q u q t a size inner b d k fs before after fresh n some x parts 
     rehoused S M Q u q a size b wide before after fresh h t inner x parts reached (Structs d k fs) n (b.pads + (element_count fs * (d + k) + 1) + count_cost (d + k) (element_count fs) + rows.cost) rows.covers
     (λ v z. omega (
       arith,
-      times-first (one_word u q) (cover Q u q (Structs d k fs)) v z,
+      times-first (word_interval u q) (cover Q u q (Structs d k fs)) v z,
       times-object Q u q wide b (λ w. cover_elements Q w.segment (w.start + 1) d k fs) v z y.leads_there.leads_to.1,
       ap (λ is. times is v z) last.1,
     )) (
@@ -69,7 +69,7 @@ list_stands S M Q u q t a size inner b d k fs before after fresh n some x parts 
 
 -- pointers, each written anew as the first one of a struct
 pub record PointersInRows (M : Segments) (s p v r d k : ℕ) (ts : Trees) : Type 0 where
-  pub words : (i : ℕ) → i < count ts → HasWords M v (r + i * (d + max 1 k)) (zeros d)
+  pub words : (i : ℕ) → i < count ts → HasWords M v (r + i * (d + max 1 k)) (words_of_zero d)
   pub moved : (i : ℕ) → i < count ts → IsMoved M s (p + i) v (r + i * (d + max 1 k) + d)
   pub nulls_behind : (i j : ℕ) → i < count ts → 0 < j → j < max 1 k → word_at M v (r + i * (d + max 1 k) + d + j) ≡ 0
 
@@ -82,7 +82,7 @@ record RowsMeanToo (M : Segments) (n s p v r d k : ℕ) (ts : Trees) : Type 0 wh
 
 next_rows : (M : Segments) (s p v r d k : ℕ) (t : Tree) (ts : Trees) → PointersInRows M s p v r d k (tree t ts) → PointersInRows M s (p + 1) v (r + d + max 1 k) d k ts
 next_rows M s p v r d k t ts h = record {
-  words = λ i l. at_position M v _ _ (zeros d) (let z : r + suc i * (d + max 1 k) ≡ r + d + max 1 k + i * (d + max 1 k) = omega arith in z) (h.words (suc i) (omega arith));
+  words = λ i l. at_position M v _ _ (words_of_zero d) (let z : r + suc i * (d + max 1 k) ≡ r + d + max 1 k + i * (d + max 1 k) = omega arith in z) (h.words (suc i) (omega arith));
   moved = λ i l. moved_at M s _ _ v _ _ (let z : p + suc i ≡ p + 1 + i = omega arith in z) (let z : r + suc i * (d + max 1 k) + d ≡ r + d + max 1 k + i * (d + max 1 k) + d = omega arith in z) (h.moved (suc i) (omega arith));
   nulls_behind = λ i j l m f. subst (λ z. word_at M v z ≡ 0) (let z : r + suc i * (d + max 1 k) + d + j ≡ r + d + max 1 k + i * (d + max 1 k) + d + j = omega arith in z) (h.nulls_behind (suc i) j (omega arith) m f);
 }
@@ -108,7 +108,7 @@ rows_mean M n s p v r d k (tree t ts) c h (a, b, one, rest, g) =
         others.cost,
         length-replicate d 0,
         omega (arith, count-fill_trees k first),
-        at_position M v _ _ (zeros d) (let z : r + 0 * (d + w) ≡ r = omega arith in z) (h.words 0 (omega arith)),
+        at_position M v _ _ (words_of_zero d) (let z : r + 0 * (d + w) ≡ r = omega arith in z) (h.words 0 (omega arith)),
         full.means,
         others.means,
         refl,
@@ -152,8 +152,8 @@ pointers_widened S M Q u q ts d k b fresh x r w y =
         let inner = cover_all S a.segment a.start ts in
         let h = subst (λ t. IsRehoused S M Q u q t (count ts) b wide (pads_from M t.segment t.start (count ts)) after fresh) here r in
         let f = subst (λ t. PointersInRows M t.segment t.start b.segment (b.start + 1) d k ts) here w in
-        let parts = λ (v z : ℕ). (let p : times (extent S u q (Pointers ts)) v z ≡ times (one_word u q ∷ []) v z + times (pads_of (word_at S u q)) v z + times (object_of a (count ts) ∷ []) v z + times inner v z =
-        omega (arith, times-first (one_word u q) (cover S u q (Pointers ts)) v z, times-object S u q (count ts) a (λ w. cover_all S w.segment w.start ts) v z o.leads_to.1) in p) in
+        let parts = λ (v z : ℕ). (let p : times (extent S u q (Pointers ts)) v z ≡ times (word_interval u q ∷ []) v z + times (pads_of (word_at S u q)) v z + times (object_of a (count ts) ∷ []) v z + times inner v z =
+        omega (arith, times-first (word_interval u q) (cover S u q (Pointers ts)) v z, times-object S u q (count ts) a (λ w. cover_all S w.segment w.start ts) v z o.leads_to.1) in p) in
         let first = grows_first S M Q u q a (count ts) b wide before after fresh h in
         let old_same : SameWords S M a.segment a.start (count ts) = λ v i j. h.extends a.segment v (omega arith) in
         let old_agree = inner_agrees S M Q u q a (count ts) b wide before after fresh h (Pointers ts) inner x parts in
@@ -172,12 +172,12 @@ AreBlank d k (element ws ts es) = (length ws ≡ d) × (ts ≡ nulls k) × AreBl
 
 -- elements whose children are Null, as they are written
 pub record BlankRows (M : Segments) (v r d k : ℕ) (es : Elements) : Type 0 where
-  pub words : (i : ℕ) → i < element_count es → HasWords M v (r + i * (d + k)) (words_in (struct_at es i))
+  pub words : (i : ℕ) → i < element_count es → HasWords M v (r + i * (d + k)) (struct_data_words (struct_at es i))
   pub nulls_behind : (i j : ℕ) → i < element_count es → j < k → word_at M v (r + i * (d + k) + d + j) ≡ 0
 
 next_blank : (M : Segments) (v r d k : ℕ) (ws : List ℕ) (ts : Trees) (es : Elements) → BlankRows M v r d k (element ws ts es) → BlankRows M v (r + d + k) d k es
 next_blank M v r d k ws ts es h = record {
-  words = λ i l. at_position M v _ _ (words_in (struct_at es i)) (let z : r + suc i * (d + k) ≡ r + d + k + i * (d + k) = omega arith in z) (h.words (suc i) (omega arith));
+  words = λ i l. at_position M v _ _ (struct_data_words (struct_at es i)) (let z : r + suc i * (d + k) ≡ r + d + k + i * (d + k) = omega arith in z) (h.words (suc i) (omega arith));
   nulls_behind = λ i j l m. subst (λ z. word_at M v z ≡ 0) (let z : r + suc i * (d + k) + d + j ≡ r + d + k + i * (d + k) + d + j = omega arith in z) (h.nulls_behind (suc i) j (omega arith) m);
 }
 
@@ -223,8 +223,8 @@ flat_widened S M Q u q size ns d k fs b fresh blank x r w y =
         let here = ap target_in o.leads_to.1 in
         let long = words_for size (length ns) in
         let h = subst (λ t. IsRehoused S M Q u q t long b (1 + element_count fs * (d + k)) [] [] fresh) here r in
-        let parts = λ (v z : ℕ). (let p : times (extent S u q (Flat size ns)) v z ≡ times (one_word u q ∷ []) v z + times (pads_of (word_at S u q)) v z + times (object_of a long ∷ []) v z + times [] v z =
-        omega (arith, times-first (one_word u q) (cover S u q (Flat size ns)) v z, times-object S u q long a (λ w. []) v z o.leads_to.1) in p) in
+        let parts = λ (v z : ℕ). (let p : times (extent S u q (Flat size ns)) v z ≡ times (word_interval u q ∷ []) v z + times (pads_of (word_at S u q)) v z + times (object_of a long ∷ []) v z + times [] v z =
+        omega (arith, times-first (word_interval u q) (cover S u q (Flat size ns)) v z, times-object S u q long a (λ w. []) v z o.leads_to.1) in p) in
         list_stands S M Q u q (Flat size ns) a long [] b d k fs [] [] fresh n some x parts h (blank_mean M (pred n) b.segment (b.start + 1) d k fs blank w) y
 
 -- a struct for each number, the number in its first word; and structs of zeros
@@ -237,7 +237,7 @@ pub count-struct_for_each : (d k : ℕ) (ns : List ℕ) → element_count (struc
 count-struct_for_each d k [] = refl
 count-struct_for_each d k (x ∷ xs) = ap suc (count-struct_for_each d k xs)
 
-struct_of_number : (d k i : ℕ) (ns : List ℕ) → i < length ns → words_in (struct_at (struct_for_each d k ns) i) ≡ fill_words d (get_or ns i 0 ∷ [])
+struct_of_number : (d k i : ℕ) (ns : List ℕ) → i < length ns → struct_data_words (struct_at (struct_for_each d k ns) i) ≡ fill_words d (get_or ns i 0 ∷ [])
 struct_of_number d k i [] l = absurd (omega arith)
 struct_of_number d k zero (x ∷ xs) l = refl
 struct_of_number d k (suc i) (x ∷ xs) l = struct_of_number d k i xs (omega arith)
@@ -250,7 +250,7 @@ pub count-zero_elements : (d k n : ℕ) → element_count (zero_elements d k n) 
 count-zero_elements d k zero = refl
 count-zero_elements d k (suc n) = ap suc (count-zero_elements d k n)
 
-struct_of_zeros : (d k i n : ℕ) → i < n → words_in (struct_at (zero_elements d k n) i) ≡ zeros d
+struct_of_zeros : (d k i n : ℕ) → i < n → struct_data_words (struct_at (zero_elements d k n) i) ≡ words_of_zero d
 struct_of_zeros d k i zero l = absurd (omega arith)
 struct_of_zeros d k zero (suc n) l = refl
 struct_of_zeros d k (suc i) (suc n) l = struct_of_zeros d k i n (omega arith)
@@ -277,7 +277,7 @@ numbers_widened S M Q u q size ns d k b fresh x r w y =
 
 -- as many structs of d words of zero and k null pointers
 pub record ZerosInRows (M : Segments) (v r d k n : ℕ) : Type 0 where
-  pub words : (i : ℕ) → i < n → HasWords M v (r + i * (d + k)) (zeros d)
+  pub words : (i : ℕ) → i < n → HasWords M v (r + i * (d + k)) (words_of_zero d)
   pub nulls_behind : (i j : ℕ) → i < n → j < k → word_at M v (r + i * (d + k) + d + j) ≡ 0
 
 pub void_widened : (S M Q : Segments) (u q : ℕ) (ns : List ℕ) (d k : ℕ) (b : Target) (fresh : List Interval) → IsStored S u q (Flat 0 ns) →

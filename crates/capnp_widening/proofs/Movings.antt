@@ -9,11 +9,11 @@ use Rattle.capnp_format.specs.Tree.{Trees, no_trees, tree, count}
 use Rattle.capnp_format.specs.Means.{MeansAll}
 use Rattle.capnp_format.specs.Forest.{times, pads_of, cover, cover_all}
 use Rattle.capnp_format.proofs.Frame.{times-append}
-use Rattle.capnp_making.specs.Path.{one_word}
+use Rattle.capnp_making.specs.Path.{word_interval}
 use Rattle.capnp_making.specs.Zeroed.{row}
 use Rattle.capnp_making.proofs.Zeros.{in_row}
 use Rattle.capnp_making.proofs.Extents.{once_held, times-first}
-use Rattle.capnp_widening.specs.Moved.{Move, a_move, row_of_moves, old_places, new_places, old_pads, new_pads, own_pads, fresh_pads, IsMoved, Extends, Stands, AllStand, AllMoved, CanMove, AreMoved, Moves, MovesSome, pads_from}
+use Rattle.capnp_widening.specs.Moved.{Move, a_move, row_of_moves, old_places, new_places, old_pads, new_pads, own_pads, fresh_pads, IsMoved, Extends, HasValueInside, HaveValuesInside, AllMoved, CanMove, AreMoved, Moves, MovesSome, pads_from}
 use Rattle.capnp_widening.proofs.Moves.{moved_kept}
 use Rattle.capnp_widening.proofs.Single.{old_pads_inside}
 
@@ -41,11 +41,11 @@ fresh_pads-append R (m ∷ ms) ns x y =
     let p = own_pads R m in
     omega (arith, fresh_pads-append R ms ns x y, times-append p (fresh_pads R (ms ++ ns)) x y, times-append p (fresh_pads R ms) x y)
 
-stand_left : (B : Segments) (ms ns : List Move) → AllStand B (ms ++ ns) → AllStand B ms
+stand_left : (B : Segments) (ms ns : List Move) → HaveValuesInside B (ms ++ ns) → HaveValuesInside B ms
 stand_left B [] ns h = tt
 stand_left B (m ∷ ms) ns h = (h.0, stand_left B ms ns h.1)
 
-stand_right : (B : Segments) (ms ns : List Move) → AllStand B (ms ++ ns) → AllStand B ns
+stand_right : (B : Segments) (ms ns : List Move) → HaveValuesInside B (ms ++ ns) → HaveValuesInside B ns
 stand_right B [] ns h = h
 stand_right B (m ∷ ms) ns h = stand_right B ms ns h.1
 
@@ -88,10 +88,10 @@ stays_next B M R m ms h = record {
   pads = λ x y l. h.pads x y (omega (arith, times-append (pads_of (word_at M m.to_segment m.to_at)) (new_pads M ms) x y));
 }
 
-old_word_in : (B : Segments) (s p : ℕ) → Stands B s p → p < length (segment B s)
-old_word_in B s p (t, n, c, m, inside) = inside s p (omega (arith, times-first (one_word s p) (cover B s p t) s p, once_held s p))
+old_word_in : (B : Segments) (s p : ℕ) → HasValueInside B s p → p < length (segment B s)
+old_word_in B s p (t, n, c, m, inside) = inside s p (omega (arith, times-first (word_interval s p) (cover B s p t) s p, once_held s p))
 
-pub same_moves : (B M R : Segments) (ms : List Move) → AllStand B ms → StaysMoved B M R ms → SameMoves M R ms
+pub same_moves : (B M R : Segments) (ms : List Move) → HaveValuesInside B ms → StaysMoved B M R ms → SameMoves M R ms
 same_moves B M R [] a h = tt
 same_moves B M R (m ∷ ms) a h = (
   h.in_base m.segment m.at (old_word_in B m.segment m.at a.0),
@@ -99,7 +99,7 @@ same_moves B M R (m ∷ ms) a h = (
   same_moves B M R ms a.1 (stays_next B M R m ms h),
 )
 
-pub moved_still : (B M R : Segments) (ms : List Move) → AllStand B ms → StaysMoved B M R ms → AllMoved M ms → AllMoved R ms
+pub moved_still : (B M R : Segments) (ms : List Move) → HaveValuesInside B ms → StaysMoved B M R ms → AllMoved M ms → AllMoved R ms
 moved_still B M R [] a h d = tt
 moved_still B M R (m ∷ ms) a h d = (
   moved_kept M R m.segment m.at m.to_segment m.to_at h.grows (h.in_base m.segment m.at (old_word_in B m.segment m.at a.0)) (h.places m.to_segment m.to_at (omega (arith, once_held m.to_segment m.to_at)))
@@ -109,7 +109,7 @@ moved_still B M R (m ∷ ms) a h d = (
 )
 
 -- the pads of old pointers lie in B
-pub all_old_inside : (B M : Segments) (ms : List Move) → Extends B M → AllStand B ms → (x y : ℕ) → 0 < times (old_pads M ms) x y → y < length (segment B x)
+pub all_old_inside : (B M : Segments) (ms : List Move) → Extends B M → HaveValuesInside B ms → (x y : ℕ) → 0 < times (old_pads M ms) x y → y < length (segment B x)
 all_old_inside B M [] e a x y l = absurd (omega arith)
 all_old_inside B M (m ∷ ms) e a x y l = elim (cases_eq (times (pads_of (word_at M m.segment m.at)) x y) 0) [
   | inl none ↦ all_old_inside B M ms e a.1 x y (omega (arith, times-append (pads_of (word_at M m.segment m.at)) (old_pads M ms) x y))
@@ -241,17 +241,17 @@ moves_some S M s p v r i k l f =
     }
 
 -- children one behind the other that lie in B
-pub children_stand : (B : Segments) (n s p v r : ℕ) (ts : Trees) (c : ℕ) → MeansAll B n s p ts c → ((x y : ℕ) → 0 < times (row s p (count ts) ∷ cover_all B s p ts) x y → y < length (segment B x)) → AllStand B (row_of_moves s p v r (count ts))
+pub children_stand : (B : Segments) (n s p v r : ℕ) (ts : Trees) (c : ℕ) → MeansAll B n s p ts c → ((x y : ℕ) → 0 < times (row s p (count ts) ∷ cover_all B s p ts) x y → y < length (segment B x)) → HaveValuesInside B (row_of_moves s p v r (count ts))
 children_stand B n s p v r no_trees c m inside = tt
 children_stand B n s p v r (tree t ts) c (a, b, one, rest, g) inside =
-    let parts = λ (x y : ℕ). (let e : times (row s p (suc (count ts)) ∷ []) x y ≡ times (one_word s p ∷ []) x y + times (row s (p + 1) (count ts) ∷ []) x y = first_word s p (count ts) x y in e) in
+    let parts = λ (x y : ℕ). (let e : times (row s p (suc (count ts)) ∷ []) x y ≡ times (word_interval s p ∷ []) x y + times (row s (p + 1) (count ts) ∷ []) x y = first_word s p (count ts) x y in e) in
     let whole = λ (x y : ℕ). times-append (cover B s p t) (cover_all B s (p + 1) ts) x y in (
-      (t, n, a, one, λ x y l. inside x y (omega (arith, parts x y, whole x y, times-first (one_word s p) (cover B s p t) x y, times-first (row s p (suc (count ts))) (cover_all B s p (tree t ts)) x y))),
+      (t, n, a, one, λ x y l. inside x y (omega (arith, parts x y, whole x y, times-first (word_interval s p) (cover B s p t) x y, times-first (row s p (suc (count ts))) (cover_all B s p (tree t ts)) x y))),
       children_stand B n s (p + 1) v (r + 1) ts b rest
           (λ x y l. inside x y (omega (arith, parts x y, whole x y, times-first (row s (p + 1) (count ts)) (cover_all B s (p + 1) ts) x y, times-first (row s p (suc (count ts))) (cover_all B s p (tree t ts)) x y))),
     )
   where
-    first_word : (s p n x y : ℕ) → times (row s p (suc n) ∷ []) x y ≡ times (one_word s p ∷ []) x y + times (row s (p + 1) n ∷ []) x y
+    first_word : (s p n x y : ℕ) → times (row s p (suc n) ∷ []) x y ≡ times (word_interval s p ∷ []) x y + times (row s (p + 1) n ∷ []) x y
     first_word s p n x y = grind (arith, nat_tests)
 
 -- what a row of moves says of each
@@ -278,7 +278,7 @@ row_new_places s p v r zero x y = empty v r x y
     empty v r x y = grind (arith, nat_tests)
 row_new_places s p v r (suc k) x y = omega (arith, row_new_places s (p + 1) v (r + 1) k x y, first_word v r k x y)
   where
-    first_word : (v r n x y : ℕ) → times (row v r (suc n) ∷ []) x y ≡ times (one_word v r ∷ []) x y + times (row v (r + 1) n ∷ []) x y
+    first_word : (v r n x y : ℕ) → times (row v r (suc n) ∷ []) x y ≡ times (word_interval v r ∷ []) x y + times (row v (r + 1) n ∷ []) x y
     first_word v r n x y = grind (arith, nat_tests)
 
 pub row_old_places : (s p v r k x y : ℕ) → times (old_places (row_of_moves s p v r k)) x y ≡ times (row s p k ∷ []) x y
@@ -288,7 +288,7 @@ row_old_places s p v r zero x y = empty s p x y
     empty v r x y = grind (arith, nat_tests)
 row_old_places s p v r (suc k) x y = omega (arith, row_old_places s (p + 1) v (r + 1) k x y, first_word s p k x y)
   where
-    first_word : (v r n x y : ℕ) → times (row v r (suc n) ∷ []) x y ≡ times (one_word v r ∷ []) x y + times (row v (r + 1) n ∷ []) x y
+    first_word : (v r n x y : ℕ) → times (row v r (suc n) ∷ []) x y ≡ times (word_interval v r ∷ []) x y + times (row v (r + 1) n ∷ []) x y
     first_word v r n x y = grind (arith, nat_tests)
 
 -- what CanMove says of the first moves
@@ -301,9 +301,9 @@ can_left B S ms ns c = record {
 }
 
 -- old places lie in B
-pub old_place_inside : (B : Segments) (ms : List Move) → AllStand B ms → (x y : ℕ) → 0 < times (old_places ms) x y → y < length (segment B x)
+pub old_place_inside : (B : Segments) (ms : List Move) → HaveValuesInside B ms → (x y : ℕ) → 0 < times (old_places ms) x y → y < length (segment B x)
 old_place_inside B [] a x y l = absurd (omega arith)
-old_place_inside B (m ∷ ms) a x y l = elim (cases_eq (times (one_word m.segment m.at ∷ []) x y) 0) [
+old_place_inside B (m ∷ ms) a x y l = elim (cases_eq (times (word_interval m.segment m.at ∷ []) x y) 0) [
   | inl none ↦ old_place_inside B ms a.1 x y (omega arith)
   | inr some ↦ (let i = in_row m.segment m.at 1 x y (omega arith) in
       let e : y ≡ m.at = omega (arith, i.1, i.2) in

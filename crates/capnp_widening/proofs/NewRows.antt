@@ -4,11 +4,11 @@ use Rattle.std.proofs.lemmas.Bool.{cases_eq}
 use Rattle.std.proofs.lemmas.List.{length-replicate}
 use Rattle.capnp_format.specs.Segments.{Segments, segment, word_at, HasWords, Target}
 use Rattle.capnp_format.specs.Forest.{times, pads_of}
-use Rattle.capnp_making.specs.Made.{IsGrown, zeros}
+use Rattle.capnp_making.specs.Made.{IsGrown, words_of_zero}
 use Rattle.capnp_making.specs.Zeroed.{row}
 use Rattle.capnp_making.proofs.BelowElements.{element_within}
 use Rattle.capnp_making.proofs.Zeros.{of_row}
-use Rattle.capnp_widening.specs.Moved.{row_of_moves, rows_of_moves, new_places, old_pads, new_pads, fresh_pads, pads_from, pads_in_rows, IsMoved, IsRehoused, AllStand}
+use Rattle.capnp_widening.specs.Moved.{row_of_moves, rows_of_moves, new_places, old_pads, new_pads, fresh_pads, pads_from, pads_in_rows, IsMoved, IsRehoused, HaveValuesInside}
 use Rattle.capnp_widening.proofs.Basics.{once_row}
 use Rattle.capnp_widening.proofs.ListRemade.{rows_place, beside_rows}
 use Rattle.capnp_widening.proofs.Movings.{same_old, same_new}
@@ -18,7 +18,7 @@ use Rattle.capnp_widening.proofs.RowsCopied.{beside_row}
 use Rattle.capnp_widening.proofs.StructRemade.{words_by_each, zeros_at}
 
 -- words are taken for a list, and its tag and the data of its rows are written into them
-pub list_begun : (S T D : Segments) (s p w k n wd wk v at pads : ℕ) → AllStand S (rows_of_moves s p w v (at + pads + 1 + wd) (wd + wk) k n) → k ≤ wk → IsGrown S T v at (pads + (1 + n * (wd + wk))) →
+pub list_begun : (S T D : Segments) (s p w k n wd wk v at pads : ℕ) → HaveValuesInside S (rows_of_moves s p w v (at + pads + 1 + wd) (wd + wk) k n) → k ≤ wk → IsGrown S T v at (pads + (1 + n * (wd + wk))) →
     length D ≡ length T → ((x : ℕ) → length (segment D x) ≡ length (segment T x)) → ((x y : ℕ) → times (row v (at + pads) (1 + n * (wd + wk)) ∷ []) x y ≡ 0 → word_at D x y ≡ word_at T x y) →
     ((i j : ℕ) → i < n → wd ≤ j → j < wd + wk → word_at D v (at + pads + 1 + i * (wd + wk) + j) ≡ 0) →
     IsBegun S T D v at pads (1 + n * (wd + wk)) (rows_of_moves s p w v (at + pads + 1 + wd) (wd + wk) k n)
@@ -101,10 +101,10 @@ module _ (S T D P R Q : Segments) (u q : ℕ) (a : Target) (size : ℕ) (b : Tar
       (subst (λ is. IsRehoused S M Q u q a size b wide (old_pads P ms) is fresh) after (is_rehoused S T D P R Q u q a size b v at pads wide ms h))
 
 -- words of zero
-pub zeros_there : (M : Segments) (s p d : ℕ) → p + d ≤ length (segment M s) → ((j : ℕ) → j < d → word_at M s (p + j) ≡ 0) → HasWords M s p (zeros d)
+pub zeros_there : (M : Segments) (s p d : ℕ) → p + d ≤ length (segment M s) → ((j : ℕ) → j < d → word_at M s (p + j) ≡ 0) → HasWords M s p (words_of_zero d)
 zeros_there M s p d fits h =
-    let long : length (zeros d) ≡ d = length-replicate {A = ℕ} d 0 in
-    words_by_each M s p (zeros d) (omega (arith, fits, long)) (λ j l. h j (omega (arith, l, long)) ∙ sym (zeros_at d j))
+    let long : length (words_of_zero d) ≡ d = length-replicate {A = ℕ} d 0 in
+    words_by_each M s p (words_of_zero d) (omega (arith, fits, long)) (λ j l. h j (omega (arith, l, long)) ∙ sym (zeros_at d j))
 
 -- pads of one pointer in each row of one word, and of none
 pub pads_in_words : (M : Segments) (s p n : ℕ) → pads_in_rows M s p 1 1 n ≡ pads_from M s p n
@@ -116,11 +116,11 @@ no_pads M s p w zero = refl
 no_pads M s p w (suc n) = no_pads M s (p + w) w n
 
 -- old pointers one behind the other, which are to stand in rows
-pub stand_in_rows : (B : Segments) (s p v r x y z n : ℕ) → AllStand B (row_of_moves s p v r n) → AllStand B (rows_of_moves s p 1 x y z 1 n)
+pub stand_in_rows : (B : Segments) (s p v r x y z n : ℕ) → HaveValuesInside B (row_of_moves s p v r n) → HaveValuesInside B (rows_of_moves s p 1 x y z 1 n)
 stand_in_rows B s p v r x y z zero h = tt
 stand_in_rows B s p v r x y z (suc n) h = (h.0, stand_in_rows B s (p + 1) v (r + 1) x (y + z) z n h.1)
 
 -- no pointers
-pub none_stand : (B : Segments) (s p w x y z n : ℕ) → AllStand B (rows_of_moves s p w x y z 0 n)
+pub none_stand : (B : Segments) (s p w x y z n : ℕ) → HaveValuesInside B (rows_of_moves s p w x y z 0 n)
 none_stand B s p w x y z zero = tt
 none_stand B s p w x y z (suc n) = none_stand B s (p + w) w x (y + z) z n

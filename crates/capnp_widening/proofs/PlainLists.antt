@@ -10,10 +10,10 @@ use Rattle.capnp_words.specs.declared.wire_pointer.StructSize.{StructSize}
 use Rattle.capnp_words.specs.declared.wire_pointer.ElementSize.TheVariants.{Void, Pointer}
 use Rattle.capnp_making.specs.declared.existing.ExistingList.{ExistingList}
 use Rattle.capnp_making.specs.Existing.{list_in, plain_list}
-use Rattle.capnp_making.specs.Made.{zeros, nulls, zero_elements}
+use Rattle.capnp_making.specs.Made.{words_of_zero, nulls, zero_elements}
 use Rattle.capnp_making.specs.Stored.{IsStored}
 use Rattle.capnp_widening.specs.declared.remaking.ElementRows.{ElementRows}
-use Rattle.capnp_widening.specs.RowsRemade.{rows_in, as_structs, HasRows, BecomesList, RemakesRows, RemakesList, LeavesRows, IsList, WidensTo, LeavesList}
+use Rattle.capnp_widening.specs.RowsRemade.{rows_in, as_structs, StoresRows, BecomesList, RemakesRows, RemakesList, LeavesRows, IsList, WidensTo, LeavesList}
 use Rattle.capnp_widening.specs.Widened.{struct_for_each, struct_for_each_tree, limited, list_widened}
 use Rattle.capnp_widening.proofs.Described.{counted}
 use Rattle.capnp_widening.proofs.Filled.{greater_words, greater_trees}
@@ -43,13 +43,13 @@ are_pointers S s p t l is (x, e) = go t x e
 abbrev pub pointers_of : ExistingList → ElementRows
 pointers_of l = record { segment = l.segment; at = l.start; tag = 0; size = record { data_words = 0; pointers = 1 }; count = l.count }
 
-pub has_pointers : (S : Segments) (s p : ℕ) (t : Tree) (l : ExistingList) → ArePointers S s p t l → IsStored S s p t → HasRows S s p t (pointers_of l)
+pub has_pointers : (S : Segments) (s p : ℕ) (t : Tree) (l : ExistingList) → ArePointers S s p t l → IsStored S s p t → StoresRows S s p t (pointers_of l)
 has_pointers S s p t l k x = (x, ap (rows_in (target S s p)) k.tree_of ∙ ap Some (sym (ap pointers_of k.list)))
 
 first_pointers : (d k : ℕ) (ts : Trees) → struct_for_each_tree d (max 1 k) ts ≡ struct_for_each_tree d k ts
 first_pointers d k no_trees = refl
 first_pointers d k (tree t ts) =
-    ap₂ (λ us es. element (zeros d) us es) (greater_trees k (tree t no_trees)) (first_pointers d k ts)
+    ap₂ (λ us es. element (words_of_zero d) us es) (greater_trees k (tree t no_trees)) (first_pointers d k ts)
 
 pub pointers_widened_to : (S R : Segments) (s p : ℕ) (l m : ExistingList) (size wide : StructSize) → size_number l.size ≡ 6 → wide.data_words ≡ size.data_words → wide.pointers ≡ max 1 size.pointers →
     l.count * (wide.data_words + wide.pointers) < 2 ^ 29 → RemakesRows S R s p (pointers_of l) wide m → WidensTo S R s p l size m
@@ -71,7 +71,7 @@ pub pointers_left_as : (S R : Segments) (s p : ℕ) (l : ExistingList) → size_
 pointers_left_as S R s p l is left = λ t i. left t (has_pointers S s p t l (are_pointers S s p t l is i) i.0)
 
 pub pointers_refused : (S : Segments) (s p : ℕ) (l : ExistingList) (size wide : StructSize) (k : ErrorKind) → size_number l.size ≡ 6 → wide.data_words ≡ size.data_words → wide.pointers ≡ max 1 size.pointers →
-    ((t : Tree) → HasRows S s p t (pointers_of l) → limited (l.count * (wide.data_words + wide.pointers)) (as_structs wide t) ≡ Err k) → (t : Tree) → IsList S s p t l → list_widened size.data_words size.pointers t ≡ Err k
+    ((t : Tree) → StoresRows S s p t (pointers_of l) → limited (l.count * (wide.data_words + wide.pointers)) (as_structs wide t) ≡ Err k) → (t : Tree) → IsList S s p t l → list_widened size.data_words size.pointers t ≡ Err k
 pointers_refused S s p l size wide k is wd wp refused = λ t i.
     (let c = are_pointers S s p t l is i in
     let d = size.data_words in
@@ -112,7 +112,7 @@ pub record AreVoid (S : Segments) (s p : ℕ) (t : Tree) (l : ExistingList) (n :
   pub numbers : List ℕ
   pub tree_of : t ≡ Flat 0 numbers
   pub counts : n ≡ length numbers
-  pub has : HasRows S s p t (void_of l n)
+  pub has : StoresRows S s p t (void_of l n)
 
 pub are_void : (S : Segments) (s p n : ℕ) (t : Tree) (l : ExistingList) → size_number l.size ≡ 0 → ((a : Target) → leads S s p ≡ Some a → n ≡ list_count a.word) → IsList S s p t l → AreVoid S s p t l n
 are_void S s p n t l is count i =
@@ -142,7 +142,7 @@ pub void_left_as : (S R : Segments) (s p n : ℕ) (l : ExistingList) → size_nu
 void_left_as S R s p n l is count left = λ t i. left t (are_void S s p n t l is count i).has
 
 pub void_refused : (S : Segments) (s p n : ℕ) (l : ExistingList) (size : StructSize) (k : ErrorKind) → size_number l.size ≡ 0 → ((a : Target) → leads S s p ≡ Some a → n ≡ list_count a.word) →
-    ((t : Tree) → HasRows S s p t (void_of l n) → limited (n * (size.data_words + size.pointers)) (as_structs size t) ≡ Err k) → (t : Tree) → IsList S s p t l → list_widened size.data_words size.pointers t ≡ Err k
+    ((t : Tree) → StoresRows S s p t (void_of l n) → limited (n * (size.data_words + size.pointers)) (as_structs size t) ≡ Err k) → (t : Tree) → IsList S s p t l → list_widened size.data_words size.pointers t ≡ Err k
 void_refused S s p n l size k is count refused = λ t i.
     (let c = are_void S s p n t l is count i in
     ap (list_widened size.data_words size.pointers) c.tree_of

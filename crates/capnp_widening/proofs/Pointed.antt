@@ -10,7 +10,7 @@ use Rattle.capnp_format.specs.Forest.{times, pads_of}
 use Rattle.capnp_format.proofs.Lies.{near_leads}
 use Rattle.capnp_format.proofs.Following.{IsOffsetTo}
 use Rattle.capnp_arena.specs.Written.{with_word}
-use Rattle.capnp_making.specs.Path.{one_word}
+use Rattle.capnp_making.specs.Path.{word_interval}
 use Rattle.capnp_making.specs.Zeroed.{row}
 use Rattle.capnp_making.specs.Made.{IsGrown}
 use Rattle.capnp_making.proofs.Leading.{single_far_leads}
@@ -41,7 +41,7 @@ pub pointed_single : (S T U R : Segments) (s p v q b x f : ℕ) → p < length (
 pointed_single S T U R s p v q b x f place fits g e h near offset far single at to =
     let pad = word_put T U v q x (omega (arith, g.room)) e in
     let put = word_put U R s p f (omega (arith, place, g.grows.words s, pad.words s)) h in
-    let other : times (one_word s p ∷ []) v q ≡ 0 = outside s p v q (λ u w. omega (arith, g.behind, subst (λ z. p < length (segment S z)) (sym u) place)) in
+    let other : times (word_interval s p ∷ []) v q ≡ 0 = outside s p v q (λ u w. omega (arith, g.behind, subst (λ z. p < length (segment S z)) (sym u) place)) in
     let there_x : word_at R v q ≡ x = put.kept v q other ∙ pad.here in
     let one : pads_of (word_at R s p) ≡ row v q 1 ∷ [] = ap pads_of put.here ∙ is_far f far ∙ rw (at, to, single) refl in
     let long : b ≤ length (segment R v) = omega (arith, fits, g.grows.words v, pad.words v, put.words v) in
@@ -83,7 +83,7 @@ pointed_double S T U V R s p v b k q f x h place exists fits g e e' e'' object s
       zero = λ u r w l. put.kept u r (outside s p u r (λ y z. omega (arith, place, subst (λ j. length (segment S j) ≤ r) y l))) ∙ beside u r (let j = ap (λ js. times js u r) two in omega (arith, j)) ∙ g.zero u r l;
     }
   where
-    two_rows : (k q u r : ℕ) → times (row k q 2 ∷ []) u r ≡ times (one_word k q ∷ []) u r + times (one_word k (q + 1) ∷ []) u r
+    two_rows : (k q u r : ℕ) → times (row k q 2 ∷ []) u r ≡ times (word_interval k q ∷ []) u r + times (word_interval k (q + 1) ∷ []) u r
     two_rows k q u r = grind (arith, nat_tests)
 
     no_pads : (u r : ℕ) → (u ≡ k → q ≤ r → ⊥) → times (row k q 2 ∷ []) u r ≡ 0

@@ -7,14 +7,14 @@ use Rattle.capnp_format.specs.Means.{Leads, Means, IsTag}
 use Rattle.capnp_format.specs.Forest.{target, target_in, cover, cover_all}
 use Rattle.capnp_words.specs.declared.wire_pointer.StructSize.{StructSize}
 use Rattle.capnp_making.specs.Made.{zero_elements}
-use Rattle.capnp_making.specs.Path.{one_word}
+use Rattle.capnp_making.specs.Path.{word_interval}
 use Rattle.capnp_making.specs.Stored.{IsStored}
 use Rattle.capnp_making.specs.Zeroed.{row, IsZeroed}
 use Rattle.capnp_making.proofs.BelowElements.{element_within}
 use Rattle.capnp_making.proofs.Extents.{times-first, times-object}
 use Rattle.capnp_widening.specs.declared.remaking.ElementRows.{ElementRows}
 use Rattle.capnp_widening.specs.declared.widening.Room.{Room}
-use Rattle.capnp_widening.specs.Moved.{rows_of_moves, pads_in_rows, fresh_pads, IsMoved, IsRehoused, AllStand, Moves, MovesSome, Unmoves}
+use Rattle.capnp_widening.specs.Moved.{rows_of_moves, pads_in_rows, fresh_pads, IsMoved, IsRehoused, HaveValuesInside, Moves, MovesSome, Unmoves}
 use Rattle.capnp_widening.specs.RowsRemade.{AreRowsCopied, BecomesList, as_structs}
 use Rattle.capnp_widening.specs.Widened.{struct_for_each_tree, GrowsByZeros}
 use Rattle.capnp_widening.proofs.ListSteps.{ListSteps, ListUndone, ObjectStored, object_remade, found_there, list_at}
@@ -31,14 +31,14 @@ pointer_rows S id at ts = record { segment = (target S id at).segment; at = (tar
 pub record PointersStored (S : Segments) (id at : ℕ) (ts : Trees) (a : Target) : Type 0 where
   pub leads_to : Leads S id at a
   pub fits : a.start + count ts ≤ length (segment S a.segment)
-  pub stand : (v r z : ℕ) → AllStand S (rows_of_moves a.segment a.start 1 v r z 1 (count ts))
+  pub stand : (v r z : ℕ) → HaveValuesInside S (rows_of_moves a.segment a.start 1 v r z 1 (count ts))
 
 pub pointers_stored : (S : Segments) (id at : ℕ) (ts : Trees) → IsStored S id at (Pointers ts) → PointersStored S id at ts (target S id at)
 pointers_stored S id at ts x = at_level x.means.0 x.means.1 x.means.2
   where
     at_level : (n c : ℕ) → Means S n id at (Pointers ts) c → PointersStored S id at ts (target S id at)
     at_level n c (a, l, some, o, claim, all, g) =
-        let parts = λ (y w : ℕ). times-first (one_word id at) (cover S id at (Pointers ts)) y w in
+        let parts = λ (y w : ℕ). times-first (word_interval id at) (cover S id at (Pointers ts)) y w in
         let object = λ (y w : ℕ). times-object S id at (count ts) a (λ t. cover_all S t.segment t.start ts) y w o.leads_to.1 in
         subst (λ b. PointersStored S id at ts b) (sym (ap target_in o.leads_to.1)) (record {
           leads_to = o.leads_to;

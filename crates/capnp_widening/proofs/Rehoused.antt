@@ -6,14 +6,14 @@ use Rattle.capnp_format.specs.Segments.{Segments, segment, word_at, Target}
 use Rattle.capnp_format.specs.Tree.{Tree}
 use Rattle.capnp_format.specs.Means.{Means}
 use Rattle.capnp_format.specs.Forest.{Interval, times, pads_of, object_of, IsTidy}
-use Rattle.capnp_making.specs.Path.{one_word, extent}
+use Rattle.capnp_making.specs.Path.{word_interval, extent}
 use Rattle.capnp_making.specs.Stored.{IsStored, IsReplaced}
 use Rattle.capnp_widening.specs.Moved.{IsRehoused}
 use Rattle.capnp_format.proofs.Following.{Grows}
 use Rattle.capnp_format.proofs.Frame.{Agree, SameWords, times-append}
 use Rattle.capnp_making.proofs.Extents.{times-first}
 
-other_word : (u q x y : ℕ) → times (one_word u q ∷ []) x y ≡ 0 → (x ≢ u) ⊎ (y ≢ q)
+other_word : (u q x y : ℕ) → times (word_interval u q ∷ []) x y ≡ 0 → (x ≢ u) ⊎ (y ≢ q)
 other_word u q x y h = elim (cases_eq x u) [
   | inl e ↦ inr (λ f. grind (arith, nat_tests))
   | inr other ↦ inl other
@@ -21,7 +21,7 @@ other_word u q x y h = elim (cases_eq x u) [
 
 -- the old extent in its parts: the place's word, the pads, the object and what its pointers reach
 abbrev pub Parts : Segments → ℕ → ℕ → Tree → Target → ℕ → List Interval → Type 0
-Parts S u q t a size inner = (y z : ℕ) → times (extent S u q t) y z ≡ times (one_word u q ∷ []) y z + times (pads_of (word_at S u q)) y z + times (object_of a size ∷ []) y z + times inner y z
+Parts S u q t a size inner = (y z : ℕ) → times (extent S u q t) y z ≡ times (word_interval u q ∷ []) y z + times (pads_of (word_at S u q)) y z + times (object_of a size ∷ []) y z + times inner y z
 
 module _ (S M Q : Segments) (u q : ℕ) (a : Target) (size : ℕ) (b : Target) (wide : ℕ) (before after fresh : List Interval) (h : IsRehoused S M Q u q a size b wide before after fresh) where
   pub grows_first : Grows S M
@@ -30,8 +30,8 @@ module _ (S M Q : Segments) (u q : ℕ) (a : Target) (size : ℕ) (b : Target) (
   pub grows_last : Grows M Q
   grows_last = record { segments = le_of_eq (sym h.same_segments); words = λ z. le_of_eq (sym (h.same_words z)) }
 
-  changed : (y z : ℕ) → times (one_word u q ∷ pads_of (word_at S u q) ++ object_of a size ∷ []) y z ≡ times (one_word u q ∷ []) y z + times (pads_of (word_at S u q)) y z + times (object_of a size ∷ []) y z
-  changed y z = omega (arith, times-first (one_word u q) (pads_of (word_at S u q) ++ object_of a size ∷ []) y z, times-append (pads_of (word_at S u q)) (object_of a size ∷ []) y z)
+  changed : (y z : ℕ) → times (word_interval u q ∷ pads_of (word_at S u q) ++ object_of a size ∷ []) y z ≡ times (word_interval u q ∷ []) y z + times (pads_of (word_at S u q)) y z + times (object_of a size ∷ []) y z
+  changed y z = omega (arith, times-first (word_interval u q) (pads_of (word_at S u q) ++ object_of a size ∷ []) y z, times-append (pads_of (word_at S u q)) (object_of a size ∷ []) y z)
 
   module _ (t : Tree) (inner : List Interval) (x : IsStored S u q t) (parts : Parts S u q t a size inner) where
     unheld : (y z : ℕ) → length (segment S y) ≤ z → times (extent S u q t) y z ≡ 0
@@ -82,5 +82,5 @@ module _ (S M Q : Segments) (u q : ℕ) (a : Target) (size : ℕ) (b : Target) (
       kept = λ y z none v. h.only_old y z (omega (arith, parts y z, changed y z)) ∙ h.extends y z v;
     }
       where
-        sum : (y z : ℕ) → times (extent Q u q w) y z ≡ times (one_word u q ∷ []) y z + times fresh y z + times inner y z
+        sum : (y z : ℕ) → times (extent Q u q w) y z ≡ times (word_interval u q ∷ []) y z + times fresh y z + times inner y z
         sum y z = omega (arith, new y z, e y z, h.all_fresh y z)

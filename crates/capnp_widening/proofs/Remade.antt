@@ -6,7 +6,7 @@ use Rattle.capnp_format.specs.Means.{Leads}
 use Rattle.capnp_format.specs.Forest.{times, pads_of, object_of}
 use Rattle.capnp_format.proofs.Frame.{leads_agree}
 use Rattle.capnp_arena.specs.Written.{with_word}
-use Rattle.capnp_making.specs.Path.{one_word}
+use Rattle.capnp_making.specs.Path.{word_interval}
 use Rattle.capnp_making.specs.Zeroed.{row, IsZeroed}
 use Rattle.capnp_making.specs.Made.{IsGrown}
 use Rattle.capnp_making.proofs.Below.{split_row}
@@ -95,11 +95,11 @@ module _ (S T D P R Q : Segments) (u q : ℕ) (a : Target) (size : ℕ) (b : Tar
   moved = h.moves S h.begun.can
 
   -- what is written last but one
-  pub last_kept : (x y : ℕ) → times (one_word u q ∷ []) x y ≡ 0 → times (row v at pads ∷ []) x y ≡ 0 → word_at before_last x y ≡ word_at P x y
+  pub last_kept : (x y : ℕ) → times (word_interval u q ∷ []) x y ≡ 0 → times (row v at pads ∷ []) x y ≡ 0 → word_at before_last x y ≡ word_at P x y
   last_kept x y e f = put.kept x y e ∙ h.settled.kept x y e f
 
   pub last_extends : (x y : ℕ) → y < length (segment S x) → word_at before_last x y ≡ word_at S x y
-  last_extends x y l = elim (cases_eq (times (one_word u q ∷ []) x y) 0) [
+  last_extends x y l = elim (cases_eq (times (word_interval u q ∷ []) x y) 0) [
     | inl e ↦ last_kept x y e (omega (arith, not_taken S T D v at pads wide ms h.begun x y l, split S T D v at pads wide ms h.begun x y)) ∙ old_moved S T D v at pads wide ms h.begun P moved x y l
     | inr e ↦ (let i = in_row u q 1 x y (omega arith) in let f : y ≡ q = omega (arith, i.1, i.2) in rw (i.0, f) put.here)
   ]
@@ -148,8 +148,8 @@ module _ (S T D P R Q : Segments) (u q : ℕ) (a : Target) (size : ℕ) (b : Tar
         );
         object_new = λ y low high. omega (arith, h.start_of, h.begun.grown.behind, ap (λ z. length (segment S z)) h.segment_of);
         claim = omega (arith, h.start_of, h.begun.grown.room, h.begun.words v, moved.grows.words v, last_words v, ap (λ z. length (segment before_last z)) h.segment_of);
-        only_old = λ x y e. h.zeroed.kept x y (omega (arith, e, times-first (one_word u q) (pads_of (word_at S u q) ++ object_of a size ∷ []) x y))
-            ∙ sym (put.kept x y (omega (arith, e, times-first (one_word u q) (pads_of (word_at S u q) ++ object_of a size ∷ []) x y)));
+        only_old = λ x y e. h.zeroed.kept x y (omega (arith, e, times-first (word_interval u q) (pads_of (word_at S u q) ++ object_of a size ∷ []) x y))
+            ∙ sym (put.kept x y (omega (arith, e, times-first (word_interval u q) (pads_of (word_at S u q) ++ object_of a size ∷ []) x y)));
         zero_old = λ x y other l. h.zeroed.zero x y l;
       }
     where

@@ -8,7 +8,7 @@ use Rattle.capnp_arena.specs.Taking.{IsFirstFit, IsFull, IsTaken, SameRoomBelow,
 use Rattle.capnp_arena.specs.View.{View, KeepsLimits}
 use Rattle.capnp_arena.specs.Written.{extended, with_word}
 use Rattle.capnp_making.specs.Memory.{HasRoom, Lengthens, RefusesWords, TakesWords}
-use Rattle.capnp_widening.specs.Rooms.{all_words, TakesAtMost, HasSomeRoom}
+use Rattle.capnp_widening.specs.Rooms.{all_words, GrowsByAtMost, HasSomeRoom}
 
 -- all words, where none is taken
 pub same_words : (S R : Segments) → length R ≡ length S → ((x : ℕ) → length (segment R x) ≡ length (segment S x)) → all_words R ≡ all_words S
@@ -47,18 +47,18 @@ no_longer S [] h = omega arith
 no_longer [] (r ∷ R) h = omega (arith, h 0, no_longer [] R (λ v. h (suc v)))
 no_longer (s ∷ S) (r ∷ R) h = omega (arith, h 0, no_longer S R (λ v. h (suc v)))
 
-one_longer : (S R : Segments) (k n : ℕ) → length (segment R k) ≤ length (segment S k) + n → ((v : ℕ) → v ≢ k → length (segment R v) ≤ length (segment S v)) → TakesAtMost S R n
+one_longer : (S R : Segments) (k n : ℕ) → length (segment R k) ≤ length (segment S k) + n → ((v : ℕ) → v ≢ k → length (segment R v) ≤ length (segment S v)) → GrowsByAtMost S R n
 one_longer S [] k n g h = omega arith
 one_longer [] (r ∷ R) zero n g h = omega (arith, g, no_longer [] R (λ v. h (suc v) (λ e. omega (arith, e))))
 one_longer [] (r ∷ R) (suc k) n g h = omega (arith, h 0 (λ e. omega (arith, e)), one_longer [] R k n g (λ v o. h (suc v) (λ e. o (omega (arith, e)))))
 one_longer (s ∷ S) (r ∷ R) zero n g h = omega (arith, g, no_longer S R (λ v. h (suc v) (λ e. omega (arith, e))))
 one_longer (s ∷ S) (r ∷ R) (suc k) n g h = omega (arith, h 0 (λ e. omega (arith, e)), one_longer S R k n g (λ v o. h (suc v) (λ e. o (omega (arith, e)))))
 
-lengthened : (S R : Segments) (k n : ℕ) → Lengthens S R k n → TakesAtMost S R n
+lengthened : (S R : Segments) (k n : ℕ) → Lengthens S R k n → GrowsByAtMost S R n
 lengthened S R k n x = one_longer S R k n (omega (arith, x.gained)) (λ v other. omega (arith, x.others v other))
 
 -- an object of n words is made
-pub takes_words : (a b : View) (id n : ℕ) → TakesWords a b id n → TakesAtMost a.words b.words (n + 1)
+pub takes_words : (a b : View) (id n : ℕ) → TakesWords a b id n → GrowsByAtMost a.words b.words (n + 1)
 takes_words a b id n x = elim (cases_lt (a.room id) (length (segment a.words id) + n)) [
   | inl full ↦ let (k, next, long) = x.far full in lengthened a.words b.words k (n + 1) long
   | inr fits ↦ omega (arith, lengthened a.words b.words id n (x.near (omega (arith, fits))))
@@ -83,7 +83,7 @@ one_of_all [] k = omega (arith, none_there k)
 one_of_all (r ∷ R) zero = omega arith
 one_of_all (r ∷ R) (suc k) = omega (arith, one_of_all R k)
 
-gained : (S R : Segments) (n k : ℕ) → Grows S R → TakesAtMost S R n → length (segment R k) ≤ length (segment S k) + n
+gained : (S R : Segments) (n k : ℕ) → Grows S R → GrowsByAtMost S R n → length (segment R k) ≤ length (segment S k) + n
 gained [] R n k g t = omega (arith, one_of_all R k)
 gained (s ∷ S) [] n k g t = absurd (omega (arith, g.segments))
 gained (s ∷ S) (r ∷ R) n zero g t = omega (arith, none_fewer S R (behind s r S R g))
@@ -91,7 +91,7 @@ gained (s ∷ S) (r ∷ R) n (suc k) g t = gained S R n k (behind s r S R g) (om
 
 -- the room that is left
 
-pub room_left : (a b : View) (m n : ℕ) → Grows a.words b.words → TakesAtMost a.words b.words m → SameRoomBelow (length a.words) a.room b.room → HasSomeRoom a (m + n) → HasSomeRoom b n
+pub room_left : (a b : View) (m n : ℕ) → Grows a.words b.words → GrowsByAtMost a.words b.words m → SameRoomBelow (length a.words) a.room b.room → HasSomeRoom a (m + n) → HasSomeRoom b n
 room_left a b m n g t same (k, l, fits) = (k, omega (arith, g.segments), omega (arith, fits, same k l, gained a.words b.words m k g t))
 
 pub less_room : (v : View) (m n : ℕ) → n ≤ m → HasSomeRoom v m → HasSomeRoom v n

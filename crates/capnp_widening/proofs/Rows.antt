@@ -9,7 +9,7 @@ use Rattle.capnp_format.proofs.Frame.{times-append}
 use Rattle.capnp_making.specs.Zeroed.{row}
 use Rattle.capnp_making.proofs.Below.{split_row}
 use Rattle.capnp_making.proofs.Extents.{times-first}
-use Rattle.capnp_widening.specs.Moved.{Move, row_of_moves, rows_of_moves, old_pads, new_pads, new_places, AllStand, AllMoved, IsMoved, Moves, Unmoves, pads_in_rows, MovesSome}
+use Rattle.capnp_widening.specs.Moved.{Move, row_of_moves, rows_of_moves, old_pads, new_pads, new_places, HaveValuesInside, AllMoved, IsMoved, Moves, Unmoves, pads_in_rows, MovesSome}
 use Rattle.capnp_widening.proofs.Movings.{children_stand, new_places-append, moves_both, row_moved, row_old_pads, row_new_pads, row_new_places}
 use Rattle.capnp_widening.proofs.Unmoving.{unmoves_both}
 
@@ -89,12 +89,12 @@ rows_new_places s p w v r z k (suc n) x y l =
 
 -- the children of elements one behind the other that lie in B
 
-both_stand : (B : Segments) (ms ns : List Move) → AllStand B ms → AllStand B ns → AllStand B (ms ++ ns)
+both_stand : (B : Segments) (ms ns : List Move) → HaveValuesInside B ms → HaveValuesInside B ns → HaveValuesInside B (ms ++ ns)
 both_stand B [] ns a b = b
 both_stand B (m ∷ ms) ns a b = (a.0, both_stand B ms ns a.1 b)
 
 pub elements_stand : (B : Segments) (n s p d q v r z : ℕ) (es : Elements) (c : ℕ) → MeansElements B n s p d q es c → ((x y : ℕ) → 0 < times (row s p (element_count es * (d + q)) ∷ cover_elements B s p d q es) x y → y < length (segment B x)) →
-    AllStand B (rows_of_moves s (p + d) (d + q) v r z q (element_count es))
+    HaveValuesInside B (rows_of_moves s (p + d) (d + q) v r z q (element_count es))
 elements_stand B n s p d q v r z no_elements c m inside = tt
 elements_stand B n s p d q v r z (element ws ts es) c (a, b, long, len, words, all, rest, g) inside =
     let others = element_count es * (d + q) in
@@ -104,9 +104,9 @@ elements_stand B n s p d q v r z (element ws ts es) c (a, b, long, len, words, a
     let all_words = λ (x y : ℕ). ap (λ i. times (row s p i ∷ []) x y) (let e : suc (element_count es) * (d + q) ≡ d + (q + others) = omega arith in e) in
     let top = λ (x y : ℕ). times-first (row s p (suc (element_count es) * (d + q))) (cover_elements B s p d q (element ws ts es)) x y in
     both_stand B (row_of_moves s (p + d) v r q) (rows_of_moves s (p + d + (d + q)) (d + q) v (r + z) z q (element_count es))
-    (subst (λ i. AllStand B (row_of_moves s (p + d) v r i)) len (children_stand B n s (p + d) v r ts a all
+    (subst (λ i. HaveValuesInside B (row_of_moves s (p + d) v r i)) len (children_stand B n s (p + d) v r ts a all
     (λ x y l. inside x y (omega (arith, l, top x y, all_words x y, first x y, second x y, whole x y, times-first (row s (p + d) (count ts)) (cover_all B s (p + d) ts) x y, ap (λ i. times (row s (p + d) i ∷ []) x y) len)))))
-    (subst (λ i. AllStand B (rows_of_moves s i (d + q) v (r + z) z q (element_count es))) (let e : p + d + q + d ≡ p + d + (d + q) = omega arith in e)
+    (subst (λ i. HaveValuesInside B (rows_of_moves s i (d + q) v (r + z) z q (element_count es))) (let e : p + d + q + d ≡ p + d + (d + q) = omega arith in e)
     (elements_stand B n s (p + d + q) d q v (r + z) z es b rest
     (λ x y l. inside x y (omega (arith, l, top x y, all_words x y, first x y, second x y, whole x y, times-first (row s (p + d + q) others) (cover_elements B s (p + d + q) d q es) x y)))))
 

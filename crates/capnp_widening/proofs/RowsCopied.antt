@@ -11,7 +11,7 @@ use Rattle.capnp_making.proofs.Below.{split_row}
 use Rattle.capnp_making.proofs.BelowElements.{element_within, next_place}
 use Rattle.capnp_making.proofs.MadeWords.{outside}
 use Rattle.capnp_making.proofs.Zeros.{in_row, of_row}
-use Rattle.capnp_widening.specs.Housed.{AreCopied}
+use Rattle.capnp_widening.specs.Housed.{AreWordsCopied}
 use Rattle.capnp_widening.specs.RowsRemade.{AreRowsCopied, IsTagWritten}
 use Rattle.capnp_widening.proofs.ListRemade.{RowsCopied}
 
@@ -29,7 +29,7 @@ beside_row v r n x y h = elim (cases_eq (times (row v r n ∷ []) x y) 0) [
 ]
 
 -- one row more, where the old rows lie before the new ones
-pub rows_copied_next : (S M R : Segments) (s p w v r z d i n : ℕ) → AreRowsCopied S M s p w v r z d i → (s ≡ v → p + n * w ≤ r) → d ≤ w → d ≤ z → i < n → AreCopied M R s (p + i * w) v (r + i * z) d →
+pub rows_copied_next : (S M R : Segments) (s p w v r z d i n : ℕ) → AreRowsCopied S M s p w v r z d i → (s ≡ v → p + n * w ≤ r) → d ≤ w → d ≤ z → i < n → AreWordsCopied M R s (p + i * w) v (r + i * z) d →
     AreRowsCopied S R s p w v r z d (i + 1)
 rows_copied_next S M R s p w v r z d i n b apart narrow narrower l c =
     record {

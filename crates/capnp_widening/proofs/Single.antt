@@ -11,7 +11,7 @@ use Rattle.capnp_format.specs.Forest.{Interval, times, pads_of, object_of, targe
 use Rattle.capnp_format.proofs.Following.{offset_is}
 use Rattle.capnp_format.proofs.Frame.{Agree, times-append, frame, leads_agree}
 use Rattle.capnp_arena.specs.Written.{with_word}
-use Rattle.capnp_making.specs.Path.{one_word}
+use Rattle.capnp_making.specs.Path.{word_interval}
 use Rattle.capnp_making.specs.Made.{IsShape}
 use Rattle.capnp_making.specs.declared.making.Shape.{Shape}
 use Rattle.capnp_making.specs.declared.making.Shape.TheVariants.{Struct as StructShape, List as ListShape}
@@ -19,15 +19,15 @@ use Rattle.capnp_making.specs.declared.making.Start.{Start}
 use Rattle.capnp_making.proofs.Extents.{once_held, times-first}
 use Rattle.capnp_making.proofs.MadeWords.{word_put, not_far}
 use Rattle.capnp_widening.proofs.Basics.{is_far, once_row}
-use Rattle.capnp_widening.specs.Moved.{SameObject, same_place, of_no_words, IsMoved, Extends, Stands, a_move, own_pads, fresh_pads, CanMove, AreMoved}
+use Rattle.capnp_widening.specs.Moved.{SameObject, same_place, of_no_words, IsMoved, Extends, HasValueInside, a_move, own_pads, fresh_pads, CanMove, AreMoved}
 use Rattle.capnp_widening.specs.Pointed.{IsPointed, PointsTo}
 use Rattle.capnp_widening.proofs.SameObjects.{near_leads, near_found}
 use Rattle.capnp_widening.proofs.Moves.{moved_null, moved_far, moved_capability}
 
 -- what stands in B stands in what extends it
-pub stands_later : (B R : Segments) (s p : ℕ) → Extends B R → Stands B s p → (t : Tree) × (n : ℕ) × (c : ℕ) × Means R n s p t c × (word_at R s p ≡ word_at B s p)
+pub stands_later : (B R : Segments) (s p : ℕ) → Extends B R → HasValueInside B s p → (t : Tree) × (n : ℕ) × (c : ℕ) × Means R n s p t c × (word_at R s p ≡ word_at B s p)
 stands_later B R s p e (t, n, c, m, inside) =
-    let whole = times-first (one_word s p) (cover B s p t) in
+    let whole = times-first (word_interval s p) (cover B s p t) in
     let same : word_at R s p ≡ word_at B s p = e.kept s p (inside s p (omega (arith, whole s p, once_held s p))) in
     (t, n, c, (frame B R n s p t c e.grows same (λ v r l. e.kept v r (inside v r (omega (arith, whole v r)))) m).0, same)
 
@@ -44,10 +44,10 @@ pads_covered S n s p (Structs d q es) c m x y =
     omega (arith, times-append (pads_of (word_at S s p)) (object_of (target S s p) (1 + element_count es * (d + q)) ∷ cover_elements S (target S s p).segment ((target S s p).start + 1) d q es) x y)
 
 -- they lie in B
-pub old_pads_inside : (B S : Segments) (s p : ℕ) → Extends B S → Stands B s p → (x y : ℕ) → 0 < times (pads_of (word_at S s p)) x y → y < length (segment B x)
+pub old_pads_inside : (B S : Segments) (s p : ℕ) → Extends B S → HasValueInside B s p → (x y : ℕ) → 0 < times (pads_of (word_at S s p)) x y → y < length (segment B x)
 old_pads_inside B S s p e (t, n, c, m, inside) x y h =
-    let here = inside s p (omega (arith, times-first (one_word s p) (cover B s p t) s p, once_held s p)) in
-    inside x y (omega (arith, times-first (one_word s p) (cover B s p t) x y, pads_covered B n s p t c m x y, ap (λ w. times (pads_of w) x y) (e.kept s p here)))
+    let here = inside s p (omega (arith, times-first (word_interval s p) (cover B s p t) s p, once_held s p)) in
+    inside x y (omega (arith, times-first (word_interval s p) (cover B s p t) x y, pads_covered B n s p t c m x y, ap (λ w. times (pads_of w) x y) (e.kept s p here)))
 
 -- what a pointer leads to that means a value and isn't null
 pub means_leads : (S : Segments) (n s p : ℕ) (t : Tree) (c : ℕ) → word_at S s p ≢ 0 → Means S n s p t c → (a : Target) × Leads S s p a × ((kind a.word < 2) ⊎ (a.word % 2 ^ 32 ≡ 3))
@@ -80,17 +80,17 @@ alone : (is : List Interval) (v r : ℕ) → times (is ++ []) v r ≡ times is v
 alone is v r = omega (arith, times-append is [] v r)
 
 -- the old place lies in B, and the new one doesn't
-pub apart_places : (B S : Segments) (s p v r : ℕ) → CanMove B S (a_move s p v r ∷ []) → times (one_word v r ∷ []) s p ≡ 0
-apart_places B S s p v r c = elim (cases_eq (times (one_word v r ∷ []) s p) 0) [
+pub apart_places : (B S : Segments) (s p v r : ℕ) → CanMove B S (a_move s p v r ∷ []) → times (word_interval v r ∷ []) s p ≡ 0
+apart_places B S s p v r c = elim (cases_eq (times (word_interval v r ∷ []) s p) 0) [
   | inl e ↦ e
-  | inr e ↦ (let (t, n, k, m, inside) = c.stand.0 in absurd (omega (arith, inside s p (omega (arith, times-first (one_word s p) (cover B s p t) s p, once_held s p)), (c.behind s p (omega arith)).0)))
+  | inr e ↦ (let (t, n, k, m, inside) = c.stand.0 in absurd (omega (arith, inside s p (omega (arith, times-first (word_interval s p) (cover B s p t) s p, once_held s p)), (c.behind s p (omega arith)).0)))
 ]
 
 place_there : (B S : Segments) (s p v r : ℕ) → CanMove B S (a_move s p v r ∷ []) → (p < length (segment B s)) × (r < length (segment S v)) × (word_at S v r ≡ 0)
 place_there B S s p v r c =
     let (t, n, k, m, inside) = c.stand.0 in
     let b = c.behind v r (omega (arith, once_held v r)) in
-    (inside s p (omega (arith, times-first (one_word s p) (cover B s p t) s p, once_held s p)), b.1, b.2)
+    (inside s p (omega (arith, times-first (word_interval s p) (cover B s p t) s p, once_held s p)), b.1, b.2)
 
 -- a null pointer, whose new place is null already
 pub null_moves : (B S : Segments) (s p v r : ℕ) → word_at S s p ≡ 0 → CanMove B S (a_move s p v r ∷ []) → AreMoved S S (a_move s p v r ∷ [])
@@ -145,8 +145,8 @@ copied_moves B S R s p v r some other e c =
           )
     ]
   where
-    not_behind : (y z : ℕ) → z < length (segment B y) → times (one_word v r ∷ []) y z ≡ 0
-    not_behind y z w = elim (cases_eq (times (one_word v r ∷ []) y z) 0) [
+    not_behind : (y z : ℕ) → z < length (segment B y) → times (word_interval v r ∷ []) y z ≡ 0
+    not_behind y z w = elim (cases_eq (times (word_interval v r ∷ []) y z) 0) [
       | inl f ↦ f
       | inr f ↦ absurd (omega (arith, (c.behind y z (omega arith)).0))
     ]

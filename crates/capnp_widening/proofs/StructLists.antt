@@ -12,7 +12,7 @@ use Rattle.capnp_making.specs.Existing.{list_in, struct_list}
 use Rattle.capnp_making.specs.Stored.{IsStored}
 use Rattle.capnp_making.proofs.Filling.{unchanged}
 use Rattle.capnp_widening.specs.declared.remaking.ElementRows.{ElementRows}
-use Rattle.capnp_widening.specs.RowsRemade.{rows_in, as_structs, HasRows, BecomesList, RemakesRows, LeavesRows, IsList, WidensTo, LeavesList}
+use Rattle.capnp_widening.specs.RowsRemade.{rows_in, as_structs, StoresRows, BecomesList, RemakesRows, LeavesRows, IsList, WidensTo, LeavesList}
 use Rattle.capnp_widening.specs.Widened.{fill_elements, limited, list_widened}
 use Rattle.capnp_widening.proofs.Listed.{same_list, flat_width, listed_size, tree_size, few_enough, refused_for_any, filled_to_greater, structs_stay, structs_widen}
 
@@ -48,7 +48,7 @@ structs_kept S s p l size is wide many = λ t i.
 abbrev pub rows_of : ExistingList → ElementRows
 rows_of l = record { segment = l.segment; at = l.start - 1; tag = 1; size = l.struct_size; count = l.count }
 
-pub has_rows : (S : Segments) (s p : ℕ) (t : Tree) (l : ExistingList) → AreStructs S s p t l → IsStored S s p t → HasRows S s p t (rows_of l)
+pub has_rows : (S : Segments) (s p : ℕ) (t : Tree) (l : ExistingList) → AreStructs S s p t l → IsStored S s p t → StoresRows S s p t (rows_of l)
 has_rows S s p t l k x =
     let a = target S s p in
     let first : a.start + 1 - 1 ≡ a.start = omega arith in
@@ -81,7 +81,7 @@ structs_left_as S R s p l is left = λ t i. left t (has_rows S s p t l (are_stru
 -- so many words are too many
 pub structs_refused : (S : Segments) (s p : ℕ) (l : ExistingList) (size wide : StructSize) (k : ErrorKind) → size_number l.size ≡ 7 → (size.data_words ≤ l.struct_size.data_words → size.pointers ≤ l.struct_size.pointers → ⊥) →
     wide.data_words ≡ max l.struct_size.data_words size.data_words → wide.pointers ≡ max l.struct_size.pointers size.pointers →
-    ((t : Tree) → HasRows S s p t (rows_of l) → limited (l.count * (wide.data_words + wide.pointers)) (as_structs wide t) ≡ Err k) → (t : Tree) → IsList S s p t l → list_widened size.data_words size.pointers t ≡ Err k
+    ((t : Tree) → StoresRows S s p t (rows_of l) → limited (l.count * (wide.data_words + wide.pointers)) (as_structs wide t) ≡ Err k) → (t : Tree) → IsList S s p t l → list_widened size.data_words size.pointers t ≡ Err k
 structs_refused S s p l size wide k is narrow wd wp refused = λ t i.
     (let c = are_structs S s p t l is i in
     let e = l.struct_size.data_words in

@@ -7,16 +7,16 @@ use Rattle.capnp_format.specs.Segments.{Segments, segment, word_at, HasWords, Ta
 use Rattle.capnp_format.specs.Tree.{Struct, Trees, count}
 use Rattle.capnp_format.specs.Means.{Leads, Means}
 use Rattle.capnp_format.specs.Forest.{times, pads_of, object_of, target, target_in, cover, cover_all}
-use Rattle.capnp_making.specs.Made.{IsGrown, zeros}
-use Rattle.capnp_making.specs.Path.{one_word, extent}
+use Rattle.capnp_making.specs.Made.{IsGrown, words_of_zero}
+use Rattle.capnp_making.specs.Path.{word_interval, extent}
 use Rattle.capnp_making.specs.Stored.{IsStored, IsReplaced}
 use Rattle.capnp_making.specs.Zeroed.{row}
 use Rattle.capnp_making.proofs.Extents.{times-first, times-object}
 use Rattle.capnp_widening.proofs.Basics.{once_row}
 use Rattle.capnp_making.proofs.Below.{split_row}
 use Rattle.capnp_making.proofs.Zeros.{in_row}
-use Rattle.capnp_widening.specs.Moved.{IsMoved, row_of_moves, new_places, old_pads, new_pads, fresh_pads, pads_from, AllStand, IsRehoused}
-use Rattle.capnp_widening.specs.Housed.{AreCopied}
+use Rattle.capnp_widening.specs.Moved.{IsMoved, row_of_moves, new_places, old_pads, new_pads, fresh_pads, pads_from, HaveValuesInside, IsRehoused}
+use Rattle.capnp_widening.specs.Housed.{AreWordsCopied}
 use Rattle.capnp_widening.specs.Widened.{fill_words, fill_trees}
 use Rattle.capnp_widening.proofs.Movings.{children_stand, row_moved, row_old_pads, row_new_pads, row_new_places, same_old, same_new}
 use Rattle.capnp_widening.proofs.Remade.{IsBegun, IsRemade, before_last, is_rehoused, all_moved, moves_same, object_word, leads_last}
@@ -37,16 +37,16 @@ words_by_each S s p vs fits h =
     (λ k d l. let small : k < n = omega (arith, length-take n (drop p W), length-drop p W) in
     get_or-take n (drop p W) k d small ∙ get_or-drop p W k d ∙ get_or_default W (p + k) d 0 (omega arith) ∙ h k small ∙ get_or_default vs k 0 d (omega arith))
 
-pub zeros_at : (k i : ℕ) → get_or (zeros k) i 0 ≡ 0
+pub zeros_at : (k i : ℕ) → get_or (words_of_zero k) i 0 ≡ 0
 zeros_at zero i = refl
 zeros_at (suc k) zero = refl
 zeros_at (suc k) (suc i) = zeros_at k i
 
 pub filled_at : (d i : ℕ) (ws : List ℕ) → i < length ws → get_or (fill_words d ws) i 0 ≡ get_or ws i 0
-filled_at d i ws l = get_or_append_left ws (zeros (d - length ws)) 0 i l
+filled_at d i ws l = get_or_append_left ws (words_of_zero (d - length ws)) 0 i l
 
 pub filled_past : (d i : ℕ) (ws : List ℕ) → length ws ≤ i → get_or (fill_words d ws) i 0 ≡ 0
-filled_past d i ws l = get_or-append_right ws (zeros (d - length ws)) (length ws) i 0 refl l ∙ zeros_at (d - length ws) (i - length ws)
+filled_past d i ws l = get_or-append_right ws (words_of_zero (d - length ws)) (length ws) i 0 refl l ∙ zeros_at (d - length ws) (i - length ws)
 
 -- the parts of a stored struct
 pub record StructParts (S : Segments) (u q : ℕ) (ws : List ℕ) (ts : Trees) (a : Target) : Type 0 where
@@ -54,7 +54,7 @@ pub record StructParts (S : Segments) (u q : ℕ) (ws : List ℕ) (ts : Trees) (
   pub leads_to : Leads S u q a
   pub words : HasWords S a.segment a.start ws
   pub fits : a.start + (length ws + count ts) ≤ length (segment S a.segment)
-  pub stand : (v r : ℕ) → AllStand S (row_of_moves a.segment (a.start + length ws) v r (count ts))
+  pub stand : (v r : ℕ) → HaveValuesInside S (row_of_moves a.segment (a.start + length ws) v r (count ts))
 
 pub struct_parts : (S : Segments) (u q : ℕ) (ws : List ℕ) (ts : Trees) → IsStored S u q (Struct ws ts) → StructParts S u q ws ts (target S u q)
 struct_parts S u q ws ts x = at_level x.means.0 x.means.1 x.means.2
@@ -62,8 +62,8 @@ struct_parts S u q ws ts x = at_level x.means.0 x.means.1 x.means.2
     at_level : (n c : ℕ) → Means S n u q (Struct ws ts) c → StructParts S u q ws ts (target S u q)
     at_level n c (a, l, some, o, claim, e, all, g) =
         let here : target S u q ≡ a = ap target_in o.leads_to.1 in
-        let parts = λ (y z : ℕ). (let p : times (extent S u q (Struct ws ts)) y z ≡ times (one_word u q ∷ []) y z + times (pads_of (word_at S u q)) y z + times (object_of a (length ws + count ts) ∷ []) y z + times (cover_all S a.segment (a.start + length ws) ts) y z =
-        omega (arith, times-first (one_word u q) (cover S u q (Struct ws ts)) y z, times-object S u q (length ws + count ts) a (λ w. cover_all S w.segment (w.start + length ws) ts) y z o.leads_to.1) in p) in
+        let parts = λ (y z : ℕ). (let p : times (extent S u q (Struct ws ts)) y z ≡ times (word_interval u q ∷ []) y z + times (pads_of (word_at S u q)) y z + times (object_of a (length ws + count ts) ∷ []) y z + times (cover_all S a.segment (a.start + length ws) ts) y z =
+        omega (arith, times-first (word_interval u q) (cover S u q (Struct ws ts)) y z, times-object S u q (length ws + count ts) a (λ w. cover_all S w.segment (w.start + length ws) ts) y z o.leads_to.1) in p) in
         subst (λ b. StructParts S u q ws ts b) (sym here) (record {
           here = here;
           leads_to = o.leads_to;
@@ -80,7 +80,7 @@ struct_parts S u q ws ts x = at_level x.means.0 x.means.1 x.means.2
 
 -- words are taken, and the data section is copied into them
 pub struct_begun : (S T D : Segments) (u q : ℕ) (ws : List ℕ) (ts : Trees) (d k v at pads : ℕ) → IsStored S u q (Struct ws ts) → length ws ≤ d → count ts ≤ k → IsGrown S T v at (pads + (d + k)) →
-    AreCopied T D (target S u q).segment (target S u q).start v (at + pads) (length ws) →
+    AreWordsCopied T D (target S u q).segment (target S u q).start v (at + pads) (length ws) →
     IsBegun S T D v at pads (d + k) (row_of_moves (target S u q).segment ((target S u q).start + length ws) v (at + pads + d) (count ts))
 struct_begun S T D u q ws ts d k v at pads x ld lk g c =
     let a = target S u q in
@@ -127,7 +127,7 @@ struct_begun S T D u q ws ts d k v at pads x ld lk g c =
 
 -- and then its place means it filled up
 pub struct_remade : (S T D P R Q : Segments) (u q : ℕ) (ws : List ℕ) (ts : Trees) (d k : ℕ) (b : Target) (v at pads : ℕ) → IsStored S u q (Struct ws ts) → length ws ≤ d → count ts ≤ k →
-    AreCopied T D (target S u q).segment (target S u q).start v (at + pads) (length ws) →
+    AreWordsCopied T D (target S u q).segment (target S u q).start v (at + pads) (length ws) →
     IsRemade S T D P R Q u q (target S u q) (length ws + count ts) b v at pads (d + k) (row_of_moves (target S u q).segment ((target S u q).start + length ws) v (at + pads + d) (count ts)) →
     kind b.word ≡ 0 → data_words b.word ≡ d → pointer_count b.word ≡ k → IsReplaced S Q u q (Struct ws ts) (Struct (fill_words d ws) (fill_trees k ts))
 struct_remade S T D P R Q u q ws ts d k b v at pads x ld lk c h is_struct is_d is_k =

@@ -7,7 +7,7 @@ use Rattle.capnp_format.specs.Tree.{Struct, Trees, count}
 use Rattle.capnp_format.specs.Forest.{times, pads_of, object_of, target, target_in, cover, cover_all}
 use Rattle.capnp_format.proofs.Frame.{times-append}
 use Rattle.capnp_words.specs.declared.wire_pointer.StructSize.{StructSize}
-use Rattle.capnp_making.specs.Path.{one_word}
+use Rattle.capnp_making.specs.Path.{word_interval}
 use Rattle.capnp_making.specs.Stored.{IsStored, IsReplaced}
 use Rattle.capnp_making.specs.Zeroed.{row, IsZeroed, PadsInside}
 use Rattle.capnp_making.specs.declared.existing.ExistingStruct.{ExistingStruct}
@@ -17,7 +17,7 @@ use Rattle.capnp_making.proofs.Extents.{times-first, once_held}
 use Rattle.capnp_making.proofs.Zeros.{zeroed_again}
 use Rattle.capnp_widening.specs.declared.widening.Room.{Room}
 use Rattle.capnp_widening.specs.Moved.{Moves, MovesSome, Unmoves, row_of_moves}
-use Rattle.capnp_widening.specs.Housed.{IsRoom, AreCopied, Settles}
+use Rattle.capnp_widening.specs.Housed.{IsRoom, AreWordsCopied, Settles}
 use Rattle.capnp_widening.specs.Widened.{fill_words, fill_trees, GrowsByZeros, Rehouses, LeavesStruct, HousesAt}
 use Rattle.capnp_widening.proofs.Remade.{IsRemade, leads_last, undone}
 use Rattle.capnp_widening.proofs.StructRemade.{struct_parts, struct_begun, struct_remade}
@@ -25,7 +25,7 @@ use Rattle.capnp_widening.proofs.StructRemade.{struct_parts, struct_begun, struc
 pub record StructSteps (S T D P R Z Q : Segments) (id at : ℕ) (old : ExistingStruct) (size : StructSize) (h : Room) : Type 0 where
   pub place : IsPlace S id at
   pub room : IsRoom S T id (size.data_words + size.pointers) h
-  pub copied : AreCopied T D old.segment old.start h.segment (h.at + h.pads) old.size.data_words
+  pub copied : AreWordsCopied T D old.segment old.start h.segment (h.at + h.pads) old.size.data_words
   pub moves : Moves D P (row_of_moves old.segment (old.start + old.size.data_words) h.segment (h.at + h.pads + size.data_words) old.size.pointers)
   pub settled : Settles P R id at h (StructShape size)
   pub object_zeroed : old.start + (old.size.data_words + old.size.pointers) ≤ length (segment R old.segment) → IsZeroed R Z (row old.segment old.start (old.size.data_words + old.size.pointers) ∷ [])
@@ -66,7 +66,7 @@ is_widened S T D P R Z Q id at size h ws ts x s =
     let inner = cover_all S a.segment (a.start + length ws) ts in
     let covered = λ (y w : ℕ). (let e : times (pads_of word ++ object_of a n ∷ []) y w ≤ times (cover S id at (Struct ws ts)) y w =
     omega (arith, both y w, times-append (pads_of word) (object_of a n ∷ inner) y w, times-first (object_of a n) inner y w) in e) in
-    let whole = λ (y w : ℕ). times-first (one_word id at) (cover S id at (Struct ws ts)) y w in
+    let whole = λ (y w : ℕ). times-first (word_interval id at) (cover S id at (Struct ws ts)) y w in
     let made : IsRemade S T D P R Q id at a n b h.segment h.at h.pads (size.data_words + size.pointers) (row_of_moves a.segment (a.start + length ws) h.segment (h.at + h.pads + size.data_words) (count ts)) = record {
       begun = begun;
       moves = s.moves;
@@ -100,7 +100,7 @@ struct_leads S T D P R Z Q id at old size h s = λ ws ts i.
 -- a growth is refused on the way
 pub record StructUndone (S T D P U Z : Segments) (id : ℕ) (old : ExistingStruct) (size : StructSize) (h : Room) : Type 0 where
   pub room : IsRoom S T id (size.data_words + size.pointers) h
-  pub copied : AreCopied T D old.segment old.start h.segment (h.at + h.pads) old.size.data_words
+  pub copied : AreWordsCopied T D old.segment old.start h.segment (h.at + h.pads) old.size.data_words
   pub some : MovesSome D P (row_of_moves old.segment (old.start + old.size.data_words) h.segment (h.at + h.pads + size.data_words) old.size.pointers)
   pub unmoves : Unmoves P U (row_of_moves old.segment (old.start + old.size.data_words) h.segment (h.at + h.pads + size.data_words) old.size.pointers)
   pub zeroed : h.at + h.pads + (size.data_words + size.pointers) ≤ length (segment U h.segment) → IsZeroed U Z (row h.segment (h.at + h.pads) (size.data_words + size.pointers) ∷ [])

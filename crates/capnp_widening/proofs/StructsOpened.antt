@@ -11,8 +11,8 @@ use Rattle.capnp_words.specs.declared.wire_pointer.StructSize.{StructSize}
 use Rattle.capnp_arena.specs.View.{View}
 use Rattle.capnp_making.specs.declared.existing.ExistingStruct.{ExistingStruct}
 use Rattle.capnp_making.specs.declared.making.Start.{Start}
-use Rattle.capnp_making.specs.Existing.{struct_in, LiesIn}
-use Rattle.capnp_making.specs.Made.{zero_struct, zeros, nulls, LeadsTo}
+use Rattle.capnp_making.specs.Existing.{struct_in, StructLiesIn}
+use Rattle.capnp_making.specs.Made.{zero_struct, words_of_zero, nulls, LeadsToStart}
 use Rattle.capnp_making.specs.Memory.{HasRoom, KeepsMemory, SpendsMemory, IsRefusedFor}
 use Rattle.capnp_making.specs.Stored.{IsStored, IsReplaced}
 use Rattle.capnp_making.proofs.Filling.{unchanged}
@@ -20,9 +20,9 @@ use Rattle.capnp_making.proofs.FillingMade.{null_stored}
 use Rattle.capnp_making.proofs.Memory.{keeps_itself, spends_nothing, not_the_allocator, made_refused}
 use Rattle.capnp_making.proofs.Replaced.{grown}
 use Rattle.capnp_making.specs.Makes.{call_at}
-use Rattle.capnp_widening.specs.Opening.{OpensStruct}
-use Rattle.capnp_widening.specs.Rooms.{all_words, TakesAtMost, TakesForStruct}
-use Rattle.capnp_widening.specs.Widened.{fill_words, fill_trees, GrowsByZeros, WidensStruct, LeavesAll, LeadsToStruct, IsNoWider}
+use Rattle.capnp_widening.specs.Opening.{OpensExistingStruct}
+use Rattle.capnp_widening.specs.Rooms.{all_words, GrowsByAtMost, GrowsForStruct}
+use Rattle.capnp_widening.specs.Widened.{fill_words, fill_trees, GrowsByZeros, WidensStruct, LeavesAll, LeadsToWiderStruct, IsNoWider}
 use Rattle.capnp_widening.proofs.Filled.{already_wide, wide_words, wide_trees}
 use Rattle.capnp_widening.proofs.StructSteps.{the_struct, same_struct}
 use Rattle.capnp_widening.proofs.Widenings.{length-fill_words, count-fill_trees}
@@ -39,10 +39,10 @@ pub stands_grown : (S R : Segments) (s p : ℕ) (t : Tree) → IsStored S s p t 
 stands_grown S R s p t stored g = grown S R s p t g.grows stored g.kept g.zero
 
 -- the sections of a struct lie in their segment
-struct_lies : (S : Segments) (s p : ℕ) (ws : List ℕ) (ts : Trees) → IsStored S s p (Struct ws ts) → LiesIn S (the_struct S s p ws ts)
+struct_lies : (S : Segments) (s p : ℕ) (ws : List ℕ) (ts : Trees) → IsStored S s p (Struct ws ts) → StructLiesIn S (the_struct S s p ws ts)
 struct_lies S s p ws ts stored = at_level stored.means.0 stored.means.1 stored.means.2
   where
-    at_level : (n c : ℕ) → Means S n s p (Struct ws ts) c → LiesIn S (the_struct S s p ws ts)
+    at_level : (n c : ℕ) → Means S n s p (Struct ws ts) c → StructLiesIn S (the_struct S s p ws ts)
     at_level n c (a, k, some, o, claim, words, all, g) =
         subst (λ (b : Target). b.start + length ws + count ts ≤ length (segment S b.segment)) (sym (ap target_in o.leads_to.1)) (omega (arith, claim))
 
@@ -51,7 +51,7 @@ no_struct e x = cc
 
 -- a struct that is large enough
 struct_wide_at : (v : View) (s p : ℕ) (ws : List ℕ) (ts : Trees) (e : ExistingStruct) (size : StructSize) → IsStored v.words s p (Struct ws ts) → the_struct v.words s p ws ts ≡ e →
-    size.data_words ≤ e.size.data_words → size.pointers ≤ e.size.pointers → OpensStruct size (Ok e) (call_at s p v v) (Struct ws ts)
+    size.data_words ≤ e.size.data_words → size.pointers ≤ e.size.pointers → OpensExistingStruct size (Ok e) (call_at s p v v) (Struct ws ts)
 struct_wide_at v s p ws ts e size stored is l m =
     let d : length ws ≡ e.size.data_words = ap (λ (x : ExistingStruct). x.size.data_words) is in
     let q : count ts ≡ e.size.pointers = ap (λ (x : ExistingStruct). x.size.pointers) is in
@@ -61,14 +61,14 @@ struct_wide_at v s p ws ts e size stored is l m =
     ap₂ (λ vs us. struct_in (target v.words s p) (Struct vs us)) (wide_words size.data_words ws wide) (wide_trees size.pointers ts many) ∙ ap (λ x. Some x) is in
     record {
       replaced = already_wide v.words s p size.data_words size.pointers ws ts stored wide many;
-      leads = (found, subst (LiesIn v.words) is (struct_lies v.words s p ws ts stored));
+      leads = (found, subst (StructLiesIn v.words) is (struct_lies v.words s p ws ts stored));
       memory = keeps_itself v;
       taken = omega arith;
       unchanged = λ h. refl;
     }
 
 pub struct_wide : (v : View) (s p : ℕ) (t : Tree) (e : ExistingStruct) (size : StructSize) → IsStored v.words s p t → struct_in (target v.words s p) t ≡ Some e →
-    size.data_words ≤ e.size.data_words → size.pointers ≤ e.size.pointers → OpensStruct size (Ok e) (call_at s p v v) t
+    size.data_words ≤ e.size.data_words → size.pointers ≤ e.size.pointers → OpensExistingStruct size (Ok e) (call_at s p v v) t
 struct_wide v s p Null e size stored found l m = absurd (no_struct e found)
 struct_wide v s p (Capability i) e size stored found l m = absurd (no_struct e found)
 struct_wide v s p (Struct ws ts) e size stored found l m = struct_wide_at v s p ws ts e size stored (same_struct _ e found) l m
@@ -86,14 +86,14 @@ same_place s p d q t r e k a b c f = ap₂ (λ x y. struct_at x y d q) a b ∙ a
 -- one that is made wider
 pub record Wider (a b : View) (s p : ℕ) (e f : ExistingStruct) (size : StructSize) : Type 0 where
   pub widened : WidensStruct a.words b.words s p size
-  pub leads : LeadsToStruct a.words b.words s p f
+  pub leads : LeadsToWiderStruct a.words b.words s p f
   pub memory : KeepsMemory a b
-  pub taken : TakesForStruct a.words b.words s p size
+  pub taken : GrowsForStruct a.words b.words s p size
   pub narrow : size.data_words ≤ e.size.data_words → size.pointers ≤ e.size.pointers → ⊥
 
 struct_wider_at : (a b : View) (s p : ℕ) (ws : List ℕ) (ts : Trees) (e f : ExistingStruct) (size greater : StructSize) → IsStored a.words s p (Struct ws ts) → the_struct a.words s p ws ts ≡ e → Wider a b s p e f size →
     greater.data_words ≡ max e.size.data_words size.data_words → greater.pointers ≡ max e.size.pointers size.pointers →
-    OpensStruct size (Ok (struct_at f.segment f.start greater.data_words greater.pointers)) (call_at s p a b) (Struct ws ts)
+    OpensExistingStruct size (Ok (struct_at f.segment f.start greater.data_words greater.pointers)) (call_at s p a b) (Struct ws ts)
 struct_wider_at a b s p ws ts e f size greater stored is w l m =
     let made = w.widened ws ts stored in
     let leads = w.leads ws ts stored in
@@ -107,7 +107,7 @@ struct_wider_at a b s p ws ts e f size greater stored is w l m =
     same_place (target b.words s p).segment (target b.words s p).start (length vs) (count us) f.segment f.start greater.data_words greater.pointers (sym leads.0) (sym leads.1) words pointers in
     record {
       replaced = made;
-      leads = (ap (λ x. Some x) same, subst (LiesIn b.words) same (struct_lies b.words s p vs us made.stored));
+      leads = (ap (λ x. Some x) same, subst (StructLiesIn b.words) same (struct_lies b.words s p vs us made.stored));
       memory = w.memory;
       taken = w.taken ws ts stored;
       unchanged = λ h. absurd (w.narrow (omega (arith, h.0, d)) (omega (arith, h.1, q)));
@@ -115,7 +115,7 @@ struct_wider_at a b s p ws ts e f size greater stored is w l m =
 
 pub struct_wider : (a b : View) (s p : ℕ) (t : Tree) (e f : ExistingStruct) (size greater : StructSize) → IsStored a.words s p t → struct_in (target a.words s p) t ≡ Some e → Wider a b s p e f size →
     greater.data_words ≡ max e.size.data_words size.data_words → greater.pointers ≡ max e.size.pointers size.pointers →
-    OpensStruct size (Ok (struct_at f.segment f.start greater.data_words greater.pointers)) (call_at s p a b) t
+    OpensExistingStruct size (Ok (struct_at f.segment f.start greater.data_words greater.pointers)) (call_at s p a b) t
 struct_wider a b s p Null e f size greater stored found w l m = absurd (no_struct e found)
 struct_wider a b s p (Capability i) e f size greater stored found w l m = absurd (no_struct e found)
 struct_wider a b s p (Struct ws ts) e f size greater stored found w l m = struct_wider_at a b s p ws ts e f size greater stored (same_struct _ e found) w l m
@@ -125,7 +125,7 @@ struct_wider a b s p (Structs d q es) e f size greater stored found w l m = absu
 
 -- or for which there is no memory
 pub struct_kept : (a b : View) (s p : ℕ) (t : Tree) (e : ExistingStruct) (size : StructSize) (k : ErrorKind) → IsStored a.words s p t → struct_in (target a.words s p) t ≡ Some e →
-    (size.data_words ≤ e.size.data_words → size.pointers ≤ e.size.pointers → ⊥) → LeavesAll a.words b.words s p → IsNoWider a b s p k → TakesForStruct a.words b.words s p size → OpensStruct size (Err k) (call_at s p a b) t
+    (size.data_words ≤ e.size.data_words → size.pointers ≤ e.size.pointers → ⊥) → LeavesAll a.words b.words s p → IsNoWider a b s p k → GrowsForStruct a.words b.words s p size → OpensExistingStruct size (Err k) (call_at s p a b) t
 struct_kept a b s p Null e size k stored found narrow leaves named few = absurd (no_struct e found)
 struct_kept a b s p (Capability i) e size k stored found narrow leaves named few = absurd (no_struct e found)
 struct_kept a b s p (Struct ws ts) e size k stored found narrow leaves named few =
@@ -151,30 +151,30 @@ pub some_struct : (e : ExistingStruct) → Some e ≡ None → ⊥
 some_struct e x = cc
 
 -- a new struct in place of null
-zero_count : (n : ℕ) → length (zeros n) ≡ n
+zero_count : (n : ℕ) → length (words_of_zero n) ≡ n
 zero_count n = grind (arith, common_steps)
 
 null_count : (n : ℕ) → count (nulls n) ≡ n
 null_count zero = refl
 null_count (suc n) = ap (λ k. suc k) (null_count n)
 
-pub struct_made : (a b : View) (s p : ℕ) (size : StructSize) (h : Start) → IsReplaced a.words b.words s p Null (zero_struct size) → KeepsMemory a b → TakesAtMost a.words b.words (size.data_words + size.pointers + 1) → LeadsTo b.words s p h →
-    OpensStruct size (Ok (struct_at h.segment h.at size.data_words size.pointers)) (call_at s p a b) Null
+pub struct_made : (a b : View) (s p : ℕ) (size : StructSize) (h : Start) → IsReplaced a.words b.words s p Null (zero_struct size) → KeepsMemory a b → GrowsByAtMost a.words b.words (size.data_words + size.pointers + 1) → LeadsToStart b.words s p h →
+    OpensExistingStruct size (Ok (struct_at h.segment h.at size.data_words size.pointers)) (call_at s p a b) Null
 struct_made a b s p size h made memory few leads =
-    let vs : List ℕ = zeros size.data_words in
+    let vs : List ℕ = words_of_zero size.data_words in
     let us : Trees = nulls size.pointers in
     let same : the_struct b.words s p vs us ≡ struct_at h.segment h.at size.data_words size.pointers =
     same_place (target b.words s p).segment (target b.words s p).start (length vs) (count us) h.segment h.at size.data_words size.pointers (sym leads.0) (sym leads.1) (zero_count size.data_words) (null_count size.pointers) in
     record {
       replaced = made;
-      leads = (ap (λ x. Some x) same, subst (LiesIn b.words) same (struct_lies b.words s p vs us made.stored));
+      leads = (ap (λ x. Some x) same, subst (StructLiesIn b.words) same (struct_lies b.words s p vs us made.stored));
       memory = memory;
       taken = omega (arith, few, zero_count size.data_words, null_count size.pointers);
       unchanged = λ h. absurd h;
     }
 
 pub struct_unmade : (a b : View) (s p n : ℕ) (size : StructSize) (k : ErrorKind) → IsPlace a.words s p → word_at a.words s p ≡ 0 → b.words ≡ a.words → IsRefusedFor a b n k → (HasRoom a s n → ⊥) →
-    OpensStruct size (Err k) (call_at s p a b) Null
+    OpensExistingStruct size (Err k) (call_at s p a b) Null
 struct_unmade a b s p n size k place null same named full =
     let refused = made_refused a b s n k named same full in
     record {

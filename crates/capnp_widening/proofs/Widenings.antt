@@ -6,11 +6,11 @@ use Rattle.capnp_format.specs.Word.{list_count}
 use Rattle.capnp_format.specs.Tree.{Struct, Structs, Trees, no_trees, tree, Elements, no_elements, element, count, element_count}
 use Rattle.capnp_format.specs.Means.{StructAt, ListAt, IsTag, count_cost, Means, MeansAll, MeansElements}
 use Rattle.capnp_format.specs.Forest.{Interval, times, pads_of, object_of, target, target_in, cover, cover_all, cover_elements, AreTidy, AreTidyElements}
-use Rattle.capnp_making.specs.Path.{struct_at, one_word, extent}
+use Rattle.capnp_making.specs.Path.{struct_at, word_interval, extent}
 use Rattle.capnp_making.specs.Stored.{IsStored, IsReplaced}
 use Rattle.capnp_widening.specs.Moved.{IsMoved, pads_from, pads_in_rows, IsRehoused}
-use Rattle.capnp_making.specs.Made.{nulls, zeros}
-use Rattle.capnp_widening.specs.Widened.{words_in, fill_words, fill_trees, fill_elements}
+use Rattle.capnp_making.specs.Made.{nulls, words_of_zero}
+use Rattle.capnp_widening.specs.Widened.{struct_data_words, fill_words, fill_trees, fill_elements}
 use Rattle.capnp_format.proofs.Frame.{SameWords, times-append, frame_all, frame_elements, has_words_kept}
 use Rattle.capnp_making.proofs.Extents.{times-first, times-object}
 use Rattle.capnp_making.proofs.Tidy.{tidy_kept_all, tidy_kept_elements}
@@ -18,7 +18,7 @@ use Rattle.capnp_widening.proofs.SameObjects.{moved_mean}
 use Rattle.capnp_widening.proofs.Rehoused.{grows_first, grows_last, inner_agrees, object_stands, reached_stands, rehoused}
 
 pub length-fill_words : (d : ℕ) (ws : List ℕ) → length (fill_words d ws) ≡ max (length ws) d
-length-fill_words d ws = omega (arith, length-append ws (zeros (d - length ws)), length-replicate {A = ℕ} (d - length ws) 0)
+length-fill_words d ws = omega (arith, length-append ws (words_of_zero (d - length ws)), length-replicate {A = ℕ} (d - length ws) 0)
 
 pub count-nulls : (k : ℕ) → count (nulls k) ≡ k
 count-nulls zero = refl
@@ -83,8 +83,8 @@ struct_widened S M Q u q ws vs ts k b fresh x r w =
         let inner = cover_all S a.segment from ts in
         let h = subst (λ t. IsRehoused S M Q u q t size b wide (pads_from M t.segment (t.start + length ws) (count ts)) after fresh) here r in
         let f = subst (λ t. StructWritten M Q u q t ws vs ts k b) here w in
-        let parts = λ (y z : ℕ). (let p : times (extent S u q (Struct ws ts)) y z ≡ times (one_word u q ∷ []) y z + times (pads_of (word_at S u q)) y z + times (object_of a size ∷ []) y z + times inner y z =
-        omega (arith, times-first (one_word u q) (cover S u q (Struct ws ts)) y z, times-object S u q size a (λ w. cover_all S w.segment (w.start + length ws) ts) y z o.leads_to.1) in p) in
+        let parts = λ (y z : ℕ). (let p : times (extent S u q (Struct ws ts)) y z ≡ times (word_interval u q ∷ []) y z + times (pads_of (word_at S u q)) y z + times (object_of a size ∷ []) y z + times inner y z =
+        omega (arith, times-first (word_interval u q) (cover S u q (Struct ws ts)) y z, times-object S u q size a (λ w. cover_all S w.segment (w.start + length ws) ts) y z o.leads_to.1) in p) in
         let first = grows_first S M Q u q a size b wide before after fresh h in
         let then = grows_last S M Q u q a size b wide before after fresh h in
         let old_same : SameWords S M a.segment from (count ts) = λ y v w. h.extends a.segment y (omega arith) in
@@ -101,7 +101,7 @@ struct_widened S M Q u q ws vs ts k b fresh x r w =
         rehoused S M Q u q a size b wide before after fresh h (Struct ws ts) inner x parts reached (Struct vs us) n (b.pads + wide + new.cost) sum
         (λ y z. omega (
           arith,
-          times-first (one_word u q) (cover Q u q (Struct vs us)) y z,
+          times-first (word_interval u q) (cover Q u q (Struct vs us)) y z,
           times-object Q u q wide b (λ w. cover_all Q w.segment (w.start + length vs) us) y z f.leads_there.leads_to.1,
           ap (λ is. times is y z) last.1,
         )) (
@@ -120,7 +120,7 @@ struct_widened S M Q u q ws vs ts k b fresh x r w =
 
 -- rows of a list of structs, written anew in wider rows
 pub record RowsWritten (M : Segments) (s p d q v r e k : ℕ) (es : Elements) : Type 0 where
-  pub words : (i : ℕ) → i < element_count es → HasWords M v (r + i * (max d e + max q k)) (fill_words e (words_in (struct_at es i)))
+  pub words : (i : ℕ) → i < element_count es → HasWords M v (r + i * (max d e + max q k)) (fill_words e (struct_data_words (struct_at es i)))
   pub moved : (i j : ℕ) → i < element_count es → j < q → IsMoved M s (p + i * (d + q) + d + j) v (r + i * (max d e + max q k) + max d e + j)
   pub nulls_behind : (i j : ℕ) → i < element_count es → q ≤ j → j < max q k → word_at M v (r + i * (max d e + max q k) + max d e + j) ≡ 0
 
@@ -140,7 +140,7 @@ moved_at S s p o v r w e f h = subst (λ x. IsMoved S s x v w) e (subst (λ x. I
 
 next_rows : (M : Segments) (s p d q v r e k : ℕ) (ws : List ℕ) (ts : Trees) (es : Elements) → RowsWritten M s p d q v r e k (element ws ts es) → RowsWritten M s (p + d + q) d q v (r + max d e + max q k) e k es
 next_rows M s p d q v r e k ws ts es h = record {
-  words = λ i l. at_position M v _ _ (fill_words e (words_in (struct_at es i))) (let z : r + suc i * (max d e + max q k) ≡ r + max d e + max q k + i * (max d e + max q k) = omega arith in z) (h.words (suc i) (omega arith));
+  words = λ i l. at_position M v _ _ (fill_words e (struct_data_words (struct_at es i))) (let z : r + suc i * (max d e + max q k) ≡ r + max d e + max q k + i * (max d e + max q k) = omega arith in z) (h.words (suc i) (omega arith));
   moved = λ i j l m. moved_at M s _ _ v _ _ (let z : p + suc i * (d + q) + d + j ≡ p + d + q + i * (d + q) + d + j = omega arith in z)
       (let z : r + suc i * (max d e + max q k) + max d e + j ≡ r + max d e + max q k + i * (max d e + max q k) + max d e + j = omega arith in z) (h.moved (suc i) j (omega arith) m);
   nulls_behind = λ i j l m f. subst (λ z. word_at M v z ≡ 0) (let z : r + suc i * (max d e + max q k) + max d e + j ≡ r + max d e + max q k + i * (max d e + max q k) + max d e + j = omega arith in z) (h.nulls_behind (suc i) j (omega arith) m f);
@@ -217,8 +217,8 @@ structs_widened S M Q u q d k es e f b fresh x r w =
         let inner = cover_elements S a.segment (a.start + 1) d k es in
         let h = subst (λ t. IsRehoused S M Q u q t size b wide (pads_in_rows M t.segment (t.start + 1 + d) (d + k) k number) after fresh) here r in
         let y = subst (λ t. StructsWritten M Q u q t d k es e f b) here w in
-        let parts = λ (v z : ℕ). (let p : times (extent S u q (Structs d k es)) v z ≡ times (one_word u q ∷ []) v z + times (pads_of (word_at S u q)) v z + times (object_of a size ∷ []) v z + times inner v z =
-        omega (arith, times-first (one_word u q) (cover S u q (Structs d k es)) v z, times-object S u q size a (λ w. cover_elements S w.segment (w.start + 1) d k es) v z o.leads_to.1) in p) in
+        let parts = λ (v z : ℕ). (let p : times (extent S u q (Structs d k es)) v z ≡ times (word_interval u q ∷ []) v z + times (pads_of (word_at S u q)) v z + times (object_of a size ∷ []) v z + times inner v z =
+        omega (arith, times-first (word_interval u q) (cover S u q (Structs d k es)) v z, times-object S u q size a (λ w. cover_elements S w.segment (w.start + 1) d k es) v z o.leads_to.1) in p) in
         let first = grows_first S M Q u q a size b wide before after fresh h in
         let then = grows_last S M Q u q a size b wide before after fresh h in
         let old_same : SameWords S M a.segment (a.start + 1) (number * (d + k)) = λ v i j. h.extends a.segment v (omega arith) in
@@ -237,7 +237,7 @@ structs_widened S M Q u q d k es e f b fresh x r w =
         rehoused S M Q u q a size b wide before after fresh h (Structs d k es) inner x parts reached (Structs wd wk fs) n (b.pads + (number * (wd + wk) + 1) + count_cost (wd + wk) (element_count fs) + new.cost) sum
         (λ v z. omega (
           arith,
-          times-first (one_word u q) (cover Q u q (Structs wd wk fs)) v z,
+          times-first (word_interval u q) (cover Q u q (Structs wd wk fs)) v z,
           times-object Q u q (1 + element_count fs * (wd + wk)) b (λ w. cover_elements Q w.segment (w.start + 1) wd wk fs) v z y.leads_there.leads_to.1,
           ap (λ w. times (object_of b (1 + w) ∷ []) v z) same_rows,
           ap (λ is. times is v z) last.1,

@@ -3,7 +3,7 @@ use Rattle.std.specs.Prelude.{◌≡◌, ◌⊎◌, ℕ, ◌+◌, ◌<◌, [], �
 use Rattle.capnp_format.specs.Segments.{Segments, segment, word_at, Target}
 use Rattle.capnp_format.specs.Means.{Leads}
 use Rattle.capnp_format.specs.Forest.{times, pads_of}
-use Rattle.capnp_making.specs.Path.{one_word}
+use Rattle.capnp_making.specs.Path.{word_interval}
 use Rattle.capnp_making.specs.Zeroed.{row}
 use Rattle.capnp_making.specs.Made.{IsShape, IsGrown}
 use Rattle.capnp_making.specs.declared.making.Shape.{Shape}
@@ -14,7 +14,7 @@ abbrev pub IsRoom : Segments → Segments → ℕ → ℕ → Room → Type 0
 IsRoom S T id n h = IsGrown S T h.segment h.at (h.pads + n) × (((h.pads ≡ 0) × (h.segment ≡ id)) ⊎ (h.pads ≡ 1))
 
 -- From S to R so many words are copied to others: only these are written.
-pub record AreCopied (S R : Segments) (s p v r n : ℕ) : Type 0 where
+pub record AreWordsCopied (S R : Segments) (s p v r n : ℕ) : Type 0 where
   pub segments : length R ≡ length S
   pub words : (x : ℕ) → length (segment R x) ≡ length (segment S x)
   pub here : (i : ℕ) → i < n → word_at R v (r + i) ≡ word_at S s (p + i)
@@ -26,7 +26,7 @@ pub record IsSettled (S R : Segments) (u q : ℕ) (b : Target) (v at pads : ℕ)
   pub words : (x : ℕ) → length (segment R x) ≡ length (segment S x)
   pub leads_there : Leads R u q b
   pub pads_there : (x y : ℕ) → times (pads_of (word_at R u q)) x y ≡ times (row v at pads ∷ []) x y
-  pub kept : (x y : ℕ) → times (one_word u q ∷ []) x y ≡ 0 → times (row v at pads ∷ []) x y ≡ 0 → word_at R x y ≡ word_at S x y
+  pub kept : (x y : ℕ) → times (word_interval u q ∷ []) x y ≡ 0 → times (row v at pads ∷ []) x y ≡ 0 → word_at R x y ≡ word_at S x y
 
 -- From S to R the pointer at (u, q) is overwritten, and leads to the object of this shape that stands in a room.
 abbrev pub Settles : Segments → Segments → ℕ → ℕ → Room → Shape → Type 0

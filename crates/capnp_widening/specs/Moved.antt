@@ -5,7 +5,7 @@ use Rattle.capnp_format.specs.Segments.{Segments, Grows, segment, word_at, Targe
 use Rattle.capnp_format.specs.Tree.{Tree}
 use Rattle.capnp_format.specs.Means.{Leads, Means}
 use Rattle.capnp_format.specs.Forest.{Interval, times, pads_of, object_of}
-use Rattle.capnp_making.specs.Path.{one_word, extent}
+use Rattle.capnp_making.specs.Path.{word_interval, extent}
 use Rattle.capnp_making.specs.Zeroed.{IsZeroed}
 
 -- Where the objects of two targets start: at one place, or they have no words, being structs of none or capabilities.
@@ -53,11 +53,11 @@ rows_of_moves s p w v r z k (suc n) = row_of_moves s p v r k ++ rows_of_moves s 
 -- The old places and the new ones.
 abbrev pub old_places : List Move → List Interval
 old_places [] = []
-old_places (m ∷ ms) = one_word m.segment m.at ∷ old_places ms
+old_places (m ∷ ms) = word_interval m.segment m.at ∷ old_places ms
 
 abbrev pub new_places : List Move → List Interval
 new_places [] = []
-new_places (m ∷ ms) = one_word m.to_segment m.to_at ∷ new_places ms
+new_places (m ∷ ms) = word_interval m.to_segment m.to_at ∷ new_places ms
 
 -- The landing pads of the old pointers, those of the new ones, and of these the pads that were written for them: a far pointer is copied as it is.
 abbrev pub old_pads : Segments → List Move → List Interval
@@ -76,12 +76,12 @@ fresh_pads R [] = []
 fresh_pads R (m ∷ ms) = own_pads R m ++ fresh_pads R ms
 
 -- Each old pointer means a value in B, whose words lie in B.
-abbrev pub Stands : Segments → ℕ → ℕ → Type 0
-Stands B s p = (t : Tree) × (n : ℕ) × (c : ℕ) × Means B n s p t c × ((x y : ℕ) → 0 < times (extent B s p t) x y → y < length (segment B x))
+abbrev pub HasValueInside : Segments → ℕ → ℕ → Type 0
+HasValueInside B s p = (t : Tree) × (n : ℕ) × (c : ℕ) × Means B n s p t c × ((x y : ℕ) → 0 < times (extent B s p t) x y → y < length (segment B x))
 
-abbrev pub AllStand : Segments → List Move → Type 0
-AllStand B [] = Unit {0}
-AllStand B (m ∷ ms) = Stands B m.segment m.at × AllStand B ms
+abbrev pub HaveValuesInside : Segments → List Move → Type 0
+HaveValuesInside B [] = Unit {0}
+HaveValuesInside B (m ∷ ms) = HasValueInside B m.segment m.at × HaveValuesInside B ms
 
 -- Each new pointer leads to what the old one leads to.
 abbrev pub AllMoved : Segments → List Move → Type 0
@@ -91,7 +91,7 @@ AllMoved R (m ∷ ms) = IsMoved R m.segment m.at m.to_segment m.to_at × AllMove
 -- S has the words of B, where the old pointers mean values, and behind them the new places, each once, all zero.
 pub record CanMove (B S : Segments) (ms : List Move) : Type 0 where
   pub extends : Extends B S
-  pub stand : AllStand B ms
+  pub stand : HaveValuesInside B ms
   pub behind : (x y : ℕ) → 0 < times (new_places ms) x y → (length (segment B x) ≤ y) × (y < length (segment S x)) × (word_at S x y ≡ 0)
   pub once : (x y : ℕ) → times (new_places ms) x y ≤ 1
 
@@ -150,5 +150,5 @@ pub record IsRehoused (S M Q : Segments) (u q : ℕ) (a : Target) (size : ℕ) (
   pub all_fresh : (x y : ℕ) → times (pads_of (word_at Q u q)) x y + times (object_of b wide ∷ []) x y + times after x y ≡ times fresh x y + times before x y
   pub object_new : (y : ℕ) → b.start ≤ y → y < b.start + wide → length (segment S b.segment) ≤ y
   pub claim : b.start + wide ≤ length (segment M b.segment)
-  pub only_old : (x y : ℕ) → times (one_word u q ∷ pads_of (word_at S u q) ++ object_of a size ∷ []) x y ≡ 0 → word_at Q x y ≡ word_at M x y
+  pub only_old : (x y : ℕ) → times (word_interval u q ∷ pads_of (word_at S u q) ++ object_of a size ∷ []) x y ≡ 0 → word_at Q x y ≡ word_at M x y
   pub zero_old : (x y : ℕ) → (x ≢ u) ⊎ (y ≢ q) → 0 < times (pads_of (word_at S u q) ++ object_of a size ∷ []) x y → word_at Q x y ≡ 0

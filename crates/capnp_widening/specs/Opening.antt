@@ -11,18 +11,18 @@ use Rattle.capnp_words.specs.declared.wire_pointer.StructSize.{StructSize}
 use Rattle.capnp_making.specs.declared.existing.ExistingList.{ExistingList}
 use Rattle.capnp_making.specs.declared.existing.ExistingStruct.{ExistingStruct}
 use Rattle.capnp_making.specs.declared.making.Start.{Start}
-use Rattle.capnp_making.specs.Existing.{list_in, struct_in, LiesIn}
+use Rattle.capnp_making.specs.Existing.{list_in, struct_in, StructLiesIn}
 use Rattle.capnp_making.specs.Made.{zero_struct}
 use Rattle.capnp_making.specs.Makes.{CallAt}
 use Rattle.capnp_making.specs.Memory.{KeepsMemory, SpendsMemory, RefusesGrowth}
 use Rattle.capnp_making.specs.Stored.{IsReplaced}
-use Rattle.capnp_widening.specs.Rooms.{TakesAtMost, object_words, pointers_in}
+use Rattle.capnp_widening.specs.Rooms.{GrowsByAtMost, widened_words, direct_pointers}
 use Rattle.capnp_widening.specs.RowsRemade.{ListLiesIn}
 use Rattle.capnp_widening.specs.Widened.{fill_words, fill_trees, list_widened}
 
 -- The struct whose sections start at a place.
-abbrev pub struct_at : Start → StructSize → ExistingStruct
-struct_at start size = record { segment = start.segment; start = start.at; size = size }
+abbrev pub existing_struct : Start → StructSize → ExistingStruct
+existing_struct start size = record { segment = start.segment; start = start.at; size = size }
 
 -- What a value becomes where a struct of at least a size is opened, or by what name that is refused. Null becomes a new one.
 abbrev pub struct_opened : StructSize → Tree → Result Tree ErrorKind
@@ -37,15 +37,15 @@ HasSections size (Structs d q es) = (size.data_words ≤ d) × (size.pointers �
 HasSections size t = ⊥
 
 -- No more words are taken than u has, which t becomes, with a landing pad and two words for each pointer of t.
-abbrev pub TakesFor : CallAt → Tree → Tree → Type 0
-TakesFor c t u = TakesAtMost c.old.words c.new.words (object_words u + 1 + 2 * pointers_in t)
+abbrev pub GrowsFor : CallAt → Tree → Tree → Type 0
+GrowsFor c t u = GrowsByAtMost c.old.words c.new.words (widened_words u + 1 + 2 * direct_pointers t)
 
 -- Where t was stored, u is so in its stead, and what is given leads to it. Where t is large enough, nothing is changed.
 pub record Opened (size : StructSize) (c : CallAt) (t u : Tree) (given : Type 0) : Type 0 where
   pub replaced : IsReplaced c.old.words c.new.words c.segment c.at t u
   pub leads : given
   pub memory : KeepsMemory c.old c.new
-  pub taken : TakesFor c t u
+  pub taken : GrowsFor c t u
   pub unchanged : HasSections size t → c.new ≡ c.old
 
 -- Memory is refused by the name k, for a value t that isn't large enough and was to become u: it stands as it was, and new words are zero.
@@ -53,7 +53,7 @@ pub record Unopened (size : StructSize) (c : CallAt) (t u : Tree) (k : ErrorKind
   pub stands : IsReplaced c.old.words c.new.words c.segment c.at t t
   pub narrow : HasSections size t → ⊥
   pub memory : SpendsMemory c.old c.new k
-  pub taken : TakesFor c t u
+  pub taken : GrowsFor c t u
   pub full : RefusesGrowth c.old c.new k
 
 -- A call opens t, which is to become u, and what it gives is as Given says; or it is refused: by what t is, and nothing is changed, or for memory.
@@ -64,19 +64,19 @@ Opens size Given c t (Err k) result = (result ≡ Err k) × (c.new ≡ c.old)
 
 -- The pointer at a place leads to the struct u, which is e; or to the list u, which is l, or none where u is null.
 abbrev pub LeadsToOne : Segments → ℕ → ℕ → Tree → ExistingStruct → Type 0
-LeadsToOne S s p u e = (struct_in (target S s p) u ≡ Some e) × LiesIn S e
+LeadsToOne S s p u e = (struct_in (target S s p) u ≡ Some e) × StructLiesIn S e
 
 abbrev pub LeadsToAll : Segments → ℕ → ℕ → Tree → Option ExistingList → Type 0
 LeadsToAll S s p u l = (list_in (target S s p) Void u ≡ Ok l) × IfSome l (ListLiesIn S)
 
 -- The struct that stands is opened, or a new one in place of null.
-abbrev pub OpensStruct : StructSize → Result ExistingStruct ErrorKind → CallAt → Tree → Type 0
-OpensStruct size result c t = Opens size LeadsToOne c t (struct_opened size t) result
+abbrev pub OpensExistingStruct : StructSize → Result ExistingStruct ErrorKind → CallAt → Tree → Type 0
+OpensExistingStruct size result c t = Opens size LeadsToOne c t (struct_opened size t) result
 
 -- The list of structs that stands is opened, made one of any other list. Null is a list of none, and nothing is changed.
-abbrev pub OpensList : StructSize → Result (Option ExistingList) ErrorKind → CallAt → Tree → Type 0
-OpensList size result c Null = (result ≡ Ok None) × (c.new ≡ c.old)
-OpensList size result c t = Opens size LeadsToAll c t (list_widened size.data_words size.pointers t) result
+abbrev pub OpensExistingList : StructSize → Result (Option ExistingList) ErrorKind → CallAt → Tree → Type 0
+OpensExistingList size result c Null = (result ≡ Ok None) × (c.new ≡ c.old)
+OpensExistingList size result c t = Opens size LeadsToAll c t (list_widened size.data_words size.pointers t) result
 
 -- A list that is found is one of structs with sections of at least a size.
 abbrev pub HasWideStructs : StructSize → ExistingList → Type 0

@@ -5,7 +5,7 @@ use Rattle.capnp_format.specs.Segments.{Segments, Grows, segment, word_at, Targe
 use Rattle.capnp_format.specs.Means.{Leads}
 use Rattle.capnp_format.specs.Forest.{times, pads_of}
 use Rattle.capnp_format.specs.Word.{kind, upper_half, offset_bits}
-use Rattle.capnp_making.specs.Path.{one_word}
+use Rattle.capnp_making.specs.Path.{word_interval}
 use Rattle.capnp_making.specs.Made.{IsShape}
 use Rattle.capnp_making.specs.declared.making.Shape.{Shape}
 use Rattle.capnp_making.specs.declared.making.Start.{Start}
@@ -15,7 +15,7 @@ pub record IsPointed (S R : Segments) (s p : ℕ) (a : Target) : Type 0 where
   pub grows : Grows S R
   pub leads_there : Leads R s p a
   pub inside : a.start ≤ length (segment R a.segment)
-  pub kept : (x y : ℕ) → times (one_word s p ∷ []) x y ≡ 0 → y < length (segment S x) → word_at R x y ≡ word_at S x y
+  pub kept : (x y : ℕ) → times (word_interval s p ∷ []) x y ≡ 0 → y < length (segment S x) → word_at R x y ≡ word_at S x y
   pub fresh : (x y : ℕ) → 0 < times (pads_of (word_at R s p)) x y → (length (segment S x) ≤ y) × (y < length (segment R x))
   pub zero : (x y : ℕ) → times (pads_of (word_at R s p)) x y ≡ 0 → length (segment S x) ≤ y → word_at R x y ≡ 0
 
@@ -32,4 +32,4 @@ IsNearWord p b x = (offset_bits x ≡ offset_to p b) ⊎ ((kind x ≡ 0) × (upp
 
 -- From S to R no word of S is written but the one at a place.
 abbrev pub WritesOnly : Segments → Segments → Start → Type 0
-WritesOnly S R h = (x y : ℕ) → times (one_word h.segment h.at ∷ []) x y ≡ 0 → y < length (segment S x) → word_at R x y ≡ word_at S x y
+WritesOnly S R h = (x y : ℕ) → times (word_interval h.segment h.at ∷ []) x y ≡ 0 → y < length (segment S x) → word_at R x y ≡ word_at S x y

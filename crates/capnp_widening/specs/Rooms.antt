@@ -5,6 +5,7 @@ use Rattle.capnp_format.specs.Tree.{Tree, Null, Struct, Pointers, Structs, Trees
 use Rattle.capnp_format.specs.Forest.{target}
 use Rattle.capnp_words.specs.declared.wire_pointer.StructSize.{StructSize}
 use Rattle.capnp_arena.specs.View.{View}
+use Rattle.capnp_making.specs.Made.{structs_words}
 use Rattle.capnp_making.specs.Memory.{HasRoom}
 use Rattle.capnp_making.specs.Near.{HasOwnRoom}
 use Rattle.capnp_making.specs.Stored.{IsStored}
@@ -19,29 +20,29 @@ all_words [] = 0
 all_words (ws ∷ S) = length ws + all_words S
 
 -- From S to R at most n words are taken.
-abbrev pub TakesAtMost : Segments → Segments → ℕ → Type 0
-TakesAtMost S R n = all_words R ≤ all_words S + n
+abbrev pub GrowsByAtMost : Segments → Segments → ℕ → Type 0
+GrowsByAtMost S R n = all_words R ≤ all_words S + n
 
 -- Some segment has room for n words more.
 abbrev pub HasSomeRoom : View → ℕ → Type 0
 HasSomeRoom v n = (k : ℕ) × (k < length v.words) × HasOwnRoom v k n
 
 -- The words of a struct and of a list of structs, and how many pointers a struct and the elements of a list have.
-abbrev pub object_words : Tree → ℕ
-object_words (Struct ws ts) = length ws + count ts
-object_words (Structs d q es) = 1 + element_count es * (d + q)
-object_words t = 0
+abbrev pub widened_words : Tree → ℕ
+widened_words (Struct ws ts) = length ws + count ts
+widened_words (Structs d q es) = 1 + element_count es * (d + q)
+widened_words t = 0
 
-abbrev pub pointers_in : Tree → ℕ
-pointers_in (Struct ws ts) = count ts
-pointers_in (Pointers ts) = count ts
-pointers_in (Structs d q es) = element_count es * q
-pointers_in t = 0
+abbrev pub direct_pointers : Tree → ℕ
+direct_pointers (Struct ws ts) = count ts
+direct_pointers (Pointers ts) = count ts
+direct_pointers (Structs d q es) = element_count es * q
+direct_pointers t = 0
 
 -- There is room for u, which t becomes at a place, and for two words for each pointer of t; or t stands in the segment of the place, and that has
 -- room for u.
 abbrev pub HasRoomFor : View → ℕ → ℕ → Tree → Tree → Type 0
-HasRoomFor v s p t u = HasRoom v s (object_words u + 2 * pointers_in t) ⊎ (((target v.words s p).segment ≡ s) × HasOwnRoom v s (object_words u))
+HasRoomFor v s p t u = HasRoom v s (widened_words u + 2 * direct_pointers t) ⊎ (((target v.words s p).segment ≡ s) × HasOwnRoom v s (widened_words u))
 
 -- The place stores a struct with both sections at least as large as asked for.
 abbrev pub IsWideStruct : Segments → ℕ → ℕ → StructSize → Type 0
@@ -52,48 +53,44 @@ abbrev pub widened : StructSize → List ℕ → Trees → Tree
 widened size ws ts = Struct (fill_words size.data_words ws) (fill_trees size.pointers ts)
 
 -- The place stores a struct, and there is room for what it becomes.
-abbrev pub StructFits : View → ℕ → ℕ → StructSize → Type 0
-StructFits v s p size = (ws : List ℕ) × (ts : Trees) × IsStored v.words s p (Struct ws ts) × HasRoomFor v s p (Struct ws ts) (widened size ws ts)
+abbrev pub WiderStructFits : View → ℕ → ℕ → StructSize → Type 0
+WiderStructFits v s p size = (ws : List ℕ) × (ts : Trees) × IsStored v.words s p (Struct ws ts) × HasRoomFor v s p (Struct ws ts) (widened size ws ts)
 
 -- A struct is opened at the place, and there is room for it: for a new one in place of null, or for what the struct that stands becomes.
 abbrev pub OpeningFits : View → ℕ → ℕ → StructSize → Type 0
-OpeningFits v s p size = ((word_at v.words s p ≡ 0) × HasRoom v s (size.data_words + size.pointers)) ⊎ StructFits v s p size
+OpeningFits v s p size = ((word_at v.words s p ≡ 0) × HasRoom v s (size.data_words + size.pointers)) ⊎ WiderStructFits v s p size
 
 -- From S to R no more words are taken than what a struct at the place becomes, a pad, and two words for each of its pointers.
-abbrev pub TakesForStruct : Segments → Segments → ℕ → ℕ → StructSize → Type 0
-TakesForStruct S R s p size = (ws : List ℕ) (ts : Trees) → IsStored S s p (Struct ws ts) → TakesAtMost S R (object_words (widened size ws ts) + 1 + 2 * count ts)
+abbrev pub GrowsForStruct : Segments → Segments → ℕ → ℕ → StructSize → Type 0
+GrowsForStruct S R s p size = (ws : List ℕ) (ts : Trees) → IsStored S s p (Struct ws ts) → GrowsByAtMost S R (widened_words (widened size ws ts) + 1 + 2 * count ts)
 
 -- The place stores null, or a list of structs with both sections at least as large as asked for.
 abbrev pub IsWideList : Segments → ℕ → ℕ → StructSize → Type 0
 IsWideList S s p size = IsStored S s p Null ⊎ ((d : ℕ) × (q : ℕ) × (es : Elements) × IsStored S s p (Structs d q es) × (size.data_words ≤ d) × (size.pointers ≤ q))
 
 -- The place stores a value that becomes a list of structs where these are wanted, and there is room for what it becomes.
-abbrev pub ListFits : View → ℕ → ℕ → StructSize → Type 0
-ListFits v s p size = (t : Tree) × (u : Tree) × IsStored v.words s p t × (list_widened size.data_words size.pointers t ≡ Ok u) × HasRoomFor v s p t u
+abbrev pub WiderListFits : View → ℕ → ℕ → StructSize → Type 0
+WiderListFits v s p size = (t : Tree) × (u : Tree) × IsStored v.words s p t × (list_widened size.data_words size.pointers t ≡ Ok u) × HasRoomFor v s p t u
 
 -- From S to R no more words are taken than what a list at the place becomes, a pad, and two words for each of its pointers.
-abbrev pub TakesForList : Segments → Segments → ℕ → ℕ → StructSize → Type 0
-TakesForList S R s p size =
-    (t u : Tree) → IsStored S s p t → list_widened size.data_words size.pointers t ≡ Ok u → TakesAtMost S R (object_words u + 1 + 2 * pointers_in t)
+abbrev pub GrowsForList : Segments → Segments → ℕ → ℕ → StructSize → Type 0
+GrowsForList S R s p size =
+    (t u : Tree) → IsStored S s p t → list_widened size.data_words size.pointers t ≡ Ok u → GrowsByAtMost S R (widened_words u + 1 + 2 * direct_pointers t)
 
 -- There is room for what the list l, which the place stores, becomes; and no more words are taken than that.
 abbrev pub ThisListFits : View → ℕ → ℕ → ExistingList → StructSize → Type 0
 ThisListFits v s p l size = (t : Tree) × (u : Tree) × IsList v.words s p t l × (list_widened size.data_words size.pointers t ≡ Ok u) × HasRoomFor v s p t u
 
-abbrev pub TakesForThisList : Segments → Segments → ℕ → ℕ → ExistingList → StructSize → Type 0
-TakesForThisList S R s p l size =
-    (t u : Tree) → IsList S s p t l → list_widened size.data_words size.pointers t ≡ Ok u → TakesAtMost S R (object_words u + 1 + 2 * pointers_in t)
-
--- The words of a list of n structs of a size, its tag included.
-abbrev pub structs_words : ℕ → StructSize → ℕ
-structs_words n size = 1 + n * (size.data_words + size.pointers)
+abbrev pub GrowsForThisList : Segments → Segments → ℕ → ℕ → ExistingList → StructSize → Type 0
+GrowsForThisList S R s p l size =
+    (t u : Tree) → IsList S s p t l → list_widened size.data_words size.pointers t ≡ Ok u → GrowsByAtMost S R (widened_words u + 1 + 2 * direct_pointers t)
 
 -- There is room for a list of structs of a size made of these elements, and for two words for each of their pointers; or they stand in segment s, and
 -- that has room for the list.
-abbrev pub RowsFit : View → ℕ → ElementRows → StructSize → Type 0
-RowsFit v s rows size =
+abbrev pub RemadeRowsFit : View → ℕ → ElementRows → StructSize → Type 0
+RemadeRowsFit v s rows size =
     HasRoom v s (structs_words rows.count size + 2 * (rows.count * rows.size.pointers)) ⊎ ((rows.segment ≡ s) × HasOwnRoom v s (structs_words rows.count size))
 
 -- No more words are taken than that.
-abbrev pub TakesForRows : Segments → Segments → ElementRows → StructSize → Type 0
-TakesForRows S R rows size = TakesAtMost S R (structs_words rows.count size + 1 + 2 * (rows.count * rows.size.pointers))
+abbrev pub GrowsForRows : Segments → Segments → ElementRows → StructSize → Type 0
+GrowsForRows S R rows size = GrowsByAtMost S R (structs_words rows.count size + 1 + 2 * (rows.count * rows.size.pointers))

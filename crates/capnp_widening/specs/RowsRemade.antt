@@ -16,7 +16,7 @@ use Rattle.capnp_making.specs.Existing.{list_in}
 use Rattle.capnp_making.specs.Fields.{field_in}
 use Rattle.capnp_making.specs.Made.{zero_elements}
 use Rattle.capnp_making.specs.Memory.{SpendsMemory, RefusesGrowth}
-use Rattle.capnp_making.specs.Path.{one_word}
+use Rattle.capnp_making.specs.Path.{word_interval}
 use Rattle.capnp_making.specs.Stored.{IsStored, IsReplaced}
 use Rattle.capnp_making.specs.Zeroed.{row}
 use Rattle.capnp_widening.specs.declared.remaking.ElementRows.{ElementRows}
@@ -39,7 +39,7 @@ pub record IsTagWritten (S R : Segments) (s p n : ℕ) (size : StructSize) : Typ
   pub segments : length R ≡ length S
   pub words : (x : ℕ) → length (segment R x) ≡ length (segment S x)
   pub tag : IsTag (word_at R s p) n size.data_words size.pointers
-  pub kept : (x y : ℕ) → times (one_word s p ∷ []) x y ≡ 0 → word_at R x y ≡ word_at S x y
+  pub kept : (x y : ℕ) → times (word_interval s p ∷ []) x y ≡ 0 → word_at R x y ≡ word_at S x y
 
 -- From S to R words are taken for a list of n structs, all zero but for its tag.
 abbrev pub BeginsList : Segments → Segments → ℕ → ℕ → StructSize → Room → Type 0
@@ -98,8 +98,8 @@ as_structs size (Structs d q es) = Structs size.data_words size.pointers (fill_e
 as_structs size t = t
 
 -- The place stores a list in S, of these elements.
-abbrev pub HasRows : Segments → ℕ → ℕ → Tree → ElementRows → Type 0
-HasRows S s p t rows = IsStored S s p t × (rows_in (target S s p) t ≡ Some rows)
+abbrev pub StoresRows : Segments → ℕ → ℕ → Tree → ElementRows → Type 0
+StoresRows S s p t rows = IsStored S s p t × (rows_in (target S s p) t ≡ Some rows)
 
 -- The structs of a list lie in their segment.
 abbrev pub ListLiesIn : Segments → ExistingList → Type 0
@@ -112,15 +112,15 @@ pub record BecomesList (S R : Segments) (s p : ℕ) (t u : Tree) (l : ExistingLi
 
 -- From S to R the place gets, in place of a list of these elements, structs of a size made of them, which are l; or R has nothing but zeros more.
 abbrev pub RemakesRows : Segments → Segments → ℕ → ℕ → ElementRows → StructSize → ExistingList → Type 0
-RemakesRows S R s p rows size l = (t : Tree) → HasRows S s p t rows → BecomesList S R s p t (as_structs size t) l
+RemakesRows S R s p rows size l = (t : Tree) → StoresRows S s p t rows → BecomesList S R s p t (as_structs size t) l
 
 abbrev pub LeavesRows : Segments → Segments → ℕ → ℕ → ElementRows → Type 0
-LeavesRows S R s p rows = (t : Tree) → HasRows S s p t rows → GrowsByZeros S R
+LeavesRows S R s p rows = (t : Tree) → StoresRows S s p t rows → GrowsByZeros S R
 
 -- A call is refused by the name k: the elements would take too many words, and nothing is changed; or a growth is refused.
 abbrev pub RefusesRows : View → View → ℕ → ℕ → ElementRows → StructSize → ErrorKind → Type 0
 RefusesRows old new s p rows size k =
-    ((new ≡ old) × ((t : Tree) → HasRows old.words s p t rows → limited (rows.count * (size.data_words + size.pointers)) (as_structs size t) ≡ Err k))
+    ((new ≡ old) × ((t : Tree) → StoresRows old.words s p t rows → limited (rows.count * (size.data_words + size.pointers)) (as_structs size t) ≡ Err k))
     ⊎ (SpendsMemory old new k × RefusesGrowth old new k)
 
 -- The place stores a list in S, which is l.
@@ -139,8 +139,8 @@ abbrev pub LeavesList : Segments → Segments → ℕ → ℕ → ExistingList �
 LeavesList S R s p l = (t : Tree) → IsList S s p t l → GrowsByZeros S R
 
 -- A call is refused by the name k: by what the list l is and what is wanted, and nothing is changed; or a growth is refused.
-abbrev pub RefusesList : View → View → ℕ → ℕ → ExistingList → StructSize → ErrorKind → Type 0
-RefusesList old new s p l size k =
+abbrev pub RefusesWiderList : View → View → ℕ → ℕ → ExistingList → StructSize → ErrorKind → Type 0
+RefusesWiderList old new s p l size k =
     ((new ≡ old) × ((t : Tree) → IsList old.words s p t l → list_widened size.data_words size.pointers t ≡ Err k)) ⊎ (SpendsMemory old new k × RefusesGrowth old new k)
 
 -- From S to R the place gets, in place of the value that it stores, the list that this becomes where structs of a size are wanted; null stays.
@@ -148,8 +148,8 @@ abbrev pub WidensList : Segments → Segments → ℕ → ℕ → StructSize →
 WidensList S R s p size = (t : Tree) → IsStored S s p t → (u : Tree) × (list_widened size.data_words size.pointers t ≡ Ok u) × IsReplaced S R s p t u
 
 -- That list is l in R, and all its structs lie there.
-abbrev pub LeadsToList : Segments → Segments → ℕ → ℕ → StructSize → Option ExistingList → Type 0
-LeadsToList S R s p size l =
+abbrev pub LeadsToWiderList : Segments → Segments → ℕ → ℕ → StructSize → Option ExistingList → Type 0
+LeadsToWiderList S R s p size l =
     (t u : Tree) → IsStored S s p t → list_widened size.data_words size.pointers t ≡ Ok u → (list_in (target R s p) Void u ≡ Ok l) × IfSome l (ListLiesIn R)
 
 -- A call is refused by the name k: by what the place stores and what is wanted, and nothing is changed; or a growth is refused.

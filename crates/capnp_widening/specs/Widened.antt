@@ -4,18 +4,18 @@ use Rattle.capnp_format.specs.Segments.{Segments, Grows, segment, word_at}
 use Rattle.capnp_format.specs.Tree.{Tree, Null, Capability, Struct, Flat, Pointers, Structs, Trees, no_trees, tree, Elements, no_elements, element, count, element_count}
 use Rattle.capnp_words.specs.declared.wire_pointer.StructSize.{StructSize}
 use Rattle.capnp_making.specs.declared.existing.ExistingStruct.{ExistingStruct}
-use Rattle.capnp_making.specs.Made.{zeros, nulls, zero_elements}
+use Rattle.capnp_making.specs.Made.{words_of_zero, nulls, zero_elements}
 use Rattle.capnp_format.specs.Forest.{target}
 use Rattle.capnp_words.specs.declared.error.ErrorKind.{ErrorKind}
 use Rattle.capnp_words.specs.declared.error.ErrorKind.TheVariants.{ExistingPointerIsNotAList, FoundBitListWhereStructListWasExpected, MessageTooLarge, MessageContainsNonStructPointerWhereStructPointerWasExpected}
 use Rattle.capnp_arena.specs.View.{View}
-use Rattle.capnp_making.specs.Existing.{struct_in, LiesIn}
+use Rattle.capnp_making.specs.Existing.{struct_in, StructLiesIn}
 use Rattle.capnp_making.specs.Memory.{SpendsMemory, RefusesGrowth}
 use Rattle.capnp_making.specs.Stored.{IsStored, IsReplaced}
 
 -- Filled up to n words, or n children, and never cut.
 abbrev pub fill_words : ℕ → List ℕ → List ℕ
-fill_words n ws = ws ++ zeros (n - length ws)
+fill_words n ws = ws ++ words_of_zero (n - length ws)
 
 abbrev pub fill_trees : ℕ → Trees → Trees
 fill_trees n no_trees = nulls n
@@ -33,11 +33,11 @@ struct_for_each d q (x ∷ xs) = element (fill_words d (x ∷ [])) (nulls q) (st
 
 abbrev pub struct_for_each_tree : ℕ → ℕ → Trees → Elements
 struct_for_each_tree d q no_trees = no_elements
-struct_for_each_tree d q (tree t ts) = element (zeros d) (fill_trees q (tree t no_trees)) (struct_for_each_tree d q ts)
+struct_for_each_tree d q (tree t ts) = element (words_of_zero d) (fill_trees q (tree t no_trees)) (struct_for_each_tree d q ts)
 
-abbrev pub words_in : Tree → List ℕ
-words_in (Struct ws ts) = ws
-words_in t = []
+abbrev pub struct_data_words : Tree → List ℕ
+struct_data_words (Struct ws ts) = ws
+struct_data_words t = []
 
 -- From S to R there may be more words, all zero; those of S are as they were.
 pub record GrowsByZeros (S R : Segments) : Type 0 where
@@ -67,14 +67,14 @@ abbrev pub LeavesAll : Segments → Segments → ℕ → ℕ → Type 0
 LeavesAll S R s p = (t : Tree) → IsStored S s p t → GrowsByZeros S R
 
 -- Where the place stored a struct, it leads to e in R, all of which lies there.
-abbrev pub LeadsToStruct : Segments → Segments → ℕ → ℕ → ExistingStruct → Type 0
-LeadsToStruct S R s p e =
-    (ws : List ℕ) (ts : Trees) → IsStored S s p (Struct ws ts) → (e.segment ≡ (target R s p).segment) × (e.start ≡ (target R s p).start) × LiesIn R e
+abbrev pub LeadsToWiderStruct : Segments → Segments → ℕ → ℕ → ExistingStruct → Type 0
+LeadsToWiderStruct S R s p e =
+    (ws : List ℕ) (ts : Trees) → IsStored S s p (Struct ws ts) → (e.segment ≡ (target R s p).segment) × (e.start ≡ (target R s p).start) × StructLiesIn R e
 
 -- Where it stored the struct e, it leads to f in R.
 abbrev pub HousesAt : Segments → Segments → ℕ → ℕ → ExistingStruct → ExistingStruct → Type 0
 HousesAt S R s p e f =
-    (ws : List ℕ) (ts : Trees) → IsStruct S s p ws ts e → (f.segment ≡ (target R s p).segment) × (f.start ≡ (target R s p).start) × LiesIn R f
+    (ws : List ℕ) (ts : Trees) → IsStruct S s p ws ts e → (f.segment ≡ (target R s p).segment) × (f.start ≡ (target R s p).start) × StructLiesIn R f
 
 -- A struct is at least as large as asked for.
 abbrev pub IsAtLeast : StructSize → ExistingStruct → Type 0

@@ -3,8 +3,8 @@ ghost use Rattle.std.specs.Prelude.{◌≡◌, ◌≤◌, ◌+◌, Some, IsOk, I
 ghost use Rattle.capnp_format.specs.Segments.{IsPlace, leads, Target};
 ghost use Rattle.capnp_words.specs.Sizes.{size_number};
 ghost use Rattle.capnp_making.specs.Memory.{KeepsMemory, SpendsMemory};
-ghost use Rattle.capnp_widening.specs.Rooms.{IsWideList, ListFits, TakesForList, ThisListFits, TakesForThisList};
-ghost use Rattle.capnp_widening.specs.RowsRemade.{WidensList, LeadsToList, RefusesWider, WidensTo, LeavesList, RefusesList};
+ghost use Rattle.capnp_widening.specs.Rooms.{IsWideList, WiderListFits, GrowsForList, ThisListFits, GrowsForThisList};
+ghost use Rattle.capnp_widening.specs.RowsRemade.{WidensList, LeadsToWiderList, RefusesWider, WidensTo, LeavesList, RefusesWiderList};
 ghost use Rattle.capnp_widening.specs.Widened.{LeavesAll};
 
 use crate::numbers::widen_numbers;
@@ -34,7 +34,7 @@ pub fn get_struct_list<A: BuilderArena>(
     requires place { IsPlace (A.view arena.old).words id at }
     ensures widened { OnOk result (WidensList (A.view arena.old).words
         (A.view arena.new).words id at size) }
-    ensures leads { IfOk result (LeadsToList (A.view arena.old).words
+    ensures leads { IfOk result (LeadsToWiderList (A.view arena.old).words
         (A.view arena.new).words id at size) }
     ensures granted { OnOk result (KeepsMemory (A.view arena.old) (A.view arena.new)) }
     ensures memory { IfErr result (SpendsMemory (A.view arena.old) (A.view arena.new)) }
@@ -43,8 +43,8 @@ pub fn get_struct_list<A: BuilderArena>(
     ensures named { IfErr result (RefusesWider (A.view arena.old) (A.view arena.new) id at size) }
     ensures stays { IsWideList (A.view arena.old).words id at size
         → IsOk result × (A.view arena.new ≡ A.view arena.old) }
-    ensures fits { ListFits (A.view arena.old) id at size → IsOk result }
-    ensures few { TakesForList (A.view arena.old).words (A.view arena.new).words id at size }
+    ensures fits { WiderListFits (A.view arena.old) id at size → IsOk result }
+    ensures few { GrowsForList (A.view arena.old).words (A.view arena.new).words id at size }
 {
     match existing::get_list(arena, id, at, ElementSize::Void) {
         Ok(Some(old)) => match widen_list(arena, id, at, old, size) {
@@ -72,12 +72,12 @@ fn widen_list<A: BuilderArena>(
     ensures refused { OnErr result
         (LeavesList (A.view arena.old).words (A.view arena.new).words id at old) }
     ensures named { IfErr result
-        (RefusesList (A.view arena.old) (A.view arena.new) id at old size) }
+        (RefusesWiderList (A.view arena.old) (A.view arena.new) id at old size) }
     ensures stays { size_number old.size ≡ 7 → size.data_words ≤ old.struct_size.data_words
         → size.pointers ≤ old.struct_size.pointers
         → IsOk result × (A.view arena.new ≡ A.view arena.old) }
     ensures fits { ThisListFits (A.view arena.old) id at old size → IsOk result }
-    ensures few { TakesForThisList (A.view arena.old).words
+    ensures few { GrowsForThisList (A.view arena.old).words
         (A.view arena.new).words id at old size }
 {
     match old.size {
@@ -114,12 +114,12 @@ fn widen_structs<A: BuilderArena>(
     ensures refused { OnErr result
         (LeavesList (A.view arena.old).words (A.view arena.new).words id at old) }
     ensures named { IfErr result
-        (RefusesList (A.view arena.old) (A.view arena.new) id at old size) }
+        (RefusesWiderList (A.view arena.old) (A.view arena.new) id at old size) }
     ensures stays { size.data_words ≤ old.struct_size.data_words
         → size.pointers ≤ old.struct_size.pointers
         → IsOk result × (A.view arena.new ≡ A.view arena.old) }
     ensures fits { ThisListFits (A.view arena.old) id at old size → IsOk result }
-    ensures few { TakesForThisList (A.view arena.old).words
+    ensures few { GrowsForThisList (A.view arena.old).words
         (A.view arena.new).words id at old size }
 {
     let had = old.struct_size;
@@ -158,9 +158,9 @@ fn widen_pointers<A: BuilderArena>(
     ensures refused { OnErr result
         (LeavesList (A.view arena.old).words (A.view arena.new).words id at old) }
     ensures named { IfErr result
-        (RefusesList (A.view arena.old) (A.view arena.new) id at old size) }
+        (RefusesWiderList (A.view arena.old) (A.view arena.new) id at old size) }
     ensures fits { ThisListFits (A.view arena.old) id at old size → IsOk result }
-    ensures few { TakesForThisList (A.view arena.old).words
+    ensures few { GrowsForThisList (A.view arena.old).words
         (A.view arena.new).words id at old size }
 {
     let rows = ElementRows {
@@ -198,9 +198,9 @@ fn widen_void<A: BuilderArena>(
     ensures refused { OnErr result
         (LeavesList (A.view arena.old).words (A.view arena.new).words id at old) }
     ensures named { IfErr result
-        (RefusesList (A.view arena.old) (A.view arena.new) id at old size) }
+        (RefusesWiderList (A.view arena.old) (A.view arena.new) id at old size) }
     ensures fits { ThisListFits (A.view arena.old) id at old size → IsOk result }
-    ensures few { TakesForThisList (A.view arena.old).words
+    ensures few { GrowsForThisList (A.view arena.old).words
         (A.view arena.new).words id at old size }
 {
     let rows = ElementRows {

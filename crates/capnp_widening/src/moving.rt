@@ -9,12 +9,12 @@ ghost use Rattle.capnp_arena.specs.View.{KeepsLimits};
 ghost use Rattle.capnp_format.specs.Canonical.{Reaches};
 ghost use Rattle.capnp_format.specs.Segments.{segment, IsPlace, Grows};
 ghost use Rattle.capnp_format.specs.Word.{kind, struct_word};
-ghost use Rattle.capnp_making.specs.Made.{IsShape, IsFew, AsksWords};
+ghost use Rattle.capnp_making.specs.Made.{IsShape, CountFits, AsksWords};
 ghost use Rattle.capnp_making.specs.Memory.{KeepsMemory, SpendsMemory, RefusesWords, RefusesGrowth};
 ghost use Rattle.capnp_making.specs.Zeroed.{IsPruned};
 ghost use Rattle.capnp_widening.specs.Moved.{a_move, row_of_moves, Moves, MovesSome, Unmoves, rows_of_moves};
 ghost use Rattle.capnp_widening.specs.Pointed.{PointsTo, IsNearWord, WritesOnly};
-ghost use Rattle.capnp_widening.specs.Rooms.{TakesAtMost, HasSomeRoom};
+ghost use Rattle.capnp_widening.specs.Rooms.{GrowsByAtMost, HasSomeRoom};
 
 use capnp_arena::arena::BuilderArena;
 use capnp_making::landing::{length_of, word_of};
@@ -38,7 +38,7 @@ pub fn move_pointer<A: BuilderArena>(arena: &mut A, from: Start, to: Start) -> R
     ensures memory { IfErr result (SpendsMemory (A.view arena.old) (A.view arena.new)) }
     ensures full { IfErr result (RefusesWords (A.view arena.old) (A.view arena.new) 1) }
     ensures refused { OnErr result ((A.view arena.new).words ≡ (A.view arena.old).words) }
-    ensures few { TakesAtMost (A.view arena.old).words (A.view arena.new).words 2 }
+    ensures few { GrowsByAtMost (A.view arena.old).words (A.view arena.new).words 2 }
     ensures fits { HasSomeRoom (A.view arena.old) 2 → IsOk result }
     ensures near { from.segment ≡ to.segment → IsOk result }
 {
@@ -65,7 +65,7 @@ pub fn move_pointer<A: BuilderArena>(arena: &mut A, from: Start, to: Start) -> R
 /// What a word describes that is of kind struct or list.
 fn shape_of(word: WirePointer) -> Shape
     ensures shape { kind word.0 < 2 → IsShape result word.0 }
-    ensures few { IsFew result }
+    ensures few { CountFits result }
 {
     if word.kind() == WirePointerKind::Struct {
         Shape::Struct(word.struct_size())
@@ -85,7 +85,7 @@ fn point_to<A: BuilderArena>(
     requires to { IsPlace (A.view arena.old).words to.segment to.at }
     requires there { object.segment < length (A.view arena.old).words }
     requires inside { object.at ≤ length (segment (A.view arena.old).words object.segment) }
-    requires few { IsFew shape }
+    requires few { CountFits shape }
     ensures points { OnOk result (PointsTo (A.view arena.old).words
         (A.view arena.new).words shape object to) }
     ensures granted { OnOk result (KeepsMemory (A.view arena.old) (A.view arena.new)) }
@@ -93,7 +93,7 @@ fn point_to<A: BuilderArena>(
     ensures memory { IfErr result (SpendsMemory (A.view arena.old) (A.view arena.new)) }
     ensures full { IfErr result (RefusesWords (A.view arena.old) (A.view arena.new) 1) }
     ensures refused { OnErr result ((A.view arena.new).words ≡ (A.view arena.old).words) }
-    ensures few { TakesAtMost (A.view arena.old).words (A.view arena.new).words 2 }
+    ensures few { GrowsByAtMost (A.view arena.old).words (A.view arena.new).words 2 }
     ensures fits { HasSomeRoom (A.view arena.old) 2 → IsOk result }
     ensures near { object.segment ≡ to.segment → IsOk result }
 {
@@ -128,7 +128,7 @@ fn point_to<A: BuilderArena>(
 /// The word of a pointer to an object in its own segment. A struct without sections has the offset -1.
 fn near_word(shape: Shape, position: u32, target: u32) -> WirePointer
     requires reaches { Reaches position target }
-    requires few { IsFew shape }
+    requires few { CountFits shape }
     ensures shape { IsShape shape result.0 }
     ensures some { result.0 ≢ 0 }
     ensures lands { IsNearWord position target result.0 }
@@ -153,7 +153,7 @@ fn is_empty(shape: Shape) -> bool
 
 /// The second landing pad of an object, which says what it is.
 fn tag_of(shape: Shape) -> WirePointer
-    requires few { IsFew shape }
+    requires few { CountFits shape }
     ensures { IsShape shape result.0 }
 {
     match shape {
@@ -183,7 +183,7 @@ pub fn move_row<A: BuilderArena>(
     ensures granted { OnOk result (KeepsMemory (A.view arena.old) (A.view arena.new)) }
     ensures memory { IfErr result (SpendsMemory (A.view arena.old) (A.view arena.new)) }
     ensures full { IfErr result (RefusesGrowth (A.view arena.old) (A.view arena.new)) }
-    ensures few { TakesAtMost (A.view arena.old).words (A.view arena.new).words (2 * count) }
+    ensures few { GrowsByAtMost (A.view arena.old).words (A.view arena.new).words (2 * count) }
     ensures fits { HasSomeRoom (A.view arena.old) (2 * count) → IsOk result }
     ensures near { from.segment ≡ to.segment → IsOk result }
 {
@@ -214,7 +214,7 @@ fn move_row_apart<A: BuilderArena>(
     ensures granted { OnOk result (KeepsMemory (A.view arena.old) (A.view arena.new)) }
     ensures memory { IfErr result (SpendsMemory (A.view arena.old) (A.view arena.new)) }
     ensures full { IfErr result (RefusesGrowth (A.view arena.old) (A.view arena.new)) }
-    ensures few { TakesAtMost (A.view arena.old).words (A.view arena.new).words (2 * count) }
+    ensures few { GrowsByAtMost (A.view arena.old).words (A.view arena.new).words (2 * count) }
     ensures fits { HasSomeRoom (A.view arena.old) (2 * count) → IsOk result }
     ensures near { from.segment ≡ to.segment → IsOk result }
 {
@@ -240,7 +240,7 @@ fn move_each<A: BuilderArena>(
     ensures granted { OnOk result (KeepsMemory (A.view arena.old) (A.view arena.new)) }
     ensures memory { IfErr result (SpendsMemory (A.view arena.old) (A.view arena.new)) }
     ensures full { IfErr result (RefusesGrowth (A.view arena.old) (A.view arena.new)) }
-    ensures few { TakesAtMost (A.view arena.old).words (A.view arena.new).words (2 * count) }
+    ensures few { GrowsByAtMost (A.view arena.old).words (A.view arena.new).words (2 * count) }
     ensures fits { HasSomeRoom (A.view arena.old) (2 * count) → IsOk result }
     ensures near { from.segment ≡ to.segment → IsOk result }
 {
@@ -326,7 +326,7 @@ pub fn move_rows<A: BuilderArena>(
     ensures granted { OnOk result (KeepsMemory (A.view arena.old) (A.view arena.new)) }
     ensures memory { IfErr result (SpendsMemory (A.view arena.old) (A.view arena.new)) }
     ensures full { IfErr result (RefusesGrowth (A.view arena.old) (A.view arena.new)) }
-    ensures few { TakesAtMost (A.view arena.old).words (A.view arena.new).words
+    ensures few { GrowsByAtMost (A.view arena.old).words (A.view arena.new).words
         (2 * (count * pointers)) }
     ensures fits { HasSomeRoom (A.view arena.old) (2 * (count * pointers)) → IsOk result }
     ensures near { from.segment ≡ to.segment → IsOk result }

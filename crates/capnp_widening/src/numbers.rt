@@ -4,10 +4,11 @@ ghost use Rattle.capnp_arena.specs.View.{KeepsLimits};
 ghost use Rattle.capnp_format.specs.Numbers.{element_bits, words_for};
 ghost use Rattle.capnp_format.specs.Segments.{segment, IsPlace};
 ghost use Rattle.capnp_words.specs.Sizes.{size_number};
+ghost use Rattle.capnp_making.specs.Made.{structs_words};
 ghost use Rattle.capnp_making.specs.Fields.{field_in};
 ghost use Rattle.capnp_making.specs.Memory.{HasRoom, KeepsMemory, SpendsMemory, RefusesGrowth};
-ghost use Rattle.capnp_widening.specs.Rooms.{TakesAtMost, structs_words, ThisListFits, TakesForThisList};
-ghost use Rattle.capnp_widening.specs.RowsRemade.{AreNumbersCopied, NumbersInside, RemakesList, WidensTo, LeavesList, RefusesList};
+ghost use Rattle.capnp_widening.specs.Rooms.{GrowsByAtMost, ThisListFits, GrowsForThisList};
+ghost use Rattle.capnp_widening.specs.RowsRemade.{AreNumbersCopied, NumbersInside, RemakesList, WidensTo, LeavesList, RefusesWiderList};
 
 use crate::remaking::begin_list;
 use crate::widening::{greater, settle};
@@ -37,9 +38,9 @@ pub(crate) fn widen_numbers<A: BuilderArena>(
     ensures refused { OnErr result
         (LeavesList (A.view arena.old).words (A.view arena.new).words id at old) }
     ensures named { IfErr result
-        (RefusesList (A.view arena.old) (A.view arena.new) id at old size) }
+        (RefusesWiderList (A.view arena.old) (A.view arena.new) id at old size) }
     ensures fits { ThisListFits (A.view arena.old) id at old size → IsOk result }
-    ensures few { TakesForThisList (A.view arena.old).words
+    ensures few { GrowsForThisList (A.view arena.old).words
         (A.view arena.new).words id at old size }
 {
     let wide = StructSize {
@@ -91,7 +92,7 @@ fn remake_numbers<A: BuilderArena>(
     ensures refused { OnErr result ((A.view arena.new).words ≡ (A.view arena.old).words) }
     ensures memory { IfErr result (SpendsMemory (A.view arena.old) (A.view arena.new)) }
     ensures full { IfErr result (RefusesGrowth (A.view arena.old) (A.view arena.new)) }
-    ensures few { TakesAtMost (A.view arena.old).words (A.view arena.new).words
+    ensures few { GrowsByAtMost (A.view arena.old).words (A.view arena.new).words
         (structs_words old.count size + 1) }
     ensures fits { HasRoom (A.view arena.old) id (structs_words old.count size) → IsOk result }
 {

@@ -3,12 +3,12 @@ ghost use Rattle.std.specs.Prelude.{◌≡◌, ◌↔◌, ◌+◌, ◌*◌, ◌^
 ghost use Rattle.capnp_format.specs.Forest.{target};
 ghost use Rattle.capnp_format.specs.Segments.{IsPlace, word_at};
 ghost use Rattle.capnp_format.specs.Tree.{Tree, Null};
-ghost use Rattle.capnp_making.specs.Existing.{LiesIn, struct_in};
+ghost use Rattle.capnp_making.specs.Existing.{StructLiesIn, struct_in};
 ghost use Rattle.capnp_making.specs.Memory.{HasRoom, KeepsMemory, SpendsMemory, TakesWords};
 ghost use Rattle.capnp_making.specs.Stored.{IsStored};
 ghost use Rattle.capnp_making.specs.Makes.{call_at};
-ghost use Rattle.capnp_widening.specs.Opening.{HasWideStructs, OpensStruct, OpensList, refusal_of_elements, struct_at};
-ghost use Rattle.capnp_widening.specs.Rooms.{ListFits, OpeningFits, StructFits};
+ghost use Rattle.capnp_widening.specs.Opening.{HasWideStructs, OpensExistingStruct, OpensExistingList, refusal_of_elements, existing_struct};
+ghost use Rattle.capnp_widening.specs.Rooms.{WiderListFits, OpeningFits, WiderStructFits};
 ghost use Rattle.capnp_widening.specs.RowsRemade.{RefusesWider};
 ghost use Rattle.capnp_widening.specs.Widened.{IsAtLeast, IsNoWider};
 ghost use Rattle.capnp_words.specs.declared.error.ErrorKind.TheVariants.{AllocationFailed};
@@ -37,7 +37,7 @@ pub fn open_struct<A: BuilderArena>(
 ) -> Result<ExistingStruct, ErrorKind>
     requires place { IsPlace (A.view arena.old).words id at }
     ensures opened { (t : Tree) → IsStored (A.view arena.old).words id at t
-        → OpensStruct size result (call_at id at (A.view arena.old) (A.view arena.new)) t }
+        → OpensExistingStruct size result (call_at id at (A.view arena.old) (A.view arena.new)) t }
     ensures wide { IfOk result (IsAtLeast size) }
     ensures granted { OnOk result (KeepsMemory (A.view arena.old) (A.view arena.new)) }
     ensures memory { IfErr result (SpendsMemory (A.view arena.old) (A.view arena.new)) }
@@ -80,7 +80,7 @@ fn new_struct<A: BuilderArena>(
 ) -> Result<ExistingStruct, ErrorKind>
     requires place { IsPlace (A.view arena.old).words id at }
     requires null { word_at (A.view arena.old).words id at ≡ 0 }
-    ensures opened { OpensStruct size result
+    ensures opened { OpensExistingStruct size result
         (call_at id at (A.view arena.old) (A.view arena.new)) Null }
     ensures wide { IfOk result (IsAtLeast size) }
     ensures granted { OnOk result (KeepsMemory (A.view arena.old) (A.view arena.new)) }
@@ -111,18 +111,19 @@ fn widen_struct<A: BuilderArena>(
     size: StructSize,
 ) -> Result<ExistingStruct, ErrorKind>
     requires place { IsPlace (A.view arena.old).words id at }
-    requires inside { LiesIn (A.view arena.old).words (struct_at start narrow) }
+    requires inside { StructLiesIn (A.view arena.old).words (existing_struct start narrow) }
     requires known { (t : Tree) → IsStored (A.view arena.old).words id at t
-        → struct_in (target (A.view arena.old).words id at) t ≡ Some (struct_at start narrow) }
+        → struct_in (target (A.view arena.old).words id at) t
+        ≡ Some (existing_struct start narrow) }
     requires narrow { size.data_words ≤ narrow.data_words → size.pointers ≤ narrow.pointers → ⊥ }
     ensures opened { (t : Tree) → IsStored (A.view arena.old).words id at t
-        → struct_in (target (A.view arena.old).words id at) t ≡ Some (struct_at start narrow)
-        → OpensStruct size result (call_at id at (A.view arena.old) (A.view arena.new)) t }
+        → struct_in (target (A.view arena.old).words id at) t ≡ Some (existing_struct start narrow)
+        → OpensExistingStruct size result (call_at id at (A.view arena.old) (A.view arena.new)) t }
     ensures wide { IfOk result (IsAtLeast size) }
     ensures granted { OnOk result (KeepsMemory (A.view arena.old) (A.view arena.new)) }
     ensures memory { IfErr result (SpendsMemory (A.view arena.old) (A.view arena.new)) }
     ensures named { IfErr result (IsNoWider (A.view arena.old) (A.view arena.new) id at) }
-    ensures fits { StructFits (A.view arena.old) id at size → IsOk result }
+    ensures fits { WiderStructFits (A.view arena.old) id at size → IsOk result }
 {
     let old = ExistingStruct {
         segment: start.segment,
@@ -173,11 +174,11 @@ pub fn open_struct_list<A: BuilderArena>(
 ) -> Result<Option<ExistingList>, ErrorKind>
     requires place { IsPlace (A.view arena.old).words id at }
     ensures opened { (t : Tree) → IsStored (A.view arena.old).words id at t
-        → OpensList size result (call_at id at (A.view arena.old) (A.view arena.new)) t }
+        → OpensExistingList size result (call_at id at (A.view arena.old) (A.view arena.new)) t }
     ensures granted { OnOk result (KeepsMemory (A.view arena.old) (A.view arena.new)) }
     ensures memory { IfErr result (SpendsMemory (A.view arena.old) (A.view arena.new)) }
     ensures named { IfErr result (RefusesWider (A.view arena.old) (A.view arena.new) id at size) }
-    ensures fits { ListFits (A.view arena.old) id at size → IsOk result }
+    ensures fits { WiderListFits (A.view arena.old) id at size → IsOk result }
 {
     match existing::get_list(arena, id, at, ElementSize::Void) {
         Ok(Some(old)) => {

@@ -3,9 +3,10 @@
 ghost use Rattle.std.specs.Prelude.{ℕ, ◌≡◌, ◌↔◌, ◌<◌, ◌≤◌, ◌+◌, ◌*◌, ◌^◌, IsTrue, length, IsOk, IfOk, OnOk, IfErr, OnErr};
 ghost use Rattle.capnp_arena.specs.View.{KeepsLimits};
 ghost use Rattle.capnp_format.specs.Segments.{segment, IsPlace, Grows};
+ghost use Rattle.capnp_making.specs.Made.{structs_words};
 ghost use Rattle.capnp_making.specs.Memory.{HasRoom, KeepsMemory, SpendsMemory, RefusesGrowth};
 ghost use Rattle.capnp_making.specs.Near.{HasOwnRoom};
-ghost use Rattle.capnp_widening.specs.Rooms.{TakesAtMost, HasSomeRoom, structs_words, RowsFit, TakesForRows};
+ghost use Rattle.capnp_widening.specs.Rooms.{GrowsByAtMost, HasSomeRoom, RemadeRowsFit, GrowsForRows};
 ghost use Rattle.capnp_widening.specs.RowsRemade.{AreRowsCopied, BeginsList, RowsInside, FillsRows, UnfillsRows, RemakesRows, LeavesRows, RefusesRows};
 
 use crate::moving::{Rows, move_rows, unmove_rows};
@@ -81,7 +82,7 @@ pub(crate) fn begin_list<A: BuilderArena>(
     ensures memory { IfErr result (SpendsMemory (A.view arena.old) (A.view arena.new)) }
     ensures full { IfErr result (RefusesGrowth (A.view arena.old) (A.view arena.new)) }
     ensures refused { OnErr result ((A.view arena.new).words ≡ (A.view arena.old).words) }
-    ensures few { TakesAtMost (A.view arena.old).words (A.view arena.new).words
+    ensures few { GrowsByAtMost (A.view arena.old).words (A.view arena.new).words
         (structs_words count size + 1) }
     ensures fits { (n : ℕ) → HasRoom (A.view arena.old) id (structs_words count size + n)
         → IsOk result × HasSomeRoom (A.view arena.new) n }
@@ -124,7 +125,7 @@ fn fill_rows<A: BuilderArena>(
     ensures granted { OnOk result (KeepsMemory (A.view arena.old) (A.view arena.new)) }
     ensures memory { IfErr result (SpendsMemory (A.view arena.old) (A.view arena.new)) }
     ensures full { IfErr result (RefusesGrowth (A.view arena.old) (A.view arena.new)) }
-    ensures few { TakesAtMost (A.view arena.old).words (A.view arena.new).words
+    ensures few { GrowsByAtMost (A.view arena.old).words (A.view arena.new).words
         (2 * (old.count * old.size.pointers)) }
     ensures fits { HasSomeRoom (A.view arena.old) (2 * (old.count * old.size.pointers))
         → IsOk result }
@@ -194,8 +195,9 @@ pub(crate) fn widen_rows<A: BuilderArena>(
         (LeavesRows (A.view arena.old).words (A.view arena.new).words id at old) }
     ensures named { IfErr result
         (RefusesRows (A.view arena.old) (A.view arena.new) id at old size) }
-    ensures few { TakesForRows (A.view arena.old).words (A.view arena.new).words old size }
-    ensures fits { RowsInside (A.view arena.old).words old → RowsFit (A.view arena.old) id old size
+    ensures few { GrowsForRows (A.view arena.old).words (A.view arena.new).words old size }
+    ensures fits { RowsInside (A.view arena.old).words old
+        → RemadeRowsFit (A.view arena.old) id old size
         → IsOk result }
 {
     let words = u64::from(old.count) * u64::from(size.total());
@@ -238,8 +240,8 @@ fn remake_rows<A: BuilderArena>(
         (LeavesRows (A.view arena.old).words (A.view arena.new).words id at old) }
     ensures memory { IfErr result (SpendsMemory (A.view arena.old) (A.view arena.new)) }
     ensures full { IfErr result (RefusesGrowth (A.view arena.old) (A.view arena.new)) }
-    ensures few { TakesForRows (A.view arena.old).words (A.view arena.new).words old size }
-    ensures fits { RowsFit (A.view arena.old) id old size → IsOk result }
+    ensures few { GrowsForRows (A.view arena.old).words (A.view arena.new).words old size }
+    ensures fits { RemadeRowsFit (A.view arena.old) id old size → IsOk result }
 {
     let pointer = word_of(arena, id, at);
     let words = old.count * size.total();

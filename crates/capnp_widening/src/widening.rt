@@ -6,15 +6,15 @@ ghost use Rattle.capnp_arena.specs.View.{KeepsLimits};
 ghost use Rattle.capnp_format.specs.Segments.{segment, word_at, IsPlace, Grows};
 ghost use Rattle.capnp_format.specs.Forest.{target};
 ghost use Rattle.capnp_format.specs.Tree.{Tree};
-ghost use Rattle.capnp_making.specs.Existing.{LiesIn, struct_in};
-ghost use Rattle.capnp_making.specs.Made.{IsFew, AsksWords};
+ghost use Rattle.capnp_making.specs.Existing.{StructLiesIn, struct_in};
+ghost use Rattle.capnp_making.specs.Made.{CountFits, AsksWords};
 ghost use Rattle.capnp_making.specs.Memory.{HasRoom, KeepsMemory, SpendsMemory, RefusesWords, RefusesGrowth};
 ghost use Rattle.capnp_making.specs.Near.{HasOwnRoom};
 ghost use Rattle.capnp_making.specs.Stored.{IsStored};
 ghost use Rattle.capnp_making.specs.Zeroed.{IsPruned};
-ghost use Rattle.capnp_widening.specs.Housed.{IsRoom, AreCopied, Settles};
-ghost use Rattle.capnp_widening.specs.Rooms.{TakesAtMost, HasSomeRoom, IsWideStruct, StructFits, TakesForStruct};
-ghost use Rattle.capnp_widening.specs.Widened.{HousesAt, IsAtLeast, IsNoWider, LeadsToStruct, LeavesAll, LeavesStruct, Rehouses, WidensStruct};
+ghost use Rattle.capnp_widening.specs.Housed.{IsRoom, AreWordsCopied, Settles};
+ghost use Rattle.capnp_widening.specs.Rooms.{GrowsByAtMost, HasSomeRoom, IsWideStruct, WiderStructFits, GrowsForStruct};
+ghost use Rattle.capnp_widening.specs.Widened.{HousesAt, IsAtLeast, IsNoWider, LeadsToWiderStruct, LeavesAll, LeavesStruct, Rehouses, WidensStruct};
 
 use crate::moving::{move_row, unmove_row};
 use capnp_arena::arena::BuilderArena;
@@ -48,7 +48,7 @@ pub(crate) fn take<A: BuilderArena>(arena: &mut A, id: u32, amount: u32) -> Resu
     ensures memory { IfErr result (SpendsMemory (A.view arena.old) (A.view arena.new)) }
     ensures full { IfErr result (RefusesWords (A.view arena.old) (A.view arena.new) amount) }
     ensures refused { OnErr result ((A.view arena.new).words ≡ (A.view arena.old).words) }
-    ensures few { TakesAtMost (A.view arena.old).words (A.view arena.new).words (amount + 1) }
+    ensures few { GrowsByAtMost (A.view arena.old).words (A.view arena.new).words (amount + 1) }
     ensures fits { (n : ℕ) → HasRoom (A.view arena.old) id (amount + n)
         → IsOk result × HasSomeRoom (A.view arena.new) n }
     ensures near { HasOwnRoom (A.view arena.old) id amount
@@ -78,7 +78,7 @@ pub(crate) fn copy_words<A: BuilderArena>(arena: &mut A, from: Start, to: Start,
     requires from { from.at + count ≤ length (segment (A.view arena.old).words from.segment) }
     requires to { to.at + count ≤ length (segment (A.view arena.old).words to.segment) }
     requires apart { from.segment ≡ to.segment → from.at + count ≤ to.at }
-    ensures copied { AreCopied (A.view arena.old).words
+    ensures copied { AreWordsCopied (A.view arena.old).words
         (A.view arena.new).words from.segment from.at to.segment to.at count }
     ensures limits { KeepsLimits (A.view arena.old) (A.view arena.new) }
 {
@@ -95,7 +95,7 @@ pub(crate) fn copy_words<A: BuilderArena>(arena: &mut A, from: Start, to: Start,
 fn copy_many<A: BuilderArena>(arena: &mut A, from: Start, to: Start, count: u32)
     requires from { from.at + count ≤ length (segment (A.view arena.old).words from.segment) }
     requires to { to.at + count ≤ length (segment (A.view arena.old).words to.segment) }
-    ensures copied { AreCopied (A.view arena.old).words
+    ensures copied { AreWordsCopied (A.view arena.old).words
         (A.view arena.new).words from.segment from.at to.segment to.at count }
     ensures limits { KeepsLimits (A.view arena.old) (A.view arena.new) }
 {
@@ -109,7 +109,7 @@ pub(crate) fn settle<A: BuilderArena>(arena: &mut A, id: u32, at: u32, room: Roo
     requires inside { room.at + room.pads < length (segment (A.view arena.old).words room.segment) }
     requires apart { (room.segment ≡ id) → at < room.at }
     requires near { (room.pads ≡ 0 → room.segment ≡ id) × (room.pads ≤ 1) }
-    requires few { IsFew shape }
+    requires few { CountFits shape }
     requires some { AsksWords shape }
     ensures settled { Settles (A.view arena.old).words (A.view arena.new).words id at room shape }
     ensures limits { KeepsLimits (A.view arena.old) (A.view arena.new) }
@@ -140,7 +140,7 @@ pub fn get_struct<A: BuilderArena>(
     requires place { IsPlace (A.view arena.old).words id at }
     ensures widened { OnOk result (WidensStruct (A.view arena.old).words
         (A.view arena.new).words id at size) }
-    ensures leads { IfOk result (LeadsToStruct (A.view arena.old).words
+    ensures leads { IfOk result (LeadsToWiderStruct (A.view arena.old).words
         (A.view arena.new).words id at) }
     ensures wide { IfOk result (IsAtLeast size) }
     ensures granted { OnOk result (KeepsMemory (A.view arena.old) (A.view arena.new)) }
@@ -149,8 +149,8 @@ pub fn get_struct<A: BuilderArena>(
     ensures named { IfErr result (IsNoWider (A.view arena.old) (A.view arena.new) id at) }
     ensures stays { IsWideStruct (A.view arena.old).words id at size
         → IsOk result × (A.view arena.new ≡ A.view arena.old) }
-    ensures fits { StructFits (A.view arena.old) id at size → IsOk result }
-    ensures few { TakesForStruct (A.view arena.old).words (A.view arena.new).words id at size }
+    ensures fits { WiderStructFits (A.view arena.old) id at size → IsOk result }
+    ensures few { GrowsForStruct (A.view arena.old).words (A.view arena.new).words id at size }
 {
     match existing::get_struct(arena, id, at) {
         None => Err(ErrorKind::MessageContainsNonStructPointerWhereStructPointerWasExpected),
@@ -177,21 +177,21 @@ pub(crate) fn widen_known<A: BuilderArena>(
     size: StructSize,
 ) -> Result<ExistingStruct, ErrorKind>
     requires place { IsPlace (A.view arena.old).words id at }
-    requires inside { LiesIn (A.view arena.old).words old }
+    requires inside { StructLiesIn (A.view arena.old).words old }
     requires known { (t : Tree) → IsStored (A.view arena.old).words id at t
         → struct_in (target (A.view arena.old).words id at) t ≡ Some old }
     requires narrow { size.data_words ≤ old.size.data_words
         → size.pointers ≤ old.size.pointers → ⊥ }
     ensures widened { OnOk result (WidensStruct (A.view arena.old).words
         (A.view arena.new).words id at size) }
-    ensures leads { IfOk result (LeadsToStruct (A.view arena.old).words
+    ensures leads { IfOk result (LeadsToWiderStruct (A.view arena.old).words
         (A.view arena.new).words id at) }
     ensures granted { OnOk result (KeepsMemory (A.view arena.old) (A.view arena.new)) }
     ensures refused { OnErr result
         (LeavesAll (A.view arena.old).words (A.view arena.new).words id at) }
     ensures named { IfErr result (IsNoWider (A.view arena.old) (A.view arena.new) id at) }
-    ensures fits { StructFits (A.view arena.old) id at size → IsOk result }
-    ensures few { TakesForStruct (A.view arena.old).words (A.view arena.new).words id at size }
+    ensures fits { WiderStructFits (A.view arena.old) id at size → IsOk result }
+    ensures few { GrowsForStruct (A.view arena.old).words (A.view arena.new).words id at size }
 {
     let wide = StructSize {
         data_words: greater(old.size.data_words, size.data_words),
@@ -216,7 +216,7 @@ fn widen_struct<A: BuilderArena>(
     size: StructSize,
 ) -> Result<ExistingStruct, ErrorKind>
     requires place { IsPlace (A.view arena.old).words id at }
-    requires inside { LiesIn (A.view arena.old).words old }
+    requires inside { StructLiesIn (A.view arena.old).words old }
     requires data { old.size.data_words ≤ size.data_words }
     requires pointers { old.size.pointers ≤ size.pointers }
     requires some { 0 < size.data_words + size.pointers }
@@ -230,7 +230,7 @@ fn widen_struct<A: BuilderArena>(
         (LeavesStruct (A.view arena.old).words (A.view arena.new).words id at old) }
     ensures memory { IfErr result (SpendsMemory (A.view arena.old) (A.view arena.new)) }
     ensures full { IfErr result (RefusesGrowth (A.view arena.old) (A.view arena.new)) }
-    ensures few { TakesAtMost (A.view arena.old).words (A.view arena.new).words
+    ensures few { GrowsByAtMost (A.view arena.old).words (A.view arena.new).words
         (size.data_words + size.pointers + 1 + 2 * old.size.pointers) }
     ensures fits { HasRoom (A.view arena.old) id
         (size.data_words + size.pointers + 2 * old.size.pointers) → IsOk result }

@@ -8,7 +8,7 @@ use Rattle.capnp_format.specs.Means.{Means, MeansAll, MeansElements, count_cost}
 use Rattle.capnp_format.specs.Forest.{pads_of, object_of, target_in, cover, cover_all, cover_elements, IsTidy, AreTidy, AreTidyElements}
 use Rattle.capnp_format.proofs.Levels.{other_levels, depth_within}
 use Rattle.capnp_format.specs.Forest.{object_cover}
-use Rattle.layout_vectors.specs.Counts.{IsRead, AreRead, AreElementsRead, IsTidyObject}
+use Rattle.layout_vectors.specs.Counts.{MeansTidily, AreRead, AreElementsRead, IsTidyObject}
 
 -- pointers one behind the other, each within levels of its own, mean their values within levels together
 levels_of : (S : Segments) (s p : ℕ) (ts : Trees) → AreRead S s p ts → ℕ
@@ -95,7 +95,7 @@ there_is S n s p (Structs d q es) c some (a, m, k, lev, o, claim, tag, fits, all
 same_target : (a b : Target) (S : Segments) (s p : ℕ) → leads S s p ≡ Some a → leads S s p ≡ Some b → a ≡ b
 same_target a b S s p e f = cc
 
-covered : (S : Segments) (s p : ℕ) (t : Tree) (a : Target) → word_at S s p ≢ 0 → leads S s p ≡ Some a → IsRead S s p t → cover S s p t ≡ pads_of (word_at S s p) ++ object_cover S a t
+covered : (S : Segments) (s p : ℕ) (t : Tree) (a : Target) → word_at S s p ≢ 0 → leads S s p ≡ Some a → MeansTidily S s p t → cover S s p t ≡ pads_of (word_at S s p) ++ object_cover S a t
 covered S s p Null a some l k = absurd (some k.means.2.0)
 covered S s p (Capability i) a some l k = sym (append-nil (pads_of (word_at S s p)))
 covered S s p (Struct ws ts) a some l k = ap (λ b. pads_of (word_at S s p) ++ object_of b (length ws + count ts) ∷ cover_all S b.segment (b.start + length ws) ts) (ap target_in l)
@@ -103,14 +103,14 @@ covered S s p (Flat size ns) a some l k = ap (λ b. pads_of (word_at S s p) ++ o
 covered S s p (Pointers ts) a some l k = ap (λ b. pads_of (word_at S s p) ++ object_of b (count ts) ∷ cover_all S b.segment b.start ts) (ap target_in l)
 covered S s p (Structs d q es) a some l k = ap (λ b. pads_of (word_at S s p) ++ object_of b (1 + element_count es * (d + q)) ∷ cover_elements S b.segment (b.start + 1) d q es) (ap target_in l)
 
-pub object_of_read : (S : Segments) (s p : ℕ) (a : Target) (t : Tree) → word_at S s p ≢ 0 → leads S s p ≡ Some a → IsRead S s p t → IsTidyObject S a t × (cover S s p t ≡ pads_of (word_at S s p) ++ object_cover S a t)
+pub object_of_read : (S : Segments) (s p : ℕ) (a : Target) (t : Tree) → word_at S s p ≢ 0 → leads S s p ≡ Some a → MeansTidily S s p t → IsTidyObject S a t × (cover S s p t ≡ pads_of (word_at S s p) ++ object_cover S a t)
 object_of_read S s p a t some l k =
     let m = k.means in
     let (b, f, o) = there_is S m.0 s p t m.1 some m.2 k.tidy in
     (subst (λ x. IsTidyObject S x t) (same_target b a S s p f l) o, covered S s p t a some l k)
 
 -- and back
-pub read_of_object : (S : Segments) (s p : ℕ) (a : Target) (t : Tree) → word_at S s p ≢ 0 → leads S s p ≡ Some a → IsTidyObject S a t → IsRead S s p t
+pub read_of_object : (S : Segments) (s p : ℕ) (a : Target) (t : Tree) → word_at S s p ≢ 0 → leads S s p ≡ Some a → IsTidyObject S a t → MeansTidily S s p t
 read_of_object S s p a Null some l o = absurd o
 read_of_object S s p a (Capability i) some l o = record { means = (0, a.pads, (a, (some, l), o, refl)); tidy = tt }
 read_of_object S s p a (Struct ws ts) some l (x, d, q, claim, e, ks) =

@@ -19,10 +19,10 @@ use Rattle.capnp_format.proofs.LandingPads.{pads_inside}
 use Rattle.capnp_format.proofs.Padding.{packed-unpacked}
 use Rattle.capnp_format.proofs.ZeroWords.{zero_is_null}
 use Rattle.capnp_format.specs.Forest.{row, object_cover, PadsInside}
-use Rattle.layout_vectors.specs.Counts.{Counting, plus, Counts, IsRead, AreRead, IsTidyObject, ObjectCounts}
-use Rattle.layout_vectors.specs.Marks.{IsMarkedWithin, IsTakenAlready, Takes, TakesAll}
+use Rattle.layout_vectors.specs.Counts.{Counting, plus, Counts, MeansTidily, AreRead, IsTidyObject, ObjectCounts}
+use Rattle.layout_vectors.specs.Marks.{IsMarkedWithin, IsTakenAlready, TakesRow, TakesEach}
 use Rattle.layout_vectors.specs.Spots.{spots, element_spots}
-use Rattle.layout_vectors.specs.Walks.{Walk, FitsRows, Proceeds, TakesObject, HasNoObject, Goes, Fails}
+use Rattle.layout_vectors.specs.Walks.{Walk, FitsRows, Proceeds, TakesTarget, HasNoObject, Goes, FailsWalk}
 use Rattle.layout_vectors.specs.declared.vectors.pending.Spot.{Spot}
 use Rattle.layout_vectors.proofs.Counting.{counts_same, counts_least, pushed_read, read_pushed, elements_pushed_read, elements_read_pushed}
 use Rattle.layout_vectors.proofs.Taken.{keeps_itself, keeps_again}
@@ -308,7 +308,7 @@ pub pointer_goes : (S : Segments) (M N : Counting) (j : Spot) (J : List Spot) (a
     ((u v : ℕ) → N u v ≡ M u v + times (pads_of (word_at S j.segment j.at)) u v) → (F : Counting) → Counts S M (j ∷ J) F ↔ ObjectCounts S a N J F
 pointer_goes S M N j J a some l is F = (to, from)
   where
-    parts : (t : Tree) (u v : ℕ) → IsRead S j.segment j.at t → times (cover S j.segment j.at t) u v ≡ times (pads_of (word_at S j.segment j.at)) u v + times (object_cover S a t) u v
+    parts : (t : Tree) (u v : ℕ) → MeansTidily S j.segment j.at t → times (cover S j.segment j.at t) u v ≡ times (pads_of (word_at S j.segment j.at)) u v + times (object_cover S a t) u v
     parts t u v k = ap (λ is. times is u v) (object_of_read S j.segment j.at a t some l k).1 ∙ times-append (pads_of (word_at S j.segment j.at)) (object_cover S a t) u v
 
     to : Counts S M (j ∷ J) F → ObjectCounts S a N J F
@@ -324,7 +324,7 @@ pointer_goes S M N j J a some l is F = (to, from)
         (t, k, counts_same S (plus N (times (object_cover S a t))) (plus M (times (cover S j.segment j.at t))) J F (λ u v. omega (arith, is u v, parts t u v k)) h)
 
 -- it leads nowhere
-pub nowhere_fails : (S : Segments) (w : Walk) (j : Spot) → word_at S j.segment j.at ≢ 0 → leads S j.segment j.at ≡ None → Fails S j w
+pub nowhere_fails : (S : Segments) (w : Walk) (j : Spot) → word_at S j.segment j.at ≢ 0 → leads S j.segment j.at ≡ None → FailsWalk S j w
 nowhere_fails S w j some l F (t, k, h) once =
     let m = k.means in
     let x = there_is S m.0 j.segment j.at t m.1 some m.2 k.tidy in
@@ -332,7 +332,7 @@ nowhere_fails S w j some l F (t, k, h) once =
 
 -- its pads are taken already
 pub pads_refused : (S : Segments) (w : Walk) (j : Spot) (a : Target) → FitsRows S w.marks → word_at S j.segment j.at ≢ 0 → leads S j.segment j.at ≡ Some a →
-    (PadsInside w.marks (word_at S j.segment j.at) → IsTakenAlready w.marks (times (pads_of (word_at S j.segment j.at)))) → Fails S j w
+    (PadsInside w.marks (word_at S j.segment j.at) → IsTakenAlready w.marks (times (pads_of (word_at S j.segment j.at)))) → FailsWalk S j w
 pads_refused S w j a fits some l already F (t, k, h) once =
     let x = word_at S j.segment j.at in
     let there : PadsInside w.marks x = λ is_far. omega (arith, pads_inside S j.segment j.at a l is_far, fits.words (upper_half x)) in
@@ -355,28 +355,28 @@ few_pointers : (n d q : ℕ) → n * q ≤ n * (d + q)
 few_pointers n d q = grind arith
 
 -- words are taken, and places put behind the others, no more than words
-proceeds_so : (w v : Walk) (s p n : ℕ) (K : List Spot) → Takes w.marks v.marks s p n → v.pending ≡ w.pending ++ K → length K ≤ n → Proceeds w v
+proceeds_so : (w v : Walk) (s p n : ℕ) (K : List Spot) → TakesRow w.marks v.marks s p n → v.pending ≡ w.pending ++ K → length K ≤ n → Proceeds w v
 proceeds_so w v s p n K t e few = record { keeps = t.keeps; fewer = omega (arith, t.fewer, few, ap length e, length-append w.pending K) }
 
 then_counts : (S : Segments) (N : Counting) (J K : List Spot) (F : Counting) (P : Type 0) → K ≡ J → P ↔ Counts S N J F → P ↔ Counts S N K F
 then_counts S N J K F P e h = subst (λ L. P ↔ Counts S N L F) (sym e) h
 
 pub struct_taken : (S : Segments) (a : Target) (w v : Walk) (d q : ℕ) → FitsRows S w.marks → kind a.word ≡ 0 → d ≡ data_words a.word → q ≡ pointer_count a.word → a.start + (d + q) ≤ length (segment w.marks a.segment) →
-    Takes w.marks v.marks a.segment a.start (d + q) → v.pending ≡ w.pending ++ spots a.segment (a.start + d) q → TakesObject S a w v
+    TakesRow w.marks v.marks a.segment a.start (d + q) → v.pending ≡ w.pending ++ spots a.segment (a.start + d) q → TakesTarget S a w v
 struct_taken S a w v d q fits x ed eq inside t e = record {
   proceeds = proceeds_so w v a.segment a.start (d + q) (spots a.segment (a.start + d) q) t e (omega (arith, length-spots a.segment (a.start + d) q));
   same = λ F. then_counts S (word_at v.marks) (w.pending ++ spots a.segment (a.start + d) q) v.pending F _ e (struct_goes S a (word_at w.marks) (word_at v.marks) w.pending d q ed eq x (omega (arith, inside, fits.words a.segment)) t.marks F);
 }
 
 pub pointers_taken : (S : Segments) (a : Target) (w v : Walk) (n : ℕ) → FitsRows S w.marks → kind a.word ≡ 1 → element_size a.word ≡ 6 → n ≡ list_count a.word → a.start + n ≤ length (segment w.marks a.segment) →
-    Takes w.marks v.marks a.segment a.start n → v.pending ≡ w.pending ++ spots a.segment a.start n → TakesObject S a w v
+    TakesRow w.marks v.marks a.segment a.start n → v.pending ≡ w.pending ++ spots a.segment a.start n → TakesTarget S a w v
 pointers_taken S a w v n fits x six en inside t e = record {
   proceeds = proceeds_so w v a.segment a.start n (spots a.segment a.start n) t e (omega (arith, length-spots a.segment a.start n));
   same = λ F. then_counts S (word_at v.marks) (w.pending ++ spots a.segment a.start n) v.pending F _ e (pointers_goes S a (word_at w.marks) (word_at v.marks) w.pending n en x six (omega (arith, inside, fits.words a.segment)) t.marks F);
 }
 
 pub structs_taken : (S : Segments) (a : Target) (w v : Walk) (n d q : ℕ) → FitsRows S w.marks → kind a.word ≡ 1 → element_size a.word ≡ 7 → IsTag (word_at S a.segment a.start) n d q → n * (d + q) ≡ list_count a.word →
-    a.start + (list_count a.word + 1) ≤ length (segment w.marks a.segment) → Takes w.marks v.marks a.segment a.start (list_count a.word + 1) → v.pending ≡ w.pending ++ element_spots a.segment (a.start + 1) d q n → TakesObject S a w v
+    a.start + (list_count a.word + 1) ≤ length (segment w.marks a.segment) → TakesRow w.marks v.marks a.segment a.start (list_count a.word + 1) → v.pending ≡ w.pending ++ element_spots a.segment (a.start + 1) d q n → TakesTarget S a w v
 structs_taken S a w v n d q fits x seven tag exact inside t e = record {
   proceeds = proceeds_so w v a.segment a.start (list_count a.word + 1) (element_spots a.segment (a.start + 1) d q n) t e (omega (arith, length-element_spots a.segment (a.start + 1) d q n, few_pointers n d q, exact));
   same = λ F. then_counts S (word_at v.marks) (w.pending ++ element_spots a.segment (a.start + 1) d q n) v.pending F _ e
@@ -384,13 +384,13 @@ structs_taken S a w v n d q fits x seven tag exact inside t e = record {
 }
 
 pub flat_taken : (S : Segments) (a : Target) (w v : Walk) (size n : ℕ) → FitsRows S w.marks → kind a.word ≡ 1 → size ≡ element_size a.word → n ≡ list_count a.word → size ≤ 5 → a.start + words_for size n ≤ length (segment w.marks a.segment) →
-    HasSmallWords S a.segment → IsPadded S a.segment a.start size n → Takes w.marks v.marks a.segment a.start (words_for size n) → v.pending ≡ w.pending → TakesObject S a w v
+    HasSmallWords S a.segment → IsPadded S a.segment a.start size n → TakesRow w.marks v.marks a.segment a.start (words_for size n) → v.pending ≡ w.pending → TakesTarget S a w v
 flat_taken S a w v size n fits x es en small inside narrow padded t e = record {
   proceeds = record { keeps = t.keeps; fewer = omega (arith, t.fewer, ap length e) };
   same = λ F. then_counts S (word_at v.marks) w.pending v.pending F _ e (flat_goes S a (word_at w.marks) (word_at v.marks) w.pending size n es en x small (omega (arith, inside, fits.words a.segment)) narrow padded t.marks F);
 }
 
-pub capability_taken : (S : Segments) (a : Target) (w : Walk) → lower_half a.word ≡ 3 → TakesObject S a w w
+pub capability_taken : (S : Segments) (a : Target) (w : Walk) → lower_half a.word ≡ 3 → TakesTarget S a w w
 capability_taken S a w x = record { proceeds = record { keeps = keeps_itself w.marks; fewer = omega arith }; same = λ F. capability_goes S a (word_at w.marks) w.pending x F }
 
 pub null_walked : (S : Segments) (j : Spot) (w : Walk) → word_at S j.segment j.at ≡ 0 → Goes S j w w
@@ -400,15 +400,15 @@ null_walked S j w e = record { proceeds = record { keeps = keeps_itself w.marks;
 abbrev pub with_marks : Walk → Segments → Walk
 with_marks w N = record { marks = N; pending = w.pending }
 
-pub pointer_walked : (S : Segments) (j : Spot) (w v : Walk) (N : Segments) (a : Target) → word_at S j.segment j.at ≢ 0 → leads S j.segment j.at ≡ Some a → TakesAll w.marks N (times (pads_of (word_at S j.segment j.at))) →
-    TakesObject S a (with_marks w N) v → Goes S j w v
+pub pointer_walked : (S : Segments) (j : Spot) (w v : Walk) (N : Segments) (a : Target) → word_at S j.segment j.at ≢ 0 → leads S j.segment j.at ≡ Some a → TakesEach w.marks N (times (pads_of (word_at S j.segment j.at))) →
+    TakesTarget S a (with_marks w N) v → Goes S j w v
 pointer_walked S j w v N a some l pads o = record {
   proceeds = record { keeps = keeps_again w.marks N v.marks pads.keeps o.proceeds.keeps; fewer = omega (arith, pads.fewer, o.proceeds.fewer) };
   same = λ F. let h = pointer_goes S (word_at w.marks) (word_at N) j w.pending a some l pads.marks F in let k = o.same F in (λ x. k.0 (h.0 x), λ x. h.1 (k.1 x));
 }
 
-pub pointer_unwalked : (S : Segments) (j : Spot) (w : Walk) (N : Segments) (a : Target) → word_at S j.segment j.at ≢ 0 → leads S j.segment j.at ≡ Some a → TakesAll w.marks N (times (pads_of (word_at S j.segment j.at))) →
-    HasNoObject S a (with_marks w N) → Fails S j w
+pub pointer_unwalked : (S : Segments) (j : Spot) (w : Walk) (N : Segments) (a : Target) → word_at S j.segment j.at ≢ 0 → leads S j.segment j.at ≡ Some a → TakesEach w.marks N (times (pads_of (word_at S j.segment j.at))) →
+    HasNoObject S a (with_marks w N) → FailsWalk S j w
 pointer_unwalked S j w N a some l pads never F h once = never F ((pointer_goes S (word_at w.marks) (word_at N) j w.pending a some l pads.marks F).0 h) once
 
 pub ok_map : (r : Result Bool ErrorKind) (P Q : Bool → Type 0) → ((b : Bool) → P b → Q b) → IfOk r P → IfOk r Q

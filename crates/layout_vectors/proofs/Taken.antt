@@ -18,7 +18,7 @@ use Rattle.capnp_format.specs.Forest.{row}
 use Rattle.capnp_format.proofs.Frame.{of_row}
 use Rattle.capnp_format.proofs.Slices.{there}
 use Rattle.capnp_arena.proofs.WordsOver.{word_here, word_other, lengths_kept, length-over, over_within, over_beside}
-use Rattle.layout_vectors.specs.Marks.{AreFreeWithin, free_words, free, AreMarks, KeepsRows, Takes, blank_rows}
+use Rattle.layout_vectors.specs.Marks.{AreFreeWithin, free_words, free, AreMarks, KeepsRows, TakesRow, blank_rows}
 use Rattle.layout_vectors.specs.Walks.{FitsRows}
 
 -- how many words of a row are free
@@ -84,8 +84,8 @@ among p n q = elim (cases_lt q p) [
 ]
 
 -- words that were free are taken
-pub taken : (M N : Segments) (s p n : ℕ) → 0 < n → p + n ≤ length (segment M s) → AreFreeWithin (segment M s) p n → N ≡ with_words M s p (replicate n 1) → Takes M N s p n
-taken M N s p n some fits empty e = subst (λ T. Takes M T s p n) (sym e) (record { keeps = record { segments = length-set M s (overwritten (segment M s) p (replicate n 1)); words = same; once = λ h u q. once u q h (marks u q) }; marks = marks; fewer = omega (arith, fewer_rows M s (overwritten (segment M s) p (replicate n 1)) here, fewer_words (segment M s) p n fits empty) })
+pub taken : (M N : Segments) (s p n : ℕ) → 0 < n → p + n ≤ length (segment M s) → AreFreeWithin (segment M s) p n → N ≡ with_words M s p (replicate n 1) → TakesRow M N s p n
+taken M N s p n some fits empty e = subst (λ T. TakesRow M T s p n) (sym e) (record { keeps = record { segments = length-set M s (overwritten (segment M s) p (replicate n 1)); words = same; once = λ h u q. once u q h (marks u q) }; marks = marks; fewer = omega (arith, fewer_rows M s (overwritten (segment M s) p (replicate n 1)) here, fewer_words (segment M s) p n fits empty) })
   where
     long : length {A = ℕ} (replicate n 1) ≡ n
     long = length-replicate n 1
@@ -120,7 +120,7 @@ taken M N s p n some fits empty e = subst (λ T. Takes M T s p n) (sym e) (recor
     ]
 
 -- no word is taken
-pub nothing_taken : (M : Segments) (s p : ℕ) → Takes M M s p 0
+pub nothing_taken : (M : Segments) (s p : ℕ) → TakesRow M M s p 0
 nothing_taken M s p = record { keeps = record { segments = refl; words = λ u. refl; once = λ h. h }; marks = λ u q. omega (arith, none u q); fewer = omega arith }
   where
     none : (u q : ℕ) → times (row s p 0 ∷ []) u q ≡ 0
@@ -170,7 +170,7 @@ blank_free (s ∷ ss) (suc u) q = blank_free ss u q
 
 -- a row of the marks in which words are taken
 pub row_taken : (v : Vec (Vec ℕ)) (r : Vec ℕ) (i p n : ℕ) (old new : List ℕ) → 0 < n → p + n ≤ length (segment (map vec_items v.items) i) → r ≡ get_or v.items i r → old ≡ r.items → AreFreeWithin old p n →
-    new ≡ put_mid p n old (replicate n 1) → length new ≡ r.len → Takes (map vec_items v.items) (map vec_items (with_item v i (with_items r new)).items) i p n
+    new ≡ put_mid p n old (replicate n 1) → length new ≡ r.len → TakesRow (map vec_items v.items) (map vec_items (with_item v i (with_items r new)).items) i p n
 row_taken v r i p n old new some fits is same empty made long =
     let M : Segments = map vec_items v.items in
     let there_is : i < length v.items = omega (arith, there M i p (omega arith), length-map v.items vec_items) in

@@ -16,19 +16,19 @@ abbrev pub plus : Counting → Counting → Counting
 plus M N u q = M u q + N u q
 
 -- A place means a value, and below it all is tidy.
-pub record IsRead (S : Segments) (s p : ℕ) (t : Tree) : Type 0 where
+pub record MeansTidily (S : Segments) (s p : ℕ) (t : Tree) : Type 0 where
   pub means : (n : ℕ) × (c : ℕ) × Means S n s p t c
   pub tidy : IsTidy S s p t
 
 -- F is M and what is reached from these places, for some values that they mean.
 abbrev pub Counts : Segments → Counting → List Spot → Counting → Type 0
 Counts S M [] F = (u q : ℕ) → F u q ≡ M u q
-Counts S M (j ∷ J) F = (t : Tree) × IsRead S j.segment j.at t × Counts S (plus M (times (cover S j.segment j.at t))) J F
+Counts S M (j ∷ J) F = (t : Tree) × MeansTidily S j.segment j.at t × Counts S (plus M (times (cover S j.segment j.at t))) J F
 
 -- Pointers one behind the other mean values, and below them all is tidy; of the pointers of elements the same.
 abbrev pub AreRead : Segments → ℕ → ℕ → Trees → Type 0
 AreRead S s p no_trees = Unit {0}
-AreRead S s p (tree t ts) = IsRead S s p t × AreRead S s (p + 1) ts
+AreRead S s p (tree t ts) = MeansTidily S s p t × AreRead S s (p + 1) ts
 
 abbrev pub AreElementsRead : Segments → ℕ → ℕ → ℕ → ℕ → Elements → Type 0
 AreElementsRead S s p d q no_elements = Unit {0}

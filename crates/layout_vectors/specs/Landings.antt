@@ -4,10 +4,10 @@ use Rattle.capnp_format.specs.Segments.{Target}
 use Rattle.layout_vectors.specs.declared.vectors.landing.Landing.{Landing}
 
 -- The target that a landing is at.
-abbrev pub target_of : Landing → Target
-target_of l = record { word = l.word.0; segment = l.segment; start = l.start; pads = l.pads }
+abbrev pub target_at : Landing → Target
+target_at l = record { word = l.word.0; segment = l.segment; start = l.start; pads = l.pads }
 
 -- The target, if any.
-abbrev pub landed : Option Landing → Option Target
-landed (Some l) = Some (target_of l)
-landed None = None
+abbrev pub target_reached : Option Landing → Option Target
+target_reached (Some l) = Some (target_at l)
+target_reached None = None

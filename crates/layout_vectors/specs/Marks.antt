@@ -40,13 +40,13 @@ pub record KeepsRows (M N : Segments) : Type 0 where
   pub once : AreMarks M → AreMarks N
 
 -- From M to N the n words from a place on are taken, of which none was.
-pub record Takes (M N : Segments) (s p n : ℕ) : Type 0 where
+pub record TakesRow (M N : Segments) (s p n : ℕ) : Type 0 where
   pub keeps : KeepsRows M N
   pub marks : (u q : ℕ) → word_at N u q ≡ word_at M u q + times (row s p n ∷ []) u q
   pub fewer : free N + n ≡ free M
 
 -- The landing pads of the word x are taken from M to N, if it is a far pointer; or they aren't there, or one of their words is taken already.
-pub record TakesAll (M N : Segments) (is : ℕ → ℕ → ℕ) : Type 0 where
+pub record TakesEach (M N : Segments) (is : ℕ → ℕ → ℕ) : Type 0 where
   pub keeps : KeepsRows M N
   pub marks : (u q : ℕ) → word_at N u q ≡ word_at M u q + is u q
   pub fewer : free N ≤ free M
@@ -56,5 +56,5 @@ abbrev pub IsTakenAlready : Segments → (ℕ → ℕ → ℕ) → Type 0
 IsTakenAlready M is = (u : ℕ) × (q : ℕ) × (0 < is u q) × (0 < word_at M u q)
 
 abbrev pub TakesPads : Segments → Segments → ℕ → Bool → Type 0
-TakesPads M N x true = TakesAll M N (times (pads_of x))
+TakesPads M N x true = TakesEach M N (times (pads_of x))
 TakesPads M N x false = PadsInside M x → IsTakenAlready M (times (pads_of x))

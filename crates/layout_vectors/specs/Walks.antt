@@ -31,7 +31,7 @@ pub record Proceeds (w v : Walk) : Type 0 where
   pub fewer : free v.marks + length v.pending ≤ free w.marks + length w.pending
 
 -- From w to v the object where a leads is taken: what is counted with it before is what is counted without it afterwards.
-pub record TakesObject (S : Segments) (a : Target) (w v : Walk) : Type 0 where
+pub record TakesTarget (S : Segments) (a : Target) (w v : Walk) : Type 0 where
   pub proceeds : Proceeds w v
   pub same : (F : Counting) → ObjectCounts S a (word_at w.marks) w.pending F ↔ Counts S (word_at v.marks) v.pending F
 
@@ -44,8 +44,8 @@ pub record Goes (S : Segments) (j : Spot) (w v : Walk) : Type 0 where
   pub proceeds : Proceeds w v
   pub same : (F : Counting) → Counts S (word_at w.marks) (j ∷ w.pending) F ↔ Counts S (word_at v.marks) v.pending F
 
-abbrev pub Fails : Segments → Spot → Walk → Type 0
-Fails S j w = (F : Counting) → Counts S (word_at w.marks) (j ∷ w.pending) F → IsOnce F → ⊥
+abbrev pub FailsWalk : Segments → Spot → Walk → Type 0
+FailsWalk S j w = (F : Counting) → Counts S (word_at w.marks) (j ∷ w.pending) F → IsOnce F → ⊥
 
 -- Each word that isn't marked is zero; of one segment.
 abbrev pub IsZeroWhereFree : Segments → Segments → Type 0

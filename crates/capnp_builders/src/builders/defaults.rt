@@ -7,7 +7,7 @@ ghost use Rattle.capnp_making.specs.Stored.{IsStored, IsReplaced};
 ghost use Rattle.capnp_copies.specs.Changes.{StandsAsRead};
 ghost use Rattle.capnp_copies.specs.Growth.{TakesAtMost};
 ghost use Rattle.capnp_making.specs.Makes.{call_at};
-ghost use Rattle.capnp_builders.specs.Defaults.{default_root, default_copy, StandsForNull, RefusesDefault, IsFew, IsNullDefault, object_default, blob_default, PutsDefaultOver, DefaultCopyFits, DefaultFits};
+ghost use Rattle.capnp_builders.specs.Defaults.{default_root, default_copy, StandsForNull, RefusesDefault, IsShortDefault, IsNullDefault, object_default, blob_default, PutsDefaultOver, DefaultCopyFits, DefaultFits};
 
 use capnp_arena::arena::BuilderArena;
 use capnp_copies::copy;
@@ -70,7 +70,7 @@ pub(crate) fn put_default<A: BuilderArena>(
     default: Option<&[u8]>,
 ) -> Result<(), ErrorKind>
     requires place { IsPlace (A.view arena.old).words id at }
-    requires few { IsFew default }
+    requires few { IsShortDefault default }
     ensures put { (t : Tree) → IsStored (A.view arena.old).words id at t
         → PutsDefaultOver (object_default default.entry t)
         (call_at id at (A.view arena.old) (A.view arena.new)) t result }
@@ -106,7 +106,7 @@ pub(crate) fn put_blob_default<A: BuilderArena>(
     default: Option<&[u8]>,
 ) -> Result<(), ErrorKind>
     requires place { IsPlace (A.view arena.old).words id at }
-    requires few { IsFew default }
+    requires few { IsShortDefault default }
     ensures put { (t : Tree) → IsStored (A.view arena.old).words id at t
         → PutsDefaultOver (blob_default default.entry t)
         (call_at id at (A.view arena.old) (A.view arena.new)) t result }

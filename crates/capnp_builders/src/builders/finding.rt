@@ -2,17 +2,17 @@
 //! list of structs that is too small is made wider ("Structs", "Lists", "Default Values").
 ghost use Rattle.std.specs.Prelude.{◌≡◌, ◌+◌, ◌*◌, ◌^◌, ◌<◌, ◌≤◌, true, IsNone, IsOk, IfOk, IfErr, OnOk, OnErr, Result};
 ghost use Rattle.capnp_making.specs.declared.existing.ExistingBytes.{ExistingBytes};
-ghost use Rattle.capnp_making.specs.Existing.{LieIn, is_unfound};
+ghost use Rattle.capnp_making.specs.Existing.{BytesLieIn, is_unfound};
 ghost use Rattle.capnp_making.specs.Memory.{KeepsMemory, SpendsMemory};
 ghost use Rattle.capnp_words.specs.Sizes.{size_number};
 ghost use Rattle.capnp_readers.specs.Readers.{IsListPlace};
 ghost use Rattle.capnp_widening.specs.RowsRemade.{RefusesWider};
 ghost use Rattle.capnp_widening.specs.Widened.{IsNoWider};
 ghost use Rattle.capnp_words.specs.declared.error.ErrorKind.{ErrorKind};
-ghost use Rattle.capnp_builders.specs.Defaults.{IsFew, DefaultFits, LeavesNull, object_default, PutsDefaultOver};
+ghost use Rattle.capnp_builders.specs.Defaults.{IsShortDefault, DefaultFits, IsIgnoredDefault, object_default, PutsDefaultOver};
 ghost use Rattle.capnp_builders.specs.Found.{FindsList, FindsData, FindsText, IsLent};
 ghost use Rattle.capnp_builders.specs.Opening.{FindsStruct, FindsStructs, IsStructAtLeast, StructFindFits, StructsFindFits, TakesForNewStruct};
-ghost use Rattle.capnp_builders.specs.Places.{StartsAt, IsAligned};
+ghost use Rattle.capnp_builders.specs.Places.{StructStartsAt, IsAligned};
 
 use super::PointerBuilder;
 use super::defaults::{put_blob_default, put_default};
@@ -28,7 +28,7 @@ use capnp_words::error::ErrorKind;
 use capnp_words::wire_pointer::{ElementSize, StructSize};
 
 impl<'a, A: BuilderArena> PointerBuilder<'a, A> {
-    ghost use Rattle.capnp_builders.specs.Building.{IsNull, IsThere, KeepsBuilder, OfStored, Leaves, built, calling, calling_last};
+    ghost use Rattle.capnp_builders.specs.Building.{IsNull, IsThere, KeepsBuilder, OfStored, LeavesMessage, built, calling, calling_last};
 
     /// Puts the value of a default in place of a null pointer, as it stands ("Default Values"). What isn't
     /// null stays, and so does null where there is no default, or one whose first word is null.
@@ -40,7 +40,7 @@ impl<'a, A: BuilderArena> PointerBuilder<'a, A> {
     /// pointer is null, and the words that were taken are zero.
     pub fn put_default(&mut self, default: Option<&[u8]>) -> Result<(), ErrorKind>
         requires there { IsThere (built A.view self.old) }
-        requires few { IsFew default }
+        requires few { IsShortDefault default }
         ensures put { OfStored (built A.view self.old)
             (λ t. PutsDefaultOver (object_default default.entry t)
             (calling A.view self.old self.new) t result) }
@@ -69,14 +69,14 @@ impl<'a, A: BuilderArena> PointerBuilder<'a, A> {
         default: Option<&[u8]>,
     ) -> Result<StructPlace, ErrorKind>
         requires there { IsThere (built A.view self.old) }
-        requires few { IsFew default }
+        requires few { IsShortDefault default }
         ensures found { OfStored (built A.view self.old)
             (FindsStruct size default.entry result (calling A.view self.old self.new)) }
         ensures fits { StructFindFits size default.entry
             (A.view self.old.arena.now) self.old.segment self.old.at → IsOk result }
-        ensures taken { IsNull (built A.view self.old) → LeavesNull default.entry
+        ensures taken { IsNull (built A.view self.old) → IsIgnoredDefault default.entry
             → OnOk result (TakesForNewStruct size (calling A.view self.old self.new)) }
-        ensures refused { IsNull (built A.view self.old) → LeavesNull default.entry
+        ensures refused { IsNull (built A.view self.old) → IsIgnoredDefault default.entry
             → OnErr result ((A.view self.new.arena.now).words ≡ (A.view self.old.arena.now).words) }
         ensures wide { IfOk result (IsStructAtLeast size) }
         ensures aligned { IfOk result IsAligned }
@@ -117,15 +117,15 @@ impl<'a, A: BuilderArena> PointerBuilder<'a, A> {
         default: Option<&[u8]>,
     ) -> Result<StructBuilder<'a, A>, ErrorKind>
         requires there { IsThere (built A.view self) }
-        requires few { IsFew default }
+        requires few { IsShortDefault default }
         ensures same { IfOk result (λ b. b.arena.ghost_name ≡ self.entry.arena.ghost_name) }
         ensures found { OfStored (built A.view self.entry)
-            (λ t. Leaves (λ b. A.view b.arena.now) (λ b. b.place)
+            (λ t. LeavesMessage (λ b. A.view b.arena.now) (λ b. b.place)
             (λ new r. FindsStruct size default.entry r (calling_last A.view self.entry new) t)
             result) }
         ensures fits { StructFindFits size default.entry
             (A.view self.entry.arena.now) self.entry.segment self.entry.at → IsOk result }
-        ensures taken { IsNull (built A.view self.entry) → LeavesNull default.entry
+        ensures taken { IsNull (built A.view self.entry) → IsIgnoredDefault default.entry
             → IfOk result
             (λ b. TakesForNewStruct size (calling_last A.view self.entry (A.view b.arena.now))) }
         ensures wide { IfOk result (λ b. IsStructAtLeast size b.place) }
@@ -146,7 +146,7 @@ impl<'a, A: BuilderArena> PointerBuilder<'a, A> {
         default: Option<&[u8]>,
     ) -> Result<ListPlace, ErrorKind>
         requires there { IsThere (built A.view self.old) }
-        requires few { IsFew default }
+        requires few { IsShortDefault default }
         ensures found { OfStored (built A.view self.old)
             (FindsStructs size default.entry result (calling A.view self.old self.new)) }
         ensures fits { StructsFindFits size default.entry
@@ -189,10 +189,10 @@ impl<'a, A: BuilderArena> PointerBuilder<'a, A> {
         default: Option<&[u8]>,
     ) -> Result<ListBuilder<'a, A>, ErrorKind>
         requires there { IsThere (built A.view self) }
-        requires few { IsFew default }
+        requires few { IsShortDefault default }
         ensures same { IfOk result (λ b. b.arena.ghost_name ≡ self.entry.arena.ghost_name) }
         ensures found { OfStored (built A.view self.entry)
-            (λ t. Leaves (λ b. A.view b.arena.now) (λ b. b.place)
+            (λ t. LeavesMessage (λ b. A.view b.arena.now) (λ b. b.place)
             (λ new r. FindsStructs size default.entry r (calling_last A.view self.entry new) t)
             result) }
         ensures fits { StructsFindFits size default.entry
@@ -215,7 +215,7 @@ impl<'a, A: BuilderArena> PointerBuilder<'a, A> {
         default: Option<&[u8]>,
     ) -> Result<ListPlace, ErrorKind>
         requires there { IsThere (built A.view self.old) }
-        requires few { IsFew default }
+        requires few { IsShortDefault default }
         requires plain { size_number size ≤ 6 }
         ensures found { OfStored (built A.view self.old)
             (FindsList size default.entry result (calling A.view self.old self.new)) }
@@ -251,11 +251,11 @@ impl<'a, A: BuilderArena> PointerBuilder<'a, A> {
         default: Option<&[u8]>,
     ) -> Result<ListBuilder<'a, A>, ErrorKind>
         requires there { IsThere (built A.view self) }
-        requires few { IsFew default }
+        requires few { IsShortDefault default }
         requires plain { size_number size ≤ 6 }
         ensures same { IfOk result (λ b. b.arena.ghost_name ≡ self.entry.arena.ghost_name) }
         ensures found { OfStored (built A.view self.entry)
-            (λ t. Leaves (λ b. A.view b.arena.now) (λ b. b.place)
+            (λ t. LeavesMessage (λ b. A.view b.arena.now) (λ b. b.place)
             (λ new r. FindsList size default.entry r (calling_last A.view self.entry new) t)
             result) }
         ensures inside { OfStored (built A.view self.entry)
@@ -273,10 +273,10 @@ impl<'a, A: BuilderArena> PointerBuilder<'a, A> {
     /// what `get_data` is made of.
     pub fn find_data(&mut self, default: Option<&[u8]>) -> Result<ExistingBytes, ErrorKind>
         requires there { IsThere (built A.view self.old) }
-        requires few { IsFew default }
+        requires few { IsShortDefault default }
         ensures found { OfStored (built A.view self.old)
             (FindsData default.entry result (calling A.view self.old self.new)) }
-        ensures inside { IfOk result (LieIn (A.view self.new.arena.now).words) }
+        ensures inside { IfOk result (BytesLieIn (A.view self.new.arena.now).words) }
         ensures set { (IsNull (built A.view self.old) → ⊥)
             → (A.view self.new.arena.now ≡ A.view self.old.arena.now)
             × IfErr result (λ k. is_unfound k ≡ true) }
@@ -302,7 +302,7 @@ impl<'a, A: BuilderArena> PointerBuilder<'a, A> {
     /// the bytes are written is said by `find_data` and `bytes_mut`, which do the same in two steps.
     pub fn get_data(mut self, default: Option<&[u8]>) -> Result<&'a mut [u8], ErrorKind>
         requires there { IsThere (built A.view self) }
-        requires few { IsFew default }
+        requires few { IsShortDefault default }
         ensures found { OfStored (built A.view self.entry)
             (λ t. (now : A) × (r : Result ExistingBytes ErrorKind)
             × FindsData default.entry r (calling_last A.view self.entry (A.view now)) t
@@ -325,10 +325,10 @@ impl<'a, A: BuilderArena> PointerBuilder<'a, A> {
     /// what `get_text` is made of.
     pub fn find_text(&mut self, default: Option<&[u8]>) -> Result<ExistingBytes, ErrorKind>
         requires there { IsThere (built A.view self.old) }
-        requires few { IsFew default }
+        requires few { IsShortDefault default }
         ensures found { OfStored (built A.view self.old)
             (FindsText default.entry result (calling A.view self.old self.new)) }
-        ensures inside { IfOk result (LieIn (A.view self.new.arena.now).words) }
+        ensures inside { IfOk result (BytesLieIn (A.view self.new.arena.now).words) }
         ensures set { (IsNull (built A.view self.old) → ⊥)
             → (A.view self.new.arena.now ≡ A.view self.old.arena.now)
             × IfErr result (λ k. is_unfound k ≡ true) }
@@ -354,7 +354,7 @@ impl<'a, A: BuilderArena> PointerBuilder<'a, A> {
     /// `find_text` and `bytes_mut`, which do the same in two steps.
     pub fn get_text(mut self, default: Option<&[u8]>) -> Result<&'a mut [u8], ErrorKind>
         requires there { IsThere (built A.view self) }
-        requires few { IsFew default }
+        requires few { IsShortDefault default }
         ensures found { OfStored (built A.view self.entry)
             (λ t. (now : A) × (r : Result ExistingBytes ErrorKind)
             × FindsText default.entry r (calling_last A.view self.entry (A.view now)) t
@@ -377,7 +377,8 @@ impl<'a, A: BuilderArena> PointerBuilder<'a, A> {
 /// The place of a struct that was opened.
 fn struct_place(opened: ExistingStruct) -> StructPlace
     ensures starts { opened.start + opened.size.data_words < 2 ^ 32
-        → StartsAt result opened.segment opened.start opened.size.data_words opened.size.pointers }
+        → StructStartsAt result opened.segment opened.start opened.size.data_words
+        opened.size.pointers }
     ensures bits { result.bits ≡ 64 * opened.size.data_words }
     ensures pointers { result.pointers ≡ opened.size.pointers }
     ensures aligned { IsAligned result }

@@ -3,7 +3,7 @@ ghost use Rattle.std.specs.Prelude.{◌≡◌, ◌<◌, ◌≤◌, true, length,
 ghost use Rattle.capnp_format.specs.Forest.{target};
 ghost use Rattle.capnp_format.specs.Segments.{IsPlace};
 ghost use Rattle.capnp_format.specs.Tree.{Tree};
-ghost use Rattle.capnp_making.specs.Existing.{LieIn, is_unfound, list_in, data_in, text_in};
+ghost use Rattle.capnp_making.specs.Existing.{BytesLieIn, is_unfound, list_in, data_in, text_in};
 ghost use Rattle.capnp_making.specs.Stored.{IsStored};
 ghost use Rattle.capnp_words.specs.Sizes.{size_number};
 ghost use Rattle.capnp_readers.specs.Readers.{IsListPlace};
@@ -69,7 +69,7 @@ pub(crate) fn look_for_data<A: BuilderArena>(
     requires { IsPlace (A.view arena.now).words id at }
     ensures found { (t : Tree) → IsStored (A.view arena.now).words id at t
         → result ≡ bytes_given id (data_in (target (A.view arena.now).words id at) t) }
-    ensures inside { IfOk result (LieIn (A.view arena.now).words) }
+    ensures inside { IfOk result (BytesLieIn (A.view arena.now).words) }
     ensures named { IfErr result (λ k. is_unfound k ≡ true) }
 {
     match existing::get_data(arena, id, at) {
@@ -87,7 +87,7 @@ pub(crate) fn look_for_text<A: BuilderArena>(
     requires { IsPlace (A.view arena.now).words id at }
     ensures found { (t : Tree) → IsStored (A.view arena.now).words id at t
         → result ≡ bytes_given id (text_in (target (A.view arena.now).words id at) t) }
-    ensures inside { IfOk result (LieIn (A.view arena.now).words) }
+    ensures inside { IfOk result (BytesLieIn (A.view arena.now).words) }
     ensures named { IfErr result (λ k. is_unfound k ≡ true) }
 {
     match existing::get_text(arena, id, at) {
@@ -106,9 +106,9 @@ fn found_bytes<A: BuilderArena>(
     found: Option<ExistingBytes>,
 ) -> Result<ExistingBytes, ErrorKind>
     requires { segment < length (A.view arena.now).words }
-    ensures some { IfSome found (λ b. LieIn (A.view arena.now).words b → result ≡ Ok b) }
+    ensures some { IfSome found (λ b. BytesLieIn (A.view arena.now).words b → result ≡ Ok b) }
     ensures none { IsNone found → result ≡ Ok (no_bytes segment) }
-    ensures inside { IfOk result (LieIn (A.view arena.now).words) }
+    ensures inside { IfOk result (BytesLieIn (A.view arena.now).words) }
     ensures named { IfErr result (λ k. is_unfound k ≡ true) }
 {
     match found {

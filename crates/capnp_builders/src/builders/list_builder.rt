@@ -4,7 +4,7 @@ ghost use Rattle.capnp_format.specs.Numbers.{element_bits};
 ghost use Rattle.capnp_words.specs.Sizes.{size_number};
 ghost use Rattle.capnp_readers.specs.Readers.{IsStructPlace, IsListPlace};
 ghost use Rattle.capnp_format.specs.Segments.{IsPlace};
-ghost use Rattle.capnp_readers.specs.Sections.{HoldsPointer, pointers_behind, list_words, step_bits, data_bits};
+ghost use Rattle.capnp_readers.specs.Sections.{HoldsPointer, pointers_behind, elements_words, step_bits, data_bits};
 ghost use Rattle.capnp_builders.specs.Places.{IsAligned, IsElement};
 ghost use Rattle.capnp_builders.specs.Elements.{lowest_bits, WritesElement, HasElement};
 ghost use Rattle.capnp_builders.specs.Reads.{IsArenaOf, IsListReadAt};
@@ -31,7 +31,7 @@ pub struct ListBuilder<'a, A> {
 fn element_place(list: ListPlace, index: u32) -> StructPlace
     requires range { index < list.count }
     requires whole { size_number list.size ≢ 1 }
-    requires inside { list.byte / 8 + list_words list.size list.count
+    requires inside { list.byte / 8 + elements_words list.size list.count
         (list.struct_size.data_words + list.struct_size.pointers) < 2 ^ 29 }
     requires aligned { list.byte % 8 ≡ 0 }
     ensures place { IsElement list index result }
@@ -74,7 +74,7 @@ fn element_place(list: ListPlace, index: u32) -> StructPlace
 fn element_pointer(list: ListPlace, index: u32) -> u32
     requires range { index < list.count }
     requires pointers { HoldsPointer list.size list.struct_size }
-    requires inside { list.byte / 8 + list_words list.size list.count
+    requires inside { list.byte / 8 + elements_words list.size list.count
         (list.struct_size.data_words + list.struct_size.pointers) < 2 ^ 29 }
     ensures { result ≡ list.byte / 8 + pointers_behind list.size list.struct_size index }
 {

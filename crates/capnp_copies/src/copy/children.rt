@@ -2,7 +2,7 @@
 ghost use Rattle.std.specs.Prelude.{◌≡◌, ◌≢◌, ℕ, ◌+◌, ◌^◌, ◌<◌, ◌≤◌, ◌↔◌, length, IsTrue, IfOk, IfErr};
 ghost use Rattle.capnp_format.specs.Segments.{segment, word_at, IsPlace};
 ghost use Rattle.capnp_format.specs.Word.{kind, element_size};
-ghost use Rattle.capnp_objects.specs.Reading.{row, word_of};
+ghost use Rattle.capnp_objects.specs.Reading.{segment_read, word_of};
 ghost use Rattle.capnp_objects.specs.Wanted.{Form};
 ghost use Rattle.capnp_readers.specs.Readers.{reading};
 ghost use Rattle.capnp_copies.specs.Growth.{TakesAtMost, TakesForPointers};
@@ -35,7 +35,7 @@ pub(crate) fn copy_children<A: BuilderArena, B: ReaderArena>(
 ) -> Result<(), ErrorKind>
     requires room { at + count ≤ length (segment (A.view arena.old).words id) }
     requires null { (i : ℕ) → i < count → word_at (A.view arena.old).words id (at + i) ≡ 0 }
-    requires inside { from.place.at + count ≤ length (row (reading B.ReaderArena from)) }
+    requires inside { from.place.at + count ≤ length (segment_read (reading B.ReaderArena from)) }
     ensures copied { IfOk result (λ _. CopiesChildren (reading B.ReaderArena from.entry) count
         (change (form_in form) id at (A.view arena.old) (A.view arena.new) lim.old lim.new)) }
     ensures refused { IfErr result
@@ -64,7 +64,7 @@ fn copy_row<A: BuilderArena, B: ReaderArena>(
 ) -> Result<(), ErrorKind>
     requires room { at + count ≤ length (segment (A.view arena.old).words id) }
     requires null { (i : ℕ) → i < count → word_at (A.view arena.old).words id (at + i) ≡ 0 }
-    requires inside { from.place.at + count ≤ length (row (reading B.ReaderArena from)) }
+    requires inside { from.place.at + count ≤ length (segment_read (reading B.ReaderArena from)) }
     ensures copied { IfOk result (λ _. CopiesChildren (reading B.ReaderArena from.entry) count
         (change (form_in form) id at (A.view arena.old) (A.view arena.new) lim.old lim.new)) }
     ensures refused { IfErr result
@@ -91,7 +91,7 @@ pub(crate) fn copy_in_line<A: BuilderArena, B: ReaderArena>(
 ) -> Result<(), ErrorKind>
     requires room { at + count ≤ length (segment (A.view arena.old).words id) }
     requires null { (i : ℕ) → i < count → word_at (A.view arena.old).words id (at + i) ≡ 0 }
-    requires inside { from.place.at + count ≤ length (row (reading B.ReaderArena from)) }
+    requires inside { from.place.at + count ≤ length (segment_read (reading B.ReaderArena from)) }
     ensures copied { IfOk result (λ _. CopiesChildren (reading B.ReaderArena from.entry) count
         (change (form_in form) id at (A.view arena.old) (A.view arena.new) lim.old lim.new)) }
     ensures refused { IfErr result

@@ -1,7 +1,7 @@
 //! The copy of pointers one behind the other, each of which is copied or stays null.
 ghost use Rattle.std.specs.Prelude.{◌≡◌, ℕ, ◌+◌, ◌<◌, ◌≤◌, length, IsOk, IfOk, IfErr};
 ghost use Rattle.capnp_format.specs.Segments.{segment, word_at};
-ghost use Rattle.capnp_objects.specs.Reading.{row};
+ghost use Rattle.capnp_objects.specs.Reading.{segment_read};
 ghost use Rattle.capnp_objects.specs.Wanted.{plain};
 ghost use Rattle.capnp_readers.specs.Readers.{reading};
 ghost use Rattle.capnp_copies.specs.Growth.{TakesForPointers};
@@ -31,7 +31,7 @@ pub fn copy_each<A: BuilderArena, B: ReaderArena>(
 ) -> Result<(), ErrorKind>
     requires room { at + count ≤ length (segment (A.view arena.old).words id) }
     requires null { (i : ℕ) → i < count → word_at (A.view arena.old).words id (at + i) ≡ 0 }
-    requires inside { from.place.at + count ≤ length (row (reading B.ReaderArena from)) }
+    requires inside { from.place.at + count ≤ length (segment_read (reading B.ReaderArena from)) }
     ensures copied { IfOk result (λ _. CopiesChildren (reading B.ReaderArena from.entry) count
         (change plain id at (A.view arena.old) (A.view arena.new) lim.old lim.new)) }
     ensures fits { PointersFit (reading B.ReaderArena from.entry) count

@@ -3,7 +3,7 @@ ghost use Rattle.std.specs.Prelude.{◌≡◌, ℕ, ◌+◌, ◌*◌, ◌<◌, �
 ghost use Rattle.capnp_format.specs.Bytes.{words_of};
 ghost use Rattle.capnp_format.specs.Segments.{segment, word_at};
 ghost use Rattle.capnp_arena.specs.Written.{with_words};
-ghost use Rattle.capnp_objects.specs.Reading.{row};
+ghost use Rattle.capnp_objects.specs.Reading.{segment_read};
 ghost use Rattle.capnp_readers.specs.Readers.{reading};
 ghost use Rattle.capnp_copies.specs.Growth.{TakesNone, TakesForElement, TakesForRows};
 ghost use Rattle.capnp_copies.specs.Changes.{change, CopiesElement, StopsAtElement, CopiesElements, StopsAtElements, KeepsPointers};
@@ -38,7 +38,7 @@ pub(crate) fn copy_elements<A: BuilderArena, B: ReaderArena>(
     requires zero { (i : ℕ) → i < count * (sizes.kept.data_words + sizes.kept.pointers)
         → word_at (A.view arena.old).words to.segment (to.at + i) ≡ 0 }
     requires inside { from.place.at + count * (sizes.source.data_words + sizes.source.pointers)
-        ≤ length (row (reading B.ReaderArena from)) }
+        ≤ length (segment_read (reading B.ReaderArena from)) }
     requires less_data { sizes.kept.data_words ≤ sizes.source.data_words }
     requires less_pointers { sizes.kept.pointers ≤ sizes.source.pointers }
     requires pointers { KeepsPointers (form_in form) (reading B.ReaderArena from) sizes count }
@@ -96,7 +96,7 @@ fn copy_element<A: BuilderArena, B: ReaderArena>(
     requires null { (i : ℕ) → i < sizes.kept.pointers
         → word_at (A.view arena.old).words to.segment (to.at + sizes.kept.data_words + i) ≡ 0 }
     requires inside { from.place.at + (sizes.source.data_words + sizes.source.pointers)
-        ≤ length (row (reading B.ReaderArena from)) }
+        ≤ length (segment_read (reading B.ReaderArena from)) }
     requires less_data { sizes.kept.data_words ≤ sizes.source.data_words }
     requires less_pointers { sizes.kept.pointers ≤ sizes.source.pointers }
     ensures copied { IfOk result (λ _. CopiesElement (reading B.ReaderArena from.entry) sizes

@@ -1,7 +1,7 @@
 //! The copy of lists of pointers and of structs ("Lists", "Canonicalization").
 ghost use Rattle.std.specs.Prelude.{◌≡◌, ◌+◌, ◌*◌, ◌<◌, ◌≤◌, ◌^◌, length, IfOk, IfErr};
 ghost use Rattle.capnp_format.specs.Segments.{word_at, IsPlace};
-ghost use Rattle.capnp_objects.specs.Reading.{row};
+ghost use Rattle.capnp_objects.specs.Reading.{segment_read};
 ghost use Rattle.capnp_readers.specs.Readers.{reading};
 ghost use Rattle.capnp_copies.specs.Growth.{TakesForObject, TakesForStructs};
 ghost use Rattle.capnp_copies.specs.Changes.{change, CopiesPointers, StopsAtPointers, CopiesStructs, StopsAtStructs, KeepsWidths};
@@ -33,7 +33,7 @@ pub(crate) fn copy_pointers<A: BuilderArena, B: ReaderArena>(
     requires place { IsPlace (A.view arena.old).words id at }
     requires null { word_at (A.view arena.old).words id at ≡ 0 }
     requires few { count < 2 ^ 29 }
-    requires inside { from.place.at + count ≤ length (row (reading B.ReaderArena from)) }
+    requires inside { from.place.at + count ≤ length (segment_read (reading B.ReaderArena from)) }
     ensures copied { IfOk result (λ _. CopiesPointers (reading B.ReaderArena from.entry) count
         (change (form_in form) id at (A.view arena.old) (A.view arena.new) lim.old lim.new)) }
     ensures refused { IfErr result
@@ -67,7 +67,7 @@ pub(crate) fn copy_structs<A: BuilderArena, B: ReaderArena>(
     requires few { count < 2 ^ 30 }
     requires words { count * (size.data_words + size.pointers) < 2 ^ 29 }
     requires inside { from.place.at + count * (size.data_words + size.pointers)
-        ≤ length (row (reading B.ReaderArena from)) }
+        ≤ length (segment_read (reading B.ReaderArena from)) }
     ensures copied { IfOk result (λ _. CopiesStructs (reading B.ReaderArena from.entry) size count
         (change (form_in form) id at (A.view arena.old) (A.view arena.new) lim.old lim.new)) }
     ensures refused { IfErr result
@@ -99,7 +99,7 @@ fn kept_widths<B: ReaderArena>(
     form: CopyForm,
 ) -> StructSize
     requires inside { from.place.at + count * (size.data_words + size.pointers)
-        ≤ length (row (reading B.ReaderArena from)) }
+        ≤ length (segment_read (reading B.ReaderArena from)) }
     ensures kept { KeepsWidths (form_in form) (reading B.ReaderArena from.entry) size count result }
     ensures less_data { result.data_words ≤ size.data_words }
     ensures less_pointers { result.pointers ≤ size.pointers }

@@ -1,7 +1,7 @@
 //! The copy of a struct ("Structs", "Canonicalization").
 ghost use Rattle.std.specs.Prelude.{◌≡◌, ◌+◌, ◌≤◌, length, IfOk, IfErr};
 ghost use Rattle.capnp_format.specs.Segments.{word_at, IsPlace};
-ghost use Rattle.capnp_objects.specs.Reading.{row};
+ghost use Rattle.capnp_objects.specs.Reading.{segment_read};
 ghost use Rattle.capnp_readers.specs.Readers.{reading};
 ghost use Rattle.capnp_copies.specs.Growth.{TakesForSections};
 ghost use Rattle.capnp_copies.specs.Changes.{change, CopiesStruct, StopsAtStruct, KeepsSections};
@@ -35,7 +35,7 @@ pub(crate) fn copy_struct<A: BuilderArena, B: ReaderArena>(
 ) -> Result<(), ErrorKind>
     requires place { IsPlace (A.view arena.old).words id at }
     requires inside { from.place.at + (size.data_words + size.pointers)
-        ≤ length (row (reading B.ReaderArena from)) }
+        ≤ length (segment_read (reading B.ReaderArena from)) }
     requires null { word_at (A.view arena.old).words id at ≡ 0 }
     ensures copied { IfOk result (λ _. CopiesStruct (reading B.ReaderArena from.entry) size
         (change (form_in form) id at (A.view arena.old) (A.view arena.new) lim.old lim.new)) }
@@ -76,7 +76,7 @@ fn kept_sections<B: ReaderArena>(
     form: CopyForm,
 ) -> StructSize
     requires inside { from.place.at + (size.data_words + size.pointers)
-        ≤ length (row (reading B.ReaderArena from)) }
+        ≤ length (segment_read (reading B.ReaderArena from)) }
     ensures kept { KeepsSections (form_in form) (reading B.ReaderArena from.entry) size result }
     ensures less_data { result.data_words ≤ size.data_words }
     ensures less_pointers { result.pointers ≤ size.pointers }
@@ -92,7 +92,7 @@ fn kept_sections<B: ReaderArena>(
 #[inline(always)]
 fn used_sections<B: ReaderArena>(from: PointerReader<'_, B>, size: StructSize) -> StructSize
     requires inside { from.place.at + (size.data_words + size.pointers)
-        ≤ length (row (reading B.ReaderArena from)) }
+        ≤ length (segment_read (reading B.ReaderArena from)) }
     ensures { Uses (reading B.ReaderArena from.entry) size result }
 {
     let bytes = from.place.bytes;

@@ -2,7 +2,7 @@
 ghost use Rattle.std.specs.Prelude.{◌≡◌, IsOk, IfOk, IfErr};
 ghost use Rattle.capnp_format.specs.Segments.{IsPlace};
 ghost use Rattle.capnp_builders.specs.Building.{built, calling, IsThere};
-ghost use Rattle.capnp_edits.specs.Sources.{FitsBehind, IsOpened, IsRootless};
+ghost use Rattle.capnp_edits.specs.Sources.{FitsBehind, IsRootReader, IsRootless};
 ghost use Rattle.capnp_edits.specs.Edits.{refusal_of, place_of, refusals_after, CopiesRoot};
 ghost use Rattle.capnp_edits.specs.Steps.{call_to, IsWholeRefused, TakesForWhole};
 
@@ -44,7 +44,7 @@ pub(crate) fn open_source<'a>(
     source: Source<'a>,
 ) -> Result<(SourceReader<'a>, ReadLimiter), ErrorKind>
     ensures found { IfOk result (λ r.
-        IsOpened ⟦<ReaderArenaImpl<SegmentArray<'a>> as ReaderArena>⟧ source.entry r.0 r.1) }
+        IsRootReader ⟦<ReaderArenaImpl<SegmentArray<'a>> as ReaderArena>⟧ source.entry r.0 r.1) }
     ensures refused { IfErr result (IsRootless source.entry) }
 {
     let mut lim = ReadLimiter::new(source.budget);

@@ -6,9 +6,9 @@ ghost use Rattle.capnp_format.specs.Segments.{IsPlace};
 ghost use Rattle.capnp_making.specs.Existing.{is_unfound};
 ghost use Rattle.capnp_words.specs.Sizes.{size_number};
 ghost use Rattle.capnp_readers.specs.Readers.{IsListPlace};
-ghost use Rattle.capnp_readers.specs.Sections.{data_bits, list_words};
+ghost use Rattle.capnp_readers.specs.Sections.{data_bits, elements_words};
 ghost use Rattle.capnp_builders.specs.Elements.{value_bits, WritesElement};
-ghost use Rattle.capnp_builders.specs.Found.{place_of as list_place};
+ghost use Rattle.capnp_builders.specs.Found.{found_list_place as list_place};
 ghost use Rattle.capnp_edits.specs.declared.edit.tasks.Task.TheVariants.{Write};
 ghost use Rattle.capnp_edits.specs.Tasks.{is_in_range, is_number};
 ghost use Rattle.capnp_edits.specs.Edits.{refusal_of, is_of_place, PutsElement, PutsByte};
@@ -40,7 +40,7 @@ fn place_of(list: ExistingList) -> ListPlace
 
 /// How many words the elements of a list take, its tag aside.
 fn words_of(list: ExistingList) -> u64
-    ensures { result ≡ list_words list.size list.count
+    ensures { result ≡ elements_words list.size list.count
         (list.struct_size.data_words + list.struct_size.pointers) }
 {
     let count = u64::from(list.count);

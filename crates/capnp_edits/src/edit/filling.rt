@@ -1,7 +1,7 @@
 //! Changes of a struct, and those that copy the content of a struct of another message.
 ghost use Rattle.std.specs.Prelude.{◌≡◌, ◌+◌, None, true, IsOk, IfOk, IfErr, IfSome};
 ghost use Rattle.capnp_arena.specs.View.{View};
-ghost use Rattle.capnp_making.specs.Existing.{LiesIn};
+ghost use Rattle.capnp_making.specs.Existing.{StructLiesIn};
 ghost use Rattle.capnp_readers.specs.Readers.{IsStructPlace};
 ghost use Rattle.capnp_builders.specs.Places.{IsAligned};
 ghost use Rattle.capnp_builders.specs.Content.{TakesContent, StopsAtContent, ContentFits, TakesForContent as TakesForCopy, pointers_copied};
@@ -9,7 +9,7 @@ ghost use Rattle.capnp_edits.specs.declared.edit.tasks.Task.TheVariants.{InStruc
 ghost use Rattle.capnp_edits.specs.Sources.{ContentFitsBehind};
 ghost use Rattle.capnp_edits.specs.Tasks.{is_in_range};
 ghost use Rattle.capnp_edits.specs.Edits.{refusal_of, sections, FillsAt, refusals_after};
-ghost use Rattle.capnp_edits.specs.Steps.{IsChanged, IsContentRefused, TakesForContent};
+ghost use Rattle.capnp_edits.specs.Steps.{IsChanged, IsContentRefused, TakesForContentFrom};
 
 use crate::edit::Source;
 use crate::edit::copying::open_source;
@@ -25,7 +25,7 @@ use capnp_words::read_limiter::ReadLimiter;
 
 /// Where the sections of a struct are that lies in the message, if it has a word.
 fn sections_of<A: BuilderArena>(arena: &A, parent: ExistingStruct) -> Option<StructPlace>
-    requires { LiesIn (A.view arena.now).words parent }
+    requires { StructLiesIn (A.view arena.now).words parent }
     ensures empty { result ≡ None → parent.size.data_words + parent.size.pointers ≡ 0 }
     ensures place { IfSome result (λ place. place ≡ sections parent) }
     ensures inside { IfSome result (IsStructPlace (A.view arena.now).words) }
@@ -73,14 +73,14 @@ pub(crate) fn fill<A: BuilderArena>(
     parent: ExistingStruct,
     source: Source<'_>,
 ) -> Result<(), ErrorKind>
-    requires { LiesIn (A.view arena.old).words parent }
+    requires { StructLiesIn (A.view arena.old).words parent }
     ensures filled { FillsAt (A.view arena.old).words (A.view arena.new).words
         (sections parent) source.entry (refusal_of result) }
     ensures counted { (A.view arena.new).refusals ≡ refusals_after (refusal_of result)
         (A.view arena.old).refusals }
     ensures named { IfErr result
         (IsContentRefused (A.view arena.old) (A.view arena.new) (sections parent) source.entry) }
-    ensures taken { TakesForContent (A.view arena.old) (A.view arena.new)
+    ensures taken { TakesForContentFrom (A.view arena.old) (A.view arena.new)
         (sections parent) source.entry (refusal_of result) }
     ensures fits { ContentFitsBehind (A.view arena.old) parent.segment source.entry
         parent.size.pointers → IsOk result }
@@ -105,7 +105,7 @@ pub(crate) fn change_struct<A: BuilderArena>(
     parent: ExistingStruct,
     change: StructChange<'_>,
 ) -> Result<(), ErrorKind>
-    requires inside { LiesIn (A.view arena.old).words parent }
+    requires inside { StructLiesIn (A.view arena.old).words parent }
     requires range { is_in_range (InStruct change) ≡ true }
     ensures { IsChanged (A.view arena.old) (A.view arena.new) parent change.entry
         (refusal_of result) }

@@ -3,7 +3,7 @@ ghost use Rattle.std.specs.Prelude.{◌≡◌, ◌↔◌, ◌≤◌, ◌<◌, �
 ghost use Rattle.capnp_format.specs.Segments.{segment, IsPlace};
 ghost use Rattle.capnp_format.specs.Tree.{Tree};
 ghost use Rattle.capnp_making.specs.Stored.{IsStored};
-ghost use Rattle.capnp_edits.specs.Paths.{step_of, path_of, IsFound, LieThere, LieThereIf, Steps, child_in, element_in};
+ghost use Rattle.capnp_edits.specs.Paths.{step_of, path_of, IsPathFound, PlaceLiesIn, LieThereIf, Steps, child_in, element_in};
 
 use crate::edit::Step;
 use capnp_arena::arena::BuilderArena;
@@ -36,7 +36,7 @@ pub(crate) fn has_words<A: BuilderArena>(arena: &A, id: u32, words: u64) -> bool
 fn child_of<A: BuilderArena>(arena: &A, parent: ExistingStruct, i: u16) -> Option<Place>
     ensures exactly { LieThereIf (A.view arena.now).words (child_in parent i)
         → result ≡ child_in parent i }
-    ensures inside { IfSome result (LieThere (A.view arena.now).words) }
+    ensures inside { IfSome result (PlaceLiesIn (A.view arena.now).words) }
 {
     let at = u64::from(parent.start) + u64::from(parent.size.data_words) + u64::from(i);
     if i < parent.size.pointers && has_words(arena, parent.segment, at + 1) {
@@ -53,7 +53,7 @@ fn child_of<A: BuilderArena>(arena: &A, parent: ExistingStruct, i: u16) -> Optio
 fn element_of<A: BuilderArena>(arena: &A, list: ExistingList, i: u32) -> Option<Place>
     ensures exactly { LieThereIf (A.view arena.now).words (element_in list i)
         → result ≡ element_in list i }
-    ensures inside { IfSome result (LieThere (A.view arena.now).words) }
+    ensures inside { IfSome result (PlaceLiesIn (A.view arena.now).words) }
 {
     match list.size {
         ElementSize::Pointer => {
@@ -87,7 +87,7 @@ fn element_of<A: BuilderArena>(arena: &A, list: ExistingList, i: u32) -> Option<
 /// Where a step leads from a place, if anywhere.
 fn step_from<A: BuilderArena>(arena: &A, here: Place, step: Step) -> Option<Place>
     ensures steps { Steps (A.view arena.now).words here (step_of step) result }
-    ensures inside { IfSome result (LieThere (A.view arena.now).words) }
+    ensures inside { IfSome result (PlaceLiesIn (A.view arena.now).words) }
 {
     match (here, step) {
         (Place::Pointer(place), Step::Child(i)) => {
@@ -111,8 +111,8 @@ fn step_from<A: BuilderArena>(arena: &A, here: Place, step: Step) -> Option<Plac
 pub(crate) fn find<A: BuilderArena>(arena: &A, path: &[Step]) -> Option<Place>
     requires { IsPlace (A.view arena.now).words 0 0 }
     ensures found { (t : Tree) → IsStored (A.view arena.now).words 0 0 t
-        → IsFound (A.view arena.now).words 0 0 t (path_of path.now) result }
-    ensures inside { IfSome result (LieThere (A.view arena.now).words) }
+        → IsPathFound (A.view arena.now).words 0 0 t (path_of path.now) result }
+    ensures inside { IfSome result (PlaceLiesIn (A.view arena.now).words) }
 {
     let mut here = Place::Pointer(PointerPlace {
         segment: 0,

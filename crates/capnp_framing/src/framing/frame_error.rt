@@ -1,6 +1,6 @@
 //! Why a frame isn't written or read.
 ghost use Rattle.std.specs.Prelude.{◌≡◌, Some};
-ghost use Rattle.capnp_framing.specs.Names.{name_of, text_of};
+ghost use Rattle.capnp_framing.specs.Names.{frame_error_name, frame_error_text};
 
 use std::fmt;
 use thiserror::Error;
@@ -28,7 +28,7 @@ pub enum FrameError {
 impl FrameError {
     /// The variant's name, without the number.
     pub fn name(&self) -> &'static str
-        ensures { result.now ≡ name_of self.now }
+        ensures { result.now ≡ frame_error_name self.now }
     {
         match self {
             FrameError::NoSegments => "NoSegments",
@@ -43,7 +43,7 @@ impl FrameError {
 }
 
 impl fmt::Display for FrameError {
-    ghost output = { λ e. Some (text_of e) };
+    ghost output = { λ e. Some (frame_error_text e) };
 
     fn fmt<W: fmt::Write>(&self, f: &mut fmt::Formatter<W>) -> fmt::Result {
         match self {

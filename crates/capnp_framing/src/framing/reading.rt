@@ -4,7 +4,7 @@ ghost use Rattle.std.specs.Int.{from_le_bytes, w32};
 ghost use Rattle.std.specs.Io.KnownBytes.{Consumes, IsAtEnd};
 ghost use Rattle.capnp_format.specs.Bytes.{message, words_of};
 ghost use Rattle.capnp_arena.specs.Limits.{IsSmall};
-ghost use Rattle.capnp_framing.specs.Frames.{AreWords, bytes_of_words, contents, lengths};
+ghost use Rattle.capnp_framing.specs.Frames.{AreSegmentWords, bytes_of_words, contents, lengths};
 ghost use Rattle.capnp_framing.specs.Reading.{IsFrameRead, NoFrame, WhyUnread, max_length, total, words_told};
 ghost use Rattle.capnp_framing.specs.declared.framing.frame_error.FrameError.TheVariants.{AllocationFailed, ReadFailed, Truncated};
 
@@ -127,7 +127,7 @@ fn are_bytes(bytes: &[u8])
 fn are_words(bytes: &[u8])
     requires { length bytes.now % 8 ≡ 0 }
     ensures bytes { bytes_of_words (words_of bytes.now) ≡ bytes.now }
-    ensures words { AreWords (words_of bytes.now) }
+    ensures words { AreSegmentWords (words_of bytes.now) }
     ensures count { 8 * length (words_of bytes.now) ≡ length bytes.now }
 {}
 
@@ -146,7 +146,7 @@ fn read_segments<R: Input>(
     ensures lengths { IfOk result (λ v. lengths (message (map vec_items v.items))
         ≡ take (4 * count) table.now) }
     ensures count { IfOk result (λ v. length (message (map vec_items v.items)) ≡ count) }
-    ensures words { IfOk result (λ v. All AreWords (message (map vec_items v.items))) }
+    ensures words { IfOk result (λ v. All AreSegmentWords (message (map vec_items v.items))) }
     ensures short { IfOk result (λ v. All (λ ws. length ws < 2 ^ 32)
         (message (map vec_items v.items))) }
     ensures total { IfOk result (λ v. total (message (map vec_items v.items))

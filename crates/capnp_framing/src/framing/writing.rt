@@ -4,7 +4,7 @@ ghost use Rattle.std.specs.Int.{to_le_bytes, w32};
 ghost use Rattle.capnp_format.specs.Bytes.{message, words_of};
 ghost use Rattle.capnp_format.specs.Segments.{segment};
 ghost use Rattle.capnp_arena.specs.Limits.{IsSmall};
-ghost use Rattle.capnp_framing.specs.Frames.{CanBeFramed, AreWords, bytes_of_words, contents, frame, lengths, max_segments, padding_size};
+ghost use Rattle.capnp_framing.specs.Frames.{CanBeFramed, AreSegmentWords, bytes_of_words, contents, frame, lengths, max_frame_segments, padding_size};
 ghost use Rattle.capnp_framing.specs.Reading.{IsRefusedNumber};
 ghost use Rattle.capnp_framing.specs.Writing.{IsUnwritten, Prints};
 ghost use Rattle.capnp_framing.specs.declared.framing.frame_error.FrameError.TheVariants.{WriteFailed};
@@ -46,7 +46,7 @@ fn put_table<S: ReaderSegments>(segments: &S, count: u32, to: &mut [u8])
     requires small { IsSmall (S.segments segments.now) }
     requires count { count ≡ length (S.segments segments.now) }
     requires some { 1 ≤ count }
-    requires few { count ≤ max_segments }
+    requires few { count ≤ max_frame_segments }
     requires zeros { to.old ≡ replicate 2056 0 }
     ensures { to.new ≡ to_le_bytes w32 (count - 1)
         ++ (lengths (message (S.segments segments.now)) ++ replicate (2052 - 4 * count) 0) }
@@ -68,7 +68,7 @@ fn write_table<W: Output, S: ReaderSegments>(
     requires small { IsSmall (S.segments segments.now) }
     requires count { count ≡ length (S.segments segments.now) }
     requires some { 1 ≤ count }
-    requires few { count ≤ max_segments }
+    requires few { count ≤ max_frame_segments }
     ensures written { OnOk result (Prints W.Output output.old output.new
         (to_le_bytes w32 (count - 1)
         ++ (lengths (message (S.segments segments.now)) ++ replicate (padding_size count) 0))) }
@@ -86,7 +86,7 @@ fn write_words<W: Output>(output: &mut W, words: &[u8]) -> Result<(), DeviceFaul
     requires whole { length words.now ≡ 8 * length (words_of words.now) }
     ensures written { OnOk result (Prints W.Output output.old output.new
         (bytes_of_words (words_of words.now))) }
-    ensures words { AreWords (words_of words.now) }
+    ensures words { AreSegmentWords (words_of words.now) }
     ensures works { OnOk result (W.has_failed output.new ≡ false) }
     ensures fails { OnErr result (W.has_failed output.new ≡ true) }
 {
@@ -104,7 +104,7 @@ fn write_contents<W: Output, S: ReaderSegments>(
     requires count { count ≡ length (S.segments segments.now) }
     ensures written { OnOk result (Prints W.Output output.old output.new
         (contents (message (S.segments segments.now)))) }
-    ensures words { OnOk result (All AreWords (message (S.segments segments.now))) }
+    ensures words { OnOk result (All AreSegmentWords (message (S.segments segments.now))) }
     ensures works { OnOk result (W.has_failed output.new ≡ false) }
     ensures fails { OnErr result (W.has_failed output.new ≡ true) }
 {

@@ -4,8 +4,8 @@ ghost use Rattle.capnp_words.specs.Meter.{spent};
 ghost use Rattle.capnp_format.specs.Bytes.{message};
 ghost use Rattle.capnp_objects.specs.Source.{levels};
 ghost use Rattle.capnp_readers.specs.Readers.{reading};
-ghost use Rattle.capnp_layout.specs.Answers.{CoversRoot, RefusesRoot, root_of};
-ghost use Rattle.capnp_layout.specs.CanonicalMessages.{CanBeTested, IsCanonical, IsPaid, MessageTestFails, RefusesTest};
+ghost use Rattle.capnp_layout.specs.Answers.{CoversRoot, RefusesRoot, message_root};
+ghost use Rattle.capnp_layout.specs.CanonicalMessages.{CanBeTested, IsCanonicalMessage, IsPaid, MessageTestFails, RefusesTest};
 
 use capnp_arena::arena::{ReaderArena, ReaderArenaImpl, ReaderSegments};
 use capnp_readers::readers::PointerReader;
@@ -27,7 +27,7 @@ fn read_root<'a, S: ReaderSegments>(
     ensures exactly { IsOk result ↔ CoversRoot
         (message (⟦<ReaderArenaImpl<S> as ReaderArena>⟧.segments arena.now)) lim.old.left }
     ensures place { IfOk result (λ root. reading ⟦<ReaderArenaImpl<S> as ReaderArena>⟧ root
-        ≡ root_of (message (⟦<ReaderArenaImpl<S> as ReaderArena>⟧.segments arena.now))
+        ≡ message_root (message (⟦<ReaderArenaImpl<S> as ReaderArena>⟧.segments arena.now))
         (levels arena.now.nesting_limit)) }
     ensures charged { OnOk result (lim.new ≡ spent lim.old 1) }
     ensures refused { IfErr result
@@ -45,7 +45,7 @@ fn is_canonical_segment<S: ReaderSegments>(
 ) -> Result<bool, ErrorKind>
     requires { length (⟦<ReaderArenaImpl<S> as ReaderArena>⟧.segments arena.now) ≡ 1 }
     ensures exactly { IfOk result (λ yes. IsTrue yes
-        ↔ IsCanonical (message (⟦<ReaderArenaImpl<S> as ReaderArena>⟧.segments arena.now))) }
+        ↔ IsCanonicalMessage (message (⟦<ReaderArenaImpl<S> as ReaderArena>⟧.segments arena.now))) }
     ensures paid { result ≡ Ok true →
         IsPaid (message (⟦<ReaderArenaImpl<S> as ReaderArena>⟧.segments arena.now))
         lim.old lim.new }
@@ -83,7 +83,7 @@ pub fn is_canonical_message<S: ReaderSegments>(
     lim: &mut ReadLimiter,
 ) -> Result<bool, ErrorKind>
     ensures exactly { IfOk result (λ yes. IsTrue yes
-        ↔ IsCanonical (message (⟦<ReaderArenaImpl<S> as ReaderArena>⟧.segments arena.now))) }
+        ↔ IsCanonicalMessage (message (⟦<ReaderArenaImpl<S> as ReaderArena>⟧.segments arena.now))) }
     ensures unread { (length (⟦<ReaderArenaImpl<S> as ReaderArena>⟧.segments arena.now) ≡ 1 → ⊥)
         → (result ≡ Ok false) × (lim.new ≡ lim.old) }
     ensures paid { result ≡ Ok true →

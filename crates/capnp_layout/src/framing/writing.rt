@@ -10,7 +10,7 @@ ghost use Rattle.capnp_framing.specs.Writing.{IsUnwritten, Prints};
 ghost use Rattle.capnp_framing.specs.declared.framing.frame_error.FrameError.{FrameError};
 ghost use Rattle.capnp_framing.specs.declared.framing.frame_error.FrameError.TheVariants.{WriteFailed};
 ghost use Rattle.capnp_readers.specs.Readers.{reading};
-ghost use Rattle.capnp_layout.specs.Answers.{IsRead, RefusesCopy};
+ghost use Rattle.capnp_layout.specs.Answers.{IsReadWithin, RefusesCopy};
 ghost use Rattle.capnp_layout.specs.CanonicalErrors.{IsLeftOf};
 
 use super::canonical_error::CanonicalError;
@@ -83,7 +83,7 @@ pub fn write_canonical<W: Output, B: ReaderArena>(
 ) -> Result<(), CanonicalError>
     requires { W.has_failed output.old ≡ false }
     ensures written { OnOk result ((t : Tree)
-        × IsRead (reading B.ReaderArena from.entry) lim.old.left lim.new.left t
+        × IsReadWithin (reading B.ReaderArena from.entry) lim.old.left lim.new.left t
         × Prints W.Output output.old output.new (frame (encoding (trim t) ∷ []))) }
     ensures works { OnOk result (W.has_failed output.new ≡ false) }
     ensures layout { IfErr result (λ e. (k : ErrorKind) → e ≡ CanonicalError.Layout k →

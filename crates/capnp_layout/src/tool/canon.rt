@@ -12,7 +12,8 @@ ghost use Rattle.capnp_objects.specs.Source.{levels};
 ghost use Rattle.capnp_objects.specs.Wanted.{canonical};
 ghost use Rattle.capnp_readers.specs.Readers.{reading};
 ghost use Rattle.capnp_copies.specs.Rooms.{IsTooLarge};
-ghost use Rattle.capnp_layout.specs.Answers.{IsAloneOr, IsMade, IsMadeWhereAlone, IsWantOfRoom, IsRead, LacksMemoryOr, RefusesCopy, RefusesCopyAnywhere, RefusesMessage, ValueOf, is_message_too_large, root_of};
+ghost use Rattle.capnp_edits.specs.Edits.{IsOfMemory};
+ghost use Rattle.capnp_layout.specs.Answers.{IsAloneOr, HoldsCanonicalWords, IsMadeWhereAlone, IsReadWithin, LacksMemoryOr, RefusesCopy, RefusesCopyAnywhere, RefusesMessage, ValueOf, is_message_too_large, message_root};
 ghost use Rattle.capnp_layout.specs.Messages.{segments_in};
 ghost use Rattle.capnp_layout.specs.Tries.{IsMadeByFirstTry, room_of_try};
 ghost use Rattle.capnp_framing.specs.Reading.{total};
@@ -31,7 +32,7 @@ use std::alloc::Global;
 
 /// Whether a refusal says that there is no room, or no memory for more.
 fn is_want_of_room(kind: ErrorKind) -> bool
-    ensures { IsTrue result ↔ IsWantOfRoom kind }
+    ensures { IsTrue result ↔ IsOfMemory kind }
 {
     matches!(
         kind,
@@ -49,7 +50,7 @@ fn copy_root<A: BuilderArena, B: ReaderArena>(
 ) -> Result<Option<usize>, ErrorKind>
     requires root { (A.view arena.old).words ≡ (0 ∷ []) ∷ [] }
     ensures copied { IfOk result (λ after. (t : Tree)
-        × IsRead (reading B.ReaderArena from.entry) left after t
+        × IsReadWithin (reading B.ReaderArena from.entry) left after t
         × IsMadeWhereAlone (A.view arena.new) t) }
     ensures room { OnOk result ((A.view arena.new).room 0 ≡ (A.view arena.old).room 0) }
     ensures alone { OnOk result (IsAloneOr (A.view arena.new)
@@ -76,8 +77,8 @@ fn copy_to_segment<A: Allocator, B: ReaderArena>(
     requires root { (⟦<BuilderArenaImpl<A> as BuilderArena>⟧.view arena.old).words ≡ (0 ∷ []) ∷ [] }
     requires room { room ≤ (⟦<BuilderArenaImpl<A> as BuilderArena>⟧.view arena.old).room 0 }
     ensures copied { IfOk result (λ after. (t : Tree)
-        × IsRead (reading B.ReaderArena from.entry) left after t
-        × IsMade (⟦<BuilderArenaImpl<A> as BuilderArena>⟧.view arena.new) t) }
+        × IsReadWithin (reading B.ReaderArena from.entry) left after t
+        × HoldsCanonicalWords (⟦<BuilderArenaImpl<A> as BuilderArena>⟧.view arena.new) t) }
     ensures room { OnOk result ((⟦<BuilderArenaImpl<A> as BuilderArena>⟧.view arena.new).room 0
         ≡ (⟦<BuilderArenaImpl<A> as BuilderArena>⟧.view arena.old).room 0) }
     ensures refused { IfErr result (RefusesCopy (reading B.ReaderArena from.entry) left room) }
@@ -148,8 +149,8 @@ fn copy_to_message<A: Allocator, B: ReaderArena>(
     requires some { 1 ≤ room }
     requires most { room ≤ max_segment_words }
     ensures copied { IfOk result (λ x. (t : Tree)
-        × IsRead (reading B.ReaderArena from.entry) left x.1 t
-        × IsMade (⟦<BuilderArenaImpl<A> as BuilderArena>⟧.view x.0) t) }
+        × IsReadWithin (reading B.ReaderArena from.entry) left x.1 t
+        × HoldsCanonicalWords (⟦<BuilderArenaImpl<A> as BuilderArena>⟧.view x.0) t) }
     ensures asked { IfOk result (λ x.
         IsTrue (A.offers allocator room
         ((⟦<BuilderArenaImpl<A> as BuilderArena>⟧.view x.0).room 0))) }
@@ -207,8 +208,8 @@ pub(crate) fn copy_in_tries<A: Allocator, B: ReaderArena>(
     words: usize,
 ) -> Result<(BuilderArenaImpl<A>, Option<usize>), (ErrorKind, A)>
     ensures copied { IfOk result (λ x. (t : Tree)
-        × IsRead (reading B.ReaderArena from.entry) left x.1 t
-        × IsMade (⟦<BuilderArenaImpl<A> as BuilderArena>⟧.view x.0) t) }
+        × IsReadWithin (reading B.ReaderArena from.entry) left x.1 t
+        × HoldsCanonicalWords (⟦<BuilderArenaImpl<A> as BuilderArena>⟧.view x.0) t) }
     ensures tries { IfOk result (λ x. IsMadeByFirstTry (reading B.ReaderArena from.entry) words
         (A.offers allocator)
         ((⟦<BuilderArenaImpl<A> as BuilderArena>⟧.view x.0).room 0)) }
@@ -243,8 +244,8 @@ fn make_in_tries<A: Allocator, B: ReaderArena>(
     words: usize,
 ) -> Result<BuilderArenaImpl<A>, (ErrorKind, A)>
     ensures copied { IfOk result (λ made. (after : Option ℕ) × (t : Tree)
-        × IsRead (reading B.ReaderArena from.entry) left after t
-        × IsMade (⟦<BuilderArenaImpl<A> as BuilderArena>⟧.view made) t) }
+        × IsReadWithin (reading B.ReaderArena from.entry) left after t
+        × HoldsCanonicalWords (⟦<BuilderArenaImpl<A> as BuilderArena>⟧.view made) t) }
     ensures tries { IfOk result (λ made. IsMadeByFirstTry (reading B.ReaderArena from.entry) words
         (A.offers allocator)
         ((⟦<BuilderArenaImpl<A> as BuilderArena>⟧.view made).room 0)) }
@@ -270,9 +271,10 @@ pub(crate) fn canonical<A: Allocator>(
 ) -> Result<BuilderArenaImpl<A>, (ErrorKind, A)>
     ensures small { OnOk result (IsSmall (segments_in source)) }
     ensures value { IfOk result (λ made. (t : Tree) × ValueOf (segments_in source) options t
-        × IsMade (⟦<BuilderArenaImpl<A> as BuilderArena>⟧.view made) t) }
+        × HoldsCanonicalWords (⟦<BuilderArenaImpl<A> as BuilderArena>⟧.view made) t) }
     ensures tries { IfOk result (λ made.
-        IsMadeByFirstTry (root_of (message (segments_in source)) (levels options.nesting_limit))
+        IsMadeByFirstTry (message_root (message (segments_in source))
+        (levels options.nesting_limit))
         (total (message (segments_in source)))
         (A.offers allocator) ((⟦<BuilderArenaImpl<A> as BuilderArena>⟧.view made).room 0)) }
     ensures granted { IfOk result (λ made.

@@ -6,7 +6,7 @@ ghost use Rattle.capnp_layout.specs.Lines.{segments_of};
 ghost use Rattle.capnp_layout.specs.Messages.{segments_in};
 ghost use Rattle.capnp_arena.specs.Limits.{IsSmall};
 ghost use Rattle.capnp_words.specs.declared.error.ErrorKind.TheVariants.{AllocationFailed};
-ghost use Rattle.capnp_layout.specs.Answers.{AnswersWords, IsDone, IsDoneOr, IsRefused, LacksMemoryOr, RefusesMessage, ValueOf, canonical_line, digits_of};
+ghost use Rattle.capnp_layout.specs.Answers.{AnswersWords, IsDone, IsDoneOr, IsRefusedOutcome, LacksMemoryOr, RefusesMessage, ValueOf, canonical_line, digits_of};
 ghost use Rattle.capnp_layout.specs.Commands.{Answers, AnswersRefusal, IsWithin, NamesRefusal, WantsMemory, WhereAnswered};
 ghost use Rattle.capnp_layout.specs.Refusals.{refusal_line};
 ghost use Rattle.capnp_framing.specs.Writing.{Prints};
@@ -258,8 +258,8 @@ pub fn run_with<A: Allocator, R: Input, W: Output>(
         (A.refusals result.1) (Prints W.Output output.old output.new) }
     ensures exactly { WhereItIsAnswered (R.remaining input.old) args.now
         (IsDone result.0 ⊎ (R.has_failed input.new ≡ true) ⊎ (W.has_failed output.new ≡ true)
-        ⊎ IsRefused result.0) }
-    ensures memory { IsRefused result.0 → WhereItIsAnswered (R.remaining input.old) args.now
+        ⊎ IsRefusedOutcome result.0) }
+    ensures memory { IsRefusedOutcome result.0 → WhereItIsAnswered (R.remaining input.old) args.now
         (WantsMemory (A.refusals allocator) (A.refusals result.1)
         (Prints W.Output output.old output.new)) }
     ensures input { result.0 ≡ Outcome.BadInput → (R.has_failed input.new ≡ true)
@@ -318,8 +318,8 @@ pub fn run<R: Input, W: Output>(
         → WritesRefusal (R.remaining input.old) args.now (Prints W.Output output.old output.new) }
     ensures exactly { WhereItIsAnswered (R.remaining input.old) args.now
         (IsDone result ⊎ (R.has_failed input.new ≡ true) ⊎ (W.has_failed output.new ≡ true)
-        ⊎ IsRefused result) }
-    ensures memory { IsRefused result → WhereItIsAnswered (R.remaining input.old) args.now
+        ⊎ IsRefusedOutcome result) }
+    ensures memory { IsRefusedOutcome result → WhereItIsAnswered (R.remaining input.old) args.now
         (Prints W.Output output.old output.new (refusal_line (Refusal.Layout AllocationFailed))) }
     ensures input { result ≡ Outcome.BadInput → (R.has_failed input.new ≡ true)
         ⊎ IsBadInput (R.remaining input.old) args.now }

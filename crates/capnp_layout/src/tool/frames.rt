@@ -5,7 +5,7 @@ ghost use Rattle.hex.specs.Hex.{encode_lower};
 ghost use Rattle.capnp_format.specs.Bytes.{message, words_of};
 ghost use Rattle.capnp_format.specs.Segments.{segment};
 ghost use Rattle.capnp_arena.specs.Limits.{IsSmall};
-ghost use Rattle.capnp_framing.specs.Frames.{contents, lengths, max_segments, padding_size};
+ghost use Rattle.capnp_framing.specs.Frames.{contents, lengths, max_frame_segments, padding_size};
 ghost use Rattle.capnp_framing.specs.Writing.{Prints};
 ghost use Rattle.capnp_layout.specs.Commands.{frame_line, segment_lines};
 
@@ -63,7 +63,7 @@ fn write_lengths<W: Output, S: ReaderSegments>(
 /// Writes the padding behind so many lengths, which is zero.
 fn write_padding<W: Output>(output: &mut W, count: u32) -> Result<(), DeviceFault>
     requires works { W.has_failed output.old ≡ false }
-    requires few { count ≤ max_segments }
+    requires few { count ≤ max_frame_segments }
     ensures written { OnOk result (Prints W.Output output.old output.new
         (encode_lower (replicate (padding_size count) 0))) }
     ensures works { OnOk result (W.has_failed output.new ≡ false) }
@@ -104,7 +104,7 @@ pub(crate) fn write_frame<W: Output, S: ReaderSegments>(
     requires works { W.has_failed output.old ≡ false }
     requires small { IsSmall (S.segments segments.now) }
     requires some { 1 ≤ length (S.segments segments.now) }
-    requires few { length (S.segments segments.now) ≤ max_segments }
+    requires few { length (S.segments segments.now) ≤ max_frame_segments }
     ensures written { OnOk result (Prints W.Output output.old output.new
         (frame_line (message (S.segments segments.now)))) }
     ensures works { OnOk result (W.has_failed output.new ≡ false) }

@@ -6,7 +6,7 @@ ghost use Rattle.capnp_format.specs.Bytes.{message};
 ghost use Rattle.capnp_arena.specs.Limits.{IsSmall};
 ghost use Rattle.capnp_objects.specs.Source.{levels};
 ghost use Rattle.capnp_readers.specs.Readers.{reading};
-ghost use Rattle.capnp_layout.specs.Answers.{CoversRoot, RefusesRoot, root_of};
+ghost use Rattle.capnp_layout.specs.Answers.{CoversRoot, RefusesRoot, message_root};
 ghost use Rattle.capnp_layout.specs.Messages.{segments_in};
 
 use super::lines::Message;
@@ -40,7 +40,7 @@ pub(crate) fn read_root<'a>(
     ensures exactly { IsOk result ↔ CoversRoot
         (message (⟦<MessageArena as ReaderArena>⟧.segments arena.now)) budget }
     ensures place { IfOk result (λ x. reading ⟦<MessageArena as ReaderArena>⟧ x.0
-        ≡ root_of (message (⟦<MessageArena as ReaderArena>⟧.segments arena.now))
+        ≡ message_root (message (⟦<MessageArena as ReaderArena>⟧.segments arena.now))
         (levels arena.now.nesting_limit)) }
     ensures left { IfOk result (λ x. x.1 ≡ unused (less budget 1)) }
     ensures refused { IfErr result

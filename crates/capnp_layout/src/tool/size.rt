@@ -1,7 +1,7 @@
 //! How many words and capabilities a message has.
 ghost use Rattle.std.specs.Prelude.{◌↔◌, IsOk, IfOk, IfErr};
 ghost use Rattle.capnp_arena.specs.Limits.{IsSmall};
-ghost use Rattle.capnp_layout.specs.Answers.{IsSized, RefusesMessage, SizeOf};
+ghost use Rattle.capnp_layout.specs.Answers.{HasSizeWithin, RefusesMessage, SizeOf};
 ghost use Rattle.capnp_layout.specs.Messages.{segments_in};
 
 use super::args::Args;
@@ -14,7 +14,7 @@ use capnp_words::error::ErrorKind;
 /// The words and capabilities that the root of a message leads to, without landing pads.
 pub(crate) fn size_of(source: Message, options: ReaderOptions) -> Result<MessageSize, ErrorKind>
     ensures exactly { IsOk result ↔ IsSmall (segments_in source)
-        × IsSized (segments_in source) options }
+        × HasSizeWithin (segments_in source) options }
     ensures size { IfOk result (λ z. SizeOf (segments_in source) options z.word_count z.cap_count) }
     ensures refused { IfErr result (RefusesMessage (segments_in source) (Args.Size options)) }
 {

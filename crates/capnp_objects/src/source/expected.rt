@@ -6,7 +6,7 @@ ghost use Rattle.capnp_objects.specs.declared.object.Purpose.TheVariants.{Value}
 ghost use Rattle.capnp_objects.specs.Source.{source_segments, source_charging};
 ghost use Rattle.capnp_objects.specs.Reading.{reading_at};
 ghost use Rattle.capnp_objects.specs.Objects.{IsObject, IsHeld, IsFew};
-ghost use Rattle.capnp_objects.specs.Landings.{target, IsOpened};
+ghost use Rattle.capnp_objects.specs.Landings.{landing_target, IsOpened};
 ghost use Rattle.capnp_objects.specs.Expected.{too_deep, another_kind, narrow_elements, narrow_structs, one_level, CanBeGiven, IsGiven, Withheld};
 ghost use Rattle.capnp_objects.specs.Entering.{object_misfit, place_byte, IsAtHand, IsFitting, IsUnsuited};
 
@@ -76,12 +76,14 @@ impl<'a, A: ReaderArena> Source<'a, A> {
     ) -> Result<Object<'a>, ErrorKind>
         requires held { IsHeld (source_segments A.segments self) landing.start }
         ensures object { IfOk result (IsOpened Value (source_segments A.segments self.entry)
-            (source_charging A.charging self.entry) 1 (target landing.entry) lim.old lim.new) }
-        ensures fits { IfOk result (IsFitting expected (target landing.entry)) }
+            (source_charging A.charging self.entry) 1 (landing_target landing.entry) lim.old
+            lim.new) }
+        ensures fits { IfOk result (IsFitting expected (landing_target landing.entry)) }
         ensures few { IfOk result IsFew }
         ensures refused { IfErr result
             (IsUnsuited expected (source_segments A.segments self.entry)
-            (source_charging A.charging self.entry) (target landing.entry) lim.old lim.new) }
+            (source_charging A.charging self.entry) (landing_target landing.entry)
+            lim.old lim.new) }
     {
         match name_of_kind(expected, landing.word) {
             Some(kind) => return Err(kind),

@@ -4,11 +4,11 @@ ghost use Rattle.capnp_format.specs.Bytes.{words_of};
 ghost use Rattle.capnp_format.specs.Word.{kind};
 ghost use Rattle.capnp_format.specs.Numbers.{words_for};
 ghost use Rattle.capnp_words.specs.Sizes.{size_number};
-ghost use Rattle.capnp_objects.specs.Reading.{row, word_of};
+ghost use Rattle.capnp_objects.specs.Reading.{segment_read, word_of};
 ghost use Rattle.capnp_objects.specs.Source.{levels};
 ghost use Rattle.capnp_readers.specs.Readers.{reading};
 ghost use Rattle.capnp_readers.specs.Sizes.{reading_on};
-ghost use Rattle.capnp_readers.specs.Checking.{progress, refusal_name, IsFound, ArePointersFound, IsCanonicalAt, IsTested, StartsRight, Tells, TellsAll, TellsFlat, TellsStruct, TellsRows, TellsClaimed, TestStops, TestsStop, StructTestStops, RowTestsStop, PointerTestsStop, TestFails, TestsFail, SectionsFail, RowsFail, ClaimedFails, StructTestFails, StartsWhole, IsCanonicalStruct, IsDataUsed, ArePointersUsed, head_behind};
+ghost use Rattle.capnp_readers.specs.Checking.{progress, level_refusal_name, IsFound, ArePointersFound, IsCanonicalAt, IsTested, StartsRight, Tells, TellsAll, TellsFlat, TellsStruct, TellsRows, TellsClaimed, TestStops, TestsStop, StructTestStops, RowTestsStop, PointerTestsStop, TestFails, TestsFail, SectionsFail, RowsFail, ClaimedFails, StructTestFails, StartsWhole, IsCanonicalStruct, IsDataUsed, ArePointersUsed, head_behind};
 
 use crate::readers::{PointerReader, StructReader};
 use capnp_arena::arena::ReaderArena;
@@ -245,7 +245,7 @@ fn test_children<A: ReaderArena>(
     first: u32,
     lim: &mut ReadLimiter,
 ) -> Result<Option<u32>, ErrorKind>
-    requires inside { at + count ≤ length (row (reading A.ReaderArena from.now)) }
+    requires inside { at + count ≤ length (segment_read (reading A.ReaderArena from.now)) }
     ensures tells { IfOk result (TellsAll (reading_on A.ReaderArena from.now at nesting_limit) count
         (progress first lim.old) lim.new) }
     ensures refused { IfErr result
@@ -319,7 +319,7 @@ fn test_sections<A: ReaderArena>(
     lim: &mut ReadLimiter,
 ) -> Result<Option<u32>, ErrorKind>
     requires inside { start + (size.data_words + size.pointers)
-        ≤ length (row (reading A.ReaderArena from.now)) }
+        ≤ length (segment_read (reading A.ReaderArena from.now)) }
     ensures tells { IfOk result (TellsStruct (reading_on A.ReaderArena from.now start nesting_limit)
         size lim.old lim.new) }
     ensures refused { IfErr result
@@ -400,7 +400,7 @@ fn test_structs<A: ReaderArena>(
     claimed: u32,
     lim: &mut ReadLimiter,
 ) -> Result<Option<u32>, ErrorKind>
-    requires inside { start + claimed ≤ length (row (reading A.ReaderArena from.now)) }
+    requires inside { start + claimed ≤ length (segment_read (reading A.ReaderArena from.now)) }
     ensures tells { IfOk result (TellsClaimed
         (reading_on A.ReaderArena from.now start nesting_limit) size count claimed
         lim.old lim.new) }
@@ -433,7 +433,7 @@ fn test_rows<A: ReaderArena>(
     lim: &mut ReadLimiter,
 ) -> Result<Option<u32>, ErrorKind>
     requires inside { start + count * (size.data_words + size.pointers)
-        ≤ length (row (reading A.ReaderArena from.now)) }
+        ≤ length (segment_read (reading A.ReaderArena from.now)) }
     ensures tells { IfOk result (TellsRows (reading_on A.ReaderArena from.now start nesting_limit)
         size count (progress (start + count * (size.data_words + size.pointers)) lim.old) lim.new) }
     ensures refused { IfErr result
@@ -478,7 +478,7 @@ fn test_row<A: ReaderArena>(
     first: u32,
     lim: &mut ReadLimiter,
 ) -> Result<Option<u32>, ErrorKind>
-    requires inside { at + count ≤ length (row (reading A.ReaderArena from.now)) }
+    requires inside { at + count ≤ length (segment_read (reading A.ReaderArena from.now)) }
     ensures tells { IfOk result (TellsAll (reading_on A.ReaderArena from.now at nesting_limit) count
         (progress first lim.old) lim.new) }
     ensures refused { IfErr result
@@ -572,7 +572,7 @@ fn starts_right(object: Object, at: u32, head: u32) -> bool
 
 // How it is refused that the object of a word isn't read.
 fn name_of_refusal(word: WirePointer, kind: ErrorKind) -> ErrorKind
-    ensures { result ≡ refusal_name word.0 kind }
+    ensures { result ≡ level_refusal_name word.0 kind }
 {
     match kind {
         ErrorKind::MessageIsTooDeeplyNestedOrContainsCycles

@@ -7,7 +7,7 @@ ghost use Rattle.capnp_format.specs.Numbers.{element_bits, from_digits};
 ghost use Rattle.capnp_words.specs.Sizes.{size_number};
 ghost use Rattle.capnp_objects.specs.Source.{source_segments};
 ghost use Rattle.capnp_objects.specs.Objects.{IsHeld};
-ghost use Rattle.capnp_readers.specs.Sections.{IsPart, HasRoom, IsSized, HoldsPointer, list_words, pointers_behind, bit_at, step_bits, data_bits, low_data};
+ghost use Rattle.capnp_readers.specs.Sections.{IsPart, HasWordsFrom, IsSized, HoldsPointer, elements_words, pointers_behind, bit_at, step_bits, data_bits, low_data};
 
 use crate::readers::{NO_SECTIONS, PointerReader, StructReader};
 use capnp_arena::arena::ReaderArena;
@@ -51,8 +51,8 @@ pub struct ListReader<'a, A: ReaderArena> {
     /// How many levels of structs and lists may be entered from its pointers, none below 1.
     pub nesting_limit: i32,
     ghost held: { IsHeld (source_segments A.segments source) start },
-    ghost content_is: { IsPart start (8 * start.at) (64 * list_words element_size count (struct_size.data_words + struct_size.pointers)) content.now },
-    ghost inside: { HasRoom (source_segments A.segments source) start (list_words element_size count (struct_size.data_words + struct_size.pointers)) },
+    ghost content_is: { IsPart start (8 * start.at) (64 * elements_words element_size count (struct_size.data_words + struct_size.pointers)) content.now },
+    ghost inside: { HasWordsFrom (source_segments A.segments source) start (elements_words element_size count (struct_size.data_words + struct_size.pointers)) },
     ghost sized: { IsSized element_size struct_size },
 }
 
@@ -76,7 +76,7 @@ const ONE_POINTER: StructSize = StructSize {
 
 /// How many words so many elements take.
 fn words_of_elements(size: ElementSize, struct_size: StructSize, count: u32) -> usize
-    ensures { result ≡ list_words size count (struct_size.data_words + struct_size.pointers) }
+    ensures { result ≡ elements_words size count (struct_size.data_words + struct_size.pointers) }
 {
     match size {
         ElementSize::InlineComposite => count as usize * struct_size.total() as usize,
@@ -155,8 +155,8 @@ impl<'a, A: ReaderArena> ListReader<'a, A> {
         nesting_limit: i32,
     ) -> Self
         requires held { IsHeld (source_segments A.segments source) start }
-        requires room { HasRoom (source_segments A.segments source) start
-            (list_words element_size count (struct_size.data_words + struct_size.pointers)) }
+        requires room { HasWordsFrom (source_segments A.segments source) start
+            (elements_words element_size count (struct_size.data_words + struct_size.pointers)) }
         requires sized { IsSized element_size struct_size }
         ensures source { result.source ≡ source.entry }
         ensures size { result.element_size ≡ element_size }

@@ -5,7 +5,7 @@ ghost use Rattle.capnp_format.specs.Numbers.{words_for};
 ghost use Rattle.capnp_words.specs.Sizes.{size_number};
 ghost use Rattle.capnp_words.specs.declared.error.ErrorKind.TheVariants.{MessageTooLarge};
 ghost use Rattle.capnp_objects.specs.Objects.{IsFew};
-ghost use Rattle.capnp_objects.specs.Reading.{row, sized, word_of};
+ghost use Rattle.capnp_objects.specs.Reading.{segment_read, sized, word_of};
 ghost use Rattle.capnp_objects.specs.Sizing.{FitSize, Totals, HasSize, SizeRefused, WalksPlace, WalksPointers, WalksRows, HaveSizes, SizeStops, SizesStop, RowsStop};
 ghost use Rattle.capnp_readers.specs.Readers.{reading};
 ghost use Rattle.capnp_readers.specs.Sizes.{begun, pointers_read, reading_on, so_far, object_words, HasRows, HasNoRows};
@@ -186,7 +186,7 @@ fn add_pointers<A: ReaderArena>(
     walk: &mut Walk,
     lim: &mut ReadLimiter,
 ) -> Result<(), Stopped>
-    requires inside { at + count ≤ length (row (reading A.ReaderArena from.now)) }
+    requires inside { at + count ≤ length (segment_read (reading A.ReaderArena from.now)) }
     requires fits { FitSize walk.old.size.word_count walk.old.size.cap_count }
     ensures sized { OnOk result (WalksPointers (reading_on A.ReaderArena from.now at nesting_limit)
         count (so_far walk.old.size lim.old) (so_far walk.new.size lim.new)) }
@@ -210,7 +210,7 @@ fn add_row<A: ReaderArena>(
     walk: &mut Walk,
     lim: &mut ReadLimiter,
 ) -> Result<(), Stopped>
-    requires inside { at + count ≤ length (row (reading A.ReaderArena from.now)) }
+    requires inside { at + count ≤ length (segment_read (reading A.ReaderArena from.now)) }
     requires fits { FitSize walk.old.size.word_count walk.old.size.cap_count }
     ensures sized { OnOk result (WalksPointers (reading_on A.ReaderArena from.now at nesting_limit)
         count (so_far walk.old.size lim.old) (so_far walk.new.size lim.new)) }
@@ -408,7 +408,7 @@ fn add_rows<A: ReaderArena>(
     lim: &mut ReadLimiter,
 ) -> Result<(), Stopped>
     requires inside { from.now.place.at + count * (data_words + pointers)
-        ≤ length (row (reading A.ReaderArena from.now)) }
+        ≤ length (segment_read (reading A.ReaderArena from.now)) }
     requires fits { FitSize walk.old.size.word_count walk.old.size.cap_count }
     ensures sized { OnOk result (WalksRows (reading A.ReaderArena from.now)
         (sized data_words pointers) count

@@ -4,7 +4,7 @@ ghost use Rattle.capnp_format.specs.Bytes.{message};
 ghost use Rattle.capnp_format.specs.Segments.{word_at, segment};
 ghost use Rattle.capnp_objects.specs.Source.{source_segments};
 ghost use Rattle.capnp_objects.specs.Objects.{IsHeld};
-ghost use Rattle.capnp_readers.specs.Sections.{IsPart, IsInside, HasRoom, bit_at, bytes_for};
+ghost use Rattle.capnp_readers.specs.Sections.{IsPart, IsInside, HasWordsFrom, bit_at, bytes_for};
 
 use crate::readers::{ListReader, NO_SECTIONS, PointerReader};
 use capnp_arena::arena::ReaderArena;
@@ -50,7 +50,7 @@ pub struct StructReader<'a, A: ReaderArena> {
     pub nesting_limit: i32,
     ghost held: { IsHeld (source_segments A.segments source) pointers },
     ghost content_is: { IsPart pointers byte bits content.now },
-    ghost inside: { HasRoom (source_segments A.segments source) pointers pointer_count },
+    ghost inside: { HasWordsFrom (source_segments A.segments source) pointers pointer_count },
 }
 
 impl<'a, A: ReaderArena> Clone for StructReader<'a, A> {
@@ -127,7 +127,7 @@ impl<'a, A: ReaderArena> StructReader<'a, A> {
         nesting_limit: i32,
     ) -> Self
         requires held { IsHeld (source_segments A.segments source) start }
-        requires room { HasRoom (source_segments A.segments source) start
+        requires room { HasWordsFrom (source_segments A.segments source) start
             (size.data_words + size.pointers) }
         ensures source { result.source ≡ source.entry }
         ensures shows { ShowsStruct A.ReaderArena (source_segments A.segments source.entry) result

@@ -1,6 +1,6 @@
 //! Calls on a text or on data that a pointer leads to.
 ghost use Rattle.std.specs.Prelude.{IfOk};
-ghost use Rattle.capnp_builders.specs.Defaults.{IsFew};
+ghost use Rattle.capnp_builders.specs.Defaults.{IsShortDefault};
 
 use super::call::{Blob, BlobCall};
 use super::place::{Place, pointer, put_numbers, put_outcome, refuse};
@@ -51,7 +51,7 @@ pub fn optional(alloc: Global, text: Option<&str>) -> Result<Option<Vec<u8>>, Fa
 
 /// The same bytes as a default, `Unfit` where they are too many.
 pub fn default_of(bytes: &Option<Vec<u8>>) -> Result<Option<&[u8]>, Fault>
-    ensures { IfOk result IsFew }
+    ensures { IfOk result IsShortDefault }
 {
     match bytes {
         Some(bytes) if bytes.len() / 8 <= u32::MAX as usize => Ok(Some(bytes.as_slice())),
@@ -129,7 +129,7 @@ fn find<A: BuilderArena>(
     default: Option<&[u8]>,
     out: &mut Output,
 ) -> Result<Option<Place>, Fault>
-    requires { IsFew default }
+    requires { IsShortDefault default }
 {
     let mut pointer = pointer(arena, place)?;
     let found = match blob {
@@ -154,7 +154,7 @@ fn get<A: BuilderArena>(
     default: Option<&[u8]>,
     out: &mut Output,
 ) -> Result<Option<Place>, Fault>
-    requires { IsFew default }
+    requires { IsShortDefault default }
 {
     match lent(arena, place, blob, default)? {
         Ok(bytes) => {
@@ -193,7 +193,7 @@ fn lent<'a, A: BuilderArena>(
     blob: Blob,
     default: Option<&[u8]>,
 ) -> Result<Result<&'a mut [u8], ErrorKind>, Fault>
-    requires { IsFew default }
+    requires { IsShortDefault default }
 {
     let pointer = pointer(arena, place)?;
     Ok(match blob {

@@ -2,7 +2,7 @@
 ghost use Rattle.std.specs.Prelude.{◌≡◌, ◌<◌, ◌^◌, ◌*◌, length, IsTrue, IfSome, IfOk};
 ghost use Rattle.capnp_format.specs.Segments.{segment, IsPlace};
 ghost use Rattle.capnp_readers.specs.Readers.{IsListPlace, IsStructPlace};
-ghost use Rattle.capnp_readers.specs.Sections.{bytes_for, list_words};
+ghost use Rattle.capnp_readers.specs.Sections.{bytes_for, elements_words};
 ghost use Rattle.capnp_builders.specs.Building.{built, IsThere};
 ghost use Rattle.capnp_builders.specs.Places.{IsAligned};
 
@@ -224,7 +224,7 @@ fn is_list<A: BuilderArena>(arena: &A, place: ListPlace) -> bool
 
 // How many words so many elements take, of a width in words where they are structs.
 fn words_of(size: ElementSize, width: u32, count: u32) -> u64
-    ensures { result ≡ list_words size count width }
+    ensures { result ≡ elements_words size count width }
 {
     match size {
         ElementSize::InlineComposite => u64::from(count) * u64::from(width),

@@ -2,7 +2,7 @@
 ghost use Rattle.std.specs.Prelude.{◌≤◌};
 ghost use Rattle.capnp_words.specs.Sizes.{size_number};
 ghost use Rattle.capnp_builders.specs.Building.{built, IsThere};
-ghost use Rattle.capnp_builders.specs.Defaults.{IsFew};
+ghost use Rattle.capnp_builders.specs.Defaults.{IsShortDefault};
 
 use super::call::{Form, Object, PointerCall, Sought};
 use super::place::{Place, pointer, put_outcome, refuse};
@@ -169,7 +169,7 @@ fn seek<A: BuilderArena>(
     sought: Sought,
     default: Option<&[u8]>,
 ) -> Result<Result<Place, ErrorKind>, Fault>
-    requires { IsFew default }
+    requires { IsShortDefault default }
 {
     let pointer = pointer(arena, place)?;
     match sought {
@@ -191,7 +191,7 @@ fn seek_struct<A: BuilderArena>(
     default: Option<&[u8]>,
 ) -> Result<Place, ErrorKind>
     requires there { IsThere (built A.view pointer) }
-    requires few { IsFew default }
+    requires few { IsShortDefault default }
 {
     let place = match form {
         Form::Place => pointer.find_struct(size, default)?,
@@ -207,7 +207,7 @@ fn seek_list<A: BuilderArena>(
     default: Option<&[u8]>,
 ) -> Result<Place, ErrorKind>
     requires there { IsThere (built A.view pointer) }
-    requires few { IsFew default }
+    requires few { IsShortDefault default }
     requires plain { size_number size ≤ 6 }
 {
     let place = match form {
@@ -224,7 +224,7 @@ fn seek_struct_list<A: BuilderArena>(
     default: Option<&[u8]>,
 ) -> Result<Place, ErrorKind>
     requires there { IsThere (built A.view pointer) }
-    requires few { IsFew default }
+    requires few { IsShortDefault default }
 {
     let place = match form {
         Form::Place => pointer.find_struct_list(size, default)?,

@@ -4,7 +4,7 @@ ghost use borrow.Rule.Slice.PartMut.{put_mid};
 ghost use Rattle.capnp_format.specs.Segments.{segment, word_at};
 ghost use Rattle.capnp_arena.specs.declared.arena.reader_segments.ReaderSegments.{Ghosts};
 ghost use Rattle.capnp_words.specs.declared.error.ErrorKind.TheVariants.{AllocationFailed};
-ghost use Rattle.layout_vectors.specs.Marks.{rows_of, blank_rows, Takes, IsMarkedWithin, AreFreeWithin};
+ghost use Rattle.layout_vectors.specs.Marks.{rows_of, blank_rows, TakesRow, IsMarkedWithin, AreFreeWithin};
 
 use capnp_words::error::ErrorKind;
 use std::alloc::Global;
@@ -77,7 +77,7 @@ impl Marks {
     /// Takes `n` words of a segment from a position on, if they are there and none of them is taken.
     pub(crate) fn take(&mut self, id: u32, start: u32, n: u32) -> bool
         ensures inside { IsTrue result → start + n ≤ length (segment (rows_of self.old) id) }
-        ensures taken { IsTrue result → Takes (rows_of self.old) (rows_of self.new) id start n }
+        ensures taken { IsTrue result → TakesRow (rows_of self.old) (rows_of self.new) id start n }
         ensures refused { result ≡ false → start + n ≤ length (segment (rows_of self.old) id)
             → IsMarkedWithin (segment (rows_of self.old) id) start n }
     {
@@ -94,7 +94,7 @@ impl Marks {
     fn take_some(&mut self, id: u32, start: usize, n: usize) -> bool
         requires some { 0 < n }
         requires inside { start + n ≤ length (segment (rows_of self.old) id) }
-        ensures taken { IsTrue result → Takes (rows_of self.old) (rows_of self.new) id start n }
+        ensures taken { IsTrue result → TakesRow (rows_of self.old) (rows_of self.new) id start n }
         ensures refused { result ≡ false → IsMarkedWithin (segment (rows_of self.old) id) start n }
     {
         let row = &mut self.rows[id as usize];

@@ -8,8 +8,8 @@ ghost use Rattle.capnp_format.specs.Word.{kind, element_size, list_count};
 ghost use Rattle.capnp_words.specs.Sizes.{size_number};
 ghost use Rattle.capnp_format.specs.Padding.{IsPadded};
 ghost use Rattle.capnp_words.specs.declared.error.ErrorKind.TheVariants.{AllocationFailed};
-ghost use Rattle.layout_vectors.specs.Landings.{target_of};
-ghost use Rattle.layout_vectors.specs.Walks.{walk, Goes, Fails, TakesObject, HasNoObject, FitsMarks};
+ghost use Rattle.layout_vectors.specs.Landings.{target_at};
+ghost use Rattle.layout_vectors.specs.Walks.{walk, Goes, FailsWalk, TakesTarget, HasNoObject, FitsMarks};
 
 use crate::vectors::landing::{Landing, word_of};
 use crate::vectors::marks::Marks;
@@ -30,10 +30,10 @@ pub(crate) fn take_object<A: ReaderArena>(
 ) -> Result<bool, ErrorKind>
     requires { FitsMarks (message (A.segments arena.now)) marks.old }
     ensures goes { IfOk result (λ b. IsTrue b
-        → TakesObject (message (A.segments arena.now)) (target_of landing)
+        → TakesTarget (message (A.segments arena.now)) (target_at landing)
         (walk marks.old pending.old) (walk marks.new pending.new)) }
     ensures fails { IfOk result (λ b. b ≡ false
-        → HasNoObject (message (A.segments arena.now)) (target_of landing)
+        → HasNoObject (message (A.segments arena.now)) (target_at landing)
         (walk marks.old pending.old)) }
     ensures named { IfErr result (λ e. e ≡ AllocationFailed) }
 {
@@ -59,10 +59,10 @@ fn take_struct<A: ReaderArena>(
     requires fits { FitsMarks (message (A.segments arena.now)) marks.old }
     requires is_struct { kind landing.word.0 ≡ 0 }
     ensures goes { IfOk result (λ b. IsTrue b
-        → TakesObject (message (A.segments arena.now)) (target_of landing)
+        → TakesTarget (message (A.segments arena.now)) (target_at landing)
         (walk marks.old pending.old) (walk marks.new pending.new)) }
     ensures fails { IfOk result (λ b. b ≡ false
-        → HasNoObject (message (A.segments arena.now)) (target_of landing)
+        → HasNoObject (message (A.segments arena.now)) (target_at landing)
         (walk marks.old pending.old)) }
     ensures named { IfErr result (λ e. e ≡ AllocationFailed) }
 {
@@ -86,10 +86,10 @@ fn take_pointers<A: ReaderArena>(
     requires is_list { kind landing.word.0 ≡ 1 }
     requires of_pointers { element_size landing.word.0 ≡ 6 }
     ensures goes { IfOk result (λ b. IsTrue b
-        → TakesObject (message (A.segments arena.now)) (target_of landing)
+        → TakesTarget (message (A.segments arena.now)) (target_at landing)
         (walk marks.old pending.old) (walk marks.new pending.new)) }
     ensures fails { IfOk result (λ b. b ≡ false
-        → HasNoObject (message (A.segments arena.now)) (target_of landing)
+        → HasNoObject (message (A.segments arena.now)) (target_at landing)
         (walk marks.old pending.old)) }
     ensures named { IfErr result (λ e. e ≡ AllocationFailed) }
 {
@@ -114,10 +114,10 @@ fn take_flat<A: ReaderArena>(
     requires is_size { size_number size ≡ element_size landing.word.0 }
     requires is_flat { size_number size ≤ 5 }
     ensures goes { IsTrue result
-        → TakesObject (message (A.segments arena.now)) (target_of landing)
+        → TakesTarget (message (A.segments arena.now)) (target_at landing)
         (walk marks.old pending.old) (walk marks.new pending.new) }
     ensures fails { result ≡ false
-        → HasNoObject (message (A.segments arena.now)) (target_of landing)
+        → HasNoObject (message (A.segments arena.now)) (target_at landing)
         (walk marks.old pending.old) }
     ensures kept { pending.new ≡ pending.old }
 {
@@ -195,10 +195,10 @@ fn take_structs<A: ReaderArena>(
     requires is_list { kind landing.word.0 ≡ 1 }
     requires of_structs { element_size landing.word.0 ≡ 7 }
     ensures goes { IfOk result (λ b. IsTrue b
-        → TakesObject (message (A.segments arena.now)) (target_of landing)
+        → TakesTarget (message (A.segments arena.now)) (target_at landing)
         (walk marks.old pending.old) (walk marks.new pending.new)) }
     ensures fails { IfOk result (λ b. b ≡ false
-        → HasNoObject (message (A.segments arena.now)) (target_of landing)
+        → HasNoObject (message (A.segments arena.now)) (target_at landing)
         (walk marks.old pending.old)) }
     ensures named { IfErr result (λ e. e ≡ AllocationFailed) }
 {

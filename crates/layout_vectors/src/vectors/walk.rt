@@ -7,7 +7,7 @@ ghost use Rattle.capnp_format.specs.Segments.{IsPlace, segment, word_at};
 ghost use Rattle.capnp_format.specs.Tree.{Tree};
 ghost use Rattle.capnp_words.specs.declared.error.ErrorKind.TheVariants.{AllocationFailed};
 ghost use Rattle.layout_vectors.specs.Marks.{rows_of, TakesPads};
-ghost use Rattle.layout_vectors.specs.Walks.{walk, Goes, Fails, FitsMarks, IsZeroWhereFree, IsZeroBehind};
+ghost use Rattle.layout_vectors.specs.Walks.{walk, Goes, FailsWalk, FitsMarks, IsZeroWhereFree, IsZeroBehind};
 
 use crate::vectors::landing::{follow, word_of};
 use crate::vectors::marks::Marks;
@@ -83,7 +83,7 @@ fn walk_pointer<A: ReaderArena>(
         → Goes (message (A.segments arena.now)) spot (walk marks.old pending.old)
         (walk marks.new pending.new)) }
     ensures fails { IfOk result (λ b. b ≡ false
-        → Fails (message (A.segments arena.now)) spot (walk marks.old pending.old)) }
+        → FailsWalk (message (A.segments arena.now)) spot (walk marks.old pending.old)) }
     ensures named { IfErr result (λ e. e ≡ AllocationFailed) }
 {
     let word = word_of(arena, spot.segment, spot.at);

@@ -14,7 +14,7 @@ use Rattle.capnp_format.specs.Word.{kind, data_words, pointer_count}
 use Rattle.capnp_objects.specs.declared.object.Place.{Place}
 use Rattle.capnp_objects.specs.declared.object.Object.TheVariants.{Struct as ObjectStruct}
 use Rattle.capnp_objects.specs.Objects.{IsObject}
-use Rattle.capnp_objects.specs.Reading.{Reading, row, word_of, words_from}
+use Rattle.capnp_objects.specs.Reading.{Reading, segment_read, word_of, words_from}
 use Rattle.capnp_objects.specs.declared.object.Purpose.TheVariants.{Value}
 use Rattle.capnp_readers.specs.Readers.{reading}
 use Rattle.capnp_readers.proofs.Checks.{struct_room}
@@ -304,7 +304,7 @@ pub elements::copy_element-returns-clause-copied : goal.elements::copy_element-r
 elements::copy_element-returns-clause-copied g t c =
     let nl = to_z-of_z w32 c.args.from.nesting_limit (search rules) in
     let from : Reading = reading g.B.ReaderArena c.args.from in
-    let held : words_of c.args.from.place.bytes.now ≡ row from = c.args.from.held.0 in
+    let held : words_of c.args.from.place.bytes.now ≡ segment_read from = c.args.from.held.0 in
     let section : words_of c.part-data.result.now ≡ words_from from c.args.sizes.kept.data_words = rw (c.from-data_words.ensures, held) at c.part-data.ensures.words in
     let put : DataWritten from c.args.sizes (g.A.BuilderArena.view c.args.arena.now) (g.A.BuilderArena.view c.put_words.new.arena) c.args.to.segment c.args.to.at =
     record { inside = omega (arith, c.requires.inside, c.requires.less_data); room = omega (arith, c.requires.room); writes = rw section at c.put_words.ensures.words } in
@@ -314,7 +314,7 @@ pub elements::copy_element-returns-clause-refused : goal.elements::copy_element-
 elements::copy_element-returns-clause-refused g t c =
     let nl = to_z-of_z w32 c.args.from.nesting_limit (search rules) in
     let from : Reading = reading g.B.ReaderArena c.args.from in
-    let held : words_of c.args.from.place.bytes.now ≡ row from = c.args.from.held.0 in
+    let held : words_of c.args.from.place.bytes.now ≡ segment_read from = c.args.from.held.0 in
     let section : words_of c.part-data.result.now ≡ words_from from c.args.sizes.kept.data_words = rw (c.from-data_words.ensures, held) at c.part-data.ensures.words in
     let put : DataWritten from c.args.sizes (g.A.BuilderArena.view c.args.arena.now) (g.A.BuilderArena.view c.put_words.new.arena) c.args.to.segment c.args.to.at =
     record { inside = omega (arith, c.requires.inside, c.requires.less_data); room = omega (arith, c.requires.room); writes = rw section at c.put_words.ensures.words } in
@@ -528,7 +528,7 @@ pub structs::copy_struct-returns-clause-copied : goal.structs::copy_struct-retur
 structs::copy_struct-returns-clause-copied g t c =
     let nl = to_z-of_z w32 c.args.from.nesting_limit (search rules) in
     let from : Reading = reading g.B.ReaderArena c.args.from in
-    let held : words_of c.args.from.place.bytes.now ≡ row from = c.args.from.held.0 in
+    let held : words_of c.args.from.place.bytes.now ≡ segment_read from = c.args.from.held.0 in
     let section : words_of c.part-data.result.now ≡ words_from from c.kept_sections-kept.result.data_words = rw (c.from-data_words.ensures, held) at c.part-data.ensures.words in
     let begun : StructBegun (form_in c.args.form) from c.args.size c.kept_sections-kept.result c.args.id c.args.at (g.A.BuilderArena.view c.args.arena.now) (g.A.BuilderArena.view c.make_struct.new.arena) (g.A.BuilderArena.view c.put_words.new.arena) c.in-Ok.start = record {
       inside = c.requires.inside;
@@ -551,7 +551,7 @@ pub structs::copy_struct-returns-clause-refused : goal.structs::copy_struct-retu
 structs::copy_struct-returns-clause-refused g t c =
     let nl = to_z-of_z w32 c.args.from.nesting_limit (search rules) in
     let from : Reading = reading g.B.ReaderArena c.args.from in
-    let held : words_of c.args.from.place.bytes.now ≡ row from = c.args.from.held.0 in
+    let held : words_of c.args.from.place.bytes.now ≡ segment_read from = c.args.from.held.0 in
     let section : words_of c.part-data.result.now ≡ words_from from c.kept_sections-kept.result.data_words = rw (c.from-data_words.ensures, held) at c.part-data.ensures.words in
     let begun : StructBegun (form_in c.args.form) from c.args.size c.kept_sections-kept.result c.args.id c.args.at (g.A.BuilderArena.view c.args.arena.now) (g.A.BuilderArena.view c.make_struct.new.arena) (g.A.BuilderArena.view c.put_words.new.arena) c.in-Ok.start = record {
       inside = c.requires.inside;
@@ -585,7 +585,7 @@ structs::copy_struct-returns-clause-taken g t c =
 pub structs::copy_struct-copy_children-requires : goal.structs::copy_struct-copy_children-requires
 structs::copy_struct-copy_children-requires g t c κs within =
     let from : Reading = reading g.B.ReaderArena c.args.from in
-    let held : words_of c.args.from.place.bytes.now ≡ row from = c.args.from.held.0 in
+    let held : words_of c.args.from.place.bytes.now ≡ segment_read from = c.args.from.held.0 in
     let least = c.kept_sections-kept.result in
     let N : Segments = (g.A.BuilderArena.view c.put_words.new.arena).words in
     let section : words_of c.part-data.result.now ≡ words_from from c.kept_sections-kept.result.data_words = rw (c.from-data_words.ensures, held) at c.part-data.ensures.words in

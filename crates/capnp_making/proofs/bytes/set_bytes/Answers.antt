@@ -3,7 +3,7 @@ use Rattle.capnp_format.specs.Numbers.{words_for}
 use Rattle.capnp_format.specs.Segments.{Segments}
 use Rattle.capnp_format.specs.Tree.{Null}
 use Rattle.capnp_arena.specs.View.{View}
-use Rattle.capnp_making.specs.Made.{LeadsTo}
+use Rattle.capnp_making.specs.Made.{LeadsToStart}
 use Rattle.capnp_making.proofs.BytesWritten.{WritesBytes, bytes_target, bytes_written, written_lengths}
 use Rattle.capnp_making.proofs.OldWords.{old_beside}
 use Rattle.capnp_making.proofs.Taken.{leads_behind, leads_to_end, takes_written}
@@ -22,7 +22,7 @@ writes g c = record {
 }
 
 -- And the pointer still leads to the list.
-leads : (g : _) (c : goal.After-write_bytes g) → LeadsTo (g.A.BuilderArena.view c.write_bytes.new.arena).words c.args.id c.args.at c.in-Ok.start
+leads : (g : _) (c : goal.After-write_bytes g) → LeadsToStart (g.A.BuilderArena.view c.write_bytes.new.arena).words c.args.id c.args.at c.in-Ok.start
 leads g c =
     let M : Segments = (g.A.BuilderArena.view c.init_list.new.arena).words in
     let R : Segments = (g.A.BuilderArena.view c.write_bytes.new.arena).words in

@@ -4,16 +4,16 @@ use Rattle.capnp_arena.specs.View.{View}
 use Rattle.capnp_format.specs.Numbers.{words_for}
 use Rattle.capnp_format.specs.Segments.{Segments}
 use Rattle.capnp_format.specs.Tree.{Flat}
-use Rattle.capnp_making.specs.Made.{zeros}
+use Rattle.capnp_making.specs.Made.{words_of_zero}
 use Rattle.capnp_making.specs.Makes.{MakesObject, call_at}
 use Rattle.capnp_making.specs.Stored.{PutsOnceZeroed}
 use Rattle.capnp_making.proofs.bytes.set_data.Goals as goal
 
 -- No byte more.
-all_bytes : (xs : List ℕ) → xs ++ zeros (length xs - length xs) ≡ xs
+all_bytes : (xs : List ℕ) → xs ++ words_of_zero (length xs - length xs) ≡ xs
 all_bytes xs =
     let none : length xs - length xs ≡ 0 = omega arith in
-    ap (λ k. xs ++ zeros k) none ∙ append-nil xs
+    ap (λ k. xs ++ words_of_zero k) none ∙ append-nil xs
 
 pub returns-clause-object : goal.returns-clause-object
 returns-clause-object g c =

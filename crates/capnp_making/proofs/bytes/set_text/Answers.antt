@@ -3,7 +3,7 @@ use Rattle.capnp_arena.specs.View.{View}
 use Rattle.capnp_format.specs.Numbers.{words_for}
 use Rattle.capnp_format.specs.Segments.{Segments}
 use Rattle.capnp_format.specs.Tree.{Flat}
-use Rattle.capnp_making.specs.Made.{zeros}
+use Rattle.capnp_making.specs.Made.{words_of_zero}
 use Rattle.capnp_making.specs.Makes.{MakesObject, call_at}
 use Rattle.capnp_making.specs.Stored.{PutsOnceZeroed}
 use Rattle.capnp_making.proofs.bytes.set_text.Goals as goal
@@ -15,7 +15,7 @@ returns-clause-object g c =
     let new : View = g.A.BuilderArena.view c.set_bytes.new.arena in
     let n : ℕ = length c.args.from.now in
     let one : n + 1 - n ≡ 1 = omega arith in
-    subst (λ k. MakesObject c.set_bytes.result (call_at c.args.id c.args.at old new) (Flat 2 (c.args.from.now ++ zeros k)) (words_for 2 (n + 1))) one c.set_bytes.ensures.object
+    subst (λ k. MakesObject c.set_bytes.result (call_at c.args.id c.args.at old new) (Flat 2 (c.args.from.now ++ words_of_zero k)) (words_for 2 (n + 1))) one c.set_bytes.ensures.object
 
 pub returns-clause-once_zeroed : goal.returns-clause-once_zeroed
 returns-clause-once_zeroed g c =
@@ -23,4 +23,4 @@ returns-clause-once_zeroed g c =
     let R : Segments = (g.A.BuilderArena.view c.set_bytes.new.arena).words in
     let n : ℕ = length c.args.from.now in
     let one : n + 1 - n ≡ 1 = omega arith in
-    subst (λ k. OnOk c.set_bytes.result (PutsOnceZeroed S R c.args.id c.args.at (Flat 2 (c.args.from.now ++ zeros k)))) one c.set_bytes.ensures.once_zeroed
+    subst (λ k. OnOk c.set_bytes.result (PutsOnceZeroed S R c.args.id c.args.at (Flat 2 (c.args.from.now ++ words_of_zero k)))) one c.set_bytes.ensures.once_zeroed

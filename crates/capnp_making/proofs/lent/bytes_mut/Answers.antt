@@ -1,6 +1,6 @@
 use Rattle.std.proofs.Common.{◌≡◌, ℕ, ◌+◌, ◌-◌, ◌*◌, List, [], length, drop, take, slice_index_or, refl, ap, ◌∙◌, arith}
 use Rattle.capnp_format.specs.Segments.{Segments}
-use Rattle.capnp_making.specs.InPlace.{bytes_of, rewritten, segment_with, segments_with}
+use Rattle.capnp_making.specs.InPlace.{bytes_there, rewritten, segment_with, segments_with}
 use Rattle.capnp_making.proofs.InPlaceBytes.{there_got, inside_bytes, count_bytes}
 use Rattle.capnp_making.proofs.BytesOver.{overwrites}
 use Rattle.capnp_making.proofs.Zeros.{length-over}
@@ -19,7 +19,7 @@ returns g c =
     let n : ℕ = c.args.bytes.length in
     let then = rewritten g.A.BuilderArena.with_bytes g.A.ReaderArena.segments c.args.arena.now c.args.bytes in
     let same = g.met.A.BuilderArena.read c.args.arena.now in
-    let now : c.part_of.result.now ≡ bytes_of B c.args.bytes = c.part_of.ensures.now ∙ ap (λ k. take k (drop a bs)) (let e : a + n - a ≡ n = omega arith in e) in
+    let now : c.part_of.result.now ≡ bytes_there B c.args.bytes = c.part_of.ensures.now ∙ ap (λ k. take k (drop a bs)) (let e : a + n - a ≡ n = omega arith in e) in
     let room = inside_bytes S B c.args.bytes same c.requires.inside in
     let segments : (ws : List ℕ) → length ws ≡ n → g.A.ReaderArena.segments (then ws) ≡ segments_with B c.args.bytes ws = λ ws l.
     g.met.A.BuilderArena.with_bytes_segments c.args.arena.now c.args.bytes.segment bs (segment_with B c.args.bytes ws)

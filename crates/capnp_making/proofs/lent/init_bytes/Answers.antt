@@ -1,8 +1,8 @@
 use Rattle.std.proofs.Common.{◌≡◌, ℕ, List, length, ap, ◌∙◌, sym}
 use Rattle.capnp_format.specs.Numbers.{words_for}
 use Rattle.capnp_format.specs.Segments.{Segments}
-use Rattle.capnp_making.specs.Made.{zeros}
-use Rattle.capnp_making.specs.InPlace.{bytes_of}
+use Rattle.capnp_making.specs.Made.{words_of_zero}
+use Rattle.capnp_making.specs.InPlace.{bytes_there}
 use Rattle.capnp_making.specs.declared.existing.ExistingBytes.{ExistingBytes}
 use Rattle.capnp_making.proofs.InPlaceBytes.{made_zero}
 use Rattle.capnp_making.proofs.ObjectsMade.{asked_in_vain}
@@ -14,10 +14,10 @@ returns-in-Ok-clause-zero g c =
     let S : Segments = (g.A.BuilderArena.view c.init_list.new.arena).words in
     let B : List (List ℕ) = g.A.ReaderArena.segments c.init_list.new.arena in
     let b : ExistingBytes = record { segment = c.in-Ok.start.segment; start = c.in-Ok.start.at; length = c.args.size } in
-    let now : c.bytes_mut.result.now ≡ bytes_of B b = c.bytes_mut.ensures.now in
+    let now : c.bytes_mut.result.now ≡ bytes_there B b = c.bytes_mut.ensures.now in
     λ t stored. now ∙ made_zero Q S B c.args.id c.args.at c.args.count t b (g.met.A.BuilderArena.read c.init_list.new.arena) (c.in-Ok.ensures.object.made t stored)
     c.in-Ok.ensures.start.leads.0 c.in-Ok.ensures.start.leads.1 c.in-Ok.ensures.start.inside.1 c.requires.enough
-    ∙ ap (λ (xs : List ℕ). zeros (length xs)) (sym now)
+    ∙ ap (λ (xs : List ℕ). words_of_zero (length xs)) (sym now)
 
 -- The refusal is that of the list.
 pub returns-in-Err-clause-asked : goal.returns-in-Err-clause-asked

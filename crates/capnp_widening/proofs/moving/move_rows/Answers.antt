@@ -4,7 +4,7 @@ use Rattle.capnp_format.specs.Segments.{Segments}
 use Rattle.capnp_making.proofs.BelowElements.{element_within, next_place}
 use Rattle.capnp_making.proofs.Memory.{keeps_both}
 use Rattle.capnp_widening.specs.Moved.{rows_of_moves, Moves}
-use Rattle.capnp_widening.specs.Rooms.{TakesAtMost}
+use Rattle.capnp_widening.specs.Rooms.{GrowsByAtMost}
 use Rattle.capnp_widening.proofs.Rooms.{room_left, less_room}
 use Rattle.capnp_widening.proofs.Rows.{rows_moves_next, rows_some}
 use Rattle.capnp_widening.proofs.moving.move_rows.Goals as goal
@@ -41,7 +41,7 @@ returns-clause-moved g c =
 pub returns-clause-few : goal.returns-clause-few
 returns-clause-few g c =
     let all : c.loop-i.i ≡ c.args.count = omega arith in
-    subst (λ n. TakesAtMost (g.A.BuilderArena.view c.args.arena.now).words (g.A.BuilderArena.view c.loop-i.arena).words (2 * (n * c.args.pointers))) all c.loop-i.invariant.few
+    subst (λ n. GrowsByAtMost (g.A.BuilderArena.view c.args.arena.now).words (g.A.BuilderArena.view c.loop-i.arena).words (2 * (n * c.args.pointers))) all c.loop-i.invariant.few
 
 pub returns-in-Err-clause-few : goal.returns-in-Err-clause-few
 returns-in-Err-clause-few g c = omega (arith, c.loop-i.invariant.few, c.in-Err.ensures.few, element_within c.args.pointers c.args.count c.loop-i.i c.loop-i-test.true)

@@ -2,7 +2,7 @@ use Rattle.std.proofs.Common.{◌≡◌, ◌+◌, ◌*◌}
 use Rattle.capnp_format.specs.Segments.{Grows}
 use Rattle.capnp_making.specs.Memory.{KeepsMemory}
 use Rattle.capnp_widening.specs.Moved.{rows_of_moves, Moves}
-use Rattle.capnp_widening.specs.Rooms.{TakesAtMost}
+use Rattle.capnp_widening.specs.Rooms.{GrowsByAtMost}
 use Rattle.capnp_widening.proofs.moving.move_rows.Given as goal
 
 abbrev pub invariant-loop-i : goal.invariant-loop-i
@@ -11,6 +11,6 @@ invariant-loop-i g l = record {
   source_at : l.source ≡ l.from.at + l.i * l.from.step;
   place_at : l.place ≡ l.to.at + l.i * l.to.step;
   longer : Grows (g.A.BuilderArena.view l.fn.arena).words (g.A.BuilderArena.view l.arena).words;
-  few : TakesAtMost (g.A.BuilderArena.view l.fn.arena).words (g.A.BuilderArena.view l.arena).words (2 * (l.i * l.pointers));
+  few : GrowsByAtMost (g.A.BuilderArena.view l.fn.arena).words (g.A.BuilderArena.view l.arena).words (2 * (l.i * l.pointers));
   memory : KeepsMemory (g.A.BuilderArena.view l.fn.arena) (g.A.BuilderArena.view l.arena);
 }

@@ -6,7 +6,7 @@ use Rattle.capnp_format.specs.Tree.{count}
 use Rattle.capnp_making.specs.Memory.{HasRoom}
 use Rattle.capnp_making.specs.Near.{HasOwnRoom}
 use Rattle.capnp_making.proofs.Outcomes.{on_made_so, if_ok_so}
-use Rattle.capnp_widening.specs.Rooms.{object_words, widened}
+use Rattle.capnp_widening.specs.Rooms.{widened_words, widened}
 use Rattle.capnp_widening.proofs.Filled.{already_wide, greater_size}
 use Rattle.capnp_widening.proofs.StructRooms.{wider_words, no_struct}
 use Rattle.capnp_widening.proofs.StructSteps.{the_struct, same_struct}
@@ -74,7 +74,7 @@ returns-else-size-old-clause-fits g c = λ h.
     let d = ap (λ e. e.size.data_words) same in
     let k = ap (λ e. e.size.pointers) same in
     let n = wider_words c.args.size ws ts c.greater.result c.greater-in-Some.result (omega (arith, c.greater.ensures, d)) (omega (arith, c.greater-in-Some.ensures, k)) in
-    let all : object_words (widened c.args.size ws ts) + 2 * count ts ≡ c.greater.result + c.greater-in-Some.result + 2 * c.in-Some.old.size.pointers = omega (arith, n, k) in
+    let all : widened_words (widened c.args.size ws ts) + 2 * count ts ≡ c.greater.result + c.greater-in-Some.result + 2 * c.in-Some.old.size.pointers = omega (arith, n, k) in
     elim room [
       | inl fits ↦ c.widen_struct.ensures.fits (subst (λ m. HasRoom v c.args.id m) all fits)
       | inr (here, fits) ↦ c.widen_struct.ensures.near (sym (ap (λ e. e.segment) same) ∙ here) (subst (λ m. HasOwnRoom v c.args.id m) n fits)

@@ -7,7 +7,7 @@ use Rattle.std.proofs.lemmas.List.{length-replicate}
 use Rattle.capnp_arena.specs.View.{View}
 use Rattle.capnp_arena.specs.Written.{extended}
 use Rattle.capnp_making.specs.Memory.{RefusesWords}
-use Rattle.capnp_widening.specs.Rooms.{all_words, TakesAtMost}
+use Rattle.capnp_widening.specs.Rooms.{all_words, GrowsByAtMost}
 use Rattle.capnp_widening.proofs.Refusing.{words_refused}
 use Rattle.capnp_widening.proofs.Rooms.{words_extended, words_taken, room_some, room_elsewhere, room_left, room_still, less_room, not_true, not_within, none_refused}
 use Rattle.capnp_making.proofs.Memory.{words_in}
@@ -46,7 +46,7 @@ returns-in-Some-clause-fits g c = λ n h.
     let m : ℕ = c.args.amount in
     let taken : b.words ≡ extended a.words c.args.id (replicate m 0) = ap words_in c.in-Some.ensures.taken.1 in
     let grown : IsGrown a.words b.words c.args.id (length (segment a.words c.args.id)) m = rw taken (extended_grown a.words c.args.id m c.requires.there) in
-    let few : TakesAtMost a.words b.words m = omega (arith, ap all_words taken, words_extended a.words c.args.id (replicate m 0) c.requires.there, length-replicate {A = ℕ} m 0) in
+    let few : GrowsByAtMost a.words b.words m = omega (arith, ap all_words taken, words_extended a.words c.args.id (replicate m 0) c.requires.there, length-replicate {A = ℕ} m 0) in
     let room = ap (λ (v : View). v.room) c.in-Some.ensures.taken.1 in
     (refl, room_left a b m n grown.grows few (λ k l. ap (λ (f : ℕ → ℕ). f k) room) (room_some a c.args.id (m + n) c.requires.there h)))
 

@@ -8,7 +8,7 @@ use Rattle.capnp_format.proofs.Bounds.{digits_below}
 use Rattle.capnp_format.proofs.Digits.{length-digits}
 use Rattle.capnp_arena.specs.View.{View}
 use Rattle.capnp_arena.specs.Written.{with_words}
-use Rattle.capnp_making.specs.Made.{zeros, nulls, list_words, LieFrom}
+use Rattle.capnp_making.specs.Made.{words_of_zero, nulls, list_words, WordsLieFrom}
 use Rattle.capnp_making.specs.Memory.{RefusesWords}
 use Rattle.capnp_making.specs.Stored.{IsReplaced}
 use Rattle.capnp_making.proofs.FillingMade.{IsBegun, flat_whole}
@@ -40,9 +40,9 @@ returns-in-Ok-clause-copied g c =
     let all : bits ≡ n * b = ap₂ (λ i j. i * j) c.from.ensures (c.from-in-Ok.ensures ∙ c.data_bits_per_element.ensures) in
     let packs : digits (2 ^ 64) (length ws) (f % 2 ^ bits) ≡ packed size ns = ap₂ (λ i j. digits (2 ^ 64) i (f % 2 ^ j)) c.requires.all all ∙ sym (packed_again size n ws) in
     let other = ne_eqb size 6 (λ e. omega (arith, c.requires.flat)) in
-    let made = subst (λ x. IsReplaced S M c.args.id c.args.at Null (cond x (Pointers (nulls n)) (Flat size (zeros n)))) other c.in-Ok.ensures.made in
-    let inside = subst (λ x. LieFrom M (cond x n (words_for size n)) c.in-Ok.start) other c.in-Ok.ensures.start.inside in
-    let begun : IsBegun S M c.args.id c.args.at (words_for size n) c.in-Ok.start (Flat size (zeros n)) = record { made = made; start = c.in-Ok.ensures.start.leads; inside = inside } in
+    let made = subst (λ x. IsReplaced S M c.args.id c.args.at Null (cond x (Pointers (nulls n)) (Flat size (words_of_zero n)))) other c.in-Ok.ensures.made in
+    let inside = subst (λ x. WordsLieFrom M (cond x n (words_for size n)) c.in-Ok.start) other c.in-Ok.ensures.start.inside in
+    let begun : IsBegun S M c.args.id c.args.at (words_for size n) c.in-Ok.start (Flat size (words_of_zero n)) = record { made = made; start = c.in-Ok.ensures.start.leads; inside = inside } in
     flat_whole S M R c.args.id c.args.at size n c.in-Ok.start ns begun (length-digits (2 ^ b) n f) (digits_below (2 ^ b) n f (pow_pos b))
     (ap words_in c.put_elements.ensures ∙ ap (with_words M c.in-Ok.start.segment c.in-Ok.start.at) packs)
 

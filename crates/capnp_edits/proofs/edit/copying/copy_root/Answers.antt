@@ -1,11 +1,11 @@
 use Rattle.std.proofs.Common.{inl, refl}
-use Rattle.capnp_edits.specs.Sources.{IsUnread}
+use Rattle.capnp_edits.specs.Sources.{HasNothingToCopy}
 use Rattle.capnp_edits.specs.Edits.{place_of, root_unread}
 use Rattle.capnp_edits.proofs.Copied.{Tried, tried_done, copy_counted, tried_named, tried_taken, tried_fits, value_tried, struct_copied, list_copied, unread_counted, struct_unread, list_unread, struct_found, list_found}
 use Rattle.capnp_edits.proofs.edit.copying.copy_root.Goals as goal
 
 -- There is no root where it is refused.
-rootless : (g : _) (c : goal.In-Err g) → IsUnread c.args.copying c.in-Err.k
+rootless : (g : _) (c : goal.In-Err g) → HasNothingToCopy c.args.copying c.in-Err.k
 rootless g c = inl c.in-Err.ensures.refused
 
 pub returns-in-Err-clause-done : goal.returns-in-Err-clause-done
@@ -58,7 +58,7 @@ pub returns-in-Ok-get_struct-clause-fits : goal.returns-in-Ok-get_struct-clause-
 returns-in-Ok-get_struct-clause-fits g c = tried_fits c.set_struct.result c.args.copying _ _ _ (struct_there g c)
 
 -- There is none where it isn't found.
-struct_missing : (g : _) (c : goal.In-Err-get_struct g) → IsUnread c.args.copying c.in-Err-get_struct.k
+struct_missing : (g : _) (c : goal.In-Err-get_struct g) → HasNothingToCopy c.args.copying c.in-Err-get_struct.k
 struct_missing g c =
     struct_unread _ c.args.copying c.in-Ok.opened.0 _ _ c.in-Err-get_struct.k c.in-Struct.is c.in-Ok.ensures.found c.in-Err-get_struct.ensures.refused
 
@@ -99,7 +99,7 @@ pub returns-in-Ok-get_list-clause-fits : goal.returns-in-Ok-get_list-clause-fits
 returns-in-Ok-get_list-clause-fits g c = tried_fits c.set_list.result c.args.copying _ _ _ (list_there g c)
 
 -- There is none where it isn't found.
-list_missing : (g : _) (c : goal.In-Err-get_list g) → IsUnread c.args.copying c.in-Err-get_list.k
+list_missing : (g : _) (c : goal.In-Err-get_list g) → HasNothingToCopy c.args.copying c.in-Err-get_list.k
 list_missing g c =
     list_unread _ c.args.copying c.in-Ok.opened.0 _ _ c.in-Err-get_list.k c.in-List.is c.in-Ok.ensures.found c.in-Err-get_list.ensures.refused
 

@@ -4,7 +4,7 @@ use Rattle.std.specs.Io.KnownBytes.{Consumes}
 use Rattle.std.proofs.lemmas.List.Elements.{All-push}
 use Rattle.capnp_format.specs.Bytes.{message, words_of}
 use Rattle.capnp_format.specs.Segments.{Segments}
-use Rattle.capnp_framing.specs.Frames.{AreWords, contents, lengths}
+use Rattle.capnp_framing.specs.Frames.{AreSegmentWords, contents, lengths}
 use Rattle.capnp_framing.specs.Reading.{total, words_told}
 use Rattle.capnp_framing.proofs.ReadingLemmas.{consumes_both, contents-push, message_push, size_push, told_fewer, told_more, told_push, total-push, unread_later}
 use Rattle.capnp_framing.proofs.framing.reading.read_segments.Goals as goal
@@ -36,7 +36,7 @@ loop-i-preserved g c =
       told = ap lengths same ∙ told_push c.loop-i.i c.args.table.now S ws (λ j. (c.type_inv.table j).fits) (omega (arith, c.requires.inside, c.loop-i-test.true)) c.loop-i.invariant.told (omega (arith, count, c.in-Ok.ensures.long, c.number_at-words.ensures));
       number = ap length same ∙ omega (arith, length-append S (ws ∷ []), c.loop-i.invariant.number);
       size = ap (λ (T : Segments). length (contents T)) same ∙ size_push S ws bs _ _ whole c.loop-i.invariant.size c.in-Ok.ensures.long ∙ omega (arith, c.number_at-words.ensures, told_more c.loop-i.i c.args.table.now);
-      words = subst (λ (T : Segments). All AreWords T) (sym same) (All-push AreWords S ws c.loop-i.invariant.words small);
+      words = subst (λ (T : Segments). All AreSegmentWords T) (sym same) (All-push AreSegmentWords S ws c.loop-i.invariant.words small);
       short = subst (λ (T : Segments). All (λ ws. length ws < 2 ^ 32) T) (sym same) (All-push (λ ws. length ws < 2 ^ 32) S ws c.loop-i.invariant.short (omega (arith, count, c.in-Ok.ensures.long)));
       sum = ap total same ∙ total-push S ws ∙ omega (arith, c.loop-i.invariant.sum, count, c.in-Ok.ensures.long, c.number_at-words.ensures, told_more c.loop-i.i c.args.table.now);
       works = search rules;

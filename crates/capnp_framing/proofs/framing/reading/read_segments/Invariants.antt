@@ -2,7 +2,7 @@ use Rattle.std.proofs.Common.{◌≡◌, ◌*◌, ◌^◌, ◌<◌, length, take
 use Rattle.std.specs.List.{All}
 use Rattle.std.specs.Io.KnownBytes.{Consumes}
 use Rattle.capnp_format.specs.Bytes.{message}
-use Rattle.capnp_framing.specs.Frames.{AreWords, contents, lengths}
+use Rattle.capnp_framing.specs.Frames.{AreSegmentWords, contents, lengths}
 use Rattle.capnp_framing.specs.Reading.{total, words_told}
 use Rattle.capnp_framing.proofs.framing.reading.read_segments.Given as goal
 
@@ -12,7 +12,7 @@ invariant-loop-i g l = record {
   told : lengths (message (map vec_items l.segments.items)) ≡ take (4 * l.i) l.table;
   number : length (message (map vec_items l.segments.items)) ≡ l.i;
   size : length (contents (message (map vec_items l.segments.items))) ≡ 8 * words_told l.i l.table;
-  words : All AreWords (message (map vec_items l.segments.items));
+  words : All AreSegmentWords (message (map vec_items l.segments.items));
   short : All (λ ws. length ws < 2 ^ 32) (message (map vec_items l.segments.items));
   sum : total (message (map vec_items l.segments.items)) ≡ words_told l.i l.table;
   works : g.R.Input.has_failed l.input ≡ false;

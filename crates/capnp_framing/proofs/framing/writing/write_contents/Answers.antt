@@ -3,7 +3,7 @@ use Rattle.std.specs.List.{All}
 use Rattle.std.proofs.lemmas.List.Elements.{All-more}
 use Rattle.capnp_format.specs.Bytes.{message}
 use Rattle.capnp_format.specs.Segments.{Segments}
-use Rattle.capnp_framing.specs.Frames.{AreWords, bytes_of_words, contents}
+use Rattle.capnp_framing.specs.Frames.{AreSegmentWords, bytes_of_words, contents}
 use Rattle.capnp_framing.proofs.TableLemmas.{as_many, contents-drop}
 use Rattle.capnp_framing.proofs.WritingLemmas.{left_over_less}
 use Rattle.capnp_framing.proofs.framing.writing.write_contents.Goals as goal
@@ -17,11 +17,11 @@ loop-i-preserved g c =
     record {
       left_over = left_over_less (contents (drop (c.loop-i.i + 1) S)) (record { left_over = c.loop-i.invariant.left_over; appended = c.in_ok-write_words.ensures.written })
           (contents-drop S c.loop-i.i inside ∙ ap (λ ws. bytes_of_words ws ++ contents (drop (c.loop-i.i + 1) S)) (sym same));
-      small = All-more AreWords S c.loop-i.i [] inside c.loop-i.invariant.small (subst AreWords same c.write_words.ensures.words);
+      small = All-more AreSegmentWords S c.loop-i.i [] inside c.loop-i.invariant.small (subst AreSegmentWords same c.write_words.ensures.words);
       works = search rules;
     }
 
 pub returns-clause-words : goal.returns-clause-words
 returns-clause-words g c =
     let bytes : List (List ℕ) = g.S.ReaderSegments.segments c.args.segments.now in
-    subst (λ (S : Segments). All AreWords S) (take_all c.loop-i.i (message bytes) (omega (arith, as_many bytes, c.requires.count, c.loop-i-test.false))) c.loop-i.invariant.small
+    subst (λ (S : Segments). All AreSegmentWords S) (take_all c.loop-i.i (message bytes) (omega (arith, as_many bytes, c.requires.count, c.loop-i-test.false))) c.loop-i.invariant.small

@@ -4,7 +4,7 @@ use Rattle.capnp_words.specs.Meter.{Meter, less}
 use Rattle.capnp_format.specs.Bytes.{message}
 use Rattle.capnp_format.specs.Segments.{Segments}
 use Rattle.capnp_objects.specs.Source.{levels}
-use Rattle.capnp_layout.specs.Answers.{CoversRoot, RefusesRoot, root_of}
+use Rattle.capnp_layout.specs.Answers.{CoversRoot, RefusesRoot, message_root}
 use Rattle.capnp_layout.specs.Answers.RefusesMessage.{at_root, beyond_limits}
 use Rattle.capnp_layout.specs.Messages.{segments_in}
 use Rattle.capnp_layout.proofs.CanonLemmas.{copy_refused}
@@ -24,7 +24,7 @@ returns-in-Ok-read_root-clause-refused g c =
     let read : IsOk c.read_root.result = search rules in
     let same = c.in-Ok.ensures.words in
     let left : c.left.result ≡ less c.args.options.traversal_limit_in_words 1 = c.left.ensures ∙ ap (λ (m : Meter). m.left) c.in-Ok-read_root.ensures.left in
-    let at_root = c.in-Ok-read_root.ensures.place ∙ ap (λ (S : Segments). root_of S (levels c.in-Ok.arena.nesting_limit)) same ∙ ap (λ n. root_of (message (segments_in c.args.source)) (levels n)) c.in-Ok.ensures.nesting in
+    let at_root = c.in-Ok-read_root.ensures.place ∙ ap (λ (S : Segments). message_root S (levels c.in-Ok.arena.nesting_limit)) same ∙ ap (λ n. message_root (message (segments_in c.args.source)) (levels n)) c.in-Ok.ensures.nesting in
     let covers : CoversRoot (message (segments_in c.args.source)) c.args.options.traversal_limit_in_words =
     subst (λ (S : Segments). CoversRoot S c.args.options.traversal_limit_in_words) same (c.read_root.ensures.exactly.0 read) in
     IfErr-weaker c.make_in_tries.result _ _ (λ e. copy_refused c.args.options at_root left covers) c.make_in_tries.ensures.refused
@@ -32,6 +32,6 @@ returns-in-Ok-read_root-clause-refused g c =
 pub returns-in-Ok-read_root-clause-tries : goal.returns-in-Ok-read_root-clause-tries
 returns-in-Ok-read_root-clause-tries g c =
     let same = c.in-Ok.ensures.words in
-    let place = c.in-Ok-read_root.ensures.place ∙ ap (λ (S : Segments). root_of S (levels c.in-Ok.arena.nesting_limit)) same ∙ ap (λ n. root_of (message (segments_in c.args.source)) (levels n)) c.in-Ok.ensures.nesting in
+    let place = c.in-Ok-read_root.ensures.place ∙ ap (λ (S : Segments). message_root S (levels c.in-Ok.arena.nesting_limit)) same ∙ ap (λ n. message_root (message (segments_in c.args.source)) (levels n)) c.in-Ok.ensures.nesting in
     let words = c.size_in_words-words.ensures ∙ total-message _ ∙ ap total same in
     IfOk-weaker c.make_in_tries.result _ _ (λ made. moved_tries (g.A.Allocator.offers c.args.allocator) _ place words) c.make_in_tries.ensures.tries

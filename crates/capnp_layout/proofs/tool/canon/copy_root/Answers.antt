@@ -3,7 +3,7 @@ use Rattle.capnp_format.specs.Tree.{Tree}
 use Rattle.capnp_objects.specs.Wanted.{canonical}
 use Rattle.capnp_copies.specs.Rooms.{IsTooLarge}
 use Rattle.capnp_readers.specs.Readers.{reading}
-use Rattle.capnp_layout.specs.Answers.{IsRead, IsMadeWhereAlone}
+use Rattle.capnp_layout.specs.Answers.{IsReadWithin, IsMadeWhereAlone}
 use Rattle.capnp_layout.proofs.CanonLemmas.{fresh_root, null_root, only_null, made_copy, kept_room, refused_copy, spread_copy}
 use Rattle.capnp_layout.proofs.tool.canon.copy_root.Goals as goal
 
@@ -14,8 +14,8 @@ returns-in-Ok-clause-copied g c =
     let root = c.get_root-root.result in
     let fresh = fresh_root view root c.args.arena.now c.get_root-root.ensures.now c.get_root-root.ensures.place.0 c.requires.root in
     let made = made_copy r c.args.left root.segment root.at (view root.arena.now) (view c.copy_from.new.self.arena.now) _ _ c.new-lim.ensures (c.in-Ok.ensures.alone fresh.null) in
-    let left = subst (λ (after : Option ℕ). (t : Tree) × IsRead r c.args.left after t × IsMadeWhereAlone (view c.copy_from.new.self.arena.now) t) (sym c.left.ensures) made in
-    subst (λ (a : g.row.A.Denot). (t : Tree) × IsRead r c.args.left c.left.result t × IsMadeWhereAlone (view a) t) (search rules) left
+    let left = subst (λ (after : Option ℕ). (t : Tree) × IsReadWithin r c.args.left after t × IsMadeWhereAlone (view c.copy_from.new.self.arena.now) t) (sym c.left.ensures) made in
+    subst (λ (a : g.row.A.Denot). (t : Tree) × IsReadWithin r c.args.left c.left.result t × IsMadeWhereAlone (view a) t) (search rules) left
 
 pub returns-in-Ok-clause-room : goal.returns-in-Ok-clause-room
 returns-in-Ok-clause-room g c =

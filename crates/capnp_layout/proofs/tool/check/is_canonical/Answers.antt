@@ -3,7 +3,7 @@ use Rattle.std.proofs.lemmas.Result.{IfErr-weaker}
 use Rattle.capnp_format.specs.Bytes.{message}
 use Rattle.capnp_format.specs.Segments.{Segments}
 use Rattle.capnp_objects.specs.Source.{levels}
-use Rattle.capnp_layout.specs.Answers.{CoversRoot, root_of}
+use Rattle.capnp_layout.specs.Answers.{CoversRoot, message_root}
 use Rattle.capnp_layout.specs.Answers.RefusesMessage.{beyond_limits}
 use Rattle.capnp_layout.specs.Messages.{segments_in}
 use Rattle.capnp_layout.proofs.CheckLemmas.{AtRoot, check_answered, check_answers, check_refused}
@@ -18,7 +18,7 @@ returns c =
     let read : IsOk c.read_root.result = search rules in
     let same = c.in-Ok.ensures.words in
     let at_root : AtRoot (segments_in c.args.source) c.args.options _ c.in_ok-root.lim = record {
-      place = c.in_ok-root.ensures.place ∙ ap (λ (S : Segments). root_of S (levels c.in-Ok.arena.nesting_limit)) same ∙ ap (λ n. root_of (message (segments_in c.args.source)) (levels n)) c.in-Ok.ensures.nesting;
+      place = c.in_ok-root.ensures.place ∙ ap (λ (S : Segments). message_root S (levels c.in-Ok.arena.nesting_limit)) same ∙ ap (λ n. message_root (message (segments_in c.args.source)) (levels n)) c.in-Ok.ensures.nesting;
       left = c.in_ok-root.ensures.left;
       covers = subst (λ (S : Segments). CoversRoot S c.args.options.traversal_limit_in_words) same (c.read_root.ensures.exactly.0 read);
     } in

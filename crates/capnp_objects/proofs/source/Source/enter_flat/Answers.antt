@@ -2,7 +2,7 @@ use Rattle.std.proofs.Common.{◌≡◌, ◌≤◌, ◌<◌, ℕ, refl, ◌∙�
 use Rattle.capnp_format.specs.Segments.{Segments, Target}
 use Rattle.capnp_format.specs.Word.{element_size, list_count}
 use Rattle.capnp_objects.specs.Demands.{amplified, Meets}
-use Rattle.capnp_objects.specs.Landings.{target}
+use Rattle.capnp_objects.specs.Landings.{landing_target}
 use Rattle.capnp_objects.specs.Source.{source_segments}
 use Rattle.capnp_objects.proofs.Landings.{entered_free, lies}
 use Rattle.capnp_objects.proofs.Parts.{extra_list, extra_flat, charge_some}
@@ -14,7 +14,7 @@ returns-in-Err-clause-refused g c = c.in-Err.ensures.refused c.args.purpose (λ 
 pub returns-in-Ok-clause-object : goal.returns-in-Ok-clause-object
 returns-in-Ok-clause-object g c =
     let S : Segments = source_segments g.A.ReaderArena.segments c.args.self in
-    let a : Target = target c.args.landing in
+    let a : Target = landing_target c.args.landing in
     let size : ℕ = element_size a.word in
     let some : 0 < size = omega (arith, c.requires.is_size, c.requires.some) in
     let small : size ≤ 5 = omega (arith, c.requires.is_size, c.requires.is_flat) in

@@ -3,7 +3,7 @@ use Rattle.capnp_format.specs.Word.{kind, list_count}
 use Rattle.capnp_format.specs.Segments.{Segments, Target}
 use Rattle.capnp_objects.specs.Demands.{tag, element_words}
 use Rattle.capnp_objects.specs.Source.{source_segments}
-use Rattle.capnp_objects.specs.Landings.{target, broken}
+use Rattle.capnp_objects.specs.Landings.{landing_target, broken}
 use Rattle.capnp_objects.proofs.Landings.{untagged}
 use Rattle.capnp_objects.proofs.source.Source.enter_structs.Goals as goal
 
@@ -13,7 +13,7 @@ returns-in-Err-clause-refused g c = c.in-Err.ensures.refused c.args.purpose (λ 
 pub returns-then-ne-clause-refused : goal.returns-then-ne-clause-refused
 returns-then-ne-clause-refused g c =
     let S : Segments = source_segments g.A.ReaderArena.segments c.args.self in
-    let a : Target = target c.args.landing in
+    let a : Target = landing_target c.args.landing in
     let word : c.word-tag.result.0 ≡ tag S a = c.word-tag.ensures.value ∙ ap (λ ws. get_or ws c.args.landing.start.at 0) c.requires.held.0 in
     let other : kind c.word-tag.result.0 ≢ 0 = search rules in
     let paid = c.in-Ok.ensures.claimed in
@@ -22,7 +22,7 @@ returns-then-ne-clause-refused g c =
 pub returns-then-from-clause-refused : goal.returns-then-from-clause-refused
 returns-then-from-clause-refused g c =
     let S : Segments = source_segments g.A.ReaderArena.segments c.args.self in
-    let a : Target = target c.args.landing in
+    let a : Target = landing_target c.args.landing in
     let word : c.word-tag.result.0 ≡ tag S a = c.word-tag.ensures.value ∙ ap (λ ws. get_or ws c.args.landing.start.at 0) c.requires.held.0 in
     let is_tag : kind c.word-tag.result.0 ≡ 0 = search rules in
     let over : list_count a.word < element_words c.word-tag.result.0 =

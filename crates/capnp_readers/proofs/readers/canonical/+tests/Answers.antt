@@ -8,7 +8,7 @@ use Rattle.capnp_format.specs.Tree.{no_trees}
 use Rattle.capnp_objects.specs.declared.object.Object.TheVariants.{Struct as ObjectStruct, Flat as ObjectFlat, Pointers as ObjectPointers, Structs as ObjectStructs}
 use Rattle.capnp_objects.specs.Source.{levels}
 use Rattle.capnp_objects.specs.Objects.{IsObject}
-use Rattle.capnp_objects.specs.Reading.{Reading, row, behind, word_of}
+use Rattle.capnp_objects.specs.Reading.{Reading, segment_read, behind, word_of}
 use Rattle.capnp_objects.specs.declared.object.Purpose.TheVariants.{Value}
 use Rattle.capnp_objects.proofs.Walked.{row_within}
 use Rattle.capnp_readers.specs.Sizes.{reading_on}
@@ -141,7 +141,7 @@ test_rows-loop-i-preserved g t c =
     let d : ℕ = c.args.size.data_words in
     let q : ℕ = c.args.size.pointers in
     let i : ℕ = c.loop-i.i in
-    let inside : r.at + i * (d + q) + (d + q) ≤ length (row r) = omega (arith, row_within i c.args.count (d + q) c.loop-i-test.true, c.requires.inside) in
+    let inside : r.at + i * (d + q) + (d + q) ≤ length (segment_read r) = omega (arith, row_within i c.args.count (d + q) c.loop-i-test.true, c.requires.inside) in
     let data_so : IsTrue c.if-is_data_used.is_data_used ↔ (IsTrue c.loop-i.is_data_used ⊎ RowDataUsed r c.args.size i) =
     elim c.if-is_data_used.branch [
       | test_rows-then-is_data_used w ↦ still_seen w.is_data_used-is w.if-is_data_used.true

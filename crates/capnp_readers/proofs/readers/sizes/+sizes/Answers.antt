@@ -9,7 +9,7 @@ use Rattle.capnp_objects.specs.declared.object.Purpose.TheVariants.{Size}
 use Rattle.capnp_objects.specs.Measures.{counted_words}
 use Rattle.capnp_objects.specs.Objects.{IsObject, near_at}
 use Rattle.capnp_objects.specs.Outcomes.{Entered}
-use Rattle.capnp_objects.specs.Reading.{Reading, row, sized, word_of}
+use Rattle.capnp_objects.specs.Reading.{Reading, segment_read, sized, word_of}
 use Rattle.capnp_objects.specs.Sizing.{Tally, SizeStops, here, unmeasured}
 use Rattle.capnp_objects.proofs.Walked.{counted_struct, struct_at, walks_none, pointer_walked, walks_no_element, row_walked, row_within, rows_without, null_walked, capability_walked}
 use Rattle.capnp_objects.proofs.WalkStops.{beyond_at, struct_stops_at, capability_beyond}
@@ -111,7 +111,7 @@ add_rows-loop-i-preserved g t c =
     let d : ℕ = c.args.data_words in
     let q : ℕ = c.args.pointers in
     let width : c.from.result + c.from-2.result ≡ d + q = ap₂ (λ x y. x + y) c.from.ensures c.from-2.ensures in
-    let inside : r.at + c.loop-i.i * (d + q) + d + q ≤ length (row r) = omega (arith, row_within c.loop-i.i c.args.count (d + q) c.loop-i-test.true, c.requires.inside) in
+    let inside : r.at + c.loop-i.i * (d + q) + d + q ≤ length (segment_read r) = omega (arith, row_within c.loop-i.i c.args.count (d + q) c.loop-i-test.true, c.requires.inside) in
     let at : c.from-in-loop-i.result + c.from-in-loop-i-2.result * (c.from.result + c.from-2.result) + c.from-in-loop-i-3.result ≡ r.at + c.loop-i.i * (d + q) + d =
     ap₂ (λ x y. x + y) (ap₂ (λ x y. x + y) c.from-in-loop-i.ensures (ap₂ (λ x y. x * y) c.from-in-loop-i-2.ensures width)) c.from-in-loop-i-3.ensures in
     let nl = to_z-of_z w32 c.args.from.now.nesting_limit (search rules) in

@@ -1,7 +1,7 @@
 use Rattle.std.proofs.Common.{◌≡◌, false, true, refl, sym, ◌∙◌, arith}
 use Rattle.capnp_format.specs.Bytes.{message}
 use Rattle.capnp_format.specs.Segments.{Segments, word_at, Target}
-use Rattle.layout_vectors.specs.Landings.{target_of}
+use Rattle.layout_vectors.specs.Landings.{target_at}
 use Rattle.layout_vectors.specs.Walks.{Walk, walk}
 use Rattle.capnp_words.specs.Sizes.{size_number}
 use Rattle.layout_vectors.proofs.Steps.{flat_taken, flat_words, not_padded, object_refused}
@@ -10,7 +10,7 @@ use Rattle.layout_vectors.proofs.vectors.objects.take_flat.Goals as goal
 pub returns-then-take-clause-goes : goal.returns-then-take-clause-goes
 returns-then-take-clause-goes g c =
     let S : Segments = message (g.A.ReaderArena.segments c.args.arena.now) in
-    let a : Target = target_of c.args.landing in
+    let a : Target = target_at c.args.landing in
     let w : Walk = walk c.args.marks.now c.args.pending.now in
     let inside = c.take.ensures.inside c.if-take.true in
     let taken = c.take.ensures.taken c.if-take.true in
@@ -20,7 +20,7 @@ returns-then-take-clause-goes g c =
 pub returns-then-take-clause-fails : goal.returns-then-take-clause-fails
 returns-then-take-clause-fails g c =
     let S : Segments = message (g.A.ReaderArena.segments c.args.arena.now) in
-    let a : Target = target_of c.args.landing in
+    let a : Target = target_at c.args.landing in
     let w : Walk = walk c.args.marks.now c.args.pending.now in
     λ no F h once. not_padded S a (word_at w.marks) w.pending (size_number c.args.size) c.list_element_count-count.result c.requires.is_size c.list_element_count-count.ensures.value c.requires.is_list c.requires.is_flat
     (λ padded. let e : true ≡ false = sym (c.has_padding.ensures.exactly.1 padded) ∙ no in cc) F h
@@ -28,7 +28,7 @@ returns-then-take-clause-fails g c =
 pub returns-else-take-clause-fails : goal.returns-else-take-clause-fails
 returns-else-take-clause-fails g c =
     let S : Segments = message (g.A.ReaderArena.segments c.args.arena.now) in
-    let a : Target = target_of c.args.landing in
+    let a : Target = target_at c.args.landing in
     let w : Walk = walk c.args.marks.now c.args.pending.now in
     λ no. object_refused S a w c.flat_words-words.result c.requires.fits (omega (arith, c.requires.is_list))
     (λ t o. flat_words S a (size_number c.args.size) c.list_element_count-count.result t c.requires.is_size c.list_element_count-count.ensures.value c.requires.is_list c.requires.is_flat o ∙ sym c.flat_words-words.ensures) (c.take.ensures.refused no)

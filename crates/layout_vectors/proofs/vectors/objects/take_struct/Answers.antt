@@ -1,7 +1,7 @@
 use Rattle.std.proofs.Common.{◌+◌, ℕ, sym, ap₂, ◌∙◌, arith}
 use Rattle.capnp_format.specs.Bytes.{message}
 use Rattle.capnp_format.specs.Segments.{Segments, Target}
-use Rattle.layout_vectors.specs.Landings.{target_of}
+use Rattle.layout_vectors.specs.Landings.{target_at}
 use Rattle.layout_vectors.specs.Walks.{Walk, walk}
 use Rattle.layout_vectors.proofs.Steps.{struct_taken, struct_words, object_refused}
 use Rattle.layout_vectors.proofs.vectors.objects.take_struct.Goals as goal
@@ -9,7 +9,7 @@ use Rattle.layout_vectors.proofs.vectors.objects.take_struct.Goals as goal
 pub returns-then-not-take-clause-fails : goal.returns-then-not-take-clause-fails
 returns-then-not-take-clause-fails g c =
     let S : Segments = message (g.A.ReaderArena.segments c.args.arena.now) in
-    let a : Target = target_of c.args.landing in
+    let a : Target = target_at c.args.landing in
     let w : Walk = walk c.args.marks.now c.args.pending.now in
     λ _. object_refused S a w c.total.result c.requires.fits (omega (arith, c.requires.is_struct))
     (λ t o. struct_words S a t c.requires.is_struct o ∙ sym (c.total.ensures ∙ ap₂ (λ x y. x + y) c.struct_size-size.ensures.data_of c.struct_size-size.ensures.pointers_of)) (c.take.ensures.refused c.if-not-take.true)
@@ -23,7 +23,7 @@ put_pointers-requires g c = omega (arith, c.from.ensures, c.from-2.ensures, c.to
 pub returns-clause-goes : goal.returns-clause-goes
 returns-clause-goes g c =
     let S : Segments = message (g.A.ReaderArena.segments c.args.arena.now) in
-    let a : Target = target_of c.args.landing in
+    let a : Target = target_at c.args.landing in
     let w : Walk = walk c.args.marks.now c.args.pending.now in
     let d : ℕ = c.struct_size-size.result.data_words in
     let q : ℕ = c.struct_size-size.result.pointers in

@@ -1,7 +1,7 @@
 use Rattle.std.proofs.Common.{◌≡◌, ◌+◌, ◌*◌, ℕ, sym, ap, ap₂, ◌∙◌, subst, arith, rules}
 use Rattle.capnp_format.specs.Bytes.{message}
 use Rattle.capnp_format.specs.Segments.{Segments, Target}
-use Rattle.layout_vectors.specs.Landings.{target_of}
+use Rattle.layout_vectors.specs.Landings.{target_at}
 use Rattle.layout_vectors.specs.Walks.{Walk, walk}
 use Rattle.capnp_format.specs.Word.{kind, list_count}
 use Rattle.capnp_format.specs.Means.{IsTag}
@@ -11,7 +11,7 @@ use Rattle.layout_vectors.proofs.vectors.objects.take_structs.Goals as goal
 pub returns-then-not-take-clause-fails : goal.returns-then-not-take-clause-fails
 returns-then-not-take-clause-fails g c =
     let S : Segments = message (g.A.ReaderArena.segments c.args.arena.now) in
-    let a : Target = target_of c.args.landing in
+    let a : Target = target_at c.args.landing in
     let w : Walk = walk c.args.marks.now c.args.pending.now in
     λ _. object_refused S a w (c.list_inline_composite_word_count-words.result + 1) c.requires.fits (omega (arith, c.requires.is_list))
     (λ t o. structs_words S a t c.requires.is_list c.requires.of_structs o ∙ ap (λ n. n + 1) (sym c.list_inline_composite_word_count-words.ensures.value)) (c.take.ensures.refused c.if-not-take.true)
@@ -22,7 +22,7 @@ overflow_add-landing g c = omega (arith, c.take.ensures.inside c.if-not-take.fal
 pub returns-clause-goes : goal.returns-clause-goes
 returns-clause-goes g c =
     let S : Segments = message (g.A.ReaderArena.segments c.args.arena.now) in
-    let a : Target = target_of c.args.landing in
+    let a : Target = target_at c.args.landing in
     let w : Walk = walk c.args.marks.now c.args.pending.now in
     let d : ℕ = c.struct_size-size.result.data_words in
     let q : ℕ = c.struct_size-size.result.pointers in
