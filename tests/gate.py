@@ -1,5 +1,6 @@
 #!/usr/bin/env python3
-"""The gate: `rt ci`, and then the outside vectors and the rows over the programs that it has just proved and built.
+"""The gate: the names of definitions, `rt ci`, and then the outside vectors, the rows and the hostile runs over the
+programs that it has just proved and built.
 
     gate.py [--anew]
 
@@ -83,7 +84,11 @@ def main():
         sys.exit(__doc__)
     for program in (TOOL, ROWS, RUNS):
         remove(program)
-    parts = [counted('rt ci', proving(sys.argv[1:])), *(over_programs(*it) for it in OVER_PROGRAMS)]
+    parts = [
+        counted('names', [sys.executable, str(TOP / 'tests/names.py')]),
+        counted('rt ci', proving(sys.argv[1:])),
+        *(over_programs(*it) for it in OVER_PROGRAMS),
+    ]
     passed, failed = (sum(it) for it in zip(*parts))
     say(f'{passed} passed, {failed} failed')
     return 1 if failed else 0
