@@ -1,6 +1,7 @@
 -- What a place holds once a value was copied to it: one that was null, or was cleared first.
-use Rattle.std.proofs.Common.{◌≡◌, inl, inr, ℕ, ◌+◌, ◌<◌, zero, suc, List, length, refl, ◌∙◌, Result, Ok, Err, IfOk, OnOk, OnErr, [], ◌∷◌, ap, sym, subst, arith}
+use Rattle.std.proofs.Common.{◌≡◌, inl, inr, ℕ, ◌+◌, ◌<◌, ◌≤◌, zero, suc, List, length, refl, ◌∙◌, Result, Ok, Err, IfOk, IfErr, OnOk, OnErr, [], ◌∷◌, ap, sym, subst, arith}
 use Rattle.capnp_words.specs.declared.error.ErrorKind.{ErrorKind}
+use Rattle.capnp_words.specs.Meter.{Meter}
 use Rattle.capnp_format.specs.Canonical.{encoding}
 use Rattle.capnp_format.specs.Segments.{Segments, segment, word_at, IsPlace}
 use Rattle.capnp_format.specs.Tree.{Tree, Null}
@@ -11,13 +12,15 @@ use Rattle.capnp_making.specs.Near.{HasOwnRoom}
 use Rattle.capnp_making.specs.Stored.{IsReplaced, Puts}
 use Rattle.capnp_making.specs.Zeroed.{IsPruned}
 use Rattle.capnp_making.proofs.FillingMade.{null_stored}
-use Rattle.capnp_objects.specs.Outcomes.{Reads}
+use Rattle.capnp_making.proofs.Memory.{keeps_both, keeps_written, keeps_then_spends}
+use Rattle.capnp_making.proofs.Replaced.{replaced_again}
 use Rattle.capnp_objects.specs.Reading.{Reading}
 use Rattle.capnp_objects.specs.Wanted.{Form}
-use Rattle.capnp_copies.specs.Changes.{Change, StandsAsRead}
+use Rattle.capnp_copies.specs.Changes.{Change, MakesCopy, StopsCopy}
+use Rattle.capnp_copies.specs.Copies.{CanBeCopied}
 use Rattle.capnp_copies.specs.Forms.{kept}
-use Rattle.capnp_copies.specs.Rooms.{IsTooLarge}
-use Rattle.capnp_builders.specs.Kept.{OnceCleared, FillsSegment, FillsMessage}
+use Rattle.capnp_copies.specs.Originals.{Original, value_original}
+use Rattle.capnp_builders.specs.Kept.{PutsCopy, LeavesCleared, FillsSegment, FillsMessage}
 use Rattle.capnp_copies.proofs.Copying.{fresh_made}
 
 -- a null pointer stores nothing else
@@ -27,15 +30,10 @@ null_replaced S R s p t place null made = λ u stored.
     let same : u ≡ Null = (one_value S stored.means.0 none.means.0 s p u Null stored.means.1 none.means.1 stored.means.2 none.means.2).0 in
     subst (λ v. IsReplaced S R s p v t) (sym same) made)
 
-pub null_cleared : {X E : Type 0} (o : Result X E) (S R : Segments) (s p : ℕ) → IsPlace S s p → word_at S s p ≡ 0 → OnErr o (IsReplaced S R s p Null Null) → OnErr o (Puts S R s p Null)
-null_cleared (Ok x) S R s p place null made = tt
-null_cleared (Err k) S R s p place null made = null_replaced S R s p Null place null made
-
 -- a segment whose one word was null is the words of the copy
-pub fresh_copied : {X : Type 0} (o : Result X ErrorKind) (r : Reading) (c : Change) (Q : Tree → Type 0) → IsPlace c.old.words c.segment c.at → segment c.old.words c.segment ≡ 0 ∷ [] →
-    IfOk o (λ _. (t : Tree) × Reads c.form r c.before c.after t × Q t) → OnOk o (StandsAsRead r c) → IfOk o (λ _. FillsSegment r c)
-fresh_copied (Ok x) r c Q place one (t, is_read, held) stands = (t, is_read, λ fits. fresh_made c.old.words c.segment c.at (kept c.form t) (place, one) (stands t is_read fits))
-fresh_copied (Err k) r c Q place one copied stands = tt
+pub fresh_copied : {X : Type 0} (o : Result X ErrorKind) (r : Reading) (c : Change) → IsPlace c.old.words c.segment c.at → segment c.old.words c.segment ≡ 0 ∷ [] → IfOk o (λ _. MakesCopy (value_original r) c) → IfOk o (λ _. FillsSegment r c)
+fresh_copied (Ok x) r c place one made = (made.value, made.is_read, λ fits. fresh_made c.old.words c.segment c.at (kept c.form made.value) (place, one) (made.stands fits))
+fresh_copied (Err k) r c place one made = tt
 
 -- a message of one segment is that segment
 only_segment : (M : Segments) (ws : List ℕ) → length M ≡ 1 → segment M 0 ≡ ws → M ≡ ws ∷ []
@@ -48,27 +46,30 @@ first_segment zero p place = refl
 first_segment (suc s) p place = absurd (omega (arith, place))
 
 -- a message of one word that was null, and has one segment still, is the words of the copy
-pub alone_copied : {X : Type 0} (o : Result X ErrorKind) (r : Reading) (c : Change) (Q : Tree → Type 0) → IsPlace c.old.words c.segment c.at → c.old.words ≡ (0 ∷ []) ∷ [] →
-    IfOk o (λ _. (t : Tree) × Reads c.form r c.before c.after t × Q t) → OnOk o (StandsAsRead r c) → IfOk o (λ _. FillsMessage r c)
-alone_copied (Ok x) r c Q place fresh copied stands =
+pub alone_copied : {X : Type 0} (o : Result X ErrorKind) (r : Reading) (c : Change) → IsPlace c.old.words c.segment c.at → c.old.words ≡ (0 ∷ []) ∷ [] → IfOk o (λ _. MakesCopy (value_original r) c) → IfOk o (λ _. FillsMessage r c)
+alone_copied (Ok x) r c place fresh copied =
     let first : c.segment ≡ 0 = first_segment c.segment c.at (subst (λ (S : Segments). IsPlace S c.segment c.at) fresh place) in
     let only : segment c.old.words c.segment ≡ 0 ∷ [] = ap (λ i. segment c.old.words i) first ∙ ap (λ (S : Segments). segment S 0) fresh in
-    let made = fresh_copied (Ok x) r c Q place only copied stands in
+    let made = fresh_copied (Ok x) r c place only copied in
     (made.0, made.1, λ one. only_segment c.new.words (encoding (kept c.form made.0)) one (subst (λ i. segment c.new.words i ≡ encoding (kept c.form made.0)) first (made.2 (inr one))))
-alone_copied (Err k) r c Q place fresh copied stands = tt
+alone_copied (Err k) r c place fresh copied = tt
 
--- the words of the copy stand behind what was cleared, or was null
-pub stands_once : {X E : Type 0} (o : Result X E) (P : Change → Type 0) (c : Change) (mid : View) → IsPruned c.old.words mid.words → KeepsLimits c.old mid → Puts c.old.words mid.words c.segment c.at Null → OnOk o (P (record c { old = mid })) → OnOk o (OnceCleared P c)
-stands_once (Ok x) P c mid zeroed limits null stands = record { cleared = mid; zeroed = zeroed; limits = limits; null = null; stands = stands }
-stands_once (Err k) P c mid zeroed limits null stands = tt
+-- what an outcome gives
+pub on_ok : {X E : Type 0} (result : Result X E) (P Q : Type 0) → IfOk result (λ _. P) → (P → Q) → OnOk result Q
+on_ok (Ok x) P Q h f = f h
+on_ok (Err k) P Q h f = tt
+
+pub on_err : {X E : Type 0} (result : Result X E) (P : E → Type 0) (Q : Type 0) → IfErr result P → ((k : E) → P k → Q) → OnErr result Q
+on_err (Ok x) P Q h f = tt
+on_err (Err k) P Q h f = f k h
 
 pub nothing_zeroed : (S : Segments) → IsPruned S S
-nothing_zeroed S = record { segments = refl; words = λ v. refl; only = λ v r. inl refl; fewer = omega arith }
+nothing_zeroed S = record { segments = refl; words = λ v. refl; only = λ v r. inl refl }
 
--- what either outcome gives
-pub either_way : {X E : Type 0} (o : Result X E) (P Q G : Type 0) → IfOk o (λ _. P) → OnErr o Q → (P → G) → (Q → G) → G
-either_way (Ok x) P Q G copied cleared f h = f copied
-either_way (Err k) P Q G copied cleared f h = h cleared
+-- the segment of the place gets no shorter, whether the copy is made or refused
+pub grows_there : {X : Type 0} (result : Result X ErrorKind) (o : Original) (c : Change) → IfOk result (λ _. MakesCopy o c) → IfErr result (StopsCopy o c Null) → length (segment c.old.words c.segment) ≤ length (segment c.new.words c.segment)
+grows_there (Ok x) o c copied refused = copied.made.words c.segment
+grows_there (Err k) o c copied refused = refused.left.words c.segment
 
 -- what is refused once the place is cleared was refused before
 
@@ -81,6 +82,26 @@ exceeds_before n a b s limits pruned beyond = omega (arith, beyond, ap (λ (v : 
 pub room_later : (n : ℕ) (a b : View) (s : ℕ) → KeepsLimits a b → IsPruned a.words b.words → HasOwnRoom a s n → HasOwnRoom b s n
 room_later n a b s limits pruned room = omega (arith, room, ap (λ (v : View). v.room s) limits, pruned.words s)
 
-pub beyond_before : (form : Form) (r : Reading) (a b : View) (s : ℕ) → KeepsLimits a b → IsPruned a.words b.words → IsTooLarge form r (length (segment b.words s)) (b.room s) → IsTooLarge form r (length (segment a.words s)) (a.room s)
-beyond_before form r a b s limits pruned large =
-    λ t c means. exceeds_before _ a b s limits pruned (large t c means)
+pub can_later : (o : Original) (form : Form) (m : Meter) (a b : View) (s : ℕ) → KeepsLimits a b → IsPruned a.words b.words → CanBeCopied o form m a s → CanBeCopied o form m b s
+can_later o form m a b s limits pruned can = record { small = can.small; value = can.value; after = can.after; is_read = can.is_read; room = room_later _ a b s limits pruned can.room }
+
+-- a copy to a place that was cleared first, or is null
+
+pub put_copied : {o : Original} (c : Change) (mid : View) → KeepsLimits c.old mid → IsPruned c.old.words mid.words → Puts c.old.words mid.words c.segment c.at Null → MakesCopy o (record c { old = mid }) → PutsCopy o c
+put_copied c mid limits only null made = record {
+  value = made.value;
+  is_read = made.is_read;
+  put = λ u stored. replaced_again c.old.words mid.words c.new.words c.segment c.at u Null (kept c.form made.value) (null u stored) made.made;
+  memory = keeps_both c.old mid c.new (omega (arith, only.segments)) (keeps_written c.old mid _ limits) made.memory;
+  stands = record { cleared = mid; zeroed = only; limits = limits; null = null; stands = made.stands };
+}
+
+pub put_stopped : {o : Original} {k : ErrorKind} (c : Change) (mid : View) → KeepsLimits c.old mid → IsPruned c.old.words mid.words → Puts c.old.words mid.words c.segment c.at Null → StopsCopy o (record c { old = mid }) Null k → LeavesCleared o c k
+put_stopped {k = k} c mid limits only null stop = record {
+  why = elim stop.why [
+    | inl x ↦ inl (x.0, words_refused_later c.old mid c.new x.0 k limits x.1, x.2, λ any m m' t read. exceeds_before _ c.old mid c.segment limits only (x.3 any m m' t read))
+    | inr x ↦ inr x
+  ];
+  cleared = λ u stored. replaced_again c.old.words mid.words c.new.words c.segment c.at u Null Null (null u stored) stop.left;
+  memory = keeps_then_spends c.old mid c.new k (omega (arith, only.segments)) (keeps_written c.old mid _ limits) stop.memory;
+}

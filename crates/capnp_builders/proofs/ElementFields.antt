@@ -11,7 +11,8 @@ use Rattle.capnp_readers.specs.Sections.{elements_words, step_bits, data_bits}
 use Rattle.capnp_readers.specs.declared.readers.list_reader.ListPlace.{ListPlace}
 use Rattle.capnp_readers.proofs.Sections.{words_within}
 use Rattle.capnp_builders.proofs.FieldPlaces.{aligned_to, field_aligned}
-use Rattle.capnp_builders.specs.Elements.{lowest_bits, WritesElement, HasElement}
+use Rattle.capnp_builders.specs.Elements.{lowest_bits}
+use Rattle.capnp_builders.specs.Places.{HasField, WritesField}
 
 -- the data of an element lies among the words of all
 data_within : (size : ElementSize) (sections : StructSize) (count i : ℕ) → i < count → i * step_bits size sections + data_bits size sections ≤ 64 * elements_words size count (sections.data_words + sections.pointers)
@@ -53,12 +54,12 @@ start_in_bits list i n some wide =
 -- a number that is written or read there
 pub number_written : (old new : View) (list : ListPlace) (i n v : ℕ) → 0 < n → 8 * n ≤ data_bits list.size list.struct_size →
     new ≡ record old { words = with_field old.words list.segment (8 * (list.byte + i * (step_bits list.size list.struct_size / 8))) (8 * n) v } →
-    WritesElement old new list (lowest_bits list i (8 * n) v)
+    WritesField old new list.segment list.byte (lowest_bits list i (8 * n) v)
 number_written old new list i n v some wide written = rw (start_in_bits list i n some wide) at written
 
 pub number_read : (view : View) (list : ListPlace) (i n v : ℕ) → 0 < n → 8 * n ≤ data_bits list.size list.struct_size →
     v ≡ field_in (segment view.words list.segment) (8 * (list.byte + i * (step_bits list.size list.struct_size / 8))) (8 * n) →
-    HasElement view list (lowest_bits list i (8 * n) v)
+    HasField view list.segment list.byte (lowest_bits list i (8 * n) v)
 number_read view list i n v some wide is = rw (start_in_bits list i n some wide) at is
 
 -- the lowest bits of an element lie in the list's segment

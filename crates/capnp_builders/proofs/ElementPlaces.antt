@@ -10,7 +10,7 @@ use Rattle.capnp_readers.specs.Sections.{bytes_for, elements_words, HoldsPointer
 use Rattle.capnp_readers.specs.declared.readers.struct_reader.StructPlace.{StructPlace}
 use Rattle.capnp_readers.specs.declared.readers.list_reader.ListPlace.{ListPlace}
 use Rattle.capnp_readers.proofs.Sections.{words_within, pointers_within, flat_words, number_within, number_bytes}
-use Rattle.capnp_builders.specs.Places.{StructStartsAt, IsElementOfSize, IsElement}
+use Rattle.capnp_builders.specs.Places.{StructStartsAt, IsElement}
 
 -- a struct of whole words that lies in a segment
 whole_inside : (S : Segments) (place : StructPlace) (s p d q : ℕ) → s < length S → StructStartsAt place s p d q → p + (d + q) ≤ length (segment S s) → IsStructPlace S place
@@ -29,7 +29,7 @@ number_inside S list i size place is_size flat whole (there, aligned, fits) l (i
     let bytes : bytes_for place.bits ≡ element_bits (size_number size) / 8 = ap bytes_for is_bits ∙ number_bytes size whole in
     (omega (arith, there, is_s), omega (arith, same, is_byte, bytes, inner, words, fits), omega (arith, same, is_pointers, is_count, fits))
 
-at_size : (S : Segments) (list : ListPlace) (i : ℕ) (size : ElementSize) (place : StructPlace) → list.size ≡ size → size_number size ≢ 1 → IsListPlace S list → i < list.count → IsElementOfSize size list i place → IsStructPlace S place
+at_size : (S : Segments) (list : ListPlace) (i : ℕ) (size : ElementSize) (place : StructPlace) → list.size ≡ size → size_number size ≢ 1 → IsListPlace S list → i < list.count → IsElement size list i place → IsStructPlace S place
 at_size S list i InlineComposite place is_size whole (there, aligned, fits) l e =
     let w = list.struct_size.data_words + list.struct_size.pointers in
     let words : elements_words list.size list.count w ≡ list.count * w = ap (λ z. elements_words z list.count w) is_size in
@@ -46,7 +46,7 @@ at_size S list i FourBytes place is_size whole inside l e = number_inside S list
 at_size S list i EightBytes place is_size whole inside l e = number_inside S list i EightBytes place is_size (omega arith) whole inside l e
 
 -- an element, as a struct
-pub element_inside : (S : Segments) (list : ListPlace) (i : ℕ) (place : StructPlace) → size_number list.size ≢ 1 → IsListPlace S list → i < list.count → IsElement list i place → IsStructPlace S place
+pub element_inside : (S : Segments) (list : ListPlace) (i : ℕ) (place : StructPlace) → size_number list.size ≢ 1 → IsListPlace S list → i < list.count → IsElement list.size list i place → IsStructPlace S place
 element_inside S list i place whole inside l e = at_size S list i list.size place refl whole inside l e
 
 -- the pointer of an element

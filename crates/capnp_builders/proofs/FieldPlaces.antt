@@ -9,7 +9,7 @@ use Rattle.capnp_making.proofs.Zeros.{lengths_kept}
 use Rattle.capnp_readers.specs.Readers.{IsStructPlace}
 use Rattle.capnp_readers.specs.declared.readers.struct_reader.StructPlace.{StructPlace}
 use Rattle.capnp_builders.specs.declared.builders.struct_builder.StructBuilder.{StructBuilder}
-use Rattle.capnp_builders.specs.Places.{IsAligned, widest, Field, WritesField}
+use Rattle.capnp_builders.specs.Places.{IsAligned, Field, WritesField}
 
 -- eight times a field's offset in bytes
 pub in_bits : (offset n : ℕ) → (offset + 1) * (8 * n) ≡ 8 * (offset * n + n)
@@ -59,9 +59,9 @@ field_aligned b k n some l e g =
 -- a field of a data section that is aligned
 pub place_aligned : (place : StructPlace) (k n : ℕ) → IsAligned place → 0 < n → n ≤ 8 → 8 % n ≡ 0 → (k + 1) * (8 * n) ≤ place.bits → (place.byte + k * n) % n ≡ 0
 place_aligned place k n aligned some l e inside =
-    let wide : n ≤ widest place = within (place.bits / 8) n l (omega (arith, in_bits k n)) in
+    let wide : n ≤ min 8 (place.bits / 8) = within (place.bits / 8) n l (omega (arith, in_bits k n)) in
     let at = aligned (omega (arith, some, wide)) in
-    field_aligned place.byte k n some l e (aligned_to place.byte n (widest place) some wide (at_most (place.bits / 8)) e at.0 at.1)
+    field_aligned place.byte k n some l e (aligned_to place.byte n (min 8 (place.bits / 8)) some wide (at_most (place.bits / 8)) e at.0 at.1)
   where
     within : (m n : ℕ) → n ≤ 8 → n ≤ m → n ≤ min 8 m
     within m n l h = omega (arith, l, h)

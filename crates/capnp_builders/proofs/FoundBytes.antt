@@ -9,7 +9,7 @@ use Rattle.capnp_format.specs.Tree.{Tree, Null, Capability, Struct, Flat, Pointe
 use Rattle.capnp_format.specs.Means.{Means}
 use Rattle.capnp_format.specs.Forest.{target, target_in}
 use Rattle.capnp_making.specs.declared.existing.ExistingBytes.{ExistingBytes}
-use Rattle.capnp_making.specs.Existing.{BytesLieIn, is_unfound, bytes_at, data_in, text_in, text_found, ends_in_zero}
+use Rattle.capnp_making.specs.Existing.{BytesLieIn, is_unfound, bytes_at, data_in, text_in, ends_in_zero}
 use Rattle.capnp_making.specs.Stored.{IsStored}
 use Rattle.capnp_making.specs.Memory.{refusals_for}
 use Rattle.capnp_making.proofs.Leading.{leads_segment}
@@ -55,7 +55,7 @@ text_inside S s p t b there stored e = let m = stored.means in meant m.0 m.1 t m
     meant n c (Struct ws ts) m e = cc
     meant n c (Flat size ns) (a, some, small, o, claim, g, k) e =
         let is_a : target S s p ≡ a = ap target_in o.leads_to.1 in
-        let (x, text) = picked_first (nat_eq size 2) (text_found (target S s p) ns) b ExistingListPointerIsNotByteSized e in
+        let (x, text) = picked_first (nat_eq size 2) (cond (ends_in_zero ns) (Ok (Some (bytes_at (target S s p) (length ns - 1)))) (Err TextBlobMissingNULTerminator)) b ExistingListPointerIsNotByteSized e in
         let (y, is_b) = picked (ends_in_zero ns) (bytes_at (target S s p) (length ns - 1)) b TextBlobMissingNULTerminator text in
         let bytes : size ≡ 2 = eqb-true size 2 x in
         subst (BytesLieIn S) is_b (rw is_a (inside S s p (length ns) (length ns - 1) a (leads_segment S s p a there o.leads_to.1) (rw bytes at claim) (omega arith)))

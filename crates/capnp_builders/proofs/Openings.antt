@@ -15,11 +15,11 @@ use Rattle.capnp_making.proofs.Leading.{leads_segment}
 use Rattle.capnp_readers.specs.declared.readers.list_reader.ListPlace.{ListPlace}
 use Rattle.capnp_readers.specs.declared.readers.struct_reader.StructPlace.{StructPlace}
 use Rattle.capnp_making.specs.Makes.{CallAt, call_at}
-use Rattle.capnp_widening.specs.Opening.{Opens, struct_opened, LeadsToOne, LeadsToAll, OpensExistingStruct as OpensOne, OpensExistingList as OpensAll}
+use Rattle.capnp_widening.specs.Opening.{Opens, struct_opened, LeadsToOne, LeadsToAll, OpensStruct, OpensExistingList as OpensAll}
 use Rattle.capnp_widening.specs.Widened.{list_widened}
 use Rattle.capnp_widening.proofs.StructSteps.{the_struct, same_struct}
 use Rattle.capnp_builders.specs.Found.{list_given, void_list}
-use Rattle.capnp_builders.specs.Opening.{IsStructGiven, IsListGiven, OpensStruct, OpensList}
+use Rattle.capnp_builders.specs.Opening.{IsStructGiven, IsListGiven, OpensList}
 use Rattle.capnp_builders.specs.Places.{StructStartsAt}
 use Rattle.capnp_builders.proofs.FoundLists.{given_inside}
 
@@ -80,10 +80,10 @@ struct_given S s p e place k (Flat n ns) stored leads = absurd (no_struct e lead
 struct_given S s p e place k (Pointers ts) stored leads = absurd (no_struct e leads.0)
 struct_given S s p e place k (Structs d q es) stored leads = absurd (no_struct e leads.0)
 
-pub struct_opens : (a b : View) (s p : ℕ) (t : Tree) (size : StructSize) (e : ExistingStruct) (place : StructPlace) → PlaceOf b.words s e place → OpensOne size (Ok e) (call_at s p a b) t → OpensStruct size (Ok place) (call_at s p a b) t
+pub struct_opens : (a b : View) (s p : ℕ) (t : Tree) (size : StructSize) (e : ExistingStruct) (place : StructPlace) → PlaceOf b.words s e place → OpensStruct LeadsToOne size (Ok e) (call_at s p a b) t → OpensStruct IsStructGiven size (Ok place) (call_at s p a b) t
 struct_opens a b s p t size e place k o = opens_as size (call_at s p a b) t (struct_opened size t) LeadsToOne IsStructGiven e place (struct_given b.words s p e place k) o
 
-pub struct_refused : (a b : View) (s p : ℕ) (t : Tree) (size : StructSize) (k : ErrorKind) → OpensOne size (Err k) (call_at s p a b) t → OpensStruct size (Err k) (call_at s p a b) t
+pub struct_refused : (a b : View) (s p : ℕ) (t : Tree) (size : StructSize) (k : ErrorKind) → OpensStruct LeadsToOne size (Err k) (call_at s p a b) t → OpensStruct IsStructGiven size (Err k) (call_at s p a b) t
 struct_refused a b s p t size k o = refused_as size (call_at s p a b) t (struct_opened size t) LeadsToOne IsStructGiven k o
 
 -- a list of structs

@@ -5,7 +5,6 @@ use Rattle.capnp_words.specs.declared.error.ErrorKind.{ErrorKind}
 use Rattle.capnp_words.specs.declared.error.ErrorKind.TheVariants.{ExistingPointerIsNotAList, MessageContainsOutOfBoundsPointer}
 use Rattle.capnp_words.specs.Meter.{unused}
 use Rattle.capnp_format.specs.Bytes.{words_of}
-use Rattle.capnp_format.specs.Segments.{Segments, segment}
 use Rattle.capnp_format.specs.Tree.{Tree, Null, capabilities}
 use Rattle.capnp_arena.specs.View.{View}
 use Rattle.capnp_making.specs.Memory.{KeepsMemory, SpendsMemory}
@@ -13,11 +12,14 @@ use Rattle.capnp_making.specs.Stored.{IsReplaced}
 use Rattle.capnp_objects.specs.Faults.{HasFault}
 use Rattle.capnp_objects.specs.Outcomes.{MeansThere}
 use Rattle.capnp_objects.specs.Reading.{Reading}
+use Rattle.capnp_objects.specs.Refusals.{StopsWithin}
 use Rattle.capnp_objects.specs.Source.{default_segment, default_segments}
 use Rattle.capnp_objects.specs.Wanted.{of_default}
-use Rattle.capnp_copies.specs.Changes.{Change, change, FindsNoRoom, StandsAsRead}
+use Rattle.capnp_copies.specs.Changes.{Change, IsCopiedInRoom, LacksRoom, WantsWords, change}
 use Rattle.capnp_copies.specs.Copies.{CanBeCopied}
-use Rattle.capnp_copies.specs.Growth.{TakesForValue, TakesUntilStop}
+use Rattle.capnp_copies.specs.Growth.{TakesForCopy, TakesUntilStop}
+use Rattle.capnp_copies.specs.Originals.{value_original}
+use Rattle.capnp_copies.specs.Rooms.{IsTooLarge}
 use Rattle.capnp_making.specs.Makes.{CallAt, call_at}
 
 -- The first word of a default, whose bytes are one segment. Nothing is charged there, and as many levels may be entered as a nesting limit can say.
@@ -28,14 +30,21 @@ default_root bytes = record { segments = default_segments bytes; charging = fals
 abbrev pub default_copy : ℕ → ℕ → View → View → Change
 default_copy id at old new = change of_default id at old new (unused None) (unused None)
 
--- A default means a value without capabilities, which stands at the place that was null.
-abbrev pub StandsForNull : List ℕ → Segments → Segments → ℕ → ℕ → Type 0
-StandsForNull bytes S R id at = (t : Tree) × (c : ℕ) × MeansThere (default_root bytes) t c × (capabilities t ≡ 0) × IsReplaced S R id at Null t
+-- A default means a value without capabilities, which stands at the place that was null, and its words in place behind those of the
+-- segment, where they fit there.
+pub record StandsForNull (bytes : List ℕ) (old new : View) (id at : ℕ) : Type 0 where
+  pub value : Tree
+  pub meant : (n : ℕ) × MeansThere (default_root bytes) value n
+  pub plain : capabilities value ≡ 0
+  pub replaced : IsReplaced old.words new.words id at Null value
+  pub stands : IsCopiedInRoom old new id at value
 
 -- Why a default isn't copied, by the name k: what its first word leads to has this fault, of which a capability is one; or there is no room for an object
 -- of it.
 abbrev pub RefusesDefault : List ℕ → Change → ErrorKind → Type 0
-RefusesDefault bytes c k = HasFault of_default (default_root bytes) k ⊎ FindsNoRoom (default_root bytes) c k
+RefusesDefault bytes c k =
+    HasFault of_default (default_root bytes) k
+    ⊎ LacksRoom c k (λ n. StopsWithin c.form (WantsWords c.form n) (default_root bytes) c.before c.after) (IsTooLarge c.form (value_original (default_root bytes)))
 
 -- A default is of fewer than 2^32 words.
 abbrev pub IsShortDefault : Option (Bor (List ℕ)) → Type 0
@@ -73,16 +82,16 @@ pub record PutsDefault (bytes : List ℕ) (c : CallAt) (u : Tree) : Type 0 where
   pub meant : (n : ℕ) × MeansThere (default_root bytes) u n
   pub plain : capabilities u ≡ 0
   pub replaced : IsReplaced c.old.words c.new.words c.segment c.at Null u
-  pub stands : StandsAsRead (default_root bytes) (default_copy c.segment c.at c.old c.new)
+  pub stands : IsCopiedInRoom c.old c.new c.segment c.at u
   pub memory : KeepsMemory c.old c.new
-  pub taken : TakesForValue (default_root bytes) (default_copy c.segment c.at c.old c.new)
+  pub taken : TakesForCopy (value_original (default_root bytes)) (default_copy c.segment c.at c.old c.new)
 
 -- The copy of a default is refused by the name k: null stands, and new words are zero.
 pub record DropsDefault (bytes : List ℕ) (c : CallAt) (k : ErrorKind) : Type 0 where
   pub named : RefusesDefault bytes (default_copy c.segment c.at c.old c.new) k
   pub replaced : IsReplaced c.old.words c.new.words c.segment c.at Null Null
   pub memory : SpendsMemory c.old c.new k
-  pub taken : TakesUntilStop (default_root bytes) (default_copy c.segment c.at c.old c.new)
+  pub taken : TakesUntilStop (value_original (default_root bytes)) (default_copy c.segment c.at c.old c.new)
 
 -- A default's value is put in place of null, and from there on the call does what P says of a value that stands.
 pub record OnDefault (bytes : List ℕ) (c : CallAt) (P : CallAt → Tree → Type 0) : Type 0 where
@@ -100,7 +109,7 @@ WithDefault (copied bytes) c t P result = OnDefault bytes c P ⊎ IsErrAnd resul
 
 -- The value of these bytes has no fault, and its words fit behind those of segment id.
 abbrev pub DefaultCopyFits : List ℕ → View → ℕ → Type 0
-DefaultCopyFits bytes v id = CanBeCopied of_default (default_root bytes) (unused None) (length (segment v.words id)) (v.room id)
+DefaultCopyFits bytes v id = CanBeCopied (value_original (default_root bytes)) of_default (unused None) v id
 
 -- A default, if there is one, has a first word and no fault, and its words fit behind those of segment id.
 abbrev pub DefaultFits : Option (Bor (List ℕ)) → View → ℕ → Type 0

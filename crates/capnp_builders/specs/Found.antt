@@ -2,11 +2,12 @@
 use Rattle.std.specs.Prelude.{◌≡◌, ℕ, ◌*◌, List, Option, Some, None, Result, Ok, Err}
 use Rattle.std.specs.Borrow.{Bor}
 use Rattle.capnp_format.specs.Forest.{target}
+use Rattle.capnp_format.specs.Segments.{Target}
 use Rattle.capnp_format.specs.Tree.{Tree}
 use Rattle.capnp_words.specs.declared.wire_pointer.ElementSize.{ElementSize}
 use Rattle.capnp_words.specs.declared.wire_pointer.ElementSize.TheVariants.{Void}
 use Rattle.capnp_words.specs.declared.error.ErrorKind.{ErrorKind}
-use Rattle.capnp_making.specs.Existing.{list_in, data_in, text_in}
+use Rattle.capnp_making.specs.Existing.{list_in}
 use Rattle.capnp_making.specs.InPlace.{bytes_there}
 use Rattle.capnp_making.specs.declared.existing.ExistingBytes.{ExistingBytes}
 use Rattle.capnp_making.specs.declared.existing.ExistingList.{ExistingList}
@@ -37,25 +38,20 @@ bytes_given id (Ok (Some b)) = Ok b
 bytes_given id (Ok None) = Ok (no_bytes id)
 bytes_given id (Err k) = Err k
 
--- A call gives what is found where t stands, and nothing is changed.
+-- A call gives what is found where t stands, a list or bytes, and nothing is changed.
 abbrev pub GivesFoundList : ElementSize → Result ListPlace ErrorKind → CallAt → Tree → Type 0
 GivesFoundList size result c t = (result ≡ list_given c.segment (list_in (target c.old.words c.segment c.at) size t)) × (c.new ≡ c.old)
 
-abbrev pub GivesFoundData : Result ExistingBytes ErrorKind → CallAt → Tree → Type 0
-GivesFoundData result c t = (result ≡ bytes_given c.segment (data_in (target c.old.words c.segment c.at) t)) × (c.new ≡ c.old)
+abbrev pub GivesFoundBytes : (Target → Tree → Result (Option ExistingBytes) ErrorKind) → Result ExistingBytes ErrorKind → CallAt → Tree → Type 0
+GivesFoundBytes found_in result c t = (result ≡ bytes_given c.segment (found_in (target c.old.words c.segment c.at) t)) × (c.new ≡ c.old)
 
-abbrev pub GivesFoundText : Result ExistingBytes ErrorKind → CallAt → Tree → Type 0
-GivesFoundText result c t = (result ≡ bytes_given c.segment (text_in (target c.old.words c.segment c.at) t)) × (c.new ≡ c.old)
-
--- A call puts its default in place of null, and then gives the list that stands; or the data, or the text.
+-- A call puts its default in place of null, and then gives the list that stands; or the bytes, which are data or a text.
 abbrev pub FindsList : ElementSize → Option (Bor (List ℕ)) → Result ListPlace ErrorKind → CallAt → Tree → Type 0
 FindsList size default result c t = WithDefault (object_default default t) c t (GivesFoundList size result) result
 
-abbrev pub FindsData : Option (Bor (List ℕ)) → Result ExistingBytes ErrorKind → CallAt → Tree → Type 0
-FindsData default result c t = WithDefault (blob_default default t) c t (GivesFoundData result) result
-
-abbrev pub FindsText : Option (Bor (List ℕ)) → Result ExistingBytes ErrorKind → CallAt → Tree → Type 0
-FindsText default result c t = WithDefault (blob_default default t) c t (GivesFoundText result) result
+abbrev pub FindsBytes :
+    (Target → Tree → Result (Option ExistingBytes) ErrorKind) → Option (Bor (List ℕ)) → Result ExistingBytes ErrorKind → CallAt → Tree → Type 0
+FindsBytes found_in default result c t = WithDefault (blob_default default t) c t (GivesFoundBytes found_in result) result
 
 -- What is found is lent for writing; or the call is refused by the same name.
 abbrev pub IsLent : {B : Type 0} → (B → List ℕ) → List (List ℕ) → Result ExistingBytes ErrorKind → Result B ErrorKind → Type 0

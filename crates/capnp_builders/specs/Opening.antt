@@ -1,5 +1,5 @@
 -- Structs and lists of structs of a message that is built, opened for writing ("Structs", "Lists").
-use Rattle.std.specs.Prelude.{◌≡◌, ℕ, ◌+◌, ◌*◌, ◌≤◌, Option, Result, List, Ok, length}
+use Rattle.std.specs.Prelude.{◌≡◌, ℕ, Option, Result, List, Ok, length}
 use Rattle.std.specs.Borrow.{Bor}
 use Rattle.capnp_words.specs.declared.error.ErrorKind.{ErrorKind}
 use Rattle.capnp_format.specs.Forest.{target}
@@ -8,14 +8,13 @@ use Rattle.capnp_format.specs.Tree.{Tree, Null, Struct, count}
 use Rattle.capnp_words.specs.declared.wire_pointer.ElementSize.TheVariants.{Void}
 use Rattle.capnp_words.specs.declared.wire_pointer.StructSize.{StructSize}
 use Rattle.capnp_making.specs.Existing.{list_in}
-use Rattle.capnp_making.specs.Memory.{TakesWords}
 use Rattle.capnp_making.specs.Stored.{IsStored}
 use Rattle.capnp_arena.specs.View.{View}
 use Rattle.capnp_readers.specs.Readers.{IsListPlace}
 use Rattle.capnp_readers.specs.declared.readers.list_reader.ListPlace.{ListPlace}
 use Rattle.capnp_readers.specs.declared.readers.struct_reader.StructPlace.{StructPlace}
 use Rattle.capnp_making.specs.Makes.{CallAt}
-use Rattle.capnp_widening.specs.Opening.{Opens, struct_opened}
+use Rattle.capnp_widening.specs.Opening.{Opens, OpensStruct}
 use Rattle.capnp_widening.specs.Rooms.{WiderListFits, OpeningFits}
 use Rattle.capnp_widening.specs.Widened.{list_widened}
 use Rattle.capnp_builders.specs.Defaults.{object_default, FitsWithDefault, WithDefault}
@@ -30,10 +29,6 @@ IsStructGiven S s p u place = ⊥
 abbrev pub IsListGiven : Segments → ℕ → ℕ → Tree → ListPlace → Type 0
 IsListGiven S s p u place = (list_given s (list_in (target S s p) Void u) ≡ Ok place) × IsListPlace S place
 
--- A call opens the struct that stands, or a new one in place of null.
-abbrev pub OpensStruct : StructSize → Result StructPlace ErrorKind → CallAt → Tree → Type 0
-OpensStruct size result c t = Opens size IsStructGiven c t (struct_opened size t) result
-
 -- A call opens the list of structs that stands, made one of any other list. Null is a list of none, and nothing is changed.
 abbrev pub OpensList : StructSize → Result ListPlace ErrorKind → CallAt → Tree → Type 0
 OpensList size result c Null = (result ≡ Ok (void_list c.segment)) × (c.new ≡ c.old)
@@ -41,7 +36,7 @@ OpensList size result c t = Opens size IsListGiven c t (list_widened size.data_w
 
 -- A call puts its default in place of null, and then opens the struct that stands; or the list.
 abbrev pub FindsStruct : StructSize → Option (Bor (List ℕ)) → Result StructPlace ErrorKind → CallAt → Tree → Type 0
-FindsStruct size default result c t = WithDefault (object_default default t) c t (OpensStruct size result) result
+FindsStruct size default result c t = WithDefault (object_default default t) c t (OpensStruct IsStructGiven size result) result
 
 abbrev pub FindsStructs : StructSize → Option (Bor (List ℕ)) → Result ListPlace ErrorKind → CallAt → Tree → Type 0
 FindsStructs size default result c t = WithDefault (object_default default t) c t (OpensList size result) result
@@ -52,12 +47,4 @@ abbrev pub StructFindFits : StructSize → Option (Bor (List ℕ)) → View → 
 StructFindFits size default v s p = (t : Tree) × IsStored v.words s p t × FitsWithDefault (object_default default t) v s p (λ m. OpeningFits m s p size)
 
 abbrev pub StructsFindFits : StructSize → Option (Bor (List ℕ)) → View → ℕ → ℕ → Type 0
-StructsFindFits size default v s p = (t : Tree) × IsStored v.words s p t × FitsWithDefault (object_default default t) v s p (λ m. WiderListFits m s p size)
-
--- A call takes the words of a new struct of a size, and a landing pad's where it needs one.
-abbrev pub TakesForNewStruct : StructSize → CallAt → Type 0
-TakesForNewStruct size c = TakesWords c.old c.new c.segment (size.data_words + size.pointers)
-
--- A struct is at least as large as asked for.
-abbrev pub IsStructAtLeast : StructSize → StructPlace → Type 0
-IsStructAtLeast size place = (64 * size.data_words ≤ place.bits) × (size.pointers ≤ place.pointers)
+StructsFindFits size default v s p = (t : Tree) × IsStored v.words s p t × FitsWithDefault (object_default default t) v s p (λ m. WiderListFits (IsStored m.words s p) m s p size)

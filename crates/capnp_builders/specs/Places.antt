@@ -40,27 +40,20 @@ pub record IsStructListOf (S : Segments) (s p n : ℕ) (size : StructSize) (plac
   pub counts : place.count ≡ n
   pub inside : IsListPlace S place
 
--- Element number i of a list, as a struct: its two sections, one pointer, or the bits of a number.
-abbrev pub IsElementOfSize : ElementSize → ListPlace → ℕ → StructPlace → Type 0
-IsElementOfSize InlineComposite list i place =
+-- Element number i of a list of this element size, as a struct: its two sections, one pointer, or the bits of a number.
+abbrev pub IsElement : ElementSize → ListPlace → ℕ → StructPlace → Type 0
+IsElement InlineComposite list i place =
     let d = list.struct_size.data_words in
     let q = list.struct_size.pointers in
     StructStartsAt place list.segment (list.byte / 8 + i * (d + q)) d q
-IsElementOfSize Pointer list i place = StructStartsAt place list.segment (list.byte / 8 + i) 0 1
-IsElementOfSize size list i place =
+IsElement Pointer list i place = StructStartsAt place list.segment (list.byte / 8 + i) 0 1
+IsElement size list i place =
     let bits = element_bits (size_number size) in
     (place.segment ≡ list.segment) × (place.byte ≡ list.byte + i * (bits / 8)) × (place.bits ≡ bits) × (place.pointers_at ≡ list.byte / 8) × (place.pointers ≡ 0)
 
-abbrev pub IsElement : ListPlace → ℕ → StructPlace → Type 0
-IsElement list i place = IsElementOfSize list.size list i place
-
--- How many bytes a number of a data section takes at most.
-abbrev pub widest : StructPlace → ℕ
-widest place = min 8 (place.bits / 8)
-
 -- A data section starts at a multiple of the widest numbers that it holds, which take 1, 2, 4 or 8 bytes.
 abbrev pub IsAligned : StructPlace → Type 0
-IsAligned place = 0 < widest place → (8 % widest place ≡ 0) × (place.byte % widest place ≡ 0)
+IsAligned place = let widest = min 8 (place.bits / 8) in 0 < widest → (8 % widest ≡ 0) × (place.byte % widest ≡ 0)
 
 -- Bits that are written: how many bits behind the start they begin, how many they are, and their number.
 pub record Field : Type 0 where
@@ -79,6 +72,6 @@ number_field bytes i value = field (8 * (i * bytes)) (8 * bytes) value
 abbrev pub WritesField : View → View → ℕ → ℕ → Field → Type 0
 WritesField old new segment byte f = new ≡ record old { words = with_field old.words segment (8 * byte + f.start) f.bits f.value }
 
--- The w bits of a struct's data section from its bit b on, which lie in one word.
-abbrev pub field_behind : Segments → StructPlace → ℕ → ℕ → ℕ
-field_behind S place b w = field_in (segment S place.segment) (8 * place.byte + b) w
+-- A field behind a byte of a segment has its number.
+abbrev pub HasField : View → ℕ → ℕ → Field → Type 0
+HasField view s byte f = f.value ≡ field_in (segment view.words s) (8 * byte + f.start) f.bits

@@ -1,29 +1,29 @@
 //! Builders: places of a message that is built, each with the message borrowed for writing.
-ghost use Rattle.std.specs.Prelude.{◌≡◌, ◌≢◌, ℕ, List, ◌⊎◌, ◌↔◌, ◌∷◌, ◌++◌, [], ◌+◌, ◌-◌, ◌*◌, ◌^◌, ◌<◌, ◌≤◌, IsTrue, length, Ok, Err, IsOk, IfOk, IfErr, OnOk, OnErr};
+ghost use Rattle.std.specs.Prelude.{◌≡◌, ℕ, List, ◌↔◌, ◌∷◌, ◌++◌, [], ◌+◌, ◌-◌, ◌*◌, ◌^◌, ◌<◌, ◌≤◌, IsTrue, length, Ok, Err, IsOk, IfOk, IfErr, OnOk};
 ghost use Rattle.capnp_format.specs.Bytes.{message, words_of};
 ghost use Rattle.capnp_format.specs.Segments.{segment, word_at, IsPlace};
 ghost use Rattle.capnp_format.specs.Tree.{Null, Capability, Flat, count};
 ghost use Rattle.capnp_format.specs.Word.{capability_word, struct_word};
 ghost use Rattle.capnp_format.specs.Numbers.{words_for};
+ghost use Rattle.capnp_format.specs.Value.{AreBelow};
 ghost use Rattle.capnp_making.specs.Existing.{AreInside, capability_of};
-ghost use Rattle.capnp_making.specs.InPlace.{bytes_there, rewritten, AreBytes, AreZeroOnce, Overwrites};
+ghost use Rattle.capnp_making.specs.InPlace.{bytes_there, rewritten, AreZeroOnce, Overwrites};
 ghost use Rattle.capnp_words.specs.Sizes.{size_number};
 ghost use Rattle.capnp_making.specs.Made.{zero_struct, zero_structs, zero_list, list_words};
 ghost use Rattle.capnp_making.specs.Makes.{AsksForObject, MakesObject};
-ghost use Rattle.capnp_making.specs.Memory.{KeepsMemory, SpendsMemory};
 ghost use Rattle.capnp_making.specs.Near.{LeadsToEnd};
 ghost use Rattle.capnp_making.specs.Zeroed.{IsPruned, IsPrunedBut};
 ghost use Rattle.capnp_builders.specs.Places.{IsAligned, IsStructOf, IsListOf, IsStructListOf};
-ghost use Rattle.capnp_words.specs.declared.error.ErrorKind.TheVariants.{MessageTooLarge};
+ghost use Rattle.capnp_words.specs.declared.error.ErrorKind.{ErrorKind};
 ghost use Rattle.capnp_builders.specs.Reads.{IsArenaOf};
-ghost use Rattle.capnp_objects.specs.Refusals.{BreaksOff, BreaksOffAmong};
 ghost use Rattle.capnp_objects.specs.Wanted.{canonical, plain};
-ghost use Rattle.capnp_copies.specs.Changes.{RefusesValue, StandsAsRead};
+ghost use Rattle.capnp_copies.specs.Changes.{MakesCopy};
+ghost use Rattle.capnp_copies.specs.Copies.{CanBeCopied};
 ghost use Rattle.capnp_copies.specs.Forms.{form_of};
-ghost use Rattle.capnp_copies.specs.Growth.{TakesAtMost, TakesForStruct, TakesForList};
-ghost use Rattle.capnp_copies.specs.ListValues.{ListStands, ListFits, RefusesList, BreaksOffList, IsTooLong, elements_read};
-ghost use Rattle.capnp_copies.specs.StructValues.{StructStands, StructFits, RefusesStruct};
-ghost use Rattle.capnp_readers.specs.Sizes.{pointers_read};
+ghost use Rattle.capnp_copies.specs.Growth.{TakesAtMost};
+ghost use Rattle.capnp_copies.specs.ListValues.{list_read};
+ghost use Rattle.capnp_copies.specs.Originals.{value_original};
+ghost use Rattle.capnp_copies.specs.StructValues.{struct_read};
 ghost use Rattle.capnp_readers.specs.Readers.{reading};
 
 mod content;
@@ -69,9 +69,8 @@ pub struct PointerBuilder<'a, A> {
 impl<'a, A: BuilderArena> PointerBuilder<'a, A> {
     ghost use Rattle.std.specs.Borrow.{sem, follows, Array, u8 as byte};
     ghost use Rattle.capnp_arena.specs.View.{KeepsLimits};
-    ghost use Rattle.capnp_builders.specs.Building.{Becomes, IsFreshMessage, CopyFits, HasOnlyNull, IsNull, IsThere, KeepsBuilder, LeavesMessage, built, calling, calling_last};
-    ghost use Rattle.capnp_builders.specs.Kept.{PutsCopy, PutsStruct, PutsList, OnceCleared, FillsSegment, FillsMessage, copying};
-    ghost use Rattle.capnp_builders.specs.Lent.{with_arena};
+    ghost use Rattle.capnp_builders.specs.Building.{Becomes, ChangesWords, IsNull, IsThere, KeepsBuilder, LeavesMessage, built, calling, calling_last};
+    ghost use Rattle.capnp_builders.specs.Kept.{PutsCopy, LeavesCleared, FillsSegment, FillsMessage, copying};
     ghost use Rattle.capnp_builders.specs.contracts.builders.PointerBuilder.{the_row};
     ghost use mir.Syntax.{named};
 
@@ -92,7 +91,8 @@ impl<'a, A: BuilderArena> PointerBuilder<'a, A> {
     /// The same pointer, for as long as it is borrowed.
     pub fn reborrow(&mut self) -> PointerBuilder<'_, A>
         ensures* lends { sem 𝓛 (follows (the_row (record { mir = named 1; lft = [] }) A.row) A.row
-            self.entry.ghost_name result.arena.ghost_name (with_arena self.old)) }
+            self.entry.ghost_name result.arena.ghost_name
+            (λ a. record self.old { arena = record self.old.arena { now = a } })) }
         ensures now { result.arena.now ≡ self.old.arena.now }
         ensures place { (result.segment ≡ self.old.segment) × (result.at ≡ self.old.at) }
     {
@@ -369,11 +369,13 @@ impl<'a, A: BuilderArena> PointerBuilder<'a, A> {
         requires inside { AreInside (A.view self.old.arena.now).words bytes }
         ensures* lends { sem 𝓛 (follows (the_row (record { mir = named 1; lft = [] }) A.row)
             (Array byte 0) self.entry.ghost_name result.ghost_name
-            (λ ws. with_arena self.old
-            (rewritten A.with_bytes A.segments self.old.arena.now bytes ws))) }
+            (λ ws. record self.old {
+              arena = record self.old.arena
+                  { now = rewritten A.with_bytes A.segments self.old.arena.now bytes ws };
+            })) }
         ensures now { result.now ≡ bytes_there (A.segments self.old.arena.now) bytes }
         ensures count { length result.now ≡ bytes.length }
-        ensures written { (ws : List ℕ) → AreBytes bytes.length ws →
+        ensures written { (ws : List ℕ) → (length ws ≡ bytes.length) × AreBelow 256 ws →
             Overwrites (A.view self.old.arena.now).words
             (A.view (rewritten A.with_bytes A.segments self.old.arena.now bytes ws)).words bytes
             ws }
@@ -490,38 +492,28 @@ impl<'a, A: BuilderArena> PointerBuilder<'a, A> {
         canonicalize: bool,
     ) -> Result<(), ErrorKind>
         requires place { IsThere (built A.view self.old) }
-        ensures copied { IfOk result (λ _. PutsCopy (reading B.ReaderArena from.entry)
+        ensures copied { IfOk result (λ _. PutsCopy (value_original (reading B.ReaderArena from.entry))
             (copying A.view canonicalize self.old self.new lim.old lim.new)) }
         ensures near { IsNull (built A.view self.old)
-            → OnOk result
-            (StandsAsRead (reading B.ReaderArena from.entry)
+            → IfOk result
+            (λ _. MakesCopy (value_original (reading B.ReaderArena from.entry))
             (copying A.view canonicalize self.old self.new lim.old lim.new)) }
-        ensures stands { OnOk result (OnceCleared (StandsAsRead (reading B.ReaderArena from.entry))
-            (copying A.view canonicalize self.old self.new lim.old lim.new)) }
-        ensures fresh { HasOnlyNull (built A.view self.old)
+        ensures fresh { segment (A.view self.old.arena.now).words self.old.segment ≡ 0 ∷ []
             → IfOk result
             (λ _. FillsSegment (reading B.ReaderArena from.entry)
             (copying A.view canonicalize self.old self.new lim.old lim.new)) }
-        ensures alone { IsFreshMessage (built A.view self.old)
+        ensures alone { (A.view self.old.arena.now).words ≡ (0 ∷ []) ∷ []
             → IfOk result
             (λ _. FillsMessage (reading B.ReaderArena from.entry)
             (copying A.view canonicalize self.old self.new lim.old lim.new)) }
-        ensures fits { CopyFits canonicalize (reading B.ReaderArena from.entry) lim.old
-            (built A.view self.old) → IsOk result }
-        ensures refused { IfErr result
-            (RefusesValue (reading B.ReaderArena from.entry)
+        ensures fits { CanBeCopied (value_original (reading B.ReaderArena from.entry))
+            (form_of canonicalize) lim.old (A.view self.old.arena.now) self.old.segment
+            → IsOk result }
+        ensures refused { IfErr result (LeavesCleared (value_original (reading B.ReaderArena from.entry))
             (copying A.view canonicalize self.old self.new lim.old lim.new)) }
-        ensures taken { TakesAtMost result (reading B.ReaderArena from.entry)
+        ensures taken { TakesAtMost result (value_original (reading B.ReaderArena from.entry))
             (copying A.view canonicalize self.old self.new lim.old lim.new) }
-        ensures spent { OnErr result
-            (BreaksOff (form_of canonicalize) (reading B.ReaderArena from.entry) lim.old lim.new) }
-        ensures cleared { OnErr result
-            (Becomes (built A.view self.old) (built A.view self.new) Null) }
         ensures there { IsThere (built A.view self.new) }
-        ensures granted { OnOk result (KeepsMemory (A.view self.old.arena.now)
-            (A.view self.new.arena.now)) }
-        ensures memory { IfErr result
-            (SpendsMemory (A.view self.old.arena.now) (A.view self.new.arena.now)) }
         ensures builder { KeepsBuilder self.old self.new }
     {
         let at = self.at;
@@ -554,27 +546,16 @@ impl<'a, A: BuilderArena> PointerBuilder<'a, A> {
         canonicalize: bool,
     ) -> Result<(), ErrorKind>
         requires place { IsThere (built A.view self.old) }
-        ensures copied { IfOk result (λ _. PutsStruct B.ReaderArena value.now
+        ensures copied { IfOk result (λ _. PutsCopy (struct_read B.ReaderArena value.now)
             (copying A.view canonicalize self.old self.new lim.old lim.new)) }
-        ensures stands { OnOk result (OnceCleared (StructStands B.ReaderArena value.now)
+        ensures fits { CanBeCopied (struct_read B.ReaderArena value.now)
+            (form_of canonicalize) lim.old (A.view self.old.arena.now) self.old.segment
+            → IsOk result }
+        ensures refused { IfErr result (LeavesCleared (struct_read B.ReaderArena value.now)
             (copying A.view canonicalize self.old self.new lim.old lim.new)) }
-        ensures fits { StructFits B.ReaderArena value.now
-            (copying A.view canonicalize self.old self.new lim.old lim.new) → IsOk result }
-        ensures refused { IfErr result
-            (RefusesStruct B.ReaderArena value.now
-            (copying A.view canonicalize self.old self.new lim.old lim.new)) }
-        ensures taken { TakesForStruct B.ReaderArena result value.now
+        ensures taken { TakesAtMost result (struct_read B.ReaderArena value.now)
             (copying A.view canonicalize self.old self.new lim.old lim.new) }
-        ensures spent { OnErr result ((lim.new ≡ lim.old)
-            ⊎ BreaksOffAmong (form_of canonicalize)
-            (pointers_read B.ReaderArena value.now) value.now.pointer_count lim.old lim.new) }
-        ensures cleared { OnErr result
-            (Becomes (built A.view self.old) (built A.view self.new) Null) }
         ensures there { IsThere (built A.view self.new) }
-        ensures granted { OnOk result (KeepsMemory (A.view self.old.arena.now)
-            (A.view self.new.arena.now)) }
-        ensures memory { IfErr result
-            (SpendsMemory (A.view self.old.arena.now) (A.view self.new.arena.now)) }
         ensures builder { KeepsBuilder self.old self.new }
     {
         let at = self.at;
@@ -612,30 +593,18 @@ impl<'a, A: BuilderArena> PointerBuilder<'a, A> {
         canonicalize: bool,
     ) -> Result<(), ErrorKind>
         requires place { IsThere (built A.view self.old) }
-        ensures copied { IfOk result (λ _. PutsList B.ReaderArena value.now
+        ensures copied { IfOk result (λ _. PutsCopy (list_read B.ReaderArena value.now)
             (copying A.view canonicalize self.old self.new lim.old lim.new)) }
-        ensures stands { OnOk result (OnceCleared
-            (ListStands (elements_read B.ReaderArena value.now))
+        ensures fits { CanBeCopied (list_read B.ReaderArena value.now)
+            (form_of canonicalize) lim.old (A.view self.old.arena.now) self.old.segment
+            → IsOk result }
+        ensures refused { IfErr result (LeavesCleared (list_read B.ReaderArena value.now)
             (copying A.view canonicalize self.old self.new lim.old lim.new)) }
-        ensures fits { ListFits (elements_read B.ReaderArena value.now)
-            (copying A.view canonicalize self.old self.new lim.old lim.new) → IsOk result }
-        ensures refused { IfErr result
-            (RefusesList B.ReaderArena value.now
-            (copying A.view canonicalize self.old self.new lim.old lim.new)) }
-        ensures taken { TakesForList B.ReaderArena result value.now
+        ensures taken { TakesAtMost result (list_read B.ReaderArena value.now)
             (copying A.view canonicalize self.old self.new lim.old lim.new) }
-        ensures spent { OnErr result ((lim.new ≡ lim.old)
-            ⊎ BreaksOffList (form_of canonicalize)
-            (elements_read B.ReaderArena value.now) lim.old lim.new) }
-        ensures long { IsTooLong (elements_read B.ReaderArena value.now)
-            → (result ≡ Err (MessageTooLarge (2 ^ 64 - 1))) × (lim.new ≡ lim.old) }
-        ensures cleared { OnErr result
-            (Becomes (built A.view self.old) (built A.view self.new) Null) }
+        ensures long { (k : ErrorKind) → (list_read B.ReaderArena value.now).exceeds
+            (form_of canonicalize) k → (result ≡ Err k) × (lim.new ≡ lim.old) }
         ensures there { IsThere (built A.view self.new) }
-        ensures granted { OnOk result (KeepsMemory (A.view self.old.arena.now)
-            (A.view self.new.arena.now)) }
-        ensures memory { IfErr result
-            (SpendsMemory (A.view self.old.arena.now) (A.view self.new.arena.now)) }
         ensures builder { KeepsBuilder self.old self.new }
     {
         let at = self.at;

@@ -1,18 +1,11 @@
 -- What a copy leaves: how long its segment is, what else is kept, and when there is one.
 use Rattle.std.proofs.Common.{◌≡◌, ℕ, zero, suc, ◌<◌, List, [], ◌∷◌, length, refl, ap, ap₂, ◌∙◌, arith}
-use Rattle.capnp_words.specs.declared.error.ErrorKind.{ErrorKind}
 use Rattle.capnp_format.specs.Segments.{Segments, segment, IsPlace}
 use Rattle.capnp_format.specs.Tree.{Tree}
 use Rattle.capnp_format.specs.Canonical.{encoding}
-use Rattle.capnp_words.specs.Meter.{Meter}
 use Rattle.capnp_arena.specs.Written.{with_segment}
 use Rattle.capnp_copies.specs.Copied.{copied}
-use Rattle.capnp_objects.specs.Refusals.{Refused}
-use Rattle.capnp_objects.proofs.Refusals.{unreadable}
-use Rattle.capnp_objects.specs.Reading.{Reading}
-use Rattle.capnp_objects.specs.Wanted.{Form}
-use Rattle.capnp_copies.specs.Copies.{IsCopied, CanBeCopied}
-use Rattle.capnp_copies.specs.Rooms.{IsTooLarge}
+use Rattle.capnp_copies.specs.Copies.{IsCopied}
 
 -- segments
 
@@ -27,13 +20,6 @@ segment_written (xs ∷ S) zero ws l = refl
 segment_written (xs ∷ S) (suc s) ws l = segment_written S s ws (omega arith)
 
 -- copies
-
--- one that can be is not refused
-pub not_too_large : (b : Form) (r : Reading) (m : Meter) (used room : ℕ) → CanBeCopied b r m used room → IsTooLarge b r used room → ⊥
-not_too_large b r m used room (t, c, means, free, covers, fits) large = let l = large t c means in omega arith
-
-pub not_refused : {r : Reading} {m m' : Meter} {k : ErrorKind} (b : Form) (used room : ℕ) → CanBeCopied b r m used room → Refused b r m m' k → ⊥
-not_refused b used room (t, c, means, free, covers, fits) refused = (unreadable refused).only t c means free covers
 
 -- a copy into one fresh word is the words of its value
 pub fresh_made : {M' : Segments} (M : Segments) (id at : ℕ) (t : Tree) → IsPlace M id at × (segment M id ≡ 0 ∷ []) → IsCopied M M' id at t → segment M' id ≡ encoding t

@@ -18,7 +18,8 @@ use Rattle.capnp_arena.specs.Written.{overwritten, with_word, with_words}
 use Rattle.capnp_making.proofs.FieldBytes.{below_drop}
 use Rattle.capnp_readers.specs.Sections.{bytes_for}
 use Rattle.capnp_objects.specs.Wanted.{Form, canonical}
-use Rattle.capnp_copies.specs.StructValues.{bits_left, section_words, kept_count}
+use Rattle.capnp_copies.specs.StructValues.{bits_left, section_words}
+use Rattle.capnp_copies.specs.Originals.{kept_count}
 
 -- how long a section is
 

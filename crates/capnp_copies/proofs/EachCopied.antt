@@ -1,45 +1,39 @@
 -- The copy of pointers one behind the other, each of which is copied or stays null: one more, and where one is refused.
-use Rattle.std.proofs.Common.{◌⊎◌, inl, inr, ℕ, ◌+◌, ◌^◌, ◌<◌, length, sym, subst, arith}
+use Rattle.std.proofs.Common.{inl, inr, ℕ, ◌+◌, ◌<◌, sym, subst, arith}
 use Rattle.capnp_words.specs.declared.error.ErrorKind.{ErrorKind}
 use Rattle.capnp_words.specs.Meter.{Meter}
-use Rattle.capnp_format.specs.Segments.{segment, IsPlace}
-use Rattle.capnp_format.specs.Tree.{Tree, Null}
+use Rattle.capnp_format.specs.Segments.{IsPlace}
+use Rattle.capnp_format.specs.Tree.{Null}
 use Rattle.capnp_arena.specs.View.{View}
-use Rattle.capnp_making.specs.Memory.{KeepsMemory, SpendsMemory}
 use Rattle.capnp_making.specs.Stored.{IsReplaced}
 use Rattle.capnp_making.proofs.Memory.{keeps_then_spends, words_refused_after}
-use Rattle.capnp_objects.specs.Outcomes.{Reads}
 use Rattle.capnp_objects.specs.Refusals.{Refused, StopsWithin, BreaksOff}
 use Rattle.capnp_objects.specs.Reading.{Reading, behind}
 use Rattle.capnp_objects.specs.Wanted.{plain}
 use Rattle.capnp_objects.proofs.Copies.{read_stop}
 use Rattle.capnp_objects.proofs.Refusals.{unreadable}
-use Rattle.capnp_copies.specs.Changes.{change, LacksRoom, WantsWords, WantedAt, StandsAsRead, CopiesChildren}
-use Rattle.capnp_copies.specs.Rooms.{IsTooLarge}
+use Rattle.capnp_copies.specs.Changes.{change, WantsWords, CopiesChildren, StopsCopy}
+use Rattle.capnp_copies.specs.Originals.{value_original}
 use Rattle.capnp_copies.specs.StructValues.{CopiesFirst, PointersFit}
-use Rattle.capnp_copies.proofs.FilledChildren.{children_grow, child_copied}
+use Rattle.capnp_copies.proofs.FilledChildren.{children_grow}
 use Rattle.capnp_copies.proofs.TooLarge.{child_too_large}
 
-pub each_copied : {r : Reading} {s p i : ℕ} {old mid new : View} {m m' m'' : Meter} → IsPlace old.words s (p + i) → length (segment mid.words s) < 2 ^ 29 → CopiesChildren r i (change plain s p old mid m m') → ((t : Tree) × Reads plain (behind r i) m' m'' t × IsReplaced mid.words new.words s (p + i) Null t) → KeepsMemory mid new → StandsAsRead (behind r i) (change plain s (p + i) mid new m' m'') →
-    CopiesChildren r (i + 1) (change plain s p old new m m'')
-each_copied place few first (t, read, made) memory stands = child_copied place few first (record { value = t; is_read = read; made = (made, memory); stands = stands t read })
-
-pub each_stops : {r : Reading} {s p i n : ℕ} {old mid new : View} {m m' m'' : Meter} {k : ErrorKind} → IsPlace old.words s (p + i) → i < n → CopiesChildren r i (change plain s p old mid m m') → LacksRoom (change plain s (p + i) mid new m' m'') k (WantedAt (behind r i) (change plain s (p + i) mid new m' m'')) (IsTooLarge plain (behind r i)) ⊎ Refused plain (behind r i) m' m'' k → BreaksOff plain (behind r i) m' m'' →
-    IsReplaced mid.words new.words s (p + i) Null Null → SpendsMemory mid new k → CopiesFirst r n (change plain s p old new m m'') k
-each_stops {r} {s} {p} {i} {n} {old} {mid} {new} {m} {m'} {m''} {k} place less first why off cleared memory = record {
+pub each_stops : {r : Reading} {s p i n : ℕ} {old mid new : View} {m m' m'' : Meter} {k : ErrorKind} → IsPlace old.words s (p + i) → i < n → CopiesChildren r i (change plain s p old mid m m') → StopsCopy (value_original (behind r i)) (change plain s (p + i) mid new m' m'') Null k → BreaksOff plain (behind r i) m' m'' →
+    CopiesFirst r n (change plain s p old new m m'') k
+each_stops {r} {s} {p} {i} {n} {old} {mid} {new} {m} {m'} {m''} {k} place less first stop off = record {
   first = first.children;
   fewer = omega (arith, first.counts);
   between = m';
   are_read = first.are_read;
   filled = mid.words;
   made = first.made;
-  cleared = subst (λ j. IsReplaced mid.words new.words s (p + j) Null Null) (sym first.counts) cleared;
-  why = elim why [
-    | inl x ↦ inl (x.0, words_refused_after old mid new x.0 k first.memory x.1, subst (λ j. StopsWithin plain (WantsWords plain x.0) (behind r j) m' m'') (sym first.counts) x.2, child_too_large plain place less first x.3)
-    | inr x ↦ inr (subst (λ j. Refused plain (behind r j) m' m'' k) (sym first.counts) x)
+  cleared = subst (λ j. IsReplaced mid.words new.words s (p + j) Null Null) (sym first.counts) stop.left;
+  why = elim stop.why [
+    | inl x ↦ inl (x.0, words_refused_after old mid new x.0 k first.memory x.1, subst (λ j. StopsWithin plain (WantsWords plain x.0) (behind r j) m' m'') (sym first.counts) (elim x.2 [ inl none ↦ absurd none.1 | inr wanted ↦ wanted ]), child_too_large plain place less first x.3)
+    | inr y ↦ elim y [ inl x ↦ inr (subst (λ j. Refused plain (behind r j) m' m'' k) (sym first.counts) x) | inr none ↦ absurd none ]
   ];
   off = subst (λ j. BreaksOff plain (behind r j) m' m'') (sym first.counts) off;
-  memory = keeps_then_spends old mid new k (children_grow first).segments first.memory memory;
+  memory = keeps_then_spends old mid new k (children_grow first).segments first.memory stop.memory;
 }
 
 -- pointers that can be read, and of which what is kept has room, are not refused

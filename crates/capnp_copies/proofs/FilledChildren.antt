@@ -12,12 +12,13 @@ use Rattle.capnp_making.specs.Stored.{IsReplaced}
 use Rattle.capnp_making.proofs.FillingChains.{filled_grows, filled_ahead, filled_more}
 use Rattle.capnp_making.proofs.Memory.{keeps_itself, keeps_both, keeps_then_spends, words_refused_after}
 use Rattle.capnp_objects.specs.Outcomes.{Reads}
-use Rattle.capnp_objects.specs.Refusals.{Refused, StopsWithin, BreaksOff}
+use Rattle.capnp_objects.specs.Refusals.{Refused, StopsWithin}
 use Rattle.capnp_objects.specs.Reading.{Reading, behind}
 use Rattle.capnp_objects.specs.Wanted.{Form}
 use Rattle.capnp_objects.proofs.Copies.{read_none, read_more}
 use Rattle.capnp_copies.specs.Copied.{with_children}
-use Rattle.capnp_copies.specs.Changes.{WantsWords, change, CopiesValue, StopsAtValue, CopiesChildren, StopsAtChildren}
+use Rattle.capnp_copies.specs.Changes.{WantsWords, change, MakesCopy, StopsHalfway, CopiesChildren, StopsAtChildren}
+use Rattle.capnp_copies.specs.Originals.{value_original}
 use Rattle.capnp_copies.specs.Forms.{kept, kept_each}
 use Rattle.capnp_copies.proofs.ChildrenCopied.{no_children}
 use Rattle.capnp_copies.proofs.SegmentsWritten.{not_written}
@@ -49,7 +50,7 @@ one_filled {b = b} {s = s} {p = p} {old = old} {mid = mid} new t first made =
     filled_more old.words mid.words new.words s p (kept_each b first.children) t first.made
     (subst (λ j. IsReplaced mid.words new.words s (p + j) Null t) (sym (kept_each-count b first.children ∙ first.counts)) made)
 
-pub child_copied : {r : Reading} {b : Form} {s p i : ℕ} {old mid new : View} {m m' m'' : Meter} → IsPlace old.words s (p + i) → length (segment mid.words s) < 2 ^ 29 → CopiesChildren r i (change b s p old mid m m') → CopiesValue (behind r i) (change b s (p + i) mid new m' m'') → CopiesChildren r (i + 1) (change b s p old new m m'')
+pub child_copied : {r : Reading} {b : Form} {s p i : ℕ} {old mid new : View} {m m' m'' : Meter} → IsPlace old.words s (p + i) → length (segment mid.words s) < 2 ^ 29 → CopiesChildren r i (change b s p old mid m m') → MakesCopy (value_original (behind r i)) (change b s (p + i) mid new m' m'') → CopiesChildren r (i + 1) (change b s p old new m m'')
 child_copied {r} {b} {s} {p} {i} {old} {mid} {new} {m} {m'} {m''} place few first next =
     let ts : Trees = first.children in
     let u : Tree = next.value in
@@ -58,31 +59,28 @@ child_copied {r} {b} {s} {p} {i} {old} {mid} {new} {m} {m'} {m''} place few firs
       children = with_last ts u;
       counts = count-with_last ts u ∙ omega (arith, first.counts);
       are_read = read_more first.are_read here;
-      made = subst (AreFilled old.words new.words s p) (sym (kept_each-with_last b ts u)) (one_filled new (kept b u) first next.made.0);
-      memory = keeps_both old mid new (children_grow first).segments first.memory next.made.1;
-      stands = child_tight b place few (children_grow first).segments next.made.0.segments first next;
+      made = subst (AreFilled old.words new.words s p) (sym (kept_each-with_last b ts u)) (one_filled new (kept b u) first next.made);
+      memory = keeps_both old mid new (children_grow first).segments first.memory next.memory;
+      stands = child_tight b place few (children_grow first).segments next.made.segments first next;
     }
 
-pub child_stops : {r : Reading} {b : Form} {s p i n : ℕ} {old mid new : View} {m m' m'' : Meter} {k : ErrorKind} → IsPlace old.words s (p + i) → i < n → CopiesChildren r i (change b s p old mid m m') → StopsAtValue (behind r i) (change b s (p + i) mid new m' m'') k →
+pub child_stops : {r : Reading} {b : Form} {s p i n : ℕ} {old mid new : View} {m m' m'' : Meter} {k : ErrorKind} → IsPlace old.words s (p + i) → i < n → CopiesChildren r i (change b s p old mid m m') → StopsHalfway (value_original (behind r i)) (change b s (p + i) mid new m' m'') k →
     StopsAtChildren r n (change b s p old new m m'') k
-child_stops {r} {b} {s} {p} {i} {n} {old} {mid} {new} {m} {m'} {m''} {k} place less first stop =
+child_stops {r} {b} {s} {p} {i} {n} {old} {mid} {new} {m} {m'} {m''} {k} place less first (t, stop) =
     let ts : Trees = first.children in
     let fewer : count ts < n = omega (arith, first.counts) in
-    let off : BreaksOff b (behind r (count ts)) m' m'' = rw first.counts stop.off in
-    let (t, made) = stop.left.0 in
     record {
       why = elim stop.why [
         | inl x ↦ inl (
           x.0,
           words_refused_after old mid new x.0 k first.memory x.1,
-          record { first = ts; fewer = fewer; mid = m'; are_read = first.are_read; stops = (let h : StopsWithin b (WantsWords b x.0) (behind r (count ts)) m' m'' = rw first.counts x.2 in h) },
+          record { first = ts; fewer = fewer; mid = m'; are_read = first.are_read; stops = (let h : StopsWithin b (WantsWords b x.0) (behind r (count ts)) m' m'' = rw first.counts (elim x.2 [ inl none ↦ absurd none.1 | inr wanted ↦ wanted ]) in h) },
           child_too_large b place less first x.3,
         )
-        | inr x ↦ inr (record { first = ts; fewer = fewer; mid = m'; are_read = first.are_read; stops = (let h : Refused b (behind r (count ts)) m' m'' k = rw first.counts x in h) })
+        | inr y ↦ elim y [ inl x ↦ inr (record { first = ts; fewer = fewer; mid = m'; are_read = first.are_read; stops = (let h : Refused b (behind r (count ts)) m' m'' k = rw first.counts x in h) }) | inr none ↦ absurd none ]
       ];
-      off = record { first = ts; fewer = fewer; mid = m'; are_read = first.are_read; stops = off };
       left = with_last (kept_each b ts) t;
       few = omega (arith, count-with_last (kept_each b ts) t, kept_each-count b ts, first.counts);
-      made = one_filled new t first made;
-      memory = keeps_then_spends old mid new k (children_grow first).segments first.memory stop.left.1;
+      made = one_filled new t first stop.left;
+      memory = keeps_then_spends old mid new k (children_grow first).segments first.memory stop.memory;
     }

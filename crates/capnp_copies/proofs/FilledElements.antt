@@ -13,7 +13,7 @@ use Rattle.capnp_making.proofs.FillingChains.{element_grows, elements_grow, elem
 use Rattle.capnp_making.proofs.Memory.{keeps_itself, keeps_both, keeps_written, keeps_then_spends, words_refused_after}
 use Rattle.capnp_making.proofs.WordsPut.{words_put}
 use Rattle.capnp_objects.specs.Outcomes.{ReadsAll}
-use Rattle.capnp_objects.specs.Refusals.{RefusedAll, StopsAmong, BreaksOffAmong}
+use Rattle.capnp_objects.specs.Refusals.{RefusedAll, StopsAmong}
 use Rattle.capnp_objects.specs.Reading.{Reading, behind, segment_read, words_from, pointers_of}
 use Rattle.capnp_objects.specs.Wanted.{Form, canonical}
 use Rattle.capnp_objects.proofs.Copies.{read_no_element, with_last_element}
@@ -73,7 +73,6 @@ element_stops {r} {sizes} {b} {s} {p} {old} {mid} {new} {k = k} put stop = recor
     | inl x ↦ inl (x.0, words_refused_after old mid new x.0 k (keeps_written old mid _ put.writes) x.1, x.2, element_too_large b (behind r sizes.source.data_words) sizes.kept.pointers put x.3)
     | inr x ↦ inr x
   ];
-  off = stop.off;
   left = stop.left;
   few = stop.few;
   made = element_made new stop.left put stop.made;
@@ -198,7 +197,6 @@ module _ {r : Reading} {sizes : ElementSizes} {n i : ℕ} {b : Form} {s p : ℕ}
   row_stops {new} {m''} {k} stop =
       let es : Elements = here.rows.elements in
       let fewer : element_count es < n = omega (arith, here.rows.counts, here.more) in
-      let off : BreaksOffAmong b (pointers_of r sizes.source (element_count es)) q m' m'' = rw here.rows.counts stop.off in
       record {
         why = elim stop.why [
           | inl x ↦ inl (
@@ -221,7 +219,6 @@ module _ {r : Reading} {sizes : ElementSizes} {n i : ℕ} {b : Form} {s p : ℕ}
             stops = stops_sooner here.fits.less_pointers (let h : RefusedAll b (pointers_of r sizes.source (element_count es)) q m' m'' k = rw here.rows.counts x in h);
           })
         ];
-        off = record { first = es; fewer = fewer; mid = m'; are_read = here.rows.are_read; stops = stops_sooner here.fits.less_pointers off };
         left = record {
           elements = laid;
           fewer = omega (arith, counted, here.more);

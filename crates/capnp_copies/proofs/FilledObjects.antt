@@ -4,7 +4,7 @@ use Rattle.capnp_words.specs.declared.error.ErrorKind.{ErrorKind}
 use Rattle.capnp_words.specs.Meter.{Meter}
 use Rattle.capnp_words.specs.declared.wire_pointer.StructSize.{StructSize}
 use Rattle.capnp_format.specs.Segments.{Segments, segment, word_at, IsPlace}
-use Rattle.capnp_format.specs.Tree.{Tree, Null, Struct, Pointers, Trees}
+use Rattle.capnp_format.specs.Tree.{Tree, Null, Struct, Pointers, Structs, Trees}
 use Rattle.capnp_format.specs.Canonical.{cut_to}
 use Rattle.capnp_format.specs.Word.{struct_word}
 use Rattle.capnp_format.proofs.Slices.{length_words}
@@ -22,16 +22,18 @@ use Rattle.capnp_making.proofs.Memory.{keeps_both, keeps_written, keeps_then_spe
 use Rattle.capnp_making.proofs.WordsPut.{words_put}
 use Rattle.capnp_objects.specs.Reading.{Reading, behind, segment_read, words_from}
 use Rattle.capnp_objects.specs.Wanted.{Form, canonical}
-use Rattle.capnp_copies.specs.Changes.{KeepsSections, KeepsWidths, KeepsPointers, change, LeavesSomeValue, CopiesChildren, StopsAtChildren, CopiesPointers, StopsAtPointers, CopiesStruct, StopsAtStruct, CopiesElements, StopsAtElements, CopiesStructs, StopsAtStructs}
+use Rattle.capnp_copies.specs.Changes.{change, MakesCopy, StopsHalfway, CopiesChildren, StopsAtChildren, CopiesElements, StopsAtElements}
 use Rattle.capnp_copies.specs.Forms.{kept, kept_each, kept_elements}
+use Rattle.capnp_copies.specs.Originals.{sections_original, pointers_original, structs_original}
+use Rattle.capnp_copies.specs.Widths.{KeepsSections, KeepsPointers}
 use Rattle.capnp_copies.specs.declared.widths.ElementSizes.{ElementSizes}
 use Rattle.capnp_copies.proofs.FilledChildren.{children_grow}
-use Rattle.capnp_copies.proofs.FilledElements.{}
+use Rattle.capnp_copies.proofs.Originals.{LeavesSomeValue, halfway, sections_large, pointers_large, structs_large}
 use Rattle.capnp_copies.proofs.SegmentsWritten.{length-with_words}
 use Rattle.capnp_copies.proofs.TooLarge.{ObjectMade, struct_too_large, pointers_too_large, structs_too_large}
 use Rattle.capnp_copies.proofs.TightObjects.{StructMade, struct_tight, PointersMade, pointers_tight, StructsMade, ends_in_zeros, structs_tight}
 use Rattle.capnp_copies.proofs.KeptChildren.{kept_each-count, cut_kept-count}
-use Rattle.capnp_copies.proofs.KeptForms.{stops_sooner, struct_kept, list_kept}
+use Rattle.capnp_copies.proofs.KeptForms.{KeepsWidths, stops_sooner, struct_kept, list_kept}
 
 -- an object that the arena refuses leaves the pointer null
 
@@ -109,28 +111,27 @@ module _ {b : Form} {r : Reading} {size least : StructSize} {s p : ℕ} {old mad
   pub struct_null : (i : ℕ) → i < least.pointers → word_at mid.words h.segment (h.at + least.data_words + i) ≡ 0
   struct_null i l = subst (λ d. word_at mid.words h.segment (h.at + d + i) ≡ 0) long ((struct_ready old.words made.words mid.words s p least.pointers h ws is_begun writes).1 i l)
 
-  pub struct_copied : {new : View} {m m' : Meter} → CopiesChildren (behind r size.data_words) least.pointers (change b h.segment (h.at + least.data_words) mid new m m') → CopiesStruct r size (change b s p old new m m')
+  pub struct_copied : {new : View} {m m' : Meter} → CopiesChildren (behind r size.data_words) least.pointers (change b h.segment (h.at + least.data_words) mid new m m') → MakesCopy (sections_original (words_from r size.data_words) (behind r size.data_words) size.pointers) (change b s p old new m m')
   struct_copied {new} {m} {m'} children =
       let f = struct_kept b r size least m m' children.children o.inside o.sections children.counts children.are_read in
       let whole = struct_whole old.words made.words mid.words new.words s p least.pointers h ws (kept_each b children.children) is_begun writes (rw (sym long) at children.made) (kept_each-count b children.children ∙ children.counts) in
       record {
-        children = f.all;
-        counts = f.counts;
-        are_read = f.are_read;
-        made = (subst (IsReplaced old.words new.words s p Null) (sym f.form) whole, keeps_both old mid new segments keeps children.memory);
+        value = Struct (words_from r size.data_words) f.all;
+        is_read = (f.all, refl, f.counts, f.are_read);
+        made = subst (IsReplaced old.words new.words s p Null) (sym f.form) whole;
+        memory = keeps_both old mid new segments keeps children.memory;
         stands = struct_tight is_made b (le_trans longer (children_grow children).segments) children (Struct (words_from r size.data_words) f.all) f.form;
       }
 
-  pub struct_stops : {new : View} {m m' : Meter} {k : ErrorKind} → StopsAtChildren (behind r size.data_words) least.pointers (change b h.segment (h.at + least.data_words) mid new m m') k → StopsAtStruct r size (change b s p old new m m') k
+  pub struct_stops : {new : View} {m m' : Meter} {k : ErrorKind} → StopsAtChildren (behind r size.data_words) least.pointers (change b h.segment (h.at + least.data_words) mid new m m') k → StopsHalfway (sections_original (words_from r size.data_words) (behind r size.data_words) size.pointers) (change b s p old new m m') k
   struct_stops {new} {m} {m'} {k} stop =
-      record {
-        why = elim stop.why [
-          | inl x ↦ inl (x.0, words_refused_after old mid new x.0 k keeps x.1, inr (stops_sooner o.less_pointers x.2), struct_too_large r size least b (record { place = o.place; memory = o.memory; taken = o.taken; behind = o.behind }) o.inside o.sections same_long same_room o.within x.3)
-          | inr x ↦ inr (stops_sooner o.less_pointers x)
-        ];
-        off = inr (stops_sooner o.less_pointers stop.off);
-        left = ((_, struct_done old.words made.words mid.words new.words s p least.pointers h ws stop.left is_begun writes (rw (sym long) at stop.made) stop.few), keeps_then_spends old mid new k segments keeps stop.memory);
-      }
+      halfway (
+      elim stop.why [
+        | inl x ↦ inl (x.0, words_refused_after old mid new x.0 k keeps x.1, inr (stops_sooner o.less_pointers x.2), sections_large b (words_from r size.data_words) (behind r size.data_words) size.pointers (length (segment old.words s)) (old.room s) (struct_too_large r size least b (record { place = o.place; memory = o.memory; taken = o.taken; behind = o.behind }) o.inside o.sections same_long same_room o.within x.3))
+        | inr x ↦ inr (inl (stops_sooner o.less_pointers x))
+      ]
+      )
+      ((_, struct_done old.words made.words mid.words new.words s p least.pointers h ws stop.left is_begun writes (rw (sym long) at stop.made) stop.few), keeps_then_spends old mid new k segments keeps stop.memory)
 
 -- a list of pointers
 
@@ -143,37 +144,37 @@ pub record ObjectBegun (s p n : ℕ) (old mid : View) (h : Start) (t : Tree) : T
   pub begun : IsBegun old.words mid.words s p n h t
   pub memory : KeepsMemory old mid
 
-pub pointers_copied : {b : Form} {r : Reading} {i s p : ℕ} {old mid new : View} {h : Start} {m m' : Meter} → ObjectBegun s p i old mid h (Pointers (nulls i)) → PointersMade i s p old mid h → CopiesChildren r i (change b h.segment h.at mid new m m') → CopiesPointers r i (change b s p old new m m')
+pub pointers_copied : {b : Form} {r : Reading} {i s p : ℕ} {old mid new : View} {h : Start} {m m' : Meter} → ObjectBegun s p i old mid h (Pointers (nulls i)) → PointersMade i s p old mid h → CopiesChildren r i (change b h.segment h.at mid new m m') → MakesCopy (pointers_original i r) (change b s p old new m m')
 pointers_copied {b} {r} {i} {s} {p} {old} {mid} {new} {h} o near children =
     let ts : Trees = kept_each b children.children in
     let whole = pointers_whole old.words mid.words new.words s p i h ts o.begun children.made (kept_each-count b children.children ∙ children.counts) in
     record {
-      children = children.children;
-      counts = children.counts;
-      are_read = children.are_read;
-      made = (subst (IsReplaced old.words new.words s p Null) (sym (kept_pointers b children.children)) whole, keeps_both old mid new o.begun.made.segments o.memory children.memory);
+      value = Pointers children.children;
+      is_read = (children.children, refl, children.counts, children.are_read);
+      made = subst (IsReplaced old.words new.words s p Null) (sym (kept_pointers b children.children)) whole;
+      memory = keeps_both old mid new o.begun.made.segments o.memory children.memory;
       stands = pointers_tight b (children_grow children).segments near children;
     }
 
 pub pointers_stop : {b : Form} {r : Reading} {i s p : ℕ} {old mid new : View} {h : Start} {m m' : Meter} {k : ErrorKind} → ObjectBegun s p i old mid h (Pointers (nulls i)) → ObjectMade s p i old mid h → (HasOwnRoom old s i → StartsBehind old.words s h) → StopsAtChildren r i (change b h.segment h.at mid new m m') k →
-    StopsAtPointers r i (change b s p old new m m') k
-pointers_stop {b} {r} {i} {s} {p} {old} {mid} {new} {h} {k = k} o made at_end stop = record {
-  why = elim stop.why [
-    | inl x ↦ inl (x.0, words_refused_after old mid new x.0 k o.memory x.1, inr x.2, pointers_too_large b r made at_end x.3)
-    | inr x ↦ inr x
-  ];
-  off = inr stop.off;
-  left = ((_, pointers_done old.words mid.words new.words s p i h stop.left o.begun stop.made stop.few), keeps_then_spends old mid new k o.begun.made.segments o.memory stop.memory);
-}
+    StopsHalfway (pointers_original i r) (change b s p old new m m') k
+pointers_stop {b} {r} {i} {s} {p} {old} {mid} {new} {h} {k = k} o made at_end stop =
+    halfway (
+    elim stop.why [
+      | inl x ↦ inl (x.0, words_refused_after old mid new x.0 k o.memory x.1, inr x.2, pointers_large b r i (length (segment old.words s)) (old.room s) (pointers_too_large b r made at_end x.3))
+      | inr x ↦ inr (inl x)
+    ]
+    )
+    ((_, pointers_done old.words mid.words new.words s p i h stop.left o.begun stop.made stop.few), keeps_then_spends old mid new k o.begun.made.segments o.memory stop.memory)
 
 -- a list of structs
 
 pub widths_keep : (b : Form) (r : Reading) (sizes : ElementSizes) (i : ℕ) → KeepsWidths b r sizes.source i sizes.kept → KeepsPointers b r sizes i
-widths_keep canonical r sizes i widths = omega (arith, widths.of_pointers)
+widths_keep canonical r sizes i widths = omega (arith, ap (λ s. s.pointers) widths)
 widths_keep _ r sizes i same = same
 
 pub structs_copied : {b : Form} {r : Reading} {sizes : ElementSizes} {i s p : ℕ} {old mid new : View} {h : Start} {m m' : Meter} → r.at + i * (sizes.source.data_words + sizes.source.pointers) ≤ length (segment_read r) → KeepsWidths b r sizes.source i sizes.kept →
-    ObjectBegun s p (1 + i * (sizes.kept.data_words + sizes.kept.pointers)) old mid h (zero_structs i sizes.kept) → StructsMade i s p sizes.kept old mid h → CopiesElements r sizes i (change b h.segment (h.at + 1) mid new m m') → CopiesStructs r sizes.source i (change b s p old new m m')
+    ObjectBegun s p (1 + i * (sizes.kept.data_words + sizes.kept.pointers)) old mid h (zero_structs i sizes.kept) → StructsMade i s p sizes.kept old mid h → CopiesElements r sizes i (change b h.segment (h.at + 1) mid new m m') → MakesCopy (structs_original sizes.source i r) (change b s p old new m m')
 structs_copied {b} {r} {sizes} {i} {s} {p} {old} {mid} {new} {h} inside widths o near elements =
     let d : ℕ = sizes.kept.data_words in
     let q : ℕ = sizes.kept.pointers in
@@ -181,21 +182,21 @@ structs_copied {b} {r} {sizes} {i} {s} {p} {old} {mid} {new} {h} inside widths o
     let whole = structs_whole old.words mid.words new.words s p d q i h (cut_to d q (kept_elements b es)) o.begun elements.made (cut_kept-count b d q es ∙ elements.counts) in
     let form = list_kept b r sizes.source sizes.kept es elements.are_read.cost (rw elements.counts inside) (rw elements.counts widths) elements.are_read.means in
     record {
-      elements = es;
-      counts = elements.counts;
-      are_read = elements.are_read;
-      made = (subst (IsReplaced old.words new.words s p Null) (sym form) whole, keeps_both old mid new o.begun.made.segments o.memory elements.memory);
+      value = Structs sizes.source.data_words sizes.source.pointers es;
+      is_read = (es, refl, elements.counts, elements.are_read);
+      made = subst (IsReplaced old.words new.words s p Null) (sym form) whole;
+      memory = keeps_both old mid new o.begun.made.segments o.memory elements.memory;
       stands = structs_tight {r = r} {sizes = sizes} b (elements_grow mid.words new.words h.segment (h.at + 1) d q (cut_to d q (kept_elements b es)) elements.made (omega (arith, cut_kept-count b d q es, elements.counts, ap (λ j. j * (d + q)) (cut_kept-count b d q es ∙ elements.counts), o.begun.inside.1))).segments inside widths near elements;
     }
 
 pub structs_stop : {b : Form} {r : Reading} {sizes : ElementSizes} {i s p : ℕ} {old mid new : View} {h : Start} {m m' : Meter} {k : ErrorKind} → r.at + i * (sizes.source.data_words + sizes.source.pointers) ≤ length (segment_read r) → KeepsWidths b r sizes.source i sizes.kept →
     ObjectBegun s p (1 + i * (sizes.kept.data_words + sizes.kept.pointers)) old mid h (zero_structs i sizes.kept) → StructsMade i s p sizes.kept old mid h →
-    StopsAtElements r sizes i (change b h.segment (h.at + 1) mid new m m') k → StopsAtStructs r sizes.source i (change b s p old new m m') k
-structs_stop {b} {r} {sizes} {i} {s} {p} {old} {mid} {new} {h} {m} {m'} {k} inside widths o near stop = record {
-  why = elim stop.why [
-    | inl x ↦ inl (x.0, words_refused_after old mid new x.0 k o.memory x.1, inr x.2, structs_too_large r sizes (record { place = near.place; memory = near.memory; taken = near.taken; behind = near.behind }) inside b widths (λ room. x.3 (ends_in_zeros {new = new} {m = m} {m' = m'} b near room)))
-    | inr x ↦ inr x
-  ];
-  off = inr stop.off;
-  left = (structs_done old.words mid.words new.words s p sizes.kept.data_words sizes.kept.pointers i h o.begun stop.left, keeps_then_spends old mid new k o.begun.made.segments o.memory stop.memory);
-}
+    StopsAtElements r sizes i (change b h.segment (h.at + 1) mid new m m') k → StopsHalfway (structs_original sizes.source i r) (change b s p old new m m') k
+structs_stop {b} {r} {sizes} {i} {s} {p} {old} {mid} {new} {h} {m} {m'} {k} inside widths o near stop =
+    halfway (
+    elim stop.why [
+      | inl x ↦ inl (x.0, words_refused_after old mid new x.0 k o.memory x.1, inr x.2, structs_large b r sizes.source i (length (segment old.words s)) (old.room s) (structs_too_large r sizes (record { place = near.place; memory = near.memory; taken = near.taken; behind = near.behind }) inside b widths (λ room. x.3 (ends_in_zeros {new = new} {m = m} {m' = m'} b near room))))
+      | inr x ↦ inr (inl x)
+    ]
+    )
+    (structs_done old.words mid.words new.words s p sizes.kept.data_words sizes.kept.pointers i h o.begun stop.left, keeps_then_spends old mid new k o.begun.made.segments o.memory stop.memory)

@@ -22,14 +22,15 @@ use Rattle.capnp_objects.specs.Outcomes.{ReadsAll}
 use Rattle.capnp_objects.specs.Reading.{Reading, segment_read, words_from}
 use Rattle.capnp_objects.specs.Spending.{pointers_in_all}
 use Rattle.capnp_objects.specs.Wanted.{Form, canonical}
-use Rattle.capnp_copies.specs.Changes.{change, CopiesChildren, StopsAtChildren}
+use Rattle.capnp_copies.specs.Changes.{change, MakesCopy, StopsHalfway, CopiesChildren, StopsAtChildren}
 use Rattle.capnp_copies.specs.Forms.{kept, kept_each}
-use Rattle.capnp_copies.specs.StructValues.{kept_count, CopiesSections, StopsAtSections, SectionsExceed}
+use Rattle.capnp_copies.specs.Originals.{kept_count, sections_original}
 use Rattle.capnp_copies.specs.Rooms.{AreTooLarge}
 use Rattle.capnp_copies.proofs.DataSections.{kept_count-le}
 use Rattle.capnp_copies.proofs.FilledChildren.{children_grow}
 use Rattle.capnp_copies.proofs.KeptChildren.{kept_each-count}
 use Rattle.capnp_copies.proofs.KeptForms.{stops_sooner, SectionsCut, sections_meant}
+use Rattle.capnp_copies.proofs.Originals.{AreTooLargeSections, sections_large, halfway}
 use Rattle.capnp_copies.proofs.SegmentsWritten.{length-with_words}
 use Rattle.capnp_copies.proofs.TooLarge.{ObjectMade, sections_too_large}
 use Rattle.capnp_copies.proofs.TightObjects.{StructMade, struct_tight}
@@ -129,33 +130,32 @@ module _ {b : Form} {ws : List ℕ} {r : Reading} {q : ℕ} {least : StructSize}
   pub sections_inside : r.at + least.pointers ≤ length (segment_read r)
   sections_inside = omega (arith, fewer, o.cut.inside)
 
-  pub sections_copied : {new : View} {m m' : Meter} → CopiesChildren r least.pointers (change b h.segment (h.at + least.data_words) mid new m m') → CopiesSections ws r q (change b s p old new m m')
+  pub sections_copied : {new : View} {m m' : Meter} → CopiesChildren r least.pointers (change b h.segment (h.at + least.data_words) mid new m m') → MakesCopy (sections_original ws r q) (change b s p old new m m')
   sections_copied {new} {m} {m'} children =
       let f = sections_kept b ws r q m m' children.children o.cut.inside (children.counts ∙ o.cut.of_pointers) children.are_read in
       let whole = struct_whole old.words made.words mid.words new.words s p least.pointers h section (kept_each b children.children) is_begun writes (rw (sym long) at children.made) (kept_each-count b children.children ∙ children.counts) in
       let form : kept b (Struct ws f.all) ≡ Struct section (kept_each b children.children) = f.form ∙ ap (λ n. Struct (take n ws) (kept_each b children.children)) (sym o.cut.of_data) in
       record {
-        children = f.all;
-        counts = f.counts;
-        are_read = f.are_read;
-        made = (subst (IsReplaced old.words new.words s p Null) (sym form) whole, keeps_both old mid new segments keeps children.memory);
+        value = Struct ws f.all;
+        is_read = (f.all, refl, f.counts, f.are_read);
+        made = subst (IsReplaced old.words new.words s p Null) (sym form) whole;
+        memory = keeps_both old mid new segments keeps children.memory;
         stands = struct_tight is_made b (le_trans longer (children_grow children).segments) children (Struct ws f.all) form;
       }
 
   -- if its children are too large for the segment where it stands, it is for that of its pointer
-  exceeds : (new : View) (m m' : Meter) → AreTooLarge b r least.pointers (length (segment mid.words h.segment)) (mid.room h.segment) → SectionsExceed ws r q (change b s p old new m m')
-  exceeds new m m' large = λ ts n counts are_read.
-      (let k = sections_meant b ts are_read.cost o.cut counts are_read.means in
+  exceeds : AreTooLarge b r least.pointers (length (segment mid.words h.segment)) (mid.room h.segment) → AreTooLargeSections b ws r q (length (segment old.words s)) (old.room s)
+  exceeds large = λ ts n counts means.
+      (let k = sections_meant b ts n o.cut counts means in
       let object : ObjectMade s p (least.data_words + least.pointers) old made h = record { place = o.place; memory = o.memory; taken = o.taken; behind = o.behind } in
-      sections_too_large b least (take_trees least.pointers ts) object same_long same_room o.within k.counts (large (take_trees least.pointers ts) are_read.cost k.counts k.means) k.words)
+      sections_too_large b least (take_trees least.pointers ts) object same_long same_room o.within k.counts (large (take_trees least.pointers ts) n k.counts k.means) k.words)
 
-  pub sections_stop : {new : View} {m m' : Meter} {k : ErrorKind} → StopsAtChildren r least.pointers (change b h.segment (h.at + least.data_words) mid new m m') k → StopsAtSections ws r q (change b s p old new m m') k
+  pub sections_stop : {new : View} {m m' : Meter} {k : ErrorKind} → StopsAtChildren r least.pointers (change b h.segment (h.at + least.data_words) mid new m m') k → StopsHalfway (sections_original ws r q) (change b s p old new m m') k
   sections_stop {new} {m} {m'} {k} stop =
-      record {
-        why = elim stop.why [
-          | inl x ↦ inl (x.0, words_refused_after old mid new x.0 k keeps x.1, inr (stops_sooner fewer x.2), exceeds new m m' x.3)
-          | inr x ↦ inr (inl (stops_sooner fewer x))
-        ];
-        off = inr (stops_sooner fewer stop.off);
-        left = ((_, struct_done old.words made.words mid.words new.words s p least.pointers h section stop.left is_begun writes (rw (sym long) at stop.made) stop.few), keeps_then_spends old mid new k segments keeps stop.memory);
-      }
+      halfway (
+      elim stop.why [
+        | inl x ↦ inl (x.0, words_refused_after old mid new x.0 k keeps x.1, inr (stops_sooner fewer x.2), sections_large b ws r q (length (segment old.words s)) (old.room s) (exceeds x.3))
+        | inr x ↦ inr (inl (stops_sooner fewer x))
+      ]
+      )
+      ((_, struct_done old.words made.words mid.words new.words s p least.pointers h section stop.left is_begun writes (rw (sym long) at stop.made) stop.few), keeps_then_spends old mid new k segments keeps stop.memory)

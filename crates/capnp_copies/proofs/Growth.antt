@@ -1,6 +1,6 @@
 -- How many words a message gains where objects are made, and where they are copied one after another.
-use Rattle.std.proofs.Common.{◌≡◌, ◌≢◌, ◌⊎◌, inl, inr, ℕ, zero, suc, pred, ◌+◌, ◌-◌, ◌*◌, ◌^◌, ◌<◌, ◌≤◌, Bool, true, Some, Result, Ok, Err, IsErr, MatchResult, List, [], ◌∷◌, length, set, refl, sym, ap, ◌∙◌, subst, arith, mul-le-mul_left}
-use Rattle.std.proofs.lemmas.Bool.{cases_lt, false≢true}
+use Rattle.std.proofs.Common.{◌≡◌, ◌≢◌, inl, inr, ℕ, zero, suc, pred, ◌+◌, ◌-◌, ◌*◌, ◌^◌, ◌<◌, ◌≤◌, Bool, true, Some, Result, Ok, Err, MatchResult, List, [], ◌∷◌, length, length-take, drop, set, refl, sym, ap, ◌∙◌, subst, arith, mul-le-mul_left}
+use Rattle.std.proofs.lemmas.Bool.{cases_lt}
 use Rattle.std.proofs.lemmas.List.{length-set}
 use Rattle.std.proofs.lemmas.List.Sums.{sum_by-cons}
 use Rattle.capnp_words.specs.declared.error.ErrorKind.{ErrorKind}
@@ -30,7 +30,7 @@ use Rattle.capnp_making.proofs.WordsPut.{words_put}
 use Rattle.capnp_objects.specs.Demands.{own, tag}
 use Rattle.capnp_objects.specs.Faults.{child_at}
 use Rattle.capnp_objects.specs.Objects.{IsObject}
-use Rattle.capnp_objects.specs.Outcomes.{Spends, Reads, ReadsAll, ReadsElements, Entered}
+use Rattle.capnp_objects.specs.Outcomes.{Reads, ReadsAll, ReadsElements, Entered}
 use Rattle.capnp_objects.specs.Reading.{Reading, behind, segment_read, words_from, pointers_of, tag_size}
 use Rattle.capnp_objects.specs.Refusals.{Stopped, ReadsBefore, in_struct, in_pointers, in_element, StopsWithin, here, below, BreaksOff, BreaksOffAmong, BreaksOffAmongElements}
 use Rattle.capnp_objects.specs.Spending.{pointers_in, pointers_in_all, pointers_in_elements}
@@ -43,18 +43,18 @@ use Rattle.capnp_objects.proofs.Copies.{read_none, read_more, read_no_element, p
 use Rattle.capnp_objects.proofs.Objects.{own_struct, own_flat, own_pointers, own_structs, read_null, read_flat, read_struct, read_pointers, read_structs}
 use Rattle.capnp_objects.proofs.Refusals.{breaks_off_spends, stops_struct, stops_pointers, stops_structs}
 use Rattle.capnp_objects.proofs.Truths.{few_followed, reading_spends}
-use Rattle.capnp_copies.specs.Changes.{Change, change, KeepsSections, StayInSegment}
+use Rattle.capnp_copies.specs.Changes.{Change, change, StayInSegment}
 use Rattle.capnp_copies.specs.Costs.{cost_before, cost_until, cost_among, cost_among_elements, followed_before, followed_until, followed_among, followed_among_elements}
-use Rattle.capnp_copies.specs.ListValues.{ListElements}
-use Rattle.capnp_copies.specs.StructValues.{kept_count}
-use Rattle.capnp_copies.specs.Growth.{message_words, TakesNone, Makes, no_object, near, far, both, MakesAtMost, Gains, TakesForValue, TakesUntilStop, TakesForAll, TakesAmong, TakesForElements, TakesAmongElements, TakesNothing, TakesForListOf, of_numbers, of_pointers, of_structs, PadsApart, TakesFew, FewTaken}
+use Rattle.capnp_copies.specs.Originals.{value_original, sections_original, numbers_original, pointers_original, structs_original, list_original, kept_count}
+use Rattle.capnp_copies.specs.Growth.{message_words, TakesNone, Makes, no_object, near, far, both, MakesAtMost, Gains, TakesForCopy, TakesUntilStop, TakesAtMost, TakesForAll, TakesAmong, TakesForElements, TakesAmongElements, PadsApart, TakesFew, FewTaken}
 use Rattle.capnp_copies.specs.declared.widths.ElementSizes.{ElementSizes}
 use Rattle.capnp_copies.proofs.Copying.{there}
 use Rattle.capnp_copies.proofs.FilledSections.{sections_kept}
 use Rattle.capnp_copies.proofs.FilledValues.{capability_read}
-use Rattle.capnp_copies.proofs.KeptForms.{SourceKept, struct_kept, one_more as one_row_more, stops_sooner, blank_elements}
+use Rattle.capnp_copies.proofs.KeptForms.{SourceKept, one_more as one_row_more, stops_sooner, blank_elements}
 use Rattle.capnp_copies.proofs.ObjectsRead.{inside, stopped_in, capability_stopped, default_stopped}
 use Rattle.capnp_copies.proofs.StayingNear.{stay_fewer}
+use Rattle.capnp_objects.proofs.Unreadable.{Spends}
 
 -- The words of all segments.
 
@@ -131,6 +131,9 @@ made_both {mid = mid} x y = record { words = x.words + y.words; pads = x.pads + 
 pub made_within : {id n p : ℕ} {old mid last new : View} → TakesNone old mid → TakesNone last new → MakesAtMost id n p mid last → MakesAtMost id n p old new
 made_within before after x = made_more (omega arith) (omega arith) (made_both (made_none before) (made_both x (made_none after)))
 
+pub gains_within : {n p : ℕ} (c d : Change) → TakesNone d.old c.old → TakesNone c.new d.new → d.segment ≡ c.segment → Gains c n p → Gains d n p
+gains_within {n} {p} c d before after same made = subst (λ id. MakesAtMost id n p d.old d.new) (sym same) (made_within before after made)
+
 -- An object of n words is made for a pointer of segment id, and its own pointers stand in segment k.
 pub record Begins (id k n : ℕ) (old mid : View) : Type 0 where
   pub there : id < length old.words
@@ -195,121 +198,142 @@ taken_so (Err k) P P' Q Q' f h taken = h taken
 
 -- Pointers one behind the other: none yet, one more, and one that is refused.
 
-pub none_taken : (r : Reading) (b : Form) (s p : ℕ) (v : View) (m : Meter) → TakesForAll r 0 0 0 (change b s p v v m m)
+pub none_taken : (r : Reading) (b : Form) (s p : ℕ) (v : View) (m : Meter) → TakesForAll r 0 (change b s p v v m m)
 unfolding read_none
 none_taken r b s p v m = record { children = no_trees; counts = refl; are_read = read_none b r m; made = made_more (omega arith) (omega arith) (made_none (none_itself v)) }
 
-pub one_taken : {r : Reading} {b : Form} {s p p' i : ℕ} {old mid new : View} {m m' m'' : Meter} → TakesForAll r i 0 0 (change b s p old mid m m') → TakesForValue (behind r i) (change b s p' mid new m' m'') → TakesForAll r (i + 1) 0 0 (change b s p old new m m'')
+pub one_taken : {r : Reading} {b : Form} {s p i : ℕ} {old mid new : View} {m m' m'' : Meter} → TakesForAll r i (change b s p old mid m m') → TakesForCopy (value_original (behind r i)) (change b s p mid new m' m'') → TakesForAll r (i + 1) (change b s p old new m m'')
 unfolding read_more
 one_taken {r} {b} {s} {mid = mid} {new} {m' = m'} {m''} first next =
     let ts = first.children in
-    let t = next.value in
-    let here : (one : Reads b (behind r (count ts)) m' m'' t) × MakesAtMost s one.cost (pointers_in t) mid new = rw first.counts (next.is_read, next.made) in
+    let t = next.0 in
+    let here : (one : Reads b (behind r (count ts)) m' m'' t) × MakesAtMost s one.cost (pointers_in t) mid new = rw first.counts (next.1, next.2) in
     record { children = with_last ts t; counts = count-with_last ts t ∙ omega (arith, first.counts); are_read = read_more first.are_read here.0; made = made_more (omega arith) (omega (arith, pointers_in-with_last ts t)) (made_both first.made here.1) }
 
-pub stop_taken : {r : Reading} {b : Form} {s p p' i n : ℕ} {old mid new : View} {m m' m'' : Meter} → i < n → TakesForAll r i 0 0 (change b s p old mid m m') → TakesUntilStop (behind r i) (change b s p' mid new m' m'') → TakesAmong r n 0 0 (change b s p old new m m'')
+pub stop_taken : {r : Reading} {b : Form} {s p i n : ℕ} {old mid new : View} {m m' m'' : Meter} → i < n → TakesForAll r i (change b s p old mid m m') → TakesUntilStop (value_original (behind r i)) (change b s p mid new m' m'') → TakesAmong r n (change b s p old new m m'')
 stop_taken {r} {b} {s} {mid = mid} {new} {m' = m'} {m''} less first stop =
     let ts = first.children in
-    let here : (one : BreaksOff b (behind r (count ts)) m' m'') × MakesAtMost s (cost_until one) (followed_until one) mid new = rw first.counts (stop.off, stop.made) in
+    let here : (one : BreaksOff b (behind r (count ts)) m' m'') × MakesAtMost s (cost_until one) (followed_until one) mid new = rw first.counts (stop.0, stop.1) in
     record { off = record { first = ts; fewer = omega (arith, first.counts, less); mid = m'; are_read = first.are_read; stops = here.0 }; made = made_more (omega arith) (omega arith) (made_both first.made here.1) }
 
-pub all_taken : {r : Reading} {i j n p : ℕ} {c : Change} → i ≡ j → TakesForAll r i n p c → TakesForAll r j n p c
-all_taken {r} {n = n} {p} {c} same taken = subst (λ k. TakesForAll r k n p c) same taken
+pub all_taken : {r : Reading} {i j : ℕ} {c : Change} → i ≡ j → TakesForAll r i c → TakesForAll r j c
+all_taken {r} {c = c} same taken = subst (λ k. TakesForAll r k c) same taken
 
 -- The pointers of elements: none yet, those of one element more, and one that is refused.
 
-pub no_row_taken : (r : Reading) (size : StructSize) (b : Form) (s p : ℕ) (v : View) (m : Meter) → TakesForElements r size 0 0 0 (change b s p v v m m)
+pub no_row_taken : (r : Reading) (size : StructSize) (b : Form) (s p : ℕ) (v : View) (m : Meter) → TakesForElements r size 0 (change b s p v v m m)
 unfolding read_no_element
 no_row_taken r size b s p v m = record { elements = no_elements; counts = refl; are_read = read_no_element b r size m; made = made_more (omega arith) (omega arith) (made_none (none_itself v)) }
 
-pub blank_taken : (r : Reading) (sizes : ElementSizes) (n : ℕ) (b : Form) (s p : ℕ) (v : View) (m : Meter) → SourceKept b r sizes n → sizes.kept.data_words + sizes.kept.pointers ≡ 0 → TakesForElements r sizes.source n 0 0 (change b s p v v m m)
+pub blank_taken : (r : Reading) (sizes : ElementSizes) (n : ℕ) (b : Form) (s p : ℕ) (v : View) (m : Meter) → SourceKept b r sizes n → sizes.kept.data_words + sizes.kept.pointers ≡ 0 → TakesForElements r sizes.source n (change b s p v v m m)
 blank_taken r sizes n b s p v m fits none =
     let x = blank_elements b r sizes n m n (omega arith) fits (omega (arith, none)) in
     record { elements = x.all; counts = x.counts; are_read = x.are_read; made = made_more (omega arith) (omega arith) (made_none (none_itself v)) }
 
-pub row_taken : {r : Reading} {sizes : ElementSizes} {b : Form} {s p p' i n : ℕ} {old mid new : View} {m m' m'' : Meter} → SourceKept b r sizes n → i < n → TakesForElements r sizes.source i 0 0 (change b s p old mid m m') →
-    TakesForAll (pointers_of r sizes.source i) sizes.kept.pointers 0 0 (change b s p' mid new m' m'') → TakesForElements r sizes.source (i + 1) 0 0 (change b s p old new m m'')
+pub row_taken : {r : Reading} {sizes : ElementSizes} {b : Form} {s p p' i n : ℕ} {old mid new : View} {m m' m'' : Meter} → SourceKept b r sizes n → i < n → TakesForElements r sizes.source i (change b s p old mid m m') →
+    TakesForAll (pointers_of r sizes.source i) sizes.kept.pointers (change b s p' mid new m' m'') → TakesForElements r sizes.source (i + 1) (change b s p old new m m'')
 row_taken {r} {sizes} {b} {s} {n = n} {mid = mid} {new} {m} {m'} {m''} fits less first next =
     let es = first.elements in
     let ts = next.children in
-    let here : (one : ReadsAll b (pointers_of r sizes.source (element_count es)) m' m'' ts) × MakesAtMost s (0 + one.cost) (0 + pointers_in_all ts) mid new = rw first.counts (next.are_read, next.made) in
+    let here : (one : ReadsAll b (pointers_of r sizes.source (element_count es)) m' m'' ts) × MakesAtMost s one.cost (pointers_in_all ts) mid new = rw first.counts (next.are_read, next.made) in
     let a = one_row_more b r sizes n m m' m'' es ts fits first.are_read (omega (arith, first.counts, less)) next.counts here.0 in
     record { elements = a.all; counts = a.counts ∙ omega (arith, first.counts); are_read = a.are_read; made = made_more (omega (arith, a.costs)) (omega (arith, a.follows)) (made_both first.made here.1) }
 
-pub row_stop_taken : {r : Reading} {sizes : ElementSizes} {b : Form} {s p p' i n : ℕ} {old mid new : View} {m m' m'' : Meter} → SourceKept b r sizes n → i < n → TakesForElements r sizes.source i 0 0 (change b s p old mid m m') →
-    TakesAmong (pointers_of r sizes.source i) sizes.kept.pointers 0 0 (change b s p' mid new m' m'') → TakesAmongElements r sizes.source n 0 0 (change b s p old new m m'')
+pub row_stop_taken : {r : Reading} {sizes : ElementSizes} {b : Form} {s p p' i n : ℕ} {old mid new : View} {m m' m'' : Meter} → SourceKept b r sizes n → i < n → TakesForElements r sizes.source i (change b s p old mid m m') →
+    TakesAmong (pointers_of r sizes.source i) sizes.kept.pointers (change b s p' mid new m' m'') → TakesAmongElements r sizes.source n (change b s p old new m m'')
 unfolding stops_sooner
 row_stop_taken {r} {sizes} {b} {s} {mid = mid} {new} {m' = m'} {m''} fits less first stop =
     let es = first.elements in
-    let here : (one : BreaksOffAmong b (pointers_of r sizes.source (element_count es)) sizes.kept.pointers m' m'') × MakesAtMost s (0 + cost_among one) (0 + followed_among one) mid new = rw first.counts (stop.off, stop.made) in
+    let here : (one : BreaksOffAmong b (pointers_of r sizes.source (element_count es)) sizes.kept.pointers m' m'') × MakesAtMost s (cost_among one) (followed_among one) mid new = rw first.counts (stop.off, stop.made) in
     record { off = record { first = es; fewer = omega (arith, first.counts, less); mid = m'; are_read = first.are_read; stops = stops_sooner fits.less_pointers here.0 }; made = made_more (omega arith) (omega arith) (made_both first.made here.1) }
 
-pub rows_taken : {r : Reading} {size : StructSize} {i j n p : ℕ} {c : Change} → i ≡ j → TakesForElements r size i n p c → TakesForElements r size j n p c
-rows_taken {r} {size} {n = n} {p} {c} same taken = subst (λ k. TakesForElements r size k n p c) same taken
+pub rows_taken : {r : Reading} {size : StructSize} {i j : ℕ} {c : Change} → i ≡ j → TakesForElements r size i c → TakesForElements r size j c
+rows_taken {r} {size} {c = c} same taken = subst (λ k. TakesForElements r size k c) same taken
 
--- No words are taken before pointers are copied, and none behind.
+-- No words are taken before something is copied, and none behind.
 
-pub all_within : {r : Reading} {b : Form} {s p p' i n q : ℕ} {old mid last new : View} {m m' : Meter} → TakesNone old mid → TakesNone last new → TakesForAll r i n q (change b s p mid last m m') → TakesForAll r i n q (change b s p' old new m m')
+pub all_within : {r : Reading} {b : Form} {s p p' i : ℕ} {old mid last new : View} {m m' : Meter} → TakesNone old mid → TakesNone last new → TakesForAll r i (change b s p mid last m m') → TakesForAll r i (change b s p' old new m m')
 all_within before after x = record { children = x.children; counts = x.counts; are_read = x.are_read; made = made_within before after x.made }
 
-pub among_within : {r : Reading} {b : Form} {s p p' i j n q : ℕ} {old mid last new : View} {m m' : Meter} → i ≤ j → TakesNone old mid → TakesNone last new → TakesAmong r i n q (change b s p mid last m m') → TakesAmong r j n q (change b s p' old new m m')
+pub among_within : {r : Reading} {b : Form} {s p p' i j : ℕ} {old mid last new : View} {m m' : Meter} → i ≤ j → TakesNone old mid → TakesNone last new → TakesAmong r i (change b s p mid last m m') → TakesAmong r j (change b s p' old new m m')
 unfolding stops_sooner
 among_within fewer before after x = record { off = stops_sooner fewer x.off; made = made_within before after x.made }
 
-elements_within : {r : Reading} {size : StructSize} {b : Form} {s p p' i n q : ℕ} {old mid last new : View} {m m' : Meter} → TakesNone old mid → TakesNone last new → TakesForElements r size i n q (change b s p mid last m m') → TakesForElements r size i n q (change b s p' old new m m')
-elements_within before after x = record { elements = x.elements; counts = x.counts; are_read = x.are_read; made = made_within before after x.made }
+-- of what a place means, of a struct, and of a list
 
-among_elements_within : {r : Reading} {size : StructSize} {b : Form} {s p p' i n q : ℕ} {old mid last new : View} {m m' : Meter} → TakesNone old mid → TakesNone last new → TakesAmongElements r size i n q (change b s p mid last m m') →
-    TakesAmongElements r size i n q (change b s p' old new m m')
-among_elements_within before after x = record { off = x.off; made = made_within before after x.made }
+pub value_within : (r : Reading) (c d : Change) → TakesNone d.old c.old → TakesNone c.new d.new → d.segment ≡ c.segment → (value_original r).takes c.form c.before c.after (Gains c) → (value_original r).takes c.form c.before c.after (Gains d)
+value_within r c d before after same (t, x, made) = (t, x, gains_within c d before after same made)
+
+pub until_within : (r : Reading) (c d : Change) → TakesNone d.old c.old → TakesNone c.new d.new → d.segment ≡ c.segment → (value_original r).takes_until c.form c.before c.after (Gains c) → (value_original r).takes_until c.form c.before c.after (Gains d)
+until_within r c d before after same (x, made) = (x, gains_within c d before after same made)
+
+pub sections_within : (ws : List ℕ) (r : Reading) (q : ℕ) (c d : Change) → TakesNone d.old c.old → TakesNone c.new d.new → d.segment ≡ c.segment → (sections_original ws r q).takes c.form c.before c.after (Gains c) →
+    (sections_original ws r q).takes c.form c.before c.after (Gains d)
+sections_within ws r q c d before after same (ts, counts, x, made) = (ts, counts, x, gains_within c d before after same made)
+
+pub sections_until_within : (ws : List ℕ) (r : Reading) (q : ℕ) (c d : Change) → TakesNone d.old c.old → TakesNone c.new d.new → d.segment ≡ c.segment → (sections_original ws r q).takes_until c.form c.before c.after (Gains c) →
+    (sections_original ws r q).takes_until c.form c.before c.after (Gains d)
+sections_until_within ws r q c d before after same tried = elim tried [
+  | inl x ↦ inl (x.0, gains_within c d before after same x.1)
+  | inr x ↦ inr (x.0, gains_within c d before after same x.1)
+]
+
+list_more : (size : ElementSize) (sections : StructSize) (n : ℕ) (r : Reading) (b : Form) (m m' : Meter) (P Q : ℕ → ℕ → Type 0) → ((i j : ℕ) → P i j → Q i j) → (list_original size sections n r).takes b m m' P → (list_original size sections n r).takes b m m' Q
+list_more Pointer sections n r b m m' P Q f (ts, counts, x, made) = (ts, counts, x, f _ _ made)
+list_more InlineComposite sections n r b m m' P Q f (es, counts, x, made) = (es, counts, x, f _ _ made)
+list_more Void sections n r b m m' P Q f (same, made) = (same, f _ _ made)
+list_more Bit sections n r b m m' P Q f (same, made) = (same, f _ _ made)
+list_more Byte sections n r b m m' P Q f (same, made) = (same, f _ _ made)
+list_more TwoBytes sections n r b m m' P Q f (same, made) = (same, f _ _ made)
+list_more FourBytes sections n r b m m' P Q f (same, made) = (same, f _ _ made)
+list_more EightBytes sections n r b m m' P Q f (same, made) = (same, f _ _ made)
+
+list_until_more : (size : ElementSize) (sections : StructSize) (n : ℕ) (r : Reading) (b : Form) (m m' : Meter) (P Q : ℕ → ℕ → Type 0) → ((i j : ℕ) → P i j → Q i j) → (list_original size sections n r).takes_until b m m' P → (list_original size sections n r).takes_until b m m' Q
+list_until_more Pointer sections n r b m m' P Q f tried = elim tried [ inl x ↦ inl (x.0, f _ _ x.1) | inr x ↦ inr (x.0, f _ _ x.1) ]
+list_until_more InlineComposite sections n r b m m' P Q f tried = elim tried [ inl x ↦ inl (x.0, f _ _ x.1) | inr x ↦ inr (x.0, f _ _ x.1) ]
+list_until_more Void sections n r b m m' P Q f (same, made) = (same, f _ _ made)
+list_until_more Bit sections n r b m m' P Q f (same, made) = (same, f _ _ made)
+list_until_more Byte sections n r b m m' P Q f (same, made) = (same, f _ _ made)
+list_until_more TwoBytes sections n r b m m' P Q f (same, made) = (same, f _ _ made)
+list_until_more FourBytes sections n r b m m' P Q f (same, made) = (same, f _ _ made)
+list_until_more EightBytes sections n r b m m' P Q f (same, made) = (same, f _ _ made)
+
+pub list_within : (size : ElementSize) (sections : StructSize) (n : ℕ) (r : Reading) (c d : Change) → TakesNone d.old c.old → TakesNone c.new d.new → d.segment ≡ c.segment → (list_original size sections n r).takes c.form c.before c.after (Gains c) →
+    (list_original size sections n r).takes c.form c.before c.after (Gains d)
+list_within size sections n r c d before after same x = list_more size sections n r c.form c.before c.after (Gains c) (Gains d) (λ i j made. gains_within c d before after same made) x
+
+pub list_until_within : (size : ElementSize) (sections : StructSize) (n : ℕ) (r : Reading) (c d : Change) → TakesNone d.old c.old → TakesNone c.new d.new → d.segment ≡ c.segment → (list_original size sections n r).takes_until c.form c.before c.after (Gains c) →
+    (list_original size sections n r).takes_until c.form c.before c.after (Gains d)
+list_until_within size sections n r c d before after same x = list_until_more size sections n r c.form c.before c.after (Gains c) (Gains d) (λ i j made. gains_within c d before after same made) x
 
 -- An object is made before pointers are copied to it.
 
-pub all_behind : {r : Reading} {b : Form} {s k p p' i n l : ℕ} {old mid new : View} {m m' : Meter} → Begins s k n old mid → n ≤ l → TakesForAll r i 0 0 (change b k p mid new m m') → TakesForAll r i l 1 (change b s p' old new m m')
-all_behind begun less x = record { children = x.children; counts = x.counts; are_read = x.are_read; made = made_more (omega (arith, less)) (omega arith) (made_object begun x.made) }
+pub pointers_behind : (r : Reading) (i : ℕ) (b : Form) (s k p : ℕ) (old mid new : View) (m m' : Meter) → Begins s k i old mid → TakesForAll r i (change b k p mid new m m') → TakesForCopy (pointers_original i r) (change b s p old new m m')
+pointers_behind r i b s k p old mid new m m' begun x = (x.children, x.counts, x.are_read, made_object begun x.made)
 
-pub among_behind : {r : Reading} {b : Form} {s k p p' i j n l : ℕ} {old mid new : View} {m m' : Meter} → i ≤ j → Begins s k n old mid → n ≤ l → TakesAmong r i 0 0 (change b k p mid new m m') → TakesAmong r j l 1 (change b s p' old new m m')
-unfolding stops_sooner
-among_behind fewer begun less x = record { off = stops_sooner fewer x.off; made = made_more (omega (arith, less)) (omega arith) (made_object begun x.made) }
+pub pointers_stop_behind : (r : Reading) (i : ℕ) (b : Form) (s k p : ℕ) (old mid new : View) (m m' : Meter) → Begins s k i old mid → TakesAmong r i (change b k p mid new m m') → TakesUntilStop (pointers_original i r) (change b s p old new m m')
+pointers_stop_behind r i b s k p old mid new m m' begun x = inr (x.off, made_object begun x.made)
 
-pub elements_behind : {r : Reading} {size : StructSize} {b : Form} {s k p p' i n l : ℕ} {old mid new : View} {m m' : Meter} → Begins s k n old mid → n ≤ l → TakesForElements r size i 0 0 (change b k p mid new m m') → TakesForElements r size i l 1 (change b s p' old new m m')
-elements_behind begun less x = record { elements = x.elements; counts = x.counts; are_read = x.are_read; made = made_more (omega (arith, less)) (omega arith) (made_object begun x.made) }
+pub structs_behind : (r : Reading) (size : StructSize) (i n : ℕ) (b : Form) (s k p : ℕ) (old mid new : View) (m m' : Meter) → Begins s k n old mid → n ≤ structs_words i size → TakesForElements r size i (change b k p mid new m m') →
+    TakesForCopy (structs_original size i r) (change b s p old new m m')
+structs_behind r size i n b s k p old mid new m m' begun less x = (x.elements, x.counts, x.are_read, made_more (omega (arith, less)) (omega arith) (made_object begun x.made))
 
-pub among_elements_behind : {r : Reading} {size : StructSize} {b : Form} {s k p p' i n l : ℕ} {old mid new : View} {m m' : Meter} → Begins s k n old mid → n ≤ l → TakesAmongElements r size i 0 0 (change b k p mid new m m') → TakesAmongElements r size i l 1 (change b s p' old new m m')
-among_elements_behind begun less x = record { off = x.off; made = made_more (omega (arith, less)) (omega arith) (made_object begun x.made) }
-
-pub nothing_taken : {b : Form} {s p : ℕ} {old new : View} {m : Meter} → TakesNone old new → TakesNothing (change b s p old new m m)
-nothing_taken none = record { unread = refl; none = none }
-
-nothing_within : {b : Form} {s p p' : ℕ} {old mid last new : View} {m m' : Meter} → TakesNone old mid → TakesNone last new → TakesNothing (change b s p mid last m m') → TakesNothing (change b s p' old new m m')
-nothing_within before after x = record { unread = x.unread; none = none_both before (none_both x.none after) }
-
-pub either_within : {r : Reading} {b : Form} {s p p' i n q : ℕ} {old mid last new : View} {m m' : Meter} → TakesNone old mid → TakesNone last new → TakesNothing (change b s p mid last m m') ⊎ TakesAmong r i n q (change b s p mid last m m') →
-    TakesNothing (change b s p' old new m m') ⊎ TakesAmong r i n q (change b s p' old new m m')
-either_within before after tried = elim tried [ inl x ↦ inl (nothing_within before after x) | inr x ↦ inr (among_within (omega arith) before after x) ]
-
-either_element_within : {r : Reading} {size : StructSize} {b : Form} {s p p' i n q : ℕ} {old mid last new : View} {m m' : Meter} → TakesNone old mid → TakesNone last new → TakesNothing (change b s p mid last m m') ⊎ TakesAmongElements r size i n q (change b s p mid last m m') →
-    TakesNothing (change b s p' old new m m') ⊎ TakesAmongElements r size i n q (change b s p' old new m m')
-either_element_within before after tried = elim tried [ inl x ↦ inl (nothing_within before after x) | inr x ↦ inr (among_elements_within before after x) ]
-
-pub value_within : {r : Reading} {b : Form} {s p p' : ℕ} {old mid last new : View} {m m' : Meter} → TakesNone old mid → TakesNone last new → TakesForValue r (change b s p mid last m m') → TakesForValue r (change b s p' old new m m')
-value_within before after x = record { value = x.value; is_read = x.is_read; made = made_within before after x.made }
-
-pub until_within : {r : Reading} {b : Form} {s p p' : ℕ} {old mid last new : View} {m m' : Meter} → TakesNone old mid → TakesNone last new → TakesUntilStop r (change b s p mid last m m') → TakesUntilStop r (change b s p' old new m m')
-until_within before after x = record { off = x.off; made = made_within before after x.made }
+pub structs_stop_behind : (r : Reading) (size : StructSize) (i n : ℕ) (b : Form) (s k p : ℕ) (old mid new : View) (m m' : Meter) → Begins s k n old mid → n ≤ structs_words i size → TakesAmongElements r size i (change b k p mid new m m') →
+    TakesUntilStop (structs_original size i r) (change b s p old new m m')
+structs_stop_behind r size i n b s k p old mid new m m' begun less x = inr (x.off, made_more (omega (arith, less)) (omega arith) (made_object begun x.made))
 
 -- A struct is made of the pointers that are kept: all of them are read.
 
-pub sections_taken : (r : Reading) (size least : StructSize) {b : Form} {s k p p' n l : ℕ} {old mid new : View} {m m' : Meter} → r.at + (size.data_words + size.pointers) ≤ length (segment_read r) → KeepsSections b r size least → Begins s k n old mid → n ≤ l →
-    TakesForAll (behind r size.data_words) least.pointers 0 0 (change b k p' mid new m m') → TakesForAll (behind r size.data_words) size.pointers l 1 (change b s p old new m m')
-sections_taken r size least {b} {m = m} {m'} room kept begun less x =
-    let f = struct_kept b r size least m m' x.children room kept x.counts x.are_read in
-    record { children = f.all; counts = f.counts; are_read = f.are_read; made = made_more (omega (arith, less, f.costs)) (omega (arith, f.follows)) (made_object begun x.made) }
-
-pub cut_taken : {r : Reading} {b : Form} {q used n l s k p p' : ℕ} {old mid new : View} {m m' : Meter} → r.at + q ≤ length (segment_read r) → used ≡ kept_count b (words_from r q) → Begins s k n old mid → n ≤ l → TakesForAll r used 0 0 (change b k p' mid new m m') → TakesForAll r q l 1 (change b s p old new m m')
-cut_taken {r} {b} {q} {m = m} {m'} room cut begun less x =
+pub sections_behind : (ws : List ℕ) (r : Reading) (q used n : ℕ) (b : Form) (s k p : ℕ) (old mid new : View) (m m' : Meter) → r.at + q ≤ length (segment_read r) → used ≡ kept_count b (words_from r q) → Begins s k n old mid → n ≤ length ws + q →
+    TakesForAll r used (change b k p mid new m m') → TakesForCopy (sections_original ws r q) (change b s p old new m m')
+sections_behind ws r q used n b s k p old mid new m m' room cut begun less x =
     let f = sections_kept b [] r q m m' x.children room (x.counts ∙ cut) x.are_read in
-    record { children = f.all; counts = f.counts; are_read = f.are_read; made = made_more (omega (arith, less, f.costs)) (omega (arith, f.follows)) (made_object begun x.made) }
+    (f.all, f.counts, f.are_read, made_more (omega (arith, less, f.costs)) (omega (arith, f.follows)) (made_object begun x.made))
+
+pub sections_stop_behind : (ws : List ℕ) (r : Reading) (q used n : ℕ) (b : Form) (s k p : ℕ) (old mid new : View) (m m' : Meter) → used ≤ q → Begins s k n old mid → n ≤ length ws + q → TakesAmong r used (change b k p mid new m m') →
+    TakesUntilStop (sections_original ws r q) (change b s p old new m m')
+unfolding stops_sooner
+sections_stop_behind ws r q used n b s k p old mid new m m' fewer begun less x = inr (stops_sooner fewer x.off, made_more (omega (arith, less)) (omega arith) (made_object begun x.made))
 
 -- elements with sections that are no wider take no more words
 pub no_wider : (n a b c d : ℕ) → a ≤ c → b ≤ d → n * (a + b) ≤ n * (c + d)
@@ -317,147 +341,126 @@ no_wider n a b c d l m = mul-le-mul_left n (omega (arith, l, m))
 
 -- What a pointer leads to.
 
-pub read_stop_taken : {r : Reading} {b : Form} {s p : ℕ} {v : View} {m m' : Meter} {k : ErrorKind} → Stopped Value plain r m m' k → TakesUntilStop r (change b s p v v m m')
-read_stop_taken {b = b} {v = v} {k = k} stopped = record { off = here (inl (k, stopped_in b stopped)); made = made_none (none_itself v) }
+pub read_stop_taken : {r : Reading} {b : Form} {s : ℕ} {v : View} {m m' : Meter} {k : ErrorKind} → Stopped Value plain r m m' k → TakesUntilStop (value_original r) (change b s 0 v v m m')
+read_stop_taken {b = b} {v = v} {k = k} stopped = (here (inl (k, stopped_in b stopped)), made_none (none_itself v))
 
-pub null_takes : {r : Reading} {b : Form} {s p : ℕ} {v : View} {m m' : Meter} → IsObject Value r m m' ObjectNull → TakesForValue r (change b s p v v m m')
+pub null_takes : {r : Reading} {b : Form} {s : ℕ} {v : View} {m m' : Meter} → IsObject Value r m m' ObjectNull → TakesForCopy (value_original r) (change b s 0 v v m m')
 unfolding read_null
-null_takes {r} {b} {s} {p} {v} {m} object = subst (λ n. TakesForValue r (change b s p v v m n)) (sym object.1) (record { value = Null; is_read = read_null m object.0; made = made_more (omega arith) (omega arith) (made_none (none_itself v)) })
+null_takes {r} {b} {s} {v} {m} object = subst (λ n. TakesForCopy (value_original r) (change b s 0 v v m n)) (sym object.1) (Null, read_null m object.0, made_more (omega arith) (omega arith) (made_none (none_itself v)))
 
-pub capability_takes : {r : Reading} {s p i : ℕ} {old new : View} {m m' : Meter} → IsObject Value r m m' (ObjectCapability i) → TakesNone old new → TakesForValue r (change plain s p old new m m')
+pub capability_takes : {r : Reading} {s i : ℕ} {old new : View} {m m' : Meter} → IsObject Value r m m' (ObjectCapability i) → TakesNone old new → TakesForCopy (value_original r) (change plain s 0 old new m m')
 unfolding capability_read
-capability_takes {i = i} {m = m} {m'} object none = record { value = Capability i; is_read = capability_read m m' i object; made = made_more (omega arith) (omega arith) (made_none none) }
+capability_takes {i = i} {m = m} {m'} object none = (Capability i, capability_read m m' i object, made_more (omega arith) (omega arith) (made_none none))
 
-pub capability_stop_takes : {r : Reading} {s p i : ℕ} {v : View} {m m' : Meter} → IsObject Value r m m' (ObjectCapability i) → TakesUntilStop r (change canonical s p v v m m')
-capability_stop_takes {i = i} {v} {m} {m'} object = record { off = here (inl (CannotCreateACanonicalMessageWithACapability, capability_stopped m m' i object)); made = made_none (none_itself v) }
+pub capability_stop_takes : {r : Reading} {s i : ℕ} {v : View} {m m' : Meter} → IsObject Value r m m' (ObjectCapability i) → TakesUntilStop (value_original r) (change canonical s 0 v v m m')
+capability_stop_takes {i = i} {v} {m} {m'} object = (here (inl (CannotCreateACanonicalMessageWithACapability, capability_stopped m m' i object)), made_none (none_itself v))
 
-pub default_stop_takes : {r : Reading} {s p i : ℕ} {v : View} {m m' : Meter} → IsObject Value r m m' (ObjectCapability i) → TakesUntilStop r (change of_default s p v v m m')
-default_stop_takes {i = i} {v} {m} {m'} object = record { off = here (inl (UnknownPointerType, default_stopped m m' i object)); made = made_none (none_itself v) }
+pub default_stop_takes : {r : Reading} {s i : ℕ} {v : View} {m m' : Meter} → IsObject Value r m m' (ObjectCapability i) → TakesUntilStop (value_original r) (change of_default s 0 v v m m')
+default_stop_takes {i = i} {v} {m} {m'} object = (here (inl (UnknownPointerType, default_stopped m m' i object)), made_none (none_itself v))
 
 -- an object is read, and there is no room for it
-entered_takes : {r : Reading} {b : Form} {s p : ℕ} {old new : View} {m m' m'' : Meter} {a : Target} → Entered Value r m m' a → TakesNothing (change b s p old new m' m'') → TakesUntilStop r (change b s p old new m m'')
-entered_takes {r} {b} {s} {p} {old} {new} {m} {a = a} o nothing =
-    subst (λ n. TakesUntilStop r (change b s p old new m n)) (sym nothing.unread) (record { off = here (inr (a, o)); made = made_none nothing.none })
+entered_takes : (r : Reading) (b : Form) (s : ℕ) (old new : View) (m m' m'' : Meter) {a : Target} → Entered Value r m m' a → m'' ≡ m' → MakesAtMost s 0 0 old new → TakesUntilStop (value_original r) (change b s 0 old new m m'')
+entered_takes r b s old new m m' m'' {a} o same none =
+    subst (λ n. TakesUntilStop (value_original r) (change b s 0 old new m n)) (sym same) (here (inr (a, o)), none)
 
-pub struct_takes : {r : Reading} {b : Form} {s p levels : ℕ} {old new : View} {m m' m'' : Meter} {size : StructSize} (start : Place) → (0 < r.levels → levels ≡ pred r.levels) → IsObject Value r m m' (ObjectStruct start size) →
-    TakesForAll (behind (inside r levels start) size.data_words) size.pointers (size.data_words + size.pointers) 1 (change b s p old new m' m'') → TakesForValue r (change b s p old new m m'')
+pub struct_takes : {r : Reading} {b : Form} {s levels : ℕ} {old new : View} {m m' m'' : Meter} {size : StructSize} (start : Place) → (0 < r.levels → levels ≡ pred r.levels) → IsObject Value r m m' (ObjectStruct start size) →
+    TakesForCopy (sections_original (words_from (inside r levels start) size.data_words) (behind (inside r levels start) size.data_words) size.pointers) (change b s 0 old new m' m'') → TakesForCopy (value_original r) (change b s 0 old new m m'')
 unfolding read_struct
-struct_takes {r} {b} {s} {levels = levels} {old} {new} {m' = m'} {m''} {size} start less (a, o, z, (held, es, eb), ed, eq) x =
+struct_takes {r} {b} {s} {levels = levels} {old} {new} {m' = m'} {m''} {size} start less (a, o, z, (held, es, eb), ed, eq) (ts, counts, read, made) =
     let en = less o.meets.levels in
     let e : start.at ≡ a.start = omega arith in
-    let given : (all : ReadsAll b (behind (inside r levels start) size.data_words) m' m'' x.children) × MakesAtMost s (size.data_words + size.pointers + all.cost) (1 + pointers_in_all x.children) old new = (x.are_read, x.made) in
+    let fewer = length-take size.data_words (drop start.at (segment r.segments start.segment)) in
+    let given : (all : ReadsAll b (behind (inside r levels start) size.data_words) m' m'' ts) × MakesAtMost s (size.data_words + size.pointers + all.cost) (1 + pointers_in_all ts) old new = (read, made_more (omega (arith, fewer)) (omega arith) made) in
     let all = rw (en, es, e, ed, eq) at given in
-    record {
-      value = Struct (words_at r.segments a.segment a.start (data_words a.word)) x.children;
-      is_read = read_struct o z (x.counts ∙ eq) all.0;
-      made = made_more (omega (arith, own_struct r.segments a z)) (omega arith) all.1;
-    }
+    (Struct (words_at r.segments a.segment a.start (data_words a.word)) ts, read_struct o z (counts ∙ eq) all.0, made_more (omega (arith, own_struct r.segments a z)) (omega arith) all.1)
 
-pub struct_stop_takes : {r : Reading} {b : Form} {s p levels : ℕ} {old new : View} {m m' m'' : Meter} {size : StructSize} (start : Place) → (0 < r.levels → levels ≡ pred r.levels) → IsObject Value r m m' (ObjectStruct start size) →
-    TakesNothing (change b s p old new m' m'') ⊎ TakesAmong (behind (inside r levels start) size.data_words) size.pointers (size.data_words + size.pointers) 1 (change b s p old new m' m'') → TakesUntilStop r (change b s p old new m m'')
+pub struct_stop_takes : {r : Reading} {b : Form} {s levels : ℕ} {old new : View} {m m' m'' : Meter} {size : StructSize} (start : Place) → (0 < r.levels → levels ≡ pred r.levels) → IsObject Value r m m' (ObjectStruct start size) →
+    TakesUntilStop (sections_original (words_from (inside r levels start) size.data_words) (behind (inside r levels start) size.data_words) size.pointers) (change b s 0 old new m' m'') → TakesUntilStop (value_original r) (change b s 0 old new m m'')
 unfolding stops_struct
-struct_stop_takes {r} {b} {s} {levels = levels} {old} {new} {m' = m'} {m''} {size} start less (a, o, z, (held, es, eb), ed, eq) tried =
+struct_stop_takes {r} {b} {s} {levels} {old} {new} {m} {m'} {m''} {size} start less (a, o, z, (held, es, eb), ed, eq) tried =
     let en = less o.meets.levels in
     let e : start.at ≡ a.start = omega arith in
     elim tried [
-      | inl nothing ↦ entered_takes o nothing
+      | inl nothing ↦ entered_takes r b s old new m m' m'' o nothing.0 nothing.1
       | inr x ↦
-          (let given : (off : BreaksOffAmong b (behind (inside r levels start) size.data_words) size.pointers m' m'') × MakesAtMost s (size.data_words + size.pointers + cost_among off) (1 + followed_among off) old new = (x.off, x.made) in
+          (let given : (off : BreaksOffAmong b (behind (inside r levels start) size.data_words) size.pointers m' m'') × MakesAtMost s (size.data_words + size.pointers + cost_among off) (1 + followed_among off) old new = (x.0, made_more (omega (arith, length-take size.data_words (drop start.at (segment r.segments start.segment)))) (omega arith) x.1) in
           let off = rw (en, es, e, ed, eq) at given in
-          record { off = stops_struct o z off.0; made = made_more (omega (arith, own_struct r.segments a z)) (omega arith) off.1 })
+          (stops_struct o z off.0, made_more (omega (arith, own_struct r.segments a z)) (omega arith) off.1))
     ]
 
-pub pointers_take : {r : Reading} {b : Form} {s p levels i : ℕ} {old new : View} {m m' m'' : Meter} (start : Place) → (0 < r.levels → levels ≡ pred r.levels) → IsObject Value r m m' (ObjectPointers start i) → TakesForAll (inside r levels start) i i 1 (change b s p old new m' m'') →
-    TakesForValue r (change b s p old new m m'')
+pub pointers_take : {r : Reading} {b : Form} {s levels i : ℕ} {old new : View} {m m' m'' : Meter} (start : Place) → (0 < r.levels → levels ≡ pred r.levels) → IsObject Value r m m' (ObjectPointers start i) → TakesForCopy (pointers_original i (inside r levels start)) (change b s 0 old new m' m'') →
+    TakesForCopy (value_original r) (change b s 0 old new m m'')
 unfolding read_pointers
-pointers_take {r} {b} {s} {levels = levels} {i} {old} {new} {m' = m'} {m''} start less (a, o, z, six, (held, es, eb), ei) x =
+pointers_take {r} {b} {s} {levels = levels} {i} {old} {new} {m' = m'} {m''} start less (a, o, z, six, (held, es, eb), ei) (ts, counts, read, made) =
     let en = less o.meets.levels in
     let e : start.at ≡ a.start = omega arith in
-    let given : (all : ReadsAll b (inside r levels start) m' m'' x.children) × MakesAtMost s (i + all.cost) (1 + pointers_in_all x.children) old new = (x.are_read, x.made) in
+    let given : (all : ReadsAll b (inside r levels start) m' m'' ts) × MakesAtMost s (i + all.cost) (1 + pointers_in_all ts) old new = (read, made) in
     let all = rw (en, es, e) at given in
-    record { value = Pointers x.children; is_read = read_pointers o z six (x.counts ∙ ei) all.0; made = made_more (omega (arith, own_pointers r.segments a z six, ei)) (omega arith) all.1 }
+    (Pointers ts, read_pointers o z six (counts ∙ ei) all.0, made_more (omega (arith, own_pointers r.segments a z six, ei)) (omega arith) all.1)
 
-pub pointers_stop_take : {r : Reading} {b : Form} {s p levels i : ℕ} {old new : View} {m m' m'' : Meter} (start : Place) → (0 < r.levels → levels ≡ pred r.levels) → IsObject Value r m m' (ObjectPointers start i) →
-    TakesNothing (change b s p old new m' m'') ⊎ TakesAmong (inside r levels start) i i 1 (change b s p old new m' m'') → TakesUntilStop r (change b s p old new m m'')
+pub pointers_stop_take : {r : Reading} {b : Form} {s levels i : ℕ} {old new : View} {m m' m'' : Meter} (start : Place) → (0 < r.levels → levels ≡ pred r.levels) → IsObject Value r m m' (ObjectPointers start i) →
+    TakesUntilStop (pointers_original i (inside r levels start)) (change b s 0 old new m' m'') → TakesUntilStop (value_original r) (change b s 0 old new m m'')
 unfolding stops_pointers
-pointers_stop_take {r} {b} {s} {levels = levels} {i} {old} {new} {m' = m'} {m''} start less (a, o, z, six, (held, es, eb), ei) tried =
+pointers_stop_take {r} {b} {s} {levels} {i} {old} {new} {m} {m'} {m''} start less (a, o, z, six, (held, es, eb), ei) tried =
     let en = less o.meets.levels in
     let e : start.at ≡ a.start = omega arith in
     elim tried [
-      | inl nothing ↦ entered_takes o nothing
+      | inl nothing ↦ entered_takes r b s old new m m' m'' o nothing.0 nothing.1
       | inr x ↦
-          (let given : (off : BreaksOffAmong b (inside r levels start) i m' m'') × MakesAtMost s (i + cost_among off) (1 + followed_among off) old new = (x.off, x.made) in
+          (let given : (off : BreaksOffAmong b (inside r levels start) i m' m'') × MakesAtMost s (i + cost_among off) (1 + followed_among off) old new = (x.0, x.1) in
           let off = rw (en, es, e, ei) at given in
-          record { off = stops_pointers o z six off.0; made = made_more (omega (arith, own_pointers r.segments a z six)) (omega arith) off.1 })
+          (stops_pointers o z six off.0, made_more (omega (arith, own_pointers r.segments a z six)) (omega arith) off.1))
     ]
 
-pub structs_take : {r : Reading} {b : Form} {s p levels i : ℕ} {old new : View} {m m' m'' : Meter} {size : StructSize} (start : Place) → (0 < r.levels → levels ≡ pred r.levels) → IsObject Value r m m' (ObjectStructs start size i) →
-    TakesForElements (inside r levels start) size i (structs_words i size) 1 (change b s p old new m' m'') → TakesForValue r (change b s p old new m m'')
+pub structs_take : {r : Reading} {b : Form} {s levels i : ℕ} {old new : View} {m m' m'' : Meter} {size : StructSize} (start : Place) → (0 < r.levels → levels ≡ pred r.levels) → IsObject Value r m m' (ObjectStructs start size i) →
+    TakesForCopy (structs_original size i (inside r levels start)) (change b s 0 old new m' m'') → TakesForCopy (value_original r) (change b s 0 old new m m'')
 unfolding read_structs
-structs_take {r} {b} {s} {levels = levels} {i} {old} {new} {m' = m'} {m''} {size} start less (a, o, z, seven, (held, eu, eb), ei, ed, eq) x =
+structs_take {r} {b} {s} {levels = levels} {i} {old} {new} {m' = m'} {m''} {size} start less (a, o, z, seven, (held, eu, eb), ei, ed, eq) (es, counts, read, made) =
     let en = less o.meets.levels in
     let e : start.at ≡ a.start + 1 = omega arith in
-    let given : (all : ReadsElements b (inside r levels start) size m' m'' x.elements) × MakesAtMost s (1 + i * (size.data_words + size.pointers) + all.cost) (1 + pointers_in_elements x.elements) old new = (x.are_read, x.made) in
+    let given : (all : ReadsElements b (inside r levels start) size m' m'' es) × MakesAtMost s (1 + i * (size.data_words + size.pointers) + all.cost) (1 + pointers_in_elements es) old new = (read, made) in
     let all = rw (en, eu, e, ed, eq, ei) at given in
-    record {
-      value = Structs (data_words (tag r.segments a)) (pointer_count (tag r.segments a)) x.elements;
-      is_read = read_structs o z seven (x.counts ∙ ei) all.0;
-      made = made_more (omega (arith, own_structs r.segments a z seven, (o.meets.tagged (z, seven)).1)) (omega arith) all.1;
-    }
+    (Structs (data_words (tag r.segments a)) (pointer_count (tag r.segments a)) es, read_structs o z seven (counts ∙ ei) all.0, made_more (omega (arith, own_structs r.segments a z seven, (o.meets.tagged (z, seven)).1)) (omega arith) all.1)
 
-pub structs_stop_take : {r : Reading} {b : Form} {s p levels i : ℕ} {old new : View} {m m' m'' : Meter} {size : StructSize} (start : Place) → (0 < r.levels → levels ≡ pred r.levels) → IsObject Value r m m' (ObjectStructs start size i) →
-    TakesNothing (change b s p old new m' m'') ⊎ TakesAmongElements (inside r levels start) size i (structs_words i size) 1 (change b s p old new m' m'') → TakesUntilStop r (change b s p old new m m'')
+pub structs_stop_take : {r : Reading} {b : Form} {s levels i : ℕ} {old new : View} {m m' m'' : Meter} {size : StructSize} (start : Place) → (0 < r.levels → levels ≡ pred r.levels) → IsObject Value r m m' (ObjectStructs start size i) →
+    TakesUntilStop (structs_original size i (inside r levels start)) (change b s 0 old new m' m'') → TakesUntilStop (value_original r) (change b s 0 old new m m'')
 unfolding stops_structs
-structs_stop_take {r} {b} {s} {levels = levels} {i} {old} {new} {m' = m'} {m''} {size} start less (a, o, z, seven, (held, eu, eb), ei, ed, eq) tried =
+structs_stop_take {r} {b} {s} {levels} {i} {old} {new} {m} {m'} {m''} {size} start less (a, o, z, seven, (held, eu, eb), ei, ed, eq) tried =
     let en = less o.meets.levels in
     let e : start.at ≡ a.start + 1 = omega arith in
     elim tried [
-      | inl nothing ↦ entered_takes o nothing
+      | inl nothing ↦ entered_takes r b s old new m m' m'' o nothing.0 nothing.1
       | inr x ↦
-          (let given : (off : BreaksOffAmongElements b (inside r levels start) size i m' m'') × MakesAtMost s (1 + i * (size.data_words + size.pointers) + cost_among_elements off) (1 + followed_among_elements off) old new = (x.off, x.made) in
+          (let given : (off : BreaksOffAmongElements b (inside r levels start) size i m' m'') × MakesAtMost s (1 + i * (size.data_words + size.pointers) + cost_among_elements off) (1 + followed_among_elements off) old new = (x.0, x.1) in
           let off = rw (en, eu, e, ed, eq, ei) at given in
-          record { off = stops_structs o z seven off.0; made = made_more (omega (arith, own_structs r.segments a z seven, (o.meets.tagged (z, seven)).1)) (omega arith) off.1 })
+          (stops_structs o z seven off.0, made_more (omega (arith, own_structs r.segments a z seven, (o.meets.tagged (z, seven)).1)) (omega arith) off.1))
     ]
 
-pub flat_takes : {r : Reading} {b : Form} {s p i : ℕ} {old new : View} {m m' : Meter} (size : ElementSize) (start : Place) → IsObject Value r m m' (ObjectFlat start size i) → MakesAtMost s (words_for (size_number size) i) 1 old new → TakesForValue r (change b s p old new m m')
+pub flat_takes : {r : Reading} {b : Form} {s i : ℕ} {old new : View} {m m' : Meter} (size : ElementSize) (start : Place) → IsObject Value r m m' (ObjectFlat start size i) → MakesAtMost s (words_for (size_number size) i) 1 old new → TakesForCopy (value_original r) (change b s 0 old new m m')
 unfolding read_flat
 flat_takes {r} size start (a, o, z, small, at, es, ec) made =
     let given = rw (es, ec) at made in
-    record { value = Flat (element_size a.word) (unpacked (element_size a.word) (list_count a.word) (words_at r.segments a.segment a.start (words_for (element_size a.word) (list_count a.word)))); is_read = read_flat o z small; made = made_more (omega (arith, own_flat r.segments a z small)) (omega arith) given }
+    (Flat (element_size a.word) (unpacked (element_size a.word) (list_count a.word) (words_at r.segments a.segment a.start (words_for (element_size a.word) (list_count a.word)))), read_flat o z small, made_more (omega (arith, own_flat r.segments a z small)) (omega arith) given)
 
-pub flat_stop_takes : {r : Reading} {b : Form} {s p i : ℕ} {old new : View} {m m' : Meter} (size : ElementSize) (start : Place) → IsObject Value r m m' (ObjectFlat start size i) → TakesNone old new → TakesUntilStop r (change b s p old new m m')
-flat_stop_takes size start (a, o, z, small, at, es, ec) none = entered_takes o (nothing_taken none)
+pub flat_stop_takes : {r : Reading} {b : Form} {s i : ℕ} {old new : View} {m m' : Meter} (size : ElementSize) (start : Place) → IsObject Value r m m' (ObjectFlat start size i) → TakesNone old new → TakesUntilStop (value_original r) (change b s 0 old new m m')
+flat_stop_takes {r} {b} {s} {old = old} {new} {m} {m'} size start (a, o, z, small, at, es, ec) none = entered_takes r b s old new m m' m' o refl (made_none none)
 
--- A list that is read: one that is too long, and one of which nothing is taken besides.
+-- A list that is read of which nothing is taken, as of one that is too long; and one of numbers.
 
-nothing_so : {A E : Type 0} (result : Result A E) (P Q : Type 0) → IsErr result → Q → MatchResult result (λ _. P) (λ _. Q)
-nothing_so (Ok x) P Q refused nothing = absurd (false≢true refused)
-nothing_so (Err k) P Q refused nothing = nothing
+pub nothing_for_list : (size : ElementSize) (sections : StructSize) (n : ℕ) (r : Reading) (b : Form) (m : Meter) (P : ℕ → ℕ → Type 0) → P 0 0 → (list_original size sections n r).takes_until b m m P
+nothing_for_list Pointer sections n r b m P none = inl (refl, none)
+nothing_for_list InlineComposite sections n r b m P none = inl (refl, none)
+nothing_for_list Void sections n r b m P none = (refl, none)
+nothing_for_list Bit sections n r b m P none = (refl, none)
+nothing_for_list Byte sections n r b m P none = (refl, none)
+nothing_for_list TwoBytes sections n r b m P none = (refl, none)
+nothing_for_list FourBytes sections n r b m P none = (refl, none)
+nothing_for_list EightBytes sections n r b m P none = (refl, none)
 
-pub nothing_for_list : {A E : Type 0} {result : Result A E} {list : ListElements} {c : Change} → IsErr result → TakesNothing c → TakesForListOf result list c
-nothing_for_list {A} {E} {result} {list} {c} refused nothing = go list.size refl
-  where
-    go : (size : ElementSize) → list.size ≡ size → TakesForListOf result list c
-    go Pointer is = of_pointers is (nothing_so result _ _ refused (inl nothing))
-    go InlineComposite is = of_structs is (nothing_so result _ _ refused (inl nothing))
-    go Void is = of_numbers (omega (arith, ap size_number is)) (nothing_so result _ _ refused (inl nothing))
-    go Bit is = of_numbers (omega (arith, ap size_number is)) (nothing_so result _ _ refused (inl nothing))
-    go Byte is = of_numbers (omega (arith, ap size_number is)) (nothing_so result _ _ refused (inl nothing))
-    go TwoBytes is = of_numbers (omega (arith, ap size_number is)) (nothing_so result _ _ refused (inl nothing))
-    go FourBytes is = of_numbers (omega (arith, ap size_number is)) (nothing_so result _ _ refused (inl nothing))
-    go EightBytes is = of_numbers (omega (arith, ap size_number is)) (nothing_so result _ _ refused (inl nothing))
-
-pub numbers_take : {A E : Type 0} (result : Result A E) (r : Reading) (n : ℕ) (b : Form) (s p : ℕ) (old new : View) (m : Meter) → MatchResult result (λ _. MakesAtMost s n 1 old new) (λ _. TakesNone old new) →
-    MatchResult result (λ _. TakesForAll r 0 n 1 (change b s p old new m m)) (λ _. TakesNothing (change b s p old new m m) ⊎ TakesAmong r 0 n 1 (change b s p old new m m))
-unfolding read_none
-numbers_take (Ok x) r n b s p old new m made = record { children = no_trees; counts = refl; are_read = read_none b r m; made = made_more (omega arith) (omega arith) made }
-numbers_take (Err k) r n b s p old new m none = inl (nothing_taken none)
-
-pub list_within : {A E : Type 0} {result : Result A E} {list : ListElements} {b : Form} {s p p' : ℕ} {old mid last new : View} {m m' : Meter} → TakesNone old mid → TakesNone last new → TakesForListOf result list (change b s p mid last m m') →
-    TakesForListOf result list (change b s p' old new m m')
-list_within {result = result} before after (of_numbers is taken) = of_numbers is (taken_so result _ _ _ _ (all_within before after) (either_within before after) taken)
-list_within {result = result} before after (of_pointers is taken) = of_pointers is (taken_so result _ _ _ _ (all_within before after) (either_within before after) taken)
-list_within {result = result} before after (of_structs is taken) = of_structs is (taken_so result _ _ _ _ (elements_within before after) (either_element_within before after) taken)
+pub numbers_take : {A E : Type 0} (result : Result A E) (size : ElementSize) (n : ℕ) (r : Reading) (b : Form) (s p : ℕ) (old new : View) (m : Meter) → MatchResult result (λ _. MakesAtMost s (words_for (size_number size) n) 1 old new) (λ _. TakesNone old new) →
+    TakesAtMost result (numbers_original size n r) (change b s p old new m m)
+numbers_take (Ok x) size n r b s p old new m made = (refl, made)
+numbers_take (Err k) size n r b s p old new m none = (refl, made_none none)
 
 -- The law of what is made: its words and its pads are all that is taken, and there is no pad where all of it stays in one segment.
 
@@ -554,11 +557,11 @@ few_of c x made followed =
 pub few_taken : FewTaken
 few_taken r c x charged budget taken = elim taken [
   | inl whole ↦
-      (let paid = covered_by r.charging c.before whole.is_read.cost x charged budget whole.is_read.covers in
-      let few = pointers_within r.segments r.levels r.segment r.at whole.value (whole.is_read.cost, whole.is_read.means) in
-      few_of c x (made_more paid (omega (arith, paid, few)) whole.made) (few_followed c.before c.after x budget (subst (λ b. Spends b c.before c.after 1) charged (reading_spends whole.is_read))))
+      (let paid = covered_by r.charging c.before whole.1.cost x charged budget whole.1.covers in
+      let few = pointers_within r.segments r.levels r.segment r.at whole.0 (whole.1.cost, whole.1.means) in
+      few_of c x (made_more paid (omega (arith, paid, few)) whole.2) (few_followed c.before c.after x budget (subst (λ b. Spends b c.before c.after 1) charged (reading_spends whole.1))))
   | inr until ↦
-      (let covered = covered_until until.off in
-      let paid = covered_by r.charging c.before (cost_until until.off) x charged budget covered.0 in
-      few_of c x (made_more paid (omega (arith, paid, covered.1)) until.made) (few_followed c.before c.after x budget (subst (λ b. Spends b c.before c.after 1) charged (breaks_off_spends until.off))))
+      (let covered = covered_until until.0 in
+      let paid = covered_by r.charging c.before (cost_until until.0) x charged budget covered.0 in
+      few_of c x (made_more paid (omega (arith, paid, covered.1)) until.1) (few_followed c.before c.after x budget (subst (λ b. Spends b c.before c.after 1) charged (breaks_off_spends until.0))))
 ]

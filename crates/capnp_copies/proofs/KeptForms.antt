@@ -17,9 +17,9 @@ use Rattle.capnp_objects.specs.Reading.{Reading, behind, segment_read, words_fro
 use Rattle.capnp_objects.specs.Spending.{pointers_in_all, pointers_in_elements}
 use Rattle.capnp_objects.specs.Wanted.{Form, canonical}
 use Rattle.capnp_objects.proofs.Copies.{with_last_element, count-with_last_element, pointers_in-with_last_element, read_element, read_none, read_no_element}
-use Rattle.capnp_copies.specs.Changes.{KeepsSections, KeepsWidths, KeepsPointers}
+use Rattle.capnp_copies.specs.Widths.{KeepsSections, KeepsPointers, widths_kept}
 use Rattle.capnp_copies.specs.Forms.{kept, kept_each, kept_elements}
-use Rattle.capnp_copies.specs.StructValues.{kept_count}
+use Rattle.capnp_copies.specs.Originals.{kept_count}
 use Rattle.capnp_copies.specs.declared.widths.ElementSizes.{ElementSizes}
 use Rattle.capnp_copies.proofs.ElementsCopied.{SourceFits, another, pointers_within}
 use Rattle.capnp_copies.proofs.ElementsLaid.{words_taken}
@@ -34,25 +34,23 @@ use Rattle.capnp_copies.proofs.UsedChildren.{used_children, means_taken, trim-st
 unfoldable pub stops_sooner : {form : Form} {P : Reading → Meter → Meter → Type 0} {r : Reading} {m m' : Meter} {q used : ℕ} → used ≤ q → StopsAmong form P r used m m' → StopsAmong form P r q m m'
 stops_sooner le h = record { first = h.first; fewer = omega (arith, h.fewer, le); mid = h.mid; are_read = h.are_read; stops = h.stops }
 
--- a struct, of which the kept pointers were read, at a cost of n words and k pointers
+-- a struct, of which the kept pointers were read
 
-pub record StructKept (b : Form) (r : Reading) (size least : StructSize) (m m' : Meter) (ts : Trees) (n k : ℕ) : Type 0 where
+pub record StructKept (b : Form) (r : Reading) (size least : StructSize) (m m' : Meter) (ts : Trees) : Type 0 where
   pub all : Trees
   pub counts : count all ≡ size.pointers
   pub are_read : ReadsAll b (behind r size.data_words) m m' all
   pub form : kept b (Struct (words_from r size.data_words) all) ≡ Struct (words_from r least.data_words) (kept_each b ts)
-  pub costs : are_read.cost ≡ n
-  pub follows : pointers_in_all all ≡ k
 
 pub struct_kept : (b : Form) (r : Reading) (size least : StructSize) (m m' : Meter) (ts : Trees) → r.at + (size.data_words + size.pointers) ≤ length (segment_read r) → KeepsSections b r size least → count ts ≡ least.pointers →
-    (read : ReadsAll b (behind r size.data_words) m m' ts) → StructKept b r size least m m' ts read.cost (pointers_in_all ts)
+    ReadsAll b (behind r size.data_words) m m' ts → StructKept b r size least m m' ts
 struct_kept canonical r size least m m' ts inside uses len all =
     let f = struct_filled inside uses len all in
     let ws : List ℕ = words_from r size.data_words in
     let section : take (used_words ws) ws ≡ words_from r least.data_words = ap (λ i. take i ws) (sym uses.of_data) ∙ words_taken r.segments r.segment r.at least.data_words size.data_words uses.less_data in
-    record { all = f.all; counts = f.counts; are_read = f.are_read; form = f.form ∙ ap (λ xs. Struct xs (trim_each ts)) section; costs = f.costs; follows = f.follows }
+    record { all = f.all; counts = f.counts; are_read = f.are_read; form = f.form ∙ ap (λ xs. Struct xs (trim_each ts)) section }
 struct_kept _ r size least m m' ts inside same len all =
-    record { all = ts; counts = len ∙ ap (λ s. s.pointers) same; are_read = all; form = ap (λ s. Struct (words_from r s.data_words) ts) (sym same); costs = refl; follows = refl }
+    record { all = ts; counts = len ∙ ap (λ s. s.pointers) same; are_read = all; form = ap (λ s. Struct (words_from r s.data_words) ts) (sym same) }
 
 take_count : (ts : Trees) → take_trees (count ts) ts ≡ ts
 take_count no_trees = refl
@@ -101,10 +99,13 @@ cut_same S n s p d q no_elements c h = refl
 cut_same S n s p d q (element ws ts es) c (a, b, long, len, words, all, rest, g) =
     ap₂ (λ (xs : List ℕ) us. element xs us (cut_to d q es)) (take_all d ws (omega arith)) (ap (λ i. take_trees i ts) (sym len) ∙ take_count ts) ∙ ap (element ws ts) (cut_same S n s (p + d + q) d q es b rest)
 
+abbrev pub KeepsWidths : Form → Reading → StructSize → ℕ → StructSize → Type 0
+KeepsWidths b r size i least = least ≡ widths_kept b r size i
+
 pub list_kept : (b : Form) (r : Reading) (size least : StructSize) (es : Elements) (c : ℕ) → r.at + element_count es * (size.data_words + size.pointers) ≤ length (segment_read r) → KeepsWidths b r size (element_count es) least → ElementsMean r size es c →
     kept b (Structs size.data_words size.pointers es) ≡ Structs least.data_words least.pointers (cut_to least.data_words least.pointers (kept_elements b es))
 list_kept canonical r size least es c inside widths all =
-    let is_least : AreLeast r size least (element_count es) = record { of_data = widths.of_data; of_pointers = widths.of_pointers } in
+    let is_least : AreLeast r size least (element_count es) = record { of_data = ap (λ s. s.data_words) widths; of_pointers = ap (λ s. s.pointers) widths } in
     trimmed_list es c inside is_least refl all
 list_kept _ r size least es c inside same all =
     ap (Structs size.data_words size.pointers) (sym (cut_same r.segments r.levels r.segment r.at size.data_words size.pointers es c all)) ∙ ap (λ s. Structs s.data_words s.pointers (cut_to s.data_words s.pointers es)) (sym same)

@@ -10,6 +10,7 @@ pub mod LeastWidths
 pub mod ListSteps
 pub mod NearRead
 pub mod ObjectsRead
+pub mod Originals
 pub mod Padding
 pub mod RoomLemmas
 pub mod PointersFirst
@@ -20,6 +21,7 @@ pub mod StructSteps
 pub mod StructsCopied
 pub mod UsedChildren
 pub mod OneReading
+pub mod Cleared
 pub mod KeptChildren
 pub mod KeptForms
 pub mod StayingNear

@@ -12,12 +12,11 @@ use Rattle.capnp_words.specs.Meter.{Meter, Affords}
 use Rattle.capnp_objects.specs.declared.object.Place.{Place}
 use Rattle.capnp_objects.specs.declared.object.Object.TheVariants.{Capability as ObjectCapability, Flat as ObjectFlat}
 use Rattle.capnp_objects.specs.Objects.{IsObject}
-use Rattle.capnp_objects.proofs.Followed.{leads_to}
 use Rattle.capnp_objects.proofs.Faultless.{same_target}
 use Rattle.capnp_objects.specs.Demands.{tag}
 use Rattle.capnp_objects.specs.Faults.{LeadsTo}
 use Rattle.capnp_objects.specs.Outcomes.{MeansThere}
-use Rattle.capnp_objects.specs.Refusals.{Stopped, pads_exceed, nowhere, broken, claim_exceeds, count_exceeds}
+use Rattle.capnp_objects.specs.Refusals.{Stopped, no_target, broken, claim_exceeds, count_exceeds}
 use Rattle.capnp_objects.specs.Reading.{Reading}
 use Rattle.capnp_objects.specs.Spending.{after, Paid}
 use Rattle.capnp_objects.specs.Wanted.{Form, plain, canonical, of_default, BreaksObject}
@@ -30,9 +29,9 @@ inside r levels start = record r { levels = levels; segment = start.segment; at 
 -- what a plain reading breaks, one in any form breaks too
 
 still_refused : (form : Form) (S : Segments) (n : ℕ) (a : Target) (k : ErrorKind) → BreaksObject Value plain S n a k → BreaksObject Value form S n a k
-still_refused form S n a CannotCreateACanonicalMessageWithACapability h = absurd h.0
+still_refused form S n a CannotCreateACanonicalMessageWithACapability h = absurd (let e = h.0 in cc e)
 still_refused form S n a MalformedDoubleFarPointer h = h
-still_refused form S n a UnknownPointerType h = (h.0, elim h.1 [ inl unlike ↦ inl unlike | inr never ↦ absurd never ])
+still_refused form S n a UnknownPointerType h = (h.0, elim h.1 [ inl unlike ↦ inl unlike | inr never ↦ absurd (cc never) ])
 still_refused form S n a MessageIsTooDeeplyNestedOrContainsCycles h = h
 still_refused form S n a MessageContainsOutOfBoundsPointer h = h
 still_refused form S n a InlineCompositeListsOfNonStructTypeAreNotSupported h = h
@@ -40,8 +39,7 @@ still_refused form S n a InlineCompositeListsElementsOverrunItsWordCount h = h
 still_refused form S n a _ h = absurd h
 
 pub stopped_in : {r : Reading} {m m' : Meter} {k : ErrorKind} (form : Form) → Stopped Value plain r m m' k → Stopped Value form r m m' k
-stopped_in form (pads_exceed some short paid named) = pads_exceed some short paid named
-stopped_in form (nowhere some h paid) = nowhere some h paid
+stopped_in form (no_target h) = no_target h
 stopped_in {r} {k = k} form (broken a f h paid) = broken a f (still_refused form r.segments r.levels a k h) paid
 stopped_in form (claim_exceeds a f level object claims short paid named) = claim_exceeds a f level object claims short paid named
 stopped_in form (count_exceeds a f meets short paid named) = count_exceeds a f meets short paid named
@@ -54,10 +52,10 @@ pads_paid charging m m' g covers spent =
     record { covers = subst (Affords charging m) none covers; spent = spent ∙ ap (λ i. after charging m i 1) none }
 
 pub capability_stopped : {r : Reading} (m m' : Meter) (i : ℕ) → IsObject Value r m m' (ObjectCapability i) → Stopped Value canonical r m m' CannotCreateACanonicalMessageWithACapability
-capability_stopped {r} m m' i (a, l, low, e, covers, spent) = broken a (leads_to r a l) (tt, low) (pads_paid r.charging m m' a.pads covers spent)
+capability_stopped {r} m m' i (a, l, low, e, covers, spent) = broken a l (refl, low) (pads_paid r.charging m m' a.pads covers spent)
 
 pub default_stopped : {r : Reading} (m m' : Meter) (i : ℕ) → IsObject Value r m m' (ObjectCapability i) → Stopped Value of_default r m m' UnknownPointerType
-default_stopped {r} m m' i (a, l, low, e, covers, spent) = broken a (leads_to r a l) (omega (arith, low), inr tt) (pads_paid r.charging m m' a.pads covers spent)
+default_stopped {r} m m' i (a, l, low, e, covers, spent) = broken a l (omega (arith, low), inr refl) (pads_paid r.charging m m' a.pads covers spent)
 
 -- what is meant where an object was read
 

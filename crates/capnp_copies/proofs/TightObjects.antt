@@ -14,7 +14,7 @@ use Rattle.capnp_making.specs.Near.{HasOwnRoom, HasStructRoom, HasStructsRoom, S
 use Rattle.capnp_making.specs.declared.making.Start.{Start}
 use Rattle.capnp_objects.specs.Reading.{Reading, segment_read}
 use Rattle.capnp_objects.specs.Wanted.{Form}
-use Rattle.capnp_copies.specs.Changes.{KeepsWidths, change, StayInSegment, StandsWhereItFits, EndsInZeros, CopiesChildren, CopiesElements}
+use Rattle.capnp_copies.specs.Changes.{change, StayInSegment, IsCopiedInRoom, EndsInZeros, CopiesChildren, CopiesElements}
 use Rattle.capnp_copies.specs.Forms.{kept, kept_each}
 use Rattle.capnp_copies.specs.Copied.{copied, with_children, rows_laid}
 use Rattle.capnp_copies.specs.Copies.{AreCopied}
@@ -25,7 +25,7 @@ use Rattle.capnp_copies.specs.declared.widths.ElementSizes.{ElementSizes}
 use Rattle.capnp_copies.proofs.Copying.{there, segment_written}
 use Rattle.capnp_copies.proofs.ElementsLaid.{get_or-zeros}
 use Rattle.capnp_copies.proofs.KeptChildren.{kept_none, kept_pointers, kept_each-count, cut_kept, cut_kept-count}
-use Rattle.capnp_copies.proofs.KeptForms.{list_kept}
+use Rattle.capnp_copies.proofs.KeptForms.{KeepsWidths, list_kept}
 use Rattle.capnp_copies.proofs.ListSteps.{ListBegun, list_put}
 use Rattle.capnp_copies.proofs.Padding.{with_words_none}
 use Rattle.capnp_copies.proofs.PointersFirst.{place_kept, in_first, pointer_stays, pointer_first}
@@ -136,7 +136,7 @@ module _ {us : List ℕ} {least : StructSize} {s p : ℕ} {old made mid : View} 
       ∙ ap₂ (λ (xs : List ℕ) t. with_segment S s (copied W p (Struct xs t))) (sym no_words) (sym (ap (kept_each b) no_kids ∙ kept_none b))
 
   pub struct_tight : {r : Reading} {new : View} {m m' : Meter} (b : Form) → length made.words ≤ length new.words → (children : CopiesChildren r least.pointers (change b h.segment (h.at + least.data_words) mid new m m')) → (t : Tree) →
-      kept b t ≡ Struct us (kept_each b children.children) → StandsWhereItFits (change b s p old new m m') t
+      kept b t ≡ Struct us (kept_each b children.children) → IsCopiedInRoom old new s p (kept b t)
   struct_tight {r} {new} {m} {m'} b longer children t form fits =
       cases_of (least.data_words + least.pointers) refl ∙ ap (λ y. with_segment S s (copied W p y)) (sym form)
     where
@@ -165,7 +165,7 @@ pub record PointersMade (i s p : ℕ) (old mid : View) (h : Start) : Type 0 wher
   pub near : HasOwnRoom old s i → mid.words ≡ with_list old.words s p 6 i
   pub at_end : HasOwnRoom old s i → StartsBehind old.words s h
 
-pub pointers_tight : {r : Reading} {i s p : ℕ} {old mid new : View} {h : Start} {m m' : Meter} (b : Form) → length mid.words ≤ length new.words → PointersMade i s p old mid h → (children : CopiesChildren r i (change b h.segment h.at mid new m m')) → StandsWhereItFits (change b s p old new m m') (Pointers children.children)
+pub pointers_tight : {r : Reading} {i s p : ℕ} {old mid new : View} {h : Start} {m m' : Meter} (b : Form) → length mid.words ≤ length new.words → PointersMade i s p old mid h → (children : CopiesChildren r i (change b h.segment h.at mid new m m')) → IsCopiedInRoom old new s p (kept b (Pointers children.children))
 pointers_tight {r} {i} {s} {p} {old} {mid} {new} {h} {m} {m'} b longer o children fits =
     let S : Segments = old.words in
     let x : ℕ = list_word (offset_behind S s p) 6 i in
@@ -235,7 +235,7 @@ ends_in_zeros {i} {s} {p} {least} {old} {mid} {new} {h} {m} {m'} b o room =
     record { ends = omega (arith, first, width, ap length here); zero = zero }
 
 pub structs_tight : {r : Reading} {sizes : ElementSizes} {i s p : ℕ} {old mid new : View} {h : Start} {m m' : Meter} (b : Form) → length mid.words ≤ length new.words → r.at + i * (sizes.source.data_words + sizes.source.pointers) ≤ length (segment_read r) → KeepsWidths b r sizes.source i sizes.kept → StructsMade i s p sizes.kept old mid h →
-    (elements : CopiesElements r sizes i (change b h.segment (h.at + 1) mid new m m')) → StandsWhereItFits (change b s p old new m m') (Structs sizes.source.data_words sizes.source.pointers elements.elements)
+    (elements : CopiesElements r sizes i (change b h.segment (h.at + 1) mid new m m')) → IsCopiedInRoom old new s p (kept b (Structs sizes.source.data_words sizes.source.pointers elements.elements))
 structs_tight {r} {sizes} {i} {s} {p} {old} {mid} {new} {h} {m} {m'} b longer inside widths o elements fits =
     let S : Segments = old.words in
     let d : ℕ = sizes.kept.data_words in

@@ -22,24 +22,28 @@ use Rattle.capnp_objects.specs.Wanted.{Form}
 use Rattle.capnp_objects.specs.declared.object.Place.{Place}
 use Rattle.capnp_objects.specs.declared.object.Object.TheVariants.{Struct as ObjectStruct, Pointers as ObjectPointers, Structs as ObjectStructs}
 use Rattle.capnp_objects.specs.declared.object.Purpose.TheVariants.{Value}
-use Rattle.capnp_copies.specs.Changes.{change, EndsInZeros, KeepsSections, KeepsWidths, CopiesChildren, CopiesRows}
+use Rattle.capnp_copies.specs.Changes.{change, EndsInZeros, CopiesChildren, CopiesRows}
 use Rattle.capnp_copies.specs.Copies.{AreCopied}
 use Rattle.capnp_copies.proofs.CopiesNear.{call_of, CopiesChildren as ChildrenCopied}
-use Rattle.capnp_copies.specs.Rooms.{IsTooLarge, AreTooLarge, IsTooLargePointers, IsTooLargeStruct, AreTooLargeElements, IsTooLargeList}
+use Rattle.capnp_copies.specs.Originals.{value_original}
+use Rattle.capnp_copies.specs.Rooms.{IsTooLarge, AreTooLarge, AreTooLargeElements}
+use Rattle.capnp_copies.specs.Widths.{KeepsSections}
+use Rattle.capnp_copies.proofs.Originals.{IsTooLargePointers, IsTooLargeStruct, IsTooLargeList, value_large, value_beyond}
 use Rattle.capnp_copies.specs.declared.widths.ElementSizes.{ElementSizes}
 use Rattle.capnp_copies.proofs.ChildrenSteps.{now, now_long}
 use Rattle.capnp_copies.proofs.ElementsLaid.{next_element_words}
 use Rattle.capnp_copies.proofs.ElementSteps.{ElementsFit, RowsCopied, AtRow, next_row}
 use Rattle.capnp_copies.specs.Forms.{kept, kept_each}
 use Rattle.capnp_copies.proofs.KeptChildren.{kept_none, kept_pointers, kept_each-count, take_trees-kept, cut_kept}
-use Rattle.capnp_copies.proofs.KeptForms.{SourceKept, SectionsCut, sections_cut, sections_meant, row_kept, words_of_kept_list}
+use Rattle.capnp_copies.proofs.KeptForms.{KeepsWidths, SourceKept, SectionsCut, sections_cut, sections_meant, row_kept, words_of_kept_list}
 use Rattle.capnp_copies.proofs.ObjectsRead.{inside, means_struct, means_pointers, means_structs}
 use Rattle.capnp_copies.proofs.RoomLemmas.{next_words}
 use Rattle.capnp_copies.proofs.TightChildren.{room_kept}
+use Rattle.capnp_objects.proofs.Followed.{entered_leads}
 
 -- a child
 pub child_too_large : {r : Reading} {s p i n : ℕ} {old mid : View} {m m' : Meter} (b : Form) → IsPlace old.words s (p + i) → i < n → (first : CopiesChildren r i (change b s p old mid m m')) →
-    IsTooLarge b (behind r i) (length (segment mid.words s)) (mid.room s) → AreTooLarge b r n (length (segment old.words s)) (old.room s)
+    IsTooLarge b (value_original (behind r i)) (length (segment mid.words s)) (mid.room s) → AreTooLarge b r n (length (segment old.words s)) (old.room s)
 child_too_large {r} {s} {p} {i} {n} {old} {mid} {m} {m'} b place less first large = λ us c len all.
     (let ts : Trees = first.children in
     let x = next_words b r ts us (first.are_read.cost, first.are_read.means) (c, all) (omega (arith, first.counts, len, less)) in
@@ -48,7 +52,7 @@ child_too_large {r} {s} {p} {i} {n} {old} {mid} {m} {m'} b place less first larg
     let one : ChildrenCopied r i (call_of b old mid s m m') p = record { children = ts; counts = first.counts; are_read = first.are_read; made = stand } in
     let long : length (segment mid.words s) ≡ length (segment old.words s) + word_count_all (kept_each b ts) = ap length (now place one) ∙ now_long (omega (arith, place)) one in
     let room : mid.room s ≡ old.room s = room_kept old mid s (p + i) place first.memory in
-    let beyond = large x.0 x.1 (subst (λ j. MeansThere (behind r j) x.0 x.1) first.counts x.2) in
+    let beyond = value_beyond b (behind r i) (length (segment mid.words s)) (mid.room s) large x.0 x.1 (subst (λ j. MeansThere (behind r j) x.0 x.1) first.counts x.2) in
     omega (arith, beyond, long, room, fits, x.3)) in
     omega (arith, no))
 
@@ -171,34 +175,34 @@ no_structs_room r size least i s old b in_row widths full = λ es c len all.
 -- what a place means is known by its object
 
 pub struct_value_too_large : {r : Reading} {levels : ℕ} (b : Form) (used room : ℕ) {m m' : Meter} {size : StructSize} (start : Place) → (0 < r.levels → levels ≡ pred r.levels) → IsObject Value r m m' (ObjectStruct start size) →
-    IsTooLargeStruct b (inside r levels start) size used room → IsTooLarge b r used room
-struct_value_too_large {r} {levels} b used room {size = size} start less (a, o, z, (held, es, eb), ed, eq) large = λ t c h.
+    IsTooLargeStruct b (inside r levels start) size used room → IsTooLarge b (value_original r) used room
+struct_value_too_large {r} {levels} b used room {size = size} start less (a, o, z, (held, es, eb), ed, eq) large = value_large b r used room (λ t c h.
     (let en = less o.meets.levels in
     let e : start.at ≡ a.start = omega arith in
     let l : IsTooLargeStruct b (child_at r a (pred r.levels) a.start) (sized (data_words a.word) (pointer_count a.word)) used room = rw (en, es, e, ed, eq) at large in
-    let x = means_struct r t a (c, h) o.leads_to z in
-    rw (x.4) (l x.0 x.1 x.2 x.3))
+    let x = means_struct r t a (c, h) (entered_leads o) z in
+    rw (x.4) (l x.0 x.1 x.2 x.3)))
 
 pub pointers_value_too_large : {r : Reading} {levels i : ℕ} (b : Form) (used room : ℕ) {m m' : Meter} (start : Place) → (0 < r.levels → levels ≡ pred r.levels) → IsObject Value r m m' (ObjectPointers start i) →
-    IsTooLargePointers b (inside r levels start) i used room → IsTooLarge b r used room
-pointers_value_too_large {r} {levels} {i} b used room start less (a, o, z, six, (held, es, eb), ei) large = λ t c h.
+    IsTooLargePointers b (inside r levels start) i used room → IsTooLarge b (value_original r) used room
+pointers_value_too_large {r} {levels} {i} b used room start less (a, o, z, six, (held, es, eb), ei) large = value_large b r used room (λ t c h.
     (let en = less o.meets.levels in
     let e : start.at ≡ a.start = omega arith in
     let l : IsTooLargePointers b (child_at r a (pred r.levels) a.start) (list_count a.word) used room = rw (en, es, e, ei) at large in
-    let x = means_pointers r t a (c, h) o.leads_to (z, six) in
-    rw (x.4) (l x.0 x.1 x.2 x.3))
+    let x = means_pointers r t a (c, h) (entered_leads o) (z, six) in
+    rw (x.4) (l x.0 x.1 x.2 x.3)))
 
 pub structs_value_too_large : {r : Reading} {levels i : ℕ} (b : Form) (used room : ℕ) {m m' : Meter} {size : StructSize} (start : Place) → (0 < r.levels → levels ≡ pred r.levels) → IsObject Value r m m' (ObjectStructs start size i) →
-    IsTooLargeList b (inside r levels start) size i used room → IsTooLarge b r used room
-structs_value_too_large {r} {levels} {i} b used room {size = size} start less (a, o, z, seven, (held, eu, eb), ei, ed, eq) large = λ t c h.
+    IsTooLargeList b (inside r levels start) size i used room → IsTooLarge b (value_original r) used room
+structs_value_too_large {r} {levels} {i} b used room {size = size} start less (a, o, z, seven, (held, eu, eb), ei, ed, eq) large = value_large b r used room (λ t c h.
     (let en = less o.meets.levels in
     let e : start.at ≡ a.start + 1 = omega arith in
     let l : IsTooLargeList b (child_at r a (pred r.levels) (a.start + 1)) (tag_size r.segments a) (offset_bits (tag r.segments a)) used room = rw (en, eu, e, ed, eq, ei) at large in
-    let x = means_structs r t a (c, h) o.leads_to (z, seven) in
-    rw (x.4) (l x.0 x.1 x.2 x.3))
+    let x = means_structs r t a (c, h) (entered_leads o) (z, seven) in
+    rw (x.4) (l x.0 x.1 x.2 x.3)))
 
 -- a list of numbers, of which so many words find no room
-pub flat_too_large : {r : Reading} {m m' : Meter} {form : Form} {u : Tree} (b : Form) (used room : ℕ) → Reads form r m m' u → (used + word_count (kept b u) ≤ room → ⊥) → IsTooLarge b r used room
-flat_too_large {r} {u = u} b used room one none = λ t c h.
+pub flat_too_large : {r : Reading} {m m' : Meter} {form : Form} {u : Tree} (b : Form) (used room : ℕ) → Reads form r m m' u → (used + word_count (kept b u) ≤ room → ⊥) → IsTooLarge b (value_original r) used room
+flat_too_large {r} {u = u} b used room one none = value_large b r used room (λ t c h.
     (let is = ap (λ x. word_count (kept b x)) (one_value r.segments r.levels r.levels r.segment r.at t u c one.cost h one.means).0 in
-    omega (arith, is, none))
+    omega (arith, is, none)))

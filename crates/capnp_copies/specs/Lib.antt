@@ -1,10 +1,11 @@
 pub mod Copied
 pub mod Forms
+pub mod Widths
+pub mod Originals
 pub mod Copies
 pub mod Rooms
-pub mod Widths
 pub mod Changes
 pub mod Costs
-pub mod Growth
 pub mod ListValues
 pub mod StructValues
+pub mod Growth

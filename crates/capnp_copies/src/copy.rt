@@ -3,17 +3,15 @@
 //!
 //! Each object is made before its children: in the segment of its pointer where it fits, else behind
 //! a landing pad. So the place holds a value at each moment.
-ghost use Rattle.std.specs.Prelude.{◌≡◌, length, IsOk, IfOk, IfErr, OnOk, OnErr};
-ghost use Rattle.capnp_format.specs.Segments.{segment, word_at, IsPlace};
+ghost use Rattle.std.specs.Prelude.{◌≡◌, IsOk, IfOk, IfErr};
+ghost use Rattle.capnp_format.specs.Segments.{word_at, IsPlace};
 ghost use Rattle.capnp_format.specs.Tree.{Null};
-ghost use Rattle.capnp_making.specs.Memory.{KeepsMemory, SpendsMemory};
-ghost use Rattle.capnp_making.specs.Stored.{IsReplaced};
-ghost use Rattle.capnp_objects.specs.Refusals.{BreaksOff};
 ghost use Rattle.capnp_readers.specs.Readers.{reading};
 ghost use Rattle.capnp_copies.specs.Growth.{TakesAtMost};
-ghost use Rattle.capnp_copies.specs.Changes.{IsCopyOf, RefusesValue, change, StandsAsRead, CopiesValue, StopsAtValue};
+ghost use Rattle.capnp_copies.specs.Changes.{change, MakesCopy, StopsCopy, StopsHalfway};
 ghost use Rattle.capnp_copies.specs.Forms.{form_of, form_in};
 ghost use Rattle.capnp_copies.specs.Copies.{CanBeCopied};
+ghost use Rattle.capnp_copies.specs.Originals.{value_original};
 
 mod children;
 mod each;
@@ -49,27 +47,20 @@ pub fn copy_value<A: BuilderArena, B: ReaderArena>(
 ) -> Result<(), ErrorKind>
     requires place { IsPlace (A.view arena.old).words id at }
     requires null { word_at (A.view arena.old).words id at ≡ 0 }
-    ensures copied { IfOk result (λ _. IsCopyOf (reading B.ReaderArena from.entry)
+    ensures copied { IfOk result
+        (λ _. MakesCopy (value_original (reading B.ReaderArena from.entry))
         (change (form_of canonicalize) id at (A.view arena.old)
         (A.view arena.new) lim.old lim.new)) }
-    ensures stands { OnOk result (StandsAsRead (reading B.ReaderArena from.entry)
-        (change (form_of canonicalize) id at (A.view arena.old)
-        (A.view arena.new) lim.old lim.new)) }
-    ensures fits { CanBeCopied (form_of canonicalize) (reading B.ReaderArena from.entry) lim.old
-        (length (segment (A.view arena.old).words id)) ((A.view arena.old).room id) → IsOk result }
+    ensures fits { CanBeCopied (value_original (reading B.ReaderArena from.entry))
+        (form_of canonicalize) lim.old (A.view arena.old) id → IsOk result }
     ensures refused { IfErr result
-        (RefusesValue (reading B.ReaderArena from.entry)
+        (StopsCopy (value_original (reading B.ReaderArena from.entry))
         (change (form_of canonicalize) id at (A.view arena.old)
-        (A.view arena.new) lim.old lim.new)) }
-    ensures cleared { OnErr result
-        (IsReplaced (A.view arena.old).words (A.view arena.new).words id at Null Null) }
-    ensures spent { OnErr result
-        (BreaksOff (form_of canonicalize) (reading B.ReaderArena from.entry) lim.old lim.new) }
-    ensures taken { TakesAtMost result (reading B.ReaderArena from.entry)
+        (A.view arena.new) lim.old lim.new) Null) }
+    ensures taken { TakesAtMost result
+        (value_original (reading B.ReaderArena from.entry))
         (change (form_of canonicalize) id at (A.view arena.old)
         (A.view arena.new) lim.old lim.new) }
-    ensures granted { OnOk result (KeepsMemory (A.view arena.old) (A.view arena.new)) }
-    ensures memory { IfErr result (SpendsMemory (A.view arena.old) (A.view arena.new)) }
 {
     copy_in_form(arena, id, at, from, lim, CopyForm::of(canonicalize))
 }
@@ -101,23 +92,18 @@ pub fn copy_in_form<A: BuilderArena, B: ReaderArena>(
 ) -> Result<(), ErrorKind>
     requires place { IsPlace (A.view arena.old).words id at }
     requires null { word_at (A.view arena.old).words id at ≡ 0 }
-    ensures copied { IfOk result (λ _. IsCopyOf (reading B.ReaderArena from.entry)
+    ensures copied { IfOk result
+        (λ _. MakesCopy (value_original (reading B.ReaderArena from.entry))
         (change (form_in form) id at (A.view arena.old) (A.view arena.new) lim.old lim.new)) }
-    ensures stands { OnOk result (StandsAsRead (reading B.ReaderArena from.entry)
-        (change (form_in form) id at (A.view arena.old) (A.view arena.new) lim.old lim.new)) }
-    ensures fits { CanBeCopied (form_in form) (reading B.ReaderArena from.entry) lim.old
-        (length (segment (A.view arena.old).words id)) ((A.view arena.old).room id) → IsOk result }
+    ensures fits { CanBeCopied (value_original (reading B.ReaderArena from.entry))
+        (form_in form) lim.old (A.view arena.old) id → IsOk result }
     ensures refused { IfErr result
-        (RefusesValue (reading B.ReaderArena from.entry)
-        (change (form_in form) id at (A.view arena.old) (A.view arena.new) lim.old lim.new)) }
-    ensures cleared { OnErr result
-        (IsReplaced (A.view arena.old).words (A.view arena.new).words id at Null Null) }
-    ensures spent { OnErr result
-        (BreaksOff (form_in form) (reading B.ReaderArena from.entry) lim.old lim.new) }
-    ensures taken { TakesAtMost result (reading B.ReaderArena from.entry)
+        (StopsCopy (value_original (reading B.ReaderArena from.entry))
+        (change (form_in form) id at (A.view arena.old) (A.view arena.new) lim.old lim.new)
+        Null) }
+    ensures taken { TakesAtMost result
+        (value_original (reading B.ReaderArena from.entry))
         (change (form_in form) id at (A.view arena.old) (A.view arena.new) lim.old lim.new) }
-    ensures granted { OnOk result (KeepsMemory (A.view arena.old) (A.view arena.new)) }
-    ensures memory { IfErr result (SpendsMemory (A.view arena.old) (A.view arena.new)) }
 {
     match copy_object(arena, id, at, from, lim, form) {
         Ok(()) => Ok(()),
@@ -141,12 +127,14 @@ fn copy_object<A: BuilderArena, B: ReaderArena>(
 ) -> Result<(), ErrorKind>
     requires place { IsPlace (A.view arena.old).words id at }
     requires null { word_at (A.view arena.old).words id at ≡ 0 }
-    ensures copied { IfOk result (λ _. CopiesValue (reading B.ReaderArena from.entry)
+    ensures copied { IfOk result
+        (λ _. MakesCopy (value_original (reading B.ReaderArena from.entry))
         (change (form_in form) id at (A.view arena.old) (A.view arena.new) lim.old lim.new)) }
     ensures refused { IfErr result
-        (StopsAtValue (reading B.ReaderArena from.entry)
+        (StopsHalfway (value_original (reading B.ReaderArena from.entry))
         (change (form_in form) id at (A.view arena.old) (A.view arena.new) lim.old lim.new)) }
-    ensures taken { TakesAtMost result (reading B.ReaderArena from.entry)
+    ensures taken { TakesAtMost result
+        (value_original (reading B.ReaderArena from.entry))
         (change (form_in form) id at (A.view arena.old) (A.view arena.new) lim.old lim.new) }
 {
     let object = match from.source.read_object(from.place, from.nesting_limit, lim) {

@@ -6,7 +6,8 @@ ghost use Rattle.capnp_format.specs.Segments.{segment};
 ghost use Rattle.capnp_arena.specs.Written.{with_words};
 ghost use Rattle.capnp_readers.specs.Sections.{bytes_for};
 ghost use Rattle.capnp_copies.specs.Forms.{form_of};
-ghost use Rattle.capnp_copies.specs.StructValues.{section_words, kept_count};
+ghost use Rattle.capnp_copies.specs.StructValues.{section_words};
+ghost use Rattle.capnp_copies.specs.Originals.{kept_count};
 
 use crate::copy::elements::put_words;
 use capnp_arena::arena::BuilderArena;

@@ -1,5 +1,7 @@
 -- What an edit leaves of a forest.
 use Rattle.std.proofs.Common.{◌≡◌, ◌⊎◌, inl, inr, ℕ, zero, suc, pred, ◌+◌, ◌*◌, ◌<◌, ◌≤◌, true, false, cond, nat_le, List, [], ◌∷◌, length, Option, Some, None, Result, Ok, Err, IsOk, IfErr, OnErr, refl, sym, ap, ◌∙◌, subst, arith}
+use Rattle.std.specs.Option.{option_map_or}
+use Rattle.std.specs.Prelude.{MatchOption}
 use Rattle.std.proofs.lemmas.Bool.Decides.{nat_tests}
 use Rattle.std.proofs.lemmas.List.{append-nil}
 use Rattle.capnp_words.specs.declared.error.ErrorKind.{ErrorKind}
@@ -32,10 +34,17 @@ use Rattle.capnp_edits.specs.declared.edit.tasks.Part.{Part}
 use Rattle.capnp_edits.specs.declared.edit.tasks.StructChange.{StructChange}
 use Rattle.capnp_edits.specs.declared.edit.tasks.StructChange.TheVariants.{Bits, Content}
 use Rattle.capnp_edits.specs.Tasks.{task_of}
-use Rattle.capnp_edits.specs.Edits.{refusal_of, bits_of, value_of, words_made, Making, becomes, denied, with_written, struct_changed, made_at, made, IsOfMemory, is_of_place, Does, DoesAt, Leaves, as_it_stands, is_done, is_denied, is_allocated, is_not_allocated, IsReplacedIf, leads_to, are_written, are_outside, PutsBits, Takes, leads_nowhere, IsApplied, refusals_after}
+use Rattle.capnp_edits.specs.Edits.{refusal_of, bits_of, value_of, words_made, Making, becomes, denied, with_written, struct_changed, made_at, IsOfMemory, is_of_place, DoesAt, Leaves, as_it_stands, is_done, is_denied, is_allocated, is_not_allocated, leads_to, are_written, are_outside, PutsBits, Takes, leads_nowhere, IsApplied, refusals_after}
 use Rattle.capnp_edits.specs.Steps.{KeepsLengths, IsOfPlace, IsDoneAt}
 use Rattle.capnp_edits.proofs.Steps.{first, same_some, struct_of}
 use Rattle.capnp_edits.proofs.Walks.{found-append, update-append}
+
+-- What is done where a task is, at a pointer, whatever that means; and what an edit's task makes, if its numbers are in range.
+abbrev pub Does : Segments → Segments → PointerPlace → Task → Option ErrorKind → Type 0
+Does S R place task r = (t : Tree) → IsStored S place.segment place.word t → DoesAt S R place (made_at task (PointerTo t)) t r
+
+abbrev pub made : Option Task → Spot → Making
+made task spot = option_map_or (λ (x : Task). made_at x spot) task (denied NoSuchPlace)
 
 -- a refusal for words is one for want of memory, or of room
 pub of_allocation : (old new : View) (segments amount : ℕ) (k : ErrorKind) → IsAllocationRefusal old new segments amount k → IsOfMemory k
@@ -196,7 +205,7 @@ at_pointer : (S R : Segments) (e : Edit) (place : PointerPlace) (making : Making
     found t (path_of e.path.now) ≡ Some (PointerTo x) → IsForest S t → DoesAt S R place making x r → (u : Tree) × IsForest R u × Takes e t r u
 at_pointer S R e place making r t x makes leads spot forest does = stands does.left (subst (λ m. Leaves m r does.left) (sym makes) does.leaves) does.stands
   where
-    stands : (o : Option Tree) → Leaves (made (task_of e.op) (PointerTo x)) r o → IsReplacedIf S R place x o → (u : Tree) × IsForest R u × Takes e t r u
+    stands : (o : Option Tree) → Leaves (made (task_of e.op) (PointerTo x)) r o → MatchOption o (R ≡ S) (IsReplaced S R place.segment place.word x) → (u : Tree) × IsForest R u × Takes e t r u
     stands (Some y) left replaced = (update t (path_of e.path.now) y, forest_updated S R t (path_of e.path.now) place.segment place.word x y forest leads replaced, leads_to (PointerTo x) (Some y) spot left refl)
     stands None left same = (t, subst (λ Q. IsForest Q t) (sym same) forest, leads_to (PointerTo x) None spot left refl)
 

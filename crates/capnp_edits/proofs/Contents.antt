@@ -13,7 +13,7 @@ use Rattle.capnp_format.specs.Tree.{Tree, Null, Capability, Struct, Flat, Pointe
 use Rattle.capnp_format.specs.Forest.{target}
 use Rattle.capnp_making.specs.declared.existing.ExistingBytes.{ExistingBytes}
 use Rattle.capnp_making.specs.declared.existing.ExistingList.{ExistingList}
-use Rattle.capnp_making.specs.Existing.{size_of, plain_misfit, structs_misfit, plain_list, struct_list, unless, list_in, bytes_at, ends_in_zero, text_found, text_in, data_in, BytesLieIn}
+use Rattle.capnp_making.specs.Existing.{size_of, plain_misfit, structs_misfit, plain_list, struct_list, unless, list_in, bytes_at, ends_in_zero, text_in, data_in, BytesLieIn}
 use Rattle.capnp_making.specs.Fields.{with_field}
 use Rattle.capnp_making.specs.Path.{put_struct}
 use Rattle.capnp_making.specs.Stored.{IsStored, IsReplaced}
@@ -27,10 +27,17 @@ use Rattle.capnp_builders.proofs.FoundLists.{found_inside}
 use Rattle.capnp_edits.specs.declared.edit.tasks.Task.TheVariants.{Write}
 use Rattle.capnp_edits.specs.declared.edit.tasks.Part.TheVariants.{ListElement, TextByte, DataByte}
 use Rattle.capnp_edits.specs.Tasks.{is_number}
-use Rattle.capnp_edits.specs.Edits.{becomes, denied, struct_with, with_lowest, nowhere, count_of, length_of, if_reached, part_written, Does, DoesAt, PutsElement, element_put, element_past, no_list, list_denied, PutsByte, byte_put, byte_past, no_bytes_there, bytes_denied}
+use Rattle.capnp_edits.specs.Edits.{becomes, denied, struct_with, with_lowest, nowhere, count_of, if_reached, made_of_found, part_written, DoesAt, PutsElement, element_put, element_past, no_list, list_denied, PutsByte, byte_put, byte_past, no_bytes_there, bytes_denied}
 use Rattle.capnp_edits.proofs.Steps.{first, second, chosen}
-use Rattle.capnp_edits.proofs.Applied.{done_at, denied_at, element_struct, element_width_stored}
+use Rattle.capnp_edits.proofs.Applied.{Does, done_at, denied_at, element_struct, element_width_stored}
 use Rattle.capnp_edits.proofs.Fields.{number_parts}
+
+-- How many elements of a list are found, and how many bytes.
+abbrev elements_in : Result (Option ExistingList) ErrorKind → Result ℕ ErrorKind
+elements_in looked = count_of (λ l. l.count) looked
+
+abbrev length_in : Result (Option ExistingBytes) ErrorKind → Result ℕ ErrorKind
+length_in looked = count_of (λ b. b.length) looked
 
 -- wherever a list, a text or data is, what counts its elements alone says the same of it
 list_fits : {B : Type 0} (f : Result (Option ExistingList) ErrorKind → B) → ((l k : ExistingList) → l.count ≡ k.count → f (Ok (Some l)) ≡ f (Ok (Some k))) → (m : Option ErrorKind) (l k : ExistingList) → l.count ≡ k.count → f (unless m l) ≡ f (unless m k)
@@ -67,19 +74,19 @@ text_anywhere f alike a b Null = refl
 text_anywhere f alike a b (Capability i) = refl
 text_anywhere f alike a b (Struct ws ts) = refl
 text_anywhere f alike a b (Flat s ns) =
-    either f (nat_eq s 2) (text_found a ns) (text_found b ns) ExistingListPointerIsNotByteSized (bytes_fit f alike (ends_in_zero ns) a b (length ns - 1) TextBlobMissingNULTerminator)
+    either f (nat_eq s 2) (cond (ends_in_zero ns) (Ok (Some (bytes_at a (length ns - 1)))) (Err TextBlobMissingNULTerminator)) (cond (ends_in_zero ns) (Ok (Some (bytes_at b (length ns - 1)))) (Err TextBlobMissingNULTerminator)) ExistingListPointerIsNotByteSized (bytes_fit f alike (ends_in_zero ns) a b (length ns - 1) TextBlobMissingNULTerminator)
 text_anywhere f alike a b (Pointers ts) = refl
 text_anywhere f alike a b (Structs d q es) = refl
 
 -- an element that is reached, or not
-reached_done : (S R : Segments) (place : PointerPlace) (t u : Tree) (i n : ℕ) (c : Result ℕ ErrorKind) → c ≡ Ok n → i < n → IsReplaced S R place.segment place.word t u → DoesAt S R place (if_reached i c u) t None
-reached_done S R place t u i n c is_n l replaced = done_at u (ap (λ x. if_reached i x u) is_n ∙ first i n (becomes u) (denied NoSuchPlace) l) refl replaced
+reached_done : (S R : Segments) (place : PointerPlace) (t u : Tree) (i n : ℕ) (c : Result ℕ ErrorKind) → c ≡ Ok n → i < n → IsReplaced S R place.segment place.word t u → DoesAt S R place (made_of_found (if_reached i u) c) t None
+reached_done S R place t u i n c is_n l replaced = done_at u (ap (made_of_found (if_reached i u)) is_n ∙ first i n (becomes u) (denied NoSuchPlace) l) refl replaced
 
-reached_past : (S : Segments) (place : PointerPlace) (t u : Tree) (i n : ℕ) (c : Result ℕ ErrorKind) → c ≡ Ok n → n ≤ i → DoesAt S S place (if_reached i c u) t (Some NoSuchPlace)
-reached_past S place t u i n c is_n l = denied_at NoSuchPlace (ap (λ x. if_reached i x u) is_n ∙ second i n (becomes u) (denied NoSuchPlace) l) refl refl
+reached_past : (S : Segments) (place : PointerPlace) (t u : Tree) (i n : ℕ) (c : Result ℕ ErrorKind) → c ≡ Ok n → n ≤ i → DoesAt S S place (made_of_found (if_reached i u) c) t (Some NoSuchPlace)
+reached_past S place t u i n c is_n l = denied_at NoSuchPlace (ap (made_of_found (if_reached i u)) is_n ∙ second i n (becomes u) (denied NoSuchPlace) l) refl refl
 
-reached_denied : (S : Segments) (place : PointerPlace) (t u : Tree) (i : ℕ) (k : ErrorKind) (c : Result ℕ ErrorKind) → c ≡ Err k → DoesAt S S place (if_reached i c u) t (Some k)
-reached_denied S place t u i k c is_k = denied_at k (ap (λ x. if_reached i x u) is_k) refl refl
+reached_denied : (S : Segments) (place : PointerPlace) (t u : Tree) (i : ℕ) (k : ErrorKind) (c : Result ℕ ErrorKind) → c ≡ Err k → DoesAt S S place (made_of_found (if_reached i u) c) t (Some k)
+reached_denied S place t u i k c is_k = denied_at k (ap (made_of_found (if_reached i u)) is_k) refl refl
 
 -- elements that are no structs, where numbers or bits are expected: they are at least as wide
 plain_wide : (expected found : ElementSize) → plain_misfit expected found ≡ None → element_bits (size_number expected) ≤ element_bits (size_number found)
@@ -212,7 +219,7 @@ data_written_at S R s p (Structs d q es) b i v is_b stored less small written = 
 
 pub text_written_at : (S R : Segments) (s p : ℕ) (t : Tree) (b : ExistingBytes) (i v : ℕ) → Ok (Some b) ≡ text_in (target S s p) t → IsStored S s p t → i < b.length → v < 256 → R ≡ with_field S b.segment (8 * (8 * b.start + i)) 8 v → IsReplaced S R s p t (with_lowest i 8 v t)
 text_written_at S R s p (Flat z ns) b i v is_b stored less small written =
-    let (x, text) = picked_first (nat_eq z 2) (text_found (target S s p) ns) b ExistingListPointerIsNotByteSized is_b in
+    let (x, text) = picked_first (nat_eq z 2) (cond (ends_in_zero ns) (Ok (Some (bytes_at (target S s p) (length ns - 1)))) (Err TextBlobMissingNULTerminator)) b ExistingListPointerIsNotByteSized is_b in
     let (y, same) = picked (ends_in_zero ns) (bytes_at (target S s p) (length ns - 1)) b TextBlobMissingNULTerminator text in
     let l : i < length ns - 1 = subst (λ z. i < z.length) same less in
     byte_written S R s p z ns i v (eqb-true z 2 x) (omega (arith, l)) small stored (subst (λ z. R ≡ with_field S z.segment (8 * (8 * z.start + i)) 8 v) same written)
@@ -233,58 +240,58 @@ element_does S R place size i v r looked inside range is_found puts t stored = d
     parts : (1 ≤ size_number size) × (size_number size ≤ 5) × (v < 2 ^ element_bits (size_number size))
     parts = number_parts size v range
 
-    counted : looked ≡ list_in (target S place.segment place.word) size t → count_of (list_in nowhere size t) ≡ count_of looked
-    counted found = list_anywhere count_of (λ l k e. ap Ok e) nowhere (target S place.segment place.word) size t ∙ ap count_of (sym found)
+    counted : looked ≡ list_in (target S place.segment place.word) size t → elements_in (list_in nowhere size t) ≡ elements_in looked
+    counted found = list_anywhere elements_in (λ l k e. ap Ok e) nowhere (target S place.segment place.word) size t ∙ ap elements_in (sym found)
 
     does : looked ≡ list_in (target S place.segment place.word) size t → PutsElement S R looked size i v r → DoesAt S R place (part_written (ListElement (record { size = size; index = i; value = v })) t) t r
     does found (element_put l is_l less done written) = rw done (
-        reached_done S R place t (with_lowest i w v t) i l.count (count_of (list_in nowhere size t)) (counted found ∙ ap count_of is_l) less
+        reached_done S R place t (with_lowest i w v t) i l.count (elements_in (list_in nowhere size t)) (counted found ∙ ap elements_in is_l) less
         (list_written S R place.segment place.word size t l i v parts.0 parts.1 parts.2 (sym is_l ∙ found) stored less written))
     does found (element_past l is_l past named kept) = rw (named, kept) (
-        reached_past S place t (with_lowest i w v t) i l.count (count_of (list_in nowhere size t)) (counted found ∙ ap count_of is_l)
+        reached_past S place t (with_lowest i w v t) i l.count (elements_in (list_in nowhere size t)) (counted found ∙ ap elements_in is_l)
         (past (found_inside S place.segment place.word size t l (there S place.segment place.word inside) stored (sym found ∙ is_l)) (found_wide S place.segment place.word size t l parts.0 parts.1 (sym is_l ∙ found) stored)))
     does found (no_list is_none named kept) = rw (named, kept) (
-        reached_past S place t (with_lowest i w v t) i 0 (count_of (list_in nowhere size t)) (counted found ∙ ap count_of is_none) (omega arith))
+        reached_past S place t (with_lowest i w v t) i 0 (elements_in (list_in nowhere size t)) (counted found ∙ ap elements_in is_none) (omega arith))
     does found (list_denied k is_k named kept) = rw (named, kept) (
-        reached_denied S place t (with_lowest i w v t) i k (count_of (list_in nowhere size t)) (counted found ∙ ap count_of is_k))
+        reached_denied S place t (with_lowest i w v t) i k (elements_in (list_in nowhere size t)) (counted found ∙ ap elements_in is_k))
 
 -- where bytes are looked for, and how a byte of them is written
 record Looks (look : Target → Tree → Result (Option ExistingBytes) ErrorKind) (i v : ℕ) : Type 0 where
-  long : (a b : Target) (t : Tree) → length_of (look a t) ≡ length_of (look b t)
+  long : (a b : Target) (t : Tree) → length_in (look a t) ≡ length_in (look b t)
   inside : (S : Segments) (s p : ℕ) (t : Tree) (b : ExistingBytes) → s < length S → IsStored S s p t → look (target S s p) t ≡ Ok (Some b) → BytesLieIn S b
   written : (S R : Segments) (s p : ℕ) (t : Tree) (b : ExistingBytes) → Ok (Some b) ≡ look (target S s p) t → IsStored S s p t → i < b.length → R ≡ with_field S b.segment (8 * (8 * b.start + i)) 8 v → IsReplaced S R s p t (with_lowest i 8 v t)
 
 byte_does : (S R : Segments) (place : PointerPlace) (i v : ℕ) (look : Target → Tree → Result (Option ExistingBytes) ErrorKind) (r : Option ErrorKind) (looked : Result (Option ExistingBytes) ErrorKind) (t : Tree) →
     IsPlace S place.segment place.word → Looks look i v → IsStored S place.segment place.word t → looked ≡ look (target S place.segment place.word) t → PutsByte S R looked i v r →
-    DoesAt S R place (if_reached i (length_of (look nowhere t)) (with_lowest i 8 v t)) t r
+    DoesAt S R place (made_of_found (if_reached i (with_lowest i 8 v t)) (length_in (look nowhere t))) t r
 byte_does S R place i v look r looked t inside looks stored found puts = does puts
   where
-    counted : length_of (look nowhere t) ≡ length_of looked
-    counted = looks.long nowhere (target S place.segment place.word) t ∙ ap length_of (sym found)
+    counted : length_in (look nowhere t) ≡ length_in looked
+    counted = looks.long nowhere (target S place.segment place.word) t ∙ ap length_in (sym found)
 
-    does : PutsByte S R looked i v r → DoesAt S R place (if_reached i (length_of (look nowhere t)) (with_lowest i 8 v t)) t r
+    does : PutsByte S R looked i v r → DoesAt S R place (made_of_found (if_reached i (with_lowest i 8 v t)) (length_in (look nowhere t))) t r
     does (byte_put b is_b less done written) = rw done (
-        reached_done S R place t (with_lowest i 8 v t) i b.length (length_of (look nowhere t)) (counted ∙ ap length_of is_b) less
+        reached_done S R place t (with_lowest i 8 v t) i b.length (length_in (look nowhere t)) (counted ∙ ap length_in is_b) less
         (looks.written S R place.segment place.word t b (sym is_b ∙ found) stored less written))
     does (byte_past b is_b past named kept) = rw (named, kept) (
-        reached_past S place t (with_lowest i 8 v t) i b.length (length_of (look nowhere t)) (counted ∙ ap length_of is_b)
+        reached_past S place t (with_lowest i 8 v t) i b.length (length_in (look nowhere t)) (counted ∙ ap length_in is_b)
         (past (looks.inside S place.segment place.word t b (there S place.segment place.word inside) stored (sym found ∙ is_b))))
     does (no_bytes_there is_none named kept) = rw (named, kept) (
-        reached_past S place t (with_lowest i 8 v t) i 0 (length_of (look nowhere t)) (counted ∙ ap length_of is_none) (omega arith))
+        reached_past S place t (with_lowest i 8 v t) i 0 (length_in (look nowhere t)) (counted ∙ ap length_in is_none) (omega arith))
     does (bytes_denied k is_k named kept) = rw (named, kept) (
-        reached_denied S place t (with_lowest i 8 v t) i k (length_of (look nowhere t)) (counted ∙ ap length_of is_k))
+        reached_denied S place t (with_lowest i 8 v t) i k (length_in (look nowhere t)) (counted ∙ ap length_in is_k))
 
 pub text_does : (S R : Segments) (place : PointerPlace) (i v : ℕ) (r : Option ErrorKind) (looked : Result (Option ExistingBytes) ErrorKind) → IsPlace S place.segment place.word → v < 256 →
     ((t : Tree) → IsStored S place.segment place.word t → looked ≡ text_in (target S place.segment place.word) t) → PutsByte S R looked i v r → Does S R place (Write (TextByte i v)) r
 text_does S R place i v r looked inside small is_found puts t stored =
     byte_does S R place i v text_in r looked t inside
-    (record { long = text_anywhere length_of (λ b c e. ap Ok e); inside = text_inside; written = λ S R s p t b is_b stored less written. text_written_at S R s p t b i v is_b stored less small written }) stored (is_found t stored) puts
+    (record { long = text_anywhere length_in (λ b c e. ap Ok e); inside = text_inside; written = λ S R s p t b is_b stored less written. text_written_at S R s p t b i v is_b stored less small written }) stored (is_found t stored) puts
 
 pub data_does : (S R : Segments) (place : PointerPlace) (i v : ℕ) (r : Option ErrorKind) (looked : Result (Option ExistingBytes) ErrorKind) → IsPlace S place.segment place.word → v < 256 →
     ((t : Tree) → IsStored S place.segment place.word t → looked ≡ data_in (target S place.segment place.word) t) → PutsByte S R looked i v r → Does S R place (Write (DataByte i v)) r
 data_does S R place i v r looked inside small is_found puts t stored =
     byte_does S R place i v data_in r looked t inside
-    (record { long = data_anywhere length_of (λ b c e. ap Ok e); inside = data_inside; written = λ S R s p t b is_b stored less written. data_written_at S R s p t b i v is_b stored less small written }) stored (is_found t stored) puts
+    (record { long = data_anywhere length_in (λ b c e. ap Ok e); inside = data_inside; written = λ S R s p t b is_b stored less written. data_written_at S R s p t b i v is_b stored less small written }) stored (is_found t stored) puts
 
 -- what was looked for, and is there
 pub is_found : {A : Type 0} (r : Result (Option A) ErrorKind) (o : Option A) (x : A) → r ≡ Ok o → o ≡ Some x → r ≡ Ok (Some x)

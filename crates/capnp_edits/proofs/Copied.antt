@@ -12,47 +12,50 @@ use Rattle.capnp_format.specs.Canonical.{word_count}
 use Rattle.capnp_format.specs.Numbers.{element_bits}
 use Rattle.capnp_format.specs.Segments.{Segments, Target, segment, AreWords}
 use Rattle.capnp_format.specs.Word.{kind, element_size}
-use Rattle.capnp_format.specs.Tree.{Tree, Null, Struct, Trees, count}
+use Rattle.capnp_format.specs.Tree.{Tree, Null}
 use Rattle.capnp_making.specs.Memory.{KeepsMemory, SpendsMemory}
 use Rattle.capnp_making.proofs.Memory.{not_the_allocator}
 use Rattle.capnp_making.specs.Stored.{Puts}
 use Rattle.capnp_objects.specs.declared.object.Expected.{Expected}
 use Rattle.capnp_objects.specs.declared.object.Expected.TheVariants.{Struct as ExpectedStruct, List as ExpectedList}
-use Rattle.capnp_objects.specs.Expected.{CanBeGiven, too_deep, another_kind, misfit, narrow_elements, one_level, Withheld, no_level, unfollowed, of_another_kind, stopped, misfits}
-use Rattle.capnp_objects.specs.Outcomes.{Reads, ReadsAll}
+use Rattle.capnp_objects.specs.Expected.{CanBeGiven, too_deep, another_kind, misfit, narrow_elements, Withheld, no_level, unfollowed, of_another_kind, stopped, misfits}
+use Rattle.capnp_objects.specs.Outcomes.{Reads}
 use Rattle.capnp_objects.specs.Reading.{Reading}
-use Rattle.capnp_objects.specs.Refusals.{Refused, here as stops_here, Unfollowed, exceeding, leading_nowhere, pads_exceed, nowhere}
+use Rattle.capnp_objects.specs.Refusals.{Refused, here as stops_here, Unfollowed, no_target}
 use Rattle.capnp_objects.specs.Wanted.{plain}
-use Rattle.capnp_objects.proofs.Expecting.{not_withheld}
+use Rattle.capnp_objects.proofs.Expecting.{not_withheld, one_level}
 use Rattle.capnp_objects.proofs.Limits.{not_for_memory, not_for_place}
 use Rattle.capnp_objects.proofs.Refusals.{unreadable}
-use Rattle.capnp_readers.specs.Calls.{IsRead, without_default, WhereRead, IsAnswered, IsRefused, IsStructRead, IsListRead, GivesList, call}
+use Rattle.capnp_readers.specs.Calls.{IsRead, without_default, WhereRead, IsAnswered, IsRefused, IsStructRead, IsListRead, call}
 use Rattle.capnp_readers.specs.Readers.{reading}
 use Rattle.capnp_readers.specs.Sections.{bytes_for}
-use Rattle.capnp_readers.specs.Sizes.{own_words, pointers_read}
+use Rattle.capnp_readers.specs.Sizes.{pointers_read}
 use Rattle.capnp_readers.specs.declared.readers.PointerReader.{PointerReader}
 use Rattle.capnp_readers.specs.declared.readers.struct_reader.StructReader.{StructReader}
 use Rattle.capnp_readers.specs.declared.readers.list_reader.ListReader.{ListReader}
 use Rattle.capnp_readers.specs.declared.readers.PointerPlace.{PointerPlace}
-use Rattle.capnp_copies.specs.Changes.{Change, RefusesValue, change}
+use Rattle.capnp_copies.specs.Changes.{Change, RefusesToCopy, change}
 use Rattle.capnp_copies.specs.Forms.{form_of, kept}
-use Rattle.capnp_copies.specs.Growth.{TakesAtMost, TakesForObject, TakesForListOf, TakesForStruct, TakesForList}
+use Rattle.capnp_copies.specs.Growth.{TakesAtMost}
+use Rattle.capnp_copies.specs.Originals.{value_original, sections_original, list_original}
+use Rattle.capnp_copies.proofs.Originals.{value_beyond}
 use Rattle.capnp_making.specs.Makes.{CallAt}
-use Rattle.capnp_copies.specs.ListValues.{ListElements, ReadsList, RefusesElements, RefusesList, elements_read}
-use Rattle.capnp_copies.specs.StructValues.{RefusesSections, RefusesStruct, data_of}
-use Rattle.capnp_builders.specs.Kept.{PutsCopy, PutsStruct, PutsList, IsKept}
+use Rattle.capnp_copies.specs.ListValues.{list_read}
+use Rattle.capnp_copies.specs.StructValues.{data_of, struct_read}
+use Rattle.capnp_builders.specs.Kept.{PutsCopy, LeavesCleared}
 use Rattle.capnp_edits.specs.declared.edit.Source.{Source}
 use Rattle.capnp_edits.specs.declared.edit.copying.Copying.{Copying}
 use Rattle.capnp_edits.specs.declared.edit.copying.Wanted.{Wanted}
 use Rattle.capnp_edits.specs.declared.edit.copying.Wanted.TheVariants.{Value, Struct as AStruct, List as AList}
 use Rattle.capnp_edits.specs.declared.edit.tasks.Task.TheVariants.{CopyRoot}
-use Rattle.capnp_edits.specs.Sources.{copy_at, words_in, root_of, once_at_root, as_wanted, HasRoot, IsRootReader, CanBeCopiedAs, IsRootless, IsWithheld, HasNothingToCopy, FitsBehind, Sections, LeadsToStruct, LeadsToList, RefusesAs, CopiedOrRefused}
-use Rattle.capnp_edits.specs.Edits.{as_it_stands, refusal_of, IsOfMemory, is_of_place, refusals_after, CopiesRoot, root_copied, root_not_copied, root_unread, Does, is_copied, is_not_copied, is_unread}
+use Rattle.capnp_edits.specs.Sources.{copy_at, words_in, root_of, once_at_root, as_wanted, HasRoot, IsRootReader, CanBeCopiedAs, IsRootless, IsWithheld, HasNothingToCopy, FitsBehind, Sections, ListElements, LeadsToStruct, LeadsToList, RefusesAs, CopiedOrRefused}
+use Rattle.capnp_edits.specs.Edits.{as_it_stands, refusal_of, IsOfMemory, is_of_place, refusals_after, CopiesRoot, root_copied, root_not_copied, root_unread, is_copied, is_not_copied, is_unread}
 use Rattle.capnp_edits.specs.Steps.{call_to, result_of, IsDoneAt, IsWholeRefused, TakesForWanted, TakesForWhole}
-use Rattle.capnp_edits.proofs.Taken.{value_taken, object_taken, list_taken}
-use Rattle.capnp_edits.proofs.Applied.{of_allocation, of_no_place, named_refusal, never_refused}
-use Rattle.capnp_edits.proofs.CopiedStruct.{own_long, struct_at, struct_reads, struct_refused, struct_given, struct_fits}
-use Rattle.capnp_edits.proofs.CopiedList.{list_at, list_reads, list_refused, list_given, list_small, list_fits}
+use Rattle.capnp_edits.proofs.Taken.{copy_taken}
+use Rattle.capnp_edits.proofs.Applied.{Does, of_allocation, of_no_place, named_refusal, never_refused}
+use Rattle.capnp_edits.proofs.CopiedStruct.{struct_at, struct_reads, struct_refused, struct_given, struct_fits}
+use Rattle.capnp_edits.proofs.CopiedList.{elements_read, list_at, list_reads, list_refused, list_given, list_small, list_fits}
+use Rattle.capnp_edits.proofs.ListReads.{list_read_as}
 use Rattle.capnp_edits.proofs.Steps.{same_some}
 
 -- What a copy leaves that is done.
@@ -61,17 +64,12 @@ IsDone c after S R place =
     (t : Tree) × (w : Tree) × Reads (form_of c.canonicalize) (root_of c.source) (once_at_root c.source) after t × (as_wanted c.wanted t ≡ Some w)
     × Puts S R place.segment place.word (kept (form_of c.canonicalize) w)
 
-abbrev KeepsSections : Sections → Change → Type 0
-KeepsSections s c = (ts : Trees) × (count ts ≡ s.pointers) × ReadsAll c.form s.first c.before c.after ts × IsKept c (Struct s.words ts)
-
-abbrev KeepsList : ListElements → Change → Type 0
-KeepsList l c = (t : Tree) × ReadsList c.form l c.before c.after t × IsKept c t
-
 -- A copy is refused for want of memory, or its value can't be read; and never for a place.
 
-value_refused : (b : Bool) (id at : ℕ) (old new : View) (r : Reading) (m m' : Meter) (k : ErrorKind) → RefusesValue r (change (form_of b) id at old new m m') k → IsOfMemory k ⊎ Refused (form_of b) r m m' k
+value_refused : (b : Bool) (id at : ℕ) (old new : View) (r : Reading) (m m' : Meter) (k : ErrorKind) → RefusesToCopy (value_original r) (change (form_of b) id at old new m m') k → IsOfMemory k ⊎ Refused (form_of b) r m m' k
 value_refused b id at old new r m m' k (inl (n, (refuses, none), wanted, large)) = inl (of_allocation old new (length new.words) (n + 1) k refuses)
-value_refused b id at old new r m m' k (inr refused) = inr refused
+value_refused b id at old new r m m' k (inr (inl refused)) = inr refused
+value_refused b id at old new r m m' k (inr (inr none)) = absurd none
 
 copy_refused_as : (w : Wanted) (b : Bool) (id at : ℕ) (old new : View) (r : Reading) (m m' : Meter) (k : ErrorKind) → RefusesAs w r (change (form_of b) id at old new m m') k →
     IsOfMemory k ⊎ Refused (form_of b) r m m' k
@@ -89,8 +87,9 @@ copy_fits_as : (w : Wanted) (c : Copying) (id at : ℕ) (old new : View) (r : Re
     CanBeCopiedAs c r m (length (segment old.words id)) (old.room id) → RefusesAs w r (change (form_of c.canonicalize) id at old new m m') k → ⊥
 copy_fits_as Value c id at old new r m m' k is small can (inl (n, why, wanted, large)) =
     let same : can.value ≡ can.copied = same_some can.value can.copied (subst (λ w. as_wanted w can.value ≡ Some can.copied) is can.is_wanted) in
-    omega (arith, can.fits, large can.value can.cost can.means, ap (λ t. word_count (kept (form_of c.canonicalize) t)) same)
-copy_fits_as Value c id at old new r m m' k is small can (inr refused) = (unreadable refused).only can.value can.cost can.means can.takes can.covers
+    omega (arith, can.fits, value_beyond (form_of c.canonicalize) r (length (segment old.words id)) (old.room id) large can.value can.cost can.means, ap (λ t. word_count (kept (form_of c.canonicalize) t)) same)
+copy_fits_as Value c id at old new r m m' k is small can (inr (inl refused)) = (unreadable refused).only can.value can.cost can.means can.takes can.covers
+copy_fits_as Value c id at old new r m m' k is small can (inr (inr none)) = none
 copy_fits_as AStruct c id at old new r m m' k is small can (s, leads, refuses) = struct_fits c r m m' s id at old new k is leads can refuses
 copy_fits_as AList c id at old new r m m' k is small can (l, n, leads, refuses) = list_fits c r m n m' l id at old new k is leads (list_small r m n l (small is) leads) can refuses
 
@@ -130,68 +129,70 @@ tried_fits (Err k) c old new place tried fits = absurd (copy_fits_as c.wanted c 
 
 -- of what the root means
 pub value_tried : {A : Type 0} (result : Result A ErrorKind) (c : Copying) (r : Reading) (m m' : Meter) (old new : View) (place : PointerPlace) → c.wanted ≡ Value → r ≡ root_of c.source → m ≡ once_at_root c.source → HasRoot c.source →
-    IfOk result (λ x. PutsCopy r (change (form_of c.canonicalize) place.segment place.word old new m m')) → IfErr result (RefusesValue r (change (form_of c.canonicalize) place.segment place.word old new m m')) →
-    TakesAtMost result r (change (form_of c.canonicalize) place.segment place.word old new m m') → Tried result c old new place
+    IfOk result (λ x. PutsCopy (value_original r) (change (form_of c.canonicalize) place.segment place.word old new m m')) → IfErr result (LeavesCleared (value_original r) (change (form_of c.canonicalize) place.segment place.word old new m m')) →
+    TakesAtMost result (value_original r) (change (form_of c.canonicalize) place.segment place.word old new m m') → Tried result c old new place
 value_tried result c r m m' old new place is is_r is_m has done refused taken = record { root = has; after = m'; done = good result done; refused = bad result refused; taken = takes }
   where
-    good : {A : Type 0} (q : Result A ErrorKind) → IfOk q (λ x. PutsCopy r (change (form_of c.canonicalize) place.segment place.word old new m m')) → IfOk q (λ x. IsDone c m' old.words new.words place)
-    good (Ok x) (t, reads, puts) =
-        (t, t, subst (λ y. Reads (form_of c.canonicalize) (root_of c.source) y m' t) is_m (subst (λ y. Reads (form_of c.canonicalize) y m m' t) is_r reads), ap (λ w. as_wanted w t) is, puts)
+    good : {A : Type 0} (q : Result A ErrorKind) → IfOk q (λ x. PutsCopy (value_original r) (change (form_of c.canonicalize) place.segment place.word old new m m')) → IfOk q (λ x. IsDone c m' old.words new.words place)
+    good (Ok x) h =
+        (h.value, h.value, subst (λ y. Reads (form_of c.canonicalize) (root_of c.source) y m' h.value) is_m (subst (λ y. Reads (form_of c.canonicalize) y m m' h.value) is_r h.is_read), ap (λ w. as_wanted w h.value) is, h.put)
     good (Err k) h = tt
 
-    bad : {A : Type 0} (q : Result A ErrorKind) → IfErr q (RefusesValue r (change (form_of c.canonicalize) place.segment place.word old new m m')) →
+    bad : {A : Type 0} (q : Result A ErrorKind) → IfErr q (LeavesCleared (value_original r) (change (form_of c.canonicalize) place.segment place.word old new m m')) →
         IfErr q (RefusesAs c.wanted (root_of c.source) (change (form_of c.canonicalize) place.segment place.word old new (once_at_root c.source) m'))
     bad (Ok x) h = tt
     bad (Err k) h =
         subst (λ w. RefusesAs w (root_of c.source) (change (form_of c.canonicalize) place.segment place.word old new (once_at_root c.source) m') k) (sym is)
-        (subst (λ y. RefusesValue (root_of c.source) (change (form_of c.canonicalize) place.segment place.word old new y m') k) is_m (subst (λ y. RefusesValue y (change (form_of c.canonicalize) place.segment place.word old new m m') k) is_r h))
+        (subst (λ y. RefusesToCopy (value_original (root_of c.source)) (change (form_of c.canonicalize) place.segment place.word old new y m') k) is_m (subst (λ y. RefusesToCopy (value_original y) (change (form_of c.canonicalize) place.segment place.word old new m m') k) is_r h.why))
 
     takes : TakesForWanted c.wanted (refusal_of result) c.source (copy_at (call_to place old new) c m')
     takes =
         let ch : Meter → Change = λ y. change (form_of c.canonicalize) place.segment place.word old new y m' in
         subst (λ w. TakesForWanted w (refusal_of result) c.source (ch (once_at_root c.source))) (sym is)
-        (subst (λ y. TakesAtMost (result_of (refusal_of result)) (root_of c.source) (ch y)) is_m (subst (λ y. TakesAtMost (result_of (refusal_of result)) y (ch m)) is_r (value_taken result r (ch m) taken)))
+        (subst (λ y. TakesAtMost (result_of (refusal_of result)) (value_original (root_of c.source)) (ch y)) is_m (subst (λ y. TakesAtMost (result_of (refusal_of result)) (value_original y) (ch m)) is_r (copy_taken result (value_original r) (ch m) taken)))
 
 -- of the struct that it leads to
 struct_tried : {A : Type 0} (result : Result A ErrorKind) (c : Copying) (s : Sections) (m' : Meter) (old new : View) (place : PointerPlace) → c.wanted ≡ AStruct → HasRoot c.source → LeadsToStruct (root_of c.source) (once_at_root c.source) s →
-    IfOk result (λ x. KeepsSections s (change (form_of c.canonicalize) place.segment place.word old new s.limiter m')) →
-    IfErr result (RefusesSections s.words s.first s.pointers (change (form_of c.canonicalize) place.segment place.word old new s.limiter m')) →
-    TakesForObject result s.first s.pointers (length s.words + s.pointers) (change (form_of c.canonicalize) place.segment place.word old new s.limiter m') → Tried result c old new place
+    IfOk result (λ x. PutsCopy (sections_original s.words s.first s.pointers) (change (form_of c.canonicalize) place.segment place.word old new s.limiter m')) →
+    IfErr result (LeavesCleared (sections_original s.words s.first s.pointers) (change (form_of c.canonicalize) place.segment place.word old new s.limiter m')) →
+    TakesAtMost result (sections_original s.words s.first s.pointers) (change (form_of c.canonicalize) place.segment place.word old new s.limiter m') → Tried result c old new place
 struct_tried result c s m' old new place is has leads done refused taken = record { root = has; after = m'; done = good result done; refused = bad result refused; taken = takes }
   where
-    good : {A : Type 0} (q : Result A ErrorKind) → IfOk q (λ x. KeepsSections s (change (form_of c.canonicalize) place.segment place.word old new s.limiter m')) → IfOk q (λ x. IsDone c m' old.words new.words place)
-    good (Ok x) (ts, counts, all, puts) =
+    good : {A : Type 0} (q : Result A ErrorKind) → IfOk q (λ x. PutsCopy (sections_original s.words s.first s.pointers) (change (form_of c.canonicalize) place.segment place.word old new s.limiter m')) → IfOk q (λ x. IsDone c m' old.words new.words place)
+    good (Ok x) h =
+        let (ts, same, counts, all) = h.is_read in
         let (t, reads, wanted) = struct_reads (form_of c.canonicalize) (root_of c.source) (once_at_root c.source) m' s ts leads counts all in
-        (t, Struct s.words ts, reads, ap (λ w. as_wanted w t) is ∙ wanted, puts)
+        (t, h.value, reads, ap (λ w. as_wanted w t) is ∙ wanted ∙ ap Some (sym same), h.put)
     good (Err k) h = tt
 
-    bad : {A : Type 0} (q : Result A ErrorKind) → IfErr q (RefusesSections s.words s.first s.pointers (change (form_of c.canonicalize) place.segment place.word old new s.limiter m')) →
+    bad : {A : Type 0} (q : Result A ErrorKind) → IfErr q (LeavesCleared (sections_original s.words s.first s.pointers) (change (form_of c.canonicalize) place.segment place.word old new s.limiter m')) →
         IfErr q (RefusesAs c.wanted (root_of c.source) (change (form_of c.canonicalize) place.segment place.word old new (once_at_root c.source) m'))
     bad (Ok x) h = tt
-    bad (Err k) h = subst (λ w. RefusesAs w (root_of c.source) (change (form_of c.canonicalize) place.segment place.word old new (once_at_root c.source) m') k) (sym is) (s, leads, h)
+    bad (Err k) h = subst (λ w. RefusesAs w (root_of c.source) (change (form_of c.canonicalize) place.segment place.word old new (once_at_root c.source) m') k) (sym is) (s, leads, h.why)
 
     takes : TakesForWanted c.wanted (refusal_of result) c.source (copy_at (call_to place old new) c m')
-    takes = subst (λ w. TakesForWanted w (refusal_of result) c.source (copy_at (call_to place old new) c m')) (sym is) (s, leads, object_taken result s.first s.pointers _ _ taken)
+    takes = subst (λ w. TakesForWanted w (refusal_of result) c.source (copy_at (call_to place old new) c m')) (sym is) (s, leads, copy_taken result (sections_original s.words s.first s.pointers) (change (form_of c.canonicalize) place.segment place.word old new s.limiter m') taken)
 
 -- of the list
 list_tried : {A : Type 0} (result : Result A ErrorKind) (c : Copying) (l : ListElements) (m m' : Meter) (old new : View) (place : PointerPlace) → c.wanted ≡ AList → HasRoot c.source →
-    LeadsToList (root_of c.source) (once_at_root c.source) m l → IfOk result (λ x. KeepsList l (change (form_of c.canonicalize) place.segment place.word old new m m')) →
-    IfErr result (RefusesElements l (change (form_of c.canonicalize) place.segment place.word old new m m')) → TakesForListOf result l (change (form_of c.canonicalize) place.segment place.word old new m m') → Tried result c old new place
+    LeadsToList (root_of c.source) (once_at_root c.source) m l → IfOk result (λ x. PutsCopy (list_original l.size l.sections l.count l.first) (change (form_of c.canonicalize) place.segment place.word old new m m')) →
+    IfErr result (LeavesCleared (list_original l.size l.sections l.count l.first) (change (form_of c.canonicalize) place.segment place.word old new m m')) → TakesAtMost result (list_original l.size l.sections l.count l.first) (change (form_of c.canonicalize) place.segment place.word old new m m') → Tried result c old new place
 list_tried result c l m m' old new place is has leads done refused taken = record { root = has; after = m'; done = good result done; refused = bad result refused; taken = takes }
   where
-    good : {A : Type 0} (q : Result A ErrorKind) → IfOk q (λ x. KeepsList l (change (form_of c.canonicalize) place.segment place.word old new m m')) → IfOk q (λ x. IsDone c m' old.words new.words place)
-    good (Ok x) (t, all, puts) =
-        let (u, reads, wanted) = list_reads (form_of c.canonicalize) (root_of c.source) (once_at_root c.source) m m' l t leads all in
-        (u, t, reads, ap (λ w. as_wanted w u) is ∙ wanted, puts)
+    good : {A : Type 0} (q : Result A ErrorKind) → IfOk q (λ x. PutsCopy (list_original l.size l.sections l.count l.first) (change (form_of c.canonicalize) place.segment place.word old new m m')) → IfOk q (λ x. IsDone c m' old.words new.words place)
+    good (Ok x) h =
+        let all = list_read_as (form_of c.canonicalize) l l.size m m' h.value refl h.is_read in
+        let (u, reads, wanted) = list_reads (form_of c.canonicalize) (root_of c.source) (once_at_root c.source) m m' l h.value leads all in
+        (u, h.value, reads, ap (λ w. as_wanted w u) is ∙ wanted, h.put)
     good (Err k) h = tt
 
-    bad : {A : Type 0} (q : Result A ErrorKind) → IfErr q (RefusesElements l (change (form_of c.canonicalize) place.segment place.word old new m m')) →
+    bad : {A : Type 0} (q : Result A ErrorKind) → IfErr q (LeavesCleared (list_original l.size l.sections l.count l.first) (change (form_of c.canonicalize) place.segment place.word old new m m')) →
         IfErr q (RefusesAs c.wanted (root_of c.source) (change (form_of c.canonicalize) place.segment place.word old new (once_at_root c.source) m'))
     bad (Ok x) h = tt
-    bad (Err k) h = subst (λ w. RefusesAs w (root_of c.source) (change (form_of c.canonicalize) place.segment place.word old new (once_at_root c.source) m') k) (sym is) (l, m, leads, h)
+    bad (Err k) h = subst (λ w. RefusesAs w (root_of c.source) (change (form_of c.canonicalize) place.segment place.word old new (once_at_root c.source) m') k) (sym is) (l, m, leads, h.why)
 
     takes : TakesForWanted c.wanted (refusal_of result) c.source (copy_at (call_to place old new) c m')
-    takes = subst (λ w. TakesForWanted w (refusal_of result) c.source (copy_at (call_to place old new) c m')) (sym is) (l, m, leads, list_taken result l _ taken)
+    takes = subst (λ w. TakesForWanted w (refusal_of result) c.source (copy_at (call_to place old new) c m')) (sym is) (l, m, leads, copy_taken result (list_original l.size l.sections l.count l.first) (change (form_of c.canonicalize) place.segment place.word old new m m') taken)
 
 -- A call without a default reads the pointer itself.
 own_pointer : {A : Type 0} (g : Ghosts A) (expected : Expected) (from p : PointerReader A g) → IsRead g expected from p None → p ≡ from
@@ -209,19 +210,17 @@ withheld_at g expected from m m' k (inr h) = where_read g expected from (λ p. W
 
 -- The calls on a root's reader.
 pub struct_copied : {A B : Type 0} (result : Result B ErrorKind) (c : Copying) (g : Ghosts A) (from : PointerReader A g) (v : StructReader A g) (m n m' : Meter) (old new : View) (place : PointerPlace) → c.wanted ≡ AStruct → IsRootReader g c.source from m →
-    length v.content.now ≡ bytes_for v.bits → WhereRead g (call g from ExpectedStruct None) (λ p. IsStructRead g p m n v) → IfOk result (λ x. PutsStruct g v (change (form_of c.canonicalize) place.segment place.word old new n m')) →
-    IfErr result (RefusesStruct g v (change (form_of c.canonicalize) place.segment place.word old new n m')) → TakesForStruct g result v (change (form_of c.canonicalize) place.segment place.word old new n m') → Tried result c old new place
+    length v.content.now ≡ bytes_for v.bits → WhereRead g (call g from ExpectedStruct None) (λ p. IsStructRead g p m n v) → IfOk result (λ x. PutsCopy (struct_read g v) (change (form_of c.canonicalize) place.segment place.word old new n m')) →
+    IfErr result (LeavesCleared (struct_read g v) (change (form_of c.canonicalize) place.segment place.word old new n m')) → TakesAtMost result (struct_read g v) (change (form_of c.canonicalize) place.segment place.word old new n m') → Tried result c old new place
 struct_copied result c g from v m n m' old new place is here long read done refused taken =
     let s : Sections = record { words = data_of g v; first = pointers_read g v; pointers = v.pointer_count; limiter = n } in
     let there : IsStructRead g from m n v = where_read g ExpectedStruct from (λ p. IsStructRead g p m n v) read in
     let leads : LeadsToStruct (reading g from) m s = struct_at g from m n v long there in
-    let own : own_words g v ≡ length (data_of g v) + v.pointer_count = own_long g from m n v long there in
-    struct_tried result c s m' old new place is here.root (subst (λ y. LeadsToStruct (root_of c.source) y s) here.once (subst (λ r. LeadsToStruct r m s) here.reads leads)) done refused
-    (subst (λ x. TakesForObject result s.first s.pointers x (change (form_of c.canonicalize) place.segment place.word old new n m')) own taken)
+    struct_tried result c s m' old new place is here.root (subst (λ y. LeadsToStruct (root_of c.source) y s) here.once (subst (λ r. LeadsToStruct r m s) here.reads leads)) done refused taken
 
 pub list_copied : {A B : Type 0} (result : Result B ErrorKind) (c : Copying) (g : Ghosts A) (from : PointerReader A g) (v : ListReader A g) (m n m' : Meter) (old new : View) (place : PointerPlace) → c.wanted ≡ AList → IsRootReader g c.source from m →
-    GivesList g Void (call g from (ExpectedList Void) None) m n v → IfOk result (λ x. PutsList g v (change (form_of c.canonicalize) place.segment place.word old new n m')) →
-    IfErr result (RefusesList g v (change (form_of c.canonicalize) place.segment place.word old new n m')) → TakesForList g result v (change (form_of c.canonicalize) place.segment place.word old new n m') → Tried result c old new place
+    WhereRead g (call g from (ExpectedList Void) None) (λ p. IsListRead g Void p m n v) → IfOk result (λ x. PutsCopy (list_read g v) (change (form_of c.canonicalize) place.segment place.word old new n m')) →
+    IfErr result (LeavesCleared (list_read g v) (change (form_of c.canonicalize) place.segment place.word old new n m')) → TakesAtMost result (list_read g v) (change (form_of c.canonicalize) place.segment place.word old new n m') → Tried result c old new place
 list_copied result c g from v m n m' old new place is here read done refused taken =
     let l : ListElements = elements_read g v in
     let leads : LeadsToList (reading g from) m n l = list_at g from m n v (where_read g (ExpectedList Void) from (λ p. IsListRead g Void p m n v) read) in
@@ -272,8 +271,7 @@ other_refused : (r : Reading) (m m' : Meter) (k : ErrorKind) → Refused plain r
 other_refused r m m' k refused = other_name k (λ e. not_for_memory (subst (λ y. Refused plain r m m' y) e refused)) (λ e. not_for_place (subst (λ y. Refused plain r m m' y) e refused))
 
 other_unfollowed : (r : Reading) (m m' : Meter) (k : ErrorKind) → Unfollowed r m m' k → is_of_call k ≡ false
-other_unfollowed r m m' k (exceeding some over paid named) = other_refused r m m' k (stops_here (pads_exceed some over paid named))
-other_unfollowed r m m' k (leading_nowhere some follows paid) = other_refused r m m' k (stops_here (nowhere some follows paid))
+other_unfollowed r m m' k h = other_refused r m m' k (stops_here (no_target h))
 
 other_deep : (expected : Expected) (n : ℕ) → IsOther (too_deep expected n)
 other_deep ExpectedStruct zero = refl

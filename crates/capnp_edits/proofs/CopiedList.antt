@@ -37,16 +37,24 @@ use Rattle.capnp_readers.specs.Calls.{IsListRead}
 use Rattle.capnp_readers.specs.Readers.{reading, IsTargetList, ShowsList}
 use Rattle.capnp_readers.specs.declared.readers.PointerReader.{PointerReader}
 use Rattle.capnp_readers.specs.declared.readers.list_reader.ListReader.{ListReader}
-use Rattle.capnp_copies.specs.Changes.{change}
+use Rattle.capnp_copies.specs.Changes.{RefusesToCopy, change}
 use Rattle.capnp_copies.specs.Forms.{form_of}
-use Rattle.capnp_copies.specs.ListValues.{ListElements, FitsListPointer, ReadsList, RefusedList, RefusesElements, elements_read}
+use Rattle.capnp_copies.specs.ListValues.{first_read}
+use Rattle.capnp_copies.specs.Originals.{FitsListPointer, list_original}
+use Rattle.capnp_copies.proofs.Originals.{exceeding}
 use Rattle.capnp_edits.specs.declared.edit.copying.Copying.{Copying}
 use Rattle.capnp_edits.specs.declared.edit.copying.Wanted.TheVariants.{List as AList}
 use Rattle.capnp_edits.specs.Edits.{IsOfMemory}
-use Rattle.capnp_edits.specs.Sources.{as_wanted, CanBeCopiedAs, LeadsToList, no_list, a_plain_list, a_struct_list}
+use Rattle.capnp_edits.specs.Sources.{as_wanted, CanBeCopiedAs, ListElements, LeadsToList, no_list, a_plain_list, a_struct_list}
 use Rattle.capnp_edits.proofs.Applied.{of_allocation}
 use Rattle.capnp_edits.proofs.CopiedStruct.{level_less, own_covered}
+use Rattle.capnp_edits.proofs.ListReads.{ReadsList, RefusedList, as_list_read, list_refused_as}
 use Rattle.capnp_edits.proofs.Steps.{same_some}
+use Rattle.capnp_objects.proofs.Followed.{leads_to, entered_leads}
+
+-- the elements of a list that is read
+abbrev pub elements_read : {A : Type 0} (g : Ghosts A) → ListReader A g → ListElements
+elements_read g v = record { size = v.element_size; sections = v.struct_size; count = v.count; first = first_read g v }
 
 -- what a list reader shows is the list that the place leads to
 plain_there : {A : Type 0} (g : Ghosts A) (p : PointerReader A g) (m m' : Meter) (v : ListReader A g) (a : Target) → Entered Value (reading g p) m m' a → kind a.word ≡ 1 → v.source ≡ p.source →
@@ -133,10 +141,10 @@ list_stops form r m n m' l k (a_struct_list a o z s sections first counts) (inr 
 
 -- or there is no room
 pub list_refused : (b : Bool) (id at : ℕ) (old new : View) (r : Reading) (m n m' : Meter) (l : ListElements) (k : ErrorKind) → LeadsToList r m n l →
-    RefusesElements l (change (form_of b) id at old new n m') k → IsOfMemory k ⊎ Refused (form_of b) r m m' k
+    RefusesToCopy (list_original l.size l.sections l.count l.first) (change (form_of b) id at old new n m') k → IsOfMemory k ⊎ Refused (form_of b) r m m' k
 list_refused b id at old new r m n m' l k leads (inl (i, (refuses, none), wanted, exceeds)) = inl (of_allocation old new (length new.words) (i + 1) k refuses)
-list_refused b id at old new r m n m' l k leads (inr (inl refused)) = inr (list_stops (form_of b) r m n m' l k leads refused)
-list_refused b id at old new r m n m' l k leads (inr (inr (long, named))) = inl (inr (_, named))
+list_refused b id at old new r m n m' l k leads (inr (inl refused)) = inr (list_stops (form_of b) r m n m' l k leads (list_refused_as (form_of b) l l.size n m' k refl refused))
+list_refused b id at old new r m n m' l k leads (inr (inr large)) = inl (inr (_, (exceeding l.size l.sections l.count l.first (form_of b) k large).1))
 
 -- a list that can be copied is found
 record ListMeets (r : Reading) (c : ℕ) : Type 0 where
@@ -237,7 +245,7 @@ given_there r m c x covers = inr (
   x.target,
   record {
     level = level_there r.levels x.some;
-    leads_to = x.leads_to;
+    follows = leads_to r x.target x.leads_to;
     of_kind = ap (λ i. cond (nat_eq i 1) None (Some MessageContainsNonListPointerWhereListPointerWasExpected)) x.is_list;
     meets = x.meets;
     fits = x.wide;
@@ -275,20 +283,20 @@ null_matches : (form : Form) (r : Reading) (m n : Meter) (l : ListElements) → 
 null_matches form r m n l (no_list null void none same) z =
     let zeros : size_number l.size ≡ 0 = ap size_number void in
     (n, (omega (arith, zeros), sym zeros, ap (λ i. unpacked 0 i (words_from l.first (words_for 0 i))) (sym none), refl))
-null_matches form r m n l (a_plain_list a o k s few no_bits first counts) z = absurd (o.leads_to.0 z)
-null_matches form r m n l (a_struct_list a o k s sections first counts) z = absurd (o.leads_to.0 z)
+null_matches form r m n l (a_plain_list a o k s few no_bits first counts) z = absurd (o.follows.0 z)
+null_matches form r m n l (a_struct_list a o k s sections first counts) z = absurd (o.follows.0 z)
 
 flat_matches : (form : Form) (r : Reading) (m n : Meter) (l : ListElements) (size : ℕ) (ns : List ℕ) (c : ℕ) → LeadsToList r m n l → MeansThere r (Flat size ns) c → ListMatches form l n (Flat size ns)
 flat_matches form r m n l size ns c (no_list null void none same) (a, some, small, o, claims, values, g) = absurd (o.leads_to.0 null)
 flat_matches form r m n l size ns c (a_plain_list b at k s few no_bits first counts) (a, some, small, o, claims, values, g) =
     let S : Segments = r.segments in
-    let same : b ≡ a = same_target S r.segment r.at at.leads_to.1 o.leads_to.1 in
+    let same : b ≡ a = same_target S r.segment r.at (entered_leads at).1 o.leads_to.1 in
     let number : size ≡ size_number l.size = sym o.is_size ∙ ap (λ (x : Target). element_size x.word) (sym same) ∙ s in
     let many : l.count ≡ length ns = counts ∙ ap (λ (x : Target). list_count x.word) same ∙ o.counts in
     let place : l.first ≡ child_at r a (pred r.levels) a.start = first ∙ ap (λ (x : Target). child_at r x (pred r.levels) x.start) same in
     (n, (omega (arith, number, small), number, values ∙ ap₂ (λ x i. unpacked size i (words_from x (words_for size i))) (sym place) (sym many), refl))
 flat_matches form r m n l size ns c (a_struct_list b at k s sections first counts) (a, some, small, o, claims, values, g) =
-    let same : b ≡ a = same_target r.segments r.segment r.at at.leads_to.1 o.leads_to.1 in
+    let same : b ≡ a = same_target r.segments r.segment r.at (entered_leads at).1 o.leads_to.1 in
     absurd (omega (arith, k.1, ap (λ (x : Target). element_size x.word) same, o.is_size, small))
 
 pointers_match : (form : Form) (r : Reading) (m n : Meter) (l : ListElements) (ts : Trees) (c : ℕ) → LeadsToList r m n l → MeansThere r (Pointers ts) c → AllowsCapabilities form (capabilities (Pointers ts)) →
@@ -296,7 +304,7 @@ pointers_match : (form : Form) (r : Reading) (m n : Meter) (l : ListElements) (t
 pointers_match form r m n l ts c (no_list null void none same) (a, k, some, o, claims, all, g) takes covers = absurd (o.leads_to.0 null)
 pointers_match form r m n l ts c (a_plain_list b at z s few no_bits first counts) (a, k, some, o, claims, all, g) takes covers =
     let S : Segments = r.segments in
-    let same : b ≡ a = same_target S r.segment r.at at.leads_to.1 o.leads_to.1 in
+    let same : b ≡ a = same_target S r.segment r.at (entered_leads at).1 o.leads_to.1 in
     let six : element_size b.word ≡ 6 = ap (λ (x : Target). element_size x.word) same ∙ o.is_size in
     let many : list_count b.word ≡ count ts = ap (λ (x : Target). list_count x.word) same ∙ o.counts in
     let place : l.first ≡ child_at r a (pred r.levels) a.start = first ∙ ap (λ (x : Target). child_at r x (pred r.levels) x.start) same in
@@ -305,18 +313,18 @@ pointers_match form r m n l ts c (a_plain_list b at z s few no_bits first counts
     let there : ReadsAll form (child_at r a (pred r.levels) a.start) n end ts = record { cost = k; means = all; takes = takes; covers = affords_rest k c (paid_own at) enters covers; spent = refl } in
     (end, (pointer_size l.size (sym s ∙ six), sym (counts ∙ many), subst (λ x. ReadsAll form x n end ts) (sym place) there))
 pointers_match form r m n l ts c (a_struct_list b at z s sections first counts) (a, k, some, o, claims, all, g) takes covers =
-    let same : b ≡ a = same_target r.segments r.segment r.at at.leads_to.1 o.leads_to.1 in
+    let same : b ≡ a = same_target r.segments r.segment r.at (entered_leads at).1 o.leads_to.1 in
     absurd (omega (arith, z.1, ap (λ (x : Target). element_size x.word) same, o.is_size))
 
 structs_match : (form : Form) (r : Reading) (m n : Meter) (l : ListElements) (d q : ℕ) (es : Elements) (c : ℕ) → LeadsToList r m n l → MeansThere r (Structs d q es) c →
     AllowsCapabilities form (capabilities (Structs d q es)) → Affords r.charging m c → ListMatches form l n (Structs d q es)
 structs_match form r m n l d q es c (no_list null void none same) (a, i, k, some, o, claims, t, fits, all, g) takes covers = absurd (o.leads_to.0 null)
 structs_match form r m n l d q es c (a_plain_list b at z s few no_bits first counts) (a, i, k, some, o, claims, t, fits, all, g) takes covers =
-    let same : b ≡ a = same_target r.segments r.segment r.at at.leads_to.1 o.leads_to.1 in
+    let same : b ≡ a = same_target r.segments r.segment r.at (entered_leads at).1 o.leads_to.1 in
     absurd (omega (arith, s, few, ap (λ (x : Target). element_size x.word) same, o.is_size))
 structs_match form r m n l d q es c (a_struct_list b at z s sections first counts) (a, i, k, some, o, claims, t, fits, all, g) takes covers =
     let S : Segments = r.segments in
-    let same : b ≡ a = same_target S r.segment r.at at.leads_to.1 o.leads_to.1 in
+    let same : b ≡ a = same_target S r.segment r.at (entered_leads at).1 o.leads_to.1 in
     let there : l.first ≡ child_at r a (pred r.levels) (a.start + 1) = first ∙ ap (λ (x : Target). child_at r x (pred r.levels) (x.start + 1)) same in
     let rows : l.sections ≡ sized d q = sections ∙ ap (tag_size S) same ∙ ap₂ sized t.data_of t.pointers in
     let many : l.count ≡ element_count es = counts ∙ ap (λ x. offset_bits (tag S x)) same ∙ t.counts in
@@ -361,10 +369,10 @@ pub list_small : (r : Reading) (m n : Meter) (l : ListElements) → AreWords r.s
 list_small r m n l words (no_list null void none same) =
     few_elements l.size l.count (l.sections.data_words + l.sections.pointers) (omega (arith, ap size_number void)) (omega (arith, none))
 list_small r m n l words (a_plain_list a o z s few no_bits first counts) =
-    few_elements l.size l.count (l.sections.data_words + l.sections.pointers) few (omega (arith, counts, word_below r a words o.leads_to))
+    few_elements l.size l.count (l.sections.data_words + l.sections.pointers) few (omega (arith, counts, word_below r a words (entered_leads o)))
 list_small r m n l words (a_struct_list a o z s sections first counts) =
     let fits : offset_bits (tag r.segments a) * (data_words (tag r.segments a) + pointer_count (tag r.segments a)) ≤ list_count a.word = (o.meets.tagged z).1 in
-    let small : list_count a.word < 2 ^ 29 = omega (arith, word_below r a words o.leads_to) in
+    let small : list_count a.word < 2 ^ 29 = omega (arith, word_below r a words (entered_leads o)) in
     let few : offset_bits (tag r.segments a) < 2 ^ 30 = omega arith in
     let wide : l.sections.data_words + l.sections.pointers ≡ data_words (tag r.segments a) + pointer_count (tag r.segments a) = ap (λ (x : StructSize). x.data_words + x.pointers) sections in
     rw (s, counts, wide) (few, omega (arith, fits, small))
@@ -372,11 +380,11 @@ list_small r m n l words (a_struct_list a o z s sections first counts) =
 -- so it isn't refused
 pub list_fits : (c : Copying) (r : Reading) (m n m' : Meter) (l : ListElements) (id at : ℕ) (old new : View) (k : ErrorKind) → c.wanted ≡ AList → LeadsToList r m n l →
     FitsListPointer l.size l.count (l.sections.data_words + l.sections.pointers) → CanBeCopiedAs c r m (length (segment old.words id)) (old.room id) →
-    RefusesElements l (change (form_of c.canonicalize) id at old new n m') k → ⊥
+    RefusesToCopy (list_original l.size l.sections l.count l.first) (change (form_of c.canonicalize) id at old new n m') k → ⊥
 list_fits c r m n m' l id at old new k is leads small can refuses =
     let x = list_matches (form_of c.canonicalize) r m n l can.value can.cost can.copied leads can.means can.takes can.covers (subst (λ w. as_wanted w can.value ≡ Some can.copied) is can.is_wanted) in
     elim refuses [
-      | inl (i, why, wanted, exceeds) ↦ omega (arith, can.fits, exceeds can.copied x.0 x.1)
-      | inr (inl refused) ↦ (unreadable (list_stops (form_of c.canonicalize) r m n m' l k leads refused)).only can.value can.cost can.means can.takes can.covers
-      | inr (inr (long, named)) ↦ long small
+      | inl (i, why, wanted, exceeds) ↦ omega (arith, can.fits, exceeds (form_of c.canonicalize) n x.0 can.copied (as_list_read (form_of c.canonicalize) l l.size n x.0 can.copied refl x.1))
+      | inr (inl refused) ↦ (unreadable (list_stops (form_of c.canonicalize) r m n m' l k leads (list_refused_as (form_of c.canonicalize) l l.size n m' k refl refused))).only can.value can.cost can.means can.takes can.covers
+      | inr (inr large) ↦ (exceeding l.size l.sections l.count l.first (form_of c.canonicalize) k large).0 small
     ]

@@ -31,12 +31,13 @@ use Rattle.capnp_objects.proofs.Refusals.{stops_struct, unreadable}
 use Rattle.capnp_readers.specs.Calls.{IsStructRead}
 use Rattle.capnp_readers.specs.Readers.{reading}
 use Rattle.capnp_readers.specs.Sections.{bytes_for}
-use Rattle.capnp_readers.specs.Sizes.{own_words, pointers_read}
+use Rattle.capnp_readers.specs.Sizes.{pointers_read}
 use Rattle.capnp_readers.specs.declared.readers.PointerReader.{PointerReader}
 use Rattle.capnp_readers.specs.declared.readers.struct_reader.StructReader.{StructReader}
-use Rattle.capnp_copies.specs.Changes.{change}
 use Rattle.capnp_copies.specs.Forms.{form_of, kept}
-use Rattle.capnp_copies.specs.StructValues.{RefusesSections, section_words, data_of}
+use Rattle.capnp_copies.specs.Changes.{RefusesToCopy, change}
+use Rattle.capnp_copies.specs.Originals.{sections_original}
+use Rattle.capnp_copies.specs.StructValues.{section_words, data_of}
 use Rattle.capnp_format.specs.Bytes.{words_of}
 use Rattle.capnp_objects.specs.declared.object.Purpose.TheVariants.{Value}
 use Rattle.capnp_format.proofs.WordsOf.{words}
@@ -47,6 +48,7 @@ use Rattle.capnp_edits.specs.Edits.{IsOfMemory}
 use Rattle.capnp_edits.specs.Sources.{as_wanted, CanBeCopiedAs, Sections, LeadsToStruct, no_struct, a_struct}
 use Rattle.capnp_edits.proofs.Applied.{of_allocation}
 use Rattle.capnp_edits.proofs.Steps.{same_some}
+use Rattle.capnp_objects.proofs.Followed.{leads_to, entered_leads}
 
 -- one level less, as a nesting limit says it
 pub level_less : (z : ℤ) → 0 < levels z → levels (z -ℤ pos 1) ≡ pred (levels z)
@@ -77,13 +79,6 @@ pub whole_bits : {A : Type 0} (g : Ghosts A) (p : PointerReader A g) (m n : Mete
 whole_bits g p m n v (inl ((null, same), (nothing, no_bits, none, nesting))) = omega (arith, no_bits)
 whole_bits g p m n v (inr (a, o, z, shows, source, nesting)) = omega (arith, shows.bits_are)
 
--- so its own words are those of its sections
-pub own_long : {A : Type 0} (g : Ghosts A) (p : PointerReader A g) (m n : Meter) (v : StructReader A g) → length v.content.now ≡ bytes_for v.bits → IsStructRead g p m n v → own_words g v ≡ length (data_of g v) + v.pointer_count
-own_long g p m n v long read =
-    let all = whole_words v.content.now v.bits long (whole_bits g p m n v read) in
-    let many : length (data_of g v) ≡ length (words_of v.content.now) = ap length all.0 in
-    omega (arith, many, all.1)
-
 -- reading it, and then its pointers, is reading the value
 no_children : (ts : Trees) → count ts ≡ 0 → ts ≡ no_trees
 no_children no_trees e = refl
@@ -109,7 +104,7 @@ struct_stops form r m m' s k (a_struct a o z ws first q) refused =
     stops_struct o z (subst (λ i. RefusedAll form (child_at r a (pred r.levels) (a.start + data_words a.word)) i s.limiter m' k) q (subst (λ x. RefusedAll form x s.pointers s.limiter m' k) first refused))
 
 -- or there is no room
-pub struct_refused : (b : Bool) (id at : ℕ) (old new : View) (r : Reading) (m m' : Meter) (s : Sections) (k : ErrorKind) → LeadsToStruct r m s → RefusesSections s.words s.first s.pointers (change (form_of b) id at old new s.limiter m') k →
+pub struct_refused : (b : Bool) (id at : ℕ) (old new : View) (r : Reading) (m m' : Meter) (s : Sections) (k : ErrorKind) → LeadsToStruct r m s → RefusesToCopy (sections_original s.words s.first s.pointers) (change (form_of b) id at old new s.limiter m') k →
     IsOfMemory k ⊎ Refused (form_of b) r m m' k
 struct_refused b id at old new r m m' s k leads (inl (n, (refuses, none), wanted, exceeds)) = inl (of_allocation old new (length new.words) (n + 1) k refuses)
 struct_refused b id at old new r m m' s k leads (inr (inl refused)) = inr (struct_stops (form_of b) r m m' s k leads refused)
@@ -130,7 +125,7 @@ own_covered charging m n c le covers = affords_rest {r = 0} n c (record { covers
 pub struct_suits : (r : Reading) (a : Target) → LeadsTo r a → kind a.word ≡ 0 → 0 < r.levels → Claims r.segments a (claim a.word) → IsSuited ExpectedStruct r a
 struct_suits r a leads z some claims = record {
   level = level_there r.levels some;
-  leads_to = leads;
+  follows = leads_to r a leads;
   of_kind = ap (λ i. cond (nat_eq i 0) None (Some MessageContainsNonStructPointerWhereStructPointerWasExpected)) z;
   meets = record { levels = omega arith; is_object = omega (arith, z); claims = claims; tagged = λ tagged. absurd (omega (arith, z, tagged.0)) };
   fits = refl;
@@ -169,11 +164,11 @@ struct_matches form r m s Null c copied (no_struct null ws none same) means take
   is_struct = sym (same_some (Struct [] no_trees) copied e) ∙ ap (λ w. Struct w no_trees) (sym ws);
   narrow = rw ws (omega arith);
 }
-struct_matches form r m s Null c copied (a_struct a o z ws first q) means takes covers e = absurd (o.leads_to.0 means.0)
+struct_matches form r m s Null c copied (a_struct a o z ws first q) means takes covers e = absurd (o.follows.0 means.0)
 struct_matches form r m s (Struct vs ts) c copied (no_struct null ws none same) (a, k, some, o, claims, words, all, g) takes covers e = absurd (o.leads_to.0 null)
 struct_matches form r m s (Struct vs ts) c copied (a_struct b o z ws first q) (a, k, some, at, claims, words, all, g) takes covers e =
     let S : Segments = r.segments in
-    let same : b ≡ a = same_target S r.segment r.at o.leads_to.1 at.leads_to.1 in
+    let same : b ≡ a = same_target S r.segment r.at (entered_leads o).1 at.leads_to.1 in
     let long : data_words b.word ≡ length vs = ap (λ (x : Target). data_words x.word) same ∙ at.data_of in
     let are : s.words ≡ vs = ws ∙ ap₂ (λ (x : Target) n. words_at S x.segment x.start n) same long ∙ words in
     let place : s.first ≡ child_at r a (pred r.levels) (a.start + length vs) = first ∙ ap₂ (λ (x : Target) n. child_at r x (pred r.levels) (x.start + n)) same long in
@@ -193,11 +188,11 @@ struct_matches form r m s (Structs d q es) c copied leads means takes covers e =
 
 -- so it isn't refused
 pub struct_fits : (c : Copying) (r : Reading) (m m' : Meter) (s : Sections) (id at : ℕ) (old new : View) (k : ErrorKind) → c.wanted ≡ AStruct → LeadsToStruct r m s → CanBeCopiedAs c r m (length (segment old.words id)) (old.room id) →
-    RefusesSections s.words s.first s.pointers (change (form_of c.canonicalize) id at old new s.limiter m') k → ⊥
+    RefusesToCopy (sections_original s.words s.first s.pointers) (change (form_of c.canonicalize) id at old new s.limiter m') k → ⊥
 struct_fits c r m m' s id at old new k is leads can refuses =
     let x = struct_matches (form_of c.canonicalize) r m s can.value can.cost can.copied leads can.means can.takes can.covers (subst (λ w. as_wanted w can.value ≡ Some can.copied) is can.is_wanted) in
     elim refuses [
-      | inl (n, why, wanted, exceeds) ↦ omega (arith, can.fits, exceeds x.children x.end x.counts x.are_read, ap (λ t. word_count (kept (form_of c.canonicalize) t)) x.is_struct)
+      | inl (n, why, wanted, exceeds) ↦ omega (arith, can.fits, exceeds (form_of c.canonicalize) s.limiter x.end (Struct s.words x.children) (x.children, refl, x.counts, x.are_read), ap (λ t. word_count (kept (form_of c.canonicalize) t)) x.is_struct)
       | inr (inl refused) ↦ (unreadable (struct_stops (form_of c.canonicalize) r m m' s k leads refused)).only can.value can.cost can.means can.takes can.covers
       | inr (inr (wide, named)) ↦ omega (arith, wide, kept_count-le (form_of c.canonicalize) s.words, x.narrow)
     ]

@@ -56,14 +56,15 @@ use Rattle.capnp_edits.specs.declared.edit.tasks.StructChange.TheVariants.{Bits,
 use Rattle.capnp_edits.specs.Tasks.{task_of}
 use Rattle.capnp_edits.specs.Paths.{path_of, found, IsElementFound, ElementOf}
 use Rattle.capnp_edits.specs.Sources.{copying_from, root_of, once_at_root, HasRoot, IsRootReader, Sections, LeadsToStruct, no_struct, a_struct, ContentRead, ContentFitsBehind, HasNothingToCopy, FilledOrRefused}
-use Rattle.capnp_edits.specs.Edits.{as_it_stands, refusal_of, bits_of, struct_changed, made, fills, sections, is_of_place, PutsBits, FillsAt, Changes, all_filled, first_filled, none_filled, refusals_after, IsApplied, Takes, leads_to, is_filled, is_half_filled, is_not_filled, DoesAt}
+use Rattle.capnp_edits.specs.Edits.{as_it_stands, refusal_of, bits_of, struct_changed, fills, sections, is_of_place, PutsBits, FillsAt, Changes, all_filled, first_filled, none_filled, refusals_after, IsApplied, Takes, leads_to, is_filled, is_half_filled, is_not_filled, DoesAt}
 use Rattle.capnp_edits.specs.Steps.{IsStructAt, IsContentRefused, TakesForContentFrom, IsDoneAt, IsChanged}
 use Rattle.capnp_edits.proofs.Taken.{bits_lengths, pointers_taken}
-use Rattle.capnp_edits.proofs.Applied.{of_allocation, of_no_place, of_place, named_refusal, none_counted, kept_nowhere, refused_there, never_refused, denied_at, no_struct as is_none, written_at, element_struct, element_spot, applied_bits}
+use Rattle.capnp_edits.proofs.Applied.{made, of_allocation, of_no_place, of_place, named_refusal, none_counted, kept_nowhere, refused_there, never_refused, denied_at, no_struct as is_none, written_at, element_struct, element_spot, applied_bits}
 use Rattle.capnp_edits.proofs.Copied.{where_read}
 use Rattle.capnp_edits.proofs.CopiedStruct.{struct_at as source_at, whole_words, whole_bits, struct_suits}
 use Rattle.capnp_edits.proofs.Steps.{same_some, first, struct_of}
 use Rattle.capnp_edits.proofs.Walks.{update-append}
+use Rattle.capnp_objects.proofs.Followed.{entered_leads}
 
 -- as the sections of a source's struct
 record SourceStruct {A : Type 0} (g : Ghosts A) (source : Source) (v : StructReader A g) (n : Meter) : Type 0 where
@@ -354,9 +355,9 @@ element_applied S R e s (Content source) r is leads h = filled_element S R e s s
 -- a place leads to one struct
 same_struct : {r : Reading} {m : Meter} {s z : Sections} → LeadsToStruct r m s → LeadsToStruct r m z → 0 < s.pointers → (s.first ≡ z.first) × (s.limiter ≡ z.limiter) × (s.pointers ≡ z.pointers)
 same_struct (no_struct null ws none same) other some = absurd (omega (arith, none, some))
-same_struct (a_struct a o k ws start n) (no_struct null us none same) some = absurd (o.leads_to.0 null)
+same_struct (a_struct a o k ws start n) (no_struct null us none same) some = absurd (o.follows.0 null)
 same_struct {r} {m} (a_struct a o k ws start n) (a_struct b i l us at c) some =
-    let e : a ≡ b = same_target r.segments r.segment r.at o.leads_to.1 i.leads_to.1 in (
+    let e : a ≡ b = same_target r.segments r.segment r.at (entered_leads o).1 (entered_leads i).1 in (
       start ∙ ap (λ (x : Target). child_at r x (pred r.levels) (x.start + data_words x.word)) e ∙ sym at,
       o.spent ∙ ap (λ x. after r.charging m (own Value r.segments x) 1) e ∙ sym i.spent,
       n ∙ ap (λ (x : Target). pointer_count x.word) e ∙ sym c,
@@ -366,7 +367,7 @@ same_struct {r} {m} (a_struct a o k ws start n) (a_struct b i l us at c) some =
 there_given : {r : Reading} {m : Meter} {s : Sections} → LeadsToStruct r m s → CanBeGiven ExpectedStruct r m
 unfolding CanBeGiven
 there_given (no_struct null ws none same) = inl null
-there_given {r} (a_struct a o z ws start n) = inr (a, struct_suits r a o.leads_to z o.meets.levels o.meets.claims, o.covers)
+there_given {r} (a_struct a o z ws start n) = inr (a, struct_suits r a (entered_leads o) z o.meets.levels o.meets.claims, o.covers)
 
 -- so content whose pointers can be read isn't refused for what is read
 pub filled_or_refused : FilledOrRefused

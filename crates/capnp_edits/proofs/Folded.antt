@@ -1,11 +1,11 @@
 -- Edits one behind the other.
-use Rattle.std.proofs.Common.{◌≡◌, ℕ, ◌+◌, ◌<◌, List, [], ◌∷◌, ◌++◌, length, take, get_or, set, Option, refl, sym, ap, ap₂, ◌∙◌, subst}
+use Rattle.std.proofs.Common.{◌≡◌, ℕ, ◌+◌, ◌<◌, List, [], ◌∷◌, ◌++◌, length, take, get_or, set, Option, refl, sym, subst}
 use Rattle.std.proofs.lemmas.List.{take_more, take_more_set}
 use Rattle.capnp_words.specs.declared.error.ErrorKind.{ErrorKind}
 use Rattle.capnp_format.specs.Segments.{Segments}
 use Rattle.capnp_format.specs.Tree.{Tree}
 use Rattle.capnp_edits.specs.declared.edit.Edit.{Edit}
-use Rattle.capnp_edits.specs.Edits.{Takes, TakesAll, IsApplied, AreApplied, refusals_after, refusals_after_all}
+use Rattle.capnp_edits.specs.Edits.{Takes, TakesAll, IsApplied, AreApplied}
 
 -- one edit more
 takes_more : (es : List Edit) (rs : List (Option ErrorKind)) (e : Edit) (r : Option ErrorKind) (t u v : Tree) → TakesAll es rs t u → Takes e u r v → TakesAll (es ++ e ∷ []) (rs ++ r ∷ []) t v
@@ -13,10 +13,6 @@ takes_more [] [] e r t u v h k = (v, subst (λ x. Takes e x r v) h k, refl)
 takes_more (f ∷ es) (s ∷ rs) e r t u v (w, one, others) k = (w, one, takes_more es rs e r w u v others k)
 takes_more [] (s ∷ rs) e r t u v h k = absurd h
 takes_more (f ∷ es) [] e r t u v h k = absurd h
-
-counted_more : (rs : List (Option ErrorKind)) (r : Option ErrorKind) (n : ℕ) → refusals_after_all (rs ++ r ∷ []) n ≡ refusals_after r (refusals_after_all rs n)
-counted_more [] r n = refl
-counted_more (q ∷ rs) r n = counted_more rs r (refusals_after q n)
 
 -- edit number i is done
 pub next_applied : (S R Q : Segments) (es : List Edit) (rs : List (Option ErrorKind)) (i : ℕ) (d : Edit) (q r : Option ErrorKind) → i < length es → length rs ≡ length es → q ≡ r → AreApplied S R (take i es) (take i rs) → IsApplied R Q (get_or es i d) q →
@@ -28,7 +24,3 @@ next_applied S R Q es rs i d q r l long same before one t forest =
     let less : i < length rs = rw long l in
     let all = takes_more (take i es) (take i rs) (get_or es i d) r t u v taken takes in
     (v, next, subst (λ xs. TakesAll xs (take (i + 1) (set rs i r)) t v) (sym (take_more es i d l)) (subst (λ ys. TakesAll (take i es ++ get_or es i d ∷ []) ys t v) (sym (take_more_set rs i r less)) all))
-
-pub next_counted : (rs : List (Option ErrorKind)) (i n m k : ℕ) (q r : Option ErrorKind) → i < length rs → q ≡ r → m ≡ refusals_after_all (take i rs) n → k ≡ refusals_after q m → k ≡ refusals_after_all (take (i + 1) (set rs i r)) n
-next_counted rs i n m k q r less same before one =
-    one ∙ ap₂ refusals_after same before ∙ sym (counted_more (take i rs) r n) ∙ ap (λ ys. refusals_after_all ys n) (sym (take_more_set rs i r less))

@@ -10,6 +10,7 @@ pub mod Contents
 pub mod Names
 pub mod Sought
 pub mod CopiedStruct
+pub mod ListReads
 pub mod CopiedList
 pub mod Copied
 pub mod Filled

@@ -1,5 +1,5 @@
 -- The names by which a search, or the copy of its default, is refused: none of them is that of a missing place.
-use Rattle.std.proofs.Common.{◌≡◌, inl, inr, ℕ, zero, suc, ◌^◌, Bool, true, false, cond, ◌&&◌, nat_eq, nat_le, nat_lt, length, Option, Some, None, Result, Ok, Err, refl, sym, ap, ◌∙◌}
+use Rattle.std.proofs.Common.{◌-◌, ◌≡◌, inl, inr, ℕ, zero, suc, ◌^◌, Bool, true, false, cond, ◌&&◌, nat_eq, nat_le, nat_lt, length, Option, Some, None, Result, Ok, Err, refl, sym, ap, ◌∙◌}
 use Rattle.capnp_words.specs.declared.error.ErrorKind.{ErrorKind}
 use Rattle.capnp_words.specs.declared.error.ErrorKind.TheVariants.{ExistingListPointerIsNotByteSized, ExistingListValueIsIncompatibleWithExpectedType, InvalidSegmentId, MessageContainsOutOfBoundsPointer, MessageTooLarge, NoSuchPlace, TextBlobMissingNULTerminator}
 use Rattle.capnp_words.specs.declared.wire_pointer.ElementSize.{ElementSize}
@@ -8,12 +8,13 @@ use Rattle.capnp_words.specs.declared.wire_pointer.StructSize.{StructSize}
 use Rattle.capnp_format.specs.Segments.{Segments, word_at, Target, near, pad}
 use Rattle.capnp_format.specs.Tree.{Tree, Null, Capability, Struct, Flat, Pointers, Structs, count, element_count}
 use Rattle.capnp_making.specs.declared.existing.ExistingList.{ExistingList}
-use Rattle.capnp_making.specs.Existing.{is_unfound, size_of, plain_misfit, structs_misfit, plain_list, struct_list, unless, list_in, bytes_at, ends_in_zero, text_found, text_in, data_in}
+use Rattle.capnp_making.specs.Existing.{is_unfound, size_of, plain_misfit, structs_misfit, plain_list, struct_list, unless, list_in, bytes_at, ends_in_zero, text_in, data_in}
 use Rattle.capnp_format.specs.Word.{kind, upper_half, far_position, is_double}
 use Rattle.capnp_objects.specs.Faults.{here, below, HasFault}
-use Rattle.capnp_objects.specs.Follow.{◌>=>◌, or_named, existing, follow_far, follow}
-use Rattle.capnp_objects.specs.Reading.{Reading, word_of}
-use Rattle.capnp_objects.specs.Wanted.{Form, far_named}
+use Rattle.capnp_objects.specs.Follow.{◌>=>◌}
+use Rattle.capnp_objects.specs.Reading.{Reading}
+use Rattle.capnp_objects.specs.Wanted.{Form}
+use Rattle.capnp_objects.proofs.Followed.{or_named, far_named, follow, is_named, followed_at, existing, far_steps}
 use Rattle.capnp_widening.specs.Opening.{struct_opened}
 use Rattle.capnp_widening.specs.Widened.{limited, list_widened}
 
@@ -108,7 +109,7 @@ pub text_unfound : (a : Target) (t : Tree) → is_unfound_at (text_in a t) ≡ t
 text_unfound a Null = refl
 text_unfound a (Capability i) = refl
 text_unfound a (Struct ws ts) = refl
-text_unfound a (Flat s ns) = unfound_either (nat_eq s 2) (text_found a ns) (Err ExistingListPointerIsNotByteSized) (unfound_either (ends_in_zero ns) _ (Err TextBlobMissingNULTerminator) refl refl) refl
+text_unfound a (Flat s ns) = unfound_either (nat_eq s 2) (cond (ends_in_zero ns) (Ok (Some (bytes_at a (length ns - 1)))) (Err TextBlobMissingNULTerminator)) (Err ExistingListPointerIsNotByteSized) (unfound_either (ends_in_zero ns) _ (Err TextBlobMissingNULTerminator) refl refl) refl
 text_unfound a (Pointers ts) = refl
 text_unfound a (Structs d q es) = refl
 
@@ -140,7 +141,7 @@ named_elsewhere None = refl
 existing_elsewhere : {A : Type 0} (S : Segments) (u : ℕ) (x : A) → is_nowhere (existing S u x) ≡ false
 existing_elsewhere S u x = either (nat_lt u (length S)) (Ok x) (Err (InvalidSegmentId u)) refl refl
 
-far_elsewhere : (S : Segments) (x double : ℕ) → is_nowhere (follow_far S x double) ≡ false
+far_elsewhere : (S : Segments) (x double : ℕ) → is_nowhere (far_steps S x double) ≡ false
 far_elsewhere S x zero =
     then_elsewhere (existing S (upper_half x) x) _ (existing_elsewhere S (upper_half x) x)
     (λ _. then_elsewhere (or_named MessageContainsOutOfBoundsPointer (pad S x 0)) _ (named_elsewhere (pad S x 0)) (λ w. named_elsewhere (near S (upper_half x) (far_position x) w 1)))
@@ -151,7 +152,7 @@ far_elsewhere S x (suc d) =
 follow_elsewhere : (S : Segments) (s p : ℕ) → is_nowhere (follow S s p) ≡ false
 follow_elsewhere S s p =
     let x = word_at S s p in
-    either (nat_eq (kind x) 2) (follow_far S x (is_double x)) (or_named MessageContainsOutOfBoundsPointer (near S s p x 0)) (far_elsewhere S x (is_double x)) (named_elsewhere (near S s p x 0))
+    either (nat_eq (kind x) 2) (far_steps S x (is_double x)) (or_named MessageContainsOutOfBoundsPointer (near S s p x 0)) (far_elsewhere S x (is_double x)) (named_elsewhere (near S s p x 0))
 
 default_far_elsewhere : (b : Bool) (r : Result Target ErrorKind) → is_nowhere r ≡ false → is_nowhere (far_named b r) ≡ false
 default_far_elsewhere true (Ok x) e = refl
@@ -162,6 +163,6 @@ default_far_elsewhere false (Err k) e = e
 -- no fault of a default has that name
 pub fault_elsewhere : (form : Form) {r : Reading} → HasFault form r NoSuchPlace → ⊥
 fault_elsewhere form {r} (here (some, inl f)) =
-    elsewhere _ NoSuchPlace (default_far_elsewhere (r.of_default && nat_eq (kind (word_of r)) 2) (follow r.segments r.segment r.at) (follow_elsewhere r.segments r.segment r.at)) f refl
+    elsewhere _ NoSuchPlace (default_far_elsewhere (is_named r) (follow r.segments r.segment r.at) (follow_elsewhere r.segments r.segment r.at)) (sym (followed_at r) ∙ f) refl
 fault_elsewhere form (here (some, inr (a, f, h))) = h
 fault_elsewhere form (below a q l o i rest) = fault_elsewhere form rest

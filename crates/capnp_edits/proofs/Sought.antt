@@ -1,5 +1,6 @@
 -- Searches: what they leave, with a default or without one.
 use Rattle.std.proofs.Common.{◌≡◌, ◌⊎◌, inl, inr, ℕ, ◌+◌, ◌/◌, ◌^◌, ◌<◌, ◌≤◌, Bool, true, false, cond, ◌&&◌, nat_eq, nat_le, nat_lt, List, [], ◌∷◌, length, Option, Some, None, unwrap_or, Result, Ok, Err, IsOk, IfErr, OnOk, refl, sym, ap, ◌∙◌, subst, arith}
+use Rattle.std.specs.Prelude.{MatchOption}
 use Rattle.std.proofs.lemmas.Bool.{cases_lt}
 use Rattle.std.proofs.lemmas.Bool.Decides.{nat_tests}
 use Rattle.std.specs.Borrow.{Bor}
@@ -11,7 +12,7 @@ use Rattle.capnp_words.specs.declared.wire_pointer.ElementSize.{ElementSize}
 use Rattle.capnp_words.specs.declared.wire_pointer.StructSize.{StructSize}
 use Rattle.capnp_format.specs.Bytes.{words_of}
 use Rattle.capnp_format.specs.Forest.{target}
-use Rattle.capnp_format.specs.Segments.{Segments, Target, segment, word_at, IsPlace}
+use Rattle.capnp_format.specs.Segments.{Segments, Target, word_at, IsPlace}
 use Rattle.capnp_format.specs.Tree.{Tree, Null, capabilities}
 use Rattle.capnp_arena.specs.View.{View}
 use Rattle.capnp_making.specs.declared.existing.ExistingBytes.{ExistingBytes}
@@ -27,23 +28,25 @@ use Rattle.capnp_objects.specs.Faults.{HasFault}
 use Rattle.capnp_objects.specs.Wanted.{of_default}
 use Rattle.capnp_objects.proofs.Faultless.{no_fault}
 use Rattle.capnp_copies.specs.Copies.{CanBeCopied}
+use Rattle.capnp_copies.specs.Originals.{value_original}
 use Rattle.capnp_readers.specs.declared.readers.PointerPlace.{PointerPlace}
 use Rattle.capnp_readers.specs.declared.readers.list_reader.ListPlace.{ListPlace}
 use Rattle.capnp_readers.specs.declared.readers.struct_reader.StructPlace.{StructPlace}
 use Rattle.capnp_making.specs.Makes.{CallAt}
-use Rattle.capnp_widening.specs.Opening.{Opens, struct_opened}
+use Rattle.capnp_widening.specs.Opening.{Opens, OpensStruct, struct_opened}
 use Rattle.capnp_widening.specs.RowsRemade.{RefusesWider}
 use Rattle.capnp_widening.specs.Widened.{list_widened, IsNoWider}
 use Rattle.capnp_builders.specs.Defaults.{IsShortDefault, DefaultUse, ignored, denied as is_denied_by, copied as is_copied_from, use_of_words, default_use, default_root, default_copy, RefusesDefault, WithDefault, DefaultFits}
-use Rattle.capnp_builders.specs.Found.{list_given, bytes_given, GivesFoundList, GivesFoundData, GivesFoundText, FindsList, FindsData, FindsText}
-use Rattle.capnp_builders.specs.Opening.{IsStructGiven, IsListGiven, OpensStruct, OpensList, FindsStruct, FindsStructs, StructFindFits, StructsFindFits}
+use Rattle.capnp_builders.specs.Found.{list_given, bytes_given, GivesFoundList, GivesFoundBytes, FindsList, FindsBytes}
+use Rattle.capnp_builders.specs.Opening.{IsStructGiven, IsListGiven, OpensList, FindsStruct, FindsStructs, StructFindFits, StructsFindFits}
+use Rattle.capnp_edits.specs.declared.edit.path.Place.TheVariants.{Pointer as AtPointer}
 use Rattle.capnp_edits.specs.declared.edit.tasks.Task.TheVariants.{Search}
 use Rattle.capnp_edits.specs.declared.edit.tasks.Sought.{Sought}
 use Rattle.capnp_edits.specs.declared.edit.tasks.Sought.TheVariants.{Struct as ForStruct, List as ForList, StructList as ForStructs, Text as ForText, Data as ForData}
 use Rattle.capnp_edits.specs.Tasks.{is_small_default, is_in_range}
-use Rattle.capnp_edits.specs.Edits.{refusal_of, Making, becomes, nowhere, unchanged, opened, looked_for, with_default, is_of_place, IsOfMemory, Yields, is_done, is_denied, is_allocated, is_not_allocated, as_it_stands, default_put, default_dropped, IsReplacedIf, DoesAt, Does}
-use Rattle.capnp_edits.specs.Steps.{TaskFits, IsOpeningRefused, IsSearchRefused, FindsSought, IsDoneAt}
-use Rattle.capnp_edits.proofs.Applied.{never_refused, of_allocation, of_no_place, denied_at}
+use Rattle.capnp_edits.specs.Edits.{refusal_of, Making, allocates, becomes, nowhere, made_of_found, looked_for, with_default, is_of_place, IsOfMemory, Yields, is_done, is_denied, is_allocated, is_not_allocated, as_it_stands, default_put, default_dropped, DoesAt}
+use Rattle.capnp_edits.specs.Steps.{FitsAt, IsOpeningRefused, IsSearchRefused, FindsSought, IsDoneAt}
+use Rattle.capnp_edits.proofs.Applied.{Does, never_refused, of_allocation, of_no_place, denied_at}
 use Rattle.capnp_edits.proofs.Contents.{list_anywhere, data_anywhere, text_anywhere}
 use Rattle.capnp_edits.proofs.Names.{elsewhere, struct_elsewhere, structs_elsewhere, list_elsewhere, data_elsewhere, text_elsewhere, fault_elsewhere, unfound_name, list_unfound, data_unfound, text_unfound}
 use Rattle.capnp_edits.proofs.Steps.{same_some}
@@ -67,7 +70,7 @@ same_words e = ap (λ (v : View). v.words) e
 record DoesAs (S R : Segments) (place : PointerPlace) (making : Making) (t : Tree) (r : Option ErrorKind) : Type 0 where
   left : Option Tree
   yields : Yields making r left
-  stands : IsReplacedIf S R place t left
+  stands : MatchOption left (R ≡ S) (IsReplaced S R place.segment place.word t)
 
 -- by what a call does with a value
 abbrev DoesSo : {B : Type 0} → (CallAt → Tree → Type 0) → (Tree → Making) → Result B ErrorKind → Type 0
@@ -75,19 +78,19 @@ DoesSo P made_of result = (c : CallAt) (t : Tree) → IsStored c.old.words c.seg
 
 -- what is opened stands in the stead of what stood, or that stays
 opened_so : {B : Type 0} (result : Result B ErrorKind) (size : StructSize) (Given : Segments → ℕ → ℕ → Tree → B → Type 0) (c : CallAt) (t : Tree) (q : Result Tree ErrorKind) → Opens size Given c t q result →
-    DoesAs c.old.words c.new.words (place_in c) (opened t q) t (refusal_of result)
+    DoesAs c.old.words c.new.words (place_in c) (made_of_found (allocates t) q) t (refusal_of result)
 opened_so (Ok b) size Given c t (Ok u) h = record { left = Some u; yields = is_allocated t u refl refl refl; stands = h.replaced }
 opened_so (Err k) size Given c t (Ok u) h =
     let (n, (why, none)) = h.full in
     record { left = Some t; yields = is_not_allocated t u k refl (of_allocation c.old c.new (length c.new.words) (n + 1) k why) refl refl; stands = h.stands }
 opened_so result size Given c t (Err k) h = record { left = None; yields = is_denied k refl (ap refusal_of h.0) refl; stands = same_words h.1 }
 
-struct_so : (result : Result StructPlace ErrorKind) (size : StructSize) → DoesSo (OpensStruct size result) (looked_for (ForStruct size)) result
+struct_so : (result : Result StructPlace ErrorKind) (size : StructSize) → DoesSo (OpensStruct IsStructGiven size result) (looked_for (ForStruct size)) result
 struct_so result size c t stored h = opened_so result size IsStructGiven c t (struct_opened size t) h
 
 -- what is looked for stays
 kept_so : {A B : Type 0} (q : Result (Option A) ErrorKind) (result : Result B ErrorKind) (c : CallAt) (t : Tree) → IsStored c.old.words c.segment c.at t → refusal_of result ≡ refusal_of q → c.new ≡ c.old →
-    DoesAs c.old.words c.new.words (place_in c) (unchanged t q) t (refusal_of result)
+    DoesAs c.old.words c.new.words (place_in c) (made_of_found (λ x. becomes t) q) t (refusal_of result)
 kept_so (Ok x) result c t stored e same =
     record { left = Some t; yields = is_done t refl e refl; stands = subst (λ Q. IsReplaced c.old.words Q c.segment c.at t t) (sym (same_words same)) (stays c.old.words c.segment c.at t stored) }
 kept_so (Err k) result c t stored e same = record { left = None; yields = is_denied k refl e refl; stands = same_words same }
@@ -115,12 +118,12 @@ list_so result size c t stored h =
     let a : Target = target c.old.words c.segment c.at in
     kept_so (list_in nowhere size t) result c t stored (ap refusal_of h.0 ∙ list_refusal c.segment (list_in a size t) ∙ list_anywhere refusal_of (λ l k e. refl) a nowhere size t) h.1
 
-data_so : (result : Result ExistingBytes ErrorKind) → DoesSo (GivesFoundData result) (looked_for ForData) result
+data_so : (result : Result ExistingBytes ErrorKind) → DoesSo (GivesFoundBytes data_in result) (looked_for ForData) result
 data_so result c t stored h =
     let a : Target = target c.old.words c.segment c.at in
     kept_so (data_in nowhere t) result c t stored (ap refusal_of h.0 ∙ bytes_refusal c.segment (data_in a t) ∙ data_anywhere refusal_of (λ b d e. refl) a nowhere t) h.1
 
-text_so : (result : Result ExistingBytes ErrorKind) → DoesSo (GivesFoundText result) (looked_for ForText) result
+text_so : (result : Result ExistingBytes ErrorKind) → DoesSo (GivesFoundBytes text_in result) (looked_for ForText) result
 text_so result c t stored h =
     let a : Target = target c.old.words c.segment c.at in
     kept_so (text_in nowhere t) result c t stored (ap refusal_of h.0 ∙ bytes_refusal c.segment (text_in a t) ∙ text_anywhere refusal_of (λ b d e. refl) a nowhere t) h.1
@@ -130,7 +133,7 @@ as_stands : (S R : Segments) (place : PointerPlace) (m : Making) (t : Tree) (r :
 as_stands S R place m t r d = record { left = d.left; leaves = as_it_stands d.yields; stands = d.stands }
 
 -- or a default's value that is put in place of null first
-replaced_if : (S M R : Segments) (place : PointerPlace) (d : Tree) (left : Option Tree) → IsReplaced S M place.segment place.word Null d → IsReplacedIf M R place d left → IsReplaced S R place.segment place.word Null (unwrap_or left d)
+replaced_if : (S M R : Segments) (place : PointerPlace) (d : Tree) (left : Option Tree) → IsReplaced S M place.segment place.word Null d → MatchOption left (R ≡ M) (IsReplaced M R place.segment place.word d) → IsReplaced S R place.segment place.word Null (unwrap_or left d)
 replaced_if S M R place d (Some u) put next = replaced_again S M R place.segment place.word Null d u put next
 replaced_if S M R place d None put same = subst (λ Q. IsReplaced S Q place.segment place.word Null d) (sym same) put
 
@@ -184,7 +187,7 @@ why_opened : {B : Type 0} (k : ErrorKind) (size : StructSize) (Given : Segments 
 why_opened k size Given c t (Ok u) names h = inr (h.memory, h.full)
 why_opened k size Given c t (Err j) names h = inl ((λ e. names j refl (sym (same_err k j h.0) ∙ e)), h.1)
 
-struct_why : (size : StructSize) (k : ErrorKind) → WhySo (OpensStruct size (Err k)) k
+struct_why : (size : StructSize) (k : ErrorKind) → WhySo (OpensStruct IsStructGiven size (Err k)) k
 struct_why size k c t h = why_opened k size IsStructGiven c t (struct_opened size t) (λ j e. elsewhere (struct_opened size t) j (struct_elsewhere size t) e) h
 
 structs_why : (size : StructSize) (k : ErrorKind) → WhySo (OpensList size (Err k)) k
@@ -204,10 +207,10 @@ bytes_err id (Err j) k e = ap Err (let same : j ≡ k = cc in same)
 list_why : (size : ElementSize) (k : ErrorKind) → WhySo (GivesFoundList size (Err k)) k
 list_why size k c t h = inl (elsewhere (list_in (target c.old.words c.segment c.at) size t) k (list_elsewhere (target c.old.words c.segment c.at) size t) (list_err c.segment (list_in (target c.old.words c.segment c.at) size t) k h.0), h.1)
 
-data_why : (k : ErrorKind) → WhySo (GivesFoundData (Err k)) k
+data_why : (k : ErrorKind) → WhySo (GivesFoundBytes data_in (Err k)) k
 data_why k c t h = inl (elsewhere (data_in (target c.old.words c.segment c.at) t) k (data_elsewhere (target c.old.words c.segment c.at) t) (bytes_err c.segment (data_in (target c.old.words c.segment c.at) t) k h.0), h.1)
 
-text_why : (k : ErrorKind) → WhySo (GivesFoundText (Err k)) k
+text_why : (k : ErrorKind) → WhySo (GivesFoundBytes text_in (Err k)) k
 text_why k c t h = inl (elsewhere (text_in (target c.old.words c.segment c.at) t) k (text_elsewhere (target c.old.words c.segment c.at) t) (bytes_err c.segment (text_in (target c.old.words c.segment c.at) t) k h.0), h.1)
 
 -- Why a search is refused: as what stands is; or as the value of its default is, which is put first; or as the copy of that is.
@@ -283,7 +286,7 @@ never_nowhere c default k (as_copy d is spent named) e = absurd (elim (dropped_n
 
 -- what a call leaves that is refused, or isn't
 search_done : {B : Type 0} (result : Result B ErrorKind) (sought : Sought) (default : Option (Bor (List ℕ))) (c : CallAt) → Does c.old.words c.new.words (place_in c) (Search sought default) (refusal_of result) → OnOk result (KeepsMemory c.old c.new) →
-    IfErr result (SpendsMemory c.old c.new) → IfErr result (Why c default) → (TaskFits c.old (place_in c) (Search sought default) → IfErr result (λ k. is_of_place k ≡ true)) →
+    IfErr result (SpendsMemory c.old c.new) → IfErr result (Why c default) → (FitsAt c.old (Search sought default) (AtPointer (place_in c)) → IfErr result (λ k. is_of_place k ≡ true)) →
     ((t : Tree) → IsStored c.old.words c.segment c.at t → FindsSought sought default (refusal_of result) c t) → IsDoneAt c.old c.new (place_in c) (Search sought default) (refusal_of result)
 search_done (Ok x) sought default c does granted memory why fits finds = record {
   done = does;
@@ -309,10 +312,10 @@ NamedSo P k = (c : CallAt) (t : Tree) → P c t → is_unfound k ≡ true
 list_name : (size : ElementSize) (k : ErrorKind) → NamedSo (GivesFoundList size (Err k)) k
 list_name size k c t h = unfound_name (list_in (target c.old.words c.segment c.at) size t) k (list_unfound (target c.old.words c.segment c.at) size t) (list_err c.segment (list_in (target c.old.words c.segment c.at) size t) k h.0)
 
-data_name : (k : ErrorKind) → NamedSo (GivesFoundData (Err k)) k
+data_name : (k : ErrorKind) → NamedSo (GivesFoundBytes data_in (Err k)) k
 data_name k c t h = unfound_name (data_in (target c.old.words c.segment c.at) t) k (data_unfound (target c.old.words c.segment c.at) t) (bytes_err c.segment (data_in (target c.old.words c.segment c.at) t) k h.0)
 
-text_name : (k : ErrorKind) → NamedSo (GivesFoundText (Err k)) k
+text_name : (k : ErrorKind) → NamedSo (GivesFoundBytes text_in (Err k)) k
 text_name k c t h = unfound_name (text_in (target c.old.words c.segment c.at) t) k (text_unfound (target c.old.words c.segment c.at) t) (bytes_err c.segment (text_in (target c.old.words c.segment c.at) t) k h.0)
 
 unfound_place : (k : ErrorKind) → is_unfound k ≡ true → is_of_place k ≡ true
@@ -323,9 +326,9 @@ unfound_place UnknownPointerType e = refl
 unfound_place k e = e
 
 -- its copy isn't refused
-never_dropped : (bytes : List ℕ) (id at : ℕ) (old new : View) (k : ErrorKind) → CanBeCopied of_default (default_root bytes) (unused None) (length (segment old.words id)) (old.room id) → RefusesDefault bytes (default_copy id at old new) k → ⊥
-never_dropped bytes id at old new k (t, n, means, takes, covers, fits) (inl fault) = no_fault of_default k fault (capabilities t) takes (t, n, means, omega arith)
-never_dropped bytes id at old new k (t, n, means, takes, covers, fits) (inr (m, why, wanted, large)) = let more = large t n means in omega arith
+never_dropped : (bytes : List ℕ) (id at : ℕ) (old new : View) (k : ErrorKind) → CanBeCopied (value_original (default_root bytes)) of_default (unused None) old id → RefusesDefault bytes (default_copy id at old new) k → ⊥
+never_dropped bytes id at old new k can (inl fault) = no_fault of_default k fault (capabilities can.value) can.is_read.takes (can.value, can.is_read.cost, can.is_read.means, omega arith)
+never_dropped bytes id at old new k can (inr (m, why, wanted, large)) = let more = large of_default (unused None) can.after can.value can.is_read in omega (arith, more, can.room)
 
 abbrev IsDenied : DefaultUse → Type 0
 IsDenied ignored = Unit {0}
@@ -333,7 +336,7 @@ IsDenied (is_denied_by k) = is_of_place k ≡ true
 IsDenied (is_copied_from bytes) = ⊥
 
 used_fits : (B : Type 0) (k : ErrorKind) (of_null : DefaultUse) (bytes ws : List ℕ) (P : CallAt → Tree → Type 0) (c : CallAt) → IsDenied of_null → NamedSo P k →
-    CanBeCopied of_default (default_root bytes) (unused None) (length (segment c.old.words c.segment)) (c.old.room c.segment) → WithDefault {B = B} (use_of_words of_null bytes ws) c Null P (Err k) → is_of_place k ≡ true
+    CanBeCopied (value_original (default_root bytes)) of_default (unused None) c.old c.segment → WithDefault {B = B} (use_of_words of_null bytes ws) c Null P (Err k) → is_of_place k ≡ true
 used_fits B k of_null bytes [] P c plain name room h = ap is_of_place (same_err k MessageContainsOutOfBoundsPointer h.0)
 used_fits B k of_null bytes (x ∷ xs) P c plain name room h = by_first (nat_eq x 0) of_null plain h
   where
@@ -370,7 +373,7 @@ set_struct (Ok x) old new s p h = tt
 set_struct (Err k) old new s p (inl h) = inl h.1
 set_struct (Err k) old new s p (inr h) = inr h
 
-set_structs : {B : Type 0} (result : Result B ErrorKind) (old new : View) (s p : ℕ) (size : StructSize) → IfErr result (RefusesWider old new s p size) → IfErr result (IsOpeningRefused old new)
+set_structs : {B : Type 0} (result : Result B ErrorKind) (old new : View) (s p : ℕ) (size : StructSize) → IfErr result (RefusesWider (IsStored old.words s p) size old new) → IfErr result (IsOpeningRefused old new)
 set_structs (Ok x) old new s p size h = tt
 set_structs (Err k) old new s p size (inl h) = inl h.0
 set_structs (Err k) old new s p size (inr h) = inr h
@@ -386,11 +389,11 @@ pub struct_sought : (result : Result StructPlace ErrorKind) (size : StructSize) 
     IsDoneAt c.old c.new (place_in c) (Search (ForStruct size) default) (refusal_of result)
 struct_sought result size default c there found set granted memory fits =
     search_done result (ForStruct size) default c
-    (λ t stored. with_does result ignored default (looked_for (ForStruct size)) (OpensStruct size result) c t stored (struct_so result size) (found t stored)) granted memory
-    (why_if result ignored default (OpensStruct size) c there (λ b. tt) (struct_why size) found (λ some. set_struct result c.old c.new c.segment c.at (set some))) (λ room. never_refused result (fits room)) (λ t stored. (result, refl, found t stored))
+    (λ t stored. with_does result ignored default (looked_for (ForStruct size)) (OpensStruct IsStructGiven size result) c t stored (struct_so result size) (found t stored)) granted memory
+    (why_if result ignored default (OpensStruct IsStructGiven size) c there (λ b. tt) (struct_why size) found (λ some. set_struct result c.old c.new c.segment c.at (set some))) (λ room. never_refused result (fits room)) (λ t stored. (result, refl, found t stored))
 
 pub structs_sought : (result : Result ListPlace ErrorKind) (size : StructSize) (default : Option (Bor (List ℕ))) (c : CallAt) → IsPlace c.old.words c.segment c.at →
-    ((t : Tree) → IsStored c.old.words c.segment c.at t → FindsStructs size default result c t) → ((word_at c.old.words c.segment c.at ≡ 0 → ⊥) → IfErr result (RefusesWider c.old c.new c.segment c.at size)) →
+    ((t : Tree) → IsStored c.old.words c.segment c.at t → FindsStructs size default result c t) → ((word_at c.old.words c.segment c.at ≡ 0 → ⊥) → IfErr result (RefusesWider (IsStored c.old.words c.segment c.at) size c.old c.new)) →
     OnOk result (KeepsMemory c.old c.new) → IfErr result (SpendsMemory c.old c.new) → (StructsFindFits size default c.old c.segment c.at → IsOk result) →
     IsDoneAt c.old c.new (place_in c) (Search (ForStructs size) default) (refusal_of result)
 structs_sought result size default c there found set granted memory fits =
@@ -408,24 +411,24 @@ list_sought result size default c there found set granted memory =
     (λ room. found_fits result ignored default (GivesFoundList size) c there (λ b. tt) (list_name size) found (λ some. (set some).1) room) (λ t stored. (result, refl, found t stored))
 
 pub data_sought : (result : Result ExistingBytes ErrorKind) (default : Option (Bor (List ℕ))) (c : CallAt) → IsPlace c.old.words c.segment c.at →
-    ((t : Tree) → IsStored c.old.words c.segment c.at t → FindsData default result c t) → ((word_at c.old.words c.segment c.at ≡ 0 → ⊥) → (c.new ≡ c.old) × IfErr result (λ k. is_unfound k ≡ true)) →
+    ((t : Tree) → IsStored c.old.words c.segment c.at t → FindsBytes data_in default result c t) → ((word_at c.old.words c.segment c.at ≡ 0 → ⊥) → (c.new ≡ c.old) × IfErr result (λ k. is_unfound k ≡ true)) →
     OnOk result (KeepsMemory c.old c.new) → IfErr result (SpendsMemory c.old c.new) → IsDoneAt c.old c.new (place_in c) (Search ForData default) (refusal_of result)
 data_sought result default c there found set granted memory =
     let of_null : DefaultUse = is_denied_by ExistingPointerIsNotAList in
     search_done result ForData default c
-    (λ t stored. with_does result of_null default (looked_for ForData) (GivesFoundData result) c t stored (data_so result) (found t stored)) granted memory
-    (why_if result of_null default GivesFoundData c there (λ b. tt) data_why found (λ some. set_same result c.old c.new (set some).0))
-    (λ room. found_fits result of_null default GivesFoundData c there (λ b. refl) data_name found (λ some. (set some).1) room) (λ t stored. (result, refl, found t stored))
+    (λ t stored. with_does result of_null default (looked_for ForData) (GivesFoundBytes data_in result) c t stored (data_so result) (found t stored)) granted memory
+    (why_if result of_null default (GivesFoundBytes data_in) c there (λ b. tt) data_why found (λ some. set_same result c.old c.new (set some).0))
+    (λ room. found_fits result of_null default (GivesFoundBytes data_in) c there (λ b. refl) data_name found (λ some. (set some).1) room) (λ t stored. (result, refl, found t stored))
 
 pub text_sought : (result : Result ExistingBytes ErrorKind) (default : Option (Bor (List ℕ))) (c : CallAt) → IsPlace c.old.words c.segment c.at →
-    ((t : Tree) → IsStored c.old.words c.segment c.at t → FindsText default result c t) → ((word_at c.old.words c.segment c.at ≡ 0 → ⊥) → (c.new ≡ c.old) × IfErr result (λ k. is_unfound k ≡ true)) →
+    ((t : Tree) → IsStored c.old.words c.segment c.at t → FindsBytes text_in default result c t) → ((word_at c.old.words c.segment c.at ≡ 0 → ⊥) → (c.new ≡ c.old) × IfErr result (λ k. is_unfound k ≡ true)) →
     OnOk result (KeepsMemory c.old c.new) → IfErr result (SpendsMemory c.old c.new) → IsDoneAt c.old c.new (place_in c) (Search ForText default) (refusal_of result)
 text_sought result default c there found set granted memory =
     let of_null : DefaultUse = is_denied_by ExistingPointerIsNotAList in
     search_done result ForText default c
-    (λ t stored. with_does result of_null default (looked_for ForText) (GivesFoundText result) c t stored (text_so result) (found t stored)) granted memory
-    (why_if result of_null default GivesFoundText c there (λ b. tt) text_why found (λ some. set_same result c.old c.new (set some).0))
-    (λ room. found_fits result of_null default GivesFoundText c there (λ b. refl) text_name found (λ some. (set some).1) room) (λ t stored. (result, refl, found t stored))
+    (λ t stored. with_does result of_null default (looked_for ForText) (GivesFoundBytes text_in result) c t stored (text_so result) (found t stored)) granted memory
+    (why_if result of_null default (GivesFoundBytes text_in) c there (λ b. tt) text_why found (λ some. set_same result c.old c.new (set some).0))
+    (λ room. found_fits result of_null default (GivesFoundBytes text_in) c there (λ b. refl) text_name found (λ some. (set some).1) room) (λ t stored. (result, refl, found t stored))
 
 -- the numbers of a list that is looked for
 pub list_range : (size : ElementSize) (default : Option (Bor (List ℕ))) → is_in_range (Search (ForList size) default) ≡ true → (size_number size ≤ 6) × (is_small_default default ≡ true)

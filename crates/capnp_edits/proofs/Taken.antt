@@ -11,9 +11,8 @@ use Rattle.capnp_making.specs.declared.existing.ExistingList.{ExistingList}
 use Rattle.capnp_making.specs.declared.existing.ExistingStruct.{ExistingStruct}
 use Rattle.capnp_objects.specs.Reading.{Reading}
 use Rattle.capnp_copies.specs.Changes.{Change}
-use Rattle.capnp_copies.specs.Growth.{TakesAtMost, TakesForObject, TakesForStructs, TakesForListOf, of_numbers, of_pointers, of_structs, TakesForPointers}
-use Rattle.capnp_copies.specs.ListValues.{ListElements}
-use Rattle.capnp_words.specs.declared.wire_pointer.StructSize.{StructSize}
+use Rattle.capnp_copies.specs.Growth.{TakesAtMost, TakesForPointers}
+use Rattle.capnp_copies.specs.Originals.{Original}
 use Rattle.capnp_builders.specs.Places.{Field}
 use Rattle.capnp_edits.specs.Edits.{refusal_of, are_written, are_outside, PutsBits, PutsElement, element_put, element_past, no_list, list_denied, PutsByte, byte_put, byte_past, no_bytes_there, bytes_denied}
 use Rattle.capnp_edits.specs.Steps.{KeepsLengths, result_of}
@@ -42,22 +41,9 @@ byte_lengths S R looked i v r (no_bytes_there none named same) = same_lengths S 
 byte_lengths S R looked i v r (bytes_denied k is named same) = same_lengths S R same
 
 -- what a call takes, by its outcome
-pub value_taken : {A : Type 0} (result : Result A ErrorKind) (r : Reading) (c : Change) → TakesAtMost result r c → TakesAtMost (result_of (refusal_of result)) r c
-value_taken (Ok x) r c taken = taken
-value_taken (Err k) r c taken = taken
-
-pub object_taken : {A : Type 0} (result : Result A ErrorKind) (r : Reading) (i n : ℕ) (c : Change) → TakesForObject result r i n c → TakesForObject (result_of (refusal_of result)) r i n c
-object_taken (Ok x) r i n c taken = taken
-object_taken (Err k) r i n c taken = taken
-
-structs_taken : {A : Type 0} (result : Result A ErrorKind) (r : Reading) (size : StructSize) (i : ℕ) (c : Change) → TakesForStructs result r size i c → TakesForStructs (result_of (refusal_of result)) r size i c
-structs_taken (Ok x) r size i c taken = taken
-structs_taken (Err k) r size i c taken = taken
-
-pub list_taken : {A : Type 0} (result : Result A ErrorKind) (l : ListElements) (c : Change) → TakesForListOf result l c → TakesForListOf (result_of (refusal_of result)) l c
-list_taken result l c (of_numbers few taken) = of_numbers few (object_taken result _ _ _ c taken)
-list_taken result l c (of_pointers is taken) = of_pointers is (object_taken result _ _ _ c taken)
-list_taken result l c (of_structs is taken) = of_structs is (structs_taken result _ _ _ c taken)
+pub copy_taken : {A : Type 0} (result : Result A ErrorKind) (o : Original) (c : Change) → TakesAtMost result o c → TakesAtMost (result_of (refusal_of result)) o c
+copy_taken (Ok x) o c taken = taken
+copy_taken (Err k) o c taken = taken
 
 pub pointers_taken : {A : Type 0} (result : Result A ErrorKind) (r : Reading) (i : ℕ) (c : Change) → TakesForPointers result r i c → TakesForPointers (result_of (refusal_of result)) r i c
 pointers_taken (Ok x) r i c taken = taken

@@ -1,5 +1,6 @@
 -- What edits make of the value of a message.
-use Rattle.std.specs.Prelude.{◌≡◌, ◌⊎◌, ℕ, min, ◌+◌, ◌*◌, ◌<◌, ◌≤◌, Bool, true, false, cond, nat_le, nat_lt, List, ◌++◌, [], ◌∷◌, length, get_or, slice_set, Option, Some, None, unwrap_or, Result, Ok, Err}
+use Rattle.std.specs.Option.{option_map_or}
+use Rattle.std.specs.Prelude.{MatchOption, ◌≡◌, ◌⊎◌, ℕ, min, ◌+◌, ◌*◌, ◌<◌, ◌≤◌, Bool, true, false, cond, nat_le, nat_lt, List, ◌++◌, [], ◌∷◌, length, get_or, slice_set, Option, Some, None, unwrap_or, Result, Ok, Err}
 use Rattle.capnp_words.specs.declared.error.ErrorKind.{ErrorKind}
 use Rattle.capnp_words.specs.declared.error.ErrorKind.TheVariants.{AllocationFailed, FoundBitListWhereStructListWasExpected, MessageContainsNonStructPointerWhereStructPointerWasExpected, MessageTooLarge, NoSuchPlace, UnknownPointerType}
 use Rattle.capnp_words.specs.declared.wire_pointer.ElementSize.{ElementSize}
@@ -13,8 +14,8 @@ use Rattle.capnp_making.specs.Fields.{with_bits, put_field, with_field}
 use Rattle.capnp_making.specs.Filled.{AreFilled}
 use Rattle.capnp_making.specs.Memory.{refusals_for}
 use Rattle.capnp_making.specs.Made.{list_words, zero_struct, zero_structs, zero_list}
-use Rattle.capnp_making.specs.Path.{Step, struct_at, put_struct, update}
-use Rattle.capnp_making.specs.Stored.{IsStored, IsReplaced, Puts}
+use Rattle.capnp_making.specs.Path.{struct_at, put_struct, update}
+use Rattle.capnp_making.specs.Stored.{IsReplaced, Puts}
 use Rattle.capnp_making.specs.declared.existing.ExistingBytes.{ExistingBytes}
 use Rattle.capnp_making.specs.declared.existing.ExistingList.{ExistingList}
 use Rattle.capnp_making.specs.declared.existing.ExistingStruct.{ExistingStruct}
@@ -48,7 +49,7 @@ use Rattle.capnp_edits.specs.declared.edit.tasks.Part.TheVariants.{ListElement, 
 use Rattle.capnp_edits.specs.declared.edit.tasks.Sought.{Sought}
 use Rattle.capnp_edits.specs.declared.edit.tasks.Sought.TheVariants.{Struct as ForStruct, List as ForList, StructList as ForStructs, Text as ForText, Data as ForData}
 use Rattle.capnp_edits.specs.Tasks.{task_of}
-use Rattle.capnp_edits.specs.Sources.{copying_from, Copies, ContentRead, Fills, FillsAll, IsNextUnreadable, HasNothingToCopy, IsUnreadable}
+use Rattle.capnp_edits.specs.Sources.{copying_from, Copies, ContentRead, Fills, IsNextUnreadable, HasNothingToCopy, IsUnreadable}
 use Rattle.capnp_edits.specs.Paths.{Spot, PointerTo, ElementOf, path_of, found}
 
 -- The name by which a call is refused, if it is.
@@ -91,40 +92,29 @@ with_lowest i w v t = t
 abbrev pub nowhere : Target
 nowhere = record { word = 0; segment = 0; start = 0; pads = 0 }
 
--- How many elements, or bytes, are found: none in a null pointer.
-abbrev pub count_of : Result (Option ExistingList) ErrorKind → Result ℕ ErrorKind
-count_of (Ok (Some l)) = Ok l.count
-count_of (Ok None) = Ok 0
-count_of (Err k) = Err k
+-- How many are in what is found, as elements or bytes: none in a null pointer.
+abbrev pub count_of : {A : Type 0} → (A → ℕ) → Result (Option A) ErrorKind → Result ℕ ErrorKind
+count_of number (Ok (Some x)) = Ok (number x)
+count_of number (Ok None) = Ok 0
+count_of number (Err k) = Err k
 
-abbrev pub length_of : Result (Option ExistingBytes) ErrorKind → Result ℕ ErrorKind
-length_of (Ok (Some b)) = Ok b.length
-length_of (Ok None) = Ok 0
-length_of (Err k) = Err k
+-- What is made of what is found; or that is refused.
+abbrev pub made_of_found : {A : Type 0} → (A → Making) → Result A ErrorKind → Making
+made_of_found made_of (Ok x) = made_of x
+made_of_found made_of (Err k) = denied k
 
 -- What is made where element number i is written and n are found: u.
-abbrev pub if_reached : ℕ → Result ℕ ErrorKind → Tree → Making
-if_reached i (Ok n) u = cond (nat_lt i n) (becomes u) (denied NoSuchPlace)
-if_reached i (Err k) u = denied k
-
--- A search leaves t, if it isn't refused.
-abbrev pub unchanged : {A : Type 0} → Tree → Result A ErrorKind → Making
-unchanged t (Ok x) = becomes t
-unchanged t (Err k) = denied k
-
--- What is made of t where it is opened: what it becomes then; or it is refused.
-abbrev pub opened : Tree → Result Tree ErrorKind → Making
-opened t (Ok u) = allocates t u
-opened t (Err k) = denied k
+abbrev pub if_reached : ℕ → Tree → ℕ → Making
+if_reached i u n = cond (nat_lt i n) (becomes u) (denied NoSuchPlace)
 
 -- What is looked for: a struct, or a list of structs, at least as large as asked for, and no list in null; or a list, a text or data, which leaves t.
 abbrev pub looked_for : Sought → Tree → Making
-looked_for (ForStruct size) t = opened t (struct_opened size t)
+looked_for (ForStruct size) t = made_of_found (allocates t) (struct_opened size t)
 looked_for (ForStructs size) Null = becomes Null
-looked_for (ForStructs size) t = opened t (list_widened size.data_words size.pointers t)
-looked_for (ForList size) t = unchanged t (list_in nowhere size t)
-looked_for ForText t = unchanged t (text_in nowhere t)
-looked_for ForData t = unchanged t (data_in nowhere t)
+looked_for (ForStructs size) t = made_of_found (allocates t) (list_widened size.data_words size.pointers t)
+looked_for (ForList size) t = made_of_found (λ l. becomes t) (list_in nowhere size t)
+looked_for ForText t = made_of_found (λ b. becomes t) (text_in nowhere t)
+looked_for ForData t = made_of_found (λ b. becomes t) (data_in nowhere t)
 
 -- What is made where a default is so used.
 abbrev pub with_default : DefaultUse → (Tree → Making) → Tree → Making
@@ -140,9 +130,10 @@ struct_changed (Content source) t = denied NoSuchPlace
 
 -- What is made where a part of a list, a text or data is written.
 abbrev pub part_written : Part → Tree → Making
-part_written (ListElement n) t = if_reached n.index (count_of (list_in nowhere n.size t)) (with_lowest n.index (element_bits (size_number n.size)) n.value t)
-part_written (TextByte i b) t = if_reached i (length_of (text_in nowhere t)) (with_lowest i 8 b t)
-part_written (DataByte i b) t = if_reached i (length_of (data_in nowhere t)) (with_lowest i 8 b t)
+part_written (ListElement n) t =
+    made_of_found (if_reached n.index (with_lowest n.index (element_bits (size_number n.size)) n.value t)) (count_of (λ l. l.count) (list_in nowhere n.size t))
+part_written (TextByte i b) t = made_of_found (if_reached i (with_lowest i 8 b t)) (count_of (λ x. x.length) (text_in nowhere t))
+part_written (DataByte i b) t = made_of_found (if_reached i (with_lowest i 8 b t)) (count_of (λ x. x.length) (data_in nowhere t))
 
 -- The value of an object that is made, and how many words it takes, its landing pad aside.
 abbrev pub value_of : Object → Tree
@@ -175,10 +166,6 @@ made_at (Search ForData default) (PointerTo t) = with_default (blob_default defa
 made_at (Search sought default) (PointerTo t) = with_default (object_default default t) (looked_for sought) t
 made_at (CopyRoot c) (PointerTo t) = copies c
 
-abbrev pub made : Option Task → Spot → Making
-made (Some task) spot = made_at task spot
-made None spot = denied NoSuchPlace
-
 -- The names of a refusal for want of memory, or of room.
 abbrev pub IsOfMemory : ErrorKind → Type 0
 IsOfMemory k = (k ≡ AllocationFailed) ⊎ ((n : ℕ) × (k ≡ MessageTooLarge n))
@@ -200,18 +187,9 @@ refusals_after None n = n
 abbrev pub place_of : {A : Type 0} → PointerBuilder A → PointerPlace
 place_of b = record { segment = b.segment; word = b.at }
 
--- The pointer behind those that are read is refused by the name k, for memory or for what it reads.
-abbrev pub IsNextRefused : (source : Source) → ContentRead source → ErrorKind → Type 0
-IsNextRefused source c k = IsOfMemory k ⊎ IsNextUnreadable source c k
-
--- The pointers before one are copied, and that is refused by the name k.
-abbrev pub FillsFirst : Source → ℕ → ℕ → ErrorKind → Tree → Type 0
-FillsFirst source d q k u =
-    (c : ContentRead source) × Fills source c d q u × (count c.children < min q c.from.pointers) × IsNextRefused source c k
-
 -- What an operation leaves where it makes this, with its outcome: o in the value's stead, if anything is changed. It is what is made; or all as it was; or, for
 -- want of memory, what stands then; or it is what is copied; or null, where that is refused; or all as it was, where there is nothing to be copied. Of content it is
--- all that is copied; or what is before a refusal; or all as it was.
+-- all that is copied, as many pointers as both have; or what is before one that is refused, for memory or for what it reads; or all as it was.
 pub data Yields (making : Making) (r : Option ErrorKind) (o : Option Tree) : Type 0 where
   is_done : (u : Tree) → making ≡ becomes u → r ≡ None → o ≡ Some u → Yields making r o
   is_denied : (k : ErrorKind) → making ≡ denied k → r ≡ Some k → o ≡ None → Yields making r o
@@ -220,13 +198,21 @@ pub data Yields (making : Making) (r : Option ErrorKind) (o : Option Tree) : Typ
   is_copied : (c : Copying) (u : Tree) → making ≡ copies c → Copies c u → r ≡ None → o ≡ Some u → Yields making r o
   is_not_copied : (c : Copying) (k : ErrorKind) → making ≡ copies c → IsOfMemory k ⊎ IsUnreadable c k → r ≡ Some k → o ≡ Some Null → Yields making r o
   is_unread : (c : Copying) (k : ErrorKind) → making ≡ copies c → HasNothingToCopy c k → r ≡ Some k → o ≡ None → Yields making r o
-  is_filled : (source : Source) (d q : ℕ) (u : Tree) → making ≡ fills source d q → FillsAll source d q u → r ≡ None → o ≡ Some u → Yields making r o
-  is_half_filled : (source : Source) (d q : ℕ) (k : ErrorKind) (u : Tree) → making ≡ fills source d q → FillsFirst source d q k u → r ≡ Some k → o ≡ Some u → Yields making r o
+  is_filled :
+      (source : Source) (d q : ℕ) (u : Tree) →
+      making ≡ fills source d q →
+      (c : ContentRead source) × Fills source c d q u × (count c.children ≡ min q c.from.pointers) →
+      r ≡ None →
+      o ≡ Some u →
+      Yields making r o
+  is_half_filled :
+      (source : Source) (d q : ℕ) (k : ErrorKind) (u : Tree) →
+      making ≡ fills source d q →
+      (c : ContentRead source) × Fills source c d q u × (count c.children < min q c.from.pointers) × (IsOfMemory k ⊎ IsNextUnreadable source c k) →
+      r ≡ Some k →
+      o ≡ Some u →
+      Yields making r o
   is_not_filled : (source : Source) (d q : ℕ) (k : ErrorKind) → making ≡ fills source d q → HasNothingToCopy (copying_from source AStruct false) k → r ≡ Some k → o ≡ None → Yields making r o
-
--- The value of a default, by its bytes, without capabilities.
-abbrev pub MeansDefault : List ℕ → Tree → Type 0
-MeansDefault bytes d = (n : ℕ) × MeansThere (default_root bytes) d n × (capabilities d ≡ 0)
 
 -- What is left where a default's value may come first: as of what stands; or a default's value, and what is left of that; or null, where its copy is refused,
 -- for memory or for what it reads.
@@ -235,7 +221,7 @@ pub data Leaves (making : Making) (r : Option ErrorKind) (o : Option Tree) : Typ
   default_put :
       (bytes : List ℕ) (made_of : Tree → Making) (d : Tree) (left : Option Tree) →
       making ≡ defaults bytes made_of →
-      MeansDefault bytes d →
+      (n : ℕ) × MeansThere (default_root bytes) d n × (capabilities d ≡ 0) →
       Yields (made_of d) r left →
       o ≡ Some (unwrap_or left d) →
       Leaves making r o
@@ -247,19 +233,11 @@ pub data Leaves (making : Making) (r : Option ErrorKind) (o : Option Tree) : Typ
       o ≡ Some Null →
       Leaves making r o
 
--- The pointer at a place means o in t's stead, if anything is changed.
-abbrev pub IsReplacedIf : Segments → Segments → PointerPlace → Tree → Option Tree → Type 0
-IsReplacedIf S R place t (Some u) = IsReplaced S R place.segment place.word t u
-IsReplacedIf S R place t None = R ≡ S
-
--- What is done at a pointer that means t, where this is made of it.
+-- What is done at a pointer that means t, where this is made of it: what is left comes in t's stead, if anything is changed.
 pub record DoesAt (S R : Segments) (place : PointerPlace) (making : Making) (t : Tree) (r : Option ErrorKind) : Type 0 where
   pub left : Option Tree
   pub leaves : Leaves making r left
-  pub stands : IsReplacedIf S R place t left
-
-abbrev pub Does : Segments → Segments → PointerPlace → Task → Option ErrorKind → Type 0
-Does S R place task r = (t : Tree) → IsStored S place.segment place.word t → DoesAt S R place (made_at task (PointerTo t)) t r
+  pub stands : MatchOption left (R ≡ S) (IsReplaced S R place.segment place.word t)
 
 -- What writing bits leaves of the data section of a struct, with its outcome: they are written, or they aren't there.
 pub data PutsBits (S R : Segments) (e : ExistingStruct) (f : Field) (r : Option ErrorKind) : Type 0 where
@@ -298,7 +276,7 @@ pub data FillsAt (S R : Segments) (place : StructPlace) (source : Source) (r : O
       (f : Filling S place source) (k : ErrorKind) →
       count f.content.children < min place.pointers f.content.from.pointers →
       IsReplaced f.filled R place.segment (place.pointers_at + count f.content.children) Null Null →
-      IsNextRefused source f.content k →
+      IsOfMemory k ⊎ IsNextUnreadable source f.content k →
       r ≡ Some k →
       FillsAt S R place source r
   none_filled : (k : ErrorKind) → HasNothingToCopy (copying_from source AStruct false) k → R ≡ S → r ≡ Some k → FillsAt S R place source r
@@ -325,14 +303,9 @@ pub data PutsByte (S R : Segments) (looked : Result (Option ExistingBytes) Error
   no_bytes_there : looked ≡ Ok None → r ≡ Some NoSuchPlace → R ≡ S → PutsByte S R looked i v r
   bytes_denied : (k : ErrorKind) → looked ≡ Err k → r ≡ Some k → R ≡ S → PutsByte S R looked i v r
 
--- The value t with o where a path leads, if anything is changed.
-abbrev pub put_if : Tree → List Step → Option Tree → Tree
-put_if t path (Some y) = update t path y
-put_if t path None = t
-
 -- An edit with its outcome takes the value t of a message to u.
 pub data Takes (e : Edit) (t : Tree) (r : Option ErrorKind) (u : Tree) : Type 0 where
-  leads_to : (spot : Spot) (o : Option Tree) → found t (path_of e.path.now) ≡ Some spot → Leaves (made (task_of e.op) spot) r o → u ≡ put_if t (path_of e.path.now) o → Takes e t r u
+  leads_to : (spot : Spot) (o : Option Tree) → found t (path_of e.path.now) ≡ Some spot → Leaves (option_map_or (λ task. made_at task spot) (task_of e.op) (denied NoSuchPlace)) r o → u ≡ option_map_or (update t (path_of e.path.now)) o t → Takes e t r u
   leads_nowhere : found t (path_of e.path.now) ≡ None → r ≡ Some NoSuchPlace → u ≡ t → Takes e t r u
 
 -- From S to R an edit takes a forest to a forest, with its outcome.
@@ -348,8 +321,3 @@ TakesAll es rs t u = ⊥
 -- From S to R edits take a forest to a forest, with their outcomes.
 abbrev pub AreApplied : Segments → Segments → List Edit → List (Option ErrorKind) → Type 0
 AreApplied S R es rs = (t : Tree) → IsForest S t → (u : Tree) × IsForest R u × TakesAll es rs t u
-
--- How often memory was refused after the outcomes of edits in order.
-abbrev pub refusals_after_all : List (Option ErrorKind) → ℕ → ℕ
-refusals_after_all [] n = n
-refusals_after_all (r ∷ rs) n = refusals_after_all rs (refusals_after r n)

@@ -74,14 +74,12 @@ abbrev pub child_in : ExistingStruct → ℕ → Option Place
 child_in e i = cond (nat_lt i e.size.pointers) (Some (AtPointer (record { segment = e.segment; word = e.start + e.size.data_words + i }))) None
 
 -- The element of a list by its index, if it is a pointer or a struct.
-abbrev pub pointer_element : ExistingList → ℕ → Place
-pointer_element l i = AtPointer (record { segment = l.segment; word = l.start + i })
-
-abbrev pub struct_element : ExistingList → ℕ → Place
-struct_element l i = AtElement (record { segment = l.segment; start = l.start + i * (l.struct_size.data_words + l.struct_size.pointers); size = l.struct_size })
-
 abbrev pub element_in : ExistingList → ℕ → Option Place
-element_in l i = cond (nat_eq (size_number l.size) 6) (Some (pointer_element l i)) (cond (nat_eq (size_number l.size) 7) (Some (struct_element l i)) None)
+element_in l i =
+    cond (nat_eq (size_number l.size) 6) (Some (AtPointer (record { segment = l.segment; word = l.start + i })))
+    (cond (nat_eq (size_number l.size) 7)
+    (Some (AtElement (record { segment = l.segment; start = l.start + i * (l.struct_size.data_words + l.struct_size.pointers); size = l.struct_size })))
+    None)
 
 -- A place lies in the message, if it is one.
 abbrev pub LieThereIf : Segments → Option Place → Type 0

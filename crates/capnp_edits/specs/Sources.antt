@@ -3,6 +3,8 @@ use Rattle.std.specs.Prelude.{ℕ, pred, min, ◌+◌, ◌*◌, ◌<◌, ◌≤�
 use Rattle.capnp_words.specs.Meter.{Meter, Affords, charged, unused}
 use Rattle.capnp_words.specs.declared.error.ErrorKind.{ErrorKind}
 use Rattle.capnp_words.specs.declared.error.ErrorKind.TheVariants.{InvalidSegmentId, ReadLimitExceeded}
+use Rattle.capnp_words.specs.declared.wire_pointer.StructSize.{StructSize}
+use Rattle.capnp_words.specs.declared.wire_pointer.ElementSize.{ElementSize}
 use Rattle.capnp_words.specs.declared.wire_pointer.ElementSize.TheVariants.{Void, InlineComposite}
 use Rattle.capnp_words.specs.Sizes.{size_number}
 use Rattle.capnp_format.specs.Bytes.{message, words_of}
@@ -26,10 +28,9 @@ use Rattle.capnp_objects.specs.Source.{levels}
 use Rattle.capnp_objects.specs.Wanted.{AllowsCapabilities, plain}
 use Rattle.capnp_readers.specs.Readers.{reading}
 use Rattle.capnp_readers.specs.declared.readers.PointerReader.{PointerReader}
-use Rattle.capnp_copies.specs.Changes.{Change, RefusesValue, change}
+use Rattle.capnp_copies.specs.Changes.{Change, RefusesToCopy, change}
 use Rattle.capnp_copies.specs.Forms.{form_of, kept}
-use Rattle.capnp_copies.specs.ListValues.{ListElements, RefusesElements}
-use Rattle.capnp_copies.specs.StructValues.{RefusesSections}
+use Rattle.capnp_copies.specs.Originals.{value_original, sections_original, list_original}
 use Rattle.capnp_making.specs.Makes.{CallAt}
 use Rattle.capnp_builders.specs.Laws.{HoldContent, up_to}
 use Rattle.capnp_edits.specs.declared.edit.Source.{Source}
@@ -48,16 +49,13 @@ words_in source = message (map whole (map (λ s. s.now) source.arena.now.segment
 abbrev pub root_of : Source → Reading
 root_of source = record { segments = words_in source; charging = true; of_default = false; levels = levels source.arena.now.nesting_limit; segment = 0; at = 0 }
 
--- Its limiter, and this once the root's word is charged.
-abbrev pub limiter_of : Source → Meter
-limiter_of source = unused source.budget
-
+-- Its limiter once the root's word is charged.
 abbrev pub once_at_root : Source → Meter
-once_at_root source = charged true (limiter_of source) 1
+once_at_root source = charged true (unused source.budget) 1
 
 -- The root is there, and the limiter covers its word.
 abbrev pub HasRoot : Source → Type 0
-HasRoot source = Holds (words_in source) 0 0 1 × Affords true (limiter_of source) 1
+HasRoot source = Holds (words_in source) 0 0 1 × Affords true (unused source.budget) 1
 
 -- The value that is copied where a root means t: t itself; but where a struct or a list is wanted, of null one of nothing, and none where t is of another
 -- kind, or a list of bits.
@@ -144,6 +142,13 @@ pub data LeadsToStruct (r : Reading) (m : Meter) (s : Sections) : Type 0 where
       s.pointers ≡ pointer_count a.word →
       LeadsToStruct r m s
 
+-- So many elements of a size, with these sections where they are structs, of which the first is read at a place.
+pub record ListElements : Type 0 where
+  pub size : ElementSize
+  pub sections : StructSize
+  pub count : ℕ
+  pub first : Reading
+
 -- The list that a place leads to, its own words charged from m to m'.
 pub data LeadsToList (r : Reading) (m m' : Meter) (l : ListElements) : Type 0 where
   no_list : word_of r ≡ 0 → l.size ≡ Void → l.count ≡ 0 → m' ≡ m → LeadsToList r m m' l
@@ -185,10 +190,6 @@ pub record Fills (source : Source) (c : ContentRead source) (d q : ℕ) (u : Tre
   pub holds : HoldContent section d (64 * length c.from.words) c.bytes
   pub is_filled : u ≡ Struct section (up_to q c.children)
 
--- A struct of d data words and q pointers gets the content of a source: as many pointers are copied as both have.
-abbrev pub FillsAll : Source → ℕ → ℕ → Tree → Type 0
-FillsAll source d q u = (c : ContentRead source) × Fills source c d q u × (count c.children ≡ min q c.from.pointers)
-
 -- The pointers can be read that a source's struct and one of q pointers in segment id both have, and the words of what they mean fit behind those of that
 -- segment.
 abbrev pub ContentFitsBehind : View → ℕ → Source → ℕ → Type 0
@@ -201,17 +202,13 @@ IsNextUnreadable source c k = (m : Meter) × Refused plain (behind c.from.first 
 
 -- The copy of a whole value that is wanted at a place is refused by the name k.
 abbrev pub RefusesAs : Wanted → Reading → Change → ErrorKind → Type 0
-RefusesAs Value r c k = RefusesValue r c k
-RefusesAs AStruct r c k = (s : Sections) × LeadsToStruct r c.before s × RefusesSections s.words s.first s.pointers (record c { before = s.limiter }) k
-RefusesAs AList r c k = (l : ListElements) × (m : Meter) × LeadsToList r c.before m l × RefusesElements l (record c { before = m }) k
+RefusesAs Value r c k = RefusesToCopy (value_original r) c k
+RefusesAs AStruct r c k = (s : Sections) × LeadsToStruct r c.before s × RefusesToCopy (sections_original s.words s.first s.pointers) (record c { before = s.limiter }) k
+RefusesAs AList r c k = (l : ListElements) × (m : Meter) × LeadsToList r c.before m l × RefusesToCopy (list_original l.size l.sections l.count l.first) (record c { before = m }) k
 
 -- A copy that a call makes at a place; what is left of its limiter then is m.
 abbrev pub copy_at : CallAt → Copying → Meter → Change
 copy_at call c m = change (form_of c.canonicalize) call.segment call.at call.old call.new (once_at_root c.source) m
-
--- It is refused by the name k: an object finds no room, or reading is refused.
-abbrev pub IsCopyRefused : CallAt → Copying → ErrorKind → Type 0
-IsCopyRefused call c k = (m : Meter) × RefusesAs c.wanted (root_of c.source) (copy_at call c m) k
 
 -- Where there is a value to be copied, reading isn't refused.
 abbrev pub CopiedOrRefused : Type 0

@@ -1,7 +1,7 @@
 //! Edits: changes of a message that is built, as data. Each has a path from the root pointer, and an
 //! operation that is done where the path leads.
 ghost use Rattle.std.specs.Prelude.{◌≡◌, length};
-ghost use Rattle.capnp_edits.specs.Edits.{refusal_of, AreApplied, refusals_after_all};
+ghost use Rattle.capnp_edits.specs.Edits.{refusal_of, AreApplied};
 ghost use Rattle.capnp_edits.specs.Steps.{IsStep, AreSteps};
 
 mod copying;
@@ -155,8 +155,6 @@ pub fn apply_all<A: BuilderArena>(
     ensures steps { AreSteps (A.view arena.old) (A.view arena.new) edits.now outcomes.new }
     ensures applied { AreApplied (A.view arena.old).words
         (A.view arena.new).words edits.now outcomes.new }
-    ensures counted { (A.view arena.new).refusals ≡ refusals_after_all outcomes.new
-        (A.view arena.old).refusals }
 {
     for (i, edit) in edits.iter().enumerate() {
         outcomes[i] = match apply(arena, edit) {

@@ -2,7 +2,12 @@
 use Rattle.std.proofs.Common.{◌≡◌, ℕ, List, [], ◌++◌, Option, Some, None, refl, arith}
 use Rattle.std.specs.Io.KnownBytes.{Appends}
 use Rattle.std.proofs.lemmas.Grind.{common_steps}
-use Rattle.capnp_framing.specs.Writing.{IsLeftOver}
+
+-- Of known bytes that some more were to be appended to, those that are left over.
+abbrev pub IsLeftOver : Option (List ℕ) → Option (List ℕ) → List ℕ → List ℕ → Type 0
+IsLeftOver None new more rest = Unit {0}
+IsLeftOver (Some xs) None more rest = ⊥
+IsLeftOver (Some xs) (Some ys) more rest = ys ++ rest ≡ xs ++ more
 
 -- Of bytes that were to be appended, some are left over, and then more is appended.
 pub record Writes (a b c : Option (List ℕ)) (all rest more : List ℕ) : Type 0 where

@@ -1,13 +1,7 @@
 -- What a writer has taken, and what it still has to take.
-use Rattle.std.specs.Prelude.{◌≡◌, ℕ, List, ◌++◌, Option, Some, None}
+use Rattle.std.specs.Prelude.{◌≡◌, ℕ, List}
 use Rattle.std.specs.Io.KnownBytes.{Appends}
 use Rattle.capnp_framing.specs.declared.devices.Output.{Ghosts}
-
--- Of known bytes that some more were to be appended to, those that are left over.
-abbrev pub IsLeftOver : Option (List ℕ) → Option (List ℕ) → List ℕ → List ℕ → Type 0
-IsLeftOver None new more rest = Unit {0}
-IsLeftOver (Some xs) None more rest = ⊥
-IsLeftOver (Some xs) (Some ys) more rest = ys ++ rest ≡ xs ++ more
 
 module _ {W : Type 0} (g : Ghosts W) where
   -- An output has taken some bytes more, from one state to another.

@@ -9,20 +9,22 @@ use Rattle.capnp_objects.specs.Refusals.{Refused}
 use Rattle.capnp_objects.specs.Reading.{Reading}
 use Rattle.capnp_objects.specs.Wanted.{canonical}
 use Rattle.capnp_objects.proofs.Limits.{not_for_memory, not_for_size}
-use Rattle.capnp_copies.specs.Rooms.{IsTooLarge}
 use Rattle.capnp_format.specs.Canonical.{trim, word_count}
 use Rattle.capnp_format.specs.Tree.{Tree}
 use Rattle.capnp_format.proofs.Levels.{one_value}
 use Rattle.capnp_objects.specs.Outcomes.{Reads}
 use Rattle.std.proofs.lemmas.Bool.{cases_lt}
 use Rattle.capnp_making.specs.Memory.{KeepsMemory, RefusesWords}
-use Rattle.capnp_copies.specs.Changes.{RefusesValue, StandsAsRead, StandsWhereItFits, change}
-use Rattle.capnp_builders.specs.Building.{Building, HasOnlyNull, IsNull, built}
-use Rattle.capnp_builders.specs.Kept.{FillsMessage}
+use Rattle.capnp_copies.specs.Changes.{IsCopiedInRoom, MakesCopy, change}
+use Rattle.capnp_copies.specs.Originals.{value_original}
+use Rattle.capnp_copies.proofs.Originals.{value_beyond}
+use Rattle.capnp_builders.specs.Building.{Building, IsNull, built}
+use Rattle.capnp_builders.specs.Kept.{FillsMessage, LeavesCleared}
 use Rattle.capnp_builders.specs.declared.builders.PointerBuilder.{PointerBuilder}
 use Rattle.capnp_edits.specs.Edits.{IsOfMemory}
 use Rattle.capnp_layout.specs.Answers.{CoversRoot, IsMadeWhereAlone, IsReadWithin, LacksMemoryOr, RefusesCopy, RefusesCopyAnywhere, RefusesMessage, is_message_too_large, message_root}
 use Rattle.capnp_layout.specs.Answers.RefusesMessage.{below_root}
+use Rattle.capnp_layout.specs.Tries.{NeedsMoreRoom}
 use Rattle.capnp_layout.specs.declared.tool.args.Args.TheVariants.{Canon}
 use Rattle.capnp_arena.specs.declared.arena.reader_arena_impl.ReaderOptions.{ReaderOptions}
 use Rattle.capnp_objects.specs.Source.{levels}
@@ -45,7 +47,7 @@ fresh_root {A} view b arena same first only = record {
 }
 
 -- it has nothing but a null pointer
-pub only_null : {B : Building} {room : ℕ} → IsFreshPlace B room → HasOnlyNull B
+pub only_null : {B : Building} {room : ℕ} → IsFreshPlace B room → segment B.segments B.segment ≡ 0 ∷ []
 only_null {B} fresh = ap (λ i. segment B.segments i) fresh.first ∙ ap (λ (R : Segments). segment R 0) fresh.null
 
 pub null_root : {B : Building} {room : ℕ} → IsFreshPlace B room → B.at ≡ 0 → IsNull B
@@ -63,8 +65,8 @@ made_copy r left s p old made l m begun (t, reads, copy) =
     (t, (reads.cost, reads.means, reads.takes tt, subst (λ (x : Meter). Affords r.charging x reads.cost) begun reads.covers, spent), copy)
 
 -- where it has more, not all words fit in the first
-spread : {r : Reading} {room : ℕ} {l m : Meter} {t : Tree} (old new : View) (s p : ℕ) → IsFreshPlace (record { segments = old.words; segment = s; at = p; room = old.room s }) room → Reads canonical r l m t → StandsWhereItFits (change canonical s p old new l m) t →
-    (length new.words ≡ 1) ⊎ IsTooLarge canonical r 1 room
+spread : {r : Reading} {room : ℕ} {l m : Meter} {t : Tree} (old new : View) (s p : ℕ) → IsFreshPlace (record { segments = old.words; segment = s; at = p; room = old.room s }) room → Reads canonical r l m t → IsCopiedInRoom old new s p (trim t) →
+    (length new.words ≡ 1) ⊎ NeedsMoreRoom r room
 spread {r} {room} {t = t} old new s p fresh reads copy = elim (cases_lt room (1 + word_count (trim t))) [
   | inl beyond ↦ inr (λ u c means. (let same = ap (λ v. word_count (trim v)) (one_value r.segments r.levels r.levels r.segment r.at t u reads.cost c reads.means means).0 in omega (arith, same, beyond)))
   | inr fits ↦
@@ -73,9 +75,9 @@ spread {r} {room} {t = t} old new s p fresh reads copy = elim (cases_lt room (1 
       inl (ap length same ∙ length-set old.words s _ ∙ ap length fresh.null)
 ]
 
-pub spread_copy : {room : ℕ} (r : Reading) (s p : ℕ) (old new : View) (l m : Meter) (P : Tree → Type 0) → IsFreshPlace (record { segments = old.words; segment = s; at = p; room = old.room s }) room →
-    (t : Tree) × Reads canonical r l m t × P t → StandsAsRead r (change canonical s p old new l m) → (length new.words ≡ 1) ⊎ IsTooLarge canonical r 1 room
-spread_copy r s p old new l m P fresh (t, reads, _) stands = spread old new s p fresh reads (stands t reads)
+pub spread_copy : {room : ℕ} (r : Reading) (s p : ℕ) (old new : View) (l m : Meter) → IsFreshPlace (record { segments = old.words; segment = s; at = p; room = old.room s }) room →
+    MakesCopy (value_original r) (change canonical s p old new l m) → (length new.words ≡ 1) ⊎ NeedsMoreRoom r room
+spread_copy r s p old new l m fresh made = spread old new s p fresh made.is_read made.stands
 
 -- a copy leaves the room of the segment where it begins
 pub kept_room : {room : ℕ} (old new : View) (s p : ℕ) → IsFreshPlace (record { segments = old.words; segment = s; at = p; room = old.room s }) room → KeepsMemory old new → new.room 0 ≡ room
@@ -91,11 +93,13 @@ want_of_words old new n k (inr (inr many), none) = inr (_, many.0)
 
 -- what refuses a copy to the root of a fresh message
 pub refused_copy : {room : ℕ} (r : Reading) (left : Option ℕ) (s p : ℕ) (old new : View) (l m : Meter) (k : ErrorKind) → l ≡ unused left → IsFreshPlace (record { segments = old.words; segment = s; at = p; room = old.room s }) room →
-    RefusesValue r (change canonical s p old new l m) k → RefusesCopyAnywhere r left room k
-refused_copy {room} r left s p old new l m k begun fresh (inl (n, refused, wanted, large)) =
-    let used : length (segment old.words s) ≡ 1 = ap length (only_null fresh) in
-    inl (want_of_words old new n k refused, subst (λ i. IsTooLarge canonical r i room) used (subst (IsTooLarge canonical r (length (segment old.words s))) fresh.holds large))
-refused_copy r left s p old new l m k begun fresh (inr refused) = inr (m, subst (λ (x : Meter). Refused canonical r x m k) begun refused)
+    LeavesCleared (value_original r) (change canonical s p old new l m) k → RefusesCopyAnywhere r left room k
+refused_copy r left s p old new l m k begun fresh stop = elim stop.why [
+  | inl x ↦
+      let used : length (segment old.words s) ≡ 1 = ap length (only_null fresh) in
+      inl (want_of_words old new x.0 k x.1, λ t c means. (let beyond = value_beyond canonical r (length (segment old.words s)) (old.room s) x.3 t c means in omega (arith, beyond, used, fresh.holds)))
+  | inr y ↦ elim y [ inl refused ↦ inr (m, subst (λ (x : Meter). Refused canonical r x m k) begun refused) | inr none ↦ absurd none ]
+]
 
 -- words that are taken, if there is room for them, leave the room
 pub room_kept : (o : Option ℕ) {old new : View} (P : ℕ → Type 0) (words : Segments) → IfSome o (λ at. P at × (new ≡ record old { words = words })) → (IsNone o → new ≡ old) → new.room ≡ old.room
@@ -121,7 +125,7 @@ refused_try more room w least want (inr (m, refused)) = absurd (never_read want 
 pub last_try : {r : Reading} {left : Option ℕ} {room old new : ℕ} {k : ErrorKind} → (room ≡ max_segment_words) ⊎ (is_message_too_large k ≡ false) → LacksMemoryOr old new k (RefusesCopy r left room k) → LacksMemoryOr old new k (RefusesCopy r left max_segment_words k)
 last_try last (inl memory) = inl memory
 last_try last (inr (inr refused, same)) = inr (inr refused, same)
-last_try {r = r} (inl most) (inr (inl (w, named, large), same)) = inr (inl (w, named, subst (IsTooLarge canonical r 1) most large), same)
+last_try {r = r} (inl most) (inr (inl (w, named, large), same)) = inr (inl (w, named, subst (NeedsMoreRoom r) most large), same)
 last_try (inr other) (inr (inl (w, named, large), same)) = absurd (let wrong : true ≡ false = sym (ap is_message_too_large named) ∙ other in cc)
 
 pub moved_try : {old new old' new' : ℕ} {k : ErrorKind} {P : Type 0} → old ≡ old' → new' ≡ new → LacksMemoryOr old new k P → LacksMemoryOr old' new' k P

@@ -6,7 +6,7 @@ use Rattle.std.proofs.lemmas.List.{drop_more, drop_all}
 use Rattle.hex.specs.Hex.{encode_lower, encode_with, lower_digits}
 use Rattle.capnp_format.specs.Segments.{Segments, segment}
 use Rattle.capnp_framing.specs.Frames.{bytes_of_words, contents, lengths, padding_size}
-use Rattle.capnp_framing.specs.Writing.{IsLeftOver}
+use Rattle.capnp_framing.proofs.WritingLemmas.{IsLeftOver}
 use Rattle.capnp_framing.proofs.WritingLemmas.{appends_both}
 use Rattle.capnp_layout.specs.Answers.{digits_of, word_digits}
 use Rattle.capnp_layout.specs.Commands.{frame_line, segment_lines}

@@ -2,10 +2,15 @@
 use Rattle.std.proofs.Common.{◌≡◌, ℕ, suc, zero, ◌+◌, ◌-◌, ◌<◌, ◌≤◌, ◌==◌, not, cond, if◌then◌else◌, Bool, true, false, List, [], ◌∷◌, ◌++◌, length, take, drop, Option, Some, None, Result, Ok, Err, IsErr, refl, ap, sym, ◌∙◌, arith, subst, ◌/◌, ◌^◌, map}
 use Rattle.std.specs.List.{All, slice_get, position, position_or_len, prefix_len}
 use Rattle.std.proofs.lemmas.Grind.{common_steps}
-use Rattle.capnp_layout.specs.Lines.{lines_of, onto_line, segments_of_lines, segments_of, onto_segments, in_front}
+use Rattle.capnp_layout.specs.Lines.{lines_of, onto_line, segments_of_lines, segments_of, onto_segments}
 use Rattle.hex.specs.Hex.{decode_of}
 use Rattle.hex.specs.declared.error.FromHexError.{FromHexError}
 use Rattle.std.proofs.Common.{rules}
+
+-- some segments, and then those that are still to be read
+abbrev pub in_front : List (List ℕ) → Option (List (List ℕ)) → Option (List (List ℕ))
+in_front read (Some more) = Some (read ++ more)
+in_front read None = None
 
 one-add : (n : ℕ) → 1 + n ≡ suc n
 one-add n = omega arith

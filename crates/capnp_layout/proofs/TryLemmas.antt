@@ -9,23 +9,21 @@ use Rattle.capnp_arena.specs.Allocations.{max_segment_words}
 use Rattle.capnp_arena.specs.Checks.{total_words}
 use Rattle.capnp_arena.proofs.MessageLemmas.{total-cons}
 use Rattle.capnp_objects.specs.Reading.{Reading}
-use Rattle.capnp_objects.specs.Wanted.{canonical}
-use Rattle.capnp_copies.specs.Rooms.{IsTooLarge}
 use Rattle.capnp_framing.specs.Reading.{total}
 use Rattle.capnp_layout.specs.Answers.{LacksMemoryOr, RefusesCopy, is_message_too_large}
-use Rattle.capnp_layout.specs.Tries.{IsMadeByFirstTry, room_of_try}
+use Rattle.capnp_layout.specs.Tries.{IsMadeByFirstTry, NeedsMoreRoom, room_of_try}
 use Rattle.capnp_layout.proofs.CanonLemmas.{never_read}
 
 -- The tries have come to one that asks for this room: what those before it ask for is too little.
 pub record ComesTo (r : Reading) (words room : ℕ) : Type 0 where
   pub try : ℕ
   pub asks : room ≡ room_of_try words try
-  pub before : (j : ℕ) → j < try → IsTooLarge canonical r 1 (room_of_try words j)
+  pub before : (j : ℕ) → j < try → NeedsMoreRoom r (room_of_try words j)
 
 pub first_comes : (r : Reading) (words : ℕ) {room : ℕ} → room ≡ room_of_try words 0 → ComesTo r words room
 first_comes r words asks = record { try = 0; asks = asks; before = λ j below. absurd (omega arith) }
 
-pub next_comes : {r : Reading} {words room next : ℕ} → ComesTo r words room → next ≡ min (2 * room) max_segment_words → IsTooLarge canonical r 1 room → ComesTo r words next
+pub next_comes : {r : Reading} {words room next : ℕ} → ComesTo r words room → next ≡ min (2 * room) max_segment_words → NeedsMoreRoom r room → ComesTo r words next
 next_comes {r} {words} come doubled little = record {
   try = suc come.try;
   asks = doubled ∙ ap (λ n. min (2 * n) max_segment_words) come.asks;
@@ -33,7 +31,7 @@ next_comes {r} {words} come doubled little = record {
     | inl less ↦ come.before j less
     | inr least ↦
         let same : come.try ≡ j = omega (arith, below, least) in
-        subst (λ i. IsTooLarge canonical r 1 (room_of_try words i)) same (subst (IsTooLarge canonical r 1) come.asks little)
+        subst (λ i. NeedsMoreRoom r (room_of_try words i)) same (subst (NeedsMoreRoom r) come.asks little)
   ];
 }
 
@@ -55,7 +53,7 @@ large_named (MessageTooLarge w) large = (w, refl)
 large_named _ large = absurd (cc)
 
 -- a try that says that something is too large has too little room
-pub try_too_small : {r : Reading} {left : Option ℕ} {room old new : ℕ} {k : ErrorKind} → is_message_too_large k ≡ true → LacksMemoryOr old new k (RefusesCopy r left room k) → IsTooLarge canonical r 1 room
+pub try_too_small : {r : Reading} {left : Option ℕ} {room old new : ℕ} {k : ErrorKind} → is_message_too_large k ≡ true → LacksMemoryOr old new k (RefusesCopy r left room k) → NeedsMoreRoom r room
 try_too_small large (inl (named, risen)) = absurd (let wrong : false ≡ true = sym (ap is_message_too_large named) ∙ large in cc)
 try_too_small large (inr (inl (w, named, little), same)) = little
 try_too_small {k = k} large (inr (inr (m, refused), same)) = absurd (never_read (inr (large_named k large)) refused)

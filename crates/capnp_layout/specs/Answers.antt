@@ -28,7 +28,7 @@ use Rattle.capnp_objects.specs.Reading.{Reading}
 use Rattle.capnp_objects.specs.Sizing.{Totals, HasSize, SizeRefused}
 use Rattle.capnp_objects.specs.Wanted.{canonical}
 use Rattle.capnp_readers.specs.Checking.{progress, TestStops}
-use Rattle.capnp_copies.specs.Rooms.{IsTooLarge}
+use Rattle.capnp_layout.specs.Tries.{NeedsMoreRoom}
 
 -- the bytes of a word, the lowest first, as lower case hex digits
 abbrev pub word_digits : ℕ → List ℕ
@@ -38,10 +38,6 @@ word_digits w = encode_lower (to_le_bytes w64 w)
 unfoldable pub digits_of : List ℕ → List ℕ
 digits_of [] = []
 digits_of (w ∷ ws) = word_digits w ++ digits_of ws
-
--- the line of a value's canonical words
-abbrev pub canonical_line : Tree → List ℕ
-canonical_line t = digits_of (encoding (trim t)) ++ 10 ∷ []
 
 -- the line of an answer to whether a message is canonical
 abbrev pub check_line : Bool → List ℕ
@@ -80,12 +76,12 @@ IsReadWithin r left after t =
 -- A copy of what a place means, into a fresh segment of so many words, is refused by the name k: it needs more words, or
 -- reading it is refused.
 abbrev pub RefusesCopy : Reading → Option ℕ → ℕ → ErrorKind → Type 0
-RefusesCopy r left room k = ((w : ℕ) × (k ≡ MessageTooLarge w) × IsTooLarge canonical r 1 room) ⊎ ((m : Meter) × Refused canonical r (unused left) m k)
+RefusesCopy r left room k = ((w : ℕ) × (k ≡ MessageTooLarge w) × NeedsMoreRoom r room) ⊎ ((m : Meter) × Refused canonical r (unused left) m k)
 
 -- A copy of what a place means, into a fresh segment with this room and into further ones where they are to be had, is refused by
 -- the name k: there is none, and it needs more words than that room; or reading it is refused.
 abbrev pub RefusesCopyAnywhere : Reading → Option ℕ → ℕ → ErrorKind → Type 0
-RefusesCopyAnywhere r left room k = (IsOfMemory k × IsTooLarge canonical r 1 room) ⊎ ((m : Meter) × Refused canonical r (unused left) m k)
+RefusesCopyAnywhere r left room k = (IsOfMemory k × NeedsMoreRoom r room) ⊎ ((m : Meter) × Refused canonical r (unused left) m k)
 
 -- Memory was refused once more, from a count to another; or that is not so, and P holds.
 abbrev pub LacksMemoryOr : ℕ → ℕ → ErrorKind → Type 0 → Type 0
@@ -94,14 +90,6 @@ LacksMemoryOr old new k P = ((k ≡ AllocationFailed) × (new ≡ one_more old))
 -- The root of a message, where reading is charged and n levels may be entered.
 abbrev pub message_root : Segments → ℕ → Reading
 message_root S n = record { segments = S; charging = true; of_default = false; levels = n; segment = 0; at = 0 }
-
--- The root of a message means a value t without capabilities within n levels, and the budget covers what reading it costs, and one word for the root pointer.
-pub record HasValue (S : Segments) (n : ℕ) (budget : Option ℕ) (t : Tree) : Type 0 where
-  pub root : IsPlace S 0 0
-  pub cost : ℕ
-  pub means : Means S n 0 0 t cost
-  pub free : capabilities t ≡ 0
-  pub covered : FitsIn budget (1 + cost)
 
 -- A message has a root pointer, and the budget covers its word.
 pub record CoversRoot (S : Segments) (budget : Option ℕ) : Type 0 where
@@ -153,11 +141,16 @@ abbrev pub CheckOf : List (List ℕ) → ReaderOptions → Bool → Type 0
 CheckOf segments options true = (t : Tree) × IsCanonicalWithin (message segments) (levels options.nesting_limit) options.traversal_limit_in_words t
 CheckOf segments options false = IsNotCanonical (message segments) options.traversal_limit_in_words
 
--- The root of the message of these segments means t, within the limits of a reader's options; or the walk that takes a size
--- gives so many words and capabilities there; or it goes to its end, and they fit.
-abbrev pub ValueOf : List (List ℕ) → ReaderOptions → Tree → Type 0
-ValueOf segments options t = HasValue (message segments) (levels options.nesting_limit) options.traversal_limit_in_words t
+-- The root of the message of these segments means t without capabilities, within the nesting limit of a reader's options, and the budget covers what
+-- reading it costs, and one word for the root pointer.
+pub record ValueOf (segments : List (List ℕ)) (options : ReaderOptions) (t : Tree) : Type 0 where
+  pub root : IsPlace (message segments) 0 0
+  pub cost : ℕ
+  pub means : Means (message segments) (levels options.nesting_limit) 0 0 t cost
+  pub free : capabilities t ≡ 0
+  pub covered : FitsIn options.traversal_limit_in_words (1 + cost)
 
+-- The walk that takes a size gives so many words and capabilities there; or it goes to its end, and they fit.
 abbrev pub SizeOf : List (List ℕ) → ReaderOptions → ℕ → ℕ → Type 0
 SizeOf segments options words caps = HasTotals (message segments) (levels options.nesting_limit) options.traversal_limit_in_words words caps
 

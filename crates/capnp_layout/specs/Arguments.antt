@@ -11,13 +11,11 @@ use Rattle.capnp_layout.specs.declared.tool.args.Args.TheVariants.{Canon, Check,
 abbrev pub without_minus : List ℕ → List ℕ
 without_minus text = cond (starts_with_minus text) (drop 1 text) text
 
--- the number that an optional '-' and decimal digits write
-abbrev pub signed_value : List ℕ → ℤ
-signed_value text = let n = digits_value 10 (without_minus text) in cond (starts_with_minus text) (neg_ℤ (pos n)) (pos n)
-
 -- a nesting limit: an optional '-' and one or more decimal digits, with a value of i32
 abbrev pub IsNesting : List ℕ → ℤ → Type 0
-IsNesting text n = IsNumeral 10 (without_minus text) × (n ≡ signed_value text) × FitsSigned w32 n
+IsNesting text n =
+    let value = pos (digits_value 10 (without_minus text)) in
+    IsNumeral 10 (without_minus text) × (n ≡ cond (starts_with_minus text) (neg_ℤ value) value) × FitsSigned w32 n
 
 -- a budget of words: one or more decimal digits with a value below 2^64, or the word `none`
 abbrev pub IsBudget : List ℕ → Option ℕ → Type 0

@@ -38,16 +38,13 @@ abbrev pub RefusesTest : Segments → ℕ → Meter → Meter → ErrorKind → 
 RefusesTest S n m m' k =
     (RefusesRoot S m.left k × (m' ≡ m)) ⊎ (CoversRoot S m.left × TestStops k (message_root S n) (progress 1 (spent m 1)) m')
 
--- The canonical words of some value stand at the root of a message, and more words behind them.
-abbrev pub HasMoreBehind : Segments → ℕ → Meter → Meter → Type 0
-HasMoreBehind S n m m' =
-    (t : Tree) × (h : ℕ) × Finds (message_root S n) (progress 1 m) (progress h m') t × (1 + word_count t < length (segment S 0))
-
 -- The test of a message of one segment says no, and leaves the limiter as m': a word is charged for the root pointer, and the test
--- of what it leads to fails, or goes to its end with more words behind.
+-- of what it leads to fails, or it finds the canonical words of some value, with more words behind them.
 abbrev pub MessageTestFails : Segments → ℕ → Meter → Meter → Type 0
 MessageTestFails S n m m' =
-    CoversRoot S m.left × (TestFails (message_root S n) (progress 1 (spent m 1)) m' ⊎ HasMoreBehind S n (spent m 1) m')
+    CoversRoot S m.left
+    × (TestFails (message_root S n) (progress 1 (spent m 1)) m'
+    ⊎ ((t : Tree) × (h : ℕ) × Finds (message_root S n) (progress 1 (spent m 1)) (progress h m') t × (1 + word_count t < length (segment S 0))))
 
 -- A message is the canonical one of one value at most.
 abbrev pub OneCanonicalValue : Type 0

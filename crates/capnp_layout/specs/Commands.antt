@@ -21,7 +21,7 @@ use Rattle.capnp_layout.specs.declared.tool.args.Args.{Args}
 use Rattle.capnp_layout.specs.declared.tool.args.Args.TheVariants.{Canon, Check, Size, Frame, Unframe, FramedCanon, FramedCheck}
 use Rattle.capnp_layout.specs.declared.tool.refusal.Refusal.{Refusal}
 use Rattle.capnp_layout.specs.declared.tool.refusal.Refusal.TheVariants.{Layout, Frame as NoFrameFor, NoMessage}
-use Rattle.capnp_layout.specs.Answers.{CheckOf, HasSizeWithin, RefusesMessage, SizeOf, ValueOf, canonical_line, check_line, digits_of, size_line}
+use Rattle.capnp_layout.specs.Answers.{CheckOf, HasSizeWithin, RefusesMessage, SizeOf, ValueOf, check_line, digits_of, size_line}
 use Rattle.capnp_layout.specs.CanonicalMessages.{CanBeTested, IsCanonicalMessage, RefusesTest}
 use Rattle.capnp_layout.specs.Refusals.{refusal_line}
 
@@ -67,7 +67,7 @@ IsWithin _ lines = IsSmall lines
 
 -- P holds of the lines that a command answers with.
 abbrev pub Answers : List (List ℕ) → Args → (List ℕ → Type 0) → Type 0
-Answers lines (Canon options) P = (t : Tree) × ValueOf lines options t × P (canonical_line t)
+Answers lines (Canon options) P = (t : Tree) × ValueOf lines options t × P (digits_of (encoding (trim t)) ++ 10 ∷ [])
 Answers lines (Check options) P = (yes : Bool) × CheckOf lines options yes × P (check_line yes)
 Answers lines (Size options) P = (words : ℕ) × (caps : ℕ) × SizeOf lines options words caps × P (size_line words caps)
 Answers lines Frame P = (1 ≤ length lines) × (length lines ≤ max_frame_segments) × P (frame_line (message lines))

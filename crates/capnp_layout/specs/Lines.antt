@@ -1,5 +1,5 @@
 -- The segments that the program's input holds: a line for each, as pairs of hex digits in either case.
-use Rattle.std.specs.Prelude.{ℕ, List, [], ◌∷◌, ◌++◌, if◌then◌else◌, ◌==◌, Option, Some, None, Result, Ok, Err}
+use Rattle.std.specs.Prelude.{ℕ, List, [], ◌∷◌, if◌then◌else◌, ◌==◌, Option, Some, None, Result, Ok, Err}
 use Rattle.hex.specs.Hex.{decode_of}
 use Rattle.hex.specs.declared.error.FromHexError.{FromHexError}
 
@@ -27,8 +27,3 @@ segments_of_lines (line ∷ lines) = onto_segments (decode_of line) (segments_of
 -- The segments that a text holds, as bytes.
 abbrev pub segments_of : List ℕ → Option (List (List ℕ))
 segments_of text = segments_of_lines (lines_of text)
-
--- some segments, and then those that are still to be read
-abbrev pub in_front : List (List ℕ) → Option (List (List ℕ)) → Option (List (List ℕ))
-in_front read (Some more) = Some (read ++ more)
-in_front read None = None

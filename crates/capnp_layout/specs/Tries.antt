@@ -1,9 +1,14 @@
 -- In how much room the canonical words of a message are tried to be made.
 use Rattle.std.specs.Prelude.{ℕ, ◌+◌, ◌*◌, ◌<◌, zero, suc, min, Bool, IsTrue}
 use Rattle.capnp_arena.specs.Allocations.{max_segment_words}
-use Rattle.capnp_copies.specs.Rooms.{IsTooLarge}
+use Rattle.capnp_format.specs.Canonical.{trim, word_count}
+use Rattle.capnp_format.specs.Tree.{Tree}
+use Rattle.capnp_objects.specs.Outcomes.{MeansThere}
 use Rattle.capnp_objects.specs.Reading.{Reading}
-use Rattle.capnp_objects.specs.Wanted.{canonical}
+
+-- The canonical words of whatever value a place means, behind the word of a root, are more than this room.
+abbrev pub NeedsMoreRoom : Reading → ℕ → Type 0
+NeedsMoreRoom r room = (t : Tree) (c : ℕ) → MeansThere r t c → room < 1 + word_count (trim t)
 
 -- The words that try k asks for, counted from 0, where the input has so many: one more than these, and at each further try twice those
 -- of the one before; but never more than a segment can have.
@@ -16,4 +21,4 @@ room_of_try words (suc k) = min (2 * room_of_try words k) max_segment_words
 pub record IsMadeByFirstTry (r : Reading) (words : ℕ) (offers : ℕ → ℕ → Bool) (room : ℕ) : Type 0 where
   pub try : ℕ
   pub asked : IsTrue (offers (room_of_try words try) room)
-  pub before : (j : ℕ) → j < try → IsTooLarge canonical r 1 (room_of_try words j)
+  pub before : (j : ℕ) → j < try → NeedsMoreRoom r (room_of_try words j)

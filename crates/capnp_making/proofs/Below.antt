@@ -10,12 +10,23 @@ use Rattle.capnp_format.specs.Forest.{Interval, times, pads_of, object_of, targe
 use Rattle.capnp_format.proofs.Frame.{Agree, times-append, agree_here, agree_rest, frame, frame_all}
 use Rattle.capnp_making.specs.Path.{tree_at, word_interval, extent}
 use Rattle.capnp_making.proofs.Paths.{means_child}
-use Rattle.capnp_making.specs.Zeroed.{row, IsZeroed, IsApart, AreApart, IsObjectAt, object_cover, child_extents, rest}
+use Rattle.capnp_making.specs.Zeroed.{row, IsZeroed, IsApart, AreApart, IsObjectAt, object_cover}
 use Rattle.capnp_making.proofs.Zeros.{zeroed_again, nothing_zeroed}
 pub use Rattle.capnp_format.proofs.LandingPads.{pads_inside}
 
 pub split_row : (s p m n v r : ℕ) → times (row s p (m + n) ∷ []) v r ≡ times (row s p m ∷ []) v r + times (row s (p + m) n ∷ []) v r
 split_row s p m n v r = grind (arith, nat_tests)
+
+-- Pointers one behind the other, each with what is reached from it.
+abbrev pub child_extents : Segments → ℕ → ℕ → Trees → List Interval
+child_extents S s p no_trees = []
+child_extents S s p (tree t ts) = extent S s p t ++ child_extents S s (p + 1) ts
+
+-- The children from the i-th on.
+abbrev pub rest : ℕ → Trees → Trees
+rest zero ts = ts
+rest (suc i) no_trees = no_trees
+rest (suc i) (tree t ts) = rest i ts
 
 -- children and their pointers, counted together or one by one
 pub times-children : (S : Segments) (s p : ℕ) (ts : Trees) (v r : ℕ) → times (child_extents S s p ts) v r ≡ times (row s p (count ts) ∷ cover_all S s p ts) v r

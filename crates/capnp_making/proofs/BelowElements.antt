@@ -7,9 +7,15 @@ use Rattle.capnp_format.specs.Word.{offset_bits, data_words, pointer_count}
 use Rattle.capnp_format.specs.Means.{MeansAll, MeansElements, IsTag}
 use Rattle.capnp_format.specs.Forest.{Interval, times, cover_all, cover_elements}
 use Rattle.capnp_format.proofs.Frame.{times-append}
-use Rattle.capnp_making.specs.Zeroed.{row, IsZeroed, AreApart, AreApartElements, element_extents, rest_elements}
+use Rattle.capnp_making.specs.Zeroed.{row, IsZeroed, AreApart, AreApartElements, element_extents}
 use Rattle.capnp_making.proofs.Zeros.{zeroed_again, nothing_zeroed}
 use Rattle.capnp_making.proofs.Below.{split_row, all_kept}
+
+-- The elements from the i-th on.
+abbrev pub rest_elements : ℕ → Elements → Elements
+rest_elements zero es = es
+rest_elements (suc i) no_elements = no_elements
+rest_elements (suc i) (element ws ts es) = rest_elements i es
 
 -- the pointers of elements are within their words
 pub extents_within : (S : Segments) (s p d q : ℕ) (es : Elements) (v r : ℕ) → times (element_extents S s p d q es) v r ≤ times (row s p (element_count es * (d + q)) ∷ cover_elements S s p d q es) v r

@@ -15,7 +15,7 @@ use Rattle.capnp_format.proofs.Digits.{digits_again, from_digits-below, from_dig
 use Rattle.capnp_format.proofs.Lies.{pow_pow}
 use Rattle.capnp_format.proofs.WordsOf.{length-words_of, words_of-part, small_word}
 use Rattle.capnp_arena.specs.Written.{overwritten}
-use Rattle.capnp_making.specs.InPlace.{segments_with, AreBytes, Overwrites}
+use Rattle.capnp_making.specs.InPlace.{segments_with, Overwrites}
 use Rattle.capnp_making.specs.Made.{words_of_zero, LeadsToStart}
 use Rattle.capnp_making.specs.Stored.{IsStored, IsReplaced}
 use Rattle.capnp_making.specs.declared.existing.ExistingBytes.{ExistingBytes}
@@ -116,7 +116,7 @@ stays : (S : Segments) (s p : ℕ) (t : Tree) → IsStored S s p t → IsReplace
 stays S s p t x = grown S S s p t (record { segments = omega arith; words = λ v. omega arith }) x (λ v r l. refl) (λ v r l. get_or_past (segment S v) r 0 l)
 
 -- bytes written at the start of a list of bytes
-pub overwrites : (S R : Segments) (B C : List (List ℕ)) (b : ExistingBytes) (ws : List ℕ) → S ≡ message B → R ≡ message C → C ≡ segments_with B b ws → ((i : ℕ) → get_or (slice_index_or B b.segment []) i 0 < 256) → AreBytes b.length ws → Overwrites S R b ws
+pub overwrites : (S R : Segments) (B C : List (List ℕ)) (b : ExistingBytes) (ws : List ℕ) → S ≡ message B → R ≡ message C → C ≡ segments_with B b ws → ((i : ℕ) → get_or (slice_index_or B b.segment []) i 0 < 256) → (length ws ≡ b.length) × AreBelow 256 ws → Overwrites S R b ws
 overwrites S R B C b ws e f g below are s p ns stored is_segment is_start few =
     let h : Start = record { segment = b.segment; at = b.start } in
     let none : length ws ≡ 0 → R ≡ S = λ z. f ∙ ap message (g ∙ ap (slice_set B b.segment) (none_over (8 * b.start) (slice_index_or B b.segment []) ws z) ∙ same_set B b.segment) ∙ sym e in

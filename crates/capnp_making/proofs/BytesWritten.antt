@@ -17,7 +17,6 @@ use Rattle.capnp_arena.proofs.MessageLemmas.{segment-message}
 use Rattle.capnp_arena.specs.Written.{with_segment, with_words, overwritten}
 use Rattle.capnp_making.specs.declared.making.Start.{Start}
 use Rattle.capnp_making.specs.Made.{words_of_zero, LeadsToStart}
-use Rattle.capnp_making.specs.Overwritten.{HoldsBytes, bytes_over}
 use Rattle.capnp_making.specs.Zeroed.{row}
 use Rattle.capnp_making.specs.Stored.{IsStored, IsReplaced}
 use Rattle.capnp_making.proofs.Replaced.{replaced_again}
@@ -181,7 +180,7 @@ pub record WritesBytes (S R : Segments) (h : Start) (xs : List ℕ) : Type 0 whe
   pub new_read : R ≡ message new
   pub small : (i : ℕ) → get_or xs i 0 < 256
   pub nothing : length xs ≡ 0 → R ≡ S
-  pub written : 0 < length xs → HoldsBytes S h (length xs) → new ≡ bytes_over old h xs
+  pub written : 0 < length xs → 8 * h.at + length xs ≤ 8 * length (segment S h.segment) → new ≡ slice_set old h.segment (overwritten (slice_index_or old h.segment []) (8 * h.at) xs)
 
 -- so the words are written that hold these bytes
 pub whole_words : (S R : Segments) (h : Start) (xs : List ℕ) (u a k : ℕ) (w : WritesBytes S R h xs) → h.segment ≡ u → h.at ≡ a → 0 < length xs → length xs ≤ 8 * k → a + k ≤ length (segment S u) →
@@ -191,7 +190,7 @@ whole_words S R h xs u a k w is_u is_a some enough claim =
     let bs : List ℕ = slice_index_or B u [] in
     let shown : segment S u ≡ words_of bs = ap (λ T. segment T u) w.old_read ∙ segment_bytes B u in
     let room : 8 * (a + k) ≤ length bs = omega (arith, claim, ap length shown, words bs) in
-    let holds : HoldsBytes S h (length xs) = omega (arith, claim, enough, is_a, ap (λ v. length (segment S v)) is_u) in (
+    let holds : 8 * h.at + length xs ≤ 8 * length (segment S h.segment) = omega (arith, claim, enough, is_a, ap (λ v. length (segment S v)) is_u) in (
       shown,
       room,
       w.new_read ∙ ap message (w.written some holds ∙ ap₂ (λ v q. slice_set B v (overwritten (slice_index_or B v []) (8 * q) xs)) is_u is_a)

@@ -13,12 +13,12 @@ use Rattle.capnp_format.specs.Forest.{Interval, times, object_of, target, target
 use Rattle.capnp_format.proofs.Bounds.{digits_below}
 use Rattle.capnp_arena.specs.Written.{with_word}
 use Rattle.capnp_making.specs.Fields.{with_bits, put_field, with_field}
-use Rattle.capnp_making.specs.Path.{struct_at, put_struct, with_data, word_interval}
+use Rattle.capnp_making.specs.Path.{struct_at, put_struct, word_interval}
 use Rattle.capnp_making.specs.Stored.{IsStored, IsReplaced}
 use Rattle.capnp_making.proofs.FieldDigits.{field_in_words, from_digits-set, from_digits-part}
 use Rattle.capnp_making.proofs.WithBits.{with_bits-below}
 use Rattle.capnp_making.proofs.MadeWords.{IsPut, word_put}
-use Rattle.capnp_making.proofs.Written.{SameLengths, SameBut, data_written, flat_written, element_words, element_data_written}
+use Rattle.capnp_making.proofs.Written.{SameLengths, SameBut, with_data, data_written, flat_written, element_words, element_data_written}
 use Rattle.capnp_making.proofs.Zeros.{there, segment_here}
 
 -- what one word written leaves

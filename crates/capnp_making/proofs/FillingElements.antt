@@ -9,7 +9,7 @@ use Rattle.capnp_format.specs.Forest.{times, pads_of, object_of, target, target_
 use Rattle.capnp_format.proofs.Frame.{times-append}
 use Rattle.capnp_making.specs.Filled.{AreFilled, IsElementFilled, AreElementsFilled, ArePartlyFilled}
 use Rattle.capnp_making.specs.Made.{words_of_zero, nulls, zero_elements}
-use Rattle.capnp_making.specs.Path.{Child, Element, put, put_tree, struct_at, put_struct, with_data, next, tree_at}
+use Rattle.capnp_making.specs.Path.{Child, Element, put, put_tree, struct_at, put_struct, next, tree_at}
 use Rattle.capnp_making.specs.Stored.{IsStored, IsReplaced}
 use Rattle.capnp_making.specs.Zeroed.{row}
 use Rattle.capnp_making.proofs.Filling.{IsHolder, Holds, in_struct, holder_filled, put_from, put_all, still_leads, unchanged}
@@ -17,7 +17,7 @@ use Rattle.capnp_making.proofs.PlacedStructs.{count-zero_elements}
 use Rattle.capnp_making.proofs.Replace.{times-others}
 use Rattle.capnp_making.proofs.Replaced.{replaced_again}
 use Rattle.capnp_making.proofs.WordsPut.{ArePut, words_put}
-use Rattle.capnp_making.proofs.Written.{same_grows, element_data_written, data_written}
+use Rattle.capnp_making.proofs.Written.{same_grows, with_data, element_data_written, data_written}
 
 -- structs
 

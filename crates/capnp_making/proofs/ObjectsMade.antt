@@ -1,5 +1,5 @@
 -- An object that is made where another value was, which becomes zero first.
-use Rattle.std.proofs.Common.{◌≡◌, inl, inr, ℕ, Result, Ok, Err, OnOk, OnErr, IfOk, refl, sym, subst, arith}
+use Rattle.std.proofs.Common.{◌≡◌, ℕ, Result, Ok, Err, OnOk, OnErr, IfOk, refl, sym, subst, arith}
 use Rattle.capnp_words.specs.declared.error.ErrorKind.{ErrorKind}
 use Rattle.capnp_format.specs.Segments.{Segments}
 use Rattle.capnp_format.specs.Tree.{Tree, Null}
@@ -59,10 +59,5 @@ makes_after_zeros (Err k) old mid new id at n t zeroed limits pruned made start 
 pub asked_in_vain : {A B : Type 0} (old new : View) (id at n : ℕ) (t : Tree) (k : ErrorKind) → MakesObject {A = A} (Err k) (call_at id at old new) t n → AsksForObject {A = B} (Err k) old id at n
 asked_in_vain old new id at n t k x = record {
   fits = x.memory.fits;
-  named = elim x.memory.named.0 [
-    | inl (e, f, g, h) ↦ inl (e, f, g)
-    | inr (inl (e, f, g, h)) ↦ inr (inl (e, f, g))
-    | inr (inr (e, f, h)) ↦ inr (inr (e, f))
-  ];
   refused = (new, x.memory.named, x.refused, x.only);
 }

@@ -1,17 +1,21 @@
 -- The words of a value that is replaced stay zero: the new one stands in others.
 use Rattle.std.proofs.Common.{◌≡◌, ℕ, ◌+◌, ◌*◌, ◌<◌, ◌≤◌, List, [], ◌∷◌, inl, inr, length, ap, ◌∙◌, arith}
 use Rattle.std.proofs.lemmas.Bool.{cases_lt}
-use Rattle.capnp_format.specs.Segments.{Segments, segment}
+use Rattle.capnp_format.specs.Segments.{Segments, segment, word_at}
 use Rattle.capnp_format.specs.Tree.{Tree, Null}
 use Rattle.capnp_format.specs.Forest.{times, cover}
 use Rattle.capnp_arena.specs.View.{View}
 use Rattle.capnp_making.specs.declared.making.Start.{Start}
 use Rattle.capnp_making.specs.Memory.{StandsBehind}
 use Rattle.capnp_making.specs.Path.{extent, word_interval}
-use Rattle.capnp_making.specs.Stored.{IsReplaced, ZeroesOld}
+use Rattle.capnp_making.specs.Stored.{IsReplaced, IsStored}
 use Rattle.capnp_making.specs.Zeroed.{IsApart, IsZeroed}
 use Rattle.capnp_making.proofs.BytesWritten.{WritesBytes, written_beside}
 use Rattle.capnp_making.proofs.Extents.{times-first}
+
+-- The words below a place that its value in S used are zero in R: of what the place has in R no word but one of zero stands there.
+abbrev pub ZeroesOld : Segments → Segments → ℕ → ℕ → Type 0
+ZeroesOld S R s p = (t : Tree) → IsStored S s p t → (v r : ℕ) → 0 < times (cover S s p t) v r → word_at R v r ≡ 0
 
 -- what the place held becomes zero, and then another value is made there
 pub old_zeroed : (S M R : Segments) (s p : ℕ) (u : Tree) → ((t : Tree) → IsApart S s p t → IsZeroed S M (extent S s p t)) → IsReplaced M R s p Null u → ZeroesOld S R s p

@@ -9,7 +9,7 @@ use Rattle.capnp_format.specs.Tree.{Tree, Struct, Flat, Structs, Trees, Elements
 use Rattle.capnp_format.specs.Word.{list_count}
 use Rattle.capnp_format.specs.Means.{Leads, IsTag, count_cost, Means, MeansAll, MeansElements}
 use Rattle.capnp_format.specs.Forest.{Interval, times, pads_of, object_of, target, target_in, cover, cover_all, cover_elements, IsTidy, AreTidy, AreTidyElements}
-use Rattle.capnp_making.specs.Path.{struct_at, put_struct, with_data, word_interval, extent}
+use Rattle.capnp_making.specs.Path.{struct_at, put_struct, word_interval, extent}
 use Rattle.capnp_making.specs.Stored.{IsStored, IsReplaced}
 use Rattle.capnp_format.specs.Segments.{Grows}
 use Rattle.capnp_format.proofs.Frame.{Agree, SameWords, agree_left, agree_right, leads_agree, list_kept, has_words_kept, frame_all, frame_elements, same_cover}
@@ -159,6 +159,11 @@ flat_target S R s p size ns long x but =
         let but_a = subst (λ b. SameBut S R (object_of b k)) to_a but in
         let w = stays S R s p k a (object_of a k) (λ _. []) (same_grows S R long) o.leads_to (λ v r. omega arith) but_a x.apart in
         ap target_in w.leads_to.1 ∙ sym to_a
+
+-- A struct with other data words.
+abbrev pub with_data : Tree → List ℕ → Tree
+with_data (Struct ws ts) vs = Struct vs ts
+with_data t vs = t
 
 -- the data words of one element
 record ElementWritten (S R : Segments) (n s p d q : ℕ) (es : Elements) (i : ℕ) (vs : List ℕ) : Type 0 where

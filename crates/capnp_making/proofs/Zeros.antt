@@ -1,5 +1,5 @@
 -- Words written over with zeros.
-use Rattle.std.proofs.Common.{◌≡◌, ◌≢◌, inl, inr, ◌⊎◌, ℕ, zero, suc, ◌+◌, ◌-◌, ◌<◌, ◌≤◌, List, [], ◌∷◌, ◌++◌, length, drop, set, replicate, get_or, refl, sym, ap, ◌∙◌, subst, arith}
+use Rattle.std.proofs.Common.{cond, nat_eq, ◌≡◌, ◌≢◌, inl, inr, ◌⊎◌, ℕ, zero, suc, ◌+◌, ◌-◌, ◌<◌, ◌≤◌, List, [], ◌∷◌, length, set, replicate, get_or, refl, sym, ap, ◌∙◌, subst, arith}
 use Rattle.std.proofs.lemmas.List.{length-set, length-replicate, get_or-set_same, get_or-set_other}
 use Rattle.std.proofs.lemmas.Bool.{cases_lt, cases_eq}
 use Rattle.std.proofs.lemmas.Bool.Decides.{nat_tests}
@@ -10,7 +10,37 @@ pub use Rattle.capnp_arena.proofs.WordsOver.{segment_here, segment_other, word_h
 pub use Rattle.capnp_format.proofs.Frame.{in_row, of_row}
 pub use Rattle.capnp_format.proofs.Slices.{there}
 use Rattle.capnp_making.specs.Path.{word_interval}
-use Rattle.capnp_making.specs.Zeroed.{row, IsZeroed, nonzero_words, nonzeros, IsPruned}
+use Rattle.capnp_making.specs.Zeroed.{row, IsZeroed, IsPruned}
+
+-- How many words are not zero.
+abbrev pub nonzero_words : List ℕ → ℕ
+nonzero_words [] = 0
+nonzero_words (x ∷ xs) = cond (nat_eq x 0) 0 1 + nonzero_words xs
+
+abbrev pub nonzeros : Segments → ℕ
+nonzeros [] = 0
+nonzeros (ws ∷ S) = nonzero_words ws + nonzeros S
+
+-- of words that are as they were or zero no more are not zero
+fewer_words : (xs ys : List ℕ) → length ys ≡ length xs → ((i : ℕ) → (get_or ys i 0 ≡ get_or xs i 0) ⊎ (get_or ys i 0 ≡ 0)) → nonzero_words ys ≤ nonzero_words xs
+fewer_words xs [] long same = omega arith
+fewer_words [] (y ∷ ys) long same = absurd (omega arith)
+fewer_words (x ∷ xs) (y ∷ ys) long same =
+    let more = fewer_words xs ys (omega arith) (λ i. same (suc i)) in
+    elim (same zero) [
+      | inl e ↦ omega (arith, more, ap {B = ℕ} (λ z. cond (nat_eq z 0) 0 1) e)
+      | inr e ↦ omega (arith, more, ap {B = ℕ} (λ z. cond (nat_eq z 0) 0 1) e)
+    ]
+
+-- and so in a message of which some words became zero
+pub fewer : (S R : Segments) → IsPruned S R → nonzeros R ≤ nonzeros S
+fewer S R p = go S R p.segments p.words p.only
+  where
+    go : (S R : Segments) → length R ≡ length S → ((v : ℕ) → length (segment R v) ≡ length (segment S v)) → ((v r : ℕ) → (word_at R v r ≡ word_at S v r) ⊎ (word_at R v r ≡ 0)) → nonzeros R ≤ nonzeros S
+    go S [] same words only = omega arith
+    go [] (ys ∷ R) same words only = absurd (omega arith)
+    go (xs ∷ S) (ys ∷ R) same words only =
+        omega (arith, fewer_words xs ys (words zero) (only zero), go S R (omega arith) (λ v. words (suc v)) (λ v. only (suc v)))
 
 -- a segment that is written has no more words that are not zero, if these have no more
 pub fewer_in : (S : Segments) (s : ℕ) (ws : List ℕ) → s < length S → nonzeros (with_segment S s ws) + nonzero_words (segment S s) ≡ nonzeros S + nonzero_words ws
@@ -23,24 +53,6 @@ pub set_zero : (xs : List ℕ) (p : ℕ) → get_or xs p 0 ≢ 0 → suc (nonzer
 set_zero [] p n = absurd (n refl)
 set_zero (x ∷ xs) zero n = grind (arith, nat_tests)
 set_zero (x ∷ xs) (suc p) n = omega (arith, set_zero xs p n)
-
--- words become zero
-no_more : (k : ℕ) (ys : List ℕ) → nonzero_words (replicate k 0 ++ ys) ≡ nonzero_words ys
-no_more zero ys = refl
-no_more (suc k) ys = omega (arith, no_more k ys)
-
-fewer_dropped : (k : ℕ) (ys : List ℕ) → nonzero_words (drop k ys) ≤ nonzero_words ys
-fewer_dropped zero ys = omega arith
-fewer_dropped (suc k) [] = omega arith
-fewer_dropped (suc k) (y ∷ ys) = omega (arith, fewer_dropped k ys)
-
-over_front : (ys : List ℕ) (k : ℕ) → nonzero_words (replicate k 0 ++ drop (length {A = ℕ} (replicate k 0)) ys) ≤ nonzero_words ys
-over_front ys k = omega (arith, no_more k (drop (length {A = ℕ} (replicate k 0)) ys), fewer_dropped (length {A = ℕ} (replicate k 0)) ys)
-
-pub over_zero : (xs : List ℕ) (p n : ℕ) → nonzero_words (overwritten xs p (replicate n 0)) ≤ nonzero_words xs
-over_zero xs zero n = over_front xs n
-over_zero [] (suc p) n = over_front [] n
-over_zero (x ∷ xs) (suc p) n = omega (arith, over_zero xs p n)
 
 pub here_once : (s p : ℕ) → 0 < times (word_interval s p ∷ []) s p
 here_once s p = omega (arith, of_row s p 1 p (omega arith) (omega arith))
@@ -71,7 +83,7 @@ words_zeroed S R s p n some l e =
       ];
     } in (
       z,
-      record { segments = length-set S s made; words = same; only = only_zeros S _ _ z; fewer = omega (arith, fewer_in S s made here, over_zero W p n) },
+      record { segments = length-set S s made; words = same; only = only_zeros S _ _ z },
     ))
   where
     zeros_at : (k i : ℕ) → ◌≡◌ {A = ℕ} (get_or (replicate k 0) i 0) 0
@@ -108,14 +120,9 @@ word_zeroed S R s p l e =
       ];
     } in (
       z,
-      record { segments = length-set S s made; words = same; only = only_zeros S _ _ z; fewer = omega (arith, fewer_in S s made here, at_most W p) },
+      record { segments = length-set S s made; words = same; only = only_zeros S _ _ z },
       λ n. omega (arith, fewer_in S s made here, set_zero W p n),
     ))
-  where
-    at_most : (xs : List ℕ) (q : ℕ) → nonzero_words (set xs q 0) ≤ nonzero_words xs
-    at_most [] q = omega arith
-    at_most (x ∷ xs) zero = grind (arith, nat_tests)
-    at_most (x ∷ xs) (suc q) = omega (arith, at_most xs q)
 
 -- nothing becomes zero
 pub nothing_zeroed : (S : Segments) → IsZeroed S S []
@@ -129,7 +136,6 @@ pruned_again S R Q a b = record {
     | inl e ↦ elim (a.only v r) [ inl f ↦ inl (e ∙ f) | inr f ↦ inr (e ∙ f) ]
     | inr e ↦ inr e
   ];
-  fewer = omega (arith, a.fewer, b.fewer);
 }
 
 -- a word that is zero stays so

@@ -1,9 +1,9 @@
 -- What a pointer that means a value gives to a call that looks for a list, data, a text or a capability ("Lists", "Capabilities (Interfaces)").
 use Rattle.std.specs.Prelude.{ℕ, ◌+◌, ◌-◌, ◌<◌, ◌≤◌, Bool, true, false, cond, ◌&&◌, nat_eq, nat_le, List, [], ◌∷◌, length, get_or, take, drop, Option, Some, None, Result, Ok, Err}
 use Rattle.capnp_format.specs.Numbers.{element_bits, words_for, unpacked}
-use Rattle.capnp_format.specs.Segments.{Segments, segment, word_at, Target}
+use Rattle.capnp_format.specs.Segments.{Segments, segment, Target}
 use Rattle.capnp_format.specs.Tree.{Tree, Null, Capability, Struct, Flat, Pointers, Structs, count, element_count}
-use Rattle.capnp_format.specs.Word.{lower_half, upper_half, offset_bits, data_words, pointer_count}
+use Rattle.capnp_format.specs.Word.{lower_half, upper_half}
 use Rattle.capnp_words.specs.Sizes.{size_number, pointers_per_element}
 use Rattle.capnp_words.specs.declared.wire_pointer.ElementSize.{ElementSize}
 use Rattle.capnp_words.specs.declared.wire_pointer.ElementSize.TheVariants.{Void, Bit, Byte, TwoBytes, FourBytes, EightBytes, Pointer, InlineComposite}
@@ -94,12 +94,6 @@ abbrev pub unless : Option ErrorKind → ExistingList → Result (Option Existin
 unless None l = Ok (Some l)
 unless (Some e) l = Err e
 
--- The list of structs by the tag that stands at a.
-abbrev pub tagged_list : Segments → Target → ElementSize → Result (Option ExistingList) ErrorKind
-tagged_list S a expected =
-    let g = word_at S a.segment a.start in
-    unless (structs_misfit expected (data_words g) (pointer_count g)) (struct_list a (data_words g) (pointer_count g) (offset_bits g))
-
 -- The list that a value is which the pointer leads to at a, where its elements are to be as wide as expected ones.
 abbrev pub list_in : Target → ElementSize → Tree → Result (Option ExistingList) ErrorKind
 list_in a expected Null = Ok None
@@ -148,15 +142,14 @@ abbrev pub ends_in_zero : List ℕ → Bool
 ends_in_zero [] = false
 ends_in_zero (n ∷ ns) = nat_eq (get_or (n ∷ ns) (length ns) 0) 0
 
--- The text that bytes are, without the last one.
-abbrev pub text_found : Target → List ℕ → Result (Option ExistingBytes) ErrorKind
-text_found a ns = cond (ends_in_zero ns) (Ok (Some (bytes_at a (length ns - 1)))) (Err TextBlobMissingNULTerminator)
-
--- The text that a value is.
+-- The text that a value is, without its last byte, which has to be 0.
 abbrev pub text_in : Target → Tree → Result (Option ExistingBytes) ErrorKind
 text_in a Null = Ok None
 text_in a (Capability i) = Err ExistingPointerIsNotAList
 text_in a (Struct ws ts) = Err ExistingPointerIsNotAList
-text_in a (Flat size ns) = cond (nat_eq size 2) (text_found a ns) (Err ExistingListPointerIsNotByteSized)
+text_in a (Flat size ns) =
+    cond (nat_eq size 2)
+    (cond (ends_in_zero ns) (Ok (Some (bytes_at a (length ns - 1)))) (Err TextBlobMissingNULTerminator))
+    (Err ExistingListPointerIsNotByteSized)
 text_in a (Pointers ts) = Err ExistingListPointerIsNotByteSized
 text_in a (Structs d q es) = Err ExistingListPointerIsNotByteSized

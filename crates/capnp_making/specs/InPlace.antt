@@ -3,7 +3,6 @@ use Rattle.std.specs.Prelude.{◌≡◌, ℕ, ◌*◌, ◌≤◌, ◌++◌, List
 use Rattle.capnp_format.specs.Forest.{target}
 use Rattle.capnp_format.specs.Segments.{Segments}
 use Rattle.capnp_format.specs.Tree.{Tree, Flat}
-use Rattle.capnp_format.specs.Value.{AreBelow}
 use Rattle.capnp_arena.specs.Written.{overwritten}
 use Rattle.capnp_making.specs.Stored.{IsStored, IsReplaced}
 use Rattle.capnp_making.specs.declared.existing.ExistingBytes.{ExistingBytes}
@@ -12,21 +11,13 @@ use Rattle.capnp_making.specs.declared.existing.ExistingBytes.{ExistingBytes}
 abbrev pub bytes_there : List (List ℕ) → ExistingBytes → List ℕ
 bytes_there B b = take b.length (drop (8 * b.start) (slice_index_or B b.segment []))
 
--- The bytes of their segment, where these are others.
-abbrev pub segment_with : List (List ℕ) → ExistingBytes → List ℕ → List ℕ
-segment_with B b ws = overwritten (slice_index_or B b.segment []) (8 * b.start) ws
-
 -- The segments, where these bytes are others.
 abbrev pub segments_with : List (List ℕ) → ExistingBytes → List ℕ → List (List ℕ)
-segments_with B b ws = slice_set B b.segment (segment_with B b ws)
+segments_with B b ws = slice_set B b.segment (overwritten (slice_index_or B b.segment []) (8 * b.start) ws)
 
 -- An arena, where these bytes are others.
 abbrev pub rewritten : {A : Type 0} → (A → ℕ → List ℕ → A) → (A → List (List ℕ)) → A → ExistingBytes → List ℕ → A
-rewritten with_bytes segments a b ws = with_bytes a b.segment (segment_with (segments a) b ws)
-
--- n bytes
-abbrev pub AreBytes : ℕ → List ℕ → Type 0
-AreBytes n ws = (length ws ≡ n) × AreBelow 256 ws
+rewritten with_bytes segments a b ws = with_bytes a b.segment (overwritten (slice_index_or (segments a) b.segment []) (8 * b.start) ws)
 
 -- From S to R the bytes ws are written at b: where b is the start of a list of bytes, ws stand in it, and the others are as they were.
 abbrev pub Overwrites : Segments → Segments → ExistingBytes → List ℕ → Type 0

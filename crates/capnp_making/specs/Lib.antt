@@ -8,7 +8,6 @@ pub mod Existing
 pub mod Fields
 pub mod InPlace
 pub mod Laws
-pub mod Overwritten
 pub mod Filled
 pub mod Near
 pub mod Makes

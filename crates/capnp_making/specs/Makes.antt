@@ -1,12 +1,13 @@
 -- A call that makes an object at the place of a pointer.
-use Rattle.std.specs.Prelude.{ℕ, Result, IsOk, IfErr, OnOk, OnErr}
+use Rattle.std.specs.Prelude.{◌≡◌, ◌<◌, ℕ, Result, IsOk, IfErr, OnOk, OnErr}
 use Rattle.capnp_words.specs.declared.error.ErrorKind.{ErrorKind}
-use Rattle.capnp_format.specs.Forest.{target}
+use Rattle.capnp_format.specs.Forest.{cover, target, times}
+use Rattle.capnp_format.specs.Segments.{word_at}
 use Rattle.capnp_format.specs.Tree.{Tree, Null}
 use Rattle.capnp_arena.specs.View.{View}
 use Rattle.capnp_making.specs.Made.{LeadsToStart, WordsLieFrom}
-use Rattle.capnp_making.specs.Memory.{HasRoom, KeepsMemory, TakesWords, StandsBehind, start_of, IsRefusedFor, CanRefuse, LeavesNull}
-use Rattle.capnp_making.specs.Stored.{Puts, ZeroesOld}
+use Rattle.capnp_making.specs.Memory.{HasRoom, KeepsMemory, TakesWords, StandsBehind, start_of, IsRefusedFor}
+use Rattle.capnp_making.specs.Stored.{IsStored, Puts}
 use Rattle.capnp_making.specs.Zeroed.{IsPruned}
 use Rattle.capnp_making.specs.declared.making.Start.{Start}
 
@@ -33,7 +34,9 @@ pub record Allocates {A : Type 0} (result : Result A ErrorKind) (c : CallAt) (n 
 pub record MakesObject {A : Type 0} (result : Result A ErrorKind) (c : CallAt) (t : Tree) (n : ℕ) : Type 0 where
   pub made : OnOk result (Puts c.old.words c.new.words c.segment c.at t)
   pub behind : OnOk result (StandsBehind c.old c.segment n (start_of (target c.new.words c.segment c.at)))
-  pub zeroed : OnOk result (ZeroesOld c.old.words c.new.words c.segment c.at)
+  pub zeroed :
+      OnOk result
+      ((old : Tree) → IsStored c.old.words c.segment c.at old → (v r : ℕ) → 0 < times (cover c.old.words c.segment c.at old) v r → word_at c.new.words v r ≡ 0)
   pub memory : Allocates result c n
   pub refused : OnErr result (Puts c.old.words c.new.words c.segment c.at Null)
   pub only : OnErr result (IsPruned c.old.words c.new.words)
@@ -45,8 +48,8 @@ pub record ObjectStartsAt (c : CallAt) (n : ℕ) (h : Start) : Type 0 where
   pub behind : StandsBehind c.old c.segment n h
 
 -- What can be known of a call that makes an object of n words at a place, and keeps no message, whatever comes of it: it is never refused where there is
--- room; by which names it can be; and that a refusal leaves null.
+-- room; and it is refused as with some message, in which the place is null and nothing but zeros is written.
 pub record AsksForObject {A : Type 0} (result : Result A ErrorKind) (old : View) (id at n : ℕ) : Type 0 where
   pub fits : HasRoom old id n → IsOk result
-  pub named : IfErr result (CanRefuse old n)
-  pub refused : IfErr result (LeavesNull old id at n)
+  pub refused :
+      IfErr result (λ k. (new : View) × IsRefusedFor old new n k × Puts old.words new.words id at Null × IsPruned old.words new.words)

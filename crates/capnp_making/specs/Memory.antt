@@ -1,14 +1,11 @@
 -- The words that an object takes, in the segment of its pointer or, behind a landing pad, in another one ("Inter-Segment Pointers").
-use Rattle.std.specs.Prelude.{ℕ, ◌≡◌, ◌≢◌, ◌⊎◌, ◌+◌, ◌-◌, ◌^◌, ◌<◌, ◌≤◌, max, length}
+use Rattle.std.specs.Prelude.{ℕ, ◌≡◌, ◌≢◌, ◌⊎◌, ◌+◌, ◌<◌, ◌≤◌, max, length}
 use Rattle.capnp_format.specs.Segments.{Segments, segment, Target}
-use Rattle.capnp_format.specs.Tree.{Null}
 use Rattle.capnp_words.specs.declared.error.ErrorKind.{ErrorKind}
-use Rattle.capnp_words.specs.declared.error.ErrorKind.TheVariants.{AllocationFailed, MessageTooLarge}
-use Rattle.capnp_arena.specs.Allocations.{max_segments, max_segment_words, one_more}
+use Rattle.capnp_words.specs.declared.error.ErrorKind.TheVariants.{AllocationFailed}
+use Rattle.capnp_arena.specs.Allocations.{one_more}
 use Rattle.capnp_arena.specs.View.{View}
 use Rattle.capnp_arena.specs.Taking.{IsFirstFit, IsFull, IsAllocationRefusal, SameRoomBelow}
-use Rattle.capnp_making.specs.Stored.{Puts}
-use Rattle.capnp_making.specs.Zeroed.{IsPruned}
 use Rattle.capnp_making.specs.declared.making.Start.{Start}
 
 -- Segment id has room for n words more, or some segment has room for them and a pad.
@@ -35,10 +32,6 @@ pub record StandsBehind (old : View) (id n : ℕ) (h : Start) : Type 0 where
   pub near : 0 < n → length (segment old.words id) + n ≤ old.room id → (h.segment ≡ id) × (h.at ≡ length (segment old.words id))
   pub far : old.room id < length (segment old.words id) + n → IsNextRoom old (n + 1) h.segment × (h.at ≡ length (segment old.words h.segment) + 1)
 
--- n words are taken where the arena has room next, and what follows the first of them starts at h.
-abbrev pub TakesNext : View → View → ℕ → Start → Type 0
-TakesNext old new n h = IsNextRoom old n h.segment × Lengthens old.words new.words h.segment n × (h.at ≡ length (segment old.words h.segment) + 1)
-
 -- Where a pointer leads, as a start.
 abbrev pub start_of : Target → Start
 start_of a = record { segment = a.segment; at = a.start }
@@ -50,19 +43,6 @@ KeepsMemory old new = (new ≡ record old { words = new.words; room = new.room }
 -- n words and a pad are refused by this name, and nothing but words is changed, and how often memory was refused.
 abbrev pub IsRefusedFor : View → View → ℕ → ErrorKind → Type 0
 IsRefusedFor old new n k = IsAllocationRefusal old new (length old.words) (n + 1) k × (new ≡ record old { words = new.words; refusals = new.refusals })
-
--- A call that makes an object of n words at a place, and keeps no message, is refused by the name k: so it is with some message, in which the place is null
--- and nothing but zeros is written.
-abbrev pub LeavesNull : View → ℕ → ℕ → ℕ → ErrorKind → Type 0
-LeavesNull old id at n k =
-    (new : View) × IsRefusedFor old new n k × Puts old.words new.words id at Null × IsPruned old.words new.words
-
--- The names by which n words and a pad can be refused.
-abbrev pub CanRefuse : View → ℕ → ErrorKind → Type 0
-CanRefuse old n k =
-    ((k ≡ AllocationFailed) × (n + 1 ≤ max_segment_words) × (length old.words < max_segments))
-    ⊎ ((k ≡ MessageTooLarge (n + 1)) × (max_segment_words < n + 1) × (length old.words < max_segments))
-    ⊎ ((k ≡ MessageTooLarge (2 ^ 64 - 1)) × (length old.words ≡ max_segments))
 
 -- How often memory was refused, after a refusal by the name k.
 abbrev pub refusals_for : ErrorKind → ℕ → ℕ

@@ -42,13 +42,10 @@ offset_behind S id p = offset_to p (length (segment S id))
 abbrev pub with_object : Segments → ℕ → ℕ → ℕ → List ℕ → Segments
 with_object S id p x ws = extended (with_word S id p x) id ws
 
--- an object of n words of zero of a shape, and its pointer
+-- the pointer to an object of a shape, with an offset
 abbrev pub shape_word : Shape → ℕ → ℕ
 shape_word (StructShape size) offset = struct_word offset size.data_words size.pointers
 shape_word (ListShape size n) offset = list_word offset (size_number size) n
-
-abbrev pub with_shape : Segments → ℕ → ℕ → Shape → ℕ → Segments
-with_shape S id p shape n = with_object S id p (shape_word shape (offset_behind S id p)) (words_of_zero n)
 
 -- a struct, a list of n elements that are no structs, and a list of n structs, all zero, each with its pointer
 abbrev pub with_struct : Segments → ℕ → ℕ → StructSize → Segments

@@ -31,11 +31,7 @@ put_struct (element ws ts es) zero (Struct vs us) = element vs us es
 put_struct (element ws ts es) (suc i) u = element ws ts (put_struct es i u)
 put_struct es i u = es
 
--- a struct with other data words
-abbrev pub with_data : Tree → List ℕ → Tree
-with_data (Struct ws ts) vs = Struct vs ts
-with_data t vs = t
-
+-- where a step leads; null where it leads nowhere
 abbrev pub next : Tree → Step → Tree
 next (Struct ws ts) (Child i) = tree_at ts i
 next (Pointers ts) (Element i) = tree_at ts i

@@ -3,7 +3,7 @@ use Rattle.std.specs.Prelude.{◌≡◌, ℕ, ◌<◌, ◌≤◌, ◌⊎◌, len
 use Rattle.capnp_format.specs.Segments.{Segments, segment, word_at}
 use Rattle.capnp_format.specs.Tree.{Tree, Null}
 use Rattle.capnp_format.specs.Means.{Means}
-use Rattle.capnp_format.specs.Forest.{times, cover, IsTidy}
+use Rattle.capnp_format.specs.Forest.{times, IsTidy}
 use Rattle.capnp_making.specs.Path.{extent}
 use Rattle.capnp_making.specs.Zeroed.{IsPruned}
 
@@ -14,17 +14,13 @@ pub record IsStored (S : Segments) (s p : ℕ) (t : Tree) : Type 0 where
   pub inside : (v r : ℕ) → 0 < times (extent S s p t) v r → r < length (segment S v)
   pub tidy : IsTidy S s p t
 
--- t holds the word, or it is a new one
-abbrev pub IsUsable : Segments → ℕ → ℕ → Tree → ℕ → ℕ → Type 0
-IsUsable S s p t v r = (0 < times (extent S s p t) v r) ⊎ (length (segment S v) ≤ r)
-
 -- from S to R the place (s, p) gets u in place of t: u uses words of t and new ones, the rest of these is zero, and all other words stay
 pub record IsReplaced (S R : Segments) (s p : ℕ) (t u : Tree) : Type 0 where
   pub segments : length S ≤ length R
   pub words : (v : ℕ) → length (segment S v) ≤ length (segment R v)
   pub stored : IsStored R s p u
-  pub uses : (v r : ℕ) → 0 < times (extent R s p u) v r → IsUsable S s p t v r
-  pub zero_elsewhere : (v r : ℕ) → times (extent R s p u) v r ≡ 0 → IsUsable S s p t v r → word_at R v r ≡ 0
+  pub uses : (v r : ℕ) → 0 < times (extent R s p u) v r → (0 < times (extent S s p t) v r) ⊎ (length (segment S v) ≤ r)
+  pub zero_elsewhere : (v r : ℕ) → times (extent R s p u) v r ≡ 0 → (0 < times (extent S s p t) v r) ⊎ (length (segment S v) ≤ r) → word_at R v r ≡ 0
   pub kept : (v r : ℕ) → times (extent S s p t) v r ≡ 0 → r < length (segment S v) → word_at R v r ≡ word_at S v r
 
 -- Whatever value the place has in S, in R it has u in its stead.
@@ -34,7 +30,3 @@ Puts S R s p u = (t : Tree) → IsStored S s p t → IsReplaced S R s p t u
 -- Whatever the place holds in S, words become zero first, and then it has u in place of null.
 abbrev pub PutsOnceZeroed : Segments → Segments → ℕ → ℕ → Tree → Type 0
 PutsOnceZeroed S R s p u = (M : Segments) × IsPruned S M × IsReplaced M R s p Null u
-
--- The words below a place that its value in S used are zero in R: of what the place has in R no word but one of zero stands there.
-abbrev pub ZeroesOld : Segments → Segments → ℕ → ℕ → Type 0
-ZeroesOld S R s p = (t : Tree) → IsStored S s p t → (v r : ℕ) → 0 < times (cover S s p t) v r → word_at R v r ≡ 0

@@ -1,14 +1,15 @@
 -- Words made zero, and what stands where a pointer leads.
-use Rattle.std.specs.Prelude.{◌≡◌, ◌⊎◌, ℕ, zero, suc, ◌+◌, ◌*◌, ◌<◌, ◌≤◌, cond, nat_eq, List, [], ◌∷◌, ◌++◌, length}
+use Rattle.std.specs.Prelude.{◌≡◌, ◌⊎◌, ℕ, ◌+◌, ◌*◌, ◌<◌, ◌≤◌, List, [], ◌∷◌, ◌++◌, length}
 use Rattle.capnp_format.specs.Word.{kind, data_words, pointer_count, element_size, list_count}
 use Rattle.capnp_format.specs.Numbers.{words_for}
 use Rattle.capnp_format.specs.Segments.{Segments, segment, word_at, Target}
-use Rattle.capnp_format.specs.Tree.{Tree, Null, Capability, Struct, Flat, Pointers, Structs, Trees, no_trees, tree, Elements, no_elements, element, count, element_count}
+use Rattle.capnp_format.specs.Tree.{Tree, Null, Capability, Struct, Flat, Pointers, Structs, Trees, Elements, no_elements, element, count, element_count}
 use Rattle.capnp_format.specs.Means.{Means, MeansAll, MeansElements, Claims, IsTag}
 pub use Rattle.capnp_format.specs.Forest.{row, PadsInside, object_cover}
 use Rattle.capnp_format.specs.Forest.{Interval, times, cover_all, cover_elements}
 use Rattle.capnp_words.specs.declared.wire_pointer.StructSize.{StructSize}
 use Rattle.capnp_making.specs.Path.{word_interval, extent}
+use Rattle.capnp_making.specs.declared.making.Start.{Start}
 
 -- From S to R the words in these intervals become zero; all others stay.
 pub record IsZeroed (S R : Segments) (is : List Interval) : Type 0 where
@@ -17,21 +18,11 @@ pub record IsZeroed (S R : Segments) (is : List Interval) : Type 0 where
   pub zero : (v r : ℕ) → 0 < times is v r → word_at R v r ≡ 0
   pub kept : (v r : ℕ) → times is v r ≡ 0 → word_at R v r ≡ word_at S v r
 
--- How many words are not zero.
-abbrev pub nonzero_words : List ℕ → ℕ
-nonzero_words [] = 0
-nonzero_words (x ∷ xs) = cond (nat_eq x 0) 0 1 + nonzero_words xs
-
-abbrev pub nonzeros : Segments → ℕ
-nonzeros [] = 0
-nonzeros (ws ∷ S) = nonzero_words ws + nonzeros S
-
--- R has as many words as S; each is as it was or became zero, so no more of them are not zero.
+-- R has as many words as S; each is as it was or became zero.
 pub record IsPruned (S R : Segments) : Type 0 where
   pub segments : length R ≡ length S
   pub words : (v : ℕ) → length (segment R v) ≡ length (segment S v)
   pub only : (v r : ℕ) → (word_at R v r ≡ word_at S v r) ⊎ (word_at R v r ≡ 0)
-  pub fewer : nonzeros R ≤ nonzeros S
 
 -- R has as many words as S; x stands at a place, and each other word is as it was or became zero.
 pub record IsPrunedBut (S R : Segments) (s p x : ℕ) : Type 0 where
@@ -87,7 +78,7 @@ IsObjectAt S n a (Structs d q es) =
     (k : ℕ) × (kind a.word ≡ 1) × (element_size a.word ≡ 7) × IsTag (word_at S a.segment a.start) (element_count es) d q
     × Claims S a (1 + element_count es * (d + q)) × MeansElements S n a.segment (a.start + 1) d q es k
 
--- A value stands there, and holds no word twice.
+-- A value stands where the target leads, and holds no word twice.
 pub record IsObjectApart (S : Segments) (a : Target) (t : Tree) : Type 0 where
   pub stands : (n : ℕ) × IsObjectAt S n a t
   pub apart : (v r : ℕ) → times (object_cover S a t) v r ≤ 1
@@ -96,40 +87,13 @@ pub record IsObjectApart (S : Segments) (a : Target) (t : Tree) : Type 0 where
 abbrev pub IsObjectZeroed : Segments → Segments → Target → Type 0
 IsObjectZeroed S R a = (t : Tree) → IsObjectApart S a t → IsZeroed S R (object_cover S a t)
 
--- Pointers one behind the other, each with what is reached from it.
-abbrev pub child_extents : Segments → ℕ → ℕ → Trees → List Interval
-child_extents S s p no_trees = []
-child_extents S s p (tree t ts) = extent S s p t ++ child_extents S s (p + 1) ts
-
 -- The pointers of elements one behind the other, with what is reached from them.
 abbrev pub element_extents : Segments → ℕ → ℕ → ℕ → ℕ → Elements → List Interval
 element_extents S s p d q no_elements = []
 element_extents S s p d q (element ws ts es) = (row s (p + d) q ∷ cover_all S s (p + d) ts) ++ element_extents S s (p + d + q) d q es
 
--- The children from the i-th on.
-abbrev pub rest : ℕ → Trees → Trees
-rest zero ts = ts
-rest (suc i) no_trees = no_trees
-rest (suc i) (tree t ts) = rest i ts
-
--- The elements from the i-th on.
-abbrev pub rest_elements : ℕ → Elements → Elements
-rest_elements zero es = es
-rest_elements (suc i) no_elements = no_elements
-rest_elements (suc i) (element ws ts es) = rest_elements i es
-
--- So many elements of a size, one behind the other from a place on.
-pub record ElementRow : Type 0 where
-  pub segment : ℕ
-  pub start : ℕ
-  pub size : StructSize
-  pub count : ℕ
-
-abbrev pub element_row : ℕ → ℕ → StructSize → ℕ → ElementRow
-element_row s p size n = record { segment = s; start = p; size = size; count = n }
-
--- From S to R the pointers of these elements become zero, with all below them, if they mean values.
-abbrev pub AreElementsZeroed : Segments → Segments → ElementRow → Type 0
-AreElementsZeroed S R row =
-    (es : Elements) → element_count es ≡ row.count → AreApartElements S row.segment row.start row.size.data_words row.size.pointers es
-    → IsZeroed S R (element_extents S row.segment row.start row.size.data_words row.size.pointers es)
+-- From S to R the pointers of n elements of a size, one behind the other from h on, become zero, with all below them, if they mean values.
+abbrev pub AreElementsZeroed : Segments → Segments → Start → StructSize → ℕ → Type 0
+AreElementsZeroed S R h size n =
+    (es : Elements) → element_count es ≡ n → AreApartElements S h.segment h.at size.data_words size.pointers es
+    → IsZeroed S R (element_extents S h.segment h.at size.data_words size.pointers es)

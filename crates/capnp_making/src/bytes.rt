@@ -6,10 +6,10 @@ ghost use Rattle.capnp_format.specs.Numbers.{words_for};
 ghost use Rattle.capnp_format.specs.Segments.{segment, IsPlace};
 ghost use Rattle.capnp_format.specs.Tree.{Flat};
 ghost use Rattle.capnp_arena.specs.View.{KeepsLimits};
+ghost use Rattle.capnp_making.specs.InPlace.{segments_with};
 ghost use Rattle.capnp_making.specs.Made.{words_of_zero};
 ghost use Rattle.capnp_making.specs.Makes.{MakesObject, call_at};
 ghost use Rattle.capnp_making.specs.Near.{LeadsToEnd};
-ghost use Rattle.capnp_making.specs.Overwritten.{HoldsBytes, bytes_over};
 ghost use Rattle.capnp_making.specs.Stored.{PutsOnceZeroed};
 
 use crate::making::{Start, init_list};
@@ -96,9 +96,11 @@ fn set_bytes<A: BuilderArena>(
 /// Writes bytes from a word on, which lie in its segment.
 fn write_bytes<A: BuilderArena>(arena: &mut A, start: Start, from: &[u8])
     requires there { start.segment < length (A.view arena.old).words }
-    requires inside { HoldsBytes (A.view arena.old).words start (length from.now) }
+    requires inside { 8 * start.at + length from.now
+        ≤ 8 * length (segment (A.view arena.old).words start.segment) }
     ensures written { 0 < length from.now → A.segments arena.new
-        ≡ bytes_over (A.segments arena.old) start from.now }
+        ≡ segments_with (A.segments arena.old)
+        (record { segment = start.segment; start = start.at; length = length from.now }) from.now }
     ensures nothing { length from.now ≡ 0 → arena.new ≡ arena.old }
     ensures limits { KeepsLimits (A.view arena.old) (A.view arena.new) }
 {

@@ -6,11 +6,11 @@ ghost use Rattle.capnp_format.specs.Forest.{target};
 ghost use Rattle.capnp_format.specs.Numbers.{words_for};
 ghost use Rattle.capnp_format.specs.Segments.{segment, word_at};
 ghost use Rattle.capnp_format.specs.Tree.{Tree};
-ghost use Rattle.capnp_format.specs.Word.{list_count};
+ghost use Rattle.capnp_format.specs.Word.{data_words, list_count, offset_bits, pointer_count};
 ghost use Rattle.capnp_words.specs.Sizes.{size_number};
 ghost use Rattle.capnp_making.specs.Landings.{target_of};
 ghost use Rattle.capnp_making.specs.Stored.{IsStored};
-ghost use Rattle.capnp_making.specs.Existing.{BytesLieIn, capability_of, capability_in, listed, landing_in, is_unfound, plain_misfit, structs_misfit, unless, plain_list, tagged_list, list_in, data_in, text_in, struct_in, AreInside, StructLiesIn, bytes_in, ends_in_zero};
+ghost use Rattle.capnp_making.specs.Existing.{BytesLieIn, capability_of, capability_in, listed, landing_in, is_unfound, plain_misfit, structs_misfit, unless, plain_list, struct_list, list_in, data_in, text_in, struct_in, AreInside, StructLiesIn, bytes_in, ends_in_zero};
 
 use crate::landing::{Landing, landing_of, length_of, word_of};
 use capnp_arena::arena::BuilderArena;
@@ -245,7 +245,10 @@ fn struct_list_at<A: BuilderArena>(
     expected: ElementSize,
 ) -> Result<Option<ExistingList>, ErrorKind>
     ensures found { landing.start < length (segment (A.view arena.now).words landing.segment)
-        → result ≡ tagged_list (A.view arena.now).words (target_of landing) expected }
+        → let tag = word_at (A.view arena.now).words landing.segment landing.start in
+        result ≡ unless (structs_misfit expected (data_words tag) (pointer_count tag))
+        (struct_list (target_of landing) (data_words tag) (pointer_count tag)
+        (offset_bits tag)) }
     ensures named { IfErr result (λ k. is_unfound k ≡ true) }
 {
     match tag_at(arena, landing) {

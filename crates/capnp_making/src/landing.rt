@@ -1,8 +1,8 @@
 //! Where the pointers of a message lead ("Inter-Segment Pointers").
-ghost use Rattle.std.specs.Prelude.{◌≡◌, ◌<◌, ◌+◌, IsTrue, ◌↔◌, length, Some};
+ghost use Rattle.std.specs.Prelude.{option_map, ◌≡◌, ◌<◌, ◌+◌, IsTrue, ◌↔◌, length, Some};
 ghost use Rattle.capnp_format.specs.Segments.{segment, word_at, leads, near, far, Target};
 ghost use Rattle.capnp_format.specs.Word.{kind, is_double};
-ghost use Rattle.capnp_making.specs.Landings.{landed};
+ghost use Rattle.capnp_making.specs.Landings.{target_of};
 
 use capnp_arena::arena::BuilderArena;
 use capnp_words::wire_pointer::{WirePointer, WirePointerKind};
@@ -54,7 +54,7 @@ pub fn word_of<A: BuilderArena>(arena: &A, id: u32, at: u32) -> WirePointer
 #[inline(never)]
 pub(crate) fn follow<A: BuilderArena>(arena: &A, id: u32, at: u32) -> Option<Landing>
     ensures { (a : Target) → leads (A.view arena.now).words id at ≡ Some a
-        → landed result ≡ Some a }
+        → option_map target_of result ≡ Some a }
 {
     landing_of(arena, id, at, word_of(arena, id, at))
 }
@@ -69,7 +69,7 @@ pub(crate) fn landing_of<A: BuilderArena>(
 ) -> Option<Landing>
     requires { word.0 ≡ word_at (A.view arena.now).words id at }
     ensures { (a : Target) → leads (A.view arena.now).words id at ≡ Some a
-        → landed result ≡ Some a }
+        → option_map target_of result ≡ Some a }
 {
     if word.kind() == WirePointerKind::Far {
         follow_far(arena, word)
@@ -86,7 +86,7 @@ fn follow_near<A: BuilderArena>(
     word: WirePointer,
     pads: u32,
 ) -> Option<Landing>
-    ensures { landed result ≡ near (A.view arena.now).words id at word.0 pads }
+    ensures { option_map target_of result ≡ near (A.view arena.now).words id at word.0 pads }
 {
     match word.target(at, length_of(arena, id)) {
         Some(start) => Some(Landing {
@@ -104,7 +104,7 @@ fn follow_near<A: BuilderArena>(
 #[inline(never)]
 fn follow_far<A: BuilderArena>(arena: &A, word: WirePointer) -> Option<Landing>
     ensures { (a : Target) → far (A.view arena.now).words word.0 (is_double word.0) ≡ Some a
-        → landed result ≡ Some a }
+        → option_map target_of result ≡ Some a }
 {
     let id = word.far_segment_id();
     let at = word.far_position_in_segment();

@@ -3,9 +3,10 @@ ghost use Rattle.std.specs.Prelude.{◌≡◌, ℕ, ◌+◌, ◌-◌, ◌^◌, �
 ghost use Rattle.std.specs.Borrow.{sem, Lends, Array, u8 as byte};
 ghost use Rattle.capnp_format.specs.Numbers.{words_for};
 ghost use Rattle.capnp_format.specs.Segments.{IsPlace};
+ghost use Rattle.capnp_format.specs.Value.{AreBelow};
 ghost use Rattle.capnp_arena.specs.Written.{overwritten};
 ghost use Rattle.capnp_making.specs.Existing.{AreInside};
-ghost use Rattle.capnp_making.specs.InPlace.{bytes_there, rewritten, segments_with, AreBytes, AreZeroOnce, Overwrites};
+ghost use Rattle.capnp_making.specs.InPlace.{bytes_there, rewritten, segments_with, AreZeroOnce, Overwrites};
 ghost use Rattle.capnp_making.specs.Makes.{AsksForObject};
 
 use crate::existing::ExistingBytes;
@@ -41,7 +42,7 @@ pub fn bytes_mut<A: BuilderArena>(arena: &mut A, bytes: ExistingBytes) -> &mut [
     ensures segments { (ws : List ℕ) → length ws ≡ bytes.length →
         A.segments (rewritten A.with_bytes A.segments arena.old bytes ws)
         ≡ segments_with (A.segments arena.old) bytes ws }
-    ensures written { (ws : List ℕ) → AreBytes bytes.length ws →
+    ensures written { (ws : List ℕ) → (length ws ≡ bytes.length) × AreBelow 256 ws →
         Overwrites (A.view arena.old).words
         (A.view (rewritten A.with_bytes A.segments arena.old bytes ws)).words bytes ws }
 {

@@ -11,10 +11,10 @@ ghost use Rattle.capnp_format.specs.Word.{offset_bits, struct_word, capability_w
 ghost use Rattle.capnp_words.specs.Sizes.{size_number};
 ghost use Rattle.capnp_arena.specs.Taking.{IsFirstFit};
 ghost use Rattle.capnp_arena.specs.View.{KeepsLimits};
-ghost use Rattle.capnp_making.specs.Made.{IsShape, CountFits, AsksWords, zero_struct, zero_structs, zero_list, list_words, IsMadeAt};
+ghost use Rattle.capnp_making.specs.Made.{IsShape, CountFits, AsksWords, zero_struct, zero_structs, zero_list, list_words, words_of_zero, IsMadeAt};
 ghost use Rattle.capnp_making.specs.Makes.{Allocates, MakesObject, ObjectStartsAt, call_at};
-ghost use Rattle.capnp_making.specs.Memory.{KeepsMemory, TakesNext, StandsBehind, IsRefusedFor};
-ghost use Rattle.capnp_making.specs.Near.{HasOwnRoom, HasStructRoom, HasStructsRoom, StartsBehind, shape_word, with_shape, with_struct, with_list, with_struct_list};
+ghost use Rattle.capnp_making.specs.Memory.{KeepsMemory, IsNextRoom, Lengthens, StandsBehind, IsRefusedFor};
+ghost use Rattle.capnp_making.specs.Near.{HasOwnRoom, HasStructRoom, HasStructsRoom, StartsBehind, offset_behind, shape_word, with_object, with_struct, with_list, with_struct_list};
 ghost use Rattle.capnp_making.specs.Stored.{IsReplaced, Puts, PutsOnceZeroed};
 ghost use Rattle.capnp_making.specs.Zeroed.{IsPruned, IsPrunedBut};
 ghost use Rattle.capnp_arena.specs.Written.{with_word};
@@ -84,7 +84,9 @@ fn put_object<A: BuilderArena>(
     ensures behind { IfOk result (StandsBehind (A.view arena.old) id amount) }
     ensures near { HasOwnRoom (A.view arena.old) id amount
         → OnOk result
-        ((A.view arena.new).words ≡ with_shape (A.view arena.old).words id at shape amount) }
+        ((A.view arena.new).words ≡ with_object (A.view arena.old).words id at
+        (shape_word shape (offset_behind (A.view arena.old).words id at))
+        (words_of_zero amount)) }
     ensures at_end { HasOwnRoom (A.view arena.old) id amount
         → IfOk result (StartsBehind (A.view arena.old).words id) }
     ensures refused { OnErr result ((A.view arena.new).words ≡ (A.view arena.old).words) }
@@ -122,7 +124,9 @@ fn put_far<A: BuilderArena>(
         (A.view arena.new).words id at shape amount) }
     ensures fits { (k : ℕ) → IsFirstFit (A.view arena.old) (amount + 1) k → IsOk result }
     ensures granted { OnOk result (KeepsMemory (A.view arena.old) (A.view arena.new)) }
-    ensures taken { IfOk result (TakesNext (A.view arena.old) (A.view arena.new) (amount + 1)) }
+    ensures taken { IfOk result (λ h. IsNextRoom (A.view arena.old) (amount + 1) h.segment
+        × Lengthens (A.view arena.old).words (A.view arena.new).words h.segment (amount + 1)
+        × (h.at ≡ length (segment (A.view arena.old).words h.segment) + 1)) }
     ensures named { IfErr result (IsRefusedFor (A.view arena.old) (A.view arena.new) amount) }
     ensures refused { OnErr result ((A.view arena.new).words ≡ (A.view arena.old).words) }
 {

@@ -7,7 +7,7 @@ ghost use Rattle.capnp_format.specs.Word.{kind};
 ghost use Rattle.capnp_format.specs.Forest.{pads_of, row, PadsInside};
 ghost use Rattle.capnp_making.specs.Path.{extent};
 ghost use Rattle.capnp_making.specs.Landings.{target_of};
-ghost use Rattle.capnp_making.specs.Zeroed.{IsZeroed, IsPruned, IsApart, IsObjectZeroed, IsStructZeroed, ArePointersZeroed, IsStructListZeroed, AreElementsZeroed, element_row};
+ghost use Rattle.capnp_making.specs.Zeroed.{IsZeroed, IsPruned, IsApart, IsObjectZeroed, IsStructZeroed, ArePointersZeroed, IsStructListZeroed, AreElementsZeroed};
 
 use crate::landing::{Landing, follow, length_of, word_of};
 use capnp_arena::arena::BuilderArena;
@@ -147,6 +147,7 @@ fn zero_struct<A: BuilderArena>(arena: &mut A, id: u32, start: u32, size: Struct
 
 /// Makes so many pointers one behind the other zero, and all below them.
 #[cycle(zeroing)]
+#[tactic(auto, using(crate::proofs::Zeros::fewer))]
 fn zero_pointers<A: BuilderArena>(arena: &mut A, id: u32, start: u32, count: u32)
     ensures zeroed { ArePointersZeroed (A.view arena.old).words
         (A.view arena.new).words id start count }
@@ -179,11 +180,12 @@ fn zero_structs<A: BuilderArena>(arena: &mut A, id: u32, start: u32)
 
 /// Makes the pointers of elements one behind the other zero, and all below them.
 #[cycle(zeroing)]
+#[tactic(auto, using(crate::proofs::Zeros::fewer))]
 fn zero_elements<A: BuilderArena>(arena: &mut A, id: u32, start: u32, size: StructSize, count: u32)
     requires { start + count * (size.data_words + size.pointers)
         ≤ length (segment (A.view arena.old).words id) }
     ensures zeroed { AreElementsZeroed (A.view arena.old).words (A.view arena.new).words
-        (element_row id start size count) }
+        (record { segment = id; at = start }) size count }
     ensures pruned { IsPruned (A.view arena.old).words (A.view arena.new).words }
     ensures limits { KeepsLimits (A.view arena.old) (A.view arena.new) }
 {

@@ -7,8 +7,8 @@ use Rattle.capnp_format.specs.Tree.{Tree, Trees, no_trees, tree, Elements, no_el
 use Rattle.capnp_format.specs.Means.{Means, MeansAll}
 use Rattle.capnp_words.specs.Meter.{Meter}
 use Rattle.capnp_objects.specs.Spending.{Paid, after, pointers_in, pointers_in_all, pointers_in_elements}
-use Rattle.capnp_objects.specs.Outcomes.{MeansThere, MeanThere, ElementsMean, Spends, Reads, ReadsAll, ReadsElements}
-use Rattle.capnp_objects.proofs.Unreadable.{Unreadable, UnreadableAll, UnreadableElements}
+use Rattle.capnp_objects.specs.Outcomes.{MeansThere, MeanThere, ElementsMean, Reads, ReadsAll, ReadsElements}
+use Rattle.capnp_objects.proofs.Unreadable.{Unreadable, UnreadableAll, UnreadableElements, Spends}
 use Rattle.capnp_objects.specs.Wanted.{Form}
 use Rattle.capnp_objects.specs.Reading.{Reading, behind, pointers_of}
 use Rattle.capnp_words.specs.declared.wire_pointer.StructSize.{StructSize}

@@ -9,15 +9,15 @@ use Rattle.capnp_format.specs.Segments.{Segments, segment, words_at, Target}
 use Rattle.capnp_format.specs.Tree.{Tree, Null, Capability, Struct, Flat, Pointers, Structs, Trees, no_trees, tree, Elements, no_elements, element, count, element_count, capabilities, capabilities_all, capabilities_elements}
 use Rattle.capnp_format.specs.Means.{Claims, count_cost}
 use Rattle.capnp_words.specs.declared.wire_pointer.StructSize.{StructSize}
-use Rattle.capnp_objects.specs.Refusals.{FollowsTo}
 use Rattle.capnp_objects.specs.Demands.{claim, tag, element_words}
-use Rattle.capnp_objects.specs.Faults.{of_struct, of_list, of_element, here, below, LeadsTo, child_at, one_less, Among, AmongElements, HasFault}
+use Rattle.capnp_objects.specs.Faults.{of_struct, of_list, of_element, here, below, LeadsTo, child_at, HasFault}
 use Rattle.capnp_objects.specs.Outcomes.{MeansThere, MeanThere, ElementsMean}
-use Rattle.capnp_objects.specs.Wanted.{BreaksObject, BreaksAt, AllowsCapabilities, follow_at}
+use Rattle.capnp_objects.specs.Wanted.{BreaksObject, BreaksAt, AllowsCapabilities, follow_at, FollowsTo}
 use Rattle.capnp_objects.specs.Wanted.{Form, plain, canonical, of_default}
 use Rattle.capnp_objects.specs.Reading.{Reading, word_of, behind, segment_read, words_from, tag_size}
 use Rattle.capnp_objects.specs.declared.object.Purpose.TheVariants.{Value}
 use Rattle.capnp_objects.proofs.Followed.{leads_to, leads_there}
+use Rattle.capnp_objects.proofs.Unreadable.{Among, AmongElements}
 use Rattle.capnp_objects.proofs.Parts.{claim_struct, claim_list, claim_flat}
 use Rattle.capnp_format.proofs.Slices.{length_words}
 use Rattle.capnp_format.proofs.Digits.{length-digits}
@@ -51,7 +51,7 @@ FoundElements form r size m = (es : Elements) × (c : ℕ) × (element_count es 
 abbrev Everywhere : Form → Reading → Type 0
 Everywhere form r = (q : ℕ) → Choice form (record r { at = q })
 
-choose_all : (form : Form) (r : Reading) → Everywhere form r → (m : ℕ) → FoundAll form r m ⊎ ((k : ErrorKind) × Among one_less (BreaksAt form k) r m)
+choose_all : (form : Form) (r : Reading) → Everywhere form r → (m : ℕ) → FoundAll form r m ⊎ ((k : ErrorKind) × Among (BreaksAt form k) r m)
 choose_all form r h zero = inl (no_trees, 0, refl, refl, λ e. refl)
 choose_all form r h (suc m) = elim (h r.at) [
   | inl f ↦ elim (choose_all form (behind r 1) h m) [
@@ -62,7 +62,7 @@ choose_all form r h (suc m) = elim (h r.at) [
 ]
 
 choose_elements : (form : Form) (r : Reading) → Everywhere form r → (size : StructSize) (m : ℕ) → r.at + m * (size.data_words + size.pointers) ≤ length (segment_read r) →
-    FoundElements form r size m ⊎ ((k : ErrorKind) × AmongElements one_less (BreaksAt form k) r size m)
+    FoundElements form r size m ⊎ ((k : ErrorKind) × AmongElements (BreaksAt form k) r size m)
 choose_elements form r h size zero fits = inl (no_elements, 0, refl, refl, λ e. refl)
 choose_elements form r h size (suc m) fits = elim (choose_all form (behind r size.data_words) h size.pointers) [
   | inl f ↦ elim (choose_elements form (behind (behind r size.data_words) size.pointers) h size m (omega arith)) [
@@ -136,9 +136,9 @@ at_place form r a k f h = inr (k, here (f.0, inr (a, f.1, h)))
 
 choose_structs : {r : Reading} {a : Target} (form : Form) → IsWhole r a → kind a.word ≡ 1 → element_size a.word ≡ 7 → Below form r a → Choice form r
 choose_structs {r} {a} form o z seven h = elim (same_or_not (kind (tag r.segments a)) 0) [
-  | inr other ↦ at_place form r a InlineCompositeListsOfNonStructTypeAreNotSupported follows (o.levels, ((z, seven), o.claims, other))
+  | inr other ↦ at_place form r a InlineCompositeListsOfNonStructTypeAreNotSupported follows (o.levels, (z, seven), o.claims, other)
   | inl is_tag ↦ elim (within_or_not (element_words (tag r.segments a)) (list_count a.word)) [
-    | inr over ↦ at_place form r a InlineCompositeListsElementsOverrunItsWordCount follows (o.levels, ((z, seven), o.claims, is_tag), over)
+    | inr over ↦ at_place form r a InlineCompositeListsElementsOverrunItsWordCount follows (o.levels, (z, seven), o.claims, is_tag, over)
     | inl fits ↦ inside is_tag fits
   ]
 ]
@@ -191,7 +191,7 @@ choose_object : (form : Form) (r : Reading) (a : Target) → FollowsTo r a → k
 choose_object form r a f object h = elim (same_or_not r.levels 0) [
   | inl none ↦ at_place form r a MessageIsTooDeeplyNestedOrContainsCycles f (object, none)
   | inr some ↦ elim (within_or_not (a.start + claim a.word) (length (segment r.segments a.segment))) [
-    | inr outside ↦ at_place form r a MessageContainsOutOfBoundsPointer f (object, omega (arith, some), outside)
+    | inr outside ↦ at_place form r a MessageContainsOutOfBoundsPointer f (object, omega (arith, some), λ lies. omega (arith, outside, lies))
     | inl claims ↦ whole (record { leads_to = leads_there r a f (λ e. omega (arith, object)); levels = omega (arith, some); claims = claims })
   ]
 ]
@@ -203,8 +203,8 @@ choose_object form r a f object h = elim (same_or_not r.levels 0) [
     ]
 
 choose_capability : (form : Form) (r : Reading) (a : Target) → FollowsTo r a → a.word % 2 ^ 32 ≡ 3 → Choice form r
-choose_capability canonical r a f low = at_place canonical r a CannotCreateACanonicalMessageWithACapability f (tt, low)
-choose_capability of_default r a f low = at_place of_default r a UnknownPointerType f (omega (arith, low), inr tt)
+choose_capability canonical r a f low = at_place canonical r a CannotCreateACanonicalMessageWithACapability f (refl, low)
+choose_capability of_default r a f low = at_place of_default r a UnknownPointerType f (omega (arith, low), inr refl)
 choose_capability plain r a f low = inl (Capability (upper_half a.word), a.pads, (a, leads_there r a f (λ e. omega arith), omega arith, refl), λ e. absurd e)
 
 choose_target : (form : Form) (r : Reading) (a : Target) → FollowsTo r a → (0 < r.levels → Below form r a) → Choice form r

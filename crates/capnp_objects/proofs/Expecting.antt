@@ -1,9 +1,9 @@
 -- From the steps of a reading that expects an object of a kind to its outcome.
-use Rattle.std.proofs.Common.{◌≡◌, ◌↔◌, inl, inr, ℕ, zero, suc, ◌-◌, ◌<◌, ◌≤◌, Bool, true, false, cond, nat_eq, Some, None, Result, Ok, Err, IsOk, IfOk, IfErr, refl, sym, ap, ap₂, ◌⊎◌, ◌∙◌, subst, arith, eqb-true}
+use Rattle.std.proofs.Common.{◌≡◌, ◌↔◌, inl, inr, ℕ, zero, suc, ◌+◌, ◌-◌, ◌*◌, ◌/◌, ◌%◌, ◌^◌, ◌<◌, ◌≤◌, Bool, true, false, ◌||◌, cond, nat_eq, Some, None, Result, Ok, Err, IsOk, IfOk, IfErr, refl, sym, ap, ap₂, ◌⊎◌, ◌∙◌, subst, arith, eqb-true}
 use Rattle.capnp_words.specs.declared.error.ErrorKind.{ErrorKind}
 use Rattle.capnp_words.specs.Meter.{Meter}
 use Rattle.capnp_format.specs.Word.{kind, data_words, pointer_count, element_size, list_count}
-use Rattle.capnp_format.specs.Segments.{Segments, Target}
+use Rattle.capnp_format.specs.Segments.{Segments, Target, word_at}
 use Rattle.capnp_words.specs.declared.wire_pointer.ElementSize.{ElementSize}
 use Rattle.capnp_words.specs.declared.wire_pointer.ElementSize.TheVariants.{Void, Bit, Byte, TwoBytes, FourBytes, EightBytes, Pointer, InlineComposite}
 use Rattle.capnp_words.specs.declared.wire_pointer.StructSize.{StructSize}
@@ -13,22 +13,27 @@ use Rattle.capnp_objects.specs.declared.object.Expected.TheVariants.{Struct, Lis
 use Rattle.capnp_objects.specs.declared.object.Object.{Object}
 use Rattle.capnp_objects.specs.declared.object.Object.TheVariants.{Null as ObjectNull, Capability as ObjectCapability, Struct as ObjectStruct, Flat as ObjectFlat, Pointers as ObjectPointers, Structs as ObjectStructs}
 use Rattle.capnp_objects.specs.declared.object.Place.{Place}
-use Rattle.capnp_objects.specs.declared.source.Landing.{Landing}
+use Rattle.capnp_objects.specs.declared.source.Found.{Found}
 use Rattle.capnp_objects.specs.Demands.{tag}
 use Rattle.capnp_objects.specs.Entering.{IsUnsuited, another, not_entered, misfits as unsuited_misfits, object_misfit, place_byte}
-use Rattle.capnp_objects.specs.Expected.{too_deep, another_kind, misfit, byte_of, narrow_elements, narrow_structs, one_level, IsSuited, CanBeGiven, IsOfKind, Withheld, no_level, unfollowed, of_another_kind, stopped, misfits, IsGiven}
+use Rattle.capnp_objects.specs.Expected.{too_deep, another_kind, misfit, narrow_elements, narrow_structs, IsSuited, CanBeGiven, Withheld, no_level, unfollowed, of_another_kind, stopped, misfits, IsGiven}
 use Rattle.capnp_objects.specs.Faults.{LeadsTo}
-use Rattle.capnp_objects.specs.Landings.{landing_target, FollowsPointer, IsEntered, IsOpened}
+use Rattle.capnp_objects.specs.Landings.{found_target, following, IsFollowed, Arrival, IsEntered, IsOpened}
 use Rattle.capnp_objects.specs.Objects.{IsObject}
 use Rattle.capnp_objects.specs.Outcomes.{Entered}
 use Rattle.capnp_objects.specs.Reading.{Reading, word_of, tag_size}
-use Rattle.capnp_objects.specs.Refusals.{Unfollowed, exceeding, leading_nowhere, CanBeRead}
+use Rattle.capnp_objects.specs.Refusals.{Unfollowed, exceeding, leading_nowhere, no_target, CanBeRead}
 use Rattle.capnp_objects.specs.Spending.{Paid}
+use Rattle.capnp_objects.specs.Wanted.{follow_at}
 use Rattle.capnp_objects.specs.declared.object.Purpose.TheVariants.{Value}
 use Rattle.capnp_objects.proofs.Faultless.{same_target}
-use Rattle.capnp_objects.proofs.Followed.{leads_to}
-use Rattle.capnp_objects.proofs.Landings.{IsCounted, reached, entered, stops_unfollowed, object_refused}
+use Rattle.capnp_objects.proofs.Followed.{entered_leads, suited_leads}
+use Rattle.capnp_objects.proofs.Landings.{IsCounted, reached, entered, object_refused, arrived}
 use Rattle.capnp_objects.proofs.Refusals.{not_stopped}
+
+-- the same place with one level, which is asked for apart
+abbrev pub one_level : Reading → Reading
+one_level r = record r { levels = 1 }
 
 -- what the kind is where it isn't another
 not_another : (k : ErrorKind) (b : Bool) → cond b None (Some k) ≡ None → b ≡ true
@@ -69,16 +74,16 @@ is_byte Pointer e = absurd (omega arith)
 is_byte InlineComposite e = absurd (omega arith)
 
 -- An object of the kind is entered, from m to m'.
-pub record IsEnteredAs (expected : Expected) (S : Segments) (charging : Bool) (a : Target) (m m' : Meter) (x : Object) : Type 0 where
-  pub of_kind : another_kind expected a.word ≡ None
-  pub opened : IsOpened Value S charging 1 a m m' x
+pub record IsEnteredAs (expected : Expected) (o : Arrival) (m m' : Meter) (x : Object) : Type 0 where
+  pub of_kind : another_kind expected o.target.word ≡ None
+  pub opened : IsOpened Value o m m' x
 
-pub is_entered : {expected : Expected} {a : Target} {m m' : Meter} {x : Object} (S : Segments) (charging : Bool) → IsOpened Value S charging 1 a m m' x → another_kind expected a.word ≡ None → IsEnteredAs expected S charging a m m' x
-is_entered S charging h e = record { of_kind = e; opened = h }
+pub is_entered : {expected : Expected} {o : Arrival} {m m' : Meter} {x : Object} → IsOpened Value o m m' x → another_kind expected o.target.word ≡ None → IsEnteredAs expected o m m' x
+is_entered h e = record { of_kind = e; opened = h }
 
-pub entered_object : {expected : Expected} {S : Segments} {charging : Bool} {a : Target} {m m' : Meter} (x : Object) → IsEnteredAs expected S charging a m m' x → IsEntered Value S charging 1 a m m'
+pub entered_object : {expected : Expected} {o : Arrival} {m m' : Meter} (x : Object) → IsEnteredAs expected o m m' x → IsEntered Value o m m'
 entered_object ObjectNull h = absurd h.opened
-entered_object {expected} {a = a} (ObjectCapability i) h = absurd (let k = kind_below_two expected a.word h.of_kind in let low = h.opened.0 in omega (arith, low, k))
+entered_object {expected} {o = o} (ObjectCapability i) h = absurd (let k = kind_below_two expected o.target.word h.of_kind in let low = h.opened.0 in omega (arith, low, k))
 entered_object (ObjectStruct start size) h = h.opened.0
 entered_object (ObjectFlat start size count) h = h.opened.0
 entered_object (ObjectPointers start count) h = h.opened.0
@@ -98,37 +103,37 @@ narrow_list size sections (suc (suc (suc (suc (suc zero))))) h = refl
 narrow_list size sections (suc (suc (suc (suc (suc (suc zero)))))) h = refl
 narrow_list size sections (suc (suc (suc (suc (suc (suc (suc i))))))) h = absurd (omega arith)
 
-misfit_of_list : {size : ElementSize} {S : Segments} {charging : Bool} {a : Target} {m m' : Meter} (x : Object) → kind a.word ≡ 1 → IsEnteredAs (List size) S charging a m m' x → object_misfit (List size) x ≡ misfit (List size) S a
+misfit_of_list : {size : ElementSize} {o : Arrival} {m m' : Meter} (x : Object) → kind o.target.word ≡ 1 → IsEnteredAs (List size) o m m' x → object_misfit (List size) x ≡ misfit (List size) o.segments o.target
 misfit_of_list ObjectNull k h = absurd h.opened
-misfit_of_list {a = a} (ObjectCapability i) k h = absurd (let low = h.opened.0 in omega (arith, low, k))
+misfit_of_list {o = o} (ObjectCapability i) k h = absurd (let low = h.opened.0 in omega (arith, low, k))
 misfit_of_list (ObjectStruct start size) k h = absurd (let z = h.opened.1 in omega (arith, z, k))
-misfit_of_list {size} {S} {a = a} (ObjectFlat start found count) k h =
+misfit_of_list {size} {o = o} (ObjectFlat start found count) k h =
     let small = h.opened.2 in
     let wide = h.opened.4 in
-    rw wide (narrow_list size (tag_size S a) (element_size a.word) (omega (arith, small)))
-misfit_of_list {size} {S} {a = a} (ObjectPointers start count) k h = let six = h.opened.2 in rw six refl
-misfit_of_list {size} {S} {a = a} (ObjectStructs start sections count) k h =
+    rw wide (narrow_list size (tag_size o.segments o.target) (element_size o.target.word) (omega (arith, small)))
+misfit_of_list {size} {o = o} (ObjectPointers start count) k h = let six = h.opened.2 in rw six refl
+misfit_of_list {size} {o = o} (ObjectStructs start sections count) k h =
     let seven = h.opened.2 in
-    rw (seven, same_sections S a sections h.opened.5 h.opened.6) refl
+    rw (seven, same_sections o.segments o.target sections h.opened.5 h.opened.6) refl
 
-misfit_of_text : {S : Segments} {charging : Bool} {a : Target} {m m' : Meter} (x : Object) → (kind a.word ≡ 1) × (element_size a.word ≡ 2) → IsEnteredAs Text S charging a m m' x → object_misfit Text x ≡ misfit Text S a
+misfit_of_text : {o : Arrival} {m m' : Meter} (x : Object) → (kind o.target.word ≡ 1) × (element_size o.target.word ≡ 2) → IsEnteredAs Text o m m' x → object_misfit Text x ≡ misfit Text o.segments o.target
 misfit_of_text ObjectNull k h = absurd h.opened
-misfit_of_text {a = a} (ObjectCapability i) k h = absurd (let low = h.opened.0 in omega (arith, low, k.0))
+misfit_of_text {o = o} (ObjectCapability i) k h = absurd (let low = h.opened.0 in omega (arith, low, k.0))
 misfit_of_text (ObjectStruct start size) k h = absurd (let z = h.opened.1 in omega (arith, z, k.0))
-misfit_of_text {S} {a = a} (ObjectFlat start size count) k h =
+misfit_of_text {o = o} (ObjectFlat start size count) k h =
     let wide = h.opened.4 in
     let there = h.opened.3 in
     let byte : size ≡ Byte = is_byte size (omega (arith, wide, k.1)) in
-    let first : start.at ≡ a.start = (let at = there.2 in omega (arith, at)) in
-    let bytes : (i : ℕ) → place_byte start i ≡ byte_of S a i = λ i. rw (there.0.0, there.1, first) refl in
-    rw (byte, h.opened.5, bytes (list_count a.word - 1)) refl
+    let first : start.at ≡ o.target.start = (let at = there.2 in omega (arith, at)) in
+    let bytes : (i : ℕ) → place_byte start i ≡ word_at o.segments o.target.segment (o.target.start + i / 8) / 2 ^ (8 * (i % 8)) % 256 = λ i. rw (there.0.0, there.1, first) refl in
+    rw (byte, h.opened.5, bytes (list_count o.target.word - 1)) refl
 misfit_of_text (ObjectPointers start count) k h = absurd (let six = h.opened.2 in omega (arith, six, k.1))
 misfit_of_text (ObjectStructs start sections count) k h = absurd (let seven = h.opened.2 in omega (arith, seven, k.1))
 
-pub misfit_of : {expected : Expected} {S : Segments} {charging : Bool} {a : Target} {m m' : Meter} (x : Object) → IsEnteredAs expected S charging a m m' x → object_misfit expected x ≡ misfit expected S a
+pub misfit_of : {expected : Expected} {o : Arrival} {m m' : Meter} (x : Object) → IsEnteredAs expected o m m' x → object_misfit expected x ≡ misfit expected o.segments o.target
 misfit_of {expected = Struct} x h = refl
-misfit_of {expected = List size} {a = a} x h = misfit_of_list x (kind_of_list size a.word h.of_kind) h
-misfit_of {expected = Text} {a = a} x h = misfit_of_text x (kind_of_text a.word h.of_kind) h
+misfit_of {expected = List size} {o = o} x h = misfit_of_list x (kind_of_list size o.target.word h.of_kind) h
+misfit_of {expected = Text} {o = o} x h = misfit_of_text x (kind_of_text o.target.word h.of_kind) h
 misfit_of {expected = Data} x h = refl
 
 -- the object is as expected
@@ -136,23 +141,23 @@ some_level : (expected : Expected) (k : ErrorKind) (n : ℕ) → too_deep expect
 some_level expected k zero e none = absurd (cc (e, none))
 some_level expected k (suc n) e none = omega arith
 
-given_struct : {S : Segments} {charging : Bool} {a : Target} {m m' : Meter} (x : Object) {n : ℕ} → 0 < n → IsEnteredAs Struct S charging a m m' x → IsGiven Struct n x
+given_struct : {o : Arrival} {m m' : Meter} (x : Object) {n : ℕ} → 0 < n → IsEnteredAs Struct o m m' x → IsGiven Struct n x
 given_struct ObjectNull level h = tt
-given_struct {a = a} (ObjectCapability i) level h = absurd (let k = kind_of_struct a.word h.of_kind in let low = h.opened.0 in omega (arith, low, k))
+given_struct {o = o} (ObjectCapability i) level h = absurd (let k = kind_of_struct o.target.word h.of_kind in let low = h.opened.0 in omega (arith, low, k))
 given_struct (ObjectStruct start size) level h = level
-given_struct {a = a} (ObjectFlat start size count) level h = absurd (let k = kind_of_struct a.word h.of_kind in let z = h.opened.1 in omega (arith, z, k))
-given_struct {a = a} (ObjectPointers start count) level h = absurd (let k = kind_of_struct a.word h.of_kind in let z = h.opened.1 in omega (arith, z, k))
-given_struct {a = a} (ObjectStructs start size count) level h = absurd (let k = kind_of_struct a.word h.of_kind in let z = h.opened.1 in omega (arith, z, k))
+given_struct {o = o} (ObjectFlat start size count) level h = absurd (let k = kind_of_struct o.target.word h.of_kind in let z = h.opened.1 in omega (arith, z, k))
+given_struct {o = o} (ObjectPointers start count) level h = absurd (let k = kind_of_struct o.target.word h.of_kind in let z = h.opened.1 in omega (arith, z, k))
+given_struct {o = o} (ObjectStructs start size count) level h = absurd (let k = kind_of_struct o.target.word h.of_kind in let z = h.opened.1 in omega (arith, z, k))
 
-given_list : {size : ElementSize} {S : Segments} {charging : Bool} {a : Target} {m m' : Meter} (x : Object) {n : ℕ} → 0 < n → object_misfit (List size) x ≡ None → IsEnteredAs (List size) S charging a m m' x → IsGiven (List size) n x
+given_list : {size : ElementSize} {o : Arrival} {m m' : Meter} (x : Object) {n : ℕ} → 0 < n → object_misfit (List size) x ≡ None → IsEnteredAs (List size) o m m' x → IsGiven (List size) n x
 given_list ObjectNull level fits h = tt
-given_list {size} {a = a} (ObjectCapability i) level fits h = absurd (let k = kind_of_list size a.word h.of_kind in let low = h.opened.0 in omega (arith, low, k))
-given_list {size} {a = a} (ObjectStruct start sections) level fits h = absurd (let k = kind_of_list size a.word h.of_kind in let z = h.opened.1 in omega (arith, z, k))
+given_list {size} {o = o} (ObjectCapability i) level fits h = absurd (let k = kind_of_list size o.target.word h.of_kind in let low = h.opened.0 in omega (arith, low, k))
+given_list {size} {o = o} (ObjectStruct start sections) level fits h = absurd (let k = kind_of_list size o.target.word h.of_kind in let z = h.opened.1 in omega (arith, z, k))
 given_list (ObjectFlat start found count) level fits h = (level, fits)
 given_list (ObjectPointers start count) level fits h = (level, fits)
 given_list (ObjectStructs start sections count) level fits h = (level, fits)
 
-no_bytes : (k : ErrorKind) (b : Bool) (count : ℕ) → cond (nat_eq count 0) (Some k) (cond b None (Some k)) ≡ None → 0 < count
+no_bytes : (k : ErrorKind) (b : Bool) (count : ℕ) → cond (nat_eq count 0 || b) (Some k) None ≡ None → 0 < count
 no_bytes k b zero e = absurd (cc e)
 no_bytes k b (suc count) e = omega arith
 
@@ -160,7 +165,7 @@ no_bytes k b (suc count) e = omega arith
 abbrev IsBytes : Object → Type 0
 IsBytes x = (x ≡ ObjectNull) ⊎ ((start : Place) × (count : ℕ) × (x ≡ ObjectFlat start Byte count))
 
-given_bytes : {expected : Expected} {S : Segments} {charging : Bool} {a : Target} {m m' : Meter} (x : Object) → (kind a.word ≡ 1) × (element_size a.word ≡ 2) → IsEnteredAs expected S charging a m m' x → IsBytes x
+given_bytes : {expected : Expected} {o : Arrival} {m m' : Meter} (x : Object) → (kind o.target.word ≡ 1) × (element_size o.target.word ≡ 2) → IsEnteredAs expected o m m' x → IsBytes x
 given_bytes ObjectNull k h = inl refl
 given_bytes (ObjectCapability i) k h = absurd (let low = h.opened.0 in omega (arith, low, k.0))
 given_bytes (ObjectStruct start size) k h = absurd (let z = h.opened.1 in omega (arith, z, k.0))
@@ -179,11 +184,11 @@ given_data : (n : ℕ) (x : Object) → IsBytes x → IsGiven Data n x
 given_data n x (inl e) = rw e tt
 given_data n x (inr (start, count, e)) = rw e refl
 
-pub given : {expected : Expected} {S : Segments} {charging : Bool} {a : Target} {m m' : Meter} (x : Object) (n : ℕ) → too_deep expected n ≡ None → object_misfit expected x ≡ None → IsEnteredAs expected S charging a m m' x → IsGiven expected n x
-given {expected = Struct} {a = a} x n level fits h = given_struct x (some_level Struct _ n refl level) h
-given {expected = List size} {a = a} x n level fits h = given_list x (some_level (List size) _ n refl level) fits h
-given {expected = Text} {a = a} x n level fits h = given_text n x (given_bytes x (kind_of_text a.word h.of_kind) h) fits
-given {expected = Data} {a = a} x n level fits h = given_data n x (given_bytes x (kind_of_data a.word h.of_kind) h)
+pub given : {expected : Expected} {o : Arrival} {m m' : Meter} (x : Object) (n : ℕ) → too_deep expected n ≡ None → object_misfit expected x ≡ None → IsEnteredAs expected o m m' x → IsGiven expected n x
+given {expected = Struct} {o = o} x n level fits h = given_struct x (some_level Struct _ n refl level) h
+given {expected = List size} {o = o} x n level fits h = given_list x (some_level (List size) _ n refl level) fits h
+given {expected = Text} {o = o} x n level fits h = given_text n x (given_bytes x (kind_of_text o.target.word h.of_kind) h) fits
+given {expected = Data} {o = o} x n level fits h = given_data n x (given_bytes x (kind_of_data o.target.word h.of_kind) h)
 
 -- the pointer was counted and followed, and the object looked at: the outcome of the call
 pub level_counted : {r : Reading} {m m' : Meter} → IsCounted r m m' → IsCounted (one_level r) m m'
@@ -193,28 +198,28 @@ level_unfollowed : {r : Reading} {m m' : Meter} {k : ErrorKind} → Unfollowed r
 level_unfollowed (exceeding some short paid named) = exceeding some short paid named
 level_unfollowed (leading_nowhere some h paid) = leading_nowhere some h paid
 
-pub withheld : (expected : Expected) {r : Reading} {m m₁ m₂ m₃ : Meter} {l : Landing} {k : ErrorKind} → IsCounted r m m₁ → FollowsPointer r m₁ m₂ l → too_deep expected r.levels ≡ None →
-    IsUnsuited expected r.segments r.charging (landing_target l) m₂ m₃ k → Withheld expected r m m₃ k
+pub withheld : (expected : Expected) {r : Reading} {m m₁ m₂ m₃ : Meter} {l : Found} {k : ErrorKind} → IsCounted r m m₁ → IsFollowed (following r) m₁ m₂ l → too_deep expected r.levels ≡ None →
+    IsUnsuited expected (arrived (one_level r) (found_target l)) m₂ m₃ k → Withheld expected r m m₃ k
 withheld expected {r} {m} {m₁} {m₂} {m₃} {l} {k} o f level (another e same) =
-    let there = reached o f in of_another_kind (landing_target l) level there.follows e (subst (λ y. Paid r.charging m y l.pads 1) (sym same) there.paid)
+    let there = reached o f in of_another_kind (found_target l) level there.follows e (subst (λ y. Paid r.charging m y l.pads 1) (sym same) there.paid)
 withheld expected {r} {m} {m₁} {m₂} {m₃} {l} {k} o f level (not_entered e h) =
-    let of_kind : IsOfKind expected r = λ b same. (let g = f.leads_to in let b_is : b ≡ landing_target l = cc (g, same) in rw b_is e) in
+    let of_kind : (b : Target) → follow_at r ≡ Ok b → another_kind expected b.word ≡ None = λ b same. (let g = f.leads_to in let b_is : b ≡ found_target l = cc (g, same) in rw b_is e) in
     stopped level of_kind (object_refused {r = one_level r} (level_counted o) f h)
 withheld expected {r} {m} {m₁} {m₂} {m₃} {l} {k} o f level (unsuited_misfits e h fits) =
-    misfits (landing_target l) level e (entered (reached {r = one_level r} (level_counted o) f) h) fits
+    misfits (found_target l) level e (entered (reached {r = one_level r} (level_counted o) f) h) fits
 
 -- the place means what the call expects
-pub suited : (expected : Expected) {r : Reading} {m m₁ m₂ m₃ : Meter} {l : Landing} (x : Object) → IsCounted r m m₁ → FollowsPointer r m₁ m₂ l → too_deep expected r.levels ≡ None →
-    object_misfit expected x ≡ None → IsEnteredAs expected r.segments r.charging (landing_target l) m₂ m₃ x → CanBeGiven expected r m
+pub suited : (expected : Expected) {r : Reading} {m m₁ m₂ m₃ : Meter} {l : Found} (x : Object) → IsCounted r m m₁ → IsFollowed (following r) m₁ m₂ l → too_deep expected r.levels ≡ None →
+    object_misfit expected x ≡ None → IsEnteredAs expected (arrived (one_level r) (found_target l)) m₂ m₃ x → CanBeGiven expected r m
 unfolding CanBeGiven
 suited expected {r} {m} {m₁} {m₂} {m₃} {l} x o f level fits h =
-    let all : Entered Value (one_level r) m m₃ (landing_target l) = entered (reached {r = one_level r} (level_counted o) f) (entered_object x h) in
-    inr (landing_target l, record { level = level; leads_to = all.leads_to; of_kind = h.of_kind; meets = all.meets; fits = sym (misfit_of x h) ∙ fits }, all.covers)
+    let all : Entered Value (one_level r) m m₃ (found_target l) = entered (reached {r = one_level r} (level_counted o) f) (entered_object x h) in
+    inr (found_target l, record { level = level; follows = all.follows; of_kind = h.of_kind; meets = all.meets; fits = sym (misfit_of x h) ∙ fits }, all.covers)
 
 can_be_read : (expected : Expected) (r : Reading) (m : Meter) → CanBeGiven expected r m → CanBeRead Value (one_level r) m
 unfolding CanBeGiven CanBeRead
 can_be_read expected r m (inl null) = inl null
-can_be_read expected r m (inr (a, s, covers)) = inr (inr (a, s.leads_to, s.meets, covers))
+can_be_read expected r m (inr (a, s, covers)) = inr (inr (a, s.follows, s.meets, covers))
 
 null_can_be_read : (r : Reading) (m : Meter) → word_of r ≡ 0 → CanBeRead Value r m
 unfolding CanBeRead
@@ -226,15 +231,15 @@ not_withheld_null null (unfollowed level (exceeding some short paid named)) = so
 not_withheld_null null (unfollowed level (leading_nowhere some h paid)) = some null
 not_withheld_null null (of_another_kind b level f e paid) = f.0 null
 not_withheld_null {r = r} {m} null (stopped level of_kind h) = not_stopped (null_can_be_read (one_level r) m null) h
-not_withheld_null null (misfits b level e o fits) = o.leads_to.0 null
+not_withheld_null null (misfits b level e o fits) = o.follows.0 null
 
 not_withheld_there : {expected : Expected} {r : Reading} {m m' : Meter} {k : ErrorKind} (a : Target) → IsSuited expected r a → CanBeRead Value (one_level r) m → Withheld expected r m m' k → ⊥
 not_withheld_there a s can (no_level some e same) = absurd (let f = s.level in cc (e, f))
-not_withheld_there a s can (unfollowed level h) = not_stopped can (stops_unfollowed (level_unfollowed h))
-not_withheld_there {r = r} a s can (of_another_kind b level f e paid) = absurd (let g = (leads_to r a s.leads_to).1 in let h = f.1 in let i = s.of_kind in let same : a ≡ b = cc (g, h) in let j = rw (← same) at e in cc (i, j))
+not_withheld_there a s can (unfollowed level h) = not_stopped can (no_target (level_unfollowed h))
+not_withheld_there {r = r} a s can (of_another_kind b level f e paid) = absurd (let g = s.follows.1 in let h = f.1 in let i = s.of_kind in let same : a ≡ b = cc (g, h) in let j = rw (← same) at e in cc (i, j))
 not_withheld_there a s can (stopped level of_kind h) = not_stopped can h
 not_withheld_there {r = r} a s can (misfits b level e o fits) =
-    absurd (let same : a ≡ b = same_target r.segments r.segment r.at s.leads_to.1 o.leads_to.1 in let f = s.fits in let j = rw (← same) at fits in cc (f, j))
+    absurd (let same : a ≡ b = same_target r.segments r.segment r.at (suited_leads s).1 (entered_leads o).1 in let f = s.fits in let j = rw (← same) at fits in cc (f, j))
 
 pub not_withheld : (expected : Expected) (r : Reading) (m m' : Meter) (k : ErrorKind) → CanBeGiven expected r m → Withheld expected r m m' k → ⊥
 unfolding CanBeGiven
@@ -258,7 +263,7 @@ if_both (Err e) P Q R f h k = tt
 -- one's own levels, of which there is one
 own_level : {r : Reading} {m m' : Meter} {a : Target} → 0 < r.levels → Entered Value (one_level r) m m' a → Entered Value r m m' a
 own_level level o = record {
-  leads_to = o.leads_to;
+  follows = o.follows;
   meets = record { levels = level; is_object = o.meets.is_object; claims = o.meets.claims; tagged = o.meets.tagged };
   covers = o.covers;
   spent = o.spent;
@@ -292,7 +297,7 @@ LeadsToKind r m m' k = ((word_of r ≡ 0) × (m' ≡ m)) ⊎ ((a : Target) × Le
 pub struct_or_null : {r : Reading} {m m' : Meter} (x : Object) → IsGiven Struct r.levels x → IsReadAt r m m' x → LeadsToKind r m m' 0
 struct_or_null ObjectNull level h = inl h.object
 struct_or_null (ObjectCapability i) level h = absurd level
-struct_or_null (ObjectStruct start size) level h = let o = h.object in inr (o.0, o.1.leads_to, o.2)
+struct_or_null (ObjectStruct start size) level h = let o = h.object in inr (o.0, entered_leads o.1, o.2)
 struct_or_null (ObjectFlat start size count) level h = absurd level
 struct_or_null (ObjectPointers start count) level h = absurd level
 struct_or_null (ObjectStructs start size count) level h = absurd level
@@ -301,9 +306,9 @@ pub list_or_null : (size : ElementSize) {r : Reading} {m m' : Meter} (x : Object
 list_or_null size ObjectNull level h = inl h.object
 list_or_null size (ObjectCapability i) level h = absurd level
 list_or_null size (ObjectStruct start sections) level h = absurd level
-list_or_null size (ObjectFlat start found count) level h = let o = h.object in inr (o.0, o.1.leads_to, o.2)
-list_or_null size (ObjectPointers start count) level h = let o = h.object in inr (o.0, o.1.leads_to, o.2)
-list_or_null size (ObjectStructs start sections count) level h = let o = h.object in inr (o.0, o.1.leads_to, o.2)
+list_or_null size (ObjectFlat start found count) level h = let o = h.object in inr (o.0, entered_leads o.1, o.2)
+list_or_null size (ObjectPointers start count) level h = let o = h.object in inr (o.0, entered_leads o.1, o.2)
+list_or_null size (ObjectStructs start sections count) level h = let o = h.object in inr (o.0, entered_leads o.1, o.2)
 
 -- a text or data that is given and is no list of bytes is null
 pub no_text : (n : ℕ) {r : Reading} {m m' : Meter} (x : Object) → IsGiven Text n x → IsReadAt r m m' x → ((start : Place) (size : ElementSize) (count : ℕ) → x ≡ ObjectFlat start size count → ⊥) → (word_of r ≡ 0) × (m' ≡ m)
@@ -326,4 +331,4 @@ no_data n (ObjectStructs start size count) given h other = absurd given
 pub given_fits : (expected : Expected) (r : Reading) (m : Meter) (a : Target) → CanBeGiven expected r m → LeadsTo r a → misfit expected r.segments a ≡ None
 unfolding CanBeGiven
 given_fits expected r m a (inl null) l = absurd (l.0 null)
-given_fits expected r m a (inr (b, s, covers)) l = (let same : b ≡ a = same_target r.segments r.segment r.at s.leads_to.1 l.1 in rw (← same) s.fits)
+given_fits expected r m a (inr (b, s, covers)) l = (let same : b ≡ a = same_target r.segments r.segment r.at (suited_leads s).1 l.1 in rw (← same) s.fits)

@@ -4,10 +4,10 @@ use Rattle.capnp_words.specs.declared.error.ErrorKind.{ErrorKind}
 use Rattle.capnp_words.specs.declared.error.ErrorKind.TheVariants.{CannotCreateACanonicalMessageWithACapability, CantHandleNonStructInlineComposite, InlineCompositeListsElementsOverrunItsWordCount, InlineCompositeListsOfNonStructTypeAreNotSupported, MalformedDoubleFarPointer, MessageContainsOutOfBoundsPointer, MessageIsTooDeeplyNestedOrContainsCycles, UnknownPointerType}
 use Rattle.capnp_format.specs.Segments.{Segments, Target, leads}
 use Rattle.capnp_format.specs.Tree.{capabilities}
-use Rattle.capnp_objects.specs.Demands.{LiesThere, Meets}
-use Rattle.capnp_objects.specs.Faults.{IsPointer, Somewhere, here, below, LeadsTo, child_at, one_less}
-use Rattle.capnp_objects.specs.Wanted.{IsOutside, BreaksObject, BreaksAt, IsCanonical, IsOfDefault, RefusesCapabilities, AllowsCapabilities}
-use Rattle.capnp_objects.specs.Wanted.{Form, plain, canonical, of_default}
+use Rattle.capnp_objects.specs.Demands.{Meets}
+use Rattle.capnp_objects.specs.Faults.{IsPointer, Somewhere, here, below, LeadsTo, child_at}
+use Rattle.capnp_objects.specs.Wanted.{BreaksObject, BreaksAt, RefusesCapabilities, AllowsCapabilities}
+use Rattle.capnp_objects.specs.Wanted.{Form, canonical, of_default}
 use Rattle.capnp_objects.specs.Reading.{Reading}
 use Rattle.capnp_objects.specs.declared.object.Purpose.{Purpose}
 use Rattle.capnp_objects.specs.declared.object.Purpose.TheVariants.{Value, Size}
@@ -16,25 +16,16 @@ use Rattle.capnp_objects.proofs.Parts.{Meant, Parts, is_null, is_capability, is_
 
 -- a copy in canonical form has no capability, and no more has one of a default
 
-canonical_refuses : (form : Form) → IsCanonical form → RefusesCapabilities form
-canonical_refuses plain h = h
-canonical_refuses canonical h = h
-canonical_refuses of_default h = tt
+canonical_refuses : (form : Form) → form ≡ canonical → RefusesCapabilities form
+canonical_refuses form e = rw e tt
 
-default_refuses : (form : Form) → IsOfDefault form → RefusesCapabilities form
-default_refuses plain h = h
-default_refuses canonical h = tt
-default_refuses of_default h = h
+default_refuses : (form : Form) → form ≡ of_default → RefusesCapabilities form
+default_refuses form e = rw e tt
 
 -- a capability that the form takes, or an object that meets its demands
 pub data Sound (purpose : Purpose) (form : Form) (r : Reading) (a : Target) : Type 0 where
   sound_capability : a.word % 2 ^ 32 ≡ 3 → (RefusesCapabilities form → ⊥) → Sound purpose form r a
   sound_object : Meets purpose r.segments r.levels a → Sound purpose form r a
-
--- the words that an object claims lie in its segment, so they are not outside of it
-not_outside : (purpose : Purpose) (S : Segments) (a : Target) → LiesThere purpose S a → IsOutside purpose S a → ⊥
-not_outside Value S a lies outside = omega (arith, lies, outside)
-not_outside Size S a lies (some, outside) = omega (arith, lies some, outside)
 
 pub not_refused : (purpose : Purpose) {form : Form} {r : Reading} {a : Target} (k : ErrorKind) → Sound purpose form r a → BreaksObject purpose form r.segments r.levels a k → ⊥
 not_refused purpose MalformedDoubleFarPointer (sound_capability low other) h = omega arith
@@ -46,13 +37,13 @@ not_refused purpose CannotCreateACanonicalMessageWithACapability (sound_object o
 not_refused purpose MessageIsTooDeeplyNestedOrContainsCycles (sound_capability low other) h = omega (arith, h.0, low)
 not_refused purpose MessageIsTooDeeplyNestedOrContainsCycles (sound_object o) h = omega (arith, h.1, o.levels)
 not_refused purpose MessageContainsOutOfBoundsPointer (sound_capability low other) h = omega (arith, h.0, low)
-not_refused purpose {r = r} {a = a} MessageContainsOutOfBoundsPointer (sound_object o) h = not_outside purpose r.segments a o.claims h.2
-not_refused Value InlineCompositeListsOfNonStructTypeAreNotSupported (sound_capability low other) h = omega (arith, h.1.0.0, low)
-not_refused Value InlineCompositeListsOfNonStructTypeAreNotSupported (sound_object o) h = h.1.2 (o.tagged h.1.0).0
-not_refused Size CantHandleNonStructInlineComposite (sound_capability low other) h = omega (arith, h.1.0.0, low)
-not_refused Size CantHandleNonStructInlineComposite (sound_object o) h = h.1.2 (o.tagged h.1.0).0
-not_refused purpose InlineCompositeListsElementsOverrunItsWordCount (sound_capability low other) h = omega (arith, h.1.0.0, low)
-not_refused purpose InlineCompositeListsElementsOverrunItsWordCount (sound_object o) h = omega (arith, h.2, (o.tagged h.1.0).1)
+not_refused purpose MessageContainsOutOfBoundsPointer (sound_object o) h = h.2 o.claims
+not_refused Value InlineCompositeListsOfNonStructTypeAreNotSupported (sound_capability low other) h = omega (arith, h.1.0, low)
+not_refused Value InlineCompositeListsOfNonStructTypeAreNotSupported (sound_object o) h = h.3 (o.tagged h.1).0
+not_refused Size CantHandleNonStructInlineComposite (sound_capability low other) h = omega (arith, h.1.0, low)
+not_refused Size CantHandleNonStructInlineComposite (sound_object o) h = h.3 (o.tagged h.1).0
+not_refused purpose InlineCompositeListsElementsOverrunItsWordCount (sound_capability low other) h = omega (arith, h.1.0, low)
+not_refused purpose InlineCompositeListsElementsOverrunItsWordCount (sound_object o) h = omega (arith, h.4, (o.tagged h.1).1)
 not_refused purpose _ sound h = absurd h
 
 pub same_target : (S : Segments) (s p : ℕ) {a b : Target} → leads S s p ≡ Some a → leads S s p ≡ Some b → a ≡ b
@@ -76,7 +67,7 @@ inner_child {r} {m} {c} {b} {q} (is_capability a la low one g) l o i =
     absurd (let e = same_target r.segments r.segment r.at la.1 l.1 in let w : a.word % 2 ^ 32 ≡ b.word % 2 ^ 32 = ap (λ x. x.word % 2 ^ 32) e in omega (arith, w, low, o.is_object))
 inner_child {r} {m} {c} {b} {q} (is_inner a la h) l o i = let e : b ≡ a = sym (same_target r.segments r.segment r.at la.1 l.1) in rw e (h.children q (rw (sym e) i))
 
-pub no_fault : (form : Form) (k : ErrorKind) {r : Reading} → Somewhere one_less (BreaksAt form k) r → (m : ℕ) → AllowsCapabilities form m → Meant r m → ⊥
+pub no_fault : (form : Form) (k : ErrorKind) {r : Reading} → Somewhere (BreaksAt form k) r → (m : ℕ) → AllowsCapabilities form m → Meant r m → ⊥
 no_fault form k {r} (here b) m takes (t, c, h, le) = not_broken form k (λ e. omega (arith, takes e, le)) (means_parts r t c h) b
 no_fault form k {r} (below a q l o i rest) m takes (t, c, h, le) =
     no_fault form k rest (capabilities t) (λ e. omega (arith, takes e, le)) (inner_child (means_parts r t c h) l o i)

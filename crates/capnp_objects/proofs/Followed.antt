@@ -1,18 +1,74 @@
 -- A pointer leads somewhere exactly where following it does, to no far word.
 use Rattle.std.proofs.Common.{◌≡◌, ◌≢◌, ℕ, zero, suc, ◌+◌, ◌<◌, ◌≤◌, Bool, true, false, ◌&&◌, cond, nat_eq, nat_lt, Option, Some, None, Result, Ok, Err, [], length, get_or, refl, sym, ap, ◌∙◌, arith, eqb-true}
+use Rattle.std.specs.Prelude.{ok_or}
+use Rattle.std.specs.Result.{result_ok}
 use Rattle.std.proofs.lemmas.Bool.{eqb-false, ltb-true, ne_eqb}
 use Rattle.std.proofs.lemmas.List.{get_or_past}
 use Rattle.capnp_words.specs.declared.error.ErrorKind.{ErrorKind}
-use Rattle.capnp_words.specs.declared.error.ErrorKind.TheVariants.{InvalidSegmentId, MessageContainsOutOfBoundsPointer}
+use Rattle.capnp_words.specs.declared.error.ErrorKind.TheVariants.{InvalidSegmentId, MessageContainsOutOfBoundsPointer, TriedToReadFromNullArena}
 use Rattle.capnp_format.specs.Word.{kind, upper_half, far_position, is_double, offset_bits}
 use Rattle.capnp_format.specs.Segments.{Segments, segment, word_at, Target, ◌>>=◌, given, offset_leads, near, pad, far, leads}
-use Rattle.capnp_objects.specs.Follow.{◌>=>◌, or_named, follow_far, follow, Follows}
+use Rattle.capnp_objects.specs.Follow.{◌>=>◌, follow_far}
 use Rattle.capnp_format.specs.Means.{Leads}
 use Rattle.capnp_objects.specs.Faults.{LeadsTo}
 use Rattle.capnp_objects.specs.Objects.{near_at}
 use Rattle.capnp_objects.specs.Reading.{Reading, word_of}
-use Rattle.capnp_objects.specs.Refusals.{FollowsTo}
-use Rattle.capnp_objects.specs.Wanted.{far_named, follow_at}
+use Rattle.capnp_objects.specs.declared.object.Expected.{Expected}
+use Rattle.capnp_objects.specs.declared.object.Purpose.{Purpose}
+use Rattle.capnp_words.specs.Meter.{Meter}
+use Rattle.capnp_objects.specs.Wanted.{follow_at, FollowsTo}
+use Rattle.capnp_objects.specs.Outcomes.{Entered}
+use Rattle.capnp_objects.specs.Expected.{IsSuited}
+
+-- what is not there is refused by a name
+abbrev pub or_named : {A : Type 0} → ErrorKind → Option A → Result A ErrorKind
+or_named k o = ok_or o k
+
+-- a far pointer of a default, which leads nowhere, has a name of its own
+abbrev pub far_named : Bool → Result Target ErrorKind → Result Target ErrorKind
+far_named b result = cond b (ok_or (result_ok result) TriedToReadFromNullArena) result
+
+-- segment u has to exist
+abbrev pub existing : {A : Type 0} → Segments → ℕ → A → Result A ErrorKind
+existing S u x = cond (nat_lt u (length S)) (Ok x) (Err (InvalidSegmentId u))
+
+-- a far pointer is followed step by step
+abbrev pub far_steps : Segments → ℕ → ℕ → Result Target ErrorKind
+far_steps S x zero =
+    existing S (upper_half x) x >=> λ _.
+    or_named MessageContainsOutOfBoundsPointer (pad S x 0) >=> λ w. or_named MessageContainsOutOfBoundsPointer (near S (upper_half x) (far_position x) w 1)
+far_steps S x (suc _) =
+    existing S (upper_half x) x >=> λ _.
+    or_named MessageContainsOutOfBoundsPointer (pad S x 1) >=> λ f.
+    existing S (upper_half f) (record { word = word_at S (upper_half x) (far_position x + 1); segment = upper_half f; start = far_position f; pads = 2 })
+
+first_there : (b : Bool) (x : ℕ) (k : ErrorKind) (r : Result Target ErrorKind) → cond b r (Err k) ≡ (cond b (Ok x) (Err k) >=> λ _. r)
+first_there true x k r = refl
+first_there false x k r = refl
+
+pub followed_far : (S : Segments) (x double : ℕ) → follow_far S x double ≡ far_steps S x double
+followed_far S x zero = first_there (nat_lt (upper_half x) (length S)) x (InvalidSegmentId (upper_half x)) _
+followed_far S x (suc d) = first_there (nat_lt (upper_half x) (length S)) x (InvalidSegmentId (upper_half x)) _
+
+-- the word at a place that is not zero leads to an object, whose describing word may be of any kind; or the first of the refusals
+abbrev pub follow : Segments → ℕ → ℕ → Result Target ErrorKind
+follow S s p = let x = word_at S s p in cond (nat_eq (kind x) 2) (far_steps S x (is_double x)) (or_named MessageContainsOutOfBoundsPointer (near S s p x 0))
+
+abbrev pub is_named : Reading → Bool
+is_named r = r.of_default && nat_eq (kind (word_of r)) 2
+
+pub followed_at : (r : Reading) → follow_at r ≡ far_named (is_named r) (follow r.segments r.segment r.at)
+followed_at r =
+    let x : ℕ = word_of r in
+    let there : Result Target ErrorKind = or_named MessageContainsOutOfBoundsPointer (near r.segments r.segment r.at x 0) in
+    ap (λ far. cond (nat_eq (kind x) 2) (cond r.of_default (ok_or (result_ok far) TriedToReadFromNullArena) far) there) (followed_far r.segments x (is_double x))
+    ∙ go (nat_eq (kind x) 2) r.of_default (far_steps r.segments x (is_double x)) there
+  where
+    go : (b d : Bool) (far there : Result Target ErrorKind) → cond b (cond d (ok_or (result_ok far) TriedToReadFromNullArena) far) there ≡ far_named (d && b) (cond b far there)
+    go true true far there = refl
+    go true false far there = refl
+    go false true far there = refl
+    go false false far there = refl
 
 -- an option and a result that agree on every target whose word is of no far kind
 record Agrees (o : Option Target) (r : Result Target ErrorKind) : Type 0 where
@@ -65,7 +121,7 @@ no_pad S x n h =
     go true h = absurd (omega (arith, h refl))
     go false h = refl
 
-far_agrees : (S : Segments) (x double : ℕ) → Agrees (far S x double) (follow_far S x double)
+far_agrees : (S : Segments) (x double : ℕ) → Agrees (far S x double) (far_steps S x double)
 far_agrees S x zero =
     by_existing (nat_lt (upper_half x) (length S)) x (InvalidSegmentId (upper_half x)) (λ e. ap (λ o. o >>= λ w. cond (nat_eq (kind w) 2) None (near S (upper_half x) (far_position x) w 1)) (no_pad S x 0 e))
     (by_pad MessageContainsOutOfBoundsPointer (pad S x 0) _ _ (λ w e.
@@ -81,6 +137,10 @@ leads_agrees S s p =
     let x = word_at S s p in
     by_choice (nat_eq (kind x) 2) (λ _. far_agrees S x (is_double x))
     (λ b. by_name MessageContainsOutOfBoundsPointer (near S s p x 0) (λ a e is_far. eqb-false (kind x) 2 b (sym (ap kind (near_word S s p x 0 e)) ∙ is_far)))
+
+-- the word at a place is not zero, and is followed to a target
+abbrev Follows : Segments → ℕ → ℕ → Target → Type 0
+Follows S s p a = (word_at S s p ≢ 0) × (follow S s p ≡ Ok a)
 
 pub leads_follows : (S : Segments) (s p : ℕ) (a : Target) → Leads S s p a → Follows S s p a × (kind a.word ≢ 2)
 leads_follows S s p a (some, l) = let r = (leads_agrees S s p).there a l in ((some, r.0), r.1)
@@ -101,23 +161,27 @@ unnamed_ok false (Ok x) e = e
 unnamed_ok true (Err k) e = absurd (cc e)
 unnamed_ok false (Err k) e = e
 
-abbrev is_named : Reading → Bool
-is_named r = r.of_default && nat_eq (kind (word_of r)) 2
-
 pub leads_to : (r : Reading) (a : Target) → LeadsTo r a → FollowsTo r a
-leads_to r a l = let f = (leads_follows r.segments r.segment r.at a l).0 in (f.0, named_ok (is_named r) (follow r.segments r.segment r.at) f.1)
+leads_to r a l = let f = (leads_follows r.segments r.segment r.at a l).0 in (f.0, followed_at r ∙ named_ok (is_named r) (follow r.segments r.segment r.at) f.1)
 
 pub leads_there : (r : Reading) (a : Target) → FollowsTo r a → kind a.word ≢ 2 → LeadsTo r a
-leads_there r a (some, f) other = follows_leads r.segments r.segment r.at a (some, unnamed_ok (is_named r) (follow r.segments r.segment r.at) f) other
+leads_there r a (some, f) other = follows_leads r.segments r.segment r.at a (some, unnamed_ok (is_named r) (follow r.segments r.segment r.at) (sym (followed_at r) ∙ f)) other
+
+-- so is that of an object that is entered, or that is as a call expects
+pub entered_leads : {purpose : Purpose} {r : Reading} {m m' : Meter} {a : Target} → Entered purpose r m m' a → LeadsTo r a
+entered_leads {r = r} {a = a} o = leads_there r a o.follows (λ f. let i = o.meets.is_object in omega (arith, f, i))
+
+pub suited_leads : {expected : Expected} {r : Reading} {a : Target} → IsSuited expected r a → LeadsTo r a
+suited_leads {r = r} {a = a} s = leads_there r a s.follows (λ f. let i = s.meets.is_object in omega (arith, f, i))
 
 -- a near pointer leads into its own segment
 pub near_landed : (r : Reading) (a : Target) → kind (word_of r) ≢ 2 → follow_at r ≡ Ok a → a ≡ near_at r a.start
 near_landed r a other f =
     let x : ℕ = word_of r in
     let n : ℕ = length (segment r.segments r.segment) in
-    let plain : follow r.segments r.segment r.at ≡ Ok a = unnamed_ok (is_named r) (follow r.segments r.segment r.at) f in
+    let plain : follow r.segments r.segment r.at ≡ Ok a = unnamed_ok (is_named r) (follow r.segments r.segment r.at) (sym (followed_at r) ∙ f) in
     let choice : follow r.segments r.segment r.at ≡ or_named MessageContainsOutOfBoundsPointer (near r.segments r.segment r.at x 0) =
-    ap (λ b. cond b (follow_far r.segments x (is_double x)) (or_named MessageContainsOutOfBoundsPointer (near r.segments r.segment r.at x 0))) (ne_eqb (kind x) 2 other) in
+    ap (λ b. cond b (far_steps r.segments x (is_double x)) (or_named MessageContainsOutOfBoundsPointer (near r.segments r.segment r.at x 0))) (ne_eqb (kind x) 2 other) in
     go (offset_leads n r.at (offset_bits x)) (sym choice ∙ plain)
   where
     go : (o : Option ℕ) → or_named MessageContainsOutOfBoundsPointer (o >>= λ b. Some (near_at r b)) ≡ Ok a → a ≡ near_at r a.start

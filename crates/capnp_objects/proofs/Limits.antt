@@ -1,19 +1,20 @@
 -- By what names a reading is refused: following names a place that is not there, so the read limit is a charge's name alone, and want of room is no name of a reading.
-use Rattle.std.proofs.Common.{◌≡◌, ◌⊎◌, inl, inr, ℕ, zero, suc, Bool, true, false, ◌&&◌, cond, nat_eq, nat_lt, Option, Some, None, Result, Ok, Err, IfErr, length, refl, subst}
+use Rattle.std.proofs.Common.{◌≡◌, ◌⊎◌, inl, inr, ℕ, zero, suc, Bool, true, false, cond, nat_eq, nat_lt, Option, Some, None, Result, Ok, Err, IfErr, length, refl, sym, ◌∙◌, subst}
 use Rattle.capnp_words.specs.declared.error.ErrorKind.{ErrorKind}
 use Rattle.capnp_words.specs.declared.error.ErrorKind.TheVariants.{AllocationFailed, InvalidSegmentId, MessageContainsOutOfBoundsPointer, MessageTooLarge, NoSuchPlace, ReadLimitExceeded, TriedToReadFromNullArena}
 use Rattle.capnp_format.specs.Word.{kind, upper_half, far_position, is_double}
 use Rattle.capnp_format.specs.Segments.{Segments, word_at, Target, near, pad}
-use Rattle.capnp_objects.specs.Follow.{◌>=>◌, or_named, existing, follow_far, follow}
-use Rattle.capnp_objects.specs.Faults.{Somewhere, here, below, one_less, HasFault, Exceeds}
+use Rattle.capnp_objects.specs.Follow.{◌>=>◌}
+use Rattle.capnp_objects.specs.Faults.{Somewhere, here, below, HasFault, Exceeds}
 use Rattle.capnp_words.specs.Meter.{Meter}
 use Rattle.capnp_objects.proofs.Refusals.{unreadable}
 use Rattle.capnp_objects.proofs.Unreadable.{Unreadable}
 use Rattle.capnp_objects.specs.Refusals.{Refused}
-use Rattle.capnp_objects.specs.Wanted.{Form, BreaksObject, far_named}
-use Rattle.capnp_objects.specs.Reading.{Reading, word_of}
+use Rattle.capnp_objects.specs.Wanted.{Form, BreaksObject}
+use Rattle.capnp_objects.specs.Reading.{Reading}
 use Rattle.capnp_objects.specs.declared.object.Purpose.TheVariants.{Value}
 use Rattle.capnp_objects.proofs.Truths.{named_truly}
+use Rattle.capnp_objects.proofs.Followed.{or_named, far_named, follow, is_named, followed_at, existing, far_steps}
 
 -- the names by which a pointer is not followed
 abbrev IsNowhere : ErrorKind → Type 0
@@ -37,7 +38,7 @@ nowhere_existing {A} S u x = go (nat_lt u (length S))
     go true = tt
     go false = inr (inr (u, refl))
 
-nowhere_far : (S : Segments) (x double : ℕ) → Nowhere (follow_far S x double)
+nowhere_far : (S : Segments) (x double : ℕ) → Nowhere (far_steps S x double)
 nowhere_far S x zero = nowhere_then (existing S (upper_half x) x) _ (nowhere_existing S (upper_half x) x) (λ _. nowhere_then (or_named MessageContainsOutOfBoundsPointer (pad S x 0)) _ (nowhere_named (pad S x 0)) (λ w. nowhere_named (near S (upper_half x) (far_position x) w 1)))
 nowhere_far S x (suc d) = nowhere_then (existing S (upper_half x) x) _ (nowhere_existing S (upper_half x) x) (λ _. nowhere_then (or_named MessageContainsOutOfBoundsPointer (pad S x 1)) _ (nowhere_named (pad S x 1)) (λ f. nowhere_existing S (upper_half f) _))
 
@@ -46,7 +47,7 @@ nowhere_choice true r t h g = h
 nowhere_choice false r t h g = g
 
 nowhere_follow : (S : Segments) (s p : ℕ) → Nowhere (follow S s p)
-nowhere_follow S s p = let x = word_at S s p in nowhere_choice (nat_eq (kind x) 2) (follow_far S x (is_double x)) (or_named MessageContainsOutOfBoundsPointer (near S s p x 0)) (nowhere_far S x (is_double x)) (nowhere_named (near S s p x 0))
+nowhere_follow S s p = let x = word_at S s p in nowhere_choice (nat_eq (kind x) 2) (far_steps S x (is_double x)) (or_named MessageContainsOutOfBoundsPointer (near S s p x 0)) (nowhere_far S x (is_double x)) (nowhere_named (near S s p x 0))
 
 nowhere_named_far : (b : Bool) (result : Result Target ErrorKind) → Nowhere result → Nowhere (far_named b result)
 nowhere_named_far true (Ok x) h = tt
@@ -56,12 +57,12 @@ nowhere_named_far false (Err k) h = h
 
 -- a name that is none of these, and by which no object breaks a demand, is no fault's
 no_fault : (form : Form) (k : ErrorKind) {r : Reading} → (IsNowhere k → ⊥) → ((S : Segments) (n : ℕ) (a : Target) → BreaksObject Value form S n a k → ⊥) → HasFault form r k → ⊥
-no_fault form k {r} other none (here (some, inl f)) = other (subst Nowhere f (nowhere_named_far (r.of_default && nat_eq (kind (word_of r)) 2) (follow r.segments r.segment r.at) (nowhere_follow r.segments r.segment r.at)))
+no_fault form k {r} other none (here (some, inl f)) = other (subst Nowhere (sym (followed_at r) ∙ f) (nowhere_named_far (is_named r) (follow r.segments r.segment r.at) (nowhere_follow r.segments r.segment r.at)))
 no_fault form k other none (here (some, inr (a, f, h))) = none _ _ a h
 no_fault form k other none (below a q l o i rest) = no_fault form k other none rest
 
 -- the read limit is named only where some reached place charges more than is left
-pub limit_named : {form : Form} {r : Reading} {m m' : Meter} → Unreadable form r m m' ReadLimitExceeded → Somewhere one_less (Exceeds m') r
+pub limit_named : {form : Form} {r : Reading} {m m' : Meter} → Unreadable form r m m' ReadLimitExceeded → Somewhere (Exceeds m') r
 limit_named {form} refused = elim (named_truly refused) [ inl f ↦ absurd (no_fault form ReadLimitExceeded (λ n. elim n [ inl e ↦ cc | inr (inl e) ↦ cc | inr (inr (u, e)) ↦ cc ]) (λ S n a h. h) f) | inr f ↦ f.1 ]
 
 -- a reading is refused neither by the name of want of memory

@@ -8,9 +8,9 @@ use Rattle.capnp_format.specs.Segments.{Target}
 use Rattle.capnp_objects.specs.declared.object.Object.{Object}
 use Rattle.capnp_objects.specs.declared.object.Purpose.{Purpose}
 use Rattle.capnp_objects.specs.declared.object.Purpose.TheVariants.{Size}
-use Rattle.capnp_objects.specs.declared.source.Landing.{Landing}
+use Rattle.capnp_objects.specs.declared.source.Found.{Found}
 use Rattle.capnp_objects.specs.Demands.{claim, amplified, own, Meets, IsStructList, IsVoidList}
-use Rattle.capnp_objects.specs.Landings.{landing_target, FollowsPointer, IsClaimed, NotClaimed}
+use Rattle.capnp_objects.specs.Landings.{found_target, following, IsFollowed, IsClaimed, NotClaimed}
 use Rattle.capnp_objects.specs.Measures.{NotMeasured, no_level, stopped}
 use Rattle.capnp_objects.specs.Objects.{IsObject, near_at}
 use Rattle.capnp_objects.specs.Outcomes.{Entered}
@@ -18,7 +18,7 @@ use Rattle.capnp_objects.specs.Reading.{Reading, word_of}
 use Rattle.capnp_objects.specs.Refusals.{CanBeRead}
 use Rattle.capnp_objects.specs.Spending.{after, Paid}
 use Rattle.capnp_objects.proofs.Followed.{near_landed}
-use Rattle.capnp_objects.proofs.Landings.{IsCounted, reached, entered, entered_free, lies, object_refused}
+use Rattle.capnp_objects.proofs.Landings.{IsCounted, reached, entered, entered_free, lies, object_refused, arrived}
 use Rattle.capnp_objects.proofs.Parts.{charge_of_size}
 use Rattle.capnp_objects.proofs.Refusals.{could_be_read, not_stopped}
 
@@ -29,21 +29,21 @@ paid_words {r} {m} {m'} {a} o =
     record { covers = subst (Affords r.charging m) words o.covers; spent = o.spent ∙ ap (λ i. after r.charging m i 1) words }
 
 -- an object that a near pointer leads to
-pub near_landing : {m m' : Meter} {l : Landing} (r : Reading) → FollowsPointer r m m' l → kind (word_of r) < 2 → landing_target l ≡ near_at r l.start.at
-near_landing {m} {m'} {l} r f near = near_landed r (landing_target l) (λ e. omega (arith, e, near)) f.leads_to
+pub near_landing : {m m' : Meter} {l : Found} (r : Reading) → IsFollowed (following r) m m' l → kind (word_of r) < 2 → found_target l ≡ near_at r l.start.at
+near_landing {m} {m'} {l} r f near = near_landed r (found_target l) (λ e. omega (arith, e, near)) f.leads_to
 
-pub near_entered : (purpose : Purpose) {r : Reading} {m m₁ m₂ m₃ : Meter} {l : Landing} → IsCounted r m m₁ → FollowsPointer r m₁ m₂ l → kind (word_of r) < 2 → (IsStructList (word_of r) → ⊥) →
-    amplified purpose r.segments (near_at r l.start.at) ≡ 0 → IsClaimed r.segments r.charging r.levels (landing_target l) m₂ m₃ → Entered purpose r m m₃ (near_at r l.start.at)
+pub near_entered : (purpose : Purpose) {r : Reading} {m m₁ m₂ m₃ : Meter} {l : Found} → IsCounted r m m₁ → IsFollowed (following r) m₁ m₂ l → kind (word_of r) < 2 → (IsStructList (word_of r) → ⊥) →
+    amplified purpose r.segments (near_at r l.start.at) ≡ 0 → IsClaimed (arrived r (found_target l)) m₂ m₃ → Entered purpose r m m₃ (near_at r l.start.at)
 near_entered purpose {r} {m} {m₁} {m₂} {m₃} {l} o f near untagged free claimed =
-    let there : landing_target l ≡ near_at r l.start.at = near_landing r f near in
-    let word : (landing_target l).word ≡ word_of r = ap (λ a. a.word) there in
-    let meets : Meets purpose r.segments r.levels (landing_target l) = record { levels = claimed.levels; is_object = rw word near; claims = lies purpose r.segments (landing_target l) claimed.claims; tagged = λ v. absurd (untagged (rw word at v)) } in
+    let there : found_target l ≡ near_at r l.start.at = near_landing r f near in
+    let word : (found_target l).word ≡ word_of r = ap (λ a. a.word) there in
+    let meets : Meets purpose r.segments r.levels (found_target l) = record { levels = claimed.levels; is_object = rw word near; claims = lies purpose r.segments (found_target l) claimed.claims; tagged = λ v. absurd (untagged (rw word at v)) } in
     subst (Entered purpose r m m₃) there (entered (reached o f) (entered_free claimed meets (ap (amplified purpose r.segments) there ∙ free)))
 
-pub near_refused : {r : Reading} {m m₁ m₂ m₃ : Meter} {l : Landing} {k : ErrorKind} → 0 < r.levels → IsCounted r m m₁ → FollowsPointer r m₁ m₂ l → kind (word_of r) < 2 → (IsVoidList (word_of r) → ⊥) →
-    NotClaimed r.segments r.charging r.levels (landing_target l) m₂ m₃ k → NotMeasured r m m₃ k
+pub near_refused : {r : Reading} {m m₁ m₂ m₃ : Meter} {l : Found} {k : ErrorKind} → 0 < r.levels → IsCounted r m m₁ → IsFollowed (following r) m₁ m₂ l → kind (word_of r) < 2 → (IsVoidList (word_of r) → ⊥) →
+    NotClaimed (arrived r (found_target l)) m₂ m₃ k → NotMeasured r m m₃ k
 near_refused {r} {m} {m₁} {m₂} {m₃} {l} level o f near some refused =
-    let word : (landing_target l).word ≡ word_of r = ap (λ a. a.word) (near_landing r f near) in
+    let word : (found_target l).word ≡ word_of r = ap (λ a. a.word) (near_landing r f near) in
     stopped level (object_refused o f (refused Size (λ void. absurd (some (rw word at void)))))
 
 -- what can be read isn't refused

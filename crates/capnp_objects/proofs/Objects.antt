@@ -17,6 +17,7 @@ use Rattle.capnp_format.proofs.Slices.{length_words}
 use Rattle.capnp_format.proofs.Digits.{length-digits}
 use Rattle.capnp_format.proofs.Meanings.{struct_meaning, flat_meaning, pointers_meaning}
 use Rattle.capnp_objects.proofs.Budgets.{after_none, affords_none, paid_both, paid_own, paid_all, paid_elements}
+use Rattle.capnp_objects.proofs.Followed.{entered_leads}
 
 unfoldable pub read_null : {form : Form} {r : Reading} (m : Meter) → word_of r ≡ 0 → Reads form r m m Null
 read_null {form} {r} m z = record { cost = 0; means = (z, refl); takes = λ e. refl; covers = affords_none r.charging m; spent = sym (after_none r.charging m) }
@@ -45,7 +46,7 @@ read_struct {form} {r} {m} {m'} {m''} {a} {ts} o z len all =
     record {
       cost = own Value S a + all.cost;
       means =
-          struct_meaning S r.levels r.segment r.at a d q (words_at S a.segment a.start d) ts all.cost _ o.meets.levels (record { leads_to = o.leads_to; is_struct = z; data_of = refl; pointers = refl })
+          struct_meaning S r.levels r.segment r.at a d q (words_at S a.segment a.start d) ts all.cost _ o.meets.levels (record { leads_to = entered_leads o; is_struct = z; data_of = refl; pointers = refl })
           (length_words S a.segment a.start d (omega (arith, inside))) len inside refl all.means (ap (λ i. i + all.cost) (own_struct S a z));
       takes = all.takes;
       covers = paid.covers;
@@ -60,7 +61,7 @@ read_flat {form} {r} {m} {m'} {a} o z small =
     record {
       cost = own Value S a;
       means =
-          flat_meaning S r.levels r.segment r.at a size (list_count a.word) _ _ o.meets.levels small (record { leads_to = o.leads_to; is_list = z; is_size = refl; counts = refl }) (length-digits _ (list_count a.word) _)
+          flat_meaning S r.levels r.segment r.at a size (list_count a.word) _ _ o.meets.levels small (record { leads_to = entered_leads o; is_list = z; is_size = refl; counts = refl }) (length-digits _ (list_count a.word) _)
           (subst (Claims S a) (claim_list a.word size z refl ∙ claim_flat size (list_count a.word) small) o.meets.claims) refl (own_flat S a z small);
       takes = λ e. refl;
       covers = o.covers;
@@ -75,7 +76,7 @@ read_pointers {form} {r} {m} {m'} {m''} {a} {ts} o z six len all =
     record {
       cost = own Value S a + all.cost;
       means =
-          pointers_meaning S r.levels r.segment r.at a (list_count a.word) ts all.cost _ o.meets.levels (record { leads_to = o.leads_to; is_list = z; is_size = six; counts = refl }) len
+          pointers_meaning S r.levels r.segment r.at a (list_count a.word) ts all.cost _ o.meets.levels (record { leads_to = entered_leads o; is_list = z; is_size = six; counts = refl }) len
           (omega (arith, o.meets.claims, claim_list a.word 6 z six)) all.means (ap (λ i. i + all.cost) (own_pointers S a z six));
       takes = all.takes;
       covers = paid.covers;
@@ -98,7 +99,7 @@ read_structs {form} {r} {m} {m'} {m''} {a} {es} o z seven len all =
         N,
         all.cost,
         o.meets.levels,
-        record { leads_to = o.leads_to; is_list = z; is_size = seven; counts = refl },
+        record { leads_to = entered_leads o; is_list = z; is_size = seven; counts = refl },
         omega (arith, o.meets.claims, claim_list a.word 7 z seven),
         record { is_struct = t.0; counts = sym len; data_of = refl; pointers = refl },
         subst (λ i. i * (d + q) ≤ N) (sym len) t.1,

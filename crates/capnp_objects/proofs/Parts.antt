@@ -8,12 +8,16 @@ use Rattle.capnp_format.specs.Segments.{Segments, Target}
 use Rattle.capnp_format.specs.Tree.{Tree, Null, Capability, Struct, Flat, Pointers, Structs, Trees, no_trees, tree, Elements, no_elements, element, count, element_count, capabilities, capabilities_all, capabilities_elements}
 use Rattle.capnp_format.specs.Means.{Claims}
 use Rattle.capnp_words.specs.declared.wire_pointer.StructSize.{StructSize}
-use Rattle.capnp_objects.specs.Demands.{list_claim, claim, tag, count_charge, amplified, own, Meets}
+use Rattle.capnp_objects.specs.Demands.{claim, tag, count_charge, amplified, own, Meets}
 use Rattle.capnp_objects.specs.Faults.{LeadsTo, child_at, IsPointer, of_struct, of_list, of_element}
 use Rattle.capnp_objects.specs.Outcomes.{MeansThere, MeanThere, ElementsMean}
 use Rattle.capnp_objects.specs.Reading.{Reading, word_of, behind, pointers_of}
 use Rattle.capnp_objects.specs.declared.object.Purpose.{Purpose}
 use Rattle.capnp_objects.specs.declared.object.Purpose.TheVariants.{Value, Size}
+
+-- the words that a list claims
+abbrev pub list_claim : ℕ → ℕ → ℕ
+list_claim size n = cond (nat_eq size 7) (n + 1) (cond (nat_eq size 6) n (words_for size n))
 
 pub claim_struct : (w : ℕ) → kind w ≡ 0 → claim w ≡ data_words w + pointer_count w
 claim_struct w e = ap (λ k. cond (nat_eq k 0) (data_words w + pointer_count w) (list_claim (element_size w) (list_count w))) e
@@ -35,10 +39,16 @@ abbrev extra : Purpose → Segments → Target → ℕ → ℕ → ℕ
 extra purpose S a k size = cond (nat_eq k 0) 0 (cond (nat_eq size 7) (count_charge purpose (data_words (tag S a) + pointer_count (tag S a)) (offset_bits (tag S a))) (count_charge purpose size (list_count a.word)))
 
 pub extra_struct : (purpose : Purpose) (S : Segments) (a : Target) → kind a.word ≡ 0 → amplified purpose S a ≡ 0
-extra_struct purpose S a e = ap (λ k. extra purpose S a k (element_size a.word)) e
+extra_struct Value S a e = ap (λ k. extra Value S a k (element_size a.word)) e
+extra_struct Size S a e = refl
 
 pub extra_list : (purpose : Purpose) (S : Segments) (a : Target) (size : ℕ) → kind a.word ≡ 1 → element_size a.word ≡ size → amplified purpose S a ≡ extra purpose S a 1 size
-extra_list purpose S a size e f = ap (λ k. extra purpose S a k (element_size a.word)) e ∙ ap (extra purpose S a 1) f
+extra_list Value S a size e f = ap (λ k. extra Value S a k (element_size a.word)) e ∙ ap (extra Value S a 1) f
+extra_list Size S a size e f = go (nat_eq size 7)
+  where
+    go : (b : Bool) → amplified Size S a ≡ cond b 0 0
+    go true = refl
+    go false = refl
 
 pub extra_flat : (purpose : Purpose) (S : Segments) (a : Target) (size : ℕ) → size ≤ 5 → extra purpose S a 1 size ≡ count_charge purpose size (list_count a.word)
 extra_flat purpose S a zero h = refl
@@ -56,12 +66,7 @@ charge_some Size width n some = refl
 
 -- for the size all are
 pub charge_of_size : (S : Segments) (a : Target) → amplified Size S a ≡ 0
-charge_of_size S a = go (nat_eq (kind a.word) 0) (nat_eq (element_size a.word) 7) 0
-  where
-    go : (b c : Bool) (z : ℕ) → cond b z (cond c z z) ≡ z
-    go true c z = refl
-    go false true z = refl
-    go false false z = refl
+charge_of_size S a = refl
 
 -- some value stands at a place, with at most m capabilities
 abbrev pub Meant : Reading → ℕ → Type 0

@@ -1,20 +1,20 @@
 -- What follows from a refusal: the place can't be read.
-use Rattle.std.proofs.Common.{◌≡◌, ◌⊎◌, ◌↔◌, inl, inr, ℕ, pred, ◌+◌, ◌*◌, ◌<◌, ◌≤◌, Bool, true, false, cond, nat_eq, Option, Some, None, Result, Ok, Err, IsOk, IfOk, IfErr, refl, sym, ◌∙◌, subst, arith, eqb-true}
+use Rattle.std.proofs.Common.{◌≡◌, ◌⊎◌, ◌↔◌, inl, inr, ℕ, pred, ◌+◌, ◌*◌, ◌<◌, ◌≤◌, Bool, true, false, ◌&&◌, cond, nat_eq, is_some, Option, Some, None, Result, Ok, Err, IsOk, IfOk, IfErr, refl, sym, ◌∙◌, subst, arith, eqb-true}
 use Rattle.capnp_words.specs.declared.error.ErrorKind.{ErrorKind}
 use Rattle.capnp_words.specs.Meter.{Meter, FitsIn, Affords}
 use Rattle.capnp_format.specs.Word.{kind, offset_bits, data_words, pointer_count, element_size, list_count, is_double}
 use Rattle.capnp_format.specs.Segments.{Segments, Target, pad}
 use Rattle.capnp_format.specs.Tree.{count, element_count}
 use Rattle.capnp_objects.specs.Demands.{claim, tag, amplified, own}
-use Rattle.capnp_objects.specs.Faults.{LeadsTo, LeadsFor, child_at}
+use Rattle.capnp_objects.specs.Faults.{LeadsTo, child_at}
 use Rattle.capnp_objects.specs.Objects.{IsObject}
 use Rattle.capnp_objects.specs.declared.object.Object.{Object}
 use Rattle.capnp_objects.specs.declared.object.Object.TheVariants.{Null as ObjectNull, Capability as ObjectCapability, Struct as ObjectStruct, Flat as ObjectFlat, Pointers as ObjectPointers, Structs as ObjectStructs}
-use Rattle.capnp_objects.specs.Outcomes.{Entered, Spends}
+use Rattle.capnp_objects.specs.Outcomes.{Entered}
 use Rattle.capnp_objects.specs.Reading.{Reading, word_of, pointers_of, tag_size}
-use Rattle.capnp_objects.specs.Refusals.{if_there, landing_words, Unfollowed, exceeding, leading_nowhere, Stopped, pads_exceed, nowhere, broken, claim_exceeds, count_exceeds, CanBeRead, ReadsBefore, in_struct, in_pointers, in_element, StopsWithin, here, below, StopsAmong, StopsAmongElements, Refused, BreaksOff}
+use Rattle.capnp_objects.specs.Refusals.{landing_words, Unfollowed, exceeding, leading_nowhere, Stopped, no_target, broken, claim_exceeds, count_exceeds, CanBeRead, ReadsBefore, in_struct, in_pointers, in_element, StopsWithin, here, below, StopsAmong, StopsAmongElements, Refused, BreaksOff}
 use Rattle.capnp_objects.specs.Spending.{Paid}
-use Rattle.capnp_objects.specs.Wanted.{Form, plain}
+use Rattle.capnp_objects.specs.Wanted.{Form, plain, FollowsFor, FollowsTo}
 use Rattle.capnp_objects.specs.declared.object.Purpose.{Purpose}
 use Rattle.capnp_objects.specs.declared.object.Purpose.TheVariants.{Value, Size}
 use Rattle.capnp_objects.proofs.Budgets.{fewer_than_words, one_element_more, affords_none, affords_both, paid_own, paid_all, paid_elements, pointers_within_all, pointers_within_elements}
@@ -23,7 +23,7 @@ use Rattle.capnp_objects.proofs.Faultless.{Sound, sound_capability, sound_object
 use Rattle.capnp_objects.proofs.Followed.{leads_to, leads_there}
 use Rattle.capnp_objects.proofs.Stops.{object_spends, Reached, stopped_struct, stopped_pointers, stopped_structs, refused_here, refused_pads, refused_claim, refused_elements, leads_pads}
 use Rattle.capnp_objects.proofs.Objects.{own_struct, own_pointers, own_structs}
-use Rattle.capnp_objects.proofs.Unreadable.{Unreadable}
+use Rattle.capnp_objects.proofs.Unreadable.{Unreadable, Spends}
 
 -- what is granted in one charge
 spends_once : {charging : Bool} {m m' : Meter} {g : ℕ} → Paid charging m m' g 1 → Spends charging m m' 1
@@ -33,28 +33,28 @@ spends_once {g = g} paid = (g, 1, paid.covers, paid.spent, omega arith)
 pub landing_cases : (S : Segments) (x : ℕ) → (landing_words S x ≡ 0) ⊎ ((kind x ≡ 2) × (f : ℕ) × (pad S x (is_double x) ≡ Some f) × (landing_words S x ≡ 1 + is_double x))
 landing_cases S x = go (nat_eq (kind x) 2) (pad S x (is_double x)) (eqb-true (kind x) 2) refl
   where
-    go : (b : Bool) (o : Option ℕ) → (b ≡ true → kind x ≡ 2) → pad S x (is_double x) ≡ o → (cond b (if_there o (1 + is_double x)) 0 ≡ 0) ⊎ ((kind x ≡ 2) × (f : ℕ) × (o ≡ Some f) × (cond b (if_there o (1 + is_double x)) 0 ≡ 1 + is_double x))
+    go : (b : Bool) (o : Option ℕ) → (b ≡ true → kind x ≡ 2) → pad S x (is_double x) ≡ o → (cond (b && is_some o) (1 + is_double x) 0 ≡ 0) ⊎ ((kind x ≡ 2) × (f : ℕ) × (o ≡ Some f) × (cond (b && is_some o) (1 + is_double x) 0 ≡ 1 + is_double x))
     go true (Some f) two e = inr (two refl, f, refl, refl)
     go true None two e = inl refl
     go false o two e = inl refl
 
 -- what a reading that stops spends
 pub stopped_spends : {form : Form} {r : Reading} {m m' : Meter} {k : ErrorKind} → Stopped Value form r m m' k → Spends r.charging m m' 1
-stopped_spends (pads_exceed some short paid named) = spends_once paid
-stopped_spends (nowhere some h paid) = spends_once paid
+stopped_spends (no_target (exceeding some short paid named)) = spends_once paid
+stopped_spends (no_target (leading_nowhere some h paid)) = spends_once paid
 stopped_spends (broken a f h paid) = spends_once paid
 stopped_spends (claim_exceeds a f level object claims short paid named) = spends_once paid
 stopped_spends (count_exceeds a f meets short paid named) = spends_once paid
 
 -- at one object
 stopped_here : {form : Form} {r : Reading} {m m' : Meter} {k : ErrorKind} → Stopped Value form r m m' k → Unreadable form r m m' k
-stopped_here {form} {r} {m} {m'} {k} (pads_exceed some short paid named) = elim (landing_cases r.segments (word_of r)) [
+stopped_here {form} {r} {m} {m'} {k} (no_target (exceeding some short paid named)) = elim (landing_cases r.segments (word_of r)) [
   | inl none ↦ absurd (short (subst (Affords r.charging m) (sym none) (affords_none r.charging m)))
   | inr (two, f, there, words) ↦
       let all : 0 + (1 + is_double (word_of r)) ≡ landing_words r.segments (word_of r) = omega (arith, words) in
       subst (Unreadable form r m m') (sym named) (refused_pads two there paid (λ h. short (subst (Affords r.charging m) all (affords_both (1 + is_double (word_of r)) paid h))))
 ]
-stopped_here {form} {r} {m} {m'} {k} (nowhere some h paid) = refused_here m m' (some, inl h) (spends_once paid)
+stopped_here {form} {r} {m} {m'} {k} (no_target (leading_nowhere some h paid)) = refused_here m m' (some, inl h) (spends_once paid)
 stopped_here {form} {r} {m} {m'} {k} (broken a f h paid) = refused_here m m' (f.0, inr (a, f.1, h)) (spends_once paid)
 stopped_here {form} {r} {m} {m'} {k} (claim_exceeds a f level object claims short paid named) =
     let reached : Reached r m m' a = record { follows = f; paid = paid } in
@@ -138,8 +138,7 @@ abbrev IsSound : Purpose → Reading → Meter → Target → Type 0
 IsSound purpose r m a = LeadsTo r a × Sound purpose plain r a × Affords r.charging m a.pads × (kind a.word < 2 → Affords r.charging m (own purpose r.segments a))
 
 sound_not_stopped : {purpose : Purpose} {r : Reading} {m m' : Meter} {b : Target} {k : ErrorKind} → IsSound purpose r m b → Stopped purpose plain r m m' k → ⊥
-sound_not_stopped {r = r} {m = m} {b = b} (l, sound, pads, whole) (pads_exceed some short paid named) = short (landing_covered r m b l pads)
-sound_not_stopped {r = r} {b = b} (l, sound, pads, whole) (nowhere some h paid) = let f = (leads_to r b l).1 in absurd (cc (f, h))
+sound_not_stopped {b = b} (l, sound, pads, whole) (no_target h) = not_unfollowed b l pads h
 sound_not_stopped {purpose} {r} {b = b} {k = k} (l, sound, pads, whole) (broken a f h paid) =
     let e = sym (leads_to r b l).1 ∙ f.1 in
     let q : b ≡ a = cc e in
@@ -153,32 +152,32 @@ sound_not_stopped {purpose} {r} {m} {b = b} (l, sound, pads, whole) (count_excee
     short (rw e at (whole (rw e object)))
 
 not_stopped_null : {purpose : Purpose} {r : Reading} {m m' : Meter} {k : ErrorKind} → word_of r ≡ 0 → Stopped purpose plain r m m' k → ⊥
-not_stopped_null z (pads_exceed some short paid named) = some z
-not_stopped_null z (nowhere some h paid) = some z
+not_stopped_null z (no_target (exceeding some short paid named)) = some z
+not_stopped_null z (no_target (leading_nowhere some h paid)) = some z
 not_stopped_null z (broken a f h paid) = f.0 z
 not_stopped_null z (claim_exceeds a f level object claims short paid named) = f.0 z
 not_stopped_null z (count_exceeds a f meets short paid named) = f.0 z
 
 -- a reading for the size leads where one for the value does
-pub led_there : (purpose : Purpose) (r : Reading) (a : Target) → LeadsFor purpose r a → LeadsTo r a
+pub led_there : (purpose : Purpose) (r : Reading) (a : Target) → FollowsFor purpose r a → FollowsTo r a
 led_there Value r a l = l
 led_there Size r a l = l.0
 
 pub not_stopped : {purpose : Purpose} {r : Reading} {m m' : Meter} {k : ErrorKind} → CanBeRead purpose r m → Stopped purpose plain r m m' k → ⊥
 unfolding CanBeRead
 not_stopped (inl z) h = not_stopped_null z h
-not_stopped {purpose} {r} (inr (inl (a, l, low, covers))) h = sound_not_stopped (led_there purpose r a l, sound_capability low (λ e. e), covers, λ o. absurd (omega (arith, o, low))) h
-not_stopped {purpose} {r} {m} (inr (inr (a, l, meets, covers))) h = sound_not_stopped (l, sound_object meets, affords_less r.charging m a.pads (own purpose r.segments a) (omega arith) covers, λ _. covers) h
+not_stopped {purpose} {r} (inr (inl (a, l, low, covers))) h = sound_not_stopped (leads_there r a (led_there purpose r a l) (λ f. omega (arith, f, low)), sound_capability low (λ e. e), covers, λ o. absurd (omega (arith, o, low))) h
+not_stopped {purpose} {r} {m} (inr (inr (a, l, meets, covers))) h = sound_not_stopped (leads_there r a l (λ f. let i = meets.is_object in omega (arith, f, i)), sound_object meets, affords_less r.charging m a.pads (own purpose r.segments a) (omega arith) covers, λ _. covers) h
 
 -- what was read could be read
 pub could_be_read : (purpose : Purpose) (r : Reading) (m m' : Meter) (x : Object) → IsObject purpose r m m' x → CanBeRead purpose r m
 unfolding CanBeRead
 could_be_read purpose r m m' ObjectNull h = inl h.0
 could_be_read purpose r m m' (ObjectCapability i) (a, l, low, e, covers, spent) = inr (inl (a, l, low, covers))
-could_be_read purpose r m m' (ObjectStruct start size) (a, o, z, held, ed, eq) = inr (inr (a, o.leads_to, o.meets, o.covers))
-could_be_read purpose r m m' (ObjectFlat start size i) (a, o, z, small, held, ez, ei) = inr (inr (a, o.leads_to, o.meets, o.covers))
-could_be_read purpose r m m' (ObjectPointers start i) (a, o, z, six, held, ei) = inr (inr (a, o.leads_to, o.meets, o.covers))
-could_be_read purpose r m m' (ObjectStructs start size i) (a, o, z, seven, held, ei, ed, eq) = inr (inr (a, o.leads_to, o.meets, o.covers))
+could_be_read purpose r m m' (ObjectStruct start size) (a, o, z, held, ed, eq) = inr (inr (a, o.follows, o.meets, o.covers))
+could_be_read purpose r m m' (ObjectFlat start size i) (a, o, z, small, held, ez, ei) = inr (inr (a, o.follows, o.meets, o.covers))
+could_be_read purpose r m m' (ObjectPointers start i) (a, o, z, six, held, ei) = inr (inr (a, o.follows, o.meets, o.covers))
+could_be_read purpose r m m' (ObjectStructs start size i) (a, o, z, seven, held, ei, ed, eq) = inr (inr (a, o.follows, o.meets, o.covers))
 
 pub read_exactly : (purpose : Purpose) (r : Reading) (m m' : Meter) (result : Result Object ErrorKind) → IfOk result (IsObject purpose r m m') → IfErr result (Stopped purpose plain r m m') → IsOk result ↔ CanBeRead purpose r m
 read_exactly purpose r m m' (Ok x) good bad = ((λ _. could_be_read purpose r m m' x good), (λ _. refl))

@@ -7,20 +7,19 @@ use Rattle.capnp_format.specs.Word.{kind, offset_bits, data_words, pointer_count
 use Rattle.capnp_format.specs.Segments.{Segments, segment, word_at, Target, given, offset_leads, pad, near, far, leads}
 use Rattle.capnp_format.specs.Tree.{Tree, Null, Capability, Struct, Flat, Pointers, Structs, Trees, Elements, count, element_count, capabilities, capabilities_all, capabilities_elements}
 use Rattle.capnp_format.specs.Means.{Claims, ListAt, MeansAll}
-use Rattle.capnp_objects.specs.Refusals.{FollowsTo}
 use Rattle.capnp_words.specs.Meter.{Meter, Affords}
 use Rattle.capnp_objects.specs.Demands.{claim, tag, amplified, own, Meets}
 use Rattle.capnp_objects.specs.Faults.{of_struct, of_list, of_element, here, below, Charges, LeadsTo, child_at, of_pads, of_object, of_elements}
-use Rattle.capnp_objects.specs.Wanted.{BreaksAt}
-use Rattle.capnp_objects.specs.Outcomes.{MeansThere, MeanThere, ElementsMean, Spends, Entered}
-use Rattle.capnp_objects.proofs.Unreadable.{Unreadable, UnreadableAll, UnreadableElements}
+use Rattle.capnp_objects.specs.Wanted.{BreaksAt, FollowsTo}
+use Rattle.capnp_objects.specs.Outcomes.{MeansThere, MeanThere, ElementsMean, Entered}
+use Rattle.capnp_objects.proofs.Unreadable.{Unreadable, UnreadableAll, UnreadableElements, Spends}
 use Rattle.capnp_objects.specs.Wanted.{Form}
 use Rattle.capnp_objects.specs.Spending.{Paid}
 use Rattle.capnp_objects.specs.Reading.{Reading, tag_size, word_of}
 use Rattle.capnp_objects.specs.declared.object.Purpose.TheVariants.{Value}
 use Rattle.capnp_format.proofs.Sound.{if_bind, at_some}
 use Rattle.capnp_objects.proofs.Parts.{is_null, is_capability, is_inner, means_parts}
-use Rattle.capnp_objects.proofs.Followed.{leads_there}
+use Rattle.capnp_objects.proofs.Followed.{leads_there, entered_leads}
 use Rattle.capnp_objects.proofs.Faultless.{same_target, no_fault}
 use Rattle.capnp_objects.proofs.Objects.{own_struct, own_pointers, own_structs}
 use Rattle.capnp_objects.proofs.Budgets.{fewer_than_words, paid_both, paid_own, affords_rest}
@@ -95,9 +94,9 @@ object_spends {charging} {m} {m'} {m''} {g} i first le (x, r, covers', e', few) 
 pub stopped_struct : {form : Form} {r : Reading} {m m' m'' : Meter} {a : Target} {k : ErrorKind} → Entered Value r m m' a → kind a.word ≡ 0 →
     UnreadableAll form (child_at r a (pred r.levels) (a.start + data_words a.word)) (pointer_count a.word) m' m'' k → Unreadable form r m m'' k
 stopped_struct {form} {r} {m} {m'} {m''} {a} o z refused = record {
-  named = below a refused.named.0 o.leads_to o.meets (of_struct z refused.named.1 refused.named.2) refused.named.3;
+  named = below a refused.named.0 (entered_leads o) o.meets (of_struct z refused.named.1 refused.named.2) refused.named.3;
   only = λ t c h takes covers.
-      let i = in_struct r {a = a} t c o.leads_to z h in
+      let i = in_struct r {a = a} t c (entered_leads o) z h in
       refused.only i.0 i.1 i.2 i.3 (λ e. omega (arith, takes e, i.4)) (affords_rest i.1 c (paid_own o) i.5 covers);
   spent = object_spends (pointer_count a.word) (paid_own o) (omega (arith, own_struct r.segments a z)) refused.spent;
 }
@@ -105,9 +104,9 @@ stopped_struct {form} {r} {m} {m'} {m''} {a} o z refused = record {
 pub stopped_pointers : {form : Form} {r : Reading} {m m' m'' : Meter} {a : Target} {k : ErrorKind} → Entered Value r m m' a → kind a.word ≡ 1 → element_size a.word ≡ 6 →
     UnreadableAll form (child_at r a (pred r.levels) a.start) (list_count a.word) m' m'' k → Unreadable form r m m'' k
 stopped_pointers {form} {r} {m} {m'} {m''} {a} o z six refused = record {
-  named = below a refused.named.0 o.leads_to o.meets (of_list z six refused.named.1 refused.named.2) refused.named.3;
+  named = below a refused.named.0 (entered_leads o) o.meets (of_list z six refused.named.1 refused.named.2) refused.named.3;
   only = λ t c h takes covers.
-      let i = in_pointers r {a = a} t c (record { leads_to = o.leads_to; is_list = z; is_size = six; counts = refl }) h in
+      let i = in_pointers r {a = a} t c (record { leads_to = entered_leads o; is_list = z; is_size = six; counts = refl }) h in
       refused.only i.0 i.1 i.2 i.3 (λ e. omega (arith, takes e, i.4)) (affords_rest i.1 c (paid_own o) i.5 covers);
   spent = object_spends (list_count a.word) (paid_own o) (omega (arith, own_pointers r.segments a z six)) refused.spent;
 }
@@ -117,9 +116,9 @@ pub stopped_structs : {form : Form} {r : Reading} {m m' m'' : Meter} {a : Target
 stopped_structs {form} {r} {m} {m'} {m''} {a} o z seven refused =
     let S : Segments = r.segments in
     record {
-      named = below a refused.named.2.0 o.leads_to o.meets (of_element refused.named.0 (z, seven) refused.named.1 refused.named.2.1 refused.named.2.2) refused.named.2.3;
+      named = below a refused.named.2.0 (entered_leads o) o.meets (of_element refused.named.0 (z, seven) refused.named.1 refused.named.2.1 refused.named.2.2) refused.named.2.3;
       only = λ t c h takes covers.
-          let i = in_structs r {a = a} t c (record { leads_to = o.leads_to; is_list = z; is_size = seven; counts = refl }) h in
+          let i = in_structs r {a = a} t c (record { leads_to = entered_leads o; is_list = z; is_size = seven; counts = refl }) h in
           refused.only i.0 i.1 i.2 i.3 (λ e. omega (arith, takes e, i.4)) (affords_rest i.1 c (paid_own o) i.5 covers);
       spent =
           let fits = (o.meets.tagged (z, seven)).1 in

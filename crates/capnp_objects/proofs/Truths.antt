@@ -3,19 +3,17 @@ use Rattle.std.proofs.Common.{◌≡◌, ◌⊎◌, inl, inr, ℕ, ◌+◌, ◌�
 use Rattle.capnp_words.specs.declared.error.ErrorKind.{ErrorKind}
 use Rattle.capnp_words.specs.declared.error.ErrorKind.TheVariants.{ReadLimitExceeded}
 use Rattle.capnp_format.specs.Tree.{Tree}
-use Rattle.capnp_words.specs.Meter.{Meter, FitsIn, less}
+use Rattle.capnp_words.specs.Meter.{Meter, FitsIn, less, Affords}
 use Rattle.capnp_objects.specs.Spending.{after, pointers_in}
-use Rattle.capnp_objects.specs.Faults.{Somewhere, here, below, one_less, HasFault, Exceeds}
-use Rattle.capnp_objects.specs.Outcomes.{Spends, Reads}
-use Rattle.capnp_objects.proofs.Unreadable.{Unreadable}
-use Rattle.capnp_objects.specs.Faults.{Fails}
+use Rattle.capnp_objects.specs.Faults.{Somewhere, here, below, HasFault, Exceeds}
+use Rattle.capnp_objects.specs.Outcomes.{Reads}
+use Rattle.capnp_objects.proofs.Unreadable.{Unreadable, Spends, Fails}
 use Rattle.capnp_objects.specs.Wanted.{Form}
 use Rattle.capnp_objects.specs.Reading.{Reading}
-use Rattle.capnp_objects.specs.Laws.{IsUnlimited}
 use Rattle.capnp_objects.proofs.Budgets.{pointers_within}
 
 -- a refusal names a fault that stands, or a charge that exceeds what is left
-named_so : (form : Form) (m : Meter) (k : ErrorKind) {r : Reading} → Somewhere one_less (Fails form m k) r → HasFault form r k ⊎ ((k ≡ ReadLimitExceeded) × Somewhere one_less (Exceeds m) r)
+named_so : (form : Form) (m : Meter) (k : ErrorKind) {r : Reading} → Somewhere (Fails form m k) r → HasFault form r k ⊎ ((k ≡ ReadLimitExceeded) × Somewhere (Exceeds m) r)
 named_so form m k (here (inl b)) = inl (here b)
 named_so form m k (here (inr x)) = inr (x.0, here x.1)
 named_so form m k (below a q l o i rest) = elim (named_so form m k rest) [
@@ -23,10 +21,14 @@ named_so form m k (below a q l o i rest) = elim (named_so form m k rest) [
   | inr f ↦ inr (f.0, below a q l o i f.1)
 ]
 
-pub named_truly : {form : Form} {r : Reading} {m m' : Meter} {k : ErrorKind} → Unreadable form r m m' k → HasFault form r k ⊎ ((k ≡ ReadLimitExceeded) × Somewhere one_less (Exceeds m') r)
+pub named_truly : {form : Form} {r : Reading} {m m' : Meter} {k : ErrorKind} → Unreadable form r m m' k → HasFault form r k ⊎ ((k ≡ ReadLimitExceeded) × Somewhere (Exceeds m') r)
 named_truly {form} {r} {m} {m'} {k} refused = named_so form m' k refused.named
 
-never_exceeds : (m : Meter) {r : Reading} → Somewhere one_less (Exceeds m) r → IsUnlimited r.charging m → ⊥
+-- every charge is covered: there is no limit, or nothing is charged
+abbrev IsUnlimited : Bool → Meter → Type 0
+IsUnlimited charging m = (x : ℕ) → Affords charging m x
+
+never_exceeds : (m : Meter) {r : Reading} → Somewhere (Exceeds m) r → IsUnlimited r.charging m → ⊥
 never_exceeds m (here b) free = b.2 (free b.0)
 never_exceeds m (below a q l o i rest) free = never_exceeds m rest free
 

@@ -6,14 +6,15 @@ use Rattle.capnp_words.specs.Meter.{Meter, Affords}
 use Rattle.capnp_format.specs.Word.{kind}
 use Rattle.capnp_format.specs.Segments.{Target}
 use Rattle.capnp_words.specs.declared.wire_pointer.PointerType.{PointerType}
-use Rattle.capnp_objects.specs.declared.source.Landing.{Landing}
-use Rattle.capnp_objects.specs.Landings.{landing_target, FollowsPointer}
+use Rattle.capnp_objects.specs.declared.source.Found.{Found}
+use Rattle.capnp_objects.specs.Landings.{found_target, following, IsFollowed}
 use Rattle.capnp_objects.specs.Reading.{Reading, word_of}
-use Rattle.capnp_objects.specs.Refusals.{FollowsTo, exceeding, leading_nowhere}
+use Rattle.capnp_objects.specs.Refusals.{exceeding, leading_nowhere}
 use Rattle.capnp_objects.specs.Types.{type_of, HasType, HasNoType, not_followed, of_no_type}
 use Rattle.capnp_objects.proofs.Followed.{leads_there}
 use Rattle.capnp_objects.proofs.Landings.{IsCounted, reached}
 use Rattle.capnp_objects.proofs.Refusals.{not_unfollowed}
+use Rattle.capnp_objects.specs.Wanted.{FollowsTo}
 
 pub null_has_type : (r : Reading) (m : Meter) → word_of r ≡ 0 → HasType r m
 unfolding HasType
@@ -24,12 +25,12 @@ not_far : (w : ℕ) (t : PointerType) → type_of w ≡ Ok t → kind w ≢ 2
 not_far w t e two = absurd (let f : type_of w ≡ Err UnexpectedFarPointer = (rw two refl) in cc (e, f))
 
 -- the outcome once the pointer is followed
-pub has_type : {r : Reading} {m m₁ m₂ : Meter} {l : Landing} (t : PointerType) → IsCounted r m m₁ → FollowsPointer r m₁ m₂ l → type_of (landing_target l).word ≡ Ok t → HasType r m
+pub has_type : {r : Reading} {m m₁ m₂ : Meter} {l : Found} (t : PointerType) → IsCounted r m m₁ → IsFollowed (following r) m₁ m₂ l → type_of (found_target l).word ≡ Ok t → HasType r m
 unfolding HasType
-has_type {l = l} t o f e = let there = reached o f in inr (landing_target l, t, there.follows, e, there.paid.covers)
+has_type {l = l} t o f e = let there = reached o f in inr (found_target l, t, there.follows, e, there.paid.covers)
 
-pub has_no_type : {r : Reading} {m m₁ m₂ : Meter} {l : Landing} {k : ErrorKind} → IsCounted r m m₁ → FollowsPointer r m₁ m₂ l → type_of (landing_target l).word ≡ Err k → HasNoType r m m₂ k
-has_no_type {l = l} o f e = let there = reached o f in of_no_type (landing_target l) there.follows e there.paid
+pub has_no_type : {r : Reading} {m m₁ m₂ : Meter} {l : Found} {k : ErrorKind} → IsCounted r m m₁ → IsFollowed (following r) m₁ m₂ l → type_of (found_target l).word ≡ Err k → HasNoType r m m₂ k
+has_no_type {l = l} o f e = let there = reached o f in of_no_type (found_target l) there.follows e there.paid
 
 not_untyped_null : {r : Reading} {m m' : Meter} {k : ErrorKind} → word_of r ≡ 0 → HasNoType r m m' k → ⊥
 not_untyped_null null (not_followed (exceeding some short paid named)) = some null

@@ -1,29 +1,47 @@
 -- What is true where a reading is refused.
-use Rattle.std.proofs.Common.{◌≡◌, ℕ, ◌*◌}
+use Rattle.std.proofs.Common.{◌≡◌, ◌⊎◌, ℕ, ◌+◌, ◌*◌, ◌<◌, ◌≤◌, Bool}
 use Rattle.capnp_words.specs.declared.error.ErrorKind.{ErrorKind}
+use Rattle.capnp_words.specs.declared.error.ErrorKind.TheVariants.{ReadLimitExceeded}
 use Rattle.capnp_words.specs.declared.wire_pointer.StructSize.{StructSize}
 use Rattle.capnp_words.specs.Meter.{Meter, Affords}
 use Rattle.capnp_format.specs.Tree.{Tree, Trees, Elements, count, element_count, capabilities, capabilities_all, capabilities_elements}
-use Rattle.capnp_objects.specs.Faults.{Somewhere, Among, AmongElements, one_less, Fails}
-use Rattle.capnp_objects.specs.Outcomes.{MeansThere, MeanThere, ElementsMean, Spends}
-use Rattle.capnp_objects.specs.Reading.{Reading}
-use Rattle.capnp_objects.specs.Wanted.{Form, AllowsCapabilities}
+use Rattle.capnp_objects.specs.Faults.{Somewhere, Exceeds}
+use Rattle.capnp_objects.specs.Outcomes.{MeansThere, MeanThere, ElementsMean}
+use Rattle.capnp_objects.specs.Reading.{Reading, pointers_of}
+use Rattle.capnp_objects.specs.Spending.{after}
+use Rattle.capnp_objects.specs.Wanted.{Form, BreaksAt, AllowsCapabilities}
+
+-- From m to m' some words g were granted and some pointers followed, at most as many as g and a limit together.
+abbrev pub Spends : Bool → Meter → Meter → ℕ → Type 0
+Spends charging m m' limit = (g : ℕ) × (r : ℕ) × Affords charging m g × (m' ≡ after charging m g r) × (r ≤ g + limit)
+
+-- P holds at one of the m places from a place on, or of some place that is reached from there.
+abbrev pub Among : (Reading → Type 0) → Reading → ℕ → Type 0
+Among P r m = (q : ℕ) × (r.at ≤ q) × (q < r.at + m) × Somewhere P (record r { at = q })
+
+-- So at one of the pointers of m elements from a place on, each of this size.
+abbrev pub AmongElements : (Reading → Type 0) → Reading → StructSize → ℕ → Type 0
+AmongElements P r size m = (j : ℕ) × (j < m) × Among P (pointers_of r size j) size.pointers
+
+-- A place breaks a demand of the name k, or charges more than m has left.
+abbrev pub Fails : Form → Meter → ErrorKind → Reading → Type 0
+Fails form m k r = BreaksAt form k r ⊎ (k ≡ ReadLimitExceeded) × Exceeds m r
 
 -- A place can't be read, by the name k: some reached place fails so, there is no value within both limits, and no more is
 -- spent than was granted.
 pub record Unreadable (form : Form) (r : Reading) (m m' : Meter) (k : ErrorKind) : Type 0 where
-  pub named : Somewhere one_less (Fails form m' k) r
+  pub named : Somewhere (Fails form m' k) r
   pub only : (t : Tree) (c : ℕ) → MeansThere r t c → AllowsCapabilities form (capabilities t) → Affords r.charging m c → ⊥
   pub spent : Spends r.charging m m' 1
 
 -- So is that of i pointers from a place on.
 pub record UnreadableAll (form : Form) (r : Reading) (i : ℕ) (m m' : Meter) (k : ErrorKind) : Type 0 where
-  pub named : Among one_less (Fails form m' k) r i
+  pub named : Among (Fails form m' k) r i
   pub only : (ts : Trees) (c : ℕ) → count ts ≡ i → MeanThere r ts c → AllowsCapabilities form (capabilities_all ts) → Affords r.charging m c → ⊥
   pub spent : Spends r.charging m m' i
 
 -- So is that of i elements.
 pub record UnreadableElements (form : Form) (r : Reading) (size : StructSize) (i : ℕ) (m m' : Meter) (k : ErrorKind) : Type 0 where
-  pub named : AmongElements one_less (Fails form m' k) r size i
+  pub named : AmongElements (Fails form m' k) r size i
   pub only : (es : Elements) (c : ℕ) → element_count es ≡ i → ElementsMean r size es c → AllowsCapabilities form (capabilities_elements es) → Affords r.charging m c → ⊥
   pub spent : Spends r.charging m m' (i * size.pointers)

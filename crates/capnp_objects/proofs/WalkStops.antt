@@ -30,6 +30,7 @@ use Rattle.capnp_objects.proofs.Refusals.{affords_less}
 use Rattle.capnp_objects.proofs.Sized.{form, form_there, sized_form, one_target, one_sized, one_sized_all, SizedAllAs, ElementsSizedAs, SomeSizedAll, SomeElementsSized}
 use Rattle.capnp_objects.proofs.Sized.{of_struct as form_struct, of_pointers as form_pointers, of_structs as form_structs}
 use Rattle.capnp_objects.proofs.Walked.{inside, beginning, same_place, same_size, counted_struct, counted_flat, counted_pointers, counted_structs}
+use Rattle.capnp_objects.proofs.Followed.{entered_leads, leads_to, leads_there}
 
 -- from children to their object
 
@@ -91,7 +92,7 @@ pub beyond_at : {r : Reading} {from : Tally} {m' : Meter} {a : Target} (w : ℕ)
 beyond_at {a = a} w fits o counted over = here fits (too_large a o (omega (arith, over, counted)) refl)
 
 pub capability_beyond : {r : Reading} {from : Tally} {m' : Meter} {i : ℕ} → FitSize from.words from.caps → IsObject Size r from.meter m' (ObjectCapability i) → (from.caps + 1 < 2 ^ 32 → ⊥) → SizeStops (MessageTooLarge (2 ^ 64 - 1)) r from m'
-capability_beyond fits (a, (l, level), low, index, covers, spent) over = here fits (too_many a l level low (record { covers = covers; spent = spent }) (omega (arith, over)) refl)
+capability_beyond {r} fits (a, (l, level), low, index, covers, spent) over = here fits (too_many a (leads_there r a l (λ f. omega (arith, f, low))) level low (record { covers = covers; spent = spent }) (omega (arith, over)) refl)
 
 pub flat_beyond : {r : Reading} {from : Tally} {m' : Meter} (start : Place) (size : ElementSize) (i : ℕ) → FitSize from.words from.caps → IsObject Size r from.meter m' (ObjectFlat start size i) →
     (from.words + words_for (size_number size) i < 2 ^ 64 → ⊥) → SizeStops (MessageTooLarge (2 ^ 64 - 1)) r from m'
@@ -115,29 +116,29 @@ structs_beyond {r} start size i fits (a, o, z, seven, there, many, wide, pointer
 can_be : (r : Reading) (m : Meter) (t : Tree) (c : ℕ) → SizedThere r t c → Affords r.charging m c → CanBeRead Size r m
 unfolding CanBeRead
 can_be r m Null c h covers = inl h.0
-can_be r m (Capability i) c (a, some, l, e, g) covers = inr (inl (a, (l, some), omega (arith, e), subst (Affords r.charging m) g covers))
+can_be r m (Capability i) c (a, some, l, e, g) covers = inr (inl (a, (leads_to r a l, some), omega (arith, e), subst (Affords r.charging m) g covers))
 can_be r m (Struct ws ts) c (a, k, some, o, claims, e, all, g) covers =
     let claimed = claim_struct a.word o.is_struct in
     let meets : Meets Size r.segments r.levels a = record { levels = some; is_object = omega (arith, o.is_struct); claims = λ v. omega (arith, claims, claimed, o.data_of, o.pointers); tagged = λ v. absurd (omega (arith, o.is_struct, v.0)) } in
-    inr (inr (a, o.leads_to, meets, affords_less r.charging m (own Size r.segments a) c (omega (arith, charge_of_size r.segments a, claimed, o.data_of, o.pointers, g)) covers))
+    inr (inr (a, leads_to r a o.leads_to, meets, affords_less r.charging m (own Size r.segments a) c (omega (arith, charge_of_size r.segments a, claimed, o.data_of, o.pointers, g)) covers))
 can_be r m (Flat size ns) c (a, some, small, o, claims, e, g) covers =
     let claimed : claim a.word ≡ words_for size (length ns) = claim_list a.word size o.is_list o.is_size ∙ claim_flat size (list_count a.word) small ∙ ap (words_for size) o.counts in
     let z = o.is_size in
     let y = o.is_list in
     let meets : Meets Size r.segments r.levels a = record { levels = some; is_object = omega arith; claims = λ v. (let x = claims (some_size size (λ f. v (y, z ∙ f))) in omega (arith, x, claimed)); tagged = λ v. absurd (omega (arith, v.1)) } in
-    inr (inr (a, o.leads_to, meets, affords_less r.charging m (own Size r.segments a) c (omega (arith, charge_of_size r.segments a, claimed, g)) covers))
+    inr (inr (a, leads_to r a o.leads_to, meets, affords_less r.charging m (own Size r.segments a) c (omega (arith, charge_of_size r.segments a, claimed, g)) covers))
   where
     some_size : (size : ℕ) → (size ≡ 0 → ⊥) → 0 < size
     some_size size f = omega arith
 can_be r m (Pointers ts) c (a, k, some, o, claims, all, g) covers =
     let claimed = claim_list a.word 6 o.is_list o.is_size in
     let meets : Meets Size r.segments r.levels a = record { levels = some; is_object = omega (arith, o.is_list); claims = λ v. omega (arith, claims, claimed, o.counts); tagged = λ v. absurd (omega (arith, v.1, o.is_size)) } in
-    inr (inr (a, o.leads_to, meets, affords_less r.charging m (own Size r.segments a) c (omega (arith, charge_of_size r.segments a, claimed, o.counts, g)) covers))
+    inr (inr (a, leads_to r a o.leads_to, meets, affords_less r.charging m (own Size r.segments a) c (omega (arith, charge_of_size r.segments a, claimed, o.counts, g)) covers))
 can_be r m (Structs d q es) c (a, i, k, some, o, claims, t, fits, all, g) covers =
     let claimed = claim_list a.word 7 o.is_list o.is_size in
     let words : element_words (tag r.segments a) ≤ list_count a.word = rw (t.counts, t.data_of, t.pointers, o.counts) fits in
     let meets : Meets Size r.segments r.levels a = record { levels = some; is_object = omega (arith, o.is_list); claims = λ v. omega (arith, claims, claimed, o.counts); tagged = λ v. (t.is_struct, words) } in
-    inr (inr (a, o.leads_to, meets, affords_less r.charging m (own Size r.segments a) c (omega (arith, charge_of_size r.segments a, claimed, o.counts, g)) covers))
+    inr (inr (a, leads_to r a o.leads_to, meets, affords_less r.charging m (own Size r.segments a) c (omega (arith, charge_of_size r.segments a, claimed, o.counts, g)) covers))
 
 same_word : (r : Reading) (b a : Target) → LeadsTo r b → LeadsTo r a → b.word ≡ a.word
 same_word r b a l m = ap (λ x. x.word) (one_target r b a l m)
@@ -180,7 +181,7 @@ NeverRows r size i from =
 
 never_here : {r : Reading} {from : Tally} {m' : Meter} {k : ErrorKind} → SizeStopped r from m' k → Never r from
 never_here {r} {from} (unmeasured h) t c sized fits covers = can_not (can_be r from.meter t c sized covers) h
-never_here {r} (too_large a o over named) t c sized fits covers = omega (arith, counted_within r {a = a} t c sized o.leads_to o.meets.is_object, over, fits.0)
+never_here {r} (too_large a o over named) t c sized fits covers = omega (arith, counted_within r {a = a} t c sized (entered_leads o) o.meets.is_object, over, fits.0)
 never_here {r} (too_many a l level low paid over named) t c sized fits covers = omega (arith, capability_within r {a = a} t c sized l low, over, fits.1)
 
 -- the child behind the first ones, in any longer walk from the same place
@@ -308,13 +309,13 @@ in_list_of_structs r {a} t c h l z seven = absurd (let e : form t ≡ 5 = sized_
 
 never_below : {r : Reading} (from : Tally) {mid : Tally} {first : Meter} {q : ℕ} {a : Target} → Entered Size r from.meter first a → WalksBefore r a q (with_object_counted from a r.segments first) mid → Never (child_at r a (pred r.levels) q) mid → Never r from
 never_below {r} from {mid} {first} {q} {a} o (in_struct ts z fewer e all) child t c h fits covers =
-    let x = in_a_struct r {a = a} t c h o.leads_to z in
+    let x = in_a_struct r {a = a} t c h (entered_leads o) z in
     never_all (pointer_count a.word) all fewer (subst (λ y. Never (child_at r a (pred r.levels) y) mid) e child) x.0 x.1 x.2 x.3 (omega (arith, fits.0, x.4), omega (arith, fits.1, x.5)) (affords_rest x.1 c (paid_words o) x.6 covers)
 never_below {r} from {mid} {first} {q} {a} o (in_pointers ts z six fewer e all) child t c h fits covers =
-    let x = in_list_of_pointers r {a = a} t c h o.leads_to z six in
+    let x = in_list_of_pointers r {a = a} t c h (entered_leads o) z six in
     never_all (list_count a.word) all fewer (subst (λ y. Never (child_at r a (pred r.levels) y) mid) e child) x.0 x.1 x.2 x.3 (omega (arith, fits.0, x.4), omega (arith, fits.1, x.5)) (affords_rest x.1 c (paid_words o) x.6 covers)
 never_below {r} from {mid} {first} {q} {a} o (in_element es ts between (z, seven) fewer less e rows all) child t c h fits covers =
-    let x = in_list_of_structs r {a = a} t c h o.leads_to z seven in
+    let x = in_list_of_structs r {a = a} t c h (entered_leads o) z seven in
     never_rows (offset_bits (tag r.segments a)) rows fewer (never_all (pointer_count (tag r.segments a)) all less (subst (λ y. Never (child_at r a (pred r.levels) y) mid) e child)) x.0 x.1 x.2 x.3 (omega (arith, fits.0, x.4), omega (arith, fits.1, x.5)) (affords_rest x.1 c (paid_words o) x.6 covers)
 
 pub stops_never : {k : ErrorKind} {r : Reading} {from : Tally} {m' : Meter} → SizeStops k r from m' → Never r from

@@ -28,6 +28,7 @@ use Rattle.capnp_objects.proofs.Measures.{paid_words}
 use Rattle.capnp_objects.proofs.Budgets.{affords_none, after_none, paid_both}
 use Rattle.capnp_objects.proofs.Copies.{with_last_element, count-with_last_element, capabilities-with_last, pointers_in-with_last, capabilities-with_last_element, pointers_in-with_last_element}
 use Rattle.capnp_objects.proofs.Parts.{claim_struct, claim_list, claim_flat}
+use Rattle.capnp_objects.proofs.Followed.{entered_leads, leads_there}
 
 pub words-with_last : (ts : Trees) (u : Tree) → word_count_all (with_last ts u) ≡ word_count_all ts + word_count u
 words-with_last no_trees u = omega arith
@@ -180,7 +181,7 @@ null_walked {r} {from} {m'} (z, e) = (
 
 pub capability_walked : {r : Reading} {from : Tally} {m' : Meter} {i : ℕ} → IsObject Size r from.meter m' (ObjectCapability i) → WalksPlace r from (tally from.words (from.caps + 1) m')
 capability_walked {r} {from} {m'} {i} (a, (l, some), low, index, covers, spent) =
-    (Capability (upper_half a.word), record { cost = a.pads; is_sized = (a, some, l, omega arith, refl); paid = record { covers = covers; spent = spent }; words_are = omega arith; caps_are = refl })
+    (Capability (upper_half a.word), record { cost = a.pads; is_sized = (a, some, leads_there r a l (λ f. omega (arith, f, low)), omega arith, refl); paid = record { covers = covers; spent = spent }; words_are = omega arith; caps_are = refl })
 
 pub flat_at : {r : Reading} {from : Tally} {m' : Meter} {a : Target} → Entered Size r from.meter m' a → kind a.word ≡ 1 → element_size a.word ≤ 5 →
     WalksPlace r from (tally (from.words + words_for (element_size a.word) (list_count a.word)) from.caps m')
@@ -199,7 +200,7 @@ flat_at {r} {from} {m'} {a} o z small =
           a,
           o.meets.levels,
           small,
-          record { leads_to = o.leads_to; is_list = z; is_size = refl; counts = sym long },
+          record { leads_to = entered_leads o; is_list = z; is_size = refl; counts = sym long },
           (λ some. omega (arith, o.meets.claims (λ v. omega (arith, v.1, some)), claimed, ap (words_for kind_of) long)),
           subst (λ j. ns ≡ unpacked kind_of j (words_at S a.segment a.start (words_for kind_of j))) (sym long) refl,
           ap (λ x. a.pads + x) (claimed ∙ ap (words_for kind_of) (sym long)),
@@ -238,7 +239,7 @@ struct_at {r} {from} {to} {m'} {a} o z (ts, len, all) =
           a,
           all.cost,
           o.meets.levels,
-          record { leads_to = o.leads_to; is_struct = z; data_of = sym long; pointers = sym len },
+          record { leads_to = entered_leads o; is_struct = z; data_of = sym long; pointers = sym len },
           omega (arith, room, long, len),
           rw long refl,
           subst (λ i. SizedAll S (pred r.levels) a.segment (a.start + i) ts all.cost) (sym long) all.is_sized,
@@ -272,7 +273,7 @@ pointers_at {r} {from} {to} {m'} {a} o z six (ts, len, all) =
           a,
           all.cost,
           o.meets.levels,
-          record { leads_to = o.leads_to; is_list = z; is_size = six; counts = sym len },
+          record { leads_to = entered_leads o; is_list = z; is_size = six; counts = sym len },
           omega (arith, o.meets.claims (λ v. omega (arith, v.1, six)), claimed, len),
           all.is_sized,
           omega (arith, claimed, len),
@@ -312,7 +313,7 @@ structs_at {r} {from} {to} {m'} {a} o z seven (es, len, all) =
           N,
           all.cost,
           o.meets.levels,
-          record { leads_to = o.leads_to; is_list = z; is_size = seven; counts = refl },
+          record { leads_to = entered_leads o; is_list = z; is_size = seven; counts = refl },
           omega (arith, o.meets.claims (λ v. omega (arith, v.1, seven)), claimed),
           record { is_struct = t.0; counts = sym len; data_of = refl; pointers = refl },
           subst (λ j. j * (d + q) ≤ N) (sym len) t.1,

@@ -8,35 +8,38 @@ use Rattle.capnp_format.specs.Means.{Claims, count_cost}
 use Rattle.capnp_objects.specs.declared.object.Purpose.{Purpose}
 use Rattle.capnp_objects.specs.declared.object.Purpose.TheVariants.{Value, Size}
 
--- the words that an object claims, by the word that describes it
-abbrev pub list_claim : ℕ → ℕ → ℕ
-list_claim size n = cond (nat_eq size 7) (n + 1) (cond (nat_eq size 6) n (words_for size n))
-
+-- The words that an object claims, by the word that describes it: those of a struct's two sections; of a list of structs with
+-- its tag, of pointers, of numbers.
 abbrev pub claim : ℕ → ℕ
-claim w = cond (nat_eq (kind w) 0) (data_words w + pointer_count w) (list_claim (element_size w) (list_count w))
+claim w =
+    cond (nat_eq (kind w) 0) (data_words w + pointer_count w)
+    (cond (nat_eq (element_size w) 7) (list_count w + 1) (cond (nat_eq (element_size w) 6) (list_count w) (words_for (element_size w) (list_count w))))
 
+-- The word describes a list of structs.
 abbrev pub IsStructList : ℕ → Type 0
 IsStructList w = (kind w ≡ 1) × (element_size w ≡ 7)
 
--- the first word of an object, which is the tag in a list of structs
+-- The first word of an object, which is the tag in a list of structs.
 abbrev pub tag : Segments → Target → ℕ
 tag S a = word_at S a.segment a.start
 
+-- How many words the elements take of a list of structs with the tag g.
 abbrev pub element_words : ℕ → ℕ
 element_words g = offset_bits g * (data_words g + pointer_count g)
 
--- what n elements of a width charge, where that is none; for the size they are free
+-- What n elements of a width charge, where that is none; for the size they are free.
 abbrev pub count_charge : Purpose → ℕ → ℕ → ℕ
 count_charge Value width n = count_cost width n
 count_charge Size width n = 0
 
--- what is charged for elements of no bits
+-- What is charged for elements of no bits; for the size nothing is.
 abbrev pub amplified : Purpose → Segments → Target → ℕ
-amplified purpose S a =
+amplified Size S a = 0
+amplified Value S a =
     cond (nat_eq (kind a.word) 0) 0
-    (cond (nat_eq (element_size a.word) 7) (count_charge purpose (data_words (tag S a) + pointer_count (tag S a)) (offset_bits (tag S a))) (count_charge purpose (element_size a.word) (list_count a.word)))
+    (cond (nat_eq (element_size a.word) 7) (count_cost (data_words (tag S a) + pointer_count (tag S a)) (offset_bits (tag S a))) (count_cost (element_size a.word) (list_count a.word)))
 
--- what reading an object charges, without its children
+-- What reading an object charges, without its children: its landing pads, what it claims, and its elements of no bits.
 abbrev pub own : Purpose → Segments → Target → ℕ
 own purpose S a = a.pads + claim a.word + amplified purpose S a
 
@@ -49,7 +52,7 @@ abbrev pub LiesThere : Purpose → Segments → Target → Type 0
 LiesThere Value S a = Claims S a (claim a.word)
 LiesThere Size S a = (IsVoidList a.word → ⊥) → Claims S a (claim a.word)
 
--- an object that meets all demands but those on children
+-- An object that meets all demands but those on children, where n levels are left.
 pub record Meets (purpose : Purpose) (S : Segments) (n : ℕ) (a : Target) : Type 0 where
   pub levels : 0 < n
   pub is_object : kind a.word < 2

@@ -1,11 +1,11 @@
 -- An object that a call expects to be of a kind, once its landing is known: the steps of entering it.
-use Rattle.std.specs.Prelude.{◌≡◌, ℕ, ◌+◌, ◌-◌, ◌*◌, ◌/◌, ◌%◌, ◌^◌, ◌≤◌, cond, nat_eq, Bool, Option, Some, None, get_or, length}
+use Rattle.std.specs.Prelude.{◌≡◌, ℕ, ◌+◌, ◌-◌, ◌*◌, ◌/◌, ◌%◌, ◌^◌, ◌≤◌, cond, not, ◌||◌, nat_eq, Option, Some, None, get_or, length}
 use Rattle.capnp_words.specs.declared.error.ErrorKind.{ErrorKind}
 use Rattle.capnp_words.specs.declared.error.ErrorKind.TheVariants.{MessageContainsTextThatIsNotNULTerminated}
 use Rattle.capnp_words.specs.Meter.{Meter}
 use Rattle.capnp_format.specs.Bytes.{words_of}
 use Rattle.capnp_format.specs.Numbers.{words_for}
-use Rattle.capnp_format.specs.Segments.{Segments, Target}
+use Rattle.capnp_format.specs.Segments.{Target}
 use Rattle.capnp_words.specs.declared.wire_pointer.ElementSize.TheVariants.{Byte}
 use Rattle.capnp_words.specs.Sizes.{size_number}
 use Rattle.capnp_objects.specs.declared.object.Expected.{Expected}
@@ -15,7 +15,7 @@ use Rattle.capnp_objects.specs.declared.object.Object.TheVariants.{Flat as Objec
 use Rattle.capnp_objects.specs.declared.object.Place.{Place}
 use Rattle.capnp_objects.specs.declared.object.Purpose.TheVariants.{Value}
 use Rattle.capnp_objects.specs.Expected.{another_kind, misfit, narrow_elements, narrow_structs}
-use Rattle.capnp_objects.specs.Landings.{IsEntered, NotEntered}
+use Rattle.capnp_objects.specs.Landings.{Arrival, IsEntered, NotEntered}
 
 -- The byte at index i from a place.
 abbrev pub place_byte : Place → ℕ → ℕ
@@ -27,8 +27,7 @@ object_misfit (List size) (ObjectFlat start found count) = narrow_elements size 
 object_misfit (List size) (ObjectPointers start count) = narrow_elements size 6
 object_misfit (List size) (ObjectStructs start sections count) = narrow_structs size sections
 object_misfit Text (ObjectFlat start Byte count) =
-    cond (nat_eq count 0) (Some MessageContainsTextThatIsNotNULTerminated)
-    (cond (nat_eq (place_byte start (count - 1)) 0) None (Some MessageContainsTextThatIsNotNULTerminated))
+    cond (nat_eq count 0 || not (nat_eq (place_byte start (count - 1)) 0)) (Some MessageContainsTextThatIsNotNULTerminated) None
 object_misfit expected object = None
 
 -- The words of the elements of a list without pointers are at hand.
@@ -41,7 +40,7 @@ abbrev pub IsFitting : Expected → Target → Object → Type 0
 IsFitting expected a object = (another_kind expected a.word ≡ None) × (object_misfit expected object ≡ None)
 
 -- An object is refused by the name k, from m to m'.
-pub data IsUnsuited (expected : Expected) (S : Segments) (charging : Bool) (a : Target) (m m' : Meter) (k : ErrorKind) : Type 0 where
-  another : another_kind expected a.word ≡ Some k → m' ≡ m → IsUnsuited expected S charging a m m' k
-  not_entered : another_kind expected a.word ≡ None → NotEntered Value S charging 1 a m m' k → IsUnsuited expected S charging a m m' k
-  misfits : another_kind expected a.word ≡ None → IsEntered Value S charging 1 a m m' → misfit expected S a ≡ Some k → IsUnsuited expected S charging a m m' k
+pub data IsUnsuited (expected : Expected) (o : Arrival) (m m' : Meter) (k : ErrorKind) : Type 0 where
+  another : another_kind expected o.target.word ≡ Some k → m' ≡ m → IsUnsuited expected o m m' k
+  not_entered : another_kind expected o.target.word ≡ None → NotEntered Value o m m' k → IsUnsuited expected o m m' k
+  misfits : another_kind expected o.target.word ≡ None → IsEntered Value o m m' → misfit expected o.segments o.target ≡ Some k → IsUnsuited expected o m m' k

@@ -18,12 +18,11 @@ use Rattle.capnp_objects.specs.declared.object.Object.{Object}
 use Rattle.capnp_objects.specs.declared.object.Object.TheVariants.{Null as ObjectNull, Struct as ObjectStruct, Flat as ObjectFlat, Pointers as ObjectPointers, Structs as ObjectStructs}
 use Rattle.capnp_objects.specs.declared.object.Purpose.TheVariants.{Value}
 use Rattle.capnp_objects.specs.Demands.{own, Meets}
-use Rattle.capnp_objects.specs.Faults.{LeadsTo}
 use Rattle.capnp_objects.specs.Outcomes.{Entered}
 use Rattle.capnp_objects.specs.Reading.{Reading, word_of, tag_size}
-use Rattle.capnp_objects.specs.Refusals.{FollowsTo, Unfollowed, Stopped}
+use Rattle.capnp_objects.specs.Refusals.{Unfollowed, Stopped}
 use Rattle.capnp_objects.specs.Spending.{Paid}
-use Rattle.capnp_objects.specs.Wanted.{plain, follow_at}
+use Rattle.capnp_objects.specs.Wanted.{plain, follow_at, FollowsTo}
 
 -- A struct and a list take a level, which is asked for before the pointer is followed. A text and data take none.
 abbrev pub too_deep : Expected → ℕ → Option ErrorKind
@@ -66,28 +65,21 @@ narrow_structs EightBytes sections = cond (nat_eq sections.data_words 0) (Some E
 narrow_structs Pointer sections = cond (nat_eq sections.pointers 0) (Some ExpectedAPointerListButGotAListOfDataOnlyStructs) None
 narrow_structs InlineComposite sections = None
 
--- The byte at index i from where an object starts.
-abbrev pub byte_of : Segments → Target → ℕ → ℕ
-byte_of S a i = word_at S a.segment (a.start + i / 8) / 2 ^ (8 * (i % 8)) % 256
-
 -- An object of the kind, whose words are read, that is yet none that was expected: a list of elements that are too narrow,
 -- a text of no bytes, or one whose last byte isn't 0.
 abbrev pub misfit : Expected → Segments → Target → Option ErrorKind
 misfit (List size) S a = cond (nat_eq (element_size a.word) 7) (narrow_structs size (tag_size S a)) (narrow_elements size (element_size a.word))
 misfit Text S a =
-    cond (nat_eq (list_count a.word) 0) (Some MessageContainsTextThatIsNotNULTerminated)
-    (cond (nat_eq (byte_of S a (list_count a.word - 1)) 0) None (Some MessageContainsTextThatIsNotNULTerminated))
+    let last = list_count a.word - 1 in
+    let byte = word_at S a.segment (a.start + last / 8) / 2 ^ (8 * (last % 8)) % 256 in
+    cond (nat_eq (list_count a.word) 0 || not (nat_eq byte 0)) (Some MessageContainsTextThatIsNotNULTerminated) None
 misfit Struct S a = None
 misfit Data S a = None
-
--- The same place with one level, which is asked for apart.
-abbrev pub one_level : Reading → Reading
-one_level r = record r { levels = 1 }
 
 -- The place leads to an object that meets all demands of the call.
 pub record IsSuited (expected : Expected) (r : Reading) (a : Target) : Type 0 where
   pub level : too_deep expected r.levels ≡ None
-  pub leads_to : LeadsTo r a
+  pub follows : FollowsTo r a
   pub of_kind : another_kind expected a.word ≡ None
   pub meets : Meets Value r.segments 1 a
   pub fits : misfit expected r.segments a ≡ None
@@ -96,19 +88,19 @@ pub record IsSuited (expected : Expected) (r : Reading) (a : Target) : Type 0 wh
 unfoldable pub CanBeGiven : Expected → Reading → Meter → Type 0
 CanBeGiven expected r m = (word_of r ≡ 0) ⊎ ((a : Target) × IsSuited expected r a × Affords r.charging m (own Value r.segments a))
 
--- What the pointer leads to, if it can be followed, is of the kind.
-abbrev pub IsOfKind : Expected → Reading → Type 0
-IsOfKind expected r = (a : Target) → follow_at r ≡ Ok a → another_kind expected a.word ≡ None
-
 -- The call is refused, from m to m', by the name k: no level is left, and nothing is counted or charged; the pointer is not
--- followed; the object is of another kind, and the landing pads are granted; reading an object of the kind stops; or the object
--- is read, and is none that was expected.
+-- followed; the object is of another kind, and the landing pads are granted; what it leads to, if it can be followed, is of the
+-- kind, and reading it stops, with one level, which is asked for apart; or the object is read, and is none that was expected.
 pub data Withheld (expected : Expected) (r : Reading) (m m' : Meter) (k : ErrorKind) : Type 0 where
   no_level : word_of r ≢ 0 → too_deep expected r.levels ≡ Some k → m' ≡ m → Withheld expected r m m' k
   unfollowed : too_deep expected r.levels ≡ None → Unfollowed r m m' k → Withheld expected r m m' k
   of_another_kind : (a : Target) → too_deep expected r.levels ≡ None → FollowsTo r a → another_kind expected a.word ≡ Some k → Paid r.charging m m' a.pads 1 → Withheld expected r m m' k
-  stopped : too_deep expected r.levels ≡ None → IsOfKind expected r → Stopped Value plain (one_level r) m m' k → Withheld expected r m m' k
-  misfits : (a : Target) → too_deep expected r.levels ≡ None → another_kind expected a.word ≡ None → Entered Value (one_level r) m m' a → misfit expected r.segments a ≡ Some k → Withheld expected r m m' k
+  stopped :
+      too_deep expected r.levels ≡ None →
+      ((a : Target) → follow_at r ≡ Ok a → another_kind expected a.word ≡ None) →
+      Stopped Value plain (record r { levels = 1 }) m m' k →
+      Withheld expected r m m' k
+  misfits : (a : Target) → too_deep expected r.levels ≡ None → another_kind expected a.word ≡ None → Entered Value (record r { levels = 1 }) m m' a → misfit expected r.segments a ≡ Some k → Withheld expected r m m' k
 
 -- An object is as expected, where n levels are left; or the pointer is null.
 abbrev pub IsGiven : Expected → ℕ → Object → Type 0

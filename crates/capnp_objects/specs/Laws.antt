@@ -1,13 +1,13 @@
 -- What a refusal of a whole value tells, and what its size is, as statements. Each is a clause of a function of the module `laws`, and so is
 -- proved.
-use Rattle.std.specs.Prelude.{◌≡◌, ◌⊎◌, ℕ, ◌+◌, ◌<◌, ◌≤◌, Bool, true, Some}
+use Rattle.std.specs.Prelude.{◌≡◌, ◌⊎◌, ℕ, ◌+◌, ◌<◌, ◌≤◌, true, Some}
 use Rattle.capnp_words.specs.declared.error.ErrorKind.{ErrorKind}
 use Rattle.capnp_words.specs.declared.error.ErrorKind.TheVariants.{ReadLimitExceeded}
 use Rattle.capnp_words.specs.Meter.{Meter, Affords}
 use Rattle.capnp_format.specs.Segments.{AreWords}
 use Rattle.capnp_format.specs.Tree.{Tree, depth, capabilities}
 use Rattle.capnp_format.specs.Canonical.{word_count, trim}
-use Rattle.capnp_objects.specs.Faults.{Somewhere, one_less, Exceeds, HasFault}
+use Rattle.capnp_objects.specs.Faults.{Somewhere, Exceeds, HasFault}
 use Rattle.capnp_objects.specs.Outcomes.{MeansThere, Reads}
 use Rattle.capnp_objects.specs.Reading.{Reading}
 use Rattle.capnp_objects.specs.Refusals.{Refused, BreaksOff}
@@ -18,24 +18,20 @@ use Rattle.capnp_objects.specs.Wanted.{Form, AllowsCapabilities}
 -- is left.
 abbrev pub RefusedTruly : Type 0
 RefusedTruly =
-    (form : Form) (r : Reading) (m m' : Meter) (k : ErrorKind) → Refused form r m m' k → HasFault form r k ⊎ ((k ≡ ReadLimitExceeded) × Somewhere one_less (Exceeds m') r)
+    (form : Form) (r : Reading) (m m' : Meter) (k : ErrorKind) → Refused form r m m' k → HasFault form r k ⊎ ((k ≡ ReadLimitExceeded) × Somewhere (Exceeds m') r)
 
 -- No demand is refused by the name of the read limit: that is a charge's alone.
 abbrev pub LimitOfCharges : Type 0
-LimitOfCharges = (form : Form) (r : Reading) (m m' : Meter) → Refused form r m m' ReadLimitExceeded → Somewhere one_less (Exceeds m') r
+LimitOfCharges = (form : Form) (r : Reading) (m m' : Meter) → Refused form r m m' ReadLimitExceeded → Somewhere (Exceeds m') r
 
 -- The place means no value that is taken, within both limits.
 abbrev pub RefusedRightly : Type 0
 RefusedRightly =
     (form : Form) (r : Reading) (m m' : Meter) (k : ErrorKind) → Refused form r m m' k → (t : Tree) (c : ℕ) → MeansThere r t c → AllowsCapabilities form (capabilities t) → Affords r.charging m c → ⊥
 
--- Every charge is covered: there is no limit, or nothing is charged.
-abbrev pub IsUnlimited : Bool → Meter → Type 0
-IsUnlimited charging m = (x : ℕ) → Affords charging m x
-
--- Without a limit a demand is broken.
+-- Where every charge is covered, since there is no limit or nothing is charged, a demand is broken.
 abbrev pub RefusedUnlimited : Type 0
-RefusedUnlimited = (form : Form) (r : Reading) (m m' : Meter) (k : ErrorKind) → IsUnlimited r.charging m → Refused form r m m' k → HasFault form r k
+RefusedUnlimited = (form : Form) (r : Reading) (m m' : Meter) (k : ErrorKind) → ((x : ℕ) → Affords r.charging m x) → Refused form r m m' k → HasFault form r k
 
 -- A place means a value that is taken, within its levels, or some reached place breaks a demand.
 abbrev pub ValueOrFault : Type 0

@@ -11,9 +11,9 @@ use Rattle.capnp_objects.specs.declared.object.Object.TheVariants.{Null as Objec
 use Rattle.capnp_objects.specs.declared.object.Purpose.{Purpose}
 use Rattle.capnp_objects.specs.Spending.{after}
 use Rattle.capnp_objects.specs.Demands.{tag}
-use Rattle.capnp_objects.specs.Faults.{LeadsFor}
 use Rattle.capnp_objects.specs.Reading.{Reading, word_of}
 use Rattle.capnp_objects.specs.Outcomes.{Entered}
+use Rattle.capnp_objects.specs.Wanted.{FollowsFor}
 
 -- The bytes of a place are those of its segment.
 abbrev pub IsHeld : Segments → Place → Type 0
@@ -28,7 +28,7 @@ StartsAt S a n here = IsHeld S here × (here.segment ≡ a.segment) × (here.at 
 abbrev pub IsObject : Purpose → Reading → Meter → Meter → Object → Type 0
 IsObject purpose r m m' ObjectNull = (word_of r ≡ 0) × (m' ≡ m)
 IsObject purpose r m m' (ObjectCapability i) =
-    (a : Target) × LeadsFor purpose r a × (a.word % 2 ^ 32 ≡ 3) × (i ≡ upper_half a.word) × Affords r.charging m a.pads × (m' ≡ after r.charging m a.pads 1)
+    (a : Target) × FollowsFor purpose r a × (a.word % 2 ^ 32 ≡ 3) × (i ≡ upper_half a.word) × Affords r.charging m a.pads × (m' ≡ after r.charging m a.pads 1)
 IsObject purpose r m m' (ObjectStruct start size) =
     (a : Target) × Entered purpose r m m' a × (kind a.word ≡ 0) × StartsAt r.segments a 0 start × (size.data_words ≡ data_words a.word) × (size.pointers ≡ pointer_count a.word)
 IsObject purpose r m m' (ObjectFlat start size count) =

@@ -1,5 +1,5 @@
 -- What a reading of whole values gives and spends, and what is true where it is refused.
-use Rattle.std.specs.Prelude.{◌≡◌, ℕ, ◌+◌, ◌≤◌, Bool}
+use Rattle.std.specs.Prelude.{◌≡◌, ℕ}
 use Rattle.capnp_words.specs.declared.wire_pointer.StructSize.{StructSize}
 use Rattle.capnp_words.specs.Meter.{Meter, Affords}
 use Rattle.capnp_format.specs.Segments.{Target}
@@ -7,10 +7,9 @@ use Rattle.capnp_format.specs.Tree.{Tree, Trees, Elements, capabilities, capabil
 use Rattle.capnp_format.specs.Means.{Means, MeansAll, MeansElements}
 use Rattle.capnp_objects.specs.declared.object.Purpose.{Purpose}
 use Rattle.capnp_objects.specs.Demands.{own, Meets}
-use Rattle.capnp_objects.specs.Faults.{LeadsTo}
 use Rattle.capnp_objects.specs.Reading.{Reading}
 use Rattle.capnp_objects.specs.Spending.{after, pointers_in, pointers_in_all, pointers_in_elements}
-use Rattle.capnp_objects.specs.Wanted.{Form, AllowsCapabilities}
+use Rattle.capnp_objects.specs.Wanted.{Form, FollowsTo, AllowsCapabilities}
 
 -- The place means t within the levels, at a cost; pointers one behind the other mean ts; elements of this size mean es.
 abbrev pub MeansThere : Reading → Tree → ℕ → Type 0
@@ -21,10 +20,6 @@ MeanThere r ts c = MeansAll r.segments r.levels r.segment r.at ts c
 
 abbrev pub ElementsMean : Reading → StructSize → Elements → ℕ → Type 0
 ElementsMean r size es c = MeansElements r.segments r.levels r.segment r.at size.data_words size.pointers es c
-
--- From m to m' some words g were granted and some pointers followed, at most as many as g and a limit together.
-abbrev pub Spends : Bool → Meter → Meter → ℕ → Type 0
-Spends charging m m' limit = (g : ℕ) × (r : ℕ) × Affords charging m g × (m' ≡ after charging m g r) × (r ≤ g + limit)
 
 -- The place means t, at a cost that m covers and m' is less by.
 pub record Reads (form : Form) (r : Reading) (m m' : Meter) (t : Tree) : Type 0 where
@@ -52,7 +47,7 @@ pub record ReadsElements (form : Form) (r : Reading) (size : StructSize) (m m' :
 
 -- The object at a place is entered: its demands are met, and its own words are paid.
 pub record Entered (purpose : Purpose) (r : Reading) (m m' : Meter) (a : Target) : Type 0 where
-  pub leads_to : LeadsTo r a
+  pub follows : FollowsTo r a
   pub meets : Meets purpose r.segments r.levels a
   pub covers : Affords r.charging m (own purpose r.segments a)
   pub spent : m' ≡ after r.charging m (own purpose r.segments a) 1

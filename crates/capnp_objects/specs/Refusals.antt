@@ -1,6 +1,6 @@
 -- Where a reading stops, by what name, and what it was granted before: the order of checks and charges of one object, and
 -- of a whole value in the order of its pointers (docs/FORMAT.md, "Charges and refusals").
-use Rattle.std.specs.Prelude.{◌≡◌, ◌≢◌, ◌⊎◌, ℕ, pred, ◌+◌, ◌%◌, ◌^◌, ◌<◌, cond, nat_eq, Option, Some, None, Ok, Err}
+use Rattle.std.specs.Prelude.{◌≡◌, ◌≢◌, ◌⊎◌, ℕ, pred, ◌+◌, ◌%◌, ◌^◌, ◌<◌, cond, ◌&&◌, nat_eq, is_some, Err}
 use Rattle.capnp_words.specs.declared.error.ErrorKind.{ErrorKind}
 use Rattle.capnp_words.specs.declared.error.ErrorKind.TheVariants.{CantHandleNonStructInlineComposite, InlineCompositeListsElementsOverrunItsWordCount, InlineCompositeListsOfNonStructTypeAreNotSupported, ReadLimitExceeded}
 use Rattle.capnp_words.specs.declared.wire_pointer.StructSize.{StructSize}
@@ -12,19 +12,15 @@ use Rattle.capnp_format.specs.Means.{Claims}
 use Rattle.capnp_objects.specs.declared.object.Purpose.{Purpose}
 use Rattle.capnp_objects.specs.declared.object.Purpose.TheVariants.{Value}
 use Rattle.capnp_objects.specs.Demands.{claim, tag, own, IsStructList, Meets}
-use Rattle.capnp_objects.specs.Faults.{LeadsTo, LeadsFor, child_at}
+use Rattle.capnp_objects.specs.Faults.{child_at}
 use Rattle.capnp_objects.specs.Outcomes.{Entered, ReadsAll, ReadsElements}
 use Rattle.capnp_objects.specs.Reading.{Reading, word_of, behind, pointers_of, tag_size}
 use Rattle.capnp_objects.specs.Spending.{Paid}
-use Rattle.capnp_objects.specs.Wanted.{Form, BreaksObject, follow_at}
+use Rattle.capnp_objects.specs.Wanted.{Form, BreaksObject, follow_at, FollowsTo, FollowsFor}
 
 -- The words of the landing pads of a pointer word, where they lie in their segment; else, and of a near pointer, none.
-abbrev pub if_there : Option ℕ → ℕ → ℕ
-if_there (Some w) n = n
-if_there None n = 0
-
 abbrev pub landing_words : Segments → ℕ → ℕ
-landing_words S x = cond (nat_eq (kind x) 2) (if_there (pad S x (is_double x)) (1 + is_double x)) 0
+landing_words S x = cond (nat_eq (kind x) 2 && is_some (pad S x (is_double x))) (1 + is_double x) 0
 
 -- The words that an object was granted before the demand of this name is looked at: what it claims, for a demand on the
 -- tag of a list of structs; else none.
@@ -34,23 +30,17 @@ granted_before a CantHandleNonStructInlineComposite = claim a.word
 granted_before a InlineCompositeListsElementsOverrunItsWordCount = claim a.word
 granted_before a k = 0
 
--- The pointer at a place, which is not null, is followed to a.
-abbrev pub FollowsTo : Reading → Target → Type 0
-FollowsTo r a = (word_of r ≢ 0) × (follow_at r ≡ Ok a)
-
 -- The pointer at a place is not followed, from m to m', for the reason k: it is counted, and nothing is granted where its
 -- landing pads are not covered; else it leads nowhere, and these are granted, if they are there.
 pub data Unfollowed (r : Reading) (m m' : Meter) (k : ErrorKind) : Type 0 where
   exceeding : word_of r ≢ 0 → (Affords r.charging m (landing_words r.segments (word_of r)) → ⊥) → Paid r.charging m m' 0 1 → k ≡ ReadLimitExceeded → Unfollowed r m m' k
   leading_nowhere : word_of r ≢ 0 → follow_at r ≡ Err k → Paid r.charging m m' (landing_words r.segments (word_of r)) 1 → Unfollowed r m m' k
 
--- The reading of one object stops, from m to m', by the name k. The pointer is counted, and what was granted is: nothing,
--- where its landing pads are not covered; these, where it leads nowhere; these and what the object claims, where its tag is
--- wrong, and else these alone, where it breaks a demand; these, where its claim is not covered; both, where the number of
--- elements of no width is not.
+-- The reading of one object stops, from m to m', by the name k: its pointer is not followed; or that is counted, and what was
+-- granted is its landing pads and what the object claims, where its tag is wrong, and else these alone, where it breaks a
+-- demand; these, where its claim is not covered; both, where the number of elements of no width is not.
 pub data Stopped (purpose : Purpose) (form : Form) (r : Reading) (m m' : Meter) (k : ErrorKind) : Type 0 where
-  pads_exceed : word_of r ≢ 0 → (Affords r.charging m (landing_words r.segments (word_of r)) → ⊥) → Paid r.charging m m' 0 1 → k ≡ ReadLimitExceeded → Stopped purpose form r m m' k
-  nowhere : word_of r ≢ 0 → follow_at r ≡ Err k → Paid r.charging m m' (landing_words r.segments (word_of r)) 1 → Stopped purpose form r m m' k
+  no_target : Unfollowed r m m' k → Stopped purpose form r m m' k
   broken : (a : Target) → FollowsTo r a → BreaksObject purpose form r.segments r.levels a k → Paid r.charging m m' (a.pads + granted_before a k) 1 → Stopped purpose form r m m' k
   claim_exceeds :
       (a : Target) →
@@ -75,8 +65,8 @@ pub data Stopped (purpose : Purpose) (form : Form) (r : Reading) (m m' : Meter) 
 unfoldable pub CanBeRead : Purpose → Reading → Meter → Type 0
 CanBeRead purpose r m =
     (word_of r ≡ 0)
-    ⊎ ((a : Target) × LeadsFor purpose r a × (a.word % 2 ^ 32 ≡ 3) × Affords r.charging m a.pads)
-    ⊎ ((a : Target) × LeadsTo r a × Meets purpose r.segments r.levels a × Affords r.charging m (own purpose r.segments a))
+    ⊎ ((a : Target) × FollowsFor purpose r a × (a.word % 2 ^ 32 ≡ 3) × Affords r.charging m a.pads)
+    ⊎ ((a : Target) × FollowsTo r a × Meets purpose r.segments r.levels a × Affords r.charging m (own purpose r.segments a))
 
 -- The pointers of an object a before its pointer at position q are read, from m to m'.
 pub data ReadsBefore (form : Form) (r : Reading) (a : Target) (q : ℕ) (m m' : Meter) : Type 0 where

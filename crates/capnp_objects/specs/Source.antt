@@ -14,13 +14,9 @@ levels (negsuc n) = 0
 abbrev pub default_segment : ℕ
 default_segment = 2 ^ 32
 
--- So many empty segments, and behind them one of these bytes.
-unfoldable pub behind_empty : ℕ → List ℕ → Segments
-behind_empty n bytes = replicate n [] ++ words_of bytes ∷ []
-
 -- A default, behind so many empty segments that no far pointer leads anywhere in it.
 unfoldable pub default_segments : List ℕ → Segments
-default_segments bytes = behind_empty default_segment bytes
+default_segments bytes = replicate default_segment [] ++ words_of bytes ∷ []
 
 -- The segments of a source.
 abbrev pub source_segments : {A : Type 0} → (A → List (List ℕ)) → Source A → Segments

@@ -3,7 +3,7 @@ use Rattle.std.specs.Prelude.{◌≡◌, ℕ, Bool, true, false, ◌+◌}
 use Rattle.capnp_words.specs.Meter.{Meter, less, raised, Affords}
 use Rattle.capnp_format.specs.Tree.{Tree, Null, Capability, Struct, Flat, Pointers, Structs, Trees, no_trees, tree, Elements, no_elements, element}
 
--- after g words were granted and r pointers followed; where nothing is charged, nothing is counted either
+-- A limiter after g words were granted and r pointers followed; where nothing is charged, nothing is counted either.
 abbrev pub after : Bool → Meter → ℕ → ℕ → Meter
 after true m g r = record { left = less m.left g; followed = raised m.followed r }
 after false m g r = m
@@ -13,7 +13,7 @@ pub record Paid (charging : Bool) (m m' : Meter) (g r : ℕ) : Type 0 where
   pub covers : Affords charging m g
   pub spent : m' ≡ after charging m g r
 
--- the subtrees that are not Null, the value counted, each as often as it occurs
+-- The subtrees that are not Null, the value counted, each as often as it occurs.
 abbrev mutual
   pub pointers_in : Tree → ℕ
   pointers_in Null = 0
@@ -23,12 +23,12 @@ abbrev mutual
   pointers_in (Pointers ts) = 1 + pointers_in_all ts
   pointers_in (Structs d q es) = 1 + pointers_in_elements es
 
-  -- of all children
+  -- Of all children.
   pub pointers_in_all : Trees → ℕ
   pointers_in_all no_trees = 0
   pointers_in_all (tree t ts) = pointers_in t + pointers_in_all ts
 
-  -- of the children of all elements
+  -- Of the children of all elements.
   pub pointers_in_elements : Elements → ℕ
   pointers_in_elements no_elements = 0
   pointers_in_elements (element ws ts es) = pointers_in_all ts + pointers_in_elements es

@@ -8,8 +8,9 @@ use Rattle.capnp_format.specs.Segments.{Target}
 use Rattle.capnp_words.specs.declared.wire_pointer.PointerType.{PointerType}
 use Rattle.capnp_words.specs.declared.wire_pointer.PointerType.TheVariants.{Null, Struct, List, Capability}
 use Rattle.capnp_objects.specs.Reading.{Reading, word_of}
-use Rattle.capnp_objects.specs.Refusals.{FollowsTo, Unfollowed}
+use Rattle.capnp_objects.specs.Refusals.{Unfollowed}
 use Rattle.capnp_objects.specs.Spending.{Paid}
+use Rattle.capnp_objects.specs.Wanted.{FollowsTo}
 
 -- What a word describes, or how it is refused that it describes nothing.
 abbrev pub type_of : ℕ → Result PointerType ErrorKind
@@ -17,13 +18,10 @@ type_of w =
     cond (nat_eq (kind w) 0) (Ok Struct)
     (cond (nat_eq (kind w) 1) (Ok List) (cond (nat_eq (kind w) 2) (Err UnexpectedFarPointer) (cond (nat_eq (lower_half w) 3) (Ok Capability) (Err UnknownPointerType))))
 
--- The pointer at a place leads to a word that describes this; its landing pads are granted, from m to m'.
-abbrev pub LeadsToType : Reading → Meter → Meter → PointerType → Type 0
-LeadsToType r m m' t = (a : Target) × FollowsTo r a × (type_of a.word ≡ Ok t) × Paid r.charging m m' a.pads 1
-
--- What the pointer is: null, at no cost, or what it leads to.
+-- What the pointer is: null, at no cost; or it leads to a word that describes this, and its landing pads are granted, from m
+-- to m'.
 abbrev pub IsOfType : Reading → Meter → Meter → PointerType → Type 0
-IsOfType r m m' t = ((word_of r ≡ 0) × (t ≡ Null) × (m' ≡ m)) ⊎ LeadsToType r m m' t
+IsOfType r m m' t = ((word_of r ≡ 0) × (t ≡ Null) × (m' ≡ m)) ⊎ ((a : Target) × FollowsTo r a × (type_of a.word ≡ Ok t) × Paid r.charging m m' a.pads 1)
 
 -- The call is answered: the pointer is null, or leads to a word that describes something, and m covers its landing pads.
 unfoldable pub HasType : Reading → Meter → Type 0

@@ -1,23 +1,23 @@
 //! Where readers read: an arena, a default, or nothing. A pointer is read in two steps: it is
 //! followed to where it leads, and the object there is entered, each with its checks and charges.
-ghost use Rattle.std.specs.Prelude.{◌≡◌, ◌≢◌, ◌<◌, ◌≤◌, ◌+◌, ◌*◌, ◌^◌, ◌↔◌, ℕ, false, IsTrue, IfOk, IsOk, OnOk, OnErr, IfErr, length};
-ghost use Rattle.capnp_format.specs.Word.{kind, element_size, is_double};
-ghost use Rattle.capnp_format.specs.Segments.{segment, word_at};
+ghost use Rattle.std.specs.Prelude.{◌≡◌, ◌≢◌, ◌<◌, ◌≤◌, ◌^◌, ◌↔◌, IfOk, IsOk, OnOk, OnErr, IfErr, length};
+ghost use Rattle.capnp_format.specs.Word.{kind, element_size};
+ghost use Rattle.capnp_format.specs.Segments.{word_at};
 ghost use Rattle.capnp_words.specs.Meter.{Affords, charged, counted_once};
 ghost use Rattle.capnp_words.specs.declared.error.ErrorKind.TheVariants.{ReadLimitExceeded};
 ghost use Rattle.capnp_objects.specs.Source.{source_segments, source_charging, levels};
 ghost use Rattle.capnp_format.specs.Bytes.{message};
-ghost use Rattle.capnp_words.specs.Sizes.{size_number};
 ghost use Rattle.capnp_objects.specs.declared.object.Purpose.TheVariants.{Value, Size};
 ghost use Rattle.capnp_objects.specs.Demands.{claim, count_charge};
 ghost use Rattle.capnp_objects.specs.Reading.{reading_at, word_of};
-ghost use Rattle.capnp_objects.specs.Wanted.{plain, non_struct_tag};
+ghost use Rattle.capnp_objects.specs.Wanted.{plain};
 ghost use Rattle.capnp_objects.specs.Objects.{near_at, IsObject, IsHeld, IsFew};
 ghost use Rattle.capnp_objects.specs.Outcomes.{Entered};
 ghost use Rattle.capnp_objects.specs.Refusals.{Stopped, CanBeRead};
-ghost use Rattle.capnp_objects.specs.Landings.{landing_target, IsPad, FollowsPointer, FailsPointer, FollowsFar, FailsFar, IsClaimed, NotClaimed, NotEntered, IsOpened};
+ghost use Rattle.capnp_objects.specs.Landings.{following, following_far, IsPad, IsFollowed, NotFollowed};
 
 mod expected;
+mod landing;
 mod measure;
 mod types;
 
@@ -25,7 +25,8 @@ use crate::object::{Object, Place, Purpose};
 use capnp_arena::arena::ReaderArena;
 use capnp_words::error::ErrorKind;
 use capnp_words::read_limiter::ReadLimiter;
-use capnp_words::wire_pointer::{ElementSize, WirePointer, WirePointerKind, data_bits_per_element};
+use capnp_words::wire_pointer::{WirePointer, WirePointerKind};
+use landing::Landing;
 
 /// Where a reader reads.
 #[derive_where(Clone, Copy)]
@@ -39,9 +40,9 @@ pub enum Source<'a, A> {
     Nothing,
 }
 
-// Where a pointer leads, its landing pads read.
+// What following a pointer finds, its landing pads read.
 #[derive(Clone, Copy)]
-struct Landing<'a> {
+struct Found<'a> {
     // The word that describes the object: the pointer itself, its landing pad, or the pad's tag.
     word: WirePointer,
     // Where the object starts.
@@ -116,11 +117,16 @@ impl<'a, A: ReaderArena> Source<'a, A> {
             lim.old lim.new) }
     {
         self.count(lim);
-        let landing = match self.follow(place, word, nesting_limit, lim) {
-            Ok(landing) => landing,
+        let found = match self.follow(place, word, nesting_limit, lim) {
+            Ok(found) => found,
             Err(k) => return Err(k),
         };
-        self.enter(purpose, landing, depth_of(nesting_limit), lim)
+        let landing = Landing {
+            source: self,
+            found,
+            depth: depth_of(nesting_limit),
+        };
+        landing.enter(purpose, lim)
     }
 
     /// Reads the struct that a near pointer leads to, as `read_object` does: where it starts in the
@@ -146,17 +152,17 @@ impl<'a, A: ReaderArena> Source<'a, A> {
             lim.old lim.new) }
     {
         self.count(lim);
-        let landing = match self.follow(place, word, nesting_limit, lim) {
-            Ok(landing) => landing,
+        let found = match self.follow(place, word, nesting_limit, lim) {
+            Ok(found) => found,
             Err(k) => return Err(k),
         };
-        match self.claim(
-            landing,
-            word.struct_word_size(),
-            depth_of(nesting_limit),
-            lim,
-        ) {
-            Ok(()) => Ok(landing.start.at),
+        let landing = Landing {
+            source: self,
+            found,
+            depth: depth_of(nesting_limit),
+        };
+        match landing.claim(word.struct_word_size(), lim) {
+            Ok(()) => Ok(found.start.at),
             Err(k) => Err(k),
         }
     }
@@ -187,12 +193,17 @@ impl<'a, A: ReaderArena> Source<'a, A> {
             lim.old lim.new) }
     {
         self.count(lim);
-        let landing = match self.follow(place, word, nesting_limit, lim) {
-            Ok(landing) => landing,
+        let found = match self.follow(place, word, nesting_limit, lim) {
+            Ok(found) => found,
             Err(k) => return Err(k),
         };
-        match self.claim(landing, words, depth_of(nesting_limit), lim) {
-            Ok(_) => Ok(landing.start.at),
+        let landing = Landing {
+            source: self,
+            found,
+            depth: depth_of(nesting_limit),
+        };
+        match landing.claim(words, lim) {
+            Ok(_) => Ok(found.start.at),
             Err(k) => Err(k),
         }
     }
@@ -226,314 +237,6 @@ impl<'a, A: ReaderArena> Source<'a, A> {
         }
     }
 
-    // Follows the word at a place, which is not zero. A default has no segment that a far pointer
-    // could name.
-    #[inline(always)]
-    fn follow(
-        self,
-        place: Place<'a>,
-        word: WirePointer,
-        nesting_limit: i32,
-        lim: &mut ReadLimiter,
-    ) -> Result<Landing<'a>, ErrorKind>
-        requires some { 0 < length (source_segments A.segments self) }
-        requires held { IsHeld (source_segments A.segments self) place }
-        requires there { word.0 ≡ word_at (source_segments A.segments self) place.segment place.at }
-        requires small { word.0 < 2 ^ 64 }
-        ensures followed { IfOk result (FollowsPointer
-            (reading_at A.ReaderArena self.entry place.entry nesting_limit) lim.old lim.new) }
-        ensures refused { IfErr result
-            (FailsPointer (reading_at A.ReaderArena self.entry place.entry nesting_limit)
-            lim.old lim.new) }
-    {
-        if word.kind() == WirePointerKind::Far {
-            return match self {
-                Source::Arena(arena) => follow_far(arena, word, lim),
-                Source::Default(_) | Source::Nothing => Err(ErrorKind::TriedToReadFromNullArena),
-            };
-        }
-        match word.target(place.at, place.length()) {
-            Some(at) => Ok(Landing {
-                word,
-                start: Place { at, ..place },
-                pads: 0,
-            }),
-            None => Err(ErrorKind::MessageContainsOutOfBoundsPointer),
-        }
-    }
-
-    // Enters the object that a pointer leads to, which takes one of `depth` levels. For its size one
-    // has to be left.
-    #[inline(always)]
-    fn enter(
-        self,
-        purpose: Purpose,
-        landing: Landing<'a>,
-        depth: u32,
-        lim: &mut ReadLimiter,
-    ) -> Result<Object<'a>, ErrorKind>
-        requires held { IsHeld (source_segments A.segments self) landing.start }
-        requires level { purpose ≡ Size → 0 < depth }
-        ensures object { IfOk result (λ x. IsOpened purpose (source_segments A.segments self.entry)
-            (source_charging A.charging self.entry) depth
-            (landing_target landing.entry) lim.old lim.new x) }
-        ensures few { IfOk result IsFew }
-        ensures refused { IfErr result
-            (NotEntered purpose (source_segments A.segments self.entry)
-            (source_charging A.charging self.entry) depth (landing_target landing.entry) lim.old
-            lim.new) }
-    {
-        match landing.word.kind() {
-            WirePointerKind::Struct => self.enter_struct(purpose, landing, depth, lim),
-            WirePointerKind::List => self.enter_list(purpose, landing, depth, lim),
-            WirePointerKind::Far => Err(ErrorKind::MalformedDoubleFarPointer),
-            WirePointerKind::Other => {
-                if landing.word.is_capability() {
-                    Ok(Object::Capability(landing.word.cap_index()))
-                } else {
-                    Err(ErrorKind::UnknownPointerType)
-                }
-            }
-        }
-    }
-
-    // Checks and charges the words that an object claims.
-    fn claim(
-        self,
-        landing: Landing<'a>,
-        words: u32,
-        depth: u32,
-        lim: &mut ReadLimiter,
-    ) -> Result<(), ErrorKind>
-        requires held { IsHeld (source_segments A.segments self) landing.start }
-        requires is_object { kind landing.word.0 < 2 }
-        requires claimed { words ≡ claim landing.word.0 }
-        ensures claimed { OnOk result (IsClaimed (source_segments A.segments self.entry)
-            (source_charging A.charging self.entry) depth (landing_target landing.entry) lim.old
-            lim.new) }
-        ensures refused { IfErr result
-            (NotClaimed (source_segments A.segments self.entry)
-            (source_charging A.charging self.entry) depth (landing_target landing.entry) lim.old
-            lim.new) }
-    {
-        if depth == 0 {
-            return Err(ErrorKind::MessageIsTooDeeplyNestedOrContainsCycles);
-        }
-        let end = u64::from(landing.start.at) + u64::from(words);
-        if end > u64::from(landing.start.length()) {
-            return Err(ErrorKind::MessageContainsOutOfBoundsPointer);
-        }
-        self.charge(u64::from(words), lim)
-    }
-
-    // Enters a struct.
-    fn enter_struct(
-        self,
-        purpose: Purpose,
-        landing: Landing<'a>,
-        depth: u32,
-        lim: &mut ReadLimiter,
-    ) -> Result<Object<'a>, ErrorKind>
-        requires held { IsHeld (source_segments A.segments self) landing.start }
-        requires is_struct { kind landing.word.0 ≡ 0 }
-        ensures object { IfOk result (λ x. IsOpened purpose (source_segments A.segments self.entry)
-            (source_charging A.charging self.entry) depth
-            (landing_target landing.entry) lim.old lim.new x) }
-        ensures few { IfOk result IsFew }
-        ensures refused { IfErr result
-            (NotEntered purpose (source_segments A.segments self.entry)
-            (source_charging A.charging self.entry) depth (landing_target landing.entry) lim.old
-            lim.new) }
-    {
-        match self.claim(landing, landing.word.struct_word_size(), depth, lim) {
-            Ok(()) => Ok(Object::Struct {
-                start: landing.start,
-                size: landing.word.struct_size(),
-            }),
-            Err(k) => Err(k),
-        }
-    }
-
-    // Enters a list.
-    #[inline(always)]
-    fn enter_list(
-        self,
-        purpose: Purpose,
-        landing: Landing<'a>,
-        depth: u32,
-        lim: &mut ReadLimiter,
-    ) -> Result<Object<'a>, ErrorKind>
-        requires held { IsHeld (source_segments A.segments self) landing.start }
-        requires is_list { kind landing.word.0 ≡ 1 }
-        requires level { purpose ≡ Size → 0 < depth }
-        ensures object { IfOk result (λ x. IsOpened purpose (source_segments A.segments self.entry)
-            (source_charging A.charging self.entry) depth
-            (landing_target landing.entry) lim.old lim.new x) }
-        ensures few { IfOk result IsFew }
-        ensures refused { IfErr result
-            (NotEntered purpose (source_segments A.segments self.entry)
-            (source_charging A.charging self.entry) depth (landing_target landing.entry) lim.old
-            lim.new) }
-    {
-        match landing.word.list_element_size() {
-            ElementSize::InlineComposite => self.enter_structs(purpose, landing, depth, lim),
-            ElementSize::Pointer => self.enter_pointers(purpose, landing, depth, lim),
-            ElementSize::Void => self.enter_void(purpose, landing, depth, lim),
-            size => self.enter_flat(purpose, landing, size, depth, lim),
-        }
-    }
-
-    // Enters a list of void, which for its size is neither looked for nor charged.
-    fn enter_void(
-        self,
-        purpose: Purpose,
-        landing: Landing<'a>,
-        depth: u32,
-        lim: &mut ReadLimiter,
-    ) -> Result<Object<'a>, ErrorKind>
-        requires held { IsHeld (source_segments A.segments self) landing.start }
-        requires is_list { kind landing.word.0 ≡ 1 }
-        requires of_void { element_size landing.word.0 ≡ 0 }
-        requires level { purpose ≡ Size → 0 < depth }
-        ensures object { IfOk result (λ x. IsOpened purpose (source_segments A.segments self.entry)
-            (source_charging A.charging self.entry) depth
-            (landing_target landing.entry) lim.old lim.new x) }
-        ensures few { IfOk result IsFew }
-        ensures refused { IfErr result
-            (NotEntered purpose (source_segments A.segments self.entry)
-            (source_charging A.charging self.entry) depth (landing_target landing.entry) lim.old
-            lim.new) }
-    {
-        let start = landing.start;
-        let size = ElementSize::Void;
-        let count = landing.word.list_element_count();
-        match purpose {
-            Purpose::Size => return Ok(Object::Flat { start, size, count }),
-            Purpose::Value => {}
-        }
-        match self.claim(landing, 0, depth, lim) {
-            Ok(()) => {}
-            Err(k) => return Err(k),
-        }
-        match self.charge(u64::from(count), lim) {
-            Ok(()) => Ok(Object::Flat { start, size, count }),
-            Err(k) => Err(k),
-        }
-    }
-
-    // Enters a list of elements of bits or bytes.
-    fn enter_flat(
-        self,
-        purpose: Purpose,
-        landing: Landing<'a>,
-        size: ElementSize,
-        depth: u32,
-        lim: &mut ReadLimiter,
-    ) -> Result<Object<'a>, ErrorKind>
-        requires held { IsHeld (source_segments A.segments self) landing.start }
-        requires is_list { kind landing.word.0 ≡ 1 }
-        requires is_size { size_number size ≡ element_size landing.word.0 }
-        requires some { 0 < size_number size }
-        requires is_flat { size_number size ≤ 5 }
-        ensures object { IfOk result (λ x. IsOpened purpose (source_segments A.segments self.entry)
-            (source_charging A.charging self.entry) depth
-            (landing_target landing.entry) lim.old lim.new x) }
-        ensures few { IfOk result IsFew }
-        ensures refused { IfErr result
-            (NotEntered purpose (source_segments A.segments self.entry)
-            (source_charging A.charging self.entry) depth (landing_target landing.entry) lim.old
-            lim.new) }
-    {
-        let count = landing.word.list_element_count();
-        let bits = data_bits_per_element(size);
-        let words = (u64::from(count) * u64::from(bits) + 63) / 64;
-        match self.claim(landing, words as u32, depth, lim) {
-            Ok(()) => Ok(Object::Flat {
-                start: landing.start,
-                size,
-                count,
-            }),
-            Err(k) => Err(k),
-        }
-    }
-
-    // Enters a list of pointers.
-    fn enter_pointers(
-        self,
-        purpose: Purpose,
-        landing: Landing<'a>,
-        depth: u32,
-        lim: &mut ReadLimiter,
-    ) -> Result<Object<'a>, ErrorKind>
-        requires held { IsHeld (source_segments A.segments self) landing.start }
-        requires is_list { kind landing.word.0 ≡ 1 }
-        requires of_pointers { element_size landing.word.0 ≡ 6 }
-        ensures object { IfOk result (λ x. IsOpened purpose (source_segments A.segments self.entry)
-            (source_charging A.charging self.entry) depth
-            (landing_target landing.entry) lim.old lim.new x) }
-        ensures few { IfOk result IsFew }
-        ensures refused { IfErr result
-            (NotEntered purpose (source_segments A.segments self.entry)
-            (source_charging A.charging self.entry) depth (landing_target landing.entry) lim.old
-            lim.new) }
-    {
-        let count = landing.word.list_element_count();
-        match self.claim(landing, count, depth, lim) {
-            Ok(()) => Ok(Object::Pointers {
-                start: landing.start,
-                count,
-            }),
-            Err(k) => Err(k),
-        }
-    }
-
-    // Enters a list of structs, whose first word is their tag.
-    fn enter_structs(
-        self,
-        purpose: Purpose,
-        landing: Landing<'a>,
-        depth: u32,
-        lim: &mut ReadLimiter,
-    ) -> Result<Object<'a>, ErrorKind>
-        requires held { IsHeld (source_segments A.segments self) landing.start }
-        requires is_list { kind landing.word.0 ≡ 1 }
-        requires of_structs { element_size landing.word.0 ≡ 7 }
-        ensures object { IfOk result (λ x. IsOpened purpose (source_segments A.segments self.entry)
-            (source_charging A.charging self.entry) depth
-            (landing_target landing.entry) lim.old lim.new x) }
-        ensures few { IfOk result IsFew }
-        ensures refused { IfErr result
-            (NotEntered purpose (source_segments A.segments self.entry)
-            (source_charging A.charging self.entry) depth (landing_target landing.entry) lim.old
-            lim.new) }
-    {
-        let words = landing.word.list_inline_composite_word_count();
-        match self.claim(landing, words + 1, depth, lim) {
-            Ok(()) => {}
-            Err(k) => return Err(k),
-        }
-        let tag = landing.start.word();
-        if tag.kind() != WirePointerKind::Struct {
-            return Err(name_of_non_struct_tag(purpose));
-        }
-        let count = tag.inline_composite_list_element_count();
-        let width = tag.struct_word_size();
-        if u64::from(count) * u64::from(width) > u64::from(words) {
-            return Err(ErrorKind::InlineCompositeListsElementsOverrunItsWordCount);
-        }
-        match self.charge_count(purpose, width, count, lim) {
-            Ok(()) => Ok(Object::Structs {
-                start: Place {
-                    at: landing.start.at + 1,
-                    ..landing.start
-                },
-                size: tag.struct_size(),
-                count,
-            }),
-            Err(k) => Err(k),
-        }
-    }
-
     // Charges the number of a list's elements where these have no width, unless for the size.
     fn charge_count(
         self,
@@ -557,15 +260,42 @@ impl<'a, A: ReaderArena> Source<'a, A> {
             Purpose::Size => Ok(()),
         }
     }
-}
 
-// How it is refused that a list of structs has no tag.
-fn name_of_non_struct_tag(purpose: Purpose) -> ErrorKind
-    ensures { result ≡ non_struct_tag purpose }
-{
-    match purpose {
-        Purpose::Value => ErrorKind::InlineCompositeListsOfNonStructTypeAreNotSupported,
-        Purpose::Size => ErrorKind::CantHandleNonStructInlineComposite,
+    // Follows the word at a place, which is not zero. A default has no segment that a far pointer
+    // could name.
+    #[inline(always)]
+    fn follow(
+        self,
+        place: Place<'a>,
+        word: WirePointer,
+        nesting_limit: i32,
+        lim: &mut ReadLimiter,
+    ) -> Result<Found<'a>, ErrorKind>
+        requires some { 0 < length (source_segments A.segments self) }
+        requires held { IsHeld (source_segments A.segments self) place }
+        requires there { word.0 ≡ word_at (source_segments A.segments self) place.segment place.at }
+        requires small { word.0 < 2 ^ 64 }
+        ensures followed { IfOk result (IsFollowed
+            (following (reading_at A.ReaderArena self.entry place.entry nesting_limit))
+            lim.old lim.new) }
+        ensures refused { IfErr result (NotFollowed
+            (following (reading_at A.ReaderArena self.entry place.entry nesting_limit))
+            lim.old lim.new) }
+    {
+        if word.kind() == WirePointerKind::Far {
+            return match self {
+                Source::Arena(arena) => follow_far(arena, word, lim),
+                Source::Default(_) | Source::Nothing => Err(ErrorKind::TriedToReadFromNullArena),
+            };
+        }
+        match word.target(place.at, place.length()) {
+            Some(at) => Ok(Found {
+                word,
+                start: Place { at, ..place },
+                pads: 0,
+            }),
+            None => Err(ErrorKind::MessageContainsOutOfBoundsPointer),
+        }
     }
 }
 
@@ -575,13 +305,15 @@ fn follow_far<'a, A: ReaderArena>(
     arena: &'a A,
     far: WirePointer,
     lim: &mut ReadLimiter,
-) -> Result<Landing<'a>, ErrorKind>
+) -> Result<Found<'a>, ErrorKind>
     requires some { 0 < length (message (A.segments arena.now)) }
     requires is_far { kind far.0 ≡ 2 }
-    ensures followed { IfOk result (FollowsFar (message (A.segments arena.now))
-        (A.charging arena.now) far.0 lim.old lim.new) }
-    ensures refused { IfErr result
-        (FailsFar (message (A.segments arena.now)) (A.charging arena.now) far.0 lim.old lim.new) }
+    ensures followed { IfOk result (IsFollowed
+        (following_far (message (A.segments arena.now)) (A.charging arena.now) far.0)
+        lim.old lim.new) }
+    ensures refused { IfErr result (NotFollowed
+        (following_far (message (A.segments arena.now)) (A.charging arena.now) far.0)
+        lim.old lim.new) }
 {
     let pad = match landing_pad(arena, far, lim) {
         Ok(pad) => pad,
@@ -595,7 +327,7 @@ fn follow_far<'a, A: ReaderArena>(
         };
         let id = word.far_segment_id();
         match arena.get_segment(id) {
-            Ok(bytes) => Ok(Landing {
+            Ok(bytes) => Ok(Found {
                 word: tag.word(),
                 start: Place {
                     segment: u64::from(id),
@@ -608,7 +340,7 @@ fn follow_far<'a, A: ReaderArena>(
         }
     } else {
         match word.target(pad.at, pad.length()) {
-            Some(at) => Ok(Landing {
+            Some(at) => Ok(Found {
                 word,
                 start: Place { at, ..pad },
                 pads: 1,
@@ -626,10 +358,12 @@ fn landing_pad<'a, A: ReaderArena>(
 ) -> Result<Place<'a>, ErrorKind>
     requires some { 0 < length (message (A.segments arena.now)) }
     requires is_far { kind far.0 ≡ 2 }
-    ensures pad { IfOk result (IsPad (message (A.segments arena.now))
-        (A.charging arena.now) far.0 lim.old lim.new) }
-    ensures refused { IfErr result
-        (FailsFar (message (A.segments arena.now)) (A.charging arena.now) far.0 lim.old lim.new) }
+    ensures pad { IfOk result (IsPad
+        (following_far (message (A.segments arena.now)) (A.charging arena.now) far.0)
+        lim.old lim.new) }
+    ensures refused { IfErr result (NotFollowed
+        (following_far (message (A.segments arena.now)) (A.charging arena.now) far.0)
+        lim.old lim.new) }
 {
     let id = far.far_segment_id();
     let bytes = match arena.get_segment(id) {

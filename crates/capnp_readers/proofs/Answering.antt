@@ -17,8 +17,8 @@ use Rattle.capnp_format.specs.Numbers.{element_bits}
 use Rattle.capnp_format.specs.Segments.{word_at}
 use Rattle.capnp_objects.specs.Reading.{word_of, tag_size}
 use Rattle.capnp_objects.specs.Source.{default_segment, default_segments}
-use Rattle.capnp_readers.specs.Readers.{reading, IsTargetList, IsTarget}
-use Rattle.capnp_readers.specs.Calls.{IsDefault, IsRead, without_default, not_null, of_default, IsUnread, short_default, of_null_default, call, IsAnswered, IsNullUncharged}
+use Rattle.capnp_readers.specs.Readers.{reading, IsTargetList, IsTarget, IsNullUncharged}
+use Rattle.capnp_readers.specs.Calls.{IsRead, without_default, not_null, of_default, IsUnread, short_default, of_null_default, call, IsAnswered}
 use Rattle.capnp_readers.specs.Sections.{IsWide}
 use Rattle.capnp_readers.specs.declared.readers.PointerReader.{PointerReader}
 use Rattle.capnp_readers.specs.declared.readers.list_reader.ListReader.{ListReader}
@@ -27,6 +27,7 @@ use Rattle.capnp_readers.specs.declared.readers.target.Target.{Target as ReadTar
 use Rattle.capnp_readers.specs.declared.readers.target.Target.TheVariants.{Null as NullTarget, Cap as CapTarget, Struct as StructTarget, List as ListTarget}
 use Rattle.capnp_objects.proofs.Expecting.{IsReadAt, struct_or_null, list_or_null, given_fits}
 use Rattle.capnp_objects.proofs.Faultless.{same_target}
+use Rattle.capnp_objects.proofs.Followed.{entered_leads, leads_there}
 
 -- elements and structs that aren't too narrow
 both_none : (k j : ErrorKind) (b c : Bool) → cond b (Some k) (cond c (Some j) None) ≡ None → (b ≡ false) × (c ≡ false)
@@ -78,25 +79,22 @@ module _ {A : Type 0} (g : Ghosts A) where
   pub read_some : {expected : Expected} {from : PointerReader A g} {default : Option (Bor (List ℕ))} (bytes : Bor (List ℕ)) → default ≡ Some bytes → word_of (reading g from) ≢ 0 → IsRead g expected from from default
   read_some {expected} {from} bytes e some = subst (IsRead g expected from from) (sym e) (not_null some refl)
 
-  same_default : {from p q : PointerReader A g} {bytes : Bor (List ℕ)} → IsDefault g from bytes p → IsDefault g from bytes q → reading g p ≡ reading g q
-  same_default h k = rw (h.source, h.segment, h.first, h.nesting, k.source, k.segment, k.first, k.nesting) refl
-
   -- a call reads at one place
   pub one_read : {expected : Expected} {from p q : PointerReader A g} {default : Option (Bor (List ℕ))} → IsRead g expected from p default → IsRead g expected from q default → reading g p ≡ reading g q
   one_read (without_default e) (without_default f) = ap (reading g) (e ∙ sym f)
   one_read (not_null some e) (not_null there f) = ap (reading g) (e ∙ sym f)
-  one_read (not_null some e) (of_default h may) = absurd (some h.null)
-  one_read (of_default h may) (not_null some e) = absurd (some h.null)
-  one_read (of_default h may) (of_default k might) = same_default h k
+  one_read (not_null some e) (of_default null whole source segment first nesting may) = absurd (some null)
+  one_read (of_default null whole source segment first nesting may) (not_null some e) = absurd (some null)
+  one_read (of_default null whole a b c d may) (of_default same long e f h i might) = rw (a, b, c, d, e, f, h, i) refl
 
   pub not_unread : {expected : Expected} {from p : PointerReader A g} {k : ErrorKind} {default : Option (Bor (List ℕ))} → IsRead g expected from p default → IsUnread g expected from k default → ⊥
   not_unread (without_default e) u = elim u [ ]
   not_unread (not_null some e) (short_default null less named) = some null
-  not_unread (of_default h may) (short_default null less named) = let whole = h.whole in omega (arith, whole, less)
+  not_unread (of_default none whole source segment first nesting may) (short_default null less named) = omega (arith, whole, less)
   not_unread (not_null some e) (of_null_default null whole none named) = some null
-  not_unread {p = p} (of_default h may) (of_null_default null whole none named) = elim may [
+  not_unread {p = p} (of_default unset long source segment first nesting may) (of_null_default null whole none named) = elim may [
     | inl same ↦ absurd (cc (same, named))
-    | inr some ↦ some (let word : word_of (reading g p) ≡ word_at (default_segments _) default_segment 0 = rw (h.source, h.segment, h.first) refl in word ∙ none)
+    | inr some ↦ some (let word : word_of (reading g p) ≡ word_at (default_segments _) default_segment 0 = rw (source, segment, first) refl in word ∙ none)
   ]
 
   -- so it is answered exactly where it can be answered there
@@ -120,23 +118,23 @@ module _ {A : Type 0} (g : Ghosts A) where
   no_struct NullTarget given h other = h.target
   no_struct {p} {x = x} (CapTarget i) given h other = elim (struct_or_null x given h.read) [
     | inl null ↦ null
-    | inr (b, there, z) ↦ absurd (let same : h.target.0 ≡ b = same_target (reading g p).segments (reading g p).segment (reading g p).at h.target.1.1 there.1 in let k = rw (← same) at z in let low = h.target.2 in omega (arith, k, low))
+    | inr (b, there, z) ↦ absurd (let leads = leads_there (reading g p) h.target.0 h.target.1 (λ f. let low = h.target.2 in omega (arith, f, low)) in let same : h.target.0 ≡ b = same_target (reading g p).segments (reading g p).segment (reading g p).at leads.1 there.1 in let k = rw (← same) at z in let low = h.target.2 in omega (arith, k, low))
   ]
   no_struct (StructTarget r) given h other = absurd (other r refl)
   no_struct {p} {x = x} (ListTarget r) given h other = elim (struct_or_null x given h.read) [
     | inl null ↦ null
-    | inr (b, there, z) ↦ absurd (let same : h.target.0 ≡ b = same_target (reading g p).segments (reading g p).segment (reading g p).at h.target.1.leads_to.1 there.1 in let k = rw (← same) at z in let one = h.target.2 in omega (arith, k, one))
+    | inr (b, there, z) ↦ absurd (let same : h.target.0 ≡ b = same_target (reading g p).segments (reading g p).segment (reading g p).at (entered_leads h.target.1).1 there.1 in let k = rw (← same) at z in let one = h.target.2 in omega (arith, k, one))
   ]
 
   pub no_list : (size : ElementSize) {p : PointerReader A g} {m m' : Meter} {x : Object} (t : ReadTarget A g) → IsGiven (ExpectsList size) (reading g p).levels x → IsShown p m m' x t → ((r : ListReader A g) → t ≡ ListTarget r → ⊥) → IsNullUncharged g p m m'
   no_list size NullTarget given h other = h.target
   no_list size {p} {x = x} (CapTarget i) given h other = elim (list_or_null size x given h.read) [
     | inl null ↦ null
-    | inr (b, there, z) ↦ absurd (let same : h.target.0 ≡ b = same_target (reading g p).segments (reading g p).segment (reading g p).at h.target.1.1 there.1 in let k = rw (← same) at z in let low = h.target.2 in omega (arith, k, low))
+    | inr (b, there, z) ↦ absurd (let leads = leads_there (reading g p) h.target.0 h.target.1 (λ f. let low = h.target.2 in omega (arith, f, low)) in let same : h.target.0 ≡ b = same_target (reading g p).segments (reading g p).segment (reading g p).at leads.1 there.1 in let k = rw (← same) at z in let low = h.target.2 in omega (arith, k, low))
   ]
   no_list size {p} {x = x} (StructTarget r) given h other = elim (list_or_null size x given h.read) [
     | inl null ↦ null
-    | inr (b, there, z) ↦ absurd (let same : h.target.0 ≡ b = same_target (reading g p).segments (reading g p).segment (reading g p).at h.target.1.leads_to.1 there.1 in let k = rw (← same) at z in let first = h.target.2 in omega (arith, k, first))
+    | inr (b, there, z) ↦ absurd (let same : h.target.0 ≡ b = same_target (reading g p).segments (reading g p).segment (reading g p).at (entered_leads h.target.1).1 there.1 in let k = rw (← same) at z in let first = h.target.2 in omega (arith, k, first))
   ]
   no_list size (ListTarget r) given h other = absurd (other r refl)
 
@@ -154,4 +152,4 @@ module _ {A : Type 0} (g : Ghosts A) where
   wide_list size h Pointer fits list = let wide = wide_elements size 6 (rw list.0 at fits) in record { bits = wide.0; pointers = λ six. tt; whole = wide.2 }
 
   pub wide_target : (size : ElementSize) {p : PointerReader A g} {m m' : Meter} {x : Object} {r : ListReader A g} → CanBeGiven (ExpectsList size) (reading g p) m → IsShown p m m' x (ListTarget r) → IsWide size r.element_size r.struct_size
-  wide_target size {p} {m} {r = r} can h = wide_list size h r.element_size (given_fits (ExpectsList size) (reading g p) m h.target.0 can h.target.1.leads_to) h.target.3
+  wide_target size {p} {m} {r = r} can h = wide_list size h r.element_size (given_fits (ExpectsList size) (reading g p) m h.target.0 can (entered_leads h.target.1)) h.target.3

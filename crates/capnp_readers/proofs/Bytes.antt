@@ -11,11 +11,10 @@ use Rattle.capnp_words.specs.declared.wire_pointer.ElementSize.TheVariants.{Byte
 use Rattle.capnp_objects.specs.Demands.{claim}
 use Rattle.capnp_objects.specs.declared.object.Object.TheVariants.{Flat as ObjectFlat}
 use Rattle.capnp_objects.specs.declared.object.Place.{Place}
-use Rattle.capnp_objects.specs.Expected.{one_level}
 use Rattle.capnp_objects.specs.Outcomes.{Entered}
 use Rattle.capnp_objects.specs.Reading.{Reading}
 use Rattle.capnp_objects.specs.declared.object.Purpose.TheVariants.{Value}
-use Rattle.capnp_objects.proofs.Expecting.{IsReadAt}
+use Rattle.capnp_objects.proofs.Expecting.{one_level, IsReadAt}
 use Rattle.capnp_objects.proofs.Parts.{claim_list, claim_flat}
 use Rattle.capnp_readers.specs.Calls.{ShowsBytes}
 
@@ -49,6 +48,8 @@ text_shown {r} {count = count} {bytes} is read =
     let there = shown (count - 1) (omega arith) is read in (there.0, there.1, subst (λ k. ShowsBytes r there.0 (k - 1) bytes) there.2 there.3)
 
 pub data_shown : {r : Reading} {m m' : Meter} {start : Place} {count : ℕ} {bytes : List ℕ} → bytes ≡ take count (drop (8 * start.at) start.bytes.now) → IsReadAt r m m' (ObjectFlat start Byte count) →
-    (a : Target) × Entered Value (one_level r) m m' a × ShowsBytes r a (list_count a.word) bytes
+    (a : Target) × Entered Value (one_level r) m m' a × ShowsBytes r a (list_count a.word - 0) bytes
 data_shown {r} {count = count} {bytes} is read =
-    let there = shown count (omega arith) is read in (there.0, there.1, subst (λ k. ShowsBytes r there.0 k bytes) there.2 there.3)
+    let there = shown count (omega arith) is read in
+    let all : count ≡ list_count (there.0).word - 0 = omega (arith, there.2) in
+    (there.0, there.1, subst (λ k. ShowsBytes r there.0 k bytes) all there.3)

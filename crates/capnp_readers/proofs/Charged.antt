@@ -4,7 +4,7 @@ use Rattle.capnp_words.specs.Meter.{Meter}
 use Rattle.capnp_words.specs.declared.error.ErrorKind.{ErrorKind}
 use Rattle.capnp_format.specs.Segments.{Target}
 use Rattle.capnp_objects.specs.Reading.{Reading}
-use Rattle.capnp_objects.specs.Refusals.{Stopped, pads_exceed, nowhere, broken, claim_exceeds, count_exceeds}
+use Rattle.capnp_objects.specs.Refusals.{exceeding, leading_nowhere, Stopped, no_target, broken, claim_exceeds, count_exceeds}
 use Rattle.capnp_objects.specs.Spending.{Paid}
 use Rattle.capnp_objects.specs.Wanted.{plain}
 use Rattle.capnp_objects.specs.declared.object.Purpose.TheVariants.{Value}
@@ -44,8 +44,8 @@ unfit_charged r from m' (wide_elements a e near o start list exact (es, len, all
 
 -- So is an object that can't be read.
 stopped_charged : (r : Reading) (m m' : Meter) (k : ErrorKind) → Stopped Value plain r m m' k → IsCharged r m m'
-stopped_charged r m m' k (pads_exceed some over paid named) = (_, _, paid)
-stopped_charged r m m' k (nowhere some leads paid) = (_, _, paid)
+stopped_charged r m m' k (no_target (exceeding some over paid named)) = (_, _, paid)
+stopped_charged r m m' k (no_target (leading_nowhere some leads paid)) = (_, _, paid)
 stopped_charged r m m' k (broken a follows breaks paid) = (_, _, paid)
 stopped_charged r m m' k (claim_exceeds a follows level less there over paid named) = (_, _, paid)
 stopped_charged r m m' k (count_exceeds a follows meets over paid named) = (_, _, paid)

@@ -42,6 +42,7 @@ use Rattle.capnp_readers.proofs.Found.{struct_found, pointers_found, flat_found,
 use Rattle.capnp_readers.proofs.Exactly.{structs_of_tag, element_fails, widths_fail, widths_within, reached}
 use Rattle.capnp_readers.proofs.Growing.{all_stand_more, words-with_last, charge-with_last, depth-with_last, words-with_last_element, charge-with_last_element, depth-with_last_element, elements_stand_more, data_width-with_last, pointer_width-with_last, none_stand}
 use Rattle.capnp_readers.proofs.Used.{ends_used, used_ends}
+use Rattle.capnp_objects.proofs.Followed.{entered_leads, leads_there}
 
 pub not_far : (r : Reading) → kind (word_of r) < 2 → kind (word_at r.segments r.segment r.at) ≢ 2
 not_far r less = λ e. omega (arith, e, less)
@@ -127,15 +128,15 @@ null_found_at {r} {from} {m'} ready z e = (
 )
 
 pub struct_at : {r : Reading} {m m' : Meter} {a : Target} → Entered Value r m m' a → kind a.word ≡ 0 → StructAt r.segments r.segment r.at a (data_words a.word) (pointer_count a.word)
-struct_at o z = record { leads_to = o.leads_to; is_struct = z; data_of = refl; pointers = refl }
+struct_at o z = record { leads_to = entered_leads o; is_struct = z; data_of = refl; pointers = refl }
 
 pub list_at : {r : Reading} {m m' : Meter} {a : Target} (size : ℕ) → Entered Value r m m' a → kind a.word ≡ 1 → element_size a.word ≡ size → ListAt r.segments r.segment r.at a size (list_count a.word)
-list_at size o z e = record { leads_to = o.leads_to; is_list = z; is_size = e; counts = refl }
+list_at size o z e = record { leads_to = entered_leads o; is_list = z; is_size = e; counts = refl }
 
 pub empty_found_at : {r : Reading} {from : Progress} {m' : Meter} {a : Target} → IsTested r → Entered Value r from.meter m' a → kind a.word ≡ 0 → data_words a.word + pointer_count a.word ≡ 0 → a.start ≡ r.at → IsFound r from (progress from.head m')
 empty_found_at {r} {from} {m'} {a} ready o z none start =
-    let near = near_object r ready.near o.leads_to in
-    let its : StructAt r.segments r.segment r.at a 0 0 = record { leads_to = o.leads_to; is_struct = z; data_of = omega (arith, none); pointers = omega (arith, none) } in
+    let near = near_object r ready.near (entered_leads o) in
+    let its : StructAt r.segments r.segment r.at a 0 0 = record { leads_to = entered_leads o; is_struct = z; data_of = omega (arith, none); pointers = omega (arith, none) } in
     let free : own Value r.segments a ≡ 0 = omega (arith, own_struct r.segments a z, near.no_pads, none) in (
       Struct _ no_trees,
       record {
@@ -168,7 +169,7 @@ struct_finds {r} {from} {to} {m'} {a} ready o z start some used (ts, len, all) =
     let h : ℕ = from.head in
     let d : ℕ = data_words a.word in
     let q : ℕ = pointer_count a.word in
-    let near = near_object r ready.near o.leads_to in
+    let near = near_object r ready.near (entered_leads o) in
     let seg = near.same_segment in
     let claimed : claim a.word ≡ d + q = claim_struct a.word z in
     let claims : Claims S a (d + q) = omega (arith, o.meets.claims, claimed) in
@@ -193,7 +194,7 @@ pointers_find {r} {from} {to} {m'} {a} ready o z six start (ts, len, all) =
     let S : Segments = r.segments in
     let h : ℕ = from.head in
     let n : ℕ = list_count a.word in
-    let near = near_object r ready.near o.leads_to in
+    let near = near_object r ready.near (entered_leads o) in
     let seg = near.same_segment in
     let claims : Claims S a n = omega (arith, o.meets.claims, claim_list a.word 6 z six) in
     let there : AllStand S r.segment h (h + n) ts = all_at S ts seg start (omega (arith, start)) all.stand in
@@ -215,7 +216,7 @@ flat_finds {r} {from} {m'} {a} ready o z small start padded =
     let h : ℕ = from.head in
     let size : ℕ = element_size a.word in
     let n : ℕ = list_count a.word in
-    let near = near_object r ready.near o.leads_to in
+    let near = near_object r ready.near (entered_leads o) in
     let seg = near.same_segment in
     let claimed : claim a.word ≡ words_for size n = claim_list a.word size z refl ∙ claim_flat size n small in
     let claims : Claims S a (words_for size n) = omega (arith, o.meets.claims, claimed) in
@@ -241,7 +242,7 @@ structs_find {r} {from} {to} {m'} {a} ready o z seven start exact (es, len, dw, 
     let m : ℕ = list_count a.word in
     let d : ℕ = data_words (tag S a) in
     let q : ℕ = pointer_count (tag S a) in
-    let near = near_object r ready.near o.leads_to in
+    let near = near_object r ready.near (entered_leads o) in
     let seg = near.same_segment in
     let claims : Claims S a (m + 1) = omega (arith, o.meets.claims, claim_list a.word 7 z seven) in
     let its : tag S a ≡ word_at S r.segment h = ap₂ (λ x y. word_at S x y) seg start in
@@ -297,11 +298,11 @@ starts_at (suc n) p h x f g = let e : x ≡ h = g (omega arith) in grind (arith,
 
 pub unplaced_never : (r : Reading) (m m' : Meter) (h : ℕ) (x : Object) → IsTested r → IsObject Value r m m' x → (StartsRight x r.at h → ⊥) → IsCanonicalAt r h → ⊥
 unplaced_never r m m' h ObjectNull ready object other stands = other tt
-unplaced_never r m m' h (ObjectCapability i) ready (a, l, low, index, covers, spent) other stands = let near = near_object r ready.near l in omega (arith, near.same_word, low, ready.near)
+unplaced_never r m m' h (ObjectCapability i) ready (a, l, low, index, covers, spent) other stands = let near = near_object r ready.near (leads_there r a l (λ f. omega (arith, f, low))) in omega (arith, near.same_word, low, ready.near)
 unplaced_never r m m' h (ObjectStruct start size) ready (a, o, z, (held, seg, at), wide, many) other (t, stands) =
     other (starts_at (size.data_words + size.pointers) r.at h start.at
     (λ none. (
-    let its : StructAt r.segments r.segment r.at a 0 0 = record { leads_to = o.leads_to; is_struct = z; data_of = omega (arith, none, wide); pointers = omega (arith, none, many) } in
+    let its : StructAt r.segments r.segment r.at a 0 0 = record { leads_to = entered_leads o; is_struct = z; data_of = omega (arith, none, wide); pointers = omega (arith, none, many) } in
     omega (arith, at, (empty_found r.segments r.segment r.at h a t stands its).1)))
     (λ some. (
     let f = struct_found r.segments r.segment r.at h a (data_words a.word) (pointer_count a.word) t stands (struct_at o z) (omega (arith, some, wide, many)) in
@@ -434,7 +435,7 @@ pub structs_tell : {r : Reading} {m' : Meter} (from : Progress) (m'' : Meter) (s
     StartsRight (ObjectStructs start size n) r.at from.head → TellsClaimed (first_element r start) size n (list_count (word_of r)) m' m'' o → Tells r from m'' o
 structs_tell {r} {m'} from m'' start size n (Some e) ready (a, o, z, seven, (held, seg, at), many, wide, pointers) right (exact, found) =
     let S : Segments = r.segments in
-    let claimed : list_count (word_of r) ≡ list_count a.word = ap list_count (sym (near_object r ready.near o.leads_to).same_word) in
+    let claimed : list_count (word_of r) ≡ list_count a.word = ap list_count (sym (near_object r ready.near (entered_leads o)).same_word) in
     let there : first_element r start ≡ list_elements r a = same_elements r seg at in
     let of_size : size ≡ tag_size S a = same_size S a wide pointers in
     let goes : start.at + list_count (word_of r) ≡ a.start + 1 + list_count a.word = omega (arith, at, claimed) in
@@ -446,7 +447,7 @@ structs_tell {r} {m'} from m'' start size n (Some e) ready (a, o, z, seven, (hel
     (subst (λ x. AreFoundRows x size n (progress (start.at + list_count (word_of r)) m') (progress e m'')) there found))))
 structs_tell {r} {m'} from m'' start size n None ready (a, o, z, seven, (held, seg, at), many, wide, pointers) right fails =
     let S : Segments = r.segments in
-    let claimed : list_count (word_of r) ≡ list_count a.word = ap list_count (sym (near_object r ready.near o.leads_to).same_word) in
+    let claimed : list_count (word_of r) ≡ list_count a.word = ap list_count (sym (near_object r ready.near (entered_leads o)).same_word) in
     let of_size : size ≡ tag_size S a = same_size S a wide pointers in
     let goes : a.start + 1 + list_count a.word ≡ start.at + list_count (word_of r) = omega (arith, at, claimed) in
     structs_never from.head ready o z seven (λ exact all. fails
@@ -625,7 +626,7 @@ pub structs_end : {P : Reading → Progress → Meter → Type 0} {r : Reading} 
     RowTestsEnd P (first_element r start) size n (progress (start.at + list_count (word_of r)) m') m'' → TestEnds P r from m''
 structs_end {P} {r} {from} {m'} {m''} start size n ready (a, o, z, seven, (held, seg, at), many, wide, pointers) right exact ends =
     let S : Segments = r.segments in
-    let claimed : list_count (word_of r) ≡ list_count a.word = ap list_count (sym (near_object r ready.near o.leads_to).same_word) in
+    let claimed : list_count (word_of r) ≡ list_count a.word = ap list_count (sym (near_object r ready.near (entered_leads o)).same_word) in
     let there : first_element r start ≡ list_elements r a = same_elements r seg at in
     let of_size : size ≡ tag_size S a = same_size S a wide pointers in
     let goes : start.at + list_count (word_of r) ≡ a.start + 1 + list_count a.word = omega (arith, at, claimed) in
@@ -654,10 +655,10 @@ elements_begin r start e f = ap₂ (λ n s. record r { levels = n; segment = s; 
 
 -- An object stands in the segment of its pointer.
 pub pointers_here : {r : Reading} {m m' : Meter} (start : Place) (n : ℕ) → IsTested r → IsObject Value r m m' (ObjectPointers start n) → r.segment ≡ start.segment
-pointers_here {r} start n ready (a, o, z, six, (held, seg, at), many) = sym (seg ∙ (near_object r ready.near o.leads_to).same_segment)
+pointers_here {r} start n ready (a, o, z, six, (held, seg, at), many) = sym (seg ∙ (near_object r ready.near (entered_leads o)).same_segment)
 
 pub structs_here : {r : Reading} {m m' : Meter} (start : Place) (size : StructSize) (n : ℕ) → IsTested r → IsObject Value r m m' (ObjectStructs start size n) → r.segment ≡ start.segment
-structs_here {r} start size n ready (a, o, z, seven, (held, seg, at), many, wide, pointers) = sym (seg ∙ (near_object r ready.near o.leads_to).same_segment)
+structs_here {r} start size n ready (a, o, z, seven, (held, seg, at), many, wide, pointers) = sym (seg ∙ (near_object r ready.near (entered_leads o)).same_segment)
 
 -- A struct that is entered by the word of its pointer.
 pub struct_object : {r : Reading} {m m' : Meter} (start : Place) (size : StructSize) → kind (word_of r) ≡ 0 → IsHeld r.segments start → start.segment ≡ r.segment → Entered Value r m m' (near_at r start.at) →
@@ -667,8 +668,8 @@ struct_object {r} start size is_struct held there o wide many = (near_at r start
 -- What a word of kind list leads to is a list.
 pub lists_alone : {r : Reading} (m m' : Meter) (x : Object) → IsTested r → kind (word_of r) ≡ 1 → IsObject Value r m m' x → IsList x
 lists_alone {r} m m' ObjectNull ready list object = absurd (omega (arith, list, object.0))
-lists_alone {r} m m' (ObjectCapability i) ready list (a, l, low, index, covers, spent) = let near = near_object r ready.near l in absurd (omega (arith, near.same_word, low, list))
-lists_alone {r} m m' (ObjectStruct start size) ready list (a, o, z, starts, wide, many) = let near = near_object r ready.near o.leads_to in absurd (omega (arith, near.same_word, z, list))
+lists_alone {r} m m' (ObjectCapability i) ready list (a, l, low, index, covers, spent) = let near = near_object r ready.near (leads_there r a l (λ f. omega (arith, f, low))) in absurd (omega (arith, near.same_word, low, list))
+lists_alone {r} m m' (ObjectStruct start size) ready list (a, o, z, starts, wide, many) = let near = near_object r ready.near (entered_leads o) in absurd (omega (arith, near.same_word, z, list))
 lists_alone m m' (ObjectFlat start size n) ready list object = tt
 lists_alone m m' (ObjectPointers start n) ready list object = tt
 lists_alone m m' (ObjectStructs start size n) ready list object = tt
@@ -680,7 +681,7 @@ struct_room {r} start size (a, o, z, (held, seg, at), wide, many) = omega (arith
 
 pub structs_room : {r : Reading} {m m' : Meter} (start : Place) (size : StructSize) (n : ℕ) → kind (word_of r) < 2 → IsObject Value r m m' (ObjectStructs start size n) → start.at + list_count (word_of r) ≤ length (segment_read (first_element r start))
 structs_room {r} start size n near (a, o, z, seven, (held, seg, at), many, wide, pointers) =
-    let claimed : list_count (word_of r) ≡ list_count a.word = ap list_count (sym (near_object r near o.leads_to).same_word) in
+    let claimed : list_count (word_of r) ≡ list_count a.word = ap list_count (sym (near_object r near (entered_leads o)).same_word) in
     omega (arith, o.meets.claims, claim_list a.word 7 z seven, at, claimed, ap (λ s. length (segment r.segments s)) seg)
 
 -- flags: what was seen stays seen, and what was not is looked at

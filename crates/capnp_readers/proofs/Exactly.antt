@@ -7,10 +7,10 @@ use Rattle.capnp_format.specs.Segments.{Segments, word_at, IsPlace, Target}
 use Rattle.capnp_format.specs.Tree.{Structs, Elements, no_elements, element, element_count}
 use Rattle.capnp_format.specs.Means.{Claims, ListAt, IsTag}
 use Rattle.capnp_format.specs.Canonical.{data_width, pointer_width, word_count_all, word_count_elements}
-use Rattle.capnp_readers.specs.Standing.{Accepts, AllAccept, ElementsAccept, ElementsStand}
+use Rattle.capnp_readers.specs.Standing.{ElementsAccept, ElementsStand}
 use Rattle.capnp_format.proofs.Bounds.{HasSmallWords}
 use Rattle.capnp_readers.proofs.Accepts.{structs_stand}
-use Rattle.capnp_readers.proofs.Growing.{next_element_stands, one_row_of_elements}
+use Rattle.capnp_readers.proofs.Growing.{Accepts, AllAccept, next_element_stands, one_row_of_elements}
 use Rattle.capnp_format.proofs.Trimming.{used_words-le, used_trees-le}
 use Rattle.capnp_readers.proofs.Found.{structs_found}
 

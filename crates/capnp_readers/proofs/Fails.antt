@@ -20,6 +20,7 @@ use Rattle.capnp_objects.proofs.Walked.{beginning, same_place, same_size}
 use Rattle.capnp_readers.specs.Standing.{IsPadded}
 use Rattle.capnp_readers.specs.Checking.{Progress, progress, AreFound, AreFoundTooWide, IsTested, StartsRight, TellsFlat, RowTestsEnd, here, IsUnfit, empty_elsewhere, elsewhere, not_padded, other_claim, wide_sections, wide_elements, TestFails, SectionsFail, ClaimedFails}
 use Rattle.capnp_readers.proofs.Checks.{near_object, struct_pointers, list_elements, used_at, padded_at, some_starts, first_element, same_elements, lists_alone, AreSeen, struct_ends, structs_end}
+use Rattle.capnp_objects.proofs.Followed.{entered_leads}
 
 -- what is so of no value is so of it in other words
 pub none_so : {A X Y : Type 0} (o : Option A) → IfNone o X → (X → Y) → IfNone o Y
@@ -74,7 +75,7 @@ pub claimed_fails : {r : Reading} {from : Progress} {m' m'' : Meter} (start : Pl
     StartsRight (ObjectStructs start size n) r.at from.head → ClaimedFails (first_element r start) size n (list_count (word_of r)) m' m'' → TestFails r from m''
 claimed_fails {r} {from} {m'} {m''} start size n ready (a, o, z, seven, (held, seg, at), many, wide, pointers) right (inl (other, same)) =
     let S : Segments = r.segments in
-    let claimed : list_count (word_of r) ≡ list_count a.word = ap list_count (sym (near_object r ready.near o.leads_to).same_word) in
+    let claimed : list_count (word_of r) ≡ list_count a.word = ap list_count (sym (near_object r ready.near (entered_leads o)).same_word) in
     let of_size : size ≡ tag_size S a = same_size S a wide pointers in
     let words : n * (size.data_words + size.pointers) ≡ element_words (tag S a) = ap₂ (λ i j. i * (j.data_words + j.pointers)) many of_size in
     subst (λ m. TestFails r from m) (sym same) (here (other_claim a ready.near o (omega (arith, right, at)) (z, seven) (λ e. other (words ∙ e ∙ sym claimed))))
@@ -82,7 +83,7 @@ claimed_fails {r} {from} {m'} {m''} start size n ready object right (inr (exact,
     structs_end {r = r} {from = from} {m' = m'} {m'' = m''} start size n ready object right exact (subst (λ w. RowTestsEnd IsUnfit (first_element r start) size n (progress (start.at + w) m') m'') exact ends)
 claimed_fails {r} {from} {m'} {m''} start size n ready (a, o, z, seven, (held, seg, at), many, wide, pointers) right (inr (exact, inr (e, found))) =
     let S : Segments = r.segments in
-    let claimed : list_count (word_of r) ≡ list_count a.word = ap list_count (sym (near_object r ready.near o.leads_to).same_word) in
+    let claimed : list_count (word_of r) ≡ list_count a.word = ap list_count (sym (near_object r ready.near (entered_leads o)).same_word) in
     let there : first_element r start ≡ list_elements r a = same_elements r seg at in
     let of_size : size ≡ tag_size S a = same_size S a wide pointers in
     let last : start.at + list_count (word_of r) ≡ a.start + claim a.word = omega (arith, at, claimed, claim_list a.word 7 z seven) in

@@ -4,12 +4,20 @@ use Rattle.std.proofs.Common.{◌≡◌, ℕ, suc, ◌+◌, ◌*◌, ◌<◌, �
 use Rattle.capnp_format.specs.Segments.{Segments, words_at, HasWords}
 use Rattle.capnp_format.specs.Tree.{Tree, Trees, no_trees, tree, Elements, no_elements, element, count, element_count, depth, depth_all, depth_elements}
 use Rattle.capnp_format.specs.Canonical.{used_words, used_trees, data_width, pointer_width, word_count, word_count_all, word_count_elements, charge, charge_all, charge_elements, Stands}
-use Rattle.capnp_readers.specs.Standing.{AllStand, ElementsStand, Accepts, AllAccept}
+use Rattle.capnp_readers.specs.Standing.{AllStand, ElementsStand}
 use Rattle.capnp_format.proofs.Children.{with_last}
 use Rattle.capnp_format.proofs.Appending.{append_trees}
 use Rattle.capnp_format.proofs.LawLemmas.{one_stands}
 use Rattle.capnp_objects.proofs.Copies.{with_last_element}
 pub use Rattle.capnp_objects.proofs.Walked.{words-with_last, words-with_last_element}
+
+-- some value stands at a place and a head
+abbrev pub Accepts : Segments → ℕ → ℕ → ℕ → Type 0
+Accepts S s p h = (t : Tree) × Stands S s p h t
+
+-- some n children stand from a place and a head on
+abbrev pub AllAccept : Segments → ℕ → ℕ → ℕ → ℕ → Type 0
+AllAccept S s p h n = (ts : Trees) × (count ts ≡ n) × AllStand S s p h ts
 
 -- One child more stands at the end.
 pub all_stand_more : (S : Segments) (s p h : ℕ) (ts : Trees) (u : Tree) → AllStand S s p h ts → Stands S s (p + count ts) (h + word_count_all ts) u → AllStand S s p h (with_last ts u)

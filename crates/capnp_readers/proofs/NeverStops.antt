@@ -27,6 +27,7 @@ use Rattle.capnp_readers.proofs.Checks.{near_object, all_at, struct_at, list_at,
 use Rattle.capnp_readers.proofs.Found.{struct_found, pointers_found, structs_found}
 use Rattle.capnp_readers.proofs.Growing.{next_stands, next_element_stands}
 use Rattle.capnp_readers.proofs.Takes.{stands_means_at}
+use Rattle.capnp_objects.proofs.Followed.{entered_leads}
 
 -- The pointer that comes next where a row of more pointers stands can be found, if what was charged before it is part of what is covered.
 record Rest (r : Reading) (from : Progress) (m : Meter) (us : Trees) : Type 0 where
@@ -65,7 +66,7 @@ struct_next {r} {from = from} {mid = mid} {first = first} {a = a} ts near o z le
     let claimed : claim a.word ≡ d + q = claim_struct a.word z in
     let f = struct_found S r.segment r.at from.head a d q t stands (struct_at o z) (omega (arith, less)) in
     let (us, len, there, same) = f.children in
-    let close = near_object r near o.leads_to in
+    let close = near_object r near (entered_leads o) in
     let room : a.start + claim a.word ≤ length (segment S a.segment) = o.meets.claims in
     let long : length (words_at S r.segment from.head d) ≡ d = length_words S r.segment from.head d (omega (arith, room, claimed, f.start, ap (λ x. length (segment S x)) f.same_segment)) in
     let moved : AllStand S a.segment (a.start + d) (a.start + claim a.word) us = all_at S us (sym f.same_segment) (omega (arith, f.start)) (omega (arith, f.start, claimed)) there in
@@ -92,7 +93,7 @@ pointers_next {r} {from = from} {mid = mid} {first = first} {a = a} ts near o z 
     let claimed : claim a.word ≡ n = claim_list a.word 6 z six in
     let f = pointers_found S r.segment r.at from.head a n t stands (list_at 6 o z six) in
     let (us, len, there, same) = f.children in
-    let close = near_object r near o.leads_to in
+    let close = near_object r near (entered_leads o) in
     let room : a.start + claim a.word ≤ length (segment S a.segment) = o.meets.claims in
     let moved : AllStand S a.segment a.start (a.start + claim a.word) us = all_at S us (sym f.same_segment) (sym f.start) (omega (arith, f.start, claimed)) there in
     let deep : 1 + depth_all us ≤ r.levels = subst (λ x. x ≤ r.levels) (ap depth same) levels in
@@ -126,7 +127,7 @@ structs_next {r} {from = from} {between = between} {mid = mid} {first = first} {
     let wide : e ≡ d = sym f.tag.data_of ∙ ap data_words (sym its) in
     let many : g ≡ q = sym f.tag.pointers ∙ ap pointer_count (sym its) in
     let number : element_count fs ≡ offset_bits (tag S a) = sym f.tag.counts ∙ ap offset_bits (sym its) in
-    let close = near_object r near o.leads_to in
+    let close = near_object r near (entered_leads o) in
     let room : a.start + claim a.word ≤ length (segment S a.segment) = o.meets.claims in
     let head : ℕ = a.start + claim a.word in
     let behind_tag : from.head + 1 ≡ a.start + 1 = omega (arith, f.start) in

@@ -13,19 +13,17 @@ use Rattle.capnp_words.specs.declared.wire_pointer.ElementSize.{ElementSize}
 use Rattle.capnp_words.specs.declared.wire_pointer.ElementSize.TheVariants.{Void}
 use Rattle.capnp_arena.specs.declared.arena.reader_arena.ReaderArena.{Ghosts}
 use Rattle.capnp_objects.specs.declared.object.Expected.{Expected}
-use Rattle.capnp_objects.specs.declared.object.Expected.TheVariants.{Text}
 use Rattle.capnp_objects.specs.declared.source.Source.TheVariants.{Default, Nothing}
-use Rattle.capnp_objects.specs.Expected.{null_default, one_level, CanBeGiven, Withheld}
+use Rattle.capnp_objects.specs.Expected.{null_default, CanBeGiven, Withheld}
 use Rattle.capnp_objects.specs.Outcomes.{Entered}
 use Rattle.capnp_objects.specs.Reading.{Reading, word_of}
 use Rattle.capnp_objects.specs.Source.{default_segment, default_segments}
 use Rattle.capnp_objects.specs.declared.object.Purpose.TheVariants.{Value}
-use Rattle.capnp_readers.specs.Readers.{reading, IsTarget}
+use Rattle.capnp_readers.specs.Readers.{reading, IsNullUncharged, IsStructThere, IsListThere}
 use Rattle.capnp_readers.specs.Sections.{IsWide}
 use Rattle.capnp_readers.specs.declared.readers.PointerReader.{PointerReader}
 use Rattle.capnp_readers.specs.declared.readers.struct_reader.StructReader.{StructReader}
 use Rattle.capnp_readers.specs.declared.readers.list_reader.ListReader.{ListReader}
-use Rattle.capnp_readers.specs.declared.readers.target.Target.TheVariants.{Struct as StructTarget, List as ListTarget}
 
 -- The first n bytes of an object of bytes.
 abbrev pub ShowsBytes : Reading → Target → ℕ → List ℕ → Type 0
@@ -33,21 +31,21 @@ ShowsBytes r a n bytes =
     (all : List ℕ) × (words_of all ≡ words_at r.segments a.segment a.start (words_for 2 (list_count a.word))) × (bytes ≡ take n all) × (length bytes ≡ n)
 
 module _ {A : Type 0} (g : Ghosts A) where
-  -- The default of a pointer is used, since the pointer is null: the pointer in its first word, within the same levels.
-  pub record IsDefault (from : PointerReader A g) (bytes : Bor (List ℕ)) (p : PointerReader A g) : Type 0 where
-    pub null : word_of (reading g from) ≡ 0
-    pub whole : 8 ≤ length bytes.now
-    pub source : p.source ≡ Default bytes
-    pub segment : p.place.segment ≡ default_segment
-    pub first : p.place.at ≡ 0
-    pub nesting : p.nesting_limit ≡ from.nesting_limit
-
-  -- The pointer that a call reads: its own, where it isn't null or there is no default, or the default's. A text and data have
-  -- no null default.
+  -- The pointer that a call reads: its own, where it isn't null or there is no default; or the pointer in the default's first
+  -- word, within the same levels. A text and data have no null default.
   pub data IsRead (expected : Expected) (from p : PointerReader A g) : Option (Bor (List ℕ)) → Type 0 where
     without_default : p ≡ from → IsRead expected from p None
     not_null : {bytes : Bor (List ℕ)} → word_of (reading g from) ≢ 0 → p ≡ from → IsRead expected from p (Some bytes)
-    of_default : {bytes : Bor (List ℕ)} → IsDefault from bytes p → (null_default expected ≡ None) ⊎ (word_of (reading g p) ≢ 0) → IsRead expected from p (Some bytes)
+    of_default :
+        {bytes : Bor (List ℕ)} →
+        word_of (reading g from) ≡ 0 →
+        8 ≤ length bytes.now →
+        p.source ≡ Default bytes →
+        p.place.segment ≡ default_segment →
+        p.place.at ≡ 0 →
+        p.nesting_limit ≡ from.nesting_limit →
+        (null_default expected ≡ None) ⊎ (word_of (reading g p) ≢ 0) →
+        IsRead expected from p (Some bytes)
 
   -- There is no pointer to read, for the reason k: the default has no whole word, or its pointer is null where it must not be.
   pub data IsUnread (expected : Expected) (from : PointerReader A g) (k : ErrorKind) : Option (Bor (List ℕ)) → Type 0 where
@@ -82,34 +80,20 @@ module _ {A : Type 0} (g : Ghosts A) where
   abbrev pub IsRefused : Call → Meter → Meter → ErrorKind → Type 0
   IsRefused c m m' k = (IsUnread c.expected c.from k c.default × (m' ≡ m)) ⊎ WhereRead c (λ p. Withheld c.expected (reading g p) m m' k)
 
-  -- The pointer is null, and nothing is counted or charged.
-  abbrev pub IsNullUncharged : PointerReader A g → Meter → Meter → Type 0
-  IsNullUncharged p m m' = (word_of (reading g p) ≡ 0) × (m' ≡ m)
-
   -- The struct that a pointer leads to, its words checked and charged, from m to m'; of a null pointer the struct from nothing.
-  abbrev pub IsNoStruct : StructReader A g → Type 0
-  IsNoStruct r = (r.source ≡ Nothing) × (r.bits ≡ 0) × (r.pointer_count ≡ 0) × (r.nesting_limit ≡ pos (2 ^ 31 - 1))
-
   abbrev pub IsStructRead : PointerReader A g → Meter → Meter → StructReader A g → Type 0
-  IsStructRead p m m' r = (IsNullUncharged p m m' × IsNoStruct r) ⊎ IsTarget g p m m' (StructTarget r)
+  IsStructRead p m m' r =
+      (IsNullUncharged g p m m' × ((r.source ≡ Nothing) × (r.bits ≡ 0) × (r.pointer_count ≡ 0) × (r.nesting_limit ≡ pos (2 ^ 31 - 1))))
+      ⊎ IsStructThere g p m m' r
 
   -- The list that a pointer leads to, of elements that are wide enough; of a null pointer the list from nothing.
-  abbrev pub IsNoList : ListReader A g → Type 0
-  IsNoList r = (r.source ≡ Nothing) × (r.element_size ≡ Void) × (r.count ≡ 0) × (r.nesting_limit ≡ pos (2 ^ 31 - 1))
-
   abbrev pub IsListRead : ElementSize → PointerReader A g → Meter → Meter → ListReader A g → Type 0
-  IsListRead expected p m m' r = (IsNullUncharged p m m' × IsNoList r) ⊎ (IsTarget g p m m' (ListTarget r) × IsWide expected r.element_size r.struct_size)
+  IsListRead expected p m m' r =
+      (IsNullUncharged g p m m' × ((r.source ≡ Nothing) × (r.element_size ≡ Void) × (r.count ≡ 0) × (r.nesting_limit ≡ pos (2 ^ 31 - 1))))
+      ⊎ (IsListThere g p m m' r × IsWide expected r.element_size r.struct_size)
 
-  -- A call gives the list that is read of its pointer, or of the default's.
-  abbrev pub GivesList : ElementSize → Call → Meter → Meter → ListReader A g → Type 0
-  GivesList expected c m m' r = WhereRead c (λ p. IsListRead expected p m m' r)
-
-  -- How many bytes of a list of n bytes are a text's, without its last 0, or are data.
-  abbrev pub byte_count : Expected → ℕ → ℕ
-  byte_count Text n = n - 1
-  byte_count expected n = n
-
-  -- The bytes that a pointer leads to, in place; of a null pointer none.
-  abbrev pub AreBytesRead : Expected → PointerReader A g → Meter → Meter → List ℕ → Type 0
-  AreBytesRead expected p m m' bytes =
-      (IsNullUncharged p m m' × (bytes ≡ [])) ⊎ ((a : Target) × Entered Value (one_level (reading g p)) m m' a × ShowsBytes (reading g p) a (byte_count expected (list_count a.word)) bytes)
+  -- The bytes that a pointer leads to, in place, but so many at the end; of a null pointer none.
+  abbrev pub AreBytesRead : ℕ → PointerReader A g → Meter → Meter → List ℕ → Type 0
+  AreBytesRead but p m m' bytes =
+      (IsNullUncharged g p m m' × (bytes ≡ []))
+      ⊎ ((a : Target) × Entered Value (record (reading g p) { levels = 1 }) m m' a × ShowsBytes (reading g p) a (list_count a.word - but) bytes)

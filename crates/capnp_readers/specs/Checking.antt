@@ -27,7 +27,7 @@ use Rattle.capnp_objects.specs.declared.source.Source.TheVariants.{Nothing}
 use Rattle.capnp_objects.specs.declared.object.Purpose.TheVariants.{Value}
 use Rattle.capnp_readers.specs.Sizes.{own_words, pointers_read}
 use Rattle.capnp_readers.specs.declared.readers.struct_reader.StructReader.{StructReader}
-use Rattle.capnp_readers.specs.Standing.{AllStand, ElementsStand, Accepts, AllAccept, ElementsAccept, EndsUsed, IsPadded}
+use Rattle.capnp_readers.specs.Standing.{AllStand, ElementsStand, ElementsAccept, EndsUsed, IsPadded}
 
 -- How far a test has come: the word at which the next object has to start, and its limiter.
 pub record Progress : Type 0 where
@@ -68,10 +68,10 @@ AreFound r i from to = (ts : Trees) × (count ts ≡ i) × FindsAll r from to ts
 
 -- Canonical words stand at a place and a head, whatever the limits; at i pointers.
 abbrev pub IsCanonicalAt : Reading → ℕ → Type 0
-IsCanonicalAt r h = Accepts r.segments r.segment r.at h
+IsCanonicalAt r h = (t : Tree) × Stands r.segments r.segment r.at h t
 
 abbrev pub AreCanonicalAt : Reading → ℕ → ℕ → Type 0
-AreCanonicalAt r i h = AllAccept r.segments r.segment r.at h i
+AreCanonicalAt r i h = (ts : Trees) × (count ts ≡ i) × AllStand r.segments r.segment r.at h ts
 
 -- Where the object of a pointer at position p starts in canonical form: a struct of no words at the pointer itself, and any other
 -- at the head, a list of structs with its tag. No capability is canonical.

@@ -10,11 +10,8 @@ use Rattle.capnp_words.specs.declared.wire_pointer.ElementSize.{ElementSize}
 use Rattle.capnp_words.specs.declared.wire_pointer.ElementSize.TheVariants.{Pointer, InlineComposite}
 use Rattle.capnp_arena.specs.declared.arena.reader_arena.ReaderArena.{Ghosts}
 use Rattle.capnp_objects.specs.Demands.{tag}
-use Rattle.capnp_objects.specs.Faults.{LeadsTo}
 use Rattle.capnp_objects.specs.Reading.{Reading, reading_at, word_of}
 use Rattle.capnp_objects.specs.Outcomes.{Entered}
-use Rattle.capnp_objects.specs.Objects.{IsObject}
-use Rattle.capnp_objects.specs.declared.object.Object.{Object}
 use Rattle.capnp_readers.specs.Sections.{bytes_for, elements_words, step_bits}
 use Rattle.capnp_objects.specs.Source.{source_segments}
 use Rattle.capnp_objects.specs.Spending.{after}
@@ -26,6 +23,7 @@ use Rattle.capnp_readers.specs.declared.readers.list_reader.ListPlace.{ListPlace
 use Rattle.capnp_readers.specs.declared.readers.list_reader.ListReader.{ListReader}
 use Rattle.capnp_readers.specs.declared.readers.target.Target.{Target as ReadTarget}
 use Rattle.capnp_readers.specs.declared.readers.target.Target.TheVariants.{Null, Cap, Struct, List}
+use Rattle.capnp_objects.specs.Wanted.{FollowsTo}
 
 -- Both sections of a struct lie in its segment.
 abbrev pub IsStructPlace : Segments → StructPlace → Type 0
@@ -58,20 +56,17 @@ module _ {A : Type 0} (g : Ghosts A) where
     pub data_of : r.struct_size.data_words ≡ d
     pub pointers_of : r.struct_size.pointers ≡ q
 
-  -- A struct reader shows element number i of a list of this element size: a struct's two sections, one pointer, or the
+  -- A struct reader shows element number i of a list, whose elements have this size: a struct's two sections, one pointer, or the
   -- bits of a number.
-  abbrev pub ShowsOfSize : ElementSize → ListReader A g → ℕ → StructReader A g → Type 0
-  ShowsOfSize InlineComposite list i r =
+  abbrev pub ShowsElement : ElementSize → ListReader A g → ℕ → StructReader A g → Type 0
+  ShowsElement InlineComposite list i r =
       let d = list.struct_size.data_words in
       let q = list.struct_size.pointers in
       ShowsStruct (source_segments g.segments list.source) r list.start.segment (list.start.at + i * (d + q)) d q
-  ShowsOfSize Pointer list i r = ShowsStruct (source_segments g.segments list.source) r list.start.segment (list.start.at + i) 0 1
-  ShowsOfSize size list i r =
+  ShowsElement Pointer list i r = ShowsStruct (source_segments g.segments list.source) r list.start.segment (list.start.at + i) 0 1
+  ShowsElement size list i r =
       (r.bits ≡ element_bits (size_number size)) × (r.byte ≡ 8 * list.start.at + i * (r.bits / 8))
       × (r.content.now ≡ slice_range list.content.now (i * (r.bits / 8)) (i * (r.bits / 8) + r.bits / 8)) × (r.pointer_count ≡ 0)
-
-  abbrev pub ShowsElement : ListReader A g → ℕ → StructReader A g → Type 0
-  ShowsElement list i r = ShowsOfSize list.element_size list i r
 
   -- The list of a target, by its size: one of structs starts behind its tag.
   abbrev pub IsTargetList : ElementSize → Segments → ListReader A g → Target → Type 0
@@ -87,21 +82,29 @@ module _ {A : Type 0} (g : Ghosts A) where
   abbrev pub reading : PointerReader A g → Reading
   reading r = reading_at g r.source r.place r.nesting_limit
 
-  -- What the pointer of a reader leads to: its words are checked and charged, from m to m'. A struct's or a list's reader
+  -- The pointer is null, and nothing is counted or charged.
+  abbrev pub IsNullUncharged : PointerReader A g → Meter → Meter → Type 0
+  IsNullUncharged from m m' = (word_of (reading from) ≡ 0) × (m' ≡ m)
+
+  -- The pointer of a reader leads to the struct that another shows, whose words are checked and charged, from m to m'. That one
   -- reads the same source, with one level less.
-  abbrev pub IsTarget : PointerReader A g → Meter → Meter → ReadTarget A g → Type 0
-  IsTarget from m m' Null = (word_of (reading from) ≡ 0) × (m' ≡ m)
-  IsTarget from m m' (Cap i) =
-      (a : Target) × LeadsTo (reading from) a × (a.word % 2 ^ 32 ≡ 3) × (i ≡ upper_half a.word)
-      × Affords (reading from).charging m a.pads × (m' ≡ after (reading from).charging m a.pads 1)
-  IsTarget from m m' (Struct r) =
+  abbrev pub IsStructThere : PointerReader A g → Meter → Meter → StructReader A g → Type 0
+  IsStructThere from m m' r =
       (a : Target) × Entered Value (reading from) m m' a × (kind a.word ≡ 0)
       × ShowsStruct (reading from).segments r a.segment a.start (data_words a.word) (pointer_count a.word)
       × (r.source ≡ from.source) × (r.nesting_limit ≡ from.nesting_limit -ℤ pos 1)
-  IsTarget from m m' (List r) =
+
+  -- So it leads to a list.
+  abbrev pub IsListThere : PointerReader A g → Meter → Meter → ListReader A g → Type 0
+  IsListThere from m m' r =
       (a : Target) × Entered Value (reading from) m m' a × (kind a.word ≡ 1) × IsTargetList r.element_size (reading from).segments r a
       × (r.source ≡ from.source) × (r.nesting_limit ≡ from.nesting_limit -ℤ pos 1)
 
-  -- An object was read of the pointer.
-  abbrev pub WasRead : PointerReader A g → Object → Type 0
-  WasRead from x = (m : Meter) × (m' : Meter) × IsObject Value (reading from) m m' x
+  -- What the pointer of a reader leads to: its words are checked and charged, from m to m'.
+  abbrev pub IsTarget : PointerReader A g → Meter → Meter → ReadTarget A g → Type 0
+  IsTarget from m m' Null = IsNullUncharged from m m'
+  IsTarget from m m' (Cap i) =
+      (a : Target) × FollowsTo (reading from) a × (a.word % 2 ^ 32 ≡ 3) × (i ≡ upper_half a.word)
+      × Affords (reading from).charging m a.pads × (m' ≡ after (reading from).charging m a.pads 1)
+  IsTarget from m m' (Struct r) = IsStructThere from m m' r
+  IsTarget from m m' (List r) = IsListThere from m m' r

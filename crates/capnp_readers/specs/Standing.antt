@@ -1,7 +1,7 @@
 -- Canonical words that stand one behind the other, as a test with a moving head finds them.
 use Rattle.std.specs.Prelude.{◌≡◌, ◌≢◌, ℕ, ◌+◌, ◌-◌, ◌⊎◌, length}
 use Rattle.capnp_format.specs.Segments.{Segments, word_at, HasWords}
-use Rattle.capnp_format.specs.Tree.{Tree, Trees, no_trees, tree, Elements, no_elements, element, count, element_count}
+use Rattle.capnp_format.specs.Tree.{Trees, no_trees, tree, Elements, no_elements, element, count, element_count}
 pub use Rattle.capnp_format.specs.Padding.{IsPadded}
 use Rattle.capnp_format.specs.Canonical.{word_count, word_count_all, data_width, pointer_width, Stands}
 
@@ -16,14 +16,6 @@ abbrev pub ElementsStand : Segments → ℕ → ℕ → ℕ → ℕ → ℕ → 
 ElementsStand S s p d q h no_elements = Unit {0}
 ElementsStand S s p d q h (element ws ts es) =
     (length ws ≡ d) × (count ts ≡ q) × HasWords S s p ws × AllStand S s (p + d) h ts × ElementsStand S s (p + d + q) d q (h + word_count_all ts) es
-
--- Some value stands at a place and a head.
-abbrev pub Accepts : Segments → ℕ → ℕ → ℕ → Type 0
-Accepts S s p h = (t : Tree) × Stands S s p h t
-
--- Some n children stand from a place and a head on.
-abbrev pub AllAccept : Segments → ℕ → ℕ → ℕ → ℕ → Type 0
-AllAccept S s p h n = (ts : Trees) × (count ts ≡ n) × AllStand S s p h ts
 
 -- Some n elements stand from a place and a head on, and no smaller sections would hold them.
 abbrev pub ElementsAccept : Segments → ℕ → ℕ → ℕ → ℕ → ℕ → ℕ → Type 0

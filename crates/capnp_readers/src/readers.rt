@@ -8,9 +8,9 @@ ghost use Rattle.capnp_arena.specs.Checks.{Holds, misplaced};
 ghost use Rattle.capnp_objects.specs.Source.{source_segments, source_charging, default_segment, levels};
 ghost use Rattle.capnp_objects.specs.Refusals.{Stopped, CanBeRead};
 ghost use Rattle.capnp_objects.specs.Objects.{IsHeld};
-ghost use Rattle.capnp_objects.specs.Reading.{word_of};
+ghost use Rattle.capnp_objects.specs.Reading.{reading_at, word_of};
 ghost use Rattle.capnp_objects.specs.Objects.{IsFew, IsObject};
-ghost use Rattle.capnp_objects.specs.Expected.{null_default, one_level, IsGiven};
+ghost use Rattle.capnp_objects.specs.Expected.{null_default, IsGiven};
 ghost use Rattle.capnp_objects.specs.Types.{IsNoCapability, IsOfType, HasType, HasNoType};
 ghost use Rattle.capnp_format.specs.Word.{lower_half, upper_half};
 ghost use Rattle.capnp_objects.specs.Wanted.{plain};
@@ -78,8 +78,8 @@ impl<'a, A: ReaderArena> Clone for PointerReader<'a, A> {
 impl<'a, A: ReaderArena> Copy for PointerReader<'a, A> {}
 
 impl<'a, A: ReaderArena> PointerReader<'a, A> {
-    ghost use Rattle.capnp_readers.specs.Readers.{IsTarget, WasRead, reading};
-    ghost use Rattle.capnp_readers.specs.Calls.{call, IsRead, IsUnread, IsAnswered, IsRefused, WhereRead, GivesList, IsStructRead, AreBytesRead};
+    ghost use Rattle.capnp_readers.specs.Readers.{IsTarget, reading};
+    ghost use Rattle.capnp_readers.specs.Calls.{call, IsRead, IsUnread, IsAnswered, IsRefused, WhereRead, IsListRead, IsStructRead, AreBytesRead};
 
     /// The pointer from nothing, which is null. Its nesting limit is `i32::MAX`.
     pub fn new_default() -> Self
@@ -249,7 +249,8 @@ impl<'a, A: ReaderArena> PointerReader<'a, A> {
         ensures read { IfOk result (λ x.
             IsRead A.ReaderArena expected self.entry x.0 default.entry) }
         ensures object { IfOk result (λ x.
-            IsObject Value (one_level (reading A.ReaderArena x.0)) lim.old lim.new x.1) }
+            IsObject Value (reading_at A.ReaderArena x.0.source x.0.place (pos 1))
+            lim.old lim.new x.1) }
         ensures given { IfOk result (λ x. IsGiven expected (reading A.ReaderArena x.0).levels x.1) }
         ensures few { IfOk result (λ x. IsFew x.1) }
         ensures exactly { IsOk result ↔ IsAnswered A.ReaderArena
@@ -331,9 +332,9 @@ impl<'a, A: ReaderArena> PointerReader<'a, A> {
         default: Option<&'a [u8]>,
     ) -> Result<ListReader<'a, A>, ErrorKind>
         requires small { IfSome default (λ bytes. length bytes.now / 8 < 2 ^ 32) }
-        ensures read { IfOk result (GivesList A.ReaderArena expected_element_size
+        ensures read { IfOk result (λ r. WhereRead A.ReaderArena
             (call A.ReaderArena self.entry (Expected.List expected_element_size) default.entry)
-            lim.old lim.new) }
+            (λ p. IsListRead A.ReaderArena expected_element_size p lim.old lim.new r)) }
         ensures exactly { IsOk result ↔ IsAnswered A.ReaderArena
             (call A.ReaderArena self.entry (Expected.List expected_element_size) default.entry)
             lim.old }
@@ -372,7 +373,7 @@ impl<'a, A: ReaderArena> PointerReader<'a, A> {
         requires small { IfSome default (λ bytes. length bytes.now / 8 < 2 ^ 32) }
         ensures read { IfOk result (λ bytes. WhereRead A.ReaderArena
             (call A.ReaderArena self.entry Expected.Text default.entry)
-            (λ p. AreBytesRead A.ReaderArena Expected.Text p lim.old lim.new bytes.now)) }
+            (λ p. AreBytesRead A.ReaderArena 1 p lim.old lim.new bytes.now)) }
         ensures exactly { IsOk result ↔ IsAnswered A.ReaderArena
             (call A.ReaderArena self.entry Expected.Text default.entry) lim.old }
         ensures refused { IfErr result
@@ -403,7 +404,7 @@ impl<'a, A: ReaderArena> PointerReader<'a, A> {
         requires small { IfSome default (λ bytes. length bytes.now / 8 < 2 ^ 32) }
         ensures read { IfOk result (λ bytes. WhereRead A.ReaderArena
             (call A.ReaderArena self.now Expected.Data default.entry)
-            (λ p. AreBytesRead A.ReaderArena Expected.Data p lim.old lim.new bytes.now)) }
+            (λ p. AreBytesRead A.ReaderArena 0 p lim.old lim.new bytes.now)) }
         ensures exactly { IsOk result ↔ IsAnswered A.ReaderArena
             (call A.ReaderArena self.now Expected.Data default.entry) lim.old }
         ensures refused { IfErr result
@@ -481,7 +482,8 @@ impl<'a, A: ReaderArena> PointerReader<'a, A> {
 
     // An object that the pointer leads to, as readers of the same source with one level less.
     fn target_of(self, object: Object<'a>) -> Target<'a, A>
-        requires read { WasRead A.ReaderArena self object }
+        requires read { (m : Meter) × (m' : Meter)
+            × IsObject Value (reading A.ReaderArena self) m m' object }
         ensures { (m : Meter) (m' : Meter)
             → IsObject Value (reading A.ReaderArena self.entry) m m' object.entry
             → IsTarget A.ReaderArena self.entry m m' result }

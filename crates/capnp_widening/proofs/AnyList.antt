@@ -20,7 +20,7 @@ use Rattle.capnp_widening.proofs.PlainLists.{are_numbers}
 use Rattle.capnp_widening.proofs.PointerSteps.{flat_stored, pointers_stored}
 
 -- a list of bits
-pub bits_refused : (S : Segments) (s p : ℕ) (t : Tree) (l : ExistingList) (d q : ℕ) → size_number l.size ≡ 1 → IsList S s p t l → list_widened d q t ≡ Err FoundBitListWhereStructListWasExpected
+pub bits_refused : (S : Segments) (s p : ℕ) (t : Tree) (l : ExistingList) (d q : ℕ) → size_number l.size ≡ 1 → IsList S s p l t → list_widened d q t ≡ Err FoundBitListWhereStructListWasExpected
 bits_refused S s p t l d q is i =
     let k = are_numbers S s p t l (omega (arith, is)) i in
     ap (list_widened d q) (k.tree_of ∙ ap (λ w. Flat w k.numbers) is)

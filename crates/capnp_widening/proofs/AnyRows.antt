@@ -7,8 +7,8 @@ use Rattle.capnp_words.specs.declared.wire_pointer.StructSize.{StructSize}
 use Rattle.capnp_making.specs.Stored.{IsStored}
 use Rattle.capnp_widening.specs.declared.remaking.ElementRows.{ElementRows}
 use Rattle.capnp_widening.specs.declared.widening.Room.{Room}
-use Rattle.capnp_widening.specs.RowsRemade.{RowsInside, rows_in, as_structs, StoresRows, BecomesList, RemakesRows, LeavesRows}
-use Rattle.capnp_widening.specs.Widened.{GrowsByZeros}
+use Rattle.capnp_widening.specs.RowsRemade.{RowsInside, rows_in, as_structs, StoresRows, BecomesList, RemakesList}
+use Rattle.capnp_widening.specs.Widened.{GrowsByZeros, LeavesAll}
 use Rattle.capnp_widening.proofs.ListSteps.{ListSteps, ListUndone, list_at, same_size, struct_rows, structs_stored, structs_become, structs_left}
 use Rattle.capnp_widening.proofs.PointerSteps.{pointer_rows, pointers_stored, pointers_become, pointers_left, void_rows, void_stored, void_become, void_left}
 
@@ -18,7 +18,7 @@ same_rows x y e = cc
 pub no_rows : (x : ElementRows) → None ≡ Some x → ⊥
 no_rows x e = cc
 
-pub rows_remade : (S T B D P R Z Q : Segments) (id at : ℕ) (old : ElementRows) (size : StructSize) (h : Room) → ListSteps S T B D P R Z Q id at old size h → RemakesRows S Q id at old size (list_at h size old.count)
+pub rows_remade : (S T B D P R Z Q : Segments) (id at : ℕ) (old : ElementRows) (size : StructSize) (h : Room) → ListSteps S T B D P R Z Q id at old size h → RemakesList (StoresRows S id at old) S Q id at size (list_at h size old.count)
 rows_remade S T B D P R Z Q id at old size h s = λ t i. go t i.0 i.1
   where
     go : (t : Tree) → IsStored S id at t → rows_in (target S id at) t ≡ Some old → BecomesList S Q id at t (as_structs size t) (list_at h size old.count)
@@ -39,7 +39,7 @@ rows_remade S T B D P R Z Q id at old size h s = λ t i. go t i.0 i.1
         subst (λ o. BecomesList S Q id at (Pointers ts) (as_structs size (Pointers ts)) (list_at h size o.count)) same
         (pointers_become S T B D P R Z Q id at ts size h x (subst (λ o. ListSteps S T B D P R Z Q id at o size h) (sym same) s))
 
-pub rows_left : (S T B D P U Z : Segments) (id at : ℕ) (old : ElementRows) (size : StructSize) (h : Room) → ListUndone S T B D P U Z id old size h → LeavesRows S Z id at old
+pub rows_left : (S T B D P U Z : Segments) (id at : ℕ) (old : ElementRows) (size : StructSize) (h : Room) → ListUndone S T B D P U Z id old size h → LeavesAll (StoresRows S id at old) S Z
 rows_left S T B D P U Z id at old size h s = λ t i. go t i.0 i.1
   where
     go : (t : Tree) → IsStored S id at t → rows_in (target S id at) t ≡ Some old → GrowsByZeros S Z
@@ -55,7 +55,7 @@ rows_left S T B D P U Z id at old size h s = λ t i. go t i.0 i.1
     go (Pointers ts) x e = pointers_left S T B D P U Z id at ts size h x (subst (λ o. ListUndone S T B D P U Z id o size h) (sym (same_rows (pointer_rows S id at ts) old e)) s)
 
 -- its words lie in their segment
-pub rows_inside : (S : Segments) (id at : ℕ) (t : Tree) (old : ElementRows) → StoresRows S id at t old → RowsInside S old
+pub rows_inside : (S : Segments) (id at : ℕ) (t : Tree) (old : ElementRows) → StoresRows S id at old t → RowsInside S old
 rows_inside S id at t old h = go t h.0 h.1
   where
     go : (u : Tree) → IsStored S id at u → rows_in (target S id at) u ≡ Some old → RowsInside S old

@@ -13,6 +13,7 @@ pub mod Listed
 pub mod ListsWidened
 pub mod Moves
 pub mod Movings
+pub mod NewObjects
 pub mod NewRows
 pub mod NumberLists
 pub mod NumberSteps

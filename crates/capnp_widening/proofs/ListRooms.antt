@@ -12,9 +12,9 @@ use Rattle.capnp_words.specs.declared.wire_pointer.StructSize.{StructSize}
 use Rattle.capnp_making.specs.declared.existing.ExistingList.{ExistingList}
 use Rattle.capnp_making.specs.Memory.{HasRoom}
 use Rattle.capnp_making.specs.Near.{HasOwnRoom}
-use Rattle.capnp_making.specs.Made.{zero_elements}
+use Rattle.capnp_making.specs.Made.{structs_words, zero_elements}
 use Rattle.capnp_widening.specs.declared.remaking.ElementRows.{ElementRows}
-use Rattle.capnp_widening.specs.Rooms.{GrowsByAtMost, widened_words, direct_pointers, HasRoomFor, RemadeRowsFit, GrowsForRows}
+use Rattle.capnp_widening.specs.Rooms.{GrowsByAtMost, widened_words, direct_pointers, HasRoomFor, RemadeRowsFit}
 use Rattle.capnp_widening.specs.RowsRemade.{StoresRows, IsList}
 use Rattle.capnp_widening.specs.Widened.{fill_elements, struct_for_each, struct_for_each_tree, limited, list_widened}
 use Rattle.capnp_widening.proofs.Listed.{structs_widen}
@@ -32,12 +32,12 @@ limited_to n t u e = by_test (nat_lt n (2 ^ 29)) e
 
 -- what becomes of a list, by the rows that it is
 pub record AreRows (S : Segments) (s p : ℕ) (t u : Tree) (rows : ElementRows) (size : StructSize) : Type 0 where
-  pub has : StoresRows S s p t rows
+  pub has : StoresRows S s p rows t
   pub there : (target S s p).segment ≡ rows.segment
   pub words : widened_words u ≡ 1 + rows.count * (size.data_words + size.pointers)
   pub pointers : direct_pointers t ≡ rows.count * rows.size.pointers
 
-pub pointers_are : (S : Segments) (s p : ℕ) (t u : Tree) (l : ExistingList) (size wide : StructSize) → size_number l.size ≡ 6 → wide.data_words ≡ size.data_words → wide.pointers ≡ max 1 size.pointers → IsList S s p t l →
+pub pointers_are : (S : Segments) (s p : ℕ) (t u : Tree) (l : ExistingList) (size wide : StructSize) → size_number l.size ≡ 6 → wide.data_words ≡ size.data_words → wide.pointers ≡ max 1 size.pointers → IsList S s p l t →
     list_widened size.data_words size.pointers t ≡ Ok u → AreRows S s p t u (pointers_of l) wide
 pointers_are S s p t u l size wide is wd wp i e =
     let k = are_pointers S s p t l is i in
@@ -52,7 +52,7 @@ pointers_are S s p t u l size wide is wd wp i e =
       pointers = ap direct_pointers k.tree_of ∙ omega (arith, n);
     }
 
-pub void_are : (S : Segments) (s p n : ℕ) (t u : Tree) (l : ExistingList) (size : StructSize) → size_number l.size ≡ 0 → ((a : Target) → leads S s p ≡ Some a → n ≡ list_count a.word) → IsList S s p t l →
+pub void_are : (S : Segments) (s p n : ℕ) (t u : Tree) (l : ExistingList) (size : StructSize) → size_number l.size ≡ 0 → ((a : Target) → leads S s p ≡ Some a → n ≡ list_count a.word) → IsList S s p l t →
     list_widened size.data_words size.pointers t ≡ Ok u → AreRows S s p t u (void_of l n) size
 void_are S s p n t u l size is counts i e =
     let k = are_void S s p n t l is counts i in
@@ -67,7 +67,7 @@ void_are S s p n t u l size is counts i e =
     }
 
 pub structs_are : (S : Segments) (s p : ℕ) (t u : Tree) (l : ExistingList) (size wide : StructSize) → size_number l.size ≡ 7 → (size.data_words ≤ l.struct_size.data_words → size.pointers ≤ l.struct_size.pointers → ⊥) →
-    wide.data_words ≡ max l.struct_size.data_words size.data_words → wide.pointers ≡ max l.struct_size.pointers size.pointers → IsList S s p t l → list_widened size.data_words size.pointers t ≡ Ok u →
+    wide.data_words ≡ max l.struct_size.data_words size.data_words → wide.pointers ≡ max l.struct_size.pointers size.pointers → IsList S s p l t → list_widened size.data_words size.pointers t ≡ Ok u →
     AreRows S s p t u (rows_of l) wide
 structs_are S s p t u l size wide is narrow wd wp i e =
     let k = are_structs S s p t l is i in
@@ -89,7 +89,7 @@ pub rows_fit : (v : View) (s p : ℕ) (t u : Tree) (rows : ElementRows) (size : 
 rows_fit v s p t u rows size r (inl fits) = inl (subst (λ m. HasRoom v s m) (ap₂ (λ x y. x + 2 * y) r.words r.pointers) fits)
 rows_fit v s p t u rows size r (inr (here, fits)) = inr (sym r.there ∙ here, subst (λ m. HasOwnRoom v s m) r.words fits)
 
-pub rows_few : (S R : Segments) (s p : ℕ) (t u : Tree) (rows : ElementRows) (size : StructSize) → AreRows S s p t u rows size → GrowsForRows S R rows size → GrowsByAtMost S R (widened_words u + 1 + 2 * direct_pointers t)
+pub rows_few : (S R : Segments) (s p : ℕ) (t u : Tree) (rows : ElementRows) (size : StructSize) → AreRows S s p t u rows size → GrowsByAtMost S R (structs_words rows.count size + 1 + 2 * (rows.count * rows.size.pointers)) → GrowsByAtMost S R (widened_words u + 1 + 2 * direct_pointers t)
 rows_few S R s p t u rows size r few = subst (λ m. GrowsByAtMost S R m) (sym (ap₂ (λ x y. x + 1 + 2 * y) r.words r.pointers)) few
 
 -- no room is that large
@@ -103,7 +103,7 @@ rows_small v s rows size small (inr (here, fits)) = omega (arith, fits, small s)
 
 -- numbers have no pointers
 pub numbers_take : (S : Segments) (s p : ℕ) (t u : Tree) (l : ExistingList) (size wide : StructSize) → 2 ≤ size_number l.size → size_number l.size ≤ 5 → wide.data_words ≡ max 1 size.data_words → wide.pointers ≡ size.pointers →
-    IsList S s p t l → list_widened size.data_words size.pointers t ≡ Ok u → (widened_words u ≡ 1 + l.count * (wide.data_words + wide.pointers)) × (direct_pointers t ≡ 0)
+    IsList S s p l t → list_widened size.data_words size.pointers t ≡ Ok u → (widened_words u ≡ 1 + l.count * (wide.data_words + wide.pointers)) × (direct_pointers t ≡ 0)
 numbers_take S s p t u l size wide two five wd wp i e =
     let k = are_numbers S s p t l five i in
     let d = size.data_words in

@@ -15,7 +15,7 @@ use Rattle.capnp_making.specs.Existing.{list_in}
 use Rattle.capnp_making.specs.Memory.{KeepsMemory}
 use Rattle.capnp_making.specs.Stored.{IsStored}
 use Rattle.capnp_making.specs.Makes.{call_at, CallAt}
-use Rattle.capnp_widening.specs.Opening.{Opens, OpensExistingList, HasSections, HasWideStructs, LeadsToAll, refusal_of_words, refusal_of_elements}
+use Rattle.capnp_widening.specs.Opening.{Opens, OpensExistingList, HasSections, LeadsToAll, refusal_of_words, refusal_of_elements}
 use Rattle.capnp_widening.specs.Rooms.{GrowsForList}
 use Rattle.capnp_widening.specs.RowsRemade.{WidensList, LeadsToWiderList, RefusesWider}
 use Rattle.capnp_widening.specs.Widened.{fill_elements, LeavesAll, limited, list_widened}
@@ -23,6 +23,10 @@ use Rattle.capnp_widening.proofs.Listed.{same_list, no_list, not_a_list, structs
 use Rattle.capnp_widening.proofs.PlainLists.{are_numbers, are_pointers}
 use Rattle.capnp_widening.proofs.StructLists.{are_structs}
 use Rattle.capnp_widening.proofs.StructsOpened.{stands_grown}
+
+-- A list that is found is one of structs with sections of at least a size.
+abbrev pub HasWideStructs : StructSize → ExistingList → Type 0
+HasWideStructs size l = (l.size ≡ InlineComposite) × (size.data_words ≤ l.struct_size.data_words) × (size.pointers ≤ l.struct_size.pointers)
 
 -- what isn't null
 not_null : (a : ExistingList) (S : Segments) (s p : ℕ) (t : Tree) → list_in (target S s p) Void t ≡ Ok (Some a) → t ≡ Null → ⊥
@@ -104,9 +108,9 @@ pub record Widens (a b : View) (s p : ℕ) (size : StructSize) (r : Result (Opti
   pub widened : OnOk r (WidensList a.words b.words s p size)
   pub leads : IfOk r (LeadsToWiderList a.words b.words s p size)
   pub granted : OnOk r (KeepsMemory a b)
-  pub refused : OnErr r (LeavesAll a.words b.words s p)
-  pub named : IfErr r (RefusesWider a b s p size)
-  pub few : GrowsForList a.words b.words s p size
+  pub refused : OnErr r (LeavesAll (IsStored a.words s p) a.words b.words)
+  pub named : IfErr r (RefusesWider (IsStored a.words s p) size a b)
+  pub few : GrowsForList (IsStored a.words s p) a.words b.words size
 
 pub list_made : (a b : View) (s p : ℕ) (t : Tree) (l : ExistingList) (size : StructSize) (r : Result (Option ExistingList) ErrorKind) → IsStored a.words s p t → list_in (target a.words s p) Void t ≡ Ok (Some l) → (HasWideStructs size l → ⊥) →
     None ≡ refusal_of_elements size l.size l.struct_size l.count → Widens a b s p size r → OpensExistingList size r (call_at s p a b) t

@@ -9,15 +9,16 @@ use Rattle.capnp_format.specs.Means.{ListAt, IsTag, count_cost, Means, MeansAll,
 use Rattle.capnp_format.specs.Forest.{Interval, times, pads_of, object_of, target, target_in, cover, cover_all, cover_elements, AreTidy, AreTidyElements}
 use Rattle.capnp_making.specs.Path.{struct_at, word_interval, extent}
 use Rattle.capnp_making.specs.Stored.{IsStored, IsReplaced}
-use Rattle.capnp_widening.specs.Moved.{IsMoved, pads_from, pads_in_rows, IsRehoused}
+use Rattle.capnp_widening.specs.Moved.{IsMoved}
 use Rattle.capnp_making.specs.Made.{nulls, words_of_zero, zero_elements}
-use Rattle.capnp_widening.specs.Widened.{struct_data_words, fill_words, fill_trees, struct_for_each, struct_for_each_tree}
+use Rattle.capnp_widening.specs.Widened.{fill_words, fill_trees, struct_for_each, struct_for_each_tree}
 use Rattle.capnp_format.proofs.Frame.{SameWords, times-append, frame_all, frame_elements}
 use Rattle.capnp_making.proofs.Extents.{times-first, times-object}
 use Rattle.capnp_making.proofs.Tidy.{tidy_kept_all, tidy_kept_elements}
 use Rattle.capnp_widening.proofs.SameObjects.{moved_mean}
 use Rattle.capnp_widening.proofs.Rehoused.{Parts, grows_first, grows_last, inner_agrees, object_stands, reached_stands, rehoused}
 use Rattle.capnp_widening.proofs.Widenings.{count-nulls, count-fill_trees, length-fill_words, nulls_mean, filled, at_position, moved_at}
+use Rattle.capnp_widening.proofs.NewObjects.{IsRehoused, pads_from, pads_in_rows, struct_data_words}
 
 -- elements that stand in M; what their pointers reach is what the old ones reached, but for the pads
 pub record RowsStand (M : Segments) (n v r d q : ℕ) (fs : Elements) (inner before after : List Interval) : Type 0 where

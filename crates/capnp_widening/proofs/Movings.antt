@@ -13,9 +13,10 @@ use Rattle.capnp_making.specs.Path.{word_interval}
 use Rattle.capnp_making.specs.Zeroed.{row}
 use Rattle.capnp_making.proofs.Zeros.{in_row}
 use Rattle.capnp_making.proofs.Extents.{once_held, times-first}
-use Rattle.capnp_widening.specs.Moved.{Move, a_move, row_of_moves, old_places, new_places, old_pads, new_pads, own_pads, fresh_pads, IsMoved, Extends, HasValueInside, HaveValuesInside, AllMoved, CanMove, AreMoved, Moves, MovesSome, pads_from}
+use Rattle.capnp_widening.specs.Moved.{Move, a_move, row_of_moves, old_places, new_places, fresh_pads, IsMoved, Extends, HasValueInside, HaveValuesInside, AllMoved, CanMove, AreMoved, Moves, MovesSome}
 use Rattle.capnp_widening.proofs.Moves.{moved_kept}
 use Rattle.capnp_widening.proofs.Single.{old_pads_inside}
+use Rattle.capnp_widening.proofs.NewObjects.{pads_from, old_pads, new_pads, own_pads}
 
 -- lists of moves, one behind the other
 

@@ -8,7 +8,7 @@ use Rattle.capnp_making.specs.Made.{IsGrown, words_of_zero}
 use Rattle.capnp_making.specs.Zeroed.{row}
 use Rattle.capnp_making.proofs.BelowElements.{element_within}
 use Rattle.capnp_making.proofs.Zeros.{of_row}
-use Rattle.capnp_widening.specs.Moved.{row_of_moves, rows_of_moves, new_places, old_pads, new_pads, fresh_pads, pads_from, pads_in_rows, IsMoved, IsRehoused, HaveValuesInside}
+use Rattle.capnp_widening.specs.Moved.{row_of_moves, rows_of_moves, new_places, fresh_pads, IsMoved, HaveValuesInside}
 use Rattle.capnp_widening.proofs.Basics.{once_row}
 use Rattle.capnp_widening.proofs.ListRemade.{rows_place, beside_rows}
 use Rattle.capnp_widening.proofs.Movings.{same_old, same_new}
@@ -16,6 +16,7 @@ use Rattle.capnp_widening.proofs.Remade.{IsRemade, before_last, is_rehoused, all
 use Rattle.capnp_widening.proofs.Rows.{rows_moved, rows_old_pads, rows_new_pads, rows_new_places}
 use Rattle.capnp_widening.proofs.RowsCopied.{beside_row}
 use Rattle.capnp_widening.proofs.StructRemade.{words_by_each, zeros_at}
+use Rattle.capnp_widening.proofs.NewObjects.{IsRehoused, pads_from, pads_in_rows, old_pads, new_pads}
 
 -- words are taken for a list, and its tag and the data of its rows are written into them
 pub list_begun : (S T D : Segments) (s p w k n wd wk v at pads : ℕ) → HaveValuesInside S (rows_of_moves s p w v (at + pads + 1 + wd) (wd + wk) k n) → k ≤ wk → IsGrown S T v at (pads + (1 + n * (wd + wk))) →

@@ -31,7 +31,7 @@ pub record NumbersMade (S T B D R Z Q : Segments) (id at : ℕ) (old : ExistingL
   pub pads_zeroed : PadsInside Z (word_at S id at) → IsZeroed Z Q (pads_of (word_at S id at))
 
 pub numbers_made : (S T B D R Z Q : Segments) (id at : ℕ) (old : ExistingList) (size : StructSize) (h : Room) → 2 ≤ size_number old.size → size_number old.size ≤ 5 → 0 < size.data_words → NumbersMade S T B D R Z Q id at old size h →
-    RemakesList S Q id at old size (list_at h size old.count)
+    RemakesList (IsList S id at old) S Q id at size (list_at h size old.count)
 numbers_made S T B D R Z Q id at old size h two five some s = λ t i.
     (let k = are_numbers S id at t old five i in
     let w = size_number old.size in
@@ -58,7 +58,7 @@ numbers_made S T B D R Z Q id at old size h two five some s = λ t i.
     subst (λ u. BecomesList S Q id at u (as_structs size u) (list_at h size old.count)) (sym k.tree_of) counted)
 
 -- its words lie in their segment
-pub numbers_inside : (S : Segments) (id at : ℕ) (t : Tree) (l : ExistingList) → size_number l.size ≤ 5 → IsList S id at t l → NumbersInside S l
+pub numbers_inside : (S : Segments) (id at : ℕ) (t : Tree) (l : ExistingList) → size_number l.size ≤ 5 → IsList S id at l t → NumbersInside S l
 numbers_inside S id at t l five i =
     let k = are_numbers S id at t l five i in
     let w = size_number l.size in

@@ -20,7 +20,7 @@ use Rattle.capnp_making.proofs.MadeWords.{word_put, outside}
 use Rattle.capnp_making.proofs.Zeros.{of_row}
 use Rattle.capnp_widening.specs.declared.widening.Room.{Room}
 use Rattle.capnp_widening.specs.Housed.{IsRoom, Settles}
-use Rattle.capnp_widening.specs.Moved.{rows_of_moves, pads_in_rows, fresh_pads, IsRehoused, Moves}
+use Rattle.capnp_widening.specs.Moved.{rows_of_moves, fresh_pads, Moves}
 use Rattle.capnp_widening.specs.RowsRemade.{IsTagWritten, BecomesList, AreNumbersCopied}
 use Rattle.capnp_widening.specs.Widened.{fill_words, struct_for_each}
 use Rattle.capnp_widening.proofs.ListSteps.{object_remade, found_there, list_at}
@@ -34,6 +34,7 @@ use Rattle.capnp_widening.proofs.Rows.{no_moves}
 use Rattle.capnp_widening.proofs.RowsCopied.{beside_row}
 use Rattle.capnp_widening.proofs.StructRemade.{words_by_each, filled_at, filled_past}
 use Rattle.capnp_widening.proofs.Widenings.{length-fill_words}
+use Rattle.capnp_widening.proofs.NewObjects.{IsRehoused, pads_in_rows}
 
 pub no_numbers_copied : (S : Segments) (s p width v r z : ℕ) → AreNumbersCopied S S s p width v r z 0
 no_numbers_copied S s p width v r z = record { segments = refl; words = λ x. refl; here = λ i l. absurd (omega arith); behind = λ i j l m o. refl; kept = λ x y e. refl }

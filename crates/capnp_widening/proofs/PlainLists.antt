@@ -13,8 +13,8 @@ use Rattle.capnp_making.specs.Existing.{list_in, plain_list}
 use Rattle.capnp_making.specs.Made.{words_of_zero, nulls, zero_elements}
 use Rattle.capnp_making.specs.Stored.{IsStored}
 use Rattle.capnp_widening.specs.declared.remaking.ElementRows.{ElementRows}
-use Rattle.capnp_widening.specs.RowsRemade.{rows_in, as_structs, StoresRows, BecomesList, RemakesRows, RemakesList, LeavesRows, IsList, WidensTo, LeavesList}
-use Rattle.capnp_widening.specs.Widened.{struct_for_each, struct_for_each_tree, limited, list_widened}
+use Rattle.capnp_widening.specs.RowsRemade.{rows_in, as_structs, StoresRows, BecomesList, RemakesList, IsList, WidensTo}
+use Rattle.capnp_widening.specs.Widened.{struct_for_each, struct_for_each_tree, limited, list_widened, LeavesAll}
 use Rattle.capnp_widening.proofs.Described.{counted}
 use Rattle.capnp_widening.proofs.Filled.{greater_words, greater_trees}
 use Rattle.capnp_widening.proofs.Listed.{same_list, flat_width, flat_found, number_of_size, listed_size, tree_size, few_enough, refused_for_any}
@@ -26,7 +26,7 @@ pub record ArePointers (S : Segments) (s p : ℕ) (t : Tree) (l : ExistingList) 
   pub tree_of : t ≡ Pointers children
   pub list : l ≡ plain_list (target S s p) Pointer (count children)
 
-pub are_pointers : (S : Segments) (s p : ℕ) (t : Tree) (l : ExistingList) → size_number l.size ≡ 6 → IsList S s p t l → ArePointers S s p t l
+pub are_pointers : (S : Segments) (s p : ℕ) (t : Tree) (l : ExistingList) → size_number l.size ≡ 6 → IsList S s p l t → ArePointers S s p t l
 are_pointers S s p t l is (x, e) = go t x e
   where
     other : (u : Tree) → IsStored S s p u → list_in (target S s p) Void u ≡ Ok (Some l) → (tree_size u ≡ 6 → ⊥) → ArePointers S s p u l
@@ -43,7 +43,7 @@ are_pointers S s p t l is (x, e) = go t x e
 abbrev pub pointers_of : ExistingList → ElementRows
 pointers_of l = record { segment = l.segment; at = l.start; tag = 0; size = record { data_words = 0; pointers = 1 }; count = l.count }
 
-pub has_pointers : (S : Segments) (s p : ℕ) (t : Tree) (l : ExistingList) → ArePointers S s p t l → IsStored S s p t → StoresRows S s p t (pointers_of l)
+pub has_pointers : (S : Segments) (s p : ℕ) (t : Tree) (l : ExistingList) → ArePointers S s p t l → IsStored S s p t → StoresRows S s p (pointers_of l) t
 has_pointers S s p t l k x = (x, ap (rows_in (target S s p)) k.tree_of ∙ ap Some (sym (ap pointers_of k.list)))
 
 first_pointers : (d k : ℕ) (ts : Trees) → struct_for_each_tree d (max 1 k) ts ≡ struct_for_each_tree d k ts
@@ -52,7 +52,7 @@ first_pointers d k (tree t ts) =
     ap₂ (λ us es. element (words_of_zero d) us es) (greater_trees k (tree t no_trees)) (first_pointers d k ts)
 
 pub pointers_widened_to : (S R : Segments) (s p : ℕ) (l m : ExistingList) (size wide : StructSize) → size_number l.size ≡ 6 → wide.data_words ≡ size.data_words → wide.pointers ≡ max 1 size.pointers →
-    l.count * (wide.data_words + wide.pointers) < 2 ^ 29 → RemakesRows S R s p (pointers_of l) wide m → WidensTo S R s p l size m
+    l.count * (wide.data_words + wide.pointers) < 2 ^ 29 → RemakesList (StoresRows S s p (pointers_of l)) S R s p wide m → WidensTo S R s p l size m
 pointers_widened_to S R s p l m size wide is wd wp few made = λ t i.
     (let k = are_pointers S s p t l is i in
     let d = size.data_words in
@@ -67,11 +67,11 @@ pointers_widened_to S R s p l m size wide is wd wp few made = λ t i.
       subst (λ z. BecomesList S R s p t z m) same (made t (has_pointers S s p t l k i.0)),
     ))
 
-pub pointers_left_as : (S R : Segments) (s p : ℕ) (l : ExistingList) → size_number l.size ≡ 6 → LeavesRows S R s p (pointers_of l) → LeavesList S R s p l
+pub pointers_left_as : (S R : Segments) (s p : ℕ) (l : ExistingList) → size_number l.size ≡ 6 → LeavesAll (StoresRows S s p (pointers_of l)) S R → LeavesAll (IsList S s p l) S R
 pointers_left_as S R s p l is left = λ t i. left t (has_pointers S s p t l (are_pointers S s p t l is i) i.0)
 
 pub pointers_refused : (S : Segments) (s p : ℕ) (l : ExistingList) (size wide : StructSize) (k : ErrorKind) → size_number l.size ≡ 6 → wide.data_words ≡ size.data_words → wide.pointers ≡ max 1 size.pointers →
-    ((t : Tree) → StoresRows S s p t (pointers_of l) → limited (l.count * (wide.data_words + wide.pointers)) (as_structs wide t) ≡ Err k) → (t : Tree) → IsList S s p t l → list_widened size.data_words size.pointers t ≡ Err k
+    ((t : Tree) → StoresRows S s p (pointers_of l) t → limited (l.count * (wide.data_words + wide.pointers)) (as_structs wide t) ≡ Err k) → (t : Tree) → IsList S s p l t → list_widened size.data_words size.pointers t ≡ Err k
 pointers_refused S s p l size wide k is wd wp refused = λ t i.
     (let c = are_pointers S s p t l is i in
     let d = size.data_words in
@@ -88,7 +88,7 @@ pub record AreNumbers (S : Segments) (s p : ℕ) (t : Tree) (l : ExistingList) :
   pub tree_of : t ≡ Flat (size_number l.size) numbers
   pub list : l ≡ plain_list (target S s p) l.size (length numbers)
 
-pub are_numbers : (S : Segments) (s p : ℕ) (t : Tree) (l : ExistingList) → size_number l.size ≤ 5 → IsList S s p t l → AreNumbers S s p t l
+pub are_numbers : (S : Segments) (s p : ℕ) (t : Tree) (l : ExistingList) → size_number l.size ≤ 5 → IsList S s p l t → AreNumbers S s p t l
 are_numbers S s p t l is (x, e) = go t x e
   where
     other : (u : Tree) → IsStored S s p u → list_in (target S s p) Void u ≡ Ok (Some l) → (tree_size u ≤ 5 → ⊥) → AreNumbers S s p u l
@@ -112,9 +112,9 @@ pub record AreVoid (S : Segments) (s p : ℕ) (t : Tree) (l : ExistingList) (n :
   pub numbers : List ℕ
   pub tree_of : t ≡ Flat 0 numbers
   pub counts : n ≡ length numbers
-  pub has : StoresRows S s p t (void_of l n)
+  pub has : StoresRows S s p (void_of l n) t
 
-pub are_void : (S : Segments) (s p n : ℕ) (t : Tree) (l : ExistingList) → size_number l.size ≡ 0 → ((a : Target) → leads S s p ≡ Some a → n ≡ list_count a.word) → IsList S s p t l → AreVoid S s p t l n
+pub are_void : (S : Segments) (s p n : ℕ) (t : Tree) (l : ExistingList) → size_number l.size ≡ 0 → ((a : Target) → leads S s p ≡ Some a → n ≡ list_count a.word) → IsList S s p l t → AreVoid S s p t l n
 are_void S s p n t l is count i =
     let k = are_numbers S s p t l (omega (arith, is)) i in
     let is_tree : t ≡ Flat 0 k.numbers = k.tree_of ∙ ap (λ w. Flat w k.numbers) is in
@@ -127,7 +127,7 @@ are_void S s p n t l is count i =
     }
 
 pub void_widened_to : (S R : Segments) (s p n : ℕ) (l m : ExistingList) (size : StructSize) → size_number l.size ≡ 0 → ((a : Target) → leads S s p ≡ Some a → n ≡ list_count a.word) →
-    n * (size.data_words + size.pointers) < 2 ^ 29 → RemakesRows S R s p (void_of l n) size m → WidensTo S R s p l size m
+    n * (size.data_words + size.pointers) < 2 ^ 29 → RemakesList (StoresRows S s p (void_of l n)) S R s p size m → WidensTo S R s p l size m
 void_widened_to S R s p n l m size is count few made = λ t i.
     (let k = are_void S s p n t l is count i in
     let d = size.data_words in
@@ -138,11 +138,11 @@ void_widened_to S R s p n l m size is count few made = λ t i.
       subst (λ z. BecomesList S R s p t z m) (ap (as_structs size) k.tree_of) (made t k.has),
     ))
 
-pub void_left_as : (S R : Segments) (s p n : ℕ) (l : ExistingList) → size_number l.size ≡ 0 → ((a : Target) → leads S s p ≡ Some a → n ≡ list_count a.word) → LeavesRows S R s p (void_of l n) → LeavesList S R s p l
+pub void_left_as : (S R : Segments) (s p n : ℕ) (l : ExistingList) → size_number l.size ≡ 0 → ((a : Target) → leads S s p ≡ Some a → n ≡ list_count a.word) → LeavesAll (StoresRows S s p (void_of l n)) S R → LeavesAll (IsList S s p l) S R
 void_left_as S R s p n l is count left = λ t i. left t (are_void S s p n t l is count i).has
 
 pub void_refused : (S : Segments) (s p n : ℕ) (l : ExistingList) (size : StructSize) (k : ErrorKind) → size_number l.size ≡ 0 → ((a : Target) → leads S s p ≡ Some a → n ≡ list_count a.word) →
-    ((t : Tree) → StoresRows S s p t (void_of l n) → limited (n * (size.data_words + size.pointers)) (as_structs size t) ≡ Err k) → (t : Tree) → IsList S s p t l → list_widened size.data_words size.pointers t ≡ Err k
+    ((t : Tree) → StoresRows S s p (void_of l n) t → limited (n * (size.data_words + size.pointers)) (as_structs size t) ≡ Err k) → (t : Tree) → IsList S s p l t → list_widened size.data_words size.pointers t ≡ Err k
 void_refused S s p n l size k is count refused = λ t i.
     (let c = are_void S s p n t l is count i in
     ap (list_widened size.data_words size.pointers) c.tree_of
@@ -163,7 +163,7 @@ numbers_as_structs size zero ns l = absurd (omega arith)
 numbers_as_structs size (suc w) ns l = refl
 
 pub numbers_widened_to : (S R : Segments) (s p : ℕ) (l m : ExistingList) (size wide : StructSize) → 2 ≤ size_number l.size → size_number l.size ≤ 5 → wide.data_words ≡ max 1 size.data_words → wide.pointers ≡ size.pointers →
-    l.count * (wide.data_words + wide.pointers) < 2 ^ 29 → RemakesList S R s p l wide m → WidensTo S R s p l size m
+    l.count * (wide.data_words + wide.pointers) < 2 ^ 29 → RemakesList (IsList S s p l) S R s p wide m → WidensTo S R s p l size m
 numbers_widened_to S R s p l m size wide two five wd wp few made = λ t i.
     (let k = are_numbers S s p t l five i in
     let w = size_number l.size in
@@ -181,7 +181,7 @@ numbers_widened_to S R s p l m size wide two five wd wp few made = λ t i.
 
 -- so many words are too many
 pub numbers_refused : (S : Segments) (s p : ℕ) (l : ExistingList) (size wide : StructSize) (k : ErrorKind) → 2 ≤ size_number l.size → size_number l.size ≤ 5 → wide.data_words ≡ max 1 size.data_words → wide.pointers ≡ size.pointers →
-    ((t : Tree) → limited (l.count * (wide.data_words + wide.pointers)) t ≡ Err k) → (t : Tree) → IsList S s p t l → list_widened size.data_words size.pointers t ≡ Err k
+    ((t : Tree) → limited (l.count * (wide.data_words + wide.pointers)) t ≡ Err k) → (t : Tree) → IsList S s p l t → list_widened size.data_words size.pointers t ≡ Err k
 numbers_refused S s p l size wide k two five wd wp refused = λ t i.
     (let c = are_numbers S s p t l five i in
     let d = size.data_words in

@@ -14,7 +14,7 @@ use Rattle.capnp_making.proofs.BelowElements.{element_within}
 use Rattle.capnp_making.proofs.Extents.{times-first, times-object}
 use Rattle.capnp_widening.specs.declared.remaking.ElementRows.{ElementRows}
 use Rattle.capnp_widening.specs.declared.widening.Room.{Room}
-use Rattle.capnp_widening.specs.Moved.{rows_of_moves, pads_in_rows, fresh_pads, IsMoved, IsRehoused, HaveValuesInside, Moves, MovesSome, Unmoves}
+use Rattle.capnp_widening.specs.Moved.{rows_of_moves, fresh_pads, IsMoved, HaveValuesInside, Moves, MovesSome, Unmoves}
 use Rattle.capnp_widening.specs.RowsRemade.{AreRowsCopied, BecomesList, as_structs}
 use Rattle.capnp_widening.specs.Widened.{struct_for_each_tree, GrowsByZeros}
 use Rattle.capnp_widening.proofs.ListSteps.{ListSteps, ListUndone, ObjectStored, object_remade, found_there, list_at}
@@ -23,6 +23,7 @@ use Rattle.capnp_widening.proofs.Movings.{children_stand}
 use Rattle.capnp_widening.proofs.NewRows.{list_begun, rows_last, new_rows, rows_rehoused, zeros_there, pads_in_words, no_pads, stand_in_rows, none_stand}
 use Rattle.capnp_widening.proofs.Remade.{leads_last, undone}
 use Rattle.capnp_widening.proofs.RowsCopied.{data_copied, tag_copied, list_written}
+use Rattle.capnp_widening.proofs.NewObjects.{IsRehoused, pads_in_rows}
 
 abbrev pub pointer_rows : Segments → ℕ → ℕ → Trees → ElementRows
 pointer_rows S id at ts = record { segment = (target S id at).segment; at = (target S id at).start; tag = 0; size = record { data_words = 0; pointers = 1 }; count = count ts }

@@ -8,10 +8,10 @@ use Rattle.capnp_format.specs.Means.{Means}
 use Rattle.capnp_format.specs.Forest.{Interval, times, pads_of, object_of, IsTidy}
 use Rattle.capnp_making.specs.Path.{word_interval, extent}
 use Rattle.capnp_making.specs.Stored.{IsStored, IsReplaced}
-use Rattle.capnp_widening.specs.Moved.{IsRehoused}
 use Rattle.capnp_format.proofs.Following.{Grows}
 use Rattle.capnp_format.proofs.Frame.{Agree, SameWords, times-append}
 use Rattle.capnp_making.proofs.Extents.{times-first}
+use Rattle.capnp_widening.proofs.NewObjects.{IsRehoused}
 
 other_word : (u q x y : ℕ) → times (word_interval u q ∷ []) x y ≡ 0 → (x ≢ u) ⊎ (y ≢ q)
 other_word u q x y h = elim (cases_eq x u) [

@@ -14,10 +14,11 @@ use Rattle.capnp_making.proofs.Extents.{times-first}
 use Rattle.capnp_making.proofs.MadeWords.{IsPut, word_put, outside}
 use Rattle.capnp_widening.proofs.Basics.{once_row}
 use Rattle.capnp_making.proofs.Zeros.{in_row, of_row}
-use Rattle.capnp_widening.specs.Moved.{Move, AllMoved, CanMove, AreMoved, Moves, MovesSome, Unmoves, new_places, old_pads, new_pads, fresh_pads, IsRehoused}
+use Rattle.capnp_widening.specs.Moved.{Move, AllMoved, CanMove, AreMoved, Moves, MovesSome, Unmoves, new_places, fresh_pads}
 use Rattle.capnp_widening.specs.Housed.{IsSettled}
 use Rattle.capnp_widening.specs.Widened.{GrowsByZeros}
 use Rattle.capnp_widening.proofs.Movings.{SameMoves, StaysMoved, same_moves, moved_still, all_old_inside, fresh_pads-append, can_left, old_place_inside, unwritten, left_null}
+use Rattle.capnp_widening.proofs.NewObjects.{IsRehoused, old_pads, new_pads}
 
 -- Words are taken in segment v from position at on, for pads and an object of wide words, which is then written; its new pointers are to be moved there.
 pub record IsBegun (S T D : Segments) (v at pads wide : ℕ) (ms : List Move) : Type 0 where

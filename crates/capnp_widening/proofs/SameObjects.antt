@@ -7,10 +7,11 @@ use Rattle.capnp_format.specs.Segments.{Segments, segment, word_at, words_at, Ha
 use Rattle.capnp_format.specs.Tree.{Tree, Null, Capability, Struct, Flat, Pointers, Structs, Trees, no_trees, tree, count, element_count}
 use Rattle.capnp_format.specs.Means.{Leads, StructAt, count_cost, Means, MeansAll}
 use Rattle.capnp_format.specs.Forest.{Interval, times, pads_of, object_of, target, target_in, cover, cover_all, cover_elements, IsTidy, AreTidy, AreTidyElements}
-use Rattle.capnp_widening.specs.Moved.{SameObject, SameStart, same_place, of_no_words, of_capability, IsMoved, pads_from}
+use Rattle.capnp_widening.specs.Moved.{SameObject, SameStart, same_place, of_no_words, of_capability, IsMoved}
 use Rattle.capnp_format.proofs.Following.{IsOffsetTo, offset_at}
 use Rattle.capnp_format.proofs.Frame.{times-append}
 use Rattle.capnp_making.proofs.Extents.{times-object}
+use Rattle.capnp_widening.proofs.NewObjects.{pads_from}
 
 -- where a near word leads, a far word by one pad, and a far word by two
 pub near_leads : (S : Segments) (s p b : ℕ) → word_at S s p ≢ 0 → kind (word_at S s p) ≢ 2 → b ≤ length (segment S s) → IsOffsetTo p (offset_bits (word_at S s p)) b →

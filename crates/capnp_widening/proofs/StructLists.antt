@@ -12,8 +12,8 @@ use Rattle.capnp_making.specs.Existing.{list_in, struct_list}
 use Rattle.capnp_making.specs.Stored.{IsStored}
 use Rattle.capnp_making.proofs.Filling.{unchanged}
 use Rattle.capnp_widening.specs.declared.remaking.ElementRows.{ElementRows}
-use Rattle.capnp_widening.specs.RowsRemade.{rows_in, as_structs, StoresRows, BecomesList, RemakesRows, LeavesRows, IsList, WidensTo, LeavesList}
-use Rattle.capnp_widening.specs.Widened.{fill_elements, limited, list_widened}
+use Rattle.capnp_widening.specs.RowsRemade.{rows_in, as_structs, StoresRows, BecomesList, IsList, WidensTo, RemakesList}
+use Rattle.capnp_widening.specs.Widened.{fill_elements, limited, list_widened, LeavesAll}
 use Rattle.capnp_widening.proofs.Listed.{same_list, flat_width, listed_size, tree_size, few_enough, refused_for_any, filled_to_greater, structs_stay, structs_widen}
 
 -- what a list of structs is, by what is found
@@ -22,7 +22,7 @@ pub record AreStructs (S : Segments) (s p : ℕ) (t : Tree) (l : ExistingList) :
   pub tree : t ≡ Structs l.struct_size.data_words l.struct_size.pointers elements
   pub list : l ≡ struct_list (target S s p) l.struct_size.data_words l.struct_size.pointers (element_count elements)
 
-pub are_structs : (S : Segments) (s p : ℕ) (t : Tree) (l : ExistingList) → size_number l.size ≡ 7 → IsList S s p t l → AreStructs S s p t l
+pub are_structs : (S : Segments) (s p : ℕ) (t : Tree) (l : ExistingList) → size_number l.size ≡ 7 → IsList S s p l t → AreStructs S s p t l
 are_structs S s p t l is (x, e) = go t x e
   where
     other : (u : Tree) → IsStored S s p u → list_in (target S s p) Void u ≡ Ok (Some l) → (tree_size u ≡ 7 → ⊥) → AreStructs S s p u l
@@ -48,7 +48,7 @@ structs_kept S s p l size is wide many = λ t i.
 abbrev pub rows_of : ExistingList → ElementRows
 rows_of l = record { segment = l.segment; at = l.start - 1; tag = 1; size = l.struct_size; count = l.count }
 
-pub has_rows : (S : Segments) (s p : ℕ) (t : Tree) (l : ExistingList) → AreStructs S s p t l → IsStored S s p t → StoresRows S s p t (rows_of l)
+pub has_rows : (S : Segments) (s p : ℕ) (t : Tree) (l : ExistingList) → AreStructs S s p t l → IsStored S s p t → StoresRows S s p (rows_of l) t
 has_rows S s p t l k x =
     let a = target S s p in
     let first : a.start + 1 - 1 ≡ a.start = omega arith in
@@ -58,7 +58,7 @@ has_rows S s p t l k x =
 
 -- it is made anew in the greater of both sizes
 pub structs_widened_to : (S R : Segments) (s p : ℕ) (l m : ExistingList) (size wide : StructSize) → size_number l.size ≡ 7 → (size.data_words ≤ l.struct_size.data_words → size.pointers ≤ l.struct_size.pointers → ⊥) →
-    wide.data_words ≡ max l.struct_size.data_words size.data_words → wide.pointers ≡ max l.struct_size.pointers size.pointers → l.count * (wide.data_words + wide.pointers) < 2 ^ 29 → RemakesRows S R s p (rows_of l) wide m → WidensTo S R s p l size m
+    wide.data_words ≡ max l.struct_size.data_words size.data_words → wide.pointers ≡ max l.struct_size.pointers size.pointers → l.count * (wide.data_words + wide.pointers) < 2 ^ 29 → RemakesList (StoresRows S s p (rows_of l)) S R s p wide m → WidensTo S R s p l size m
 structs_widened_to S R s p l m size wide is narrow wd wp few made = λ t i.
     (let k = are_structs S s p t l is i in
     let e = l.struct_size.data_words in
@@ -75,13 +75,13 @@ structs_widened_to S R s p l m size wide is narrow wd wp few made = λ t i.
       subst (λ z. BecomesList S R s p t z m) same b,
     ))
 
-pub structs_left_as : (S R : Segments) (s p : ℕ) (l : ExistingList) → size_number l.size ≡ 7 → LeavesRows S R s p (rows_of l) → LeavesList S R s p l
+pub structs_left_as : (S R : Segments) (s p : ℕ) (l : ExistingList) → size_number l.size ≡ 7 → LeavesAll (StoresRows S s p (rows_of l)) S R → LeavesAll (IsList S s p l) S R
 structs_left_as S R s p l is left = λ t i. left t (has_rows S s p t l (are_structs S s p t l is i) i.0)
 
 -- so many words are too many
 pub structs_refused : (S : Segments) (s p : ℕ) (l : ExistingList) (size wide : StructSize) (k : ErrorKind) → size_number l.size ≡ 7 → (size.data_words ≤ l.struct_size.data_words → size.pointers ≤ l.struct_size.pointers → ⊥) →
     wide.data_words ≡ max l.struct_size.data_words size.data_words → wide.pointers ≡ max l.struct_size.pointers size.pointers →
-    ((t : Tree) → StoresRows S s p t (rows_of l) → limited (l.count * (wide.data_words + wide.pointers)) (as_structs wide t) ≡ Err k) → (t : Tree) → IsList S s p t l → list_widened size.data_words size.pointers t ≡ Err k
+    ((t : Tree) → StoresRows S s p (rows_of l) t → limited (l.count * (wide.data_words + wide.pointers)) (as_structs wide t) ≡ Err k) → (t : Tree) → IsList S s p l t → list_widened size.data_words size.pointers t ≡ Err k
 structs_refused S s p l size wide k is narrow wd wp refused = λ t i.
     (let c = are_structs S s p t l is i in
     let e = l.struct_size.data_words in

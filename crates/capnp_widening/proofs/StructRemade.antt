@@ -15,12 +15,13 @@ use Rattle.capnp_making.proofs.Extents.{times-first, times-object}
 use Rattle.capnp_widening.proofs.Basics.{once_row}
 use Rattle.capnp_making.proofs.Below.{split_row}
 use Rattle.capnp_making.proofs.Zeros.{in_row}
-use Rattle.capnp_widening.specs.Moved.{IsMoved, row_of_moves, new_places, old_pads, new_pads, fresh_pads, pads_from, HaveValuesInside, IsRehoused}
+use Rattle.capnp_widening.specs.Moved.{IsMoved, row_of_moves, new_places, fresh_pads, HaveValuesInside}
 use Rattle.capnp_widening.specs.Housed.{AreWordsCopied}
 use Rattle.capnp_widening.specs.Widened.{fill_words, fill_trees}
 use Rattle.capnp_widening.proofs.Movings.{children_stand, row_moved, row_old_pads, row_new_pads, row_new_places, same_old, same_new}
 use Rattle.capnp_widening.proofs.Remade.{IsBegun, IsRemade, before_last, is_rehoused, all_moved, moves_same, object_word, leads_last}
 use Rattle.capnp_widening.proofs.Widenings.{struct_widened, length-fill_words, count-fill_trees}
+use Rattle.capnp_widening.proofs.NewObjects.{IsRehoused, pads_from, old_pads, new_pads}
 
 -- words, one by one
 

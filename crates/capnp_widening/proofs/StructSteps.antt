@@ -3,11 +3,12 @@ use Rattle.std.proofs.Common.{ap, ◌∙◌, ◌≡◌, ℕ, ◌+◌, ◌≤◌,
 use Rattle.std.proofs.lemmas.List.{get_or_past}
 use Rattle.capnp_format.specs.Word.{upper_half}
 use Rattle.capnp_format.specs.Segments.{Segments, segment, word_at, IsPlace}
-use Rattle.capnp_format.specs.Tree.{Struct, Trees, count}
+use Rattle.capnp_format.specs.Tree.{Tree, Null, Capability, Struct, Flat, Pointers, Structs, Trees, count}
 use Rattle.capnp_format.specs.Forest.{times, pads_of, object_of, target, target_in, cover, cover_all}
 use Rattle.capnp_format.proofs.Frame.{times-append}
 use Rattle.capnp_words.specs.declared.wire_pointer.StructSize.{StructSize}
 use Rattle.capnp_making.specs.Path.{word_interval}
+use Rattle.capnp_making.specs.Existing.{struct_in}
 use Rattle.capnp_making.specs.Stored.{IsStored, IsReplaced}
 use Rattle.capnp_making.specs.Zeroed.{row, IsZeroed, PadsInside}
 use Rattle.capnp_making.specs.declared.existing.ExistingStruct.{ExistingStruct}
@@ -18,7 +19,7 @@ use Rattle.capnp_making.proofs.Zeros.{zeroed_again}
 use Rattle.capnp_widening.specs.declared.widening.Room.{Room}
 use Rattle.capnp_widening.specs.Moved.{Moves, MovesSome, Unmoves, row_of_moves}
 use Rattle.capnp_widening.specs.Housed.{IsRoom, AreWordsCopied, Settles}
-use Rattle.capnp_widening.specs.Widened.{fill_words, fill_trees, GrowsByZeros, Rehouses, LeavesStruct, HousesAt}
+use Rattle.capnp_widening.specs.Widened.{fill_words, fill_trees, GrowsByZeros, IsStruct, LeadsToWiderStruct, LeavesAll, WidensStruct}
 use Rattle.capnp_widening.proofs.Remade.{IsRemade, leads_last, undone}
 use Rattle.capnp_widening.proofs.StructRemade.{struct_parts, struct_begun, struct_remade}
 
@@ -87,12 +88,12 @@ is_widened S T D P R Z Q id at size h ws ts x s =
       claim = omega (arith, grown.room, s.copied.words h.segment, moved.grows.words h.segment, settled.words h.segment, z.words h.segment, zz.words h.segment);
     }
 
-pub struct_rehoused : (S T D P R Z Q : Segments) (id at : ℕ) (old : ExistingStruct) (size : StructSize) (h : Room) → StructSteps S T D P R Z Q id at old size h → Rehouses S Q id at old size
+pub struct_rehoused : (S T D P R Z Q : Segments) (id at : ℕ) (old : ExistingStruct) (size : StructSize) (h : Room) → StructSteps S T D P R Z Q id at old size h → WidensStruct (IsStruct S id at old) S Q id at size
 struct_rehoused S T D P R Z Q id at old size h s = λ ws ts i.
     (is_widened S T D P R Z Q id at size h ws ts i.0 (subst (λ o. StructSteps S T D P R Z Q id at o size h) (sym (same_struct (the_struct S id at ws ts) old i.1)) s)).replaced
 
 pub struct_leads : (S T D P R Z Q : Segments) (id at : ℕ) (old : ExistingStruct) (size : StructSize) (h : Room) → StructSteps S T D P R Z Q id at old size h →
-    HousesAt S Q id at old (record { segment = h.segment; start = h.at + h.pads; size = size })
+    LeadsToWiderStruct (IsStruct S id at old) Q id at (record { segment = h.segment; start = h.at + h.pads; size = size })
 struct_leads S T D P R Z Q id at old size h s = λ ws ts i.
     (let w = is_widened S T D P R Z Q id at size h ws ts i.0 (subst (λ o. StructSteps S T D P R Z Q id at o size h) (sym (same_struct (the_struct S id at ws ts) old i.1)) s) in
     (w.segment_of, w.start_of, omega (arith, w.claim)))
@@ -106,8 +107,8 @@ pub record StructUndone (S T D P U Z : Segments) (id : ℕ) (old : ExistingStruc
   pub zeroed : h.at + h.pads + (size.data_words + size.pointers) ≤ length (segment U h.segment) → IsZeroed U Z (row h.segment (h.at + h.pads) (size.data_words + size.pointers) ∷ [])
   pub wider : (old.size.data_words ≤ size.data_words) × (old.size.pointers ≤ size.pointers)
 
-pub struct_left : (S T D P U Z : Segments) (id at : ℕ) (old : ExistingStruct) (size : StructSize) (h : Room) → StructUndone S T D P U Z id old size h → LeavesStruct S Z id at old
-struct_left S T D P U Z id at old size h s = λ ws ts i. go ws ts i.0 (subst (λ o. StructUndone S T D P U Z id o size h) (sym (same_struct (the_struct S id at ws ts) old i.1)) s)
+pub struct_left : (S T D P U Z : Segments) (id at : ℕ) (old : ExistingStruct) (size : StructSize) (h : Room) → StructUndone S T D P U Z id old size h → LeavesAll (IsStruct S id at old) S Z
+struct_left S T D P U Z id at old size h s = λ t i. each t i.0 i.1
   where
     go : (ws : List ℕ) (ts : Trees) → IsStored S id at (Struct ws ts) → StructUndone S T D P U Z id (the_struct S id at ws ts) size h → GrowsByZeros S Z
     go ws ts x s =
@@ -116,6 +117,14 @@ struct_left S T D P U Z id at old size h s = λ ws ts i. go ws ts i.0 (subst (λ
         let (ld, lk) = s.wider in
         let begun = struct_begun S T D id at ws ts size.data_words size.pointers h.segment h.at h.pads x ld lk grown s.copied in
         undone S T D P U Z h.segment h.at h.pads (size.data_words + size.pointers) (row_of_moves a.segment (a.start + length ws) h.segment (h.at + h.pads + size.data_words) (count ts)) begun s.some s.unmoves s.zeroed
+
+    each : (t : Tree) → IsStored S id at t → struct_in (target S id at) t ≡ Some old → GrowsByZeros S Z
+    each (Struct ws ts) x e = go ws ts x (subst (λ o. StructUndone S T D P U Z id o size h) (sym (same_struct (the_struct S id at ws ts) old e)) s)
+    each Null x e = cc
+    each (Capability i) x e = cc
+    each (Flat n ns) x e = cc
+    each (Pointers ts) x e = cc
+    each (Structs d q es) x e = cc
 
 -- nothing is changed
 pub nothing_grown : (S R : Segments) → R ≡ S → GrowsByZeros S R

@@ -20,7 +20,7 @@ use Rattle.capnp_making.proofs.FillingMade.{null_stored}
 use Rattle.capnp_making.proofs.Memory.{keeps_itself, spends_nothing, not_the_allocator, made_refused}
 use Rattle.capnp_making.proofs.Replaced.{grown}
 use Rattle.capnp_making.specs.Makes.{call_at}
-use Rattle.capnp_widening.specs.Opening.{OpensExistingStruct}
+use Rattle.capnp_widening.specs.Opening.{LeadsToOne, OpensStruct}
 use Rattle.capnp_widening.specs.Rooms.{all_words, GrowsByAtMost, GrowsForStruct}
 use Rattle.capnp_widening.specs.Widened.{fill_words, fill_trees, GrowsByZeros, WidensStruct, LeavesAll, LeadsToWiderStruct, IsNoWider}
 use Rattle.capnp_widening.proofs.Filled.{already_wide, wide_words, wide_trees}
@@ -51,7 +51,7 @@ no_struct e x = cc
 
 -- a struct that is large enough
 struct_wide_at : (v : View) (s p : ℕ) (ws : List ℕ) (ts : Trees) (e : ExistingStruct) (size : StructSize) → IsStored v.words s p (Struct ws ts) → the_struct v.words s p ws ts ≡ e →
-    size.data_words ≤ e.size.data_words → size.pointers ≤ e.size.pointers → OpensExistingStruct size (Ok e) (call_at s p v v) (Struct ws ts)
+    size.data_words ≤ e.size.data_words → size.pointers ≤ e.size.pointers → OpensStruct LeadsToOne size (Ok e) (call_at s p v v) (Struct ws ts)
 struct_wide_at v s p ws ts e size stored is l m =
     let d : length ws ≡ e.size.data_words = ap (λ (x : ExistingStruct). x.size.data_words) is in
     let q : count ts ≡ e.size.pointers = ap (λ (x : ExistingStruct). x.size.pointers) is in
@@ -68,7 +68,7 @@ struct_wide_at v s p ws ts e size stored is l m =
     }
 
 pub struct_wide : (v : View) (s p : ℕ) (t : Tree) (e : ExistingStruct) (size : StructSize) → IsStored v.words s p t → struct_in (target v.words s p) t ≡ Some e →
-    size.data_words ≤ e.size.data_words → size.pointers ≤ e.size.pointers → OpensExistingStruct size (Ok e) (call_at s p v v) t
+    size.data_words ≤ e.size.data_words → size.pointers ≤ e.size.pointers → OpensStruct LeadsToOne size (Ok e) (call_at s p v v) t
 struct_wide v s p Null e size stored found l m = absurd (no_struct e found)
 struct_wide v s p (Capability i) e size stored found l m = absurd (no_struct e found)
 struct_wide v s p (Struct ws ts) e size stored found l m = struct_wide_at v s p ws ts e size stored (same_struct _ e found) l m
@@ -85,15 +85,15 @@ same_place s p d q t r e k a b c f = ap₂ (λ x y. struct_at x y d q) a b ∙ a
 
 -- one that is made wider
 pub record Wider (a b : View) (s p : ℕ) (e f : ExistingStruct) (size : StructSize) : Type 0 where
-  pub widened : WidensStruct a.words b.words s p size
-  pub leads : LeadsToWiderStruct a.words b.words s p f
+  pub widened : WidensStruct (IsStored a.words s p) a.words b.words s p size
+  pub leads : LeadsToWiderStruct (IsStored a.words s p) b.words s p f
   pub memory : KeepsMemory a b
   pub taken : GrowsForStruct a.words b.words s p size
   pub narrow : size.data_words ≤ e.size.data_words → size.pointers ≤ e.size.pointers → ⊥
 
 struct_wider_at : (a b : View) (s p : ℕ) (ws : List ℕ) (ts : Trees) (e f : ExistingStruct) (size greater : StructSize) → IsStored a.words s p (Struct ws ts) → the_struct a.words s p ws ts ≡ e → Wider a b s p e f size →
     greater.data_words ≡ max e.size.data_words size.data_words → greater.pointers ≡ max e.size.pointers size.pointers →
-    OpensExistingStruct size (Ok (struct_at f.segment f.start greater.data_words greater.pointers)) (call_at s p a b) (Struct ws ts)
+    OpensStruct LeadsToOne size (Ok (struct_at f.segment f.start greater.data_words greater.pointers)) (call_at s p a b) (Struct ws ts)
 struct_wider_at a b s p ws ts e f size greater stored is w l m =
     let made = w.widened ws ts stored in
     let leads = w.leads ws ts stored in
@@ -115,7 +115,7 @@ struct_wider_at a b s p ws ts e f size greater stored is w l m =
 
 pub struct_wider : (a b : View) (s p : ℕ) (t : Tree) (e f : ExistingStruct) (size greater : StructSize) → IsStored a.words s p t → struct_in (target a.words s p) t ≡ Some e → Wider a b s p e f size →
     greater.data_words ≡ max e.size.data_words size.data_words → greater.pointers ≡ max e.size.pointers size.pointers →
-    OpensExistingStruct size (Ok (struct_at f.segment f.start greater.data_words greater.pointers)) (call_at s p a b) t
+    OpensStruct LeadsToOne size (Ok (struct_at f.segment f.start greater.data_words greater.pointers)) (call_at s p a b) t
 struct_wider a b s p Null e f size greater stored found w l m = absurd (no_struct e found)
 struct_wider a b s p (Capability i) e f size greater stored found w l m = absurd (no_struct e found)
 struct_wider a b s p (Struct ws ts) e f size greater stored found w l m = struct_wider_at a b s p ws ts e f size greater stored (same_struct _ e found) w l m
@@ -125,7 +125,7 @@ struct_wider a b s p (Structs d q es) e f size greater stored found w l m = absu
 
 -- or for which there is no memory
 pub struct_kept : (a b : View) (s p : ℕ) (t : Tree) (e : ExistingStruct) (size : StructSize) (k : ErrorKind) → IsStored a.words s p t → struct_in (target a.words s p) t ≡ Some e →
-    (size.data_words ≤ e.size.data_words → size.pointers ≤ e.size.pointers → ⊥) → LeavesAll a.words b.words s p → IsNoWider a b s p k → GrowsForStruct a.words b.words s p size → OpensExistingStruct size (Err k) (call_at s p a b) t
+    (size.data_words ≤ e.size.data_words → size.pointers ≤ e.size.pointers → ⊥) → LeavesAll (IsStored a.words s p) a.words b.words → IsNoWider a b s p k → GrowsForStruct a.words b.words s p size → OpensStruct LeadsToOne size (Err k) (call_at s p a b) t
 struct_kept a b s p Null e size k stored found narrow leaves named few = absurd (no_struct e found)
 struct_kept a b s p (Capability i) e size k stored found narrow leaves named few = absurd (no_struct e found)
 struct_kept a b s p (Struct ws ts) e size k stored found narrow leaves named few =
@@ -159,7 +159,7 @@ null_count zero = refl
 null_count (suc n) = ap (λ k. suc k) (null_count n)
 
 pub struct_made : (a b : View) (s p : ℕ) (size : StructSize) (h : Start) → IsReplaced a.words b.words s p Null (zero_struct size) → KeepsMemory a b → GrowsByAtMost a.words b.words (size.data_words + size.pointers + 1) → LeadsToStart b.words s p h →
-    OpensExistingStruct size (Ok (struct_at h.segment h.at size.data_words size.pointers)) (call_at s p a b) Null
+    OpensStruct LeadsToOne size (Ok (struct_at h.segment h.at size.data_words size.pointers)) (call_at s p a b) Null
 struct_made a b s p size h made memory few leads =
     let vs : List ℕ = words_of_zero size.data_words in
     let us : Trees = nulls size.pointers in
@@ -174,7 +174,7 @@ struct_made a b s p size h made memory few leads =
     }
 
 pub struct_unmade : (a b : View) (s p n : ℕ) (size : StructSize) (k : ErrorKind) → IsPlace a.words s p → word_at a.words s p ≡ 0 → b.words ≡ a.words → IsRefusedFor a b n k → (HasRoom a s n → ⊥) →
-    OpensExistingStruct size (Err k) (call_at s p a b) Null
+    OpensStruct LeadsToOne size (Err k) (call_at s p a b) Null
 struct_unmade a b s p n size k place null same named full =
     let refused = made_refused a b s n k named same full in
     record {

@@ -8,8 +8,9 @@ use Rattle.capnp_making.specs.Zeroed.{IsZeroed, PadsInside}
 use Rattle.capnp_widening.proofs.Basics.{is_far}
 use Rattle.capnp_making.proofs.Zeros.{of_row, zeroed_again, nothing_zeroed}
 use Rattle.capnp_making.proofs.Extents.{once_held}
-use Rattle.capnp_widening.specs.Moved.{Move, a_move, row_of_moves, old_places, new_places, own_pads, fresh_pads, Unmoves}
+use Rattle.capnp_widening.specs.Moved.{Move, a_move, row_of_moves, old_places, new_places, fresh_pads, Unmoves}
 use Rattle.capnp_widening.proofs.Movings.{SameMoves, same_fresh, fresh_pads-append, row_next}
+use Rattle.capnp_widening.proofs.NewObjects.{own_pads}
 
 old_places-append : (ms ns : List Move) (x y : ℕ) → times (old_places (ms ++ ns)) x y ≡ times (old_places ms) x y + times (old_places ns) x y
 old_places-append [] ns x y = omega arith

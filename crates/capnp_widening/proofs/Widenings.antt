@@ -8,14 +8,15 @@ use Rattle.capnp_format.specs.Means.{StructAt, ListAt, IsTag, count_cost, Means,
 use Rattle.capnp_format.specs.Forest.{Interval, times, pads_of, object_of, target, target_in, cover, cover_all, cover_elements, AreTidy, AreTidyElements}
 use Rattle.capnp_making.specs.Path.{struct_at, word_interval, extent}
 use Rattle.capnp_making.specs.Stored.{IsStored, IsReplaced}
-use Rattle.capnp_widening.specs.Moved.{IsMoved, pads_from, pads_in_rows, IsRehoused}
+use Rattle.capnp_widening.specs.Moved.{IsMoved}
 use Rattle.capnp_making.specs.Made.{nulls, words_of_zero}
-use Rattle.capnp_widening.specs.Widened.{struct_data_words, fill_words, fill_trees, fill_elements}
+use Rattle.capnp_widening.specs.Widened.{fill_words, fill_trees, fill_elements}
 use Rattle.capnp_format.proofs.Frame.{SameWords, times-append, frame_all, frame_elements, has_words_kept}
 use Rattle.capnp_making.proofs.Extents.{times-first, times-object}
 use Rattle.capnp_making.proofs.Tidy.{tidy_kept_all, tidy_kept_elements}
 use Rattle.capnp_widening.proofs.SameObjects.{moved_mean}
 use Rattle.capnp_widening.proofs.Rehoused.{grows_first, grows_last, inner_agrees, object_stands, reached_stands, rehoused}
+use Rattle.capnp_widening.proofs.NewObjects.{IsRehoused, pads_from, pads_in_rows, struct_data_words}
 
 pub length-fill_words : (d : ℕ) (ws : List ℕ) → length (fill_words d ws) ≡ max (length ws) d
 length-fill_words d ws = omega (arith, length-append ws (words_of_zero (d - length ws)), length-replicate {A = ℕ} (d - length ws) 0)

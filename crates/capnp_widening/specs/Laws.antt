@@ -32,7 +32,7 @@ WiderList = (d q e k : ℕ) (es : Elements) (u : Tree) → HaveSize e k es → l
 abbrev pub StructWithin : Type 0
 StructWithin =
     (S R : Segments) (s p : ℕ) (t : Tree) (path : List Step) (u q : ℕ) (ws : List ℕ) (ts : Trees) (size : StructSize)
-    → IsStored S s p t → PathLeads S s p t path u q (Struct ws ts) → WidensStruct S R u q size → (w : Tree) × IsReplaced S R s p t w × SameCanonicalForm t w
+    → IsStored S s p t → PathLeads S s p t path u q (Struct ws ts) → WidensStruct (IsStored S u q) S R u q size → (w : Tree) × IsReplaced S R s p t w × SameCanonicalForm t w
 
 -- A list of structs that is reached by a path from a place is made wider, from S to R: the place stores a value of the same
 -- canonical words.
@@ -45,7 +45,7 @@ ListWithin =
 abbrev pub StructOfMessage : Type 0
 StructOfMessage =
     (S R : Segments) (t : Tree) (path : List Step) (u q : ℕ) (ws : List ℕ) (ts : Trees) (size : StructSize)
-    → IsForest S t → PathLeads S 0 0 t path u q (Struct ws ts) → WidensStruct S R u q size → (w : Tree) × IsForest R w × SameCanonicalForm t w
+    → IsForest S t → PathLeads S 0 0 t path u q (Struct ws ts) → WidensStruct (IsStored S u q) S R u q size → (w : Tree) × IsForest R w × SameCanonicalForm t w
 
 abbrev pub ListOfMessage : Type 0
 ListOfMessage =

@@ -1,10 +1,10 @@
 -- Pointers written anew at other places, to what the old ones lead to ("Inter-Segment Pointers").
-use Rattle.std.specs.Prelude.{◌≡◌, ◌≢◌, ℕ, zero, suc, ◌+◌, ◌%◌, ◌^◌, ◌<◌, ◌≤◌, ◌⊎◌, cond, nat_eq, List, [], ◌∷◌, ◌++◌, length}
+use Rattle.std.specs.Prelude.{flat_map, ◌≡◌, ℕ, zero, suc, ◌+◌, ◌%◌, ◌^◌, ◌<◌, ◌≤◌, ◌⊎◌, cond, nat_eq, List, [], ◌∷◌, ◌++◌, length}
 use Rattle.capnp_format.specs.Word.{kind, upper_half}
 use Rattle.capnp_format.specs.Segments.{Segments, Grows, segment, word_at, Target}
 use Rattle.capnp_format.specs.Tree.{Tree}
 use Rattle.capnp_format.specs.Means.{Leads, Means}
-use Rattle.capnp_format.specs.Forest.{Interval, times, pads_of, object_of}
+use Rattle.capnp_format.specs.Forest.{Interval, times, pads_of}
 use Rattle.capnp_making.specs.Path.{word_interval, extent}
 use Rattle.capnp_making.specs.Zeroed.{IsZeroed}
 
@@ -59,21 +59,9 @@ abbrev pub new_places : List Move → List Interval
 new_places [] = []
 new_places (m ∷ ms) = word_interval m.to_segment m.to_at ∷ new_places ms
 
--- The landing pads of the old pointers, those of the new ones, and of these the pads that were written for them: a far pointer is copied as it is.
-abbrev pub old_pads : Segments → List Move → List Interval
-old_pads R [] = []
-old_pads R (m ∷ ms) = pads_of (word_at R m.segment m.at) ++ old_pads R ms
-
-abbrev pub new_pads : Segments → List Move → List Interval
-new_pads R [] = []
-new_pads R (m ∷ ms) = pads_of (word_at R m.to_segment m.to_at) ++ new_pads R ms
-
-abbrev pub own_pads : Segments → Move → List Interval
-own_pads R m = cond (nat_eq (kind (word_at R m.segment m.at)) 2) [] (pads_of (word_at R m.to_segment m.to_at))
-
+-- The landing pads that were written for the new pointers: a far pointer is copied as it is, and has none of its own.
 abbrev pub fresh_pads : Segments → List Move → List Interval
-fresh_pads R [] = []
-fresh_pads R (m ∷ ms) = own_pads R m ++ fresh_pads R ms
+fresh_pads R ms = flat_map (λ m. cond (nat_eq (kind (word_at R m.segment m.at)) 2) [] (pads_of (word_at R m.to_segment m.to_at))) ms
 
 -- Each old pointer means a value in B, whose words lie in B.
 abbrev pub HasValueInside : Segments → ℕ → ℕ → Type 0
@@ -95,12 +83,15 @@ pub record CanMove (B S : Segments) (ms : List Move) : Type 0 where
   pub behind : (x y : ℕ) → 0 < times (new_places ms) x y → (length (segment B x) ≤ y) × (y < length (segment S x)) × (word_at S x y ≡ 0)
   pub once : (x y : ℕ) → times (new_places ms) x y ≤ 1
 
--- From S to R the new pointers are written, and their own landing pads into new words, each once; nothing else is written.
+-- From S to R the new pointers are written, and their own landing pads into new words, each once; nothing else is written. The pads of the new pointers
+-- are these and those of the old ones.
 pub record AreMoved (S R : Segments) (ms : List Move) : Type 0 where
   pub grows : Grows S R
   pub moved : AllMoved R ms
   pub kept : (x y : ℕ) → times (new_places ms) x y ≡ 0 → y < length (segment S x) → word_at R x y ≡ word_at S x y
-  pub sums : (x y : ℕ) → times (new_pads R ms) x y ≡ times (fresh_pads R ms) x y + times (old_pads R ms) x y
+  pub sums :
+      (x y : ℕ) → times (flat_map (λ (m : Move). pads_of (word_at R m.to_segment m.to_at)) ms) x y
+      ≡ times (fresh_pads R ms) x y + times (flat_map (λ (m : Move). pads_of (word_at R m.segment m.at)) ms) x y
   pub fresh : (x y : ℕ) → 0 < times (fresh_pads R ms) x y → (length (segment S x) ≤ y) × (y < length (segment R x))
   pub once : (x y : ℕ) → times (fresh_pads R ms) x y ≤ 1
   pub zero : (x y : ℕ) → times (fresh_pads R ms) x y ≡ 0 → length (segment S x) ≤ y → word_at R x y ≡ 0
@@ -125,30 +116,3 @@ pub record CanUnmove (S : Segments) (ms : List Move) : Type 0 where
 -- From S to R the pads that were written for these pointers become zero.
 abbrev pub Unmoves : Segments → Segments → List Move → Type 0
 Unmoves S R ms = CanUnmove S ms → IsZeroed S R (fresh_pads S ms)
-
--- The landing pads of n pointers from a place on; and of k pointers from a place on, and every w words again, n times.
-abbrev pub pads_from : Segments → ℕ → ℕ → ℕ → List Interval
-pads_from S s p zero = []
-pads_from S s p (suc n) = pads_of (word_at S s p) ++ pads_from S s (p + 1) n
-
-abbrev pub pads_in_rows : Segments → ℕ → ℕ → ℕ → ℕ → ℕ → List Interval
-pads_in_rows S s p w k zero = []
-pads_in_rows S s p w k (suc n) = pads_from S s p k ++ pads_in_rows S s (p + w) w k n
-
--- An object of size words, where the pointer at (u, q) leads in S, is made anew in wide words: from S to M the new object b and its pads are written
--- into new words; from M to Q the pointer is overwritten, last of all, and the old object and its pads become zero. Its pointers had pads before, and
--- have pads after; fresh are the new words that are used.
-pub record IsRehoused (S M Q : Segments) (u q : ℕ) (a : Target) (size : ℕ) (b : Target) (wide : ℕ) (before after fresh : List Interval) : Type 0 where
-  pub more_segments : length S ≤ length M
-  pub more_words : (x : ℕ) → length (segment S x) ≤ length (segment M x)
-  pub same_segments : length Q ≡ length M
-  pub same_words : (x : ℕ) → length (segment Q x) ≡ length (segment M x)
-  pub extends : (x y : ℕ) → y < length (segment S x) → word_at M x y ≡ word_at S x y
-  pub zero_new : (x y : ℕ) → length (segment S x) ≤ y → times fresh x y ≡ 0 → word_at M x y ≡ 0
-  pub fresh_once : (x y : ℕ) → times fresh x y ≤ 1
-  pub fresh_new : (x y : ℕ) → 0 < times fresh x y → (length (segment S x) ≤ y) × (y < length (segment M x))
-  pub all_fresh : (x y : ℕ) → times (pads_of (word_at Q u q)) x y + times (object_of b wide ∷ []) x y + times after x y ≡ times fresh x y + times before x y
-  pub object_new : (y : ℕ) → b.start ≤ y → y < b.start + wide → length (segment S b.segment) ≤ y
-  pub claim : b.start + wide ≤ length (segment M b.segment)
-  pub only_old : (x y : ℕ) → times (word_interval u q ∷ pads_of (word_at S u q) ++ object_of a size ∷ []) x y ≡ 0 → word_at Q x y ≡ word_at M x y
-  pub zero_old : (x y : ℕ) → (x ≢ u) ⊎ (y ≢ q) → 0 < times (pads_of (word_at S u q) ++ object_of a size ∷ []) x y → word_at Q x y ≡ 0

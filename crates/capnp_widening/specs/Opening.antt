@@ -36,24 +36,22 @@ HasSections size (Struct ws ts) = (size.data_words ≤ length ws) × (size.point
 HasSections size (Structs d q es) = (size.data_words ≤ d) × (size.pointers ≤ q)
 HasSections size t = ⊥
 
--- No more words are taken than u has, which t becomes, with a landing pad and two words for each pointer of t.
-abbrev pub GrowsFor : CallAt → Tree → Tree → Type 0
-GrowsFor c t u = GrowsByAtMost c.old.words c.new.words (widened_words u + 1 + 2 * direct_pointers t)
-
--- Where t was stored, u is so in its stead, and what is given leads to it. Where t is large enough, nothing is changed.
+-- Where t was stored, u is so in its stead, and what is given leads to it. No more words are taken than u has, with a landing pad and two words for each
+-- pointer of t. Where t is large enough, nothing is changed.
 pub record Opened (size : StructSize) (c : CallAt) (t u : Tree) (given : Type 0) : Type 0 where
   pub replaced : IsReplaced c.old.words c.new.words c.segment c.at t u
   pub leads : given
   pub memory : KeepsMemory c.old c.new
-  pub taken : GrowsFor c t u
+  pub taken : GrowsByAtMost c.old.words c.new.words (widened_words u + 1 + 2 * direct_pointers t)
   pub unchanged : HasSections size t → c.new ≡ c.old
 
--- Memory is refused by the name k, for a value t that isn't large enough and was to become u: it stands as it was, and new words are zero.
+-- Memory is refused by the name k, for a value t that isn't large enough and was to become u: it stands as it was, and new words are zero, no more than
+-- u would have taken.
 pub record Unopened (size : StructSize) (c : CallAt) (t u : Tree) (k : ErrorKind) : Type 0 where
   pub stands : IsReplaced c.old.words c.new.words c.segment c.at t t
   pub narrow : HasSections size t → ⊥
   pub memory : SpendsMemory c.old c.new k
-  pub taken : GrowsFor c t u
+  pub taken : GrowsByAtMost c.old.words c.new.words (widened_words u + 1 + 2 * direct_pointers t)
   pub full : RefusesGrowth c.old c.new k
 
 -- A call opens t, which is to become u, and what it gives is as Given says; or it is refused: by what t is, and nothing is changed, or for memory.
@@ -70,17 +68,13 @@ abbrev pub LeadsToAll : Segments → ℕ → ℕ → Tree → Option ExistingLis
 LeadsToAll S s p u l = (list_in (target S s p) Void u ≡ Ok l) × IfSome l (ListLiesIn S)
 
 -- The struct that stands is opened, or a new one in place of null.
-abbrev pub OpensExistingStruct : StructSize → Result ExistingStruct ErrorKind → CallAt → Tree → Type 0
-OpensExistingStruct size result c t = Opens size LeadsToOne c t (struct_opened size t) result
+abbrev pub OpensStruct : {B : Type 0} → (Segments → ℕ → ℕ → Tree → B → Type 0) → StructSize → Result B ErrorKind → CallAt → Tree → Type 0
+OpensStruct Given size result c t = Opens size Given c t (struct_opened size t) result
 
 -- The list of structs that stands is opened, made one of any other list. Null is a list of none, and nothing is changed.
 abbrev pub OpensExistingList : StructSize → Result (Option ExistingList) ErrorKind → CallAt → Tree → Type 0
 OpensExistingList size result c Null = (result ≡ Ok None) × (c.new ≡ c.old)
 OpensExistingList size result c t = Opens size LeadsToAll c t (list_widened size.data_words size.pointers t) result
-
--- A list that is found is one of structs with sections of at least a size.
-abbrev pub HasWideStructs : StructSize → ExistingList → Type 0
-HasWideStructs size l = (l.size ≡ InlineComposite) × (size.data_words ≤ l.struct_size.data_words) × (size.pointers ≤ l.struct_size.pointers)
 
 -- Structs of so many words, which are 2^29 or more, are too large for a list.
 abbrev pub refusal_of_words : ℕ → Option ErrorKind

@@ -1,10 +1,9 @@
 -- Pointers written to objects that are there ("Inter-Segment Pointers").
-use Rattle.std.specs.Prelude.{◌≡◌, ◌⊎◌, ℕ, ◌-◌, ◌<◌, ◌≤◌, ◌^◌, [], ◌∷◌, length}
-use Rattle.capnp_format.specs.Canonical.{offset_to}
+use Rattle.std.specs.Prelude.{◌≡◌, ◌⊎◌, ℕ, ◌<◌, ◌≤◌, [], ◌∷◌, length}
 use Rattle.capnp_format.specs.Segments.{Segments, Grows, segment, word_at, Target}
 use Rattle.capnp_format.specs.Means.{Leads}
 use Rattle.capnp_format.specs.Forest.{times, pads_of}
-use Rattle.capnp_format.specs.Word.{kind, upper_half, offset_bits}
+use Rattle.capnp_format.specs.Word.{kind, upper_half}
 use Rattle.capnp_making.specs.Path.{word_interval}
 use Rattle.capnp_making.specs.Made.{IsShape}
 use Rattle.capnp_making.specs.declared.making.Shape.{Shape}
@@ -25,11 +24,3 @@ abbrev pub PointsTo : Segments → Segments → Shape → Start → Start → Ty
 PointsTo S R shape h at =
     (a : Target) × IsPointed S R at.segment at.at a × IsShape shape a.word
     × (((a.segment ≡ h.segment) × (a.start ≡ h.at)) ⊎ ((kind a.word ≡ 0) × (upper_half a.word ≡ 0)))
-
--- The word of a near pointer at a position to a target; that of a struct without sections has the offset -1.
-abbrev pub IsNearWord : ℕ → ℕ → ℕ → Type 0
-IsNearWord p b x = (offset_bits x ≡ offset_to p b) ⊎ ((kind x ≡ 0) × (upper_half x ≡ 0) × (offset_bits x ≡ 2 ^ 30 - 1))
-
--- From S to R no word of S is written but the one at a place.
-abbrev pub WritesOnly : Segments → Segments → Start → Type 0
-WritesOnly S R h = (x y : ℕ) → times (word_interval h.segment h.at ∷ []) x y ≡ 0 → y < length (segment S x) → word_at R x y ≡ word_at S x y

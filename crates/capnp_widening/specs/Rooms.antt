@@ -1,7 +1,7 @@
 -- The words that making an object wider takes, and the room for them.
 use Rattle.std.specs.Prelude.{◌≡◌, ◌⊎◌, ℕ, ◌+◌, ◌*◌, ◌<◌, ◌≤◌, Ok, List, [], ◌∷◌, length}
 use Rattle.capnp_format.specs.Segments.{Segments, word_at}
-use Rattle.capnp_format.specs.Tree.{Tree, Null, Struct, Pointers, Structs, Trees, Elements, count, element_count}
+use Rattle.capnp_format.specs.Tree.{Tree, Struct, Pointers, Structs, Trees, count, element_count}
 use Rattle.capnp_format.specs.Forest.{target}
 use Rattle.capnp_words.specs.declared.wire_pointer.StructSize.{StructSize}
 use Rattle.capnp_arena.specs.View.{View}
@@ -9,9 +9,7 @@ use Rattle.capnp_making.specs.Made.{structs_words}
 use Rattle.capnp_making.specs.Memory.{HasRoom}
 use Rattle.capnp_making.specs.Near.{HasOwnRoom}
 use Rattle.capnp_making.specs.Stored.{IsStored}
-use Rattle.capnp_making.specs.declared.existing.ExistingList.{ExistingList}
 use Rattle.capnp_widening.specs.declared.remaking.ElementRows.{ElementRows}
-use Rattle.capnp_widening.specs.RowsRemade.{IsList}
 use Rattle.capnp_widening.specs.Widened.{fill_words, fill_trees, list_widened}
 
 -- How many words the segments have together.
@@ -44,10 +42,6 @@ direct_pointers t = 0
 abbrev pub HasRoomFor : View → ℕ → ℕ → Tree → Tree → Type 0
 HasRoomFor v s p t u = HasRoom v s (widened_words u + 2 * direct_pointers t) ⊎ (((target v.words s p).segment ≡ s) × HasOwnRoom v s (widened_words u))
 
--- The place stores a struct with both sections at least as large as asked for.
-abbrev pub IsWideStruct : Segments → ℕ → ℕ → StructSize → Type 0
-IsWideStruct S s p size = (ws : List ℕ) × (ts : Trees) × IsStored S s p (Struct ws ts) × (size.data_words ≤ length ws) × (size.pointers ≤ count ts)
-
 -- The struct that a struct becomes where sections of a size are wanted.
 abbrev pub widened : StructSize → List ℕ → Trees → Tree
 widened size ws ts = Struct (fill_words size.data_words ws) (fill_trees size.pointers ts)
@@ -64,33 +58,17 @@ OpeningFits v s p size = ((word_at v.words s p ≡ 0) × HasRoom v s (size.data_
 abbrev pub GrowsForStruct : Segments → Segments → ℕ → ℕ → StructSize → Type 0
 GrowsForStruct S R s p size = (ws : List ℕ) (ts : Trees) → IsStored S s p (Struct ws ts) → GrowsByAtMost S R (widened_words (widened size ws ts) + 1 + 2 * count ts)
 
--- The place stores null, or a list of structs with both sections at least as large as asked for.
-abbrev pub IsWideList : Segments → ℕ → ℕ → StructSize → Type 0
-IsWideList S s p size = IsStored S s p Null ⊎ ((d : ℕ) × (q : ℕ) × (es : Elements) × IsStored S s p (Structs d q es) × (size.data_words ≤ d) × (size.pointers ≤ q))
+-- A value stands at the place that becomes a list of structs where these are wanted, and there is room for what it becomes.
+abbrev pub WiderListFits : (Tree → Type 0) → View → ℕ → ℕ → StructSize → Type 0
+WiderListFits Stands v s p size = (t : Tree) × (u : Tree) × Stands t × (list_widened size.data_words size.pointers t ≡ Ok u) × HasRoomFor v s p t u
 
--- The place stores a value that becomes a list of structs where these are wanted, and there is room for what it becomes.
-abbrev pub WiderListFits : View → ℕ → ℕ → StructSize → Type 0
-WiderListFits v s p size = (t : Tree) × (u : Tree) × IsStored v.words s p t × (list_widened size.data_words size.pointers t ≡ Ok u) × HasRoomFor v s p t u
-
--- From S to R no more words are taken than what a list at the place becomes, a pad, and two words for each of its pointers.
-abbrev pub GrowsForList : Segments → Segments → ℕ → ℕ → StructSize → Type 0
-GrowsForList S R s p size =
-    (t u : Tree) → IsStored S s p t → list_widened size.data_words size.pointers t ≡ Ok u → GrowsByAtMost S R (widened_words u + 1 + 2 * direct_pointers t)
-
--- There is room for what the list l, which the place stores, becomes; and no more words are taken than that.
-abbrev pub ThisListFits : View → ℕ → ℕ → ExistingList → StructSize → Type 0
-ThisListFits v s p l size = (t : Tree) × (u : Tree) × IsList v.words s p t l × (list_widened size.data_words size.pointers t ≡ Ok u) × HasRoomFor v s p t u
-
-abbrev pub GrowsForThisList : Segments → Segments → ℕ → ℕ → ExistingList → StructSize → Type 0
-GrowsForThisList S R s p l size =
-    (t u : Tree) → IsList S s p t l → list_widened size.data_words size.pointers t ≡ Ok u → GrowsByAtMost S R (widened_words u + 1 + 2 * direct_pointers t)
+-- From S to R no more words are taken than what a list that stands there becomes, a pad, and two words for each of its pointers.
+abbrev pub GrowsForList : (Tree → Type 0) → Segments → Segments → StructSize → Type 0
+GrowsForList Stands S R size =
+    (t u : Tree) → Stands t → list_widened size.data_words size.pointers t ≡ Ok u → GrowsByAtMost S R (widened_words u + 1 + 2 * direct_pointers t)
 
 -- There is room for a list of structs of a size made of these elements, and for two words for each of their pointers; or they stand in segment s, and
 -- that has room for the list.
 abbrev pub RemadeRowsFit : View → ℕ → ElementRows → StructSize → Type 0
 RemadeRowsFit v s rows size =
     HasRoom v s (structs_words rows.count size + 2 * (rows.count * rows.size.pointers)) ⊎ ((rows.segment ≡ s) × HasOwnRoom v s (structs_words rows.count size))
-
--- No more words are taken than that.
-abbrev pub GrowsForRows : Segments → Segments → ElementRows → StructSize → Type 0
-GrowsForRows S R rows size = GrowsByAtMost S R (structs_words rows.count size + 1 + 2 * (rows.count * rows.size.pointers))

@@ -20,10 +20,8 @@ use Rattle.capnp_making.specs.Path.{word_interval}
 use Rattle.capnp_making.specs.Stored.{IsStored, IsReplaced}
 use Rattle.capnp_making.specs.Zeroed.{row}
 use Rattle.capnp_widening.specs.declared.remaking.ElementRows.{ElementRows}
-use Rattle.capnp_widening.specs.declared.widening.Room.{Room}
-use Rattle.capnp_widening.specs.Housed.{IsRoom}
-use Rattle.capnp_widening.specs.Moved.{Move, rows_of_moves, Moves, MovesSome, Unmoves}
-use Rattle.capnp_widening.specs.Widened.{fill_elements, struct_for_each, struct_for_each_tree, limited, list_widened, GrowsByZeros}
+use Rattle.capnp_widening.specs.Moved.{Move, rows_of_moves}
+use Rattle.capnp_widening.specs.Widened.{fill_elements, struct_for_each, struct_for_each_tree, limited, list_widened}
 
 -- From S to R the first d words of each of n rows are copied over those of other rows, and nothing else is written. The old rows start every w words
 -- from (s, p) on, and the new ones, of z words each, from (v, r) on.
@@ -41,11 +39,6 @@ pub record IsTagWritten (S R : Segments) (s p n : ℕ) (size : StructSize) : Typ
   pub tag : IsTag (word_at R s p) n size.data_words size.pointers
   pub kept : (x y : ℕ) → times (word_interval s p ∷ []) x y ≡ 0 → word_at R x y ≡ word_at S x y
 
--- From S to R words are taken for a list of n structs, all zero but for its tag.
-abbrev pub BeginsList : Segments → Segments → ℕ → ℕ → StructSize → Room → Type 0
-BeginsList S R id n size h =
-    (T : Segments) × IsRoom S T id (1 + n * (size.data_words + size.pointers)) h × IsTagWritten T R h.segment (h.at + h.pads) n size
-
 -- The words of a list lie in their segment, its tag included.
 abbrev pub RowsInside : Segments → ElementRows → Type 0
 RowsInside S rows = rows.at + (rows.tag + rows.count * (rows.size.data_words + rows.size.pointers)) ≤ length (segment S rows.segment)
@@ -60,14 +53,6 @@ abbrev pub element_moves : ElementRows → Start → StructSize → List Move
 element_moves old h size =
     rows_of_moves old.segment (old.at + old.tag + old.size.data_words) (old.size.data_words + old.size.pointers) h.segment (h.at + size.data_words) (size.data_words + size.pointers)
     old.size.pointers old.count
-
--- From S to R the data words are copied, and then the pointers moved; or some are, and their landing pads made zero again.
-abbrev pub FillsRows : Segments → Segments → ElementRows → Start → StructSize → Type 0
-FillsRows S R old h size = (D : Segments) × CopiesData S D old h size × Moves D R (element_moves old h size)
-
-abbrev pub UnfillsRows : Segments → Segments → ElementRows → Start → StructSize → Type 0
-UnfillsRows S R old h size =
-    (D : Segments) × (P : Segments) × CopiesData S D old h size × MovesSome D P (element_moves old h size) × Unmoves P R (element_moves old h size)
 
 -- From S to R each of n numbers of so many bits, one behind the other from the word (s, p) on, is copied into the first word of a row; the rows are of
 -- z words, from (v, r) on. Nothing else is written.
@@ -97,9 +82,9 @@ as_structs size (Pointers ts) = Structs size.data_words size.pointers (struct_fo
 as_structs size (Structs d q es) = Structs size.data_words size.pointers (fill_elements size.data_words size.pointers es)
 as_structs size t = t
 
--- The place stores a list in S, of these elements.
-abbrev pub StoresRows : Segments → ℕ → ℕ → Tree → ElementRows → Type 0
-StoresRows S s p t rows = IsStored S s p t × (rows_in (target S s p) t ≡ Some rows)
+-- The place stores t in S, a list of these elements.
+abbrev pub StoresRows : Segments → ℕ → ℕ → ElementRows → Tree → Type 0
+StoresRows S s p rows t = IsStored S s p t × (rows_in (target S s p) t ≡ Some rows)
 
 -- The structs of a list lie in their segment.
 abbrev pub ListLiesIn : Segments → ExistingList → Type 0
@@ -110,38 +95,23 @@ pub record BecomesList (S R : Segments) (s p : ℕ) (t u : Tree) (l : ExistingLi
   pub replaced : IsReplaced S R s p t u
   pub found : list_in (target R s p) Void u ≡ Ok (Some l)
 
--- From S to R the place gets, in place of a list of these elements, structs of a size made of them, which are l; or R has nothing but zeros more.
-abbrev pub RemakesRows : Segments → Segments → ℕ → ℕ → ElementRows → StructSize → ExistingList → Type 0
-RemakesRows S R s p rows size l = (t : Tree) → StoresRows S s p t rows → BecomesList S R s p t (as_structs size t) l
-
-abbrev pub LeavesRows : Segments → Segments → ℕ → ℕ → ElementRows → Type 0
-LeavesRows S R s p rows = (t : Tree) → StoresRows S s p t rows → GrowsByZeros S R
+-- From S to R the place gets, in place of a list that stands there, structs of a size made of its elements, which are l.
+abbrev pub RemakesList : (Tree → Type 0) → Segments → Segments → ℕ → ℕ → StructSize → ExistingList → Type 0
+RemakesList Stands S R s p size l = (t : Tree) → Stands t → BecomesList S R s p t (as_structs size t) l
 
 -- A call is refused by the name k: the elements would take too many words, and nothing is changed; or a growth is refused.
 abbrev pub RefusesRows : View → View → ℕ → ℕ → ElementRows → StructSize → ErrorKind → Type 0
 RefusesRows old new s p rows size k =
-    ((new ≡ old) × ((t : Tree) → StoresRows old.words s p t rows → limited (rows.count * (size.data_words + size.pointers)) (as_structs size t) ≡ Err k))
+    ((new ≡ old) × ((t : Tree) → StoresRows old.words s p rows t → limited (rows.count * (size.data_words + size.pointers)) (as_structs size t) ≡ Err k))
     ⊎ (SpendsMemory old new k × RefusesGrowth old new k)
 
--- The place stores a list in S, which is l.
-abbrev pub IsList : Segments → ℕ → ℕ → Tree → ExistingList → Type 0
-IsList S s p t l = IsStored S s p t × (list_in (target S s p) Void t ≡ Ok (Some l))
+-- The place stores t in S, which is the list l.
+abbrev pub IsList : Segments → ℕ → ℕ → ExistingList → Tree → Type 0
+IsList S s p l t = IsStored S s p t × (list_in (target S s p) Void t ≡ Ok (Some l))
 
--- From S to R the place gets, in place of the list l, structs of a size made of its elements, which are m.
-abbrev pub RemakesList : Segments → Segments → ℕ → ℕ → ExistingList → StructSize → ExistingList → Type 0
-RemakesList S R s p l size m = (t : Tree) → IsList S s p t l → BecomesList S R s p t (as_structs size t) m
-
--- From S to R the place gets, in place of the list l, what it becomes where structs of a size are wanted, which is m; or R has nothing but zeros more.
+-- From S to R the place gets, in place of the list l, what it becomes where structs of a size are wanted, which is m.
 abbrev pub WidensTo : Segments → Segments → ℕ → ℕ → ExistingList → StructSize → ExistingList → Type 0
-WidensTo S R s p l size m = (t : Tree) → IsList S s p t l → (u : Tree) × (list_widened size.data_words size.pointers t ≡ Ok u) × BecomesList S R s p t u m
-
-abbrev pub LeavesList : Segments → Segments → ℕ → ℕ → ExistingList → Type 0
-LeavesList S R s p l = (t : Tree) → IsList S s p t l → GrowsByZeros S R
-
--- A call is refused by the name k: by what the list l is and what is wanted, and nothing is changed; or a growth is refused.
-abbrev pub RefusesWiderList : View → View → ℕ → ℕ → ExistingList → StructSize → ErrorKind → Type 0
-RefusesWiderList old new s p l size k =
-    ((new ≡ old) × ((t : Tree) → IsList old.words s p t l → list_widened size.data_words size.pointers t ≡ Err k)) ⊎ (SpendsMemory old new k × RefusesGrowth old new k)
+WidensTo S R s p l size m = (t : Tree) → IsList S s p l t → (u : Tree) × (list_widened size.data_words size.pointers t ≡ Ok u) × BecomesList S R s p t u m
 
 -- From S to R the place gets, in place of the value that it stores, the list that this becomes where structs of a size are wanted; null stays.
 abbrev pub WidensList : Segments → Segments → ℕ → ℕ → StructSize → Type 0
@@ -152,7 +122,7 @@ abbrev pub LeadsToWiderList : Segments → Segments → ℕ → ℕ → StructSi
 LeadsToWiderList S R s p size l =
     (t u : Tree) → IsStored S s p t → list_widened size.data_words size.pointers t ≡ Ok u → (list_in (target R s p) Void u ≡ Ok l) × IfSome l (ListLiesIn R)
 
--- A call is refused by the name k: by what the place stores and what is wanted, and nothing is changed; or a growth is refused.
-abbrev pub RefusesWider : View → View → ℕ → ℕ → StructSize → ErrorKind → Type 0
-RefusesWider old new s p size k =
-    ((new ≡ old) × ((t : Tree) → IsStored old.words s p t → list_widened size.data_words size.pointers t ≡ Err k)) ⊎ (SpendsMemory old new k × RefusesGrowth old new k)
+-- A call is refused by the name k: by what stands there and what is wanted, and nothing is changed; or a growth is refused.
+abbrev pub RefusesWider : (Tree → Type 0) → StructSize → View → View → ErrorKind → Type 0
+RefusesWider Stands size old new k =
+    ((new ≡ old) × ((t : Tree) → Stands t → list_widened size.data_words size.pointers t ≡ Err k)) ⊎ (SpendsMemory old new k × RefusesGrowth old new k)

@@ -35,46 +35,30 @@ abbrev pub struct_for_each_tree : ℕ → ℕ → Trees → Elements
 struct_for_each_tree d q no_trees = no_elements
 struct_for_each_tree d q (tree t ts) = element (words_of_zero d) (fill_trees q (tree t no_trees)) (struct_for_each_tree d q ts)
 
-abbrev pub struct_data_words : Tree → List ℕ
-struct_data_words (Struct ws ts) = ws
-struct_data_words t = []
-
 -- From S to R there may be more words, all zero; those of S are as they were.
 pub record GrowsByZeros (S R : Segments) : Type 0 where
   pub grows : Grows S R
   pub kept : (x y : ℕ) → y < length (segment S x) → word_at R x y ≡ word_at S x y
   pub zero : (x y : ℕ) → length (segment S x) ≤ y → word_at R x y ≡ 0
 
--- The place stores a struct in S, which is e.
-abbrev pub IsStruct : Segments → ℕ → ℕ → List ℕ → Trees → ExistingStruct → Type 0
-IsStruct S s p ws ts e = IsStored S s p (Struct ws ts) × (struct_in (target S s p) (Struct ws ts) ≡ Some e)
+-- The place stores t in S, which is the struct e.
+abbrev pub IsStruct : Segments → ℕ → ℕ → ExistingStruct → Tree → Type 0
+IsStruct S s p e t = IsStored S s p t × (struct_in (target S s p) t ≡ Some e)
 
--- From S to R the place gets, in place of the struct e, the same with its sections filled up to a size; or R has nothing but zeros more.
-abbrev pub Rehouses : Segments → Segments → ℕ → ℕ → ExistingStruct → StructSize → Type 0
-Rehouses S R s p e size =
-    (ws : List ℕ) (ts : Trees) → IsStruct S s p ws ts e → IsReplaced S R s p (Struct ws ts) (Struct (fill_words size.data_words ws) (fill_trees size.pointers ts))
+-- From S to R the place gets, in place of a struct that stands there, the same with both sections filled up to a size, never cut. What stands there is
+-- said by Stands, here and below: as that it is stored.
+abbrev pub WidensStruct : (Tree → Type 0) → Segments → Segments → ℕ → ℕ → StructSize → Type 0
+WidensStruct Stands S R s p size =
+    (ws : List ℕ) (ts : Trees) → Stands (Struct ws ts) → IsReplaced S R s p (Struct ws ts) (Struct (fill_words size.data_words ws) (fill_trees size.pointers ts))
 
-abbrev pub LeavesStruct : Segments → Segments → ℕ → ℕ → ExistingStruct → Type 0
-LeavesStruct S R s p e = (ws : List ℕ) (ts : Trees) → IsStruct S s p ws ts e → GrowsByZeros S R
+-- Whatever value stands there, R has nothing but zeros more than S.
+abbrev pub LeavesAll : (Tree → Type 0) → Segments → Segments → Type 0
+LeavesAll Stands S R = (t : Tree) → Stands t → GrowsByZeros S R
 
--- Where a place stores a struct in S, in R it stores it with both sections filled up to a size, never cut.
-abbrev pub WidensStruct : Segments → Segments → ℕ → ℕ → StructSize → Type 0
-WidensStruct S R s p size =
-    (ws : List ℕ) (ts : Trees) → IsStored S s p (Struct ws ts) → IsReplaced S R s p (Struct ws ts) (Struct (fill_words size.data_words ws) (fill_trees size.pointers ts))
-
--- Whatever the place stores, R has nothing but zeros more.
-abbrev pub LeavesAll : Segments → Segments → ℕ → ℕ → Type 0
-LeavesAll S R s p = (t : Tree) → IsStored S s p t → GrowsByZeros S R
-
--- Where the place stored a struct, it leads to e in R, all of which lies there.
-abbrev pub LeadsToWiderStruct : Segments → Segments → ℕ → ℕ → ExistingStruct → Type 0
-LeadsToWiderStruct S R s p e =
-    (ws : List ℕ) (ts : Trees) → IsStored S s p (Struct ws ts) → (e.segment ≡ (target R s p).segment) × (e.start ≡ (target R s p).start) × StructLiesIn R e
-
--- Where it stored the struct e, it leads to f in R.
-abbrev pub HousesAt : Segments → Segments → ℕ → ℕ → ExistingStruct → ExistingStruct → Type 0
-HousesAt S R s p e f =
-    (ws : List ℕ) (ts : Trees) → IsStruct S s p ws ts e → (f.segment ≡ (target R s p).segment) × (f.start ≡ (target R s p).start) × StructLiesIn R f
+-- Where a struct stood there, the place leads to e in R, all of which lies there.
+abbrev pub LeadsToWiderStruct : (Tree → Type 0) → Segments → ℕ → ℕ → ExistingStruct → Type 0
+LeadsToWiderStruct Stands R s p e =
+    (ws : List ℕ) (ts : Trees) → Stands (Struct ws ts) → (e.segment ≡ (target R s p).segment) × (e.start ≡ (target R s p).start) × StructLiesIn R e
 
 -- A struct is at least as large as asked for.
 abbrev pub IsAtLeast : StructSize → ExistingStruct → Type 0

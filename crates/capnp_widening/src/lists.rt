@@ -1,10 +1,12 @@
 //! Lists made lists of structs of at least a wanted size.
-ghost use Rattle.std.specs.Prelude.{◌≡◌, ◌≤◌, ◌+◌, Some, IsOk, IfOk, OnOk, IfErr, OnErr};
+ghost use Rattle.std.specs.Prelude.{ℕ, ◌⊎◌, ◌≡◌, ◌≤◌, ◌+◌, Some, IsOk, IfOk, OnOk, IfErr, OnErr};
 ghost use Rattle.capnp_format.specs.Segments.{IsPlace, leads, Target};
+ghost use Rattle.capnp_format.specs.Tree.{Elements, Null, Structs};
 ghost use Rattle.capnp_words.specs.Sizes.{size_number};
 ghost use Rattle.capnp_making.specs.Memory.{KeepsMemory, SpendsMemory};
-ghost use Rattle.capnp_widening.specs.Rooms.{IsWideList, WiderListFits, GrowsForList, ThisListFits, GrowsForThisList};
-ghost use Rattle.capnp_widening.specs.RowsRemade.{WidensList, LeadsToWiderList, RefusesWider, WidensTo, LeavesList, RefusesWiderList};
+ghost use Rattle.capnp_making.specs.Stored.{IsStored};
+ghost use Rattle.capnp_widening.specs.Rooms.{WiderListFits, GrowsForList};
+ghost use Rattle.capnp_widening.specs.RowsRemade.{IsList, WidensList, LeadsToWiderList, RefusesWider, WidensTo};
 ghost use Rattle.capnp_widening.specs.Widened.{LeavesAll};
 
 use crate::numbers::widen_numbers;
@@ -39,12 +41,19 @@ pub fn get_struct_list<A: BuilderArena>(
     ensures granted { OnOk result (KeepsMemory (A.view arena.old) (A.view arena.new)) }
     ensures memory { IfErr result (SpendsMemory (A.view arena.old) (A.view arena.new)) }
     ensures refused { OnErr result
-        (LeavesAll (A.view arena.old).words (A.view arena.new).words id at) }
-    ensures named { IfErr result (RefusesWider (A.view arena.old) (A.view arena.new) id at size) }
-    ensures stays { IsWideList (A.view arena.old).words id at size
+        (LeavesAll (IsStored (A.view arena.old).words id at)
+        (A.view arena.old).words (A.view arena.new).words) }
+    ensures named { IfErr result (RefusesWider (IsStored (A.view arena.old).words id at) size
+        (A.view arena.old) (A.view arena.new)) }
+    ensures stays { IsStored (A.view arena.old).words id at Null
+        ⊎ ((d : ℕ) × (q : ℕ) × (es : Elements)
+        × IsStored (A.view arena.old).words id at (Structs d q es)
+        × (size.data_words ≤ d) × (size.pointers ≤ q))
         → IsOk result × (A.view arena.new ≡ A.view arena.old) }
-    ensures fits { WiderListFits (A.view arena.old) id at size → IsOk result }
-    ensures few { GrowsForList (A.view arena.old).words (A.view arena.new).words id at size }
+    ensures fits { WiderListFits (IsStored (A.view arena.old).words id at)
+        (A.view arena.old) id at size → IsOk result }
+    ensures few { GrowsForList (IsStored (A.view arena.old).words id at)
+        (A.view arena.old).words (A.view arena.new).words size }
 {
     match existing::get_list(arena, id, at, ElementSize::Void) {
         Ok(Some(old)) => match widen_list(arena, id, at, old, size) {
@@ -70,15 +79,18 @@ fn widen_list<A: BuilderArena>(
     ensures granted { OnOk result (KeepsMemory (A.view arena.old) (A.view arena.new)) }
     ensures memory { IfErr result (SpendsMemory (A.view arena.old) (A.view arena.new)) }
     ensures refused { OnErr result
-        (LeavesList (A.view arena.old).words (A.view arena.new).words id at old) }
+        (LeavesAll (IsList (A.view arena.old).words id at old)
+        (A.view arena.old).words (A.view arena.new).words) }
     ensures named { IfErr result
-        (RefusesWiderList (A.view arena.old) (A.view arena.new) id at old size) }
+        (RefusesWider (IsList (A.view arena.old).words id at old) size
+        (A.view arena.old) (A.view arena.new)) }
     ensures stays { size_number old.size ≡ 7 → size.data_words ≤ old.struct_size.data_words
         → size.pointers ≤ old.struct_size.pointers
         → IsOk result × (A.view arena.new ≡ A.view arena.old) }
-    ensures fits { ThisListFits (A.view arena.old) id at old size → IsOk result }
-    ensures few { GrowsForThisList (A.view arena.old).words
-        (A.view arena.new).words id at old size }
+    ensures fits { WiderListFits (IsList (A.view arena.old).words id at old)
+        (A.view arena.old) id at size → IsOk result }
+    ensures few { GrowsForList (IsList (A.view arena.old).words id at old)
+        (A.view arena.old).words (A.view arena.new).words size }
 {
     match old.size {
         ElementSize::Void => widen_void(arena, id, at, old, size),
@@ -112,15 +124,18 @@ fn widen_structs<A: BuilderArena>(
     ensures granted { OnOk result (KeepsMemory (A.view arena.old) (A.view arena.new)) }
     ensures memory { IfErr result (SpendsMemory (A.view arena.old) (A.view arena.new)) }
     ensures refused { OnErr result
-        (LeavesList (A.view arena.old).words (A.view arena.new).words id at old) }
+        (LeavesAll (IsList (A.view arena.old).words id at old)
+        (A.view arena.old).words (A.view arena.new).words) }
     ensures named { IfErr result
-        (RefusesWiderList (A.view arena.old) (A.view arena.new) id at old size) }
+        (RefusesWider (IsList (A.view arena.old).words id at old) size
+        (A.view arena.old) (A.view arena.new)) }
     ensures stays { size.data_words ≤ old.struct_size.data_words
         → size.pointers ≤ old.struct_size.pointers
         → IsOk result × (A.view arena.new ≡ A.view arena.old) }
-    ensures fits { ThisListFits (A.view arena.old) id at old size → IsOk result }
-    ensures few { GrowsForThisList (A.view arena.old).words
-        (A.view arena.new).words id at old size }
+    ensures fits { WiderListFits (IsList (A.view arena.old).words id at old)
+        (A.view arena.old) id at size → IsOk result }
+    ensures few { GrowsForList (IsList (A.view arena.old).words id at old)
+        (A.view arena.old).words (A.view arena.new).words size }
 {
     let had = old.struct_size;
     if size.data_words <= had.data_words && size.pointers <= had.pointers {
@@ -156,12 +171,15 @@ fn widen_pointers<A: BuilderArena>(
     ensures granted { OnOk result (KeepsMemory (A.view arena.old) (A.view arena.new)) }
     ensures memory { IfErr result (SpendsMemory (A.view arena.old) (A.view arena.new)) }
     ensures refused { OnErr result
-        (LeavesList (A.view arena.old).words (A.view arena.new).words id at old) }
+        (LeavesAll (IsList (A.view arena.old).words id at old)
+        (A.view arena.old).words (A.view arena.new).words) }
     ensures named { IfErr result
-        (RefusesWiderList (A.view arena.old) (A.view arena.new) id at old size) }
-    ensures fits { ThisListFits (A.view arena.old) id at old size → IsOk result }
-    ensures few { GrowsForThisList (A.view arena.old).words
-        (A.view arena.new).words id at old size }
+        (RefusesWider (IsList (A.view arena.old).words id at old) size
+        (A.view arena.old) (A.view arena.new)) }
+    ensures fits { WiderListFits (IsList (A.view arena.old).words id at old)
+        (A.view arena.old) id at size → IsOk result }
+    ensures few { GrowsForList (IsList (A.view arena.old).words id at old)
+        (A.view arena.old).words (A.view arena.new).words size }
 {
     let rows = ElementRows {
         segment: old.segment,
@@ -196,12 +214,15 @@ fn widen_void<A: BuilderArena>(
     ensures granted { OnOk result (KeepsMemory (A.view arena.old) (A.view arena.new)) }
     ensures memory { IfErr result (SpendsMemory (A.view arena.old) (A.view arena.new)) }
     ensures refused { OnErr result
-        (LeavesList (A.view arena.old).words (A.view arena.new).words id at old) }
+        (LeavesAll (IsList (A.view arena.old).words id at old)
+        (A.view arena.old).words (A.view arena.new).words) }
     ensures named { IfErr result
-        (RefusesWiderList (A.view arena.old) (A.view arena.new) id at old size) }
-    ensures fits { ThisListFits (A.view arena.old) id at old size → IsOk result }
-    ensures few { GrowsForThisList (A.view arena.old).words
-        (A.view arena.new).words id at old size }
+        (RefusesWider (IsList (A.view arena.old).words id at old) size
+        (A.view arena.old) (A.view arena.new)) }
+    ensures fits { WiderListFits (IsList (A.view arena.old).words id at old)
+        (A.view arena.old) id at size → IsOk result }
+    ensures few { GrowsForList (IsList (A.view arena.old).words id at old)
+        (A.view arena.old).words (A.view arena.new).words size }
 {
     let rows = ElementRows {
         segment: old.segment,

@@ -4,16 +4,18 @@
 //! a landing pad behind the words of the object's segment where that has room, and else to two words
 //! where the arena finds room. A far pointer and a capability are copied as they are. The old pointer
 //! stays as it was, so for a while two pointers lead to one object.
-ghost use Rattle.std.specs.Prelude.{◌*◌, ◌≡◌, ◌≢◌, ◌<◌, ◌≤◌, ◌+◌, ◌-◌, ◌^◌, ◌∷◌, [], length, true, false, IsOk, OnOk, IfErr, OnErr};
+ghost use Rattle.std.specs.Prelude.{ℕ, ◌⊎◌, ◌*◌, ◌≡◌, ◌≢◌, ◌<◌, ◌≤◌, ◌+◌, ◌-◌, ◌^◌, ◌∷◌, [], length, true, false, IsOk, OnOk, IfErr, OnErr};
 ghost use Rattle.capnp_arena.specs.View.{KeepsLimits};
-ghost use Rattle.capnp_format.specs.Canonical.{Reaches};
-ghost use Rattle.capnp_format.specs.Segments.{segment, IsPlace, Grows};
-ghost use Rattle.capnp_format.specs.Word.{kind, struct_word};
+ghost use Rattle.capnp_format.specs.Canonical.{Reaches, offset_to};
+ghost use Rattle.capnp_format.specs.Segments.{segment, word_at, IsPlace, Grows};
+ghost use Rattle.capnp_format.specs.Word.{kind, offset_bits, struct_word, upper_half};
+ghost use Rattle.capnp_format.specs.Forest.{times};
 ghost use Rattle.capnp_making.specs.Made.{IsShape, CountFits, AsksWords};
 ghost use Rattle.capnp_making.specs.Memory.{KeepsMemory, SpendsMemory, RefusesWords, RefusesGrowth};
+ghost use Rattle.capnp_making.specs.Path.{word_interval};
 ghost use Rattle.capnp_making.specs.Zeroed.{IsPruned};
 ghost use Rattle.capnp_widening.specs.Moved.{a_move, row_of_moves, Moves, MovesSome, Unmoves, rows_of_moves};
-ghost use Rattle.capnp_widening.specs.Pointed.{PointsTo, IsNearWord, WritesOnly};
+ghost use Rattle.capnp_widening.specs.Pointed.{PointsTo};
 ghost use Rattle.capnp_widening.specs.Rooms.{GrowsByAtMost, HasSomeRoom};
 
 use capnp_arena::arena::BuilderArena;
@@ -33,7 +35,9 @@ pub fn move_pointer<A: BuilderArena>(arena: &mut A, from: Start, to: Start) -> R
     ensures moved { OnOk result (Moves (A.view arena.old).words (A.view arena.new).words
         (a_move from.segment from.at to.segment to.at ∷ [])) }
     ensures granted { OnOk result (KeepsMemory (A.view arena.old) (A.view arena.new)) }
-    ensures only { OnOk result (WritesOnly (A.view arena.old).words (A.view arena.new).words to) }
+    ensures only { OnOk result ((x y : ℕ) → times (word_interval to.segment to.at ∷ []) x y ≡ 0
+        → y < length (segment (A.view arena.old).words x)
+        → word_at (A.view arena.new).words x y ≡ word_at (A.view arena.old).words x y) }
     ensures longer { Grows (A.view arena.old).words (A.view arena.new).words }
     ensures memory { IfErr result (SpendsMemory (A.view arena.old) (A.view arena.new)) }
     ensures full { IfErr result (RefusesWords (A.view arena.old) (A.view arena.new) 1) }
@@ -131,7 +135,9 @@ fn near_word(shape: Shape, position: u32, target: u32) -> WirePointer
     requires few { CountFits shape }
     ensures shape { IsShape shape result.0 }
     ensures some { result.0 ≢ 0 }
-    ensures lands { IsNearWord position target result.0 }
+    ensures lands { (offset_bits result.0 ≡ offset_to position target)
+        ⊎ ((kind result.0 ≡ 0) × (upper_half result.0 ≡ 0)
+        × (offset_bits result.0 ≡ 2 ^ 30 - 1)) }
 {
     if is_empty(shape) {
         WirePointer::empty_struct()

@@ -7,8 +7,9 @@ ghost use Rattle.capnp_words.specs.Sizes.{size_number};
 ghost use Rattle.capnp_making.specs.Made.{structs_words};
 ghost use Rattle.capnp_making.specs.Fields.{field_in};
 ghost use Rattle.capnp_making.specs.Memory.{HasRoom, KeepsMemory, SpendsMemory, RefusesGrowth};
-ghost use Rattle.capnp_widening.specs.Rooms.{GrowsByAtMost, ThisListFits, GrowsForThisList};
-ghost use Rattle.capnp_widening.specs.RowsRemade.{AreNumbersCopied, NumbersInside, RemakesList, WidensTo, LeavesList, RefusesWiderList};
+ghost use Rattle.capnp_widening.specs.Rooms.{GrowsByAtMost, WiderListFits, GrowsForList};
+ghost use Rattle.capnp_widening.specs.RowsRemade.{AreNumbersCopied, IsList, NumbersInside, RemakesList, WidensTo, RefusesWider};
+ghost use Rattle.capnp_widening.specs.Widened.{LeavesAll};
 
 use crate::remaking::begin_list;
 use crate::widening::{greater, settle};
@@ -36,12 +37,15 @@ pub(crate) fn widen_numbers<A: BuilderArena>(
     ensures granted { OnOk result (KeepsMemory (A.view arena.old) (A.view arena.new)) }
     ensures memory { IfErr result (SpendsMemory (A.view arena.old) (A.view arena.new)) }
     ensures refused { OnErr result
-        (LeavesList (A.view arena.old).words (A.view arena.new).words id at old) }
+        (LeavesAll (IsList (A.view arena.old).words id at old)
+        (A.view arena.old).words (A.view arena.new).words) }
     ensures named { IfErr result
-        (RefusesWiderList (A.view arena.old) (A.view arena.new) id at old size) }
-    ensures fits { ThisListFits (A.view arena.old) id at old size → IsOk result }
-    ensures few { GrowsForThisList (A.view arena.old).words
-        (A.view arena.new).words id at old size }
+        (RefusesWider (IsList (A.view arena.old).words id at old) size
+        (A.view arena.old) (A.view arena.new)) }
+    ensures fits { WiderListFits (IsList (A.view arena.old).words id at old)
+        (A.view arena.old) id at size → IsOk result }
+    ensures few { GrowsForList (IsList (A.view arena.old).words id at old)
+        (A.view arena.old).words (A.view arena.new).words size }
 {
     let wide = StructSize {
         data_words: greater(1, size.data_words),
@@ -86,8 +90,8 @@ fn remake_numbers<A: BuilderArena>(
     requires inside { NumbersInside (A.view arena.old).words old }
     requires data { 0 < size.data_words }
     requires small { old.count * (size.data_words + size.pointers) < 2 ^ 29 }
-    ensures remade { IfOk result (RemakesList (A.view arena.old).words
-        (A.view arena.new).words id at old size) }
+    ensures remade { IfOk result (RemakesList (IsList (A.view arena.old).words id at old)
+        (A.view arena.old).words (A.view arena.new).words id at size) }
     ensures granted { OnOk result (KeepsMemory (A.view arena.old) (A.view arena.new)) }
     ensures refused { OnErr result ((A.view arena.new).words ≡ (A.view arena.old).words) }
     ensures memory { IfErr result (SpendsMemory (A.view arena.old) (A.view arena.new)) }

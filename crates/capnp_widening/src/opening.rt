@@ -7,11 +7,12 @@ ghost use Rattle.capnp_making.specs.Existing.{StructLiesIn, struct_in};
 ghost use Rattle.capnp_making.specs.Memory.{HasRoom, KeepsMemory, SpendsMemory, TakesWords};
 ghost use Rattle.capnp_making.specs.Stored.{IsStored};
 ghost use Rattle.capnp_making.specs.Makes.{call_at};
-ghost use Rattle.capnp_widening.specs.Opening.{HasWideStructs, OpensExistingStruct, OpensExistingList, refusal_of_elements, existing_struct};
+ghost use Rattle.capnp_widening.specs.Opening.{LeadsToOne, OpensStruct, OpensExistingList, refusal_of_elements, existing_struct};
 ghost use Rattle.capnp_widening.specs.Rooms.{WiderListFits, OpeningFits, WiderStructFits};
 ghost use Rattle.capnp_widening.specs.RowsRemade.{RefusesWider};
 ghost use Rattle.capnp_widening.specs.Widened.{IsAtLeast, IsNoWider};
 ghost use Rattle.capnp_words.specs.declared.error.ErrorKind.TheVariants.{AllocationFailed};
+ghost use Rattle.capnp_words.specs.declared.wire_pointer.ElementSize.TheVariants.{InlineComposite};
 
 use crate::lists::get_struct_list;
 use crate::widening::{greater, widen_known};
@@ -37,7 +38,7 @@ pub fn open_struct<A: BuilderArena>(
 ) -> Result<ExistingStruct, ErrorKind>
     requires place { IsPlace (A.view arena.old).words id at }
     ensures opened { (t : Tree) → IsStored (A.view arena.old).words id at t
-        → OpensExistingStruct size result (call_at id at (A.view arena.old) (A.view arena.new)) t }
+        → OpensStruct LeadsToOne size result (call_at id at (A.view arena.old) (A.view arena.new)) t }
     ensures wide { IfOk result (IsAtLeast size) }
     ensures granted { OnOk result (KeepsMemory (A.view arena.old) (A.view arena.new)) }
     ensures memory { IfErr result (SpendsMemory (A.view arena.old) (A.view arena.new)) }
@@ -80,7 +81,7 @@ fn new_struct<A: BuilderArena>(
 ) -> Result<ExistingStruct, ErrorKind>
     requires place { IsPlace (A.view arena.old).words id at }
     requires null { word_at (A.view arena.old).words id at ≡ 0 }
-    ensures opened { OpensExistingStruct size result
+    ensures opened { OpensStruct LeadsToOne size result
         (call_at id at (A.view arena.old) (A.view arena.new)) Null }
     ensures wide { IfOk result (IsAtLeast size) }
     ensures granted { OnOk result (KeepsMemory (A.view arena.old) (A.view arena.new)) }
@@ -118,7 +119,7 @@ fn widen_struct<A: BuilderArena>(
     requires narrow { size.data_words ≤ narrow.data_words → size.pointers ≤ narrow.pointers → ⊥ }
     ensures opened { (t : Tree) → IsStored (A.view arena.old).words id at t
         → struct_in (target (A.view arena.old).words id at) t ≡ Some (existing_struct start narrow)
-        → OpensExistingStruct size result (call_at id at (A.view arena.old) (A.view arena.new)) t }
+        → OpensStruct LeadsToOne size result (call_at id at (A.view arena.old) (A.view arena.new)) t }
     ensures wide { IfOk result (IsAtLeast size) }
     ensures granted { OnOk result (KeepsMemory (A.view arena.old) (A.view arena.new)) }
     ensures memory { IfErr result (SpendsMemory (A.view arena.old) (A.view arena.new)) }
@@ -177,8 +178,10 @@ pub fn open_struct_list<A: BuilderArena>(
         → OpensExistingList size result (call_at id at (A.view arena.old) (A.view arena.new)) t }
     ensures granted { OnOk result (KeepsMemory (A.view arena.old) (A.view arena.new)) }
     ensures memory { IfErr result (SpendsMemory (A.view arena.old) (A.view arena.new)) }
-    ensures named { IfErr result (RefusesWider (A.view arena.old) (A.view arena.new) id at size) }
-    ensures fits { WiderListFits (A.view arena.old) id at size → IsOk result }
+    ensures named { IfErr result (RefusesWider (IsStored (A.view arena.old).words id at) size
+        (A.view arena.old) (A.view arena.new)) }
+    ensures fits { WiderListFits (IsStored (A.view arena.old).words id at)
+        (A.view arena.old) id at size → IsOk result }
 {
     match existing::get_list(arena, id, at, ElementSize::Void) {
         Ok(Some(old)) => {
@@ -197,7 +200,10 @@ pub fn open_struct_list<A: BuilderArena>(
 
 /// Whether a list is one of structs with sections as large as wanted.
 fn is_wide_list(list: ExistingList, wanted: StructSize) -> bool
-    ensures { IsTrue result ↔ HasWideStructs wanted list }
+    ensures { IsTrue result
+        ↔ ((list.size ≡ InlineComposite)
+        × (wanted.data_words ≤ list.struct_size.data_words)
+        × (wanted.pointers ≤ list.struct_size.pointers)) }
 {
     list.size == ElementSize::InlineComposite && is_wide(list.struct_size, wanted)
 }

@@ -2,12 +2,15 @@
 //! pointers moved, element by element.
 ghost use Rattle.std.specs.Prelude.{ℕ, ◌≡◌, ◌↔◌, ◌<◌, ◌≤◌, ◌+◌, ◌*◌, ◌^◌, IsTrue, length, IsOk, IfOk, OnOk, IfErr, OnErr};
 ghost use Rattle.capnp_arena.specs.View.{KeepsLimits};
-ghost use Rattle.capnp_format.specs.Segments.{segment, IsPlace, Grows};
+ghost use Rattle.capnp_format.specs.Segments.{Segments, segment, IsPlace, Grows};
 ghost use Rattle.capnp_making.specs.Made.{structs_words};
 ghost use Rattle.capnp_making.specs.Memory.{HasRoom, KeepsMemory, SpendsMemory, RefusesGrowth};
 ghost use Rattle.capnp_making.specs.Near.{HasOwnRoom};
-ghost use Rattle.capnp_widening.specs.Rooms.{GrowsByAtMost, HasSomeRoom, RemadeRowsFit, GrowsForRows};
-ghost use Rattle.capnp_widening.specs.RowsRemade.{AreRowsCopied, BeginsList, RowsInside, FillsRows, UnfillsRows, RemakesRows, LeavesRows, RefusesRows};
+ghost use Rattle.capnp_widening.specs.Rooms.{GrowsByAtMost, HasSomeRoom, RemadeRowsFit};
+ghost use Rattle.capnp_widening.specs.Housed.{IsRoom};
+ghost use Rattle.capnp_widening.specs.Moved.{Moves, MovesSome, Unmoves};
+ghost use Rattle.capnp_widening.specs.RowsRemade.{AreRowsCopied, CopiesData, IsTagWritten, RowsInside, RemakesList, RefusesRows, StoresRows, element_moves};
+ghost use Rattle.capnp_widening.specs.Widened.{LeavesAll};
 
 use crate::moving::{Rows, move_rows, unmove_rows};
 use crate::widening::{Room, copy_words, settle, take};
@@ -76,8 +79,9 @@ pub(crate) fn begin_list<A: BuilderArena>(
     requires there { id < length (A.view arena.old).words }
     requires few { size.data_words + size.pointers ≡ 0 → count < 2 ^ 30 }
     requires small { count * (size.data_words + size.pointers) < 2 ^ 29 }
-    ensures begun { IfOk result (BeginsList (A.view arena.old).words
-        (A.view arena.new).words id count size) }
+    ensures begun { IfOk result (λ room. (T : Segments)
+        × IsRoom (A.view arena.old).words T id (structs_words count size) room
+        × IsTagWritten T (A.view arena.new).words room.segment (room.at + room.pads) count size) }
     ensures granted { OnOk result (KeepsMemory (A.view arena.old) (A.view arena.new)) }
     ensures memory { IfErr result (SpendsMemory (A.view arena.old) (A.view arena.new)) }
     ensures full { IfErr result (RefusesGrowth (A.view arena.old) (A.view arena.new)) }
@@ -117,10 +121,13 @@ fn fill_rows<A: BuilderArena>(
         → old.at + (old.tag + old.count * (old.size.data_words + old.size.pointers)) ≤ first.at }
     requires data { old.size.data_words ≤ size.data_words }
     requires pointers { old.size.pointers ≤ size.pointers }
-    ensures filled { OnOk result (FillsRows (A.view arena.old).words
-        (A.view arena.new).words old first size) }
-    ensures undone { OnErr result
-        (UnfillsRows (A.view arena.old).words (A.view arena.new).words old first size) }
+    ensures filled { OnOk result ((D : Segments)
+        × CopiesData (A.view arena.old).words D old first size
+        × Moves D (A.view arena.new).words (element_moves old first size)) }
+    ensures undone { OnErr result ((D : Segments) × (P : Segments)
+        × CopiesData (A.view arena.old).words D old first size
+        × MovesSome D P (element_moves old first size)
+        × Unmoves P (A.view arena.new).words (element_moves old first size)) }
     ensures longer { Grows (A.view arena.old).words (A.view arena.new).words }
     ensures granted { OnOk result (KeepsMemory (A.view arena.old) (A.view arena.new)) }
     ensures memory { IfErr result (SpendsMemory (A.view arena.old) (A.view arena.new)) }
@@ -186,16 +193,18 @@ pub(crate) fn widen_rows<A: BuilderArena>(
     requires few { size.data_words + size.pointers ≡ 0 → old.count < 2 ^ 30 }
     requires data { old.size.data_words ≤ size.data_words }
     requires pointers { old.size.pointers ≤ size.pointers }
-    ensures remade { IfOk result (RemakesRows (A.view arena.old).words
-        (A.view arena.new).words id at old size) }
+    ensures remade { IfOk result (RemakesList (StoresRows (A.view arena.old).words id at old)
+        (A.view arena.old).words (A.view arena.new).words id at size) }
     ensures small { OnOk result (old.count * (size.data_words + size.pointers) < 2 ^ 29) }
     ensures granted { OnOk result (KeepsMemory (A.view arena.old) (A.view arena.new)) }
     ensures memory { IfErr result (SpendsMemory (A.view arena.old) (A.view arena.new)) }
     ensures refused { OnErr result
-        (LeavesRows (A.view arena.old).words (A.view arena.new).words id at old) }
+        (LeavesAll (StoresRows (A.view arena.old).words id at old)
+        (A.view arena.old).words (A.view arena.new).words) }
     ensures named { IfErr result
         (RefusesRows (A.view arena.old) (A.view arena.new) id at old size) }
-    ensures few { GrowsForRows (A.view arena.old).words (A.view arena.new).words old size }
+    ensures few { GrowsByAtMost (A.view arena.old).words (A.view arena.new).words
+        (structs_words old.count size + 1 + 2 * (old.count * old.size.pointers)) }
     ensures fits { RowsInside (A.view arena.old).words old
         → RemadeRowsFit (A.view arena.old) id old size
         → IsOk result }
@@ -233,14 +242,16 @@ fn remake_rows<A: BuilderArena>(
     requires small { old.count * (size.data_words + size.pointers) < 2 ^ 29 }
     requires data { old.size.data_words ≤ size.data_words }
     requires pointers { old.size.pointers ≤ size.pointers }
-    ensures remade { IfOk result (RemakesRows (A.view arena.old).words
-        (A.view arena.new).words id at old size) }
+    ensures remade { IfOk result (RemakesList (StoresRows (A.view arena.old).words id at old)
+        (A.view arena.old).words (A.view arena.new).words id at size) }
     ensures granted { OnOk result (KeepsMemory (A.view arena.old) (A.view arena.new)) }
     ensures refused { OnErr result
-        (LeavesRows (A.view arena.old).words (A.view arena.new).words id at old) }
+        (LeavesAll (StoresRows (A.view arena.old).words id at old)
+        (A.view arena.old).words (A.view arena.new).words) }
     ensures memory { IfErr result (SpendsMemory (A.view arena.old) (A.view arena.new)) }
     ensures full { IfErr result (RefusesGrowth (A.view arena.old) (A.view arena.new)) }
-    ensures few { GrowsForRows (A.view arena.old).words (A.view arena.new).words old size }
+    ensures few { GrowsByAtMost (A.view arena.old).words (A.view arena.new).words
+        (structs_words old.count size + 1 + 2 * (old.count * old.size.pointers)) }
     ensures fits { RemadeRowsFit (A.view arena.old) id old size → IsOk result }
 {
     let pointer = word_of(arena, id, at);

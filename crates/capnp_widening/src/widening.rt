@@ -1,11 +1,11 @@
 //! Structs and lists made wider where they are too small: the object stands anew in more words, its
 //! pointers are moved there, and at last its pointer is overwritten. Until then the old object stands
 //! as it was, and a refusal leaves nothing but zeros.
-ghost use Rattle.std.specs.Prelude.{ℕ, Some, ◌≡◌, ◌<◌, ◌≤◌, ◌+◌, ◌*◌, ◌^◌, max, length, IsOk, IfOk, OnOk, IfErr, OnErr};
+ghost use Rattle.std.specs.Prelude.{ℕ, List, Some, ◌≡◌, ◌<◌, ◌≤◌, ◌+◌, ◌*◌, ◌^◌, max, length, IsOk, IfOk, OnOk, IfErr, OnErr};
 ghost use Rattle.capnp_arena.specs.View.{KeepsLimits};
 ghost use Rattle.capnp_format.specs.Segments.{segment, word_at, IsPlace, Grows};
 ghost use Rattle.capnp_format.specs.Forest.{target};
-ghost use Rattle.capnp_format.specs.Tree.{Tree};
+ghost use Rattle.capnp_format.specs.Tree.{Tree, Trees, Struct, count};
 ghost use Rattle.capnp_making.specs.Existing.{StructLiesIn, struct_in};
 ghost use Rattle.capnp_making.specs.Made.{CountFits, AsksWords};
 ghost use Rattle.capnp_making.specs.Memory.{HasRoom, KeepsMemory, SpendsMemory, RefusesWords, RefusesGrowth};
@@ -13,8 +13,8 @@ ghost use Rattle.capnp_making.specs.Near.{HasOwnRoom};
 ghost use Rattle.capnp_making.specs.Stored.{IsStored};
 ghost use Rattle.capnp_making.specs.Zeroed.{IsPruned};
 ghost use Rattle.capnp_widening.specs.Housed.{IsRoom, AreWordsCopied, Settles};
-ghost use Rattle.capnp_widening.specs.Rooms.{GrowsByAtMost, HasSomeRoom, IsWideStruct, WiderStructFits, GrowsForStruct};
-ghost use Rattle.capnp_widening.specs.Widened.{HousesAt, IsAtLeast, IsNoWider, LeadsToWiderStruct, LeavesAll, LeavesStruct, Rehouses, WidensStruct};
+ghost use Rattle.capnp_widening.specs.Rooms.{GrowsByAtMost, HasSomeRoom, WiderStructFits, GrowsForStruct};
+ghost use Rattle.capnp_widening.specs.Widened.{IsAtLeast, IsNoWider, IsStruct, LeadsToWiderStruct, LeavesAll, WidensStruct};
 
 use crate::moving::{move_row, unmove_row};
 use capnp_arena::arena::BuilderArena;
@@ -138,16 +138,19 @@ pub fn get_struct<A: BuilderArena>(
     size: StructSize,
 ) -> Result<ExistingStruct, ErrorKind>
     requires place { IsPlace (A.view arena.old).words id at }
-    ensures widened { OnOk result (WidensStruct (A.view arena.old).words
-        (A.view arena.new).words id at size) }
-    ensures leads { IfOk result (LeadsToWiderStruct (A.view arena.old).words
-        (A.view arena.new).words id at) }
+    ensures widened { OnOk result (WidensStruct (IsStored (A.view arena.old).words id at)
+        (A.view arena.old).words (A.view arena.new).words id at size) }
+    ensures leads { IfOk result (LeadsToWiderStruct
+        (IsStored (A.view arena.old).words id at) (A.view arena.new).words id at) }
     ensures wide { IfOk result (IsAtLeast size) }
     ensures granted { OnOk result (KeepsMemory (A.view arena.old) (A.view arena.new)) }
     ensures refused { OnErr result
-        (LeavesAll (A.view arena.old).words (A.view arena.new).words id at) }
+        (LeavesAll (IsStored (A.view arena.old).words id at)
+        (A.view arena.old).words (A.view arena.new).words) }
     ensures named { IfErr result (IsNoWider (A.view arena.old) (A.view arena.new) id at) }
-    ensures stays { IsWideStruct (A.view arena.old).words id at size
+    ensures stays { (ws : List ℕ) (ts : Trees)
+        → IsStored (A.view arena.old).words id at (Struct ws ts)
+        → size.data_words ≤ length ws → size.pointers ≤ count ts
         → IsOk result × (A.view arena.new ≡ A.view arena.old) }
     ensures fits { WiderStructFits (A.view arena.old) id at size → IsOk result }
     ensures few { GrowsForStruct (A.view arena.old).words (A.view arena.new).words id at size }
@@ -182,13 +185,14 @@ pub(crate) fn widen_known<A: BuilderArena>(
         → struct_in (target (A.view arena.old).words id at) t ≡ Some old }
     requires narrow { size.data_words ≤ old.size.data_words
         → size.pointers ≤ old.size.pointers → ⊥ }
-    ensures widened { OnOk result (WidensStruct (A.view arena.old).words
-        (A.view arena.new).words id at size) }
-    ensures leads { IfOk result (LeadsToWiderStruct (A.view arena.old).words
-        (A.view arena.new).words id at) }
+    ensures widened { OnOk result (WidensStruct (IsStored (A.view arena.old).words id at)
+        (A.view arena.old).words (A.view arena.new).words id at size) }
+    ensures leads { IfOk result (LeadsToWiderStruct
+        (IsStored (A.view arena.old).words id at) (A.view arena.new).words id at) }
     ensures granted { OnOk result (KeepsMemory (A.view arena.old) (A.view arena.new)) }
     ensures refused { OnErr result
-        (LeavesAll (A.view arena.old).words (A.view arena.new).words id at) }
+        (LeavesAll (IsStored (A.view arena.old).words id at)
+        (A.view arena.old).words (A.view arena.new).words) }
     ensures named { IfErr result (IsNoWider (A.view arena.old) (A.view arena.new) id at) }
     ensures fits { WiderStructFits (A.view arena.old) id at size → IsOk result }
     ensures few { GrowsForStruct (A.view arena.old).words (A.view arena.new).words id at size }
@@ -220,14 +224,15 @@ fn widen_struct<A: BuilderArena>(
     requires data { old.size.data_words ≤ size.data_words }
     requires pointers { old.size.pointers ≤ size.pointers }
     requires some { 0 < size.data_words + size.pointers }
-    ensures widened { OnOk result (Rehouses (A.view arena.old).words
-        (A.view arena.new).words id at old size) }
-    ensures leads { IfOk result (HousesAt (A.view arena.old).words
-        (A.view arena.new).words id at old) }
+    ensures widened { OnOk result (WidensStruct (IsStruct (A.view arena.old).words id at old)
+        (A.view arena.old).words (A.view arena.new).words id at size) }
+    ensures leads { IfOk result (LeadsToWiderStruct
+        (IsStruct (A.view arena.old).words id at old) (A.view arena.new).words id at) }
     ensures size { IfOk result (λ e. e.size ≡ size) }
     ensures granted { OnOk result (KeepsMemory (A.view arena.old) (A.view arena.new)) }
     ensures refused { OnErr result
-        (LeavesStruct (A.view arena.old).words (A.view arena.new).words id at old) }
+        (LeavesAll (IsStruct (A.view arena.old).words id at old)
+        (A.view arena.old).words (A.view arena.new).words) }
     ensures memory { IfErr result (SpendsMemory (A.view arena.old) (A.view arena.new)) }
     ensures full { IfErr result (RefusesGrowth (A.view arena.old) (A.view arena.new)) }
     ensures few { GrowsByAtMost (A.view arena.old).words (A.view arena.new).words

@@ -2,11 +2,11 @@
 ghost use Rattle.std.specs.Prelude.{◌≡◌, ◌↔◌, ◌/◌, ◌^◌, ◌<◌, ◌≤◌, length, IsTrue, IsNone, IsOk, IfErr, OnOk, OnErr};
 ghost use Rattle.capnp_format.specs.Segments.{word_at, Grows, IsPlace};
 ghost use Rattle.capnp_format.specs.Tree.{Tree, Null};
-ghost use Rattle.capnp_making.specs.Memory.{KeepsMemory, SpendsMemory};
 ghost use Rattle.capnp_making.specs.Stored.{IsStored, IsReplaced};
-ghost use Rattle.capnp_copies.specs.Changes.{StandsAsRead};
 ghost use Rattle.capnp_copies.specs.Growth.{TakesAtMost};
+ghost use Rattle.capnp_copies.specs.Originals.{value_original};
 ghost use Rattle.capnp_making.specs.Makes.{call_at};
+ghost use Rattle.capnp_builders.specs.Building.{ChangesWords};
 ghost use Rattle.capnp_builders.specs.Defaults.{default_root, default_copy, StandsForNull, RefusesDefault, IsShortDefault, IsNullDefault, object_default, blob_default, PutsDefaultOver, DefaultCopyFits, DefaultFits};
 
 use capnp_arena::arena::BuilderArena;
@@ -36,19 +36,16 @@ pub fn copy_default<A: BuilderArena>(
     requires null { word_at (A.view arena.old).words id at ≡ 0 }
     requires some { 8 ≤ length default.now }
     requires few { length default.now / 8 < 2 ^ 32 }
-    ensures copied { OnOk result (StandsForNull default.now (A.view arena.old).words
-        (A.view arena.new).words id at) }
-    ensures stands { OnOk result (StandsAsRead (default_root default.now)
-        (default_copy id at (A.view arena.old) (A.view arena.new))) }
+    ensures copied { OnOk result
+        (StandsForNull default.now (A.view arena.old) (A.view arena.new) id at) }
     ensures fits { DefaultCopyFits default.now (A.view arena.old) id → IsOk result }
     ensures refused { OnErr result
         (IsReplaced (A.view arena.old).words (A.view arena.new).words id at Null Null) }
     ensures named { IfErr result
         (RefusesDefault default.now (default_copy id at (A.view arena.old) (A.view arena.new))) }
-    ensures taken { TakesAtMost result (default_root default.now)
+    ensures taken { TakesAtMost result (value_original (default_root default.now))
         (default_copy id at (A.view arena.old) (A.view arena.new)) }
-    ensures granted { OnOk result (KeepsMemory (A.view arena.old) (A.view arena.new)) }
-    ensures memory { IfErr result (SpendsMemory (A.view arena.old) (A.view arena.new)) }
+    ensures memory { ChangesWords result (A.view arena.old) (A.view arena.new) }
 {
     let from: PointerReader<'_, A> = match PointerReader::from_default(default) {
         Ok(from) => from,
@@ -79,8 +76,7 @@ pub(crate) fn put_default<A: BuilderArena>(
     ensures none { IsNone default.entry → IsOk result × (A.view arena.new ≡ A.view arena.old) }
     ensures fits { DefaultFits default.entry (A.view arena.old) id → IsOk result }
     ensures longer { Grows (A.view arena.old).words (A.view arena.new).words }
-    ensures granted { OnOk result (KeepsMemory (A.view arena.old) (A.view arena.new)) }
-    ensures memory { IfErr result (SpendsMemory (A.view arena.old) (A.view arena.new)) }
+    ensures memory { ChangesWords result (A.view arena.old) (A.view arena.new) }
 {
     let Some(bytes) = default else {
         return Ok(());
@@ -113,8 +109,7 @@ pub(crate) fn put_blob_default<A: BuilderArena>(
     ensures stays { (word_at (A.view arena.old).words id at ≡ 0 → ⊥)
         → IsOk result × (A.view arena.new ≡ A.view arena.old) }
     ensures longer { Grows (A.view arena.old).words (A.view arena.new).words }
-    ensures granted { OnOk result (KeepsMemory (A.view arena.old) (A.view arena.new)) }
-    ensures memory { IfErr result (SpendsMemory (A.view arena.old) (A.view arena.new)) }
+    ensures memory { ChangesWords result (A.view arena.old) (A.view arena.new) }
 {
     if has_null_word(default) && word_of(arena, id, at).is_null() {
         return Err(ErrorKind::ExistingPointerIsNotAList);

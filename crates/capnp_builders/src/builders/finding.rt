@@ -2,16 +2,17 @@
 //! list of structs that is too small is made wider ("Structs", "Lists", "Default Values").
 ghost use Rattle.std.specs.Prelude.{◌≡◌, ◌+◌, ◌*◌, ◌^◌, ◌<◌, ◌≤◌, true, IsNone, IsOk, IfOk, IfErr, OnOk, OnErr, Result};
 ghost use Rattle.capnp_making.specs.declared.existing.ExistingBytes.{ExistingBytes};
-ghost use Rattle.capnp_making.specs.Existing.{BytesLieIn, is_unfound};
-ghost use Rattle.capnp_making.specs.Memory.{KeepsMemory, SpendsMemory};
+ghost use Rattle.capnp_making.specs.Existing.{BytesLieIn, data_in, is_unfound, text_in};
+ghost use Rattle.capnp_making.specs.Memory.{KeepsMemory, TakesWords};
+ghost use Rattle.capnp_making.specs.Stored.{IsStored};
 ghost use Rattle.capnp_words.specs.Sizes.{size_number};
 ghost use Rattle.capnp_readers.specs.Readers.{IsListPlace};
 ghost use Rattle.capnp_widening.specs.RowsRemade.{RefusesWider};
 ghost use Rattle.capnp_widening.specs.Widened.{IsNoWider};
 ghost use Rattle.capnp_words.specs.declared.error.ErrorKind.{ErrorKind};
 ghost use Rattle.capnp_builders.specs.Defaults.{IsShortDefault, DefaultFits, IsIgnoredDefault, object_default, PutsDefaultOver};
-ghost use Rattle.capnp_builders.specs.Found.{FindsList, FindsData, FindsText, IsLent};
-ghost use Rattle.capnp_builders.specs.Opening.{FindsStruct, FindsStructs, IsStructAtLeast, StructFindFits, StructsFindFits, TakesForNewStruct};
+ghost use Rattle.capnp_builders.specs.Found.{FindsList, FindsBytes, IsLent};
+ghost use Rattle.capnp_builders.specs.Opening.{FindsStruct, FindsStructs, StructFindFits, StructsFindFits};
 ghost use Rattle.capnp_builders.specs.Places.{StructStartsAt, IsAligned};
 
 use super::PointerBuilder;
@@ -28,7 +29,7 @@ use capnp_words::error::ErrorKind;
 use capnp_words::wire_pointer::{ElementSize, StructSize};
 
 impl<'a, A: BuilderArena> PointerBuilder<'a, A> {
-    ghost use Rattle.capnp_builders.specs.Building.{IsNull, IsThere, KeepsBuilder, OfStored, LeavesMessage, built, calling, calling_last};
+    ghost use Rattle.capnp_builders.specs.Building.{ChangesWords, IsNull, IsThere, KeepsBuilder, OfStored, LeavesMessage, built, calling, calling_last};
 
     /// Puts the value of a default in place of a null pointer, as it stands ("Default Values"). What isn't
     /// null stays, and so does null where there is no default, or one whose first word is null.
@@ -50,10 +51,7 @@ impl<'a, A: BuilderArena> PointerBuilder<'a, A> {
             × (A.view self.new.arena.now ≡ A.view self.old.arena.now) }
         ensures fits { DefaultFits default.entry (A.view self.old.arena.now) self.old.segment
             → IsOk result }
-        ensures granted { OnOk result (KeepsMemory (A.view self.old.arena.now)
-            (A.view self.new.arena.now)) }
-        ensures memory { IfErr result
-            (SpendsMemory (A.view self.old.arena.now) (A.view self.new.arena.now)) }
+        ensures memory { ChangesWords result (A.view self.old.arena.now) (A.view self.new.arena.now) }
         ensures there { IsThere (built A.view self.new) }
         ensures builder { KeepsBuilder self.old self.new }
     {
@@ -75,19 +73,18 @@ impl<'a, A: BuilderArena> PointerBuilder<'a, A> {
         ensures fits { StructFindFits size default.entry
             (A.view self.old.arena.now) self.old.segment self.old.at → IsOk result }
         ensures taken { IsNull (built A.view self.old) → IsIgnoredDefault default.entry
-            → OnOk result (TakesForNewStruct size (calling A.view self.old self.new)) }
+            → OnOk result (TakesWords (A.view self.old.arena.now) (A.view self.new.arena.now)
+            self.old.segment (size.data_words + size.pointers)) }
         ensures refused { IsNull (built A.view self.old) → IsIgnoredDefault default.entry
             → OnErr result ((A.view self.new.arena.now).words ≡ (A.view self.old.arena.now).words) }
-        ensures wide { IfOk result (IsStructAtLeast size) }
+        ensures wide { IfOk result (λ place.
+            (64 * size.data_words ≤ place.bits) × (size.pointers ≤ place.pointers)) }
         ensures aligned { IfOk result IsAligned }
         ensures set { (IsNull (built A.view self.old) → ⊥)
             → IfErr result
             (IsNoWider (A.view self.old.arena.now)
             (A.view self.new.arena.now) self.old.segment self.old.at) }
-        ensures granted { OnOk result (KeepsMemory (A.view self.old.arena.now)
-            (A.view self.new.arena.now)) }
-        ensures memory { IfErr result
-            (SpendsMemory (A.view self.old.arena.now) (A.view self.new.arena.now)) }
+        ensures memory { ChangesWords result (A.view self.old.arena.now) (A.view self.new.arena.now) }
         ensures there { OfStored (built A.view self.old) (λ t. IsThere (built A.view self.new)) }
         ensures builder { KeepsBuilder self.old self.new }
     {
@@ -127,8 +124,10 @@ impl<'a, A: BuilderArena> PointerBuilder<'a, A> {
             (A.view self.entry.arena.now) self.entry.segment self.entry.at → IsOk result }
         ensures taken { IsNull (built A.view self.entry) → IsIgnoredDefault default.entry
             → IfOk result
-            (λ b. TakesForNewStruct size (calling_last A.view self.entry (A.view b.arena.now))) }
-        ensures wide { IfOk result (λ b. IsStructAtLeast size b.place) }
+            (λ b. TakesWords (A.view self.entry.arena.now) (A.view b.arena.now)
+            self.entry.segment (size.data_words + size.pointers)) }
+        ensures wide { IfOk result (λ b.
+            (64 * size.data_words ≤ b.place.bits) × (size.pointers ≤ b.place.pointers)) }
         ensures granted { IfOk result (λ b. KeepsMemory (A.view self.entry.arena.now)
             (A.view b.arena.now)) }
     {
@@ -153,12 +152,10 @@ impl<'a, A: BuilderArena> PointerBuilder<'a, A> {
             (A.view self.old.arena.now) self.old.segment self.old.at → IsOk result }
         ensures set { (IsNull (built A.view self.old) → ⊥)
             → IfErr result
-            (RefusesWider (A.view self.old.arena.now)
-            (A.view self.new.arena.now) self.old.segment self.old.at size) }
-        ensures granted { OnOk result (KeepsMemory (A.view self.old.arena.now)
-            (A.view self.new.arena.now)) }
-        ensures memory { IfErr result
-            (SpendsMemory (A.view self.old.arena.now) (A.view self.new.arena.now)) }
+            (RefusesWider
+            (IsStored (A.view self.old.arena.now).words self.old.segment self.old.at)
+            size (A.view self.old.arena.now) (A.view self.new.arena.now)) }
+        ensures memory { ChangesWords result (A.view self.old.arena.now) (A.view self.new.arena.now) }
         ensures there { OfStored (built A.view self.old) (λ t. IsThere (built A.view self.new)) }
         ensures builder { KeepsBuilder self.old self.new }
     {
@@ -224,10 +221,7 @@ impl<'a, A: BuilderArena> PointerBuilder<'a, A> {
         ensures set { (IsNull (built A.view self.old) → ⊥)
             → (A.view self.new.arena.now ≡ A.view self.old.arena.now)
             × IfErr result (λ k. is_unfound k ≡ true) }
-        ensures granted { OnOk result (KeepsMemory (A.view self.old.arena.now)
-            (A.view self.new.arena.now)) }
-        ensures memory { IfErr result
-            (SpendsMemory (A.view self.old.arena.now) (A.view self.new.arena.now)) }
+        ensures memory { ChangesWords result (A.view self.old.arena.now) (A.view self.new.arena.now) }
         ensures there { IsThere (built A.view self.new) }
         ensures builder { KeepsBuilder self.old self.new }
     {
@@ -275,15 +269,12 @@ impl<'a, A: BuilderArena> PointerBuilder<'a, A> {
         requires there { IsThere (built A.view self.old) }
         requires few { IsShortDefault default }
         ensures found { OfStored (built A.view self.old)
-            (FindsData default.entry result (calling A.view self.old self.new)) }
+            (FindsBytes data_in default.entry result (calling A.view self.old self.new)) }
         ensures inside { IfOk result (BytesLieIn (A.view self.new.arena.now).words) }
         ensures set { (IsNull (built A.view self.old) → ⊥)
             → (A.view self.new.arena.now ≡ A.view self.old.arena.now)
             × IfErr result (λ k. is_unfound k ≡ true) }
-        ensures granted { OnOk result (KeepsMemory (A.view self.old.arena.now)
-            (A.view self.new.arena.now)) }
-        ensures memory { IfErr result
-            (SpendsMemory (A.view self.old.arena.now) (A.view self.new.arena.now)) }
+        ensures memory { ChangesWords result (A.view self.old.arena.now) (A.view self.new.arena.now) }
         ensures there { IsThere (built A.view self.new) }
         ensures builder { KeepsBuilder self.old self.new }
     {
@@ -305,7 +296,8 @@ impl<'a, A: BuilderArena> PointerBuilder<'a, A> {
         requires few { IsShortDefault default }
         ensures found { OfStored (built A.view self.entry)
             (λ t. (now : A) × (r : Result ExistingBytes ErrorKind)
-            × FindsData default.entry r (calling_last A.view self.entry (A.view now)) t
+            × FindsBytes data_in default.entry r
+            (calling_last A.view self.entry (A.view now)) t
             × IsLent (λ s. s.now) (A.segments now) r result) }
     {
         match self.find_data(default) {
@@ -327,15 +319,12 @@ impl<'a, A: BuilderArena> PointerBuilder<'a, A> {
         requires there { IsThere (built A.view self.old) }
         requires few { IsShortDefault default }
         ensures found { OfStored (built A.view self.old)
-            (FindsText default.entry result (calling A.view self.old self.new)) }
+            (FindsBytes text_in default.entry result (calling A.view self.old self.new)) }
         ensures inside { IfOk result (BytesLieIn (A.view self.new.arena.now).words) }
         ensures set { (IsNull (built A.view self.old) → ⊥)
             → (A.view self.new.arena.now ≡ A.view self.old.arena.now)
             × IfErr result (λ k. is_unfound k ≡ true) }
-        ensures granted { OnOk result (KeepsMemory (A.view self.old.arena.now)
-            (A.view self.new.arena.now)) }
-        ensures memory { IfErr result
-            (SpendsMemory (A.view self.old.arena.now) (A.view self.new.arena.now)) }
+        ensures memory { ChangesWords result (A.view self.old.arena.now) (A.view self.new.arena.now) }
         ensures there { IsThere (built A.view self.new) }
         ensures builder { KeepsBuilder self.old self.new }
     {
@@ -357,7 +346,8 @@ impl<'a, A: BuilderArena> PointerBuilder<'a, A> {
         requires few { IsShortDefault default }
         ensures found { OfStored (built A.view self.entry)
             (λ t. (now : A) × (r : Result ExistingBytes ErrorKind)
-            × FindsText default.entry r (calling_last A.view self.entry (A.view now)) t
+            × FindsBytes text_in default.entry r
+            (calling_last A.view self.entry (A.view now)) t
             × IsLent (λ s. s.now) (A.segments now) r result) }
     {
         match self.find_text(default) {

@@ -5,8 +5,8 @@ ghost use Rattle.capnp_words.specs.Sizes.{size_number};
 ghost use Rattle.capnp_readers.specs.Readers.{IsStructPlace, IsListPlace};
 ghost use Rattle.capnp_format.specs.Segments.{IsPlace};
 ghost use Rattle.capnp_readers.specs.Sections.{HoldsPointer, pointers_behind, elements_words, step_bits, data_bits};
-ghost use Rattle.capnp_builders.specs.Places.{IsAligned, IsElement};
-ghost use Rattle.capnp_builders.specs.Elements.{lowest_bits, WritesElement, HasElement};
+ghost use Rattle.capnp_builders.specs.Places.{HasField, IsAligned, IsElement, WritesField};
+ghost use Rattle.capnp_builders.specs.Elements.{lowest_bits};
 ghost use Rattle.capnp_builders.specs.Reads.{IsArenaOf, IsListReadAt};
 
 use crate::builders::{PointerBuilder, StructBuilder};
@@ -34,7 +34,7 @@ fn element_place(list: ListPlace, index: u32) -> StructPlace
     requires inside { list.byte / 8 + elements_words list.size list.count
         (list.struct_size.data_words + list.struct_size.pointers) < 2 ^ 29 }
     requires aligned { list.byte % 8 ≡ 0 }
-    ensures place { IsElement list index result }
+    ensures place { IsElement list.size list index result }
     ensures aligned { IsAligned result }
 {
     let start = (list.byte / 8) as u32;
@@ -99,14 +99,15 @@ fn step_bits(list: ListPlace) -> u32
 
 impl<'a, A: BuilderArena> ListBuilder<'a, A> {
     ghost use Rattle.std.specs.Borrow.{sem, follows};
-    ghost use Rattle.capnp_builders.specs.Lent.{with_list_arena};
+    ghost use Rattle.capnp_builders.specs.Building.{KeepsListBuilder};
     ghost use Rattle.capnp_builders.specs.contracts.builders.list_builder.ListBuilder.{the_row};
     ghost use mir.Syntax.{named};
 
     /// The same list, for as long as it is borrowed.
     pub fn reborrow(&mut self) -> ListBuilder<'_, A>
         ensures* lends { sem 𝓛 (follows (the_row (record { mir = named 1; lft = [] }) A.row) A.row
-            self.entry.ghost_name result.arena.ghost_name (with_list_arena self.old)) }
+            self.entry.ghost_name result.arena.ghost_name
+            (λ a. record self.old { arena = record self.old.arena { now = a } })) }
         ensures now { result.arena.now ≡ self.old.arena.now }
         ensures place { result.place ≡ self.old.place }
     {
@@ -167,7 +168,7 @@ impl<'a, A: BuilderArena> ListBuilder<'a, A> {
         requires whole { size_number self.place.size ≢ 1 }
         ensures same { result.arena.ghost_name ≡ self.entry.arena.ghost_name }
         ensures now { result.arena.now ≡ self.entry.arena.now }
-        ensures place { IsElement self.entry.place index result.place }
+        ensures place { IsElement self.entry.place.size self.entry.place index result.place }
         ensures inside { IsStructPlace (A.view result.arena.now).words result.place }
     {
         let ListBuilder { arena, place } = self;
@@ -204,7 +205,7 @@ impl<'a, A: BuilderArena> ListBuilder<'a, A> {
         requires inside { IsListPlace (A.view self.now.arena.now).words self.now.place }
         requires range { index < self.now.place.count }
         requires wide { 8 * T.BYTES ≤ data_bits self.now.place.size self.now.place.struct_size }
-        ensures { HasElement (A.view self.now.arena.now) self.now.place
+        ensures { HasField (A.view self.now.arena.now) self.now.place.segment self.now.place.byte
             (lowest_bits self.now.place index (8 * T.BYTES) (T.bits_of result)) }
     {
         let step = u64::from(step_bits(self.place) / 8);
@@ -217,7 +218,7 @@ impl<'a, A: BuilderArena> ListBuilder<'a, A> {
         requires inside { IsListPlace (A.view self.now.arena.now).words self.now.place }
         requires range { index < self.now.place.count }
         requires wide { 1 ≤ data_bits self.now.place.size self.now.place.struct_size }
-        ensures { HasElement (A.view self.now.arena.now) self.now.place
+        ensures { HasField (A.view self.now.arena.now) self.now.place.segment self.now.place.byte
             (lowest_bits self.now.place index 1 (cond result 1 0)) }
     {
         let step = u64::from(step_bits(self.place));
@@ -230,12 +231,11 @@ impl<'a, A: BuilderArena> ListBuilder<'a, A> {
         requires inside { IsListPlace (A.view self.old.arena.now).words self.old.place }
         requires range { index < self.old.place.count }
         requires wide { 8 * T.BYTES ≤ data_bits self.old.place.size self.old.place.struct_size }
-        ensures written { WritesElement (A.view self.old.arena.now)
-            (A.view self.new.arena.now) self.old.place
+        ensures written { WritesField (A.view self.old.arena.now)
+            (A.view self.new.arena.now) self.old.place.segment self.old.place.byte
             (lowest_bits self.old.place index (8 * T.BYTES) (T.bits_of value)) }
         ensures inside { IsListPlace (A.view self.new.arena.now).words self.new.place }
-        ensures same { self.new.arena.ghost_name ≡ self.old.arena.ghost_name }
-        ensures place { self.new.place ≡ self.old.place }
+        ensures builder { KeepsListBuilder self.old self.new }
     {
         let step = u64::from(step_bits(self.place) / 8);
         let byte = self.place.byte + u64::from(index) * step;
@@ -247,12 +247,11 @@ impl<'a, A: BuilderArena> ListBuilder<'a, A> {
         requires inside { IsListPlace (A.view self.old.arena.now).words self.old.place }
         requires range { index < self.old.place.count }
         requires wide { 1 ≤ data_bits self.old.place.size self.old.place.struct_size }
-        ensures written { WritesElement (A.view self.old.arena.now)
-            (A.view self.new.arena.now) self.old.place
+        ensures written { WritesField (A.view self.old.arena.now)
+            (A.view self.new.arena.now) self.old.place.segment self.old.place.byte
             (lowest_bits self.old.place index 1 (cond value 1 0)) }
         ensures inside { IsListPlace (A.view self.new.arena.now).words self.new.place }
-        ensures same { self.new.arena.ghost_name ≡ self.old.arena.ghost_name }
-        ensures place { self.new.place ≡ self.old.place }
+        ensures builder { KeepsListBuilder self.old self.new }
     {
         let step = u64::from(step_bits(self.place));
         let bit = 8 * self.place.byte + u64::from(index) * step;

@@ -7,7 +7,9 @@ ghost use Rattle.capnp_words.specs.declared.wire_pointer.ElementSize.{ElementSiz
 ghost use Rattle.capnp_words.specs.declared.wire_pointer.ElementSize.TheVariants.{Void, Bit, Byte, TwoBytes, FourBytes, EightBytes};
 ghost use Rattle.capnp_readers.specs.Sections.{data_bits};
 ghost use Rattle.capnp_readers.specs.Readers.{IsListPlace, element_start};
-ghost use Rattle.capnp_builders.specs.Elements.{value_bits, WritesElement, HasElement};
+ghost use Rattle.capnp_builders.specs.Elements.{lowest_bits};
+ghost use Rattle.capnp_builders.specs.Building.{KeepsListBuilder};
+ghost use Rattle.capnp_builders.specs.Places.{HasField, WritesField};
 
 use crate::builders::ListBuilder;
 use capnp_arena::arena::{BuilderArena, ReaderArena};
@@ -45,8 +47,8 @@ pub trait PrimitiveElement {
         requires range { 0 < element_bits (size_number size) → index < list.now.place.count }
         requires wide { element_bits (size_number size)
             ≤ data_bits list.now.place.size list.now.place.struct_size }
-        ensures { HasElement (A.view list.now.arena.now) list.now.place
-            (value_bits list.now.place index size (bits_of result)) };
+        ensures { HasField (A.view list.now.arena.now) list.now.place.segment list.now.place.byte
+            (lowest_bits list.now.place index (element_bits (size_number size)) (bits_of result)) };
 
     /// Writes an element of a list: the lowest bits of its data, as many as the value has. There are more
     /// elements than `index`, and each has at least as many bits of data as the value; `()` asks for
@@ -57,13 +59,13 @@ pub trait PrimitiveElement {
         requires wide { element_bits (size_number size)
             ≤ data_bits list.old.place.size list.old.place.struct_size }
         ensures written { 0 < element_bits (size_number size)
-            → WritesElement (A.view list.old.arena.now) (A.view list.new.arena.now) list.old.place
-            (value_bits list.old.place index size (bits_of value)) }
+            → WritesField (A.view list.old.arena.now)
+            (A.view list.new.arena.now) list.old.place.segment list.old.place.byte
+            (lowest_bits list.old.place index (element_bits (size_number size)) (bits_of value)) }
         ensures nothing { element_bits (size_number size) ≡ 0
             → list.new.arena.now ≡ list.old.arena.now }
         ensures inside { IsListPlace (A.view list.new.arena.now).words list.new.place }
-        ensures same { list.new.arena.ghost_name ≡ list.old.arena.ghost_name }
-        ensures place { list.new.place ≡ list.old.place };
+        ensures builder { KeepsListBuilder list.old list.new };
 
     /// The element size of a list of such elements: by the number of bytes, `Bit` for a `bool`, `Void`
     /// for `()` ("Lists").

@@ -1,9 +1,10 @@
 //! Structs of a message that is built ("Structs").
 ghost use Rattle.std.specs.Prelude.{◌≡◌, ◌≢◌, ◌↔◌, ◌+◌, ◌*◌, ◌<◌, [], IsTrue, IsOk, IfOk, IfErr, cond, true, false};
-ghost use Rattle.capnp_format.specs.Segments.{word_at, IsPlace};
+ghost use Rattle.capnp_format.specs.Segments.{segment, word_at, IsPlace};
+ghost use Rattle.capnp_making.specs.Fields.{field_in};
 ghost use Rattle.capnp_readers.specs.Readers.{IsStructPlace};
 ghost use Rattle.capnp_builders.specs.Reads.{IsArenaOf, IsReadAt};
-ghost use Rattle.capnp_builders.specs.Places.{IsAligned, WritesField, number_field, field, field_behind};
+ghost use Rattle.capnp_builders.specs.Places.{HasField, IsAligned, WritesField, number_field, field};
 ghost use Rattle.capnp_readers.specs.Sections.{IsInside};
 ghost use Rattle.capnp_arena.specs.View.{View};
 ghost use Rattle.capnp_builders.specs.Content.{TakesContent, StopsAtContent, ContentFits, TakesForContent, pointers_copied};
@@ -32,14 +33,15 @@ pub struct StructBuilder<'a, A> {
 
 impl<'a, A: BuilderArena> StructBuilder<'a, A> {
     ghost use Rattle.std.specs.Borrow.{sem, follows};
-    ghost use Rattle.capnp_builders.specs.Lent.{with_struct_arena};
+    ghost use Rattle.capnp_builders.specs.Building.{KeepsStructBuilder};
     ghost use Rattle.capnp_builders.specs.contracts.builders.struct_builder.StructBuilder.{the_row};
     ghost use mir.Syntax.{named};
 
     /// The same struct, for as long as it is borrowed.
     pub fn reborrow(&mut self) -> StructBuilder<'_, A>
         ensures* lends { sem 𝓛 (follows (the_row (record { mir = named 1; lft = [] }) A.row) A.row
-            self.entry.ghost_name result.arena.ghost_name (with_struct_arena self.old)) }
+            self.entry.ghost_name result.arena.ghost_name
+            (λ a. record self.old { arena = record self.old.arena { now = a } })) }
         ensures now { result.arena.now ≡ self.old.arena.now }
         ensures place { result.place ≡ self.old.place }
     {
@@ -118,8 +120,7 @@ impl<'a, A: BuilderArena> StructBuilder<'a, A> {
             (pointers_copied self.old.place (A.view self.old.arena.now)
             (A.view self.new.arena.now) lim.old lim.new) }
         ensures inside { IsStructPlace (A.view self.new.arena.now).words self.new.place }
-        ensures same { self.new.arena.ghost_name ≡ self.old.arena.ghost_name }
-        ensures place { self.new.place ≡ self.old.place }
+        ensures builder { KeepsStructBuilder self.old self.new }
     {
         let place = self.place;
         let at = place.pointers_at;
@@ -154,8 +155,7 @@ impl<'a, A: BuilderArena> StructBuilder<'a, A> {
             (A.view self.new.arena.now) self.old.place.segment self.old.place.byte
             (number_field T.BYTES offset (T.bits_of value)) }
         ensures inside { IsStructPlace (A.view self.new.arena.now).words self.new.place }
-        ensures same { self.new.arena.ghost_name ≡ self.old.arena.ghost_name }
-        ensures place { self.new.place ≡ self.old.place }
+        ensures builder { KeepsStructBuilder self.old self.new }
     {
         let byte = self.place.byte + (offset * T::BYTES) as u64;
         numbers::set_number(&mut *self.arena, self.place.segment, byte, value);
@@ -175,8 +175,7 @@ impl<'a, A: BuilderArena> StructBuilder<'a, A> {
             (A.view self.new.arena.now) self.old.place.segment self.old.place.byte
             (number_field T.BYTES offset (T.bits_of (T.masked value mask))) }
         ensures inside { IsStructPlace (A.view self.new.arena.now).words self.new.place }
-        ensures same { self.new.arena.ghost_name ≡ self.old.arena.ghost_name }
-        ensures place { self.new.place ≡ self.old.place }
+        ensures builder { KeepsStructBuilder self.old self.new }
     {
         self.set_data_field(offset, T::mask(value, mask));
     }
@@ -190,8 +189,7 @@ impl<'a, A: BuilderArena> StructBuilder<'a, A> {
             (A.view self.new.arena.now) self.old.place.segment self.old.place.byte
             (field offset 1 (cond value 1 0)) }
         ensures inside { IsStructPlace (A.view self.new.arena.now).words self.new.place }
-        ensures same { self.new.arena.ghost_name ≡ self.old.arena.ghost_name }
-        ensures place { self.new.place ≡ self.old.place }
+        ensures builder { KeepsStructBuilder self.old self.new }
     {
         let bit = 8 * self.place.byte + offset as u64;
         numbers::set_bit(&mut *self.arena, self.place.segment, bit, value);
@@ -206,8 +204,7 @@ impl<'a, A: BuilderArena> StructBuilder<'a, A> {
             (A.view self.new.arena.now) self.old.place.segment self.old.place.byte
             (field offset 1 (cond mask (cond value 0 1) (cond value 1 0))) }
         ensures inside { IsStructPlace (A.view self.new.arena.now).words self.new.place }
-        ensures same { self.new.arena.ghost_name ≡ self.old.arena.ghost_name }
-        ensures place { self.new.place ≡ self.old.place }
+        ensures builder { KeepsStructBuilder self.old self.new }
     {
         self.set_bool_field(offset, value != mask);
     }
@@ -216,8 +213,8 @@ impl<'a, A: BuilderArena> StructBuilder<'a, A> {
     pub fn get_data_field<T: Primitive + Zero>(&self, offset: usize) -> T
         requires inside { IsStructPlace (A.view self.now.arena.now).words self.now.place }
         requires field { IsInside self.now.place.bits (8 * T.BYTES) offset }
-        ensures { T.bits_of result ≡ field_behind (A.view self.now.arena.now).words self.now.place
-            (8 * (offset * T.BYTES)) (8 * T.BYTES) }
+        ensures { HasField (A.view self.now.arena.now) self.now.place.segment self.now.place.byte
+            (number_field T.BYTES offset (T.bits_of result)) }
     {
         let byte = self.place.byte + (offset * T::BYTES) as u64;
         numbers::get_number(&*self.arena, self.place.segment, byte)
@@ -231,8 +228,9 @@ impl<'a, A: BuilderArena> StructBuilder<'a, A> {
     ) -> T
         requires inside { IsStructPlace (A.view self.now.arena.now).words self.now.place }
         requires field { IsInside self.now.place.bits (8 * T.BYTES) offset }
-        ensures { (raw : T) × (T.bits_of raw ≡ field_behind
-            (A.view self.now.arena.now).words self.now.place (8 * (offset * T.BYTES)) (8 * T.BYTES))
+        ensures { (raw : T)
+            × HasField (A.view self.now.arena.now) self.now.place.segment self.now.place.byte
+            (number_field T.BYTES offset (T.bits_of raw))
             × (result ≡ T.masked raw mask) }
     {
         T::mask(self.get_data_field(offset), mask)
@@ -243,7 +241,8 @@ impl<'a, A: BuilderArena> StructBuilder<'a, A> {
         requires inside { IsStructPlace (A.view self.now.arena.now).words self.now.place }
         requires field { offset < self.now.place.bits }
         ensures { IsTrue result
-            ↔ (field_behind (A.view self.now.arena.now).words self.now.place offset 1 ≡ 1) }
+            ↔ (field_in (segment (A.view self.now.arena.now).words self.now.place.segment)
+            (8 * self.now.place.byte + offset) 1 ≡ 1) }
     {
         let bit = 8 * self.place.byte + offset as u64;
         numbers::get_bit(&*self.arena, self.place.segment, bit)
@@ -255,9 +254,11 @@ impl<'a, A: BuilderArena> StructBuilder<'a, A> {
         requires field { offset < self.now.place.bits }
         ensures plain { mask ≡ false
             → (IsTrue result
-            ↔ (field_behind (A.view self.now.arena.now).words self.now.place offset 1 ≡ 1)) }
+            ↔ (field_in (segment (A.view self.now.arena.now).words self.now.place.segment)
+            (8 * self.now.place.byte + offset) 1 ≡ 1)) }
         ensures turned { mask ≡ true → (IsTrue result
-            ↔ (field_behind (A.view self.now.arena.now).words self.now.place offset 1 ≡ 1 → ⊥)) }
+            ↔ (field_in (segment (A.view self.now.arena.now).words self.now.place.segment)
+            (8 * self.now.place.byte + offset) 1 ≡ 1 → ⊥)) }
     {
         self.get_bool_field(offset) != mask
     }

@@ -6,8 +6,9 @@ ghost use Rattle.capnp_objects.specs.Reading.{segment_read, word_of};
 ghost use Rattle.capnp_objects.specs.Wanted.{Form};
 ghost use Rattle.capnp_readers.specs.Readers.{reading};
 ghost use Rattle.capnp_copies.specs.Growth.{TakesAtMost, TakesForPointers};
-ghost use Rattle.capnp_copies.specs.Changes.{change, CopiesValue, StopsAtValue, CopiesChildren, StopsAtChildren};
+ghost use Rattle.capnp_copies.specs.Changes.{change, MakesCopy, StopsHalfway, CopiesChildren, StopsAtChildren};
 ghost use Rattle.capnp_copies.specs.Forms.{form_in};
+ghost use Rattle.capnp_copies.specs.Originals.{value_original};
 
 use super::flat::{copy_flat, flat_words};
 use super::structs::copy_struct;
@@ -132,12 +133,14 @@ fn copy_child<A: BuilderArena, B: ReaderArena>(
 ) -> Result<(), ErrorKind>
     requires place { IsPlace (A.view arena.old).words id at }
     requires null { word_at (A.view arena.old).words id at ≡ 0 }
-    ensures copied { IfOk result (λ _. CopiesValue (reading B.ReaderArena from.entry)
+    ensures copied { IfOk result
+        (λ _. MakesCopy (value_original (reading B.ReaderArena from.entry))
         (change (form_in form) id at (A.view arena.old) (A.view arena.new) lim.old lim.new)) }
     ensures refused { IfErr result
-        (StopsAtValue (reading B.ReaderArena from.entry)
+        (StopsHalfway (value_original (reading B.ReaderArena from.entry))
         (change (form_in form) id at (A.view arena.old) (A.view arena.new) lim.old lim.new)) }
-    ensures taken { TakesAtMost result (reading B.ReaderArena from.entry)
+    ensures taken { TakesAtMost result
+        (value_original (reading B.ReaderArena from.entry))
         (change (form_in form) id at (A.view arena.old) (A.view arena.new) lim.old lim.new) }
 {
     let word = from.place.word();
@@ -172,12 +175,14 @@ fn copy_near_struct<A: BuilderArena, B: ReaderArena>(
     requires small { word.0 < 2 ^ 64 }
     requires some { word.0 ≢ 0 }
     requires is_struct { kind word.0 ≡ 0 }
-    ensures copied { IfOk result (λ _. CopiesValue (reading B.ReaderArena from.entry)
+    ensures copied { IfOk result
+        (λ _. MakesCopy (value_original (reading B.ReaderArena from.entry))
         (change (form_in form) id at (A.view arena.old) (A.view arena.new) lim.old lim.new)) }
     ensures refused { IfErr result
-        (StopsAtValue (reading B.ReaderArena from.entry)
+        (StopsHalfway (value_original (reading B.ReaderArena from.entry))
         (change (form_in form) id at (A.view arena.old) (A.view arena.new) lim.old lim.new)) }
-    ensures taken { TakesAtMost result (reading B.ReaderArena from.entry)
+    ensures taken { TakesAtMost result
+        (value_original (reading B.ReaderArena from.entry))
         (change (form_in form) id at (A.view arena.old) (A.view arena.new) lim.old lim.new) }
 {
     let source = from.source;
@@ -215,12 +220,13 @@ fn copy_near_flat<A: BuilderArena, B: ReaderArena>(
     requires is_list { kind word.0 ≡ 1 }
     requires of_bits { (0 < element_size word.0) × (element_size word.0 ≤ 5) }
     ensures copied { (form : Form) → IfOk result
-        (λ _. CopiesValue (reading B.ReaderArena from.entry)
+        (λ _. MakesCopy (value_original (reading B.ReaderArena from.entry))
         (change form id at (A.view arena.old) (A.view arena.new) lim.old lim.new)) }
     ensures refused { (form : Form) → IfErr result
-        (StopsAtValue (reading B.ReaderArena from.entry)
+        (StopsHalfway (value_original (reading B.ReaderArena from.entry))
         (change form id at (A.view arena.old) (A.view arena.new) lim.old lim.new)) }
-    ensures taken { (form : Form) → TakesAtMost result (reading B.ReaderArena from.entry)
+    ensures taken { (form : Form) → TakesAtMost result
+        (value_original (reading B.ReaderArena from.entry))
         (change form id at (A.view arena.old) (A.view arena.new) lim.old lim.new) }
 {
     let size = word.list_element_size();

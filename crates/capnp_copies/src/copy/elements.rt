@@ -3,11 +3,12 @@ ghost use Rattle.std.specs.Prelude.{◌≡◌, ℕ, ◌+◌, ◌*◌, ◌<◌, �
 ghost use Rattle.capnp_format.specs.Bytes.{words_of};
 ghost use Rattle.capnp_format.specs.Segments.{segment, word_at};
 ghost use Rattle.capnp_arena.specs.Written.{with_words};
-ghost use Rattle.capnp_objects.specs.Reading.{segment_read};
+ghost use Rattle.capnp_objects.specs.Reading.{behind, segment_read};
 ghost use Rattle.capnp_readers.specs.Readers.{reading};
-ghost use Rattle.capnp_copies.specs.Growth.{TakesNone, TakesForElement, TakesForRows};
-ghost use Rattle.capnp_copies.specs.Changes.{change, CopiesElement, StopsAtElement, CopiesElements, StopsAtElements, KeepsPointers};
+ghost use Rattle.capnp_copies.specs.Growth.{TakesNone, TakesForPointers, TakesForRows};
+ghost use Rattle.capnp_copies.specs.Changes.{change, CopiesElement, StopsAtElement, CopiesElements, StopsAtElements};
 ghost use Rattle.capnp_copies.specs.Forms.{form_in};
+ghost use Rattle.capnp_copies.specs.Widths.{KeepsPointers};
 
 use super::children::copy_in_line;
 use crate::form::CopyForm;
@@ -106,7 +107,8 @@ fn copy_element<A: BuilderArena, B: ReaderArena>(
         (StopsAtElement (reading B.ReaderArena from.entry) sizes
         (change (form_in form) to.segment to.at (A.view arena.old)
         (A.view arena.new) lim.old lim.new)) }
-    ensures taken { TakesForElement result (reading B.ReaderArena from.entry) sizes
+    ensures taken { TakesForPointers result
+        (behind (reading B.ReaderArena from.entry) sizes.source.data_words) sizes.kept.pointers
         (change (form_in form) to.segment to.at (A.view arena.old)
         (A.view arena.new) lim.old lim.new) }
 {

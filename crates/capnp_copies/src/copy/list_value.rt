@@ -1,14 +1,14 @@
 //! The copy of a list that is read, whose words are at hand ("Lists", "Canonicalization").
-ghost use Rattle.std.specs.Prelude.{◌≡◌, ◌⊎◌, ◌+◌, ◌-◌, ◌^◌, ◌↔◌, IsTrue, Err, IsOk, IfOk, IfErr, OnOk, OnErr};
+ghost use Rattle.std.specs.Prelude.{◌≡◌, ◌+◌, ◌↔◌, IsTrue, Err, IsOk, IfOk, IfErr};
+ghost use Rattle.capnp_words.specs.declared.error.ErrorKind.{ErrorKind};
 ghost use Rattle.capnp_format.specs.Segments.{word_at, IsPlace};
 ghost use Rattle.capnp_format.specs.Tree.{Null};
-ghost use Rattle.capnp_making.specs.Memory.{KeepsMemory, SpendsMemory};
-ghost use Rattle.capnp_making.specs.Stored.{IsReplaced};
-ghost use Rattle.capnp_words.specs.declared.error.ErrorKind.TheVariants.{MessageTooLarge};
-ghost use Rattle.capnp_copies.specs.Changes.{change};
+ghost use Rattle.capnp_copies.specs.Changes.{change, MakesCopy, StopsCopy, StopsHalfway};
+ghost use Rattle.capnp_copies.specs.Copies.{CanBeCopied};
 ghost use Rattle.capnp_copies.specs.Forms.{form_of};
-ghost use Rattle.capnp_copies.specs.Growth.{TakesForList};
-ghost use Rattle.capnp_copies.specs.ListValues.{IsListCopy, ListStands, ListFits, RefusesList, CopiesList, StopsAtList, BreaksOffList, IsTooLong, FitsListPointer, elements_read};
+ghost use Rattle.capnp_copies.specs.Growth.{TakesAtMost};
+ghost use Rattle.capnp_copies.specs.ListValues.{list_read};
+ghost use Rattle.capnp_copies.specs.Originals.{FitsListPointer};
 
 use super::flat::copy_flat;
 use super::lists::{copy_pointers, copy_structs};
@@ -44,31 +44,19 @@ pub fn copy_list<A: BuilderArena, B: ReaderArena>(
 ) -> Result<(), ErrorKind>
     requires place { IsPlace (A.view arena.old).words id at }
     requires null { word_at (A.view arena.old).words id at ≡ 0 }
-    ensures copied { IfOk result (λ _. IsListCopy B.ReaderArena value.entry
+    ensures copied { IfOk result (λ _. MakesCopy (list_read B.ReaderArena value.entry)
         (change (form_of canonicalize) id at (A.view arena.old)
         (A.view arena.new) lim.old lim.new)) }
-    ensures stands { OnOk result (ListStands (elements_read B.ReaderArena value.entry)
+    ensures fits { CanBeCopied (list_read B.ReaderArena value.entry)
+        (form_of canonicalize) lim.old (A.view arena.old) id → IsOk result }
+    ensures refused { IfErr result (StopsCopy (list_read B.ReaderArena value.entry)
         (change (form_of canonicalize) id at (A.view arena.old)
-        (A.view arena.new) lim.old lim.new)) }
-    ensures fits { ListFits (elements_read B.ReaderArena value.entry)
-        (change (form_of canonicalize) id at (A.view arena.old) (A.view arena.new) lim.old lim.new)
-        → IsOk result }
-    ensures refused { IfErr result
-        (RefusesList B.ReaderArena value.entry
-        (change (form_of canonicalize) id at (A.view arena.old)
-        (A.view arena.new) lim.old lim.new)) }
-    ensures cleared { OnErr result
-        (IsReplaced (A.view arena.old).words (A.view arena.new).words id at Null Null) }
-    ensures spent { OnErr result ((lim.new ≡ lim.old)
-        ⊎ BreaksOffList (form_of canonicalize)
-        (elements_read B.ReaderArena value.entry) lim.old lim.new) }
-    ensures long { IsTooLong (elements_read B.ReaderArena value.entry)
-        → (result ≡ Err (MessageTooLarge (2 ^ 64 - 1))) × (lim.new ≡ lim.old) }
-    ensures taken { TakesForList B.ReaderArena result value.entry
+        (A.view arena.new) lim.old lim.new) Null) }
+    ensures long { (k : ErrorKind) → (list_read B.ReaderArena value.entry).exceeds
+        (form_of canonicalize) k → (result ≡ Err k) × (lim.new ≡ lim.old) }
+    ensures taken { TakesAtMost result (list_read B.ReaderArena value.entry)
         (change (form_of canonicalize) id at (A.view arena.old)
         (A.view arena.new) lim.old lim.new) }
-    ensures granted { OnOk result (KeepsMemory (A.view arena.old) (A.view arena.new)) }
-    ensures memory { IfErr result (SpendsMemory (A.view arena.old) (A.view arena.new)) }
 {
     match copy_elements_read(arena, id, at, value, lim, canonicalize) {
         Ok(()) => Ok(()),
@@ -90,16 +78,16 @@ fn copy_elements_read<A: BuilderArena, B: ReaderArena>(
 ) -> Result<(), ErrorKind>
     requires place { IsPlace (A.view arena.old).words id at }
     requires null { word_at (A.view arena.old).words id at ≡ 0 }
-    ensures copied { IfOk result (λ _. CopiesList (elements_read B.ReaderArena value.entry)
+    ensures copied { IfOk result (λ _. MakesCopy (list_read B.ReaderArena value.entry)
         (change (form_of canonicalize) id at (A.view arena.old)
         (A.view arena.new) lim.old lim.new)) }
     ensures refused { IfErr result
-        (StopsAtList (elements_read B.ReaderArena value.entry)
+        (StopsHalfway (list_read B.ReaderArena value.entry)
         (change (form_of canonicalize) id at (A.view arena.old)
         (A.view arena.new) lim.old lim.new)) }
-    ensures long { IsTooLong (elements_read B.ReaderArena value.entry)
-        → (result ≡ Err (MessageTooLarge (2 ^ 64 - 1))) × (lim.new ≡ lim.old) }
-    ensures taken { TakesForList B.ReaderArena result value.entry
+    ensures long { (k : ErrorKind) → (list_read B.ReaderArena value.entry).exceeds
+        (form_of canonicalize) k → (result ≡ Err k) × (lim.new ≡ lim.old) }
+    ensures taken { TakesAtMost result (list_read B.ReaderArena value.entry)
         (change (form_of canonicalize) id at (A.view arena.old)
         (A.view arena.new) lim.old lim.new) }
 {

@@ -3,9 +3,11 @@ ghost use Rattle.std.specs.Prelude.{◌≡◌, ◌+◌, ◌*◌, ◌<◌, ◌≤
 ghost use Rattle.capnp_format.specs.Segments.{word_at, IsPlace};
 ghost use Rattle.capnp_objects.specs.Reading.{segment_read};
 ghost use Rattle.capnp_readers.specs.Readers.{reading};
-ghost use Rattle.capnp_copies.specs.Growth.{TakesForObject, TakesForStructs};
-ghost use Rattle.capnp_copies.specs.Changes.{change, CopiesPointers, StopsAtPointers, CopiesStructs, StopsAtStructs, KeepsWidths};
+ghost use Rattle.capnp_copies.specs.Growth.{TakesAtMost};
+ghost use Rattle.capnp_copies.specs.Changes.{change, MakesCopy, StopsHalfway};
 ghost use Rattle.capnp_copies.specs.Forms.{form_in};
+ghost use Rattle.capnp_copies.specs.Originals.{pointers_original, structs_original};
+ghost use Rattle.capnp_copies.specs.Widths.{widths_kept};
 
 use super::children::copy_in_line;
 use super::elements::copy_elements;
@@ -34,12 +36,13 @@ pub(crate) fn copy_pointers<A: BuilderArena, B: ReaderArena>(
     requires null { word_at (A.view arena.old).words id at ≡ 0 }
     requires few { count < 2 ^ 29 }
     requires inside { from.place.at + count ≤ length (segment_read (reading B.ReaderArena from)) }
-    ensures copied { IfOk result (λ _. CopiesPointers (reading B.ReaderArena from.entry) count
+    ensures copied { IfOk result
+        (λ _. MakesCopy (pointers_original count (reading B.ReaderArena from.entry))
         (change (form_in form) id at (A.view arena.old) (A.view arena.new) lim.old lim.new)) }
     ensures refused { IfErr result
-        (StopsAtPointers (reading B.ReaderArena from.entry) count
+        (StopsHalfway (pointers_original count (reading B.ReaderArena from.entry))
         (change (form_in form) id at (A.view arena.old) (A.view arena.new) lim.old lim.new)) }
-    ensures taken { TakesForObject result (reading B.ReaderArena from.entry) count count
+    ensures taken { TakesAtMost result (pointers_original count (reading B.ReaderArena from.entry))
         (change (form_in form) id at (A.view arena.old) (A.view arena.new) lim.old lim.new) }
 {
     match make_list(arena, id, at, ElementSize::Pointer, count) {
@@ -68,12 +71,14 @@ pub(crate) fn copy_structs<A: BuilderArena, B: ReaderArena>(
     requires words { count * (size.data_words + size.pointers) < 2 ^ 29 }
     requires inside { from.place.at + count * (size.data_words + size.pointers)
         ≤ length (segment_read (reading B.ReaderArena from)) }
-    ensures copied { IfOk result (λ _. CopiesStructs (reading B.ReaderArena from.entry) size count
+    ensures copied { IfOk result
+        (λ _. MakesCopy (structs_original size count (reading B.ReaderArena from.entry))
         (change (form_in form) id at (A.view arena.old) (A.view arena.new) lim.old lim.new)) }
     ensures refused { IfErr result
-        (StopsAtStructs (reading B.ReaderArena from.entry) size count
+        (StopsHalfway (structs_original size count (reading B.ReaderArena from.entry))
         (change (form_in form) id at (A.view arena.old) (A.view arena.new) lim.old lim.new)) }
-    ensures taken { TakesForStructs result (reading B.ReaderArena from.entry) size count
+    ensures taken { TakesAtMost result
+        (structs_original size count (reading B.ReaderArena from.entry))
         (change (form_in form) id at (A.view arena.old) (A.view arena.new) lim.old lim.new) }
 {
     let kept = kept_widths(from, size, count, form);
@@ -100,7 +105,8 @@ fn kept_widths<B: ReaderArena>(
 ) -> StructSize
     requires inside { from.place.at + count * (size.data_words + size.pointers)
         ≤ length (segment_read (reading B.ReaderArena from)) }
-    ensures kept { KeepsWidths (form_in form) (reading B.ReaderArena from.entry) size count result }
+    ensures kept { result
+        ≡ widths_kept (form_in form) (reading B.ReaderArena from.entry) size count }
     ensures less_data { result.data_words ≤ size.data_words }
     ensures less_pointers { result.pointers ≤ size.pointers }
 {

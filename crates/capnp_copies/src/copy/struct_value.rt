@@ -1,16 +1,16 @@
 //! The copy of a struct that is read, whose sections may stand apart ("Structs",
 //! "Canonicalization").
-ghost use Rattle.std.specs.Prelude.{◌≡◌, ◌⊎◌, IsOk, IfOk, IfErr, OnOk, OnErr};
+ghost use Rattle.std.specs.Prelude.{◌≡◌, IsOk, IfOk, IfErr};
 ghost use Rattle.capnp_format.specs.Segments.{word_at, IsPlace};
 ghost use Rattle.capnp_format.specs.Tree.{Null};
-ghost use Rattle.capnp_making.specs.Memory.{KeepsMemory, SpendsMemory};
-ghost use Rattle.capnp_making.specs.Stored.{IsReplaced};
-ghost use Rattle.capnp_objects.specs.Refusals.{BreaksOffAmong};
+ghost use Rattle.capnp_objects.specs.Reading.{words_from};
 ghost use Rattle.capnp_readers.specs.Sizes.{pointers_read};
-ghost use Rattle.capnp_copies.specs.Changes.{change};
-ghost use Rattle.capnp_copies.specs.Forms.{form_of, kept};
-ghost use Rattle.capnp_copies.specs.Growth.{TakesForStruct};
-ghost use Rattle.capnp_copies.specs.StructValues.{IsStructCopy, StructStands, StructFits, RefusesStruct, CopiesStructRead, StopsAtStructRead, IsTooWide, kept_count, data_of, pointer_words};
+ghost use Rattle.capnp_copies.specs.Changes.{change, MakesCopy, StopsCopy, StopsHalfway};
+ghost use Rattle.capnp_copies.specs.Copies.{CanBeCopied};
+ghost use Rattle.capnp_copies.specs.Forms.{form_of};
+ghost use Rattle.capnp_copies.specs.Growth.{TakesAtMost};
+ghost use Rattle.capnp_copies.specs.Originals.{IsTooWide, kept_count};
+ghost use Rattle.capnp_copies.specs.StructValues.{data_of, struct_read};
 
 use super::children::copy_children;
 use crate::form::CopyForm;
@@ -46,29 +46,17 @@ pub fn copy_struct_value<A: BuilderArena, B: ReaderArena>(
 ) -> Result<(), ErrorKind>
     requires place { IsPlace (A.view arena.old).words id at }
     requires null { word_at (A.view arena.old).words id at ≡ 0 }
-    ensures copied { IfOk result (λ _. IsStructCopy B.ReaderArena value.entry
+    ensures copied { IfOk result (λ _. MakesCopy (struct_read B.ReaderArena value.entry)
         (change (form_of canonicalize) id at (A.view arena.old)
         (A.view arena.new) lim.old lim.new)) }
-    ensures stands { OnOk result (StructStands B.ReaderArena value.entry
+    ensures fits { CanBeCopied (struct_read B.ReaderArena value.entry)
+        (form_of canonicalize) lim.old (A.view arena.old) id → IsOk result }
+    ensures refused { IfErr result (StopsCopy (struct_read B.ReaderArena value.entry)
         (change (form_of canonicalize) id at (A.view arena.old)
-        (A.view arena.new) lim.old lim.new)) }
-    ensures fits { StructFits B.ReaderArena value.entry
-        (change (form_of canonicalize) id at (A.view arena.old) (A.view arena.new) lim.old lim.new)
-        → IsOk result }
-    ensures refused { IfErr result
-        (RefusesStruct B.ReaderArena value.entry
-        (change (form_of canonicalize) id at (A.view arena.old)
-        (A.view arena.new) lim.old lim.new)) }
-    ensures cleared { OnErr result
-        (IsReplaced (A.view arena.old).words (A.view arena.new).words id at Null Null) }
-    ensures spent { OnErr result ((lim.new ≡ lim.old)
-        ⊎ BreaksOffAmong (form_of canonicalize)
-        (pointers_read B.ReaderArena value.entry) value.entry.pointer_count lim.old lim.new) }
-    ensures taken { TakesForStruct B.ReaderArena result value.entry
+        (A.view arena.new) lim.old lim.new) Null) }
+    ensures taken { TakesAtMost result (struct_read B.ReaderArena value.entry)
         (change (form_of canonicalize) id at (A.view arena.old)
         (A.view arena.new) lim.old lim.new) }
-    ensures granted { OnOk result (KeepsMemory (A.view arena.old) (A.view arena.new)) }
-    ensures memory { IfErr result (SpendsMemory (A.view arena.old) (A.view arena.new)) }
 {
     match copy_sections(arena, id, at, value, lim, canonicalize) {
         Ok(()) => Ok(()),
@@ -90,14 +78,14 @@ fn copy_sections<A: BuilderArena, B: ReaderArena>(
 ) -> Result<(), ErrorKind>
     requires place { IsPlace (A.view arena.old).words id at }
     requires null { word_at (A.view arena.old).words id at ≡ 0 }
-    ensures copied { IfOk result (λ _. CopiesStructRead B.ReaderArena value.entry
+    ensures copied { IfOk result (λ _. MakesCopy (struct_read B.ReaderArena value.entry)
         (change (form_of canonicalize) id at (A.view arena.old)
         (A.view arena.new) lim.old lim.new)) }
     ensures refused { IfErr result
-        (StopsAtStructRead B.ReaderArena value.entry
+        (StopsHalfway (struct_read B.ReaderArena value.entry)
         (change (form_of canonicalize) id at (A.view arena.old)
         (A.view arena.new) lim.old lim.new)) }
-    ensures taken { TakesForStruct B.ReaderArena result value.entry
+    ensures taken { TakesAtMost result (struct_read B.ReaderArena value.entry)
         (change (form_of canonicalize) id at (A.view arena.old)
         (A.view arena.new) lim.old lim.new) }
 {
@@ -140,7 +128,8 @@ fn kept_sections<B: ReaderArena>(
     ensures data { IfOk result (λ size. size.data_words
         ≡ kept_count (form_of canonicalize) (data_of B.ReaderArena value.entry)) }
     ensures pointers { IfOk result (λ size. size.pointers
-        ≡ kept_count (form_of canonicalize) (pointer_words B.ReaderArena value.entry)) }
+        ≡ kept_count (form_of canonicalize)
+        (words_from (pointers_read B.ReaderArena value.entry) value.entry.pointer_count)) }
     ensures wide { IfErr result
         (IsTooWide (kept_count (form_of canonicalize) (data_of B.ReaderArena value.entry))) }
 {

@@ -1,12 +1,13 @@
 //! The copy of a struct ("Structs", "Canonicalization").
 ghost use Rattle.std.specs.Prelude.{◌≡◌, ◌+◌, ◌≤◌, length, IfOk, IfErr};
 ghost use Rattle.capnp_format.specs.Segments.{word_at, IsPlace};
-ghost use Rattle.capnp_objects.specs.Reading.{segment_read};
+ghost use Rattle.capnp_objects.specs.Reading.{segment_read, behind, words_from};
 ghost use Rattle.capnp_readers.specs.Readers.{reading};
-ghost use Rattle.capnp_copies.specs.Growth.{TakesForSections};
-ghost use Rattle.capnp_copies.specs.Changes.{change, CopiesStruct, StopsAtStruct, KeepsSections};
+ghost use Rattle.capnp_copies.specs.Growth.{TakesAtMost};
+ghost use Rattle.capnp_copies.specs.Changes.{change, MakesCopy, StopsHalfway};
 ghost use Rattle.capnp_copies.specs.Forms.{form_in};
-ghost use Rattle.capnp_copies.specs.Widths.{Uses};
+ghost use Rattle.capnp_copies.specs.Originals.{sections_original};
+ghost use Rattle.capnp_copies.specs.Widths.{Uses, KeepsSections};
 
 use super::children::copy_children;
 use super::elements::put_words;
@@ -37,12 +38,18 @@ pub(crate) fn copy_struct<A: BuilderArena, B: ReaderArena>(
     requires inside { from.place.at + (size.data_words + size.pointers)
         ≤ length (segment_read (reading B.ReaderArena from)) }
     requires null { word_at (A.view arena.old).words id at ≡ 0 }
-    ensures copied { IfOk result (λ _. CopiesStruct (reading B.ReaderArena from.entry) size
+    ensures copied { IfOk result (λ _. MakesCopy
+        (sections_original (words_from (reading B.ReaderArena from.entry) size.data_words)
+        (behind (reading B.ReaderArena from.entry) size.data_words) size.pointers)
         (change (form_in form) id at (A.view arena.old) (A.view arena.new) lim.old lim.new)) }
     ensures refused { IfErr result
-        (StopsAtStruct (reading B.ReaderArena from.entry) size
+        (StopsHalfway
+        (sections_original (words_from (reading B.ReaderArena from.entry) size.data_words)
+        (behind (reading B.ReaderArena from.entry) size.data_words) size.pointers)
         (change (form_in form) id at (A.view arena.old) (A.view arena.new) lim.old lim.new)) }
-    ensures taken { TakesForSections result (reading B.ReaderArena from.entry) size
+    ensures taken { TakesAtMost result
+        (sections_original (words_from (reading B.ReaderArena from.entry) size.data_words)
+        (behind (reading B.ReaderArena from.entry) size.data_words) size.pointers)
         (change (form_in form) id at (A.view arena.old) (A.view arena.new) lim.old lim.new) }
 {
     let kept = kept_sections(from, size, form);

@@ -7,7 +7,8 @@ ghost use Rattle.capnp_making.specs.Existing.{is_unfound};
 ghost use Rattle.capnp_words.specs.Sizes.{size_number};
 ghost use Rattle.capnp_readers.specs.Readers.{IsListPlace};
 ghost use Rattle.capnp_readers.specs.Sections.{data_bits, elements_words};
-ghost use Rattle.capnp_builders.specs.Elements.{value_bits, WritesElement};
+ghost use Rattle.capnp_builders.specs.Elements.{lowest_bits};
+ghost use Rattle.capnp_builders.specs.Places.{WritesField};
 ghost use Rattle.capnp_builders.specs.Found.{found_list_place as list_place};
 ghost use Rattle.capnp_edits.specs.declared.edit.tasks.Task.TheVariants.{Write};
 ghost use Rattle.capnp_edits.specs.Tasks.{is_in_range, is_number};
@@ -94,8 +95,9 @@ fn put_element<A: BuilderArena>(
     requires wide { element_bits (size_number size)
         ≤ data_bits list.old.place.size list.old.place.struct_size }
     requires number { is_number size value ≡ true }
-    ensures written { WritesElement (A.view list.old.arena.now)
-        (A.view list.new.arena.now) list.old.place (value_bits list.old.place index size value) }
+    ensures written { WritesField (A.view list.old.arena.now)
+        (A.view list.new.arena.now) list.old.place.segment list.old.place.byte
+        (lowest_bits list.old.place index (element_bits (size_number size)) value) }
     ensures same { list.new.arena.ghost_name ≡ list.old.arena.ghost_name }
 {
     match size {
@@ -119,8 +121,8 @@ fn put_element_at<A: BuilderArena>(
     requires there { index < place.count }
     requires wide { element_bits (size_number size) ≤ data_bits place.size place.struct_size }
     requires number { is_number size value ≡ true }
-    ensures { WritesElement (A.view arena.old) (A.view arena.new) place
-        (value_bits place index size value) }
+    ensures { WritesField (A.view arena.old) (A.view arena.new) place.segment place.byte
+        (lowest_bits place index (element_bits (size_number size)) value) }
 {
     put_element(&mut ListBuilder { arena, place }, size, index, value);
 }

@@ -11,11 +11,10 @@ ghost use Rattle.capnp_arena.specs.Limits.{IsSmall};
 ghost use Rattle.capnp_objects.specs.Source.{levels};
 ghost use Rattle.capnp_objects.specs.Wanted.{canonical};
 ghost use Rattle.capnp_readers.specs.Readers.{reading};
-ghost use Rattle.capnp_copies.specs.Rooms.{IsTooLarge};
 ghost use Rattle.capnp_edits.specs.Edits.{IsOfMemory};
 ghost use Rattle.capnp_layout.specs.Answers.{IsAloneOr, HoldsCanonicalWords, IsMadeWhereAlone, IsReadWithin, LacksMemoryOr, RefusesCopy, RefusesCopyAnywhere, RefusesMessage, ValueOf, is_message_too_large, message_root};
 ghost use Rattle.capnp_layout.specs.Messages.{segments_in};
-ghost use Rattle.capnp_layout.specs.Tries.{IsMadeByFirstTry, room_of_try};
+ghost use Rattle.capnp_layout.specs.Tries.{IsMadeByFirstTry, NeedsMoreRoom, room_of_try};
 ghost use Rattle.capnp_framing.specs.Reading.{total};
 
 use super::args::Args;
@@ -54,7 +53,7 @@ fn copy_root<A: BuilderArena, B: ReaderArena>(
         × IsMadeWhereAlone (A.view arena.new) t) }
     ensures room { OnOk result ((A.view arena.new).room 0 ≡ (A.view arena.old).room 0) }
     ensures alone { OnOk result (IsAloneOr (A.view arena.new)
-        (IsTooLarge canonical (reading B.ReaderArena from.entry) 1 ((A.view arena.old).room 0))) }
+        (NeedsMoreRoom (reading B.ReaderArena from.entry) ((A.view arena.old).room 0))) }
     ensures refused { IfErr result
         (RefusesCopyAnywhere (reading B.ReaderArena from.entry) left ((A.view arena.old).room 0)) }
 {

@@ -6,7 +6,7 @@ ghost use Rattle.capnp_layout.specs.Lines.{segments_of};
 ghost use Rattle.capnp_layout.specs.Messages.{segments_in};
 ghost use Rattle.capnp_arena.specs.Limits.{IsSmall};
 ghost use Rattle.capnp_words.specs.declared.error.ErrorKind.TheVariants.{AllocationFailed};
-ghost use Rattle.capnp_layout.specs.Answers.{AnswersWords, IsDone, IsDoneOr, IsRefusedOutcome, LacksMemoryOr, RefusesMessage, ValueOf, canonical_line, digits_of};
+ghost use Rattle.capnp_layout.specs.Answers.{AnswersWords, IsDone, IsDoneOr, IsRefusedOutcome, LacksMemoryOr, RefusesMessage, ValueOf, digits_of};
 ghost use Rattle.capnp_layout.specs.Commands.{Answers, AnswersRefusal, IsWithin, NamesRefusal, WantsMemory, WhereAnswered};
 ghost use Rattle.capnp_layout.specs.Refusals.{refusal_line};
 ghost use Rattle.capnp_framing.specs.Writing.{Prints};

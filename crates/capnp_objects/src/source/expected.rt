@@ -1,16 +1,17 @@
 //! One object that a call expects to be of a kind: a struct, a list of elements that are wide enough, a text, or data.
-ghost use Rattle.std.specs.Prelude.{◌≡◌, ◌<◌, ◌≤◌, ◌+◌, ◌-◌, ◌*◌, ◌^◌, ◌↔◌, ℕ, IsTrue, IsOk, IfOk, IfErr, length};
+ghost use Rattle.std.specs.Prelude.{◌≡◌, ◌<◌, ◌≤◌, ◌+◌, ◌-◌, ◌*◌, ◌^◌, ◌↔◌, ℕ, pos, IsTrue, IsOk, IfOk, IfErr, length};
 ghost use Rattle.capnp_format.specs.Numbers.{words_for};
 ghost use Rattle.capnp_words.specs.Sizes.{size_number};
 ghost use Rattle.capnp_objects.specs.declared.object.Purpose.TheVariants.{Value};
-ghost use Rattle.capnp_objects.specs.Source.{source_segments, source_charging};
+ghost use Rattle.capnp_objects.specs.Source.{source_segments};
 ghost use Rattle.capnp_objects.specs.Reading.{reading_at};
 ghost use Rattle.capnp_objects.specs.Objects.{IsObject, IsHeld, IsFew};
-ghost use Rattle.capnp_objects.specs.Landings.{landing_target, IsOpened};
-ghost use Rattle.capnp_objects.specs.Expected.{too_deep, another_kind, narrow_elements, narrow_structs, one_level, CanBeGiven, IsGiven, Withheld};
+ghost use Rattle.capnp_objects.specs.Landings.{arrival, found_target, IsOpened};
+ghost use Rattle.capnp_objects.specs.Expected.{too_deep, another_kind, narrow_elements, narrow_structs, CanBeGiven, IsGiven, Withheld};
 ghost use Rattle.capnp_objects.specs.Entering.{object_misfit, place_byte, IsAtHand, IsFitting, IsUnsuited};
 
-use super::{Landing, Source, depth_of};
+use super::landing::Landing;
+use super::{Source, depth_of};
 use crate::object::{Expected, Object, Place, Purpose};
 use capnp_arena::arena::ReaderArena;
 use capnp_words::error::ErrorKind;
@@ -40,7 +41,7 @@ impl<'a, A: ReaderArena> Source<'a, A> {
     ) -> Result<Object<'a>, ErrorKind>
         requires held { IsHeld (source_segments A.segments self) place }
         ensures object { IfOk result (IsObject Value
-            (one_level (reading_at A.ReaderArena self.entry place.entry nesting_limit))
+            (reading_at A.ReaderArena self.entry place.entry (pos 1))
             lim.old lim.new) }
         ensures given { IfOk result (IsGiven expected
             (reading_at A.ReaderArena self.entry place.entry nesting_limit).levels) }
@@ -61,35 +62,39 @@ impl<'a, A: ReaderArena> Source<'a, A> {
         }
         self.count(lim);
         match self.follow(place, word, nesting_limit, lim) {
-            Ok(landing) => self.enter_expected(expected, landing, lim),
+            Ok(found) => {
+                let landing = Landing {
+                    source: self,
+                    found,
+                    depth: 1,
+                };
+                landing.enter_expected(expected, lim)
+            }
             Err(kind) => Err(kind),
         }
     }
+}
 
+impl<'a, A: ReaderArena> Landing<'a, A> {
     // Enters the object that a pointer leads to, if it is as expected.
     #[inline(always)]
     fn enter_expected(
         self,
         expected: Expected,
-        landing: Landing<'a>,
         lim: &mut ReadLimiter,
     ) -> Result<Object<'a>, ErrorKind>
-        requires held { IsHeld (source_segments A.segments self) landing.start }
-        ensures object { IfOk result (IsOpened Value (source_segments A.segments self.entry)
-            (source_charging A.charging self.entry) 1 (landing_target landing.entry) lim.old
-            lim.new) }
-        ensures fits { IfOk result (IsFitting expected (landing_target landing.entry)) }
+        ensures object { IfOk result (IsOpened Value (arrival A.ReaderArena self.entry)
+            lim.old lim.new) }
+        ensures fits { IfOk result (IsFitting expected (found_target self.entry.found)) }
         ensures few { IfOk result IsFew }
-        ensures refused { IfErr result
-            (IsUnsuited expected (source_segments A.segments self.entry)
-            (source_charging A.charging self.entry) (landing_target landing.entry)
+        ensures refused { IfErr result (IsUnsuited expected (arrival A.ReaderArena self.entry)
             lim.old lim.new) }
     {
-        match name_of_kind(expected, landing.word) {
+        match name_of_kind(expected, self.found.word) {
             Some(kind) => return Err(kind),
             None => {}
         }
-        let object = match self.enter(Purpose::Value, landing, 1, lim) {
+        let object = match self.enter(Purpose::Value, lim) {
             Ok(object) => object,
             Err(kind) => return Err(kind),
         };

@@ -10,6 +10,7 @@ ghost use Rattle.capnp_objects.specs.Outcomes.{Entered};
 ghost use Rattle.capnp_objects.specs.Refusals.{CanBeRead};
 ghost use Rattle.capnp_objects.specs.Measures.{NotMeasured};
 
+use super::landing::Landing;
 use super::{Source, depth_of};
 use crate::object::{Object, Place, Purpose};
 use capnp_arena::arena::ReaderArena;
@@ -93,12 +94,17 @@ impl<'a, A: ReaderArena> Source<'a, A> {
             return Err(ErrorKind::MessageIsTooDeeplyNested);
         }
         self.count(lim);
-        let landing = match self.follow(place, word, nesting_limit, lim) {
-            Ok(landing) => landing,
+        let found = match self.follow(place, word, nesting_limit, lim) {
+            Ok(found) => found,
             Err(k) => return Err(k),
         };
-        match self.claim(landing, words, depth, lim) {
-            Ok(()) => Ok(landing.start.at),
+        let landing = Landing {
+            source: self,
+            found,
+            depth,
+        };
+        match landing.claim(words, lim) {
+            Ok(()) => Ok(found.start.at),
             Err(k) => Err(k),
         }
     }

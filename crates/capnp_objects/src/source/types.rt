@@ -41,7 +41,7 @@ impl<'a, A: ReaderArena> Source<'a, A> {
         }
         self.count(lim);
         match self.follow(place, word, nesting_limit, lim) {
-            Ok(landing) => described(landing.word),
+            Ok(found) => described(found.word),
             Err(kind) => Err(kind),
         }
     }

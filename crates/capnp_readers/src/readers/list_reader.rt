@@ -317,7 +317,7 @@ impl<'a, A: ReaderArena> ListReader<'a, A> {
         requires range { index < self.now.count }
         requires size { size_number self.now.element_size ≢ 1 }
         ensures source { result.source ≡ self.now.source }
-        ensures element { ShowsElement A.ReaderArena self.now index result }
+        ensures element { ShowsElement A.ReaderArena self.now.element_size self.now index result }
         ensures nesting { result.nesting_limit ≡ self.now.nesting_limit }
     {
         self.element_within(index, self.nesting_limit)
@@ -328,7 +328,7 @@ impl<'a, A: ReaderArena> ListReader<'a, A> {
         requires range { index < self.now.count }
         requires size { size_number self.now.element_size ≢ 1 }
         ensures source { result.source ≡ self.now.source }
-        ensures element { ShowsElement A.ReaderArena self.now index result }
+        ensures element { ShowsElement A.ReaderArena self.now.element_size self.now index result }
         ensures nesting { result.nesting_limit ≡ self.now.nesting_limit }
     {
         self.get_struct_element(index)
@@ -339,7 +339,7 @@ impl<'a, A: ReaderArena> ListReader<'a, A> {
         requires range { index < self.now.count }
         requires size { size_number self.now.element_size ≢ 1 }
         ensures source { result.source ≡ self.now.source }
-        ensures element { ShowsElement A.ReaderArena self.now index result }
+        ensures element { ShowsElement A.ReaderArena self.now.element_size self.now index result }
         ensures nesting { result.nesting_limit ≡ nesting_limit }
     {
         match self.element_size {
@@ -366,7 +366,7 @@ impl<'a, A: ReaderArena> ListReader<'a, A> {
         requires size { size_number self.now.element_size ≢ 1 }
         requires plain { size_number self.now.element_size ≤ 6 }
         ensures source { result.source ≡ self.now.source }
-        ensures element { ShowsElement A.ReaderArena self.now index result }
+        ensures element { ShowsElement A.ReaderArena self.now.element_size self.now index result }
         ensures nesting { result.nesting_limit ≡ nesting_limit }
     {
         match self.element_size {

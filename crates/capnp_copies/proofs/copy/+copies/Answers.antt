@@ -1,4 +1,4 @@
-use Rattle.std.proofs.Common.{◌≡◌, inl, inr, ℕ, ◌+◌, ◌*◌, ◌<◌, ◌≤◌, ◌^◌, length, get_or, refl, ap, sym, ◌∙◌, arith, rules}
+use Rattle.std.proofs.Common.{◌≡◌, inl, ℕ, ◌+◌, ◌*◌, ◌<◌, ◌≤◌, ◌^◌, length, get_or, refl, ap, ap₂, sym, ◌∙◌, arith, rules}
 use Rattle.std.proofs.lemmas.Int.{to_z-of_z}
 use Rattle.std.proofs.lemmas.Bool.{false≢true}
 use mir.Syntax.{w32}
@@ -7,19 +7,20 @@ use Rattle.capnp_words.specs.Sizes.{size_number}
 use Rattle.capnp_format.specs.Segments.{Segments, segment, word_at, IsPlace}
 use Rattle.capnp_format.specs.Tree.{Flat, Pointers}
 use Rattle.capnp_format.specs.Numbers.{words_for, unpacked}
-use Rattle.capnp_making.specs.Made.{zero_structs, nulls}
+use Rattle.capnp_format.proofs.Slices.{length_words}
+use Rattle.capnp_making.specs.Made.{zero_structs, nulls, structs_words}
 use Rattle.capnp_making.specs.Memory.{HasRoom}
 use Rattle.capnp_making.proofs.FillingMade.{IsBegun, pointers_ready, structs_ready}
 use Rattle.capnp_format.specs.Word.{kind, data_words, pointer_count}
 use Rattle.capnp_objects.specs.declared.object.Place.{Place}
 use Rattle.capnp_objects.specs.declared.object.Object.TheVariants.{Struct as ObjectStruct}
 use Rattle.capnp_objects.specs.Objects.{IsObject}
-use Rattle.capnp_objects.specs.Reading.{Reading, segment_read, word_of, words_from}
+use Rattle.capnp_objects.specs.Reading.{Reading, behind, segment_read, word_of, words_from}
 use Rattle.capnp_objects.specs.declared.object.Purpose.TheVariants.{Value}
 use Rattle.capnp_readers.specs.Readers.{reading}
 use Rattle.capnp_readers.proofs.Checks.{struct_room}
 use Rattle.capnp_copies.proofs.NearRead.{struct_by_word}
-use Rattle.capnp_copies.specs.Changes.{KeepsPointers}
+use Rattle.capnp_copies.specs.Widths.{KeepsPointers}
 use Rattle.capnp_copies.specs.Forms.{form_in}
 use Rattle.capnp_copies.proofs.FlatRead.{ok_so, err_so, one_level_in, flat_words}
 use Rattle.capnp_copies.proofs.FilledChildren.{no_child, children_grow, child_ahead, child_copied, child_stops}
@@ -27,8 +28,9 @@ use Rattle.capnp_copies.proofs.FilledElements.{DataWritten, element_copied, elem
 use Rattle.capnp_copies.proofs.FilledObjects.{nothing_made, StructBegun, struct_fits, struct_null, struct_copied, struct_stops, ObjectBegun, pointers_copied, pointers_stop, widths_keep, structs_copied, structs_stop}
 use Rattle.capnp_copies.proofs.FilledValues.{read_stops, null_copied, capability_copied, capability_stops, default_stops, struct_value, struct_value_stops, pointers_value, pointers_value_stops, structs_value, structs_value_stops, FlatOutcome, flat_value, flat_stops}
 use Rattle.capnp_copies.proofs.Copying.{there}
-use Rattle.capnp_copies.proofs.Growth.{none_itself, none_word, none_refused, Begins, struct_begins, taken_so, none_taken, one_taken, stop_taken, all_taken, no_row_taken, blank_taken, row_taken, row_stop_taken, rows_taken, all_within, among_within, all_behind, among_behind, elements_behind, among_elements_behind, nothing_taken, sections_taken, no_wider, read_stop_taken, null_takes, capability_takes, capability_stop_takes, default_stop_takes, struct_takes, struct_stop_takes, flat_takes, flat_stop_takes, pointers_take, pointers_stop_take, structs_take, structs_stop_take}
-use Rattle.capnp_copies.proofs.KeptForms.{SourceKept}
+use Rattle.capnp_copies.proofs.Growth.{none_itself, none_word, none_refused, Begins, struct_begins, taken_so, none_taken, one_taken, stop_taken, all_taken, no_row_taken, blank_taken, row_taken, row_stop_taken, rows_taken, all_within, among_within, no_wider, read_stop_taken, null_takes, capability_takes, capability_stop_takes, default_stop_takes, struct_takes, struct_stop_takes, flat_takes, flat_stop_takes, pointers_take, pointers_stop_take, structs_take, structs_stop_take, made_none, pointers_behind, pointers_stop_behind, structs_behind, structs_stop_behind, sections_behind, sections_stop_behind}
+use Rattle.capnp_copies.proofs.KeptForms.{SourceKept, sections_cut}
+use Rattle.capnp_copies.proofs.Originals.{halfway, sections_large, pointers_large, structs_large}
 use Rattle.capnp_copies.proofs.TightElements.{all_rows}
 use Rattle.capnp_copies.proofs.TooLarge.{no_struct_room, no_pointers_room, no_structs_room}
 use Rattle.capnp_copies.proofs.copy.+copies.Goals as goal
@@ -268,7 +270,7 @@ copy_object-returns-in-Pointers-clause-refused g t c =
     let nl = to_z-of_z w32 c.args.from.nesting_limit (search rules) in
     let object = rw (c.in-Pointers.is, nl) at c.in-Ok.ensures.object in
     let less = one_level_in c.args.from.nesting_limit (search rules) in
-    err_so c.copy_pointers.result _ _ c.copy_pointers.ensures.refused (λ k stop. pointers_value_stops c.in-Pointers.start less object stop)
+    err_so c.copy_pointers.result _ _ c.copy_pointers.ensures.refused (λ k stop. pointers_value_stops c.in-Pointers.start less object (rw c.in-Pointers.is at c.in-Ok.ensures.few) stop)
 
 pub copy_object-returns-in-Pointers-clause-taken : goal.copy_object-returns-in-Pointers-clause-taken
 copy_object-returns-in-Pointers-clause-taken g t c =
@@ -289,7 +291,7 @@ copy_object-returns-in-Structs-clause-refused g t c =
     let nl = to_z-of_z w32 c.args.from.nesting_limit (search rules) in
     let object = rw (c.in-Structs.is, nl) at c.in-Ok.ensures.object in
     let less = one_level_in c.args.from.nesting_limit (search rules) in
-    err_so c.copy_structs.result _ _ c.copy_structs.ensures.refused (λ k stop. structs_value_stops c.in-Structs.start less object stop)
+    err_so c.copy_structs.result _ _ c.copy_structs.ensures.refused (λ k stop. structs_value_stops c.in-Structs.start less object (rw c.in-Structs.is at c.in-Ok.ensures.few) stop)
 
 -- The elements of a list of structs.
 
@@ -447,20 +449,20 @@ pub lists::copy_pointers-returns-in-Ok-clause-taken : goal.lists::copy_pointers-
 lists::copy_pointers-returns-in-Ok-clause-taken g t c =
     let begun : Begins c.args.id c.in-Ok.start.segment c.args.count (g.A.BuilderArena.view c.args.arena.now) (g.A.BuilderArena.view c.make_list.new.arena) =
     record { there = there (g.A.BuilderArena.view c.args.arena.now).words c.args.id c.args.at c.requires.place; taken = c.in-Ok.ensures.memory.taken; memory = c.in-Ok.ensures.memory.granted; near = λ room. (c.in-Ok.ensures.at_end room).0; far = λ full. (c.in-Ok.ensures.start.behind.far full).0 } in
-    taken_so c.copy_in_line.result _ _ _ _ (λ x. all_behind begun (omega arith) x) (λ x. inr (among_behind (omega arith) begun (omega arith) x)) c.copy_in_line.ensures.taken
+    taken_so c.copy_in_line.result _ _ _ _ (λ x. pointers_behind _ _ _ _ _ _ _ _ _ _ _ begun x) (λ x. pointers_stop_behind _ _ _ _ _ _ _ _ _ _ _ begun x) c.copy_in_line.ensures.taken
 
 pub lists::copy_pointers-returns-in-Err-clause-refused : goal.lists::copy_pointers-returns-in-Err-clause-refused
 lists::copy_pointers-returns-in-Err-clause-refused g t c =
     let full : HasRoom (g.A.BuilderArena.view c.args.arena.now) c.args.id c.args.count → ⊥ = λ room. absurd (false≢true (c.in-Err.ensures.memory.fits room)) in
     let none = nothing_made (form_in c.args.form) c.args.id c.args.at c.args.count (g.A.BuilderArena.view c.args.arena.now) (g.A.BuilderArena.view c.make_list.new.arena) c.args.lim.now c.args.lim.now c.in-Err.k c.requires.place c.requires.null
     c.in-Err.ensures.memory.named c.in-Err.ensures.refused full in
-    record { why = inl (c.args.count, none.0, inl (refl, refl), no_pointers_room (form_in c.args.form) (reading g.B.ReaderArena c.args.from) c.args.count c.args.id (g.A.BuilderArena.view c.args.arena.now) full); off = inl refl; left = none.1 }
+    halfway (inl (c.args.count, none.0, inl (refl, refl), pointers_large (form_in c.args.form) (reading g.B.ReaderArena c.args.from) c.args.count (length (segment (g.A.BuilderArena.view c.args.arena.now).words c.args.id)) ((g.A.BuilderArena.view c.args.arena.now).room c.args.id) (no_pointers_room (form_in c.args.form) (reading g.B.ReaderArena c.args.from) c.args.count c.args.id (g.A.BuilderArena.view c.args.arena.now) full))) none.1
 
 -- Lists of structs.
 
 pub lists::copy_pointers-returns-in-Err-clause-taken : goal.lists::copy_pointers-returns-in-Err-clause-taken
 lists::copy_pointers-returns-in-Err-clause-taken g t c =
-    inl (nothing_taken (none_refused (g.A.BuilderArena.view c.args.arena.now) (g.A.BuilderArena.view c.make_list.new.arena) c.args.count c.in-Err.k c.in-Err.ensures.memory.named c.in-Err.ensures.refused))
+    inl (refl, made_none (none_refused (g.A.BuilderArena.view c.args.arena.now) (g.A.BuilderArena.view c.make_list.new.arena) c.args.count c.in-Err.k c.in-Err.ensures.memory.named c.in-Err.ensures.refused))
 
 pub lists::copy_structs-copy_elements-requires : goal.lists::copy_structs-copy_elements-requires
 lists::copy_structs-copy_elements-requires g t c κs within =
@@ -494,7 +496,7 @@ lists::copy_structs-returns-in-Ok-clause-taken g t c =
     let less = no_wider c.args.count least.data_words least.pointers c.args.size.data_words c.args.size.pointers c.kept_widths-kept.ensures.less_data c.kept_widths-kept.ensures.less_pointers in
     let begun : Begins c.args.id c.in-Ok.list.segment (1 + c.args.count * (least.data_words + least.pointers)) (g.A.BuilderArena.view c.args.arena.now) (g.A.BuilderArena.view c.make_struct_list.new.arena) =
     record { there = there (g.A.BuilderArena.view c.args.arena.now).words c.args.id c.args.at c.requires.place; taken = c.in-Ok.ensures.memory.taken; memory = c.in-Ok.ensures.memory.granted; near = λ room. (c.in-Ok.ensures.start.behind.near (omega arith) room).0; far = λ full. (c.in-Ok.ensures.start.behind.far full).0 } in
-    taken_so c.copy_elements.result _ _ _ _ (λ x. elements_behind begun (omega (arith, less)) x) (λ x. inr (among_elements_behind begun (omega (arith, less)) x)) c.copy_elements.ensures.taken
+    taken_so c.copy_elements.result _ _ _ _ (λ x. structs_behind _ _ _ _ _ _ _ _ _ _ _ _ _ begun (omega (arith, less)) x) (λ x. structs_stop_behind _ _ _ _ _ _ _ _ _ _ _ _ _ begun (omega (arith, less)) x) c.copy_elements.ensures.taken
 
 pub lists::copy_structs-returns-in-Err-clause-refused : goal.lists::copy_structs-returns-in-Err-clause-refused
 lists::copy_structs-returns-in-Err-clause-refused g t c =
@@ -502,14 +504,15 @@ lists::copy_structs-returns-in-Err-clause-refused g t c =
     let full : HasRoom (g.A.BuilderArena.view c.args.arena.now) c.args.id (1 + c.args.count * (least.data_words + least.pointers)) → ⊥ = λ room. absurd (false≢true (c.in-Err.ensures.memory.fits room)) in
     let none = nothing_made (form_in c.args.form) c.args.id c.args.at (1 + c.args.count * (least.data_words + least.pointers)) (g.A.BuilderArena.view c.args.arena.now) (g.A.BuilderArena.view c.make_struct_list.new.arena) c.args.lim.now c.args.lim.now c.in-Err.k c.requires.place c.requires.null
     c.in-Err.ensures.memory.named c.in-Err.ensures.refused full in
-    record { why = inl (1 + c.args.count * (least.data_words + least.pointers), none.0, inl (refl, least, c.kept_widths-kept.ensures.kept, refl), no_structs_room (reading g.B.ReaderArena c.args.from) c.args.size least c.args.count c.args.id (g.A.BuilderArena.view c.args.arena.now) (form_in c.args.form) c.requires.inside c.kept_widths-kept.ensures.kept full); off = inl refl; left = none.1 }
+    halfway (inl (1 + c.args.count * (least.data_words + least.pointers), none.0, inl (refl, ap (structs_words c.args.count) c.kept_widths-kept.ensures.kept), structs_large (form_in c.args.form) (reading g.B.ReaderArena c.args.from) c.args.size c.args.count (length (segment (g.A.BuilderArena.view c.args.arena.now).words c.args.id)) ((g.A.BuilderArena.view c.args.arena.now).room c.args.id) (no_structs_room (reading g.B.ReaderArena c.args.from) c.args.size least c.args.count c.args.id (g.A.BuilderArena.view c.args.arena.now) (form_in c.args.form) c.requires.inside c.kept_widths-kept.ensures.kept full)))
+    none.1
 
 -- Structs.
 
 pub lists::copy_structs-returns-in-Err-clause-taken : goal.lists::copy_structs-returns-in-Err-clause-taken
 lists::copy_structs-returns-in-Err-clause-taken g t c =
     let least = c.kept_widths-kept.result in
-    inl (nothing_taken (none_refused (g.A.BuilderArena.view c.args.arena.now) (g.A.BuilderArena.view c.make_struct_list.new.arena) (1 + c.args.count * (least.data_words + least.pointers)) c.in-Err.k c.in-Err.ensures.memory.named c.in-Err.ensures.refused))
+    inl (refl, made_none (none_refused (g.A.BuilderArena.view c.args.arena.now) (g.A.BuilderArena.view c.make_struct_list.new.arena) (1 + c.args.count * (least.data_words + least.pointers)) c.in-Err.k c.in-Err.ensures.memory.named c.in-Err.ensures.refused))
 
 pub structs::copy_struct-returns-in-Err-clause-refused : goal.structs::copy_struct-returns-in-Err-clause-refused
 structs::copy_struct-returns-in-Err-clause-refused g t c =
@@ -517,12 +520,15 @@ structs::copy_struct-returns-in-Err-clause-refused g t c =
     let full : HasRoom (g.A.BuilderArena.view c.args.arena.now) c.args.id (least.data_words + least.pointers) → ⊥ = λ room. absurd (false≢true (c.in-Err.ensures.memory.fits room)) in
     let none = nothing_made (form_in c.args.form) c.args.id c.args.at (least.data_words + least.pointers) (g.A.BuilderArena.view c.args.arena.now) (g.A.BuilderArena.view c.make_struct.new.arena) c.args.lim.now c.args.lim.now c.in-Err.k c.requires.place c.requires.null
     c.in-Err.ensures.memory.named c.in-Err.ensures.refused full in
-    record { why = inl (least.data_words + least.pointers, none.0, inl (refl, least, c.kept_sections-kept.ensures.kept, refl), no_struct_room (reading g.B.ReaderArena c.args.from) c.args.size least c.args.id (g.A.BuilderArena.view c.args.arena.now) (form_in c.args.form) c.requires.inside c.kept_sections-kept.ensures.kept full); off = inl refl; left = none.1 }
+    let cut = sections_cut (form_in c.args.form) (reading g.B.ReaderArena c.args.from) c.args.size least c.requires.inside c.kept_sections-kept.ensures.kept in
+    let makes = ap₂ (λ i j. i + j) cut.of_data cut.of_pointers in
+    halfway (inl (least.data_words + least.pointers, none.0, inl (refl, makes), sections_large (form_in c.args.form) (words_from (reading g.B.ReaderArena c.args.from) c.args.size.data_words) (behind (reading g.B.ReaderArena c.args.from) c.args.size.data_words) c.args.size.pointers (length (segment (g.A.BuilderArena.view c.args.arena.now).words c.args.id)) ((g.A.BuilderArena.view c.args.arena.now).room c.args.id) (no_struct_room (reading g.B.ReaderArena c.args.from) c.args.size least c.args.id (g.A.BuilderArena.view c.args.arena.now) (form_in c.args.form) c.requires.inside c.kept_sections-kept.ensures.kept full)))
+    none.1
 
 pub structs::copy_struct-returns-in-Err-clause-taken : goal.structs::copy_struct-returns-in-Err-clause-taken
 structs::copy_struct-returns-in-Err-clause-taken g t c =
     let least = c.kept_sections-kept.result in
-    inl (nothing_taken (none_refused (g.A.BuilderArena.view c.args.arena.now) (g.A.BuilderArena.view c.make_struct.new.arena) (least.data_words + least.pointers) c.in-Err.k c.in-Err.ensures.memory.named c.in-Err.ensures.refused))
+    inl (refl, made_none (none_refused (g.A.BuilderArena.view c.args.arena.now) (g.A.BuilderArena.view c.make_struct.new.arena) (least.data_words + least.pointers) c.in-Err.k c.in-Err.ensures.memory.named c.in-Err.ensures.refused))
 
 pub structs::copy_struct-returns-clause-copied : goal.structs::copy_struct-returns-clause-copied
 structs::copy_struct-returns-clause-copied g t c =
@@ -578,8 +584,12 @@ structs::copy_struct-returns-clause-taken g t c =
     let put = c.put_words.ensures.taken in
     let last = none_itself (g.A.BuilderArena.view c.copy_children.new.arena) in
     let fewer = c.kept_sections-kept.ensures.less_pointers in
-    let less : least.data_words + least.pointers ≤ c.args.size.data_words + c.args.size.pointers = omega (arith, c.kept_sections-kept.ensures.less_data, fewer) in
-    taken_so c.copy_children.result _ _ _ _ (λ x. sections_taken (reading g.B.ReaderArena c.args.from) c.args.size least {p' = 0} c.requires.inside c.kept_sections-kept.ensures.kept made less (all_within put last x)) (λ x. inr (among_behind {p = 0} fewer made less (among_within (omega arith) put last x)))
+    let r : Reading = reading g.B.ReaderArena c.args.from in
+    let long = length_words r.segments r.segment r.at c.args.size.data_words (omega (arith, c.requires.inside)) in
+    let less : least.data_words + least.pointers ≤ length (words_from r c.args.size.data_words) + c.args.size.pointers = omega (arith, c.kept_sections-kept.ensures.less_data, fewer, long) in
+    let cut = sections_cut (form_in c.args.form) r c.args.size least c.requires.inside c.kept_sections-kept.ensures.kept in
+    taken_so c.copy_children.result _ _ _ _ (λ x. sections_behind (words_from r c.args.size.data_words) (behind r c.args.size.data_words) c.args.size.pointers least.pointers (least.data_words + least.pointers) _ _ _ 0 _ _ _ _ _ cut.inside cut.of_pointers made less (all_within put last x))
+    (λ x. sections_stop_behind (words_from r c.args.size.data_words) (behind r c.args.size.data_words) c.args.size.pointers least.pointers (least.data_words + least.pointers) _ _ _ 0 _ _ _ _ _ fewer made less (among_within (omega arith) put last x))
     (rw (c.from.ensures, c.from-2.ensures, c.from-pointers.ensures, nl) at c.copy_children.ensures.taken)
 
 pub structs::copy_struct-copy_children-requires : goal.structs::copy_struct-copy_children-requires

@@ -42,9 +42,9 @@ decreases-structs::copy_struct g l = 8 * levels l.from.nesting_limit + 5
 abbrev pub invariant-children::copy_in_line-loop-i : goal.invariant-children::copy_in_line-loop-i
 invariant-children::copy_in_line-loop-i g l =
     CopiesChildren (reading g.B.ReaderArena l.from) l.i (change (form_in l.form) l.id l.at (g.A.BuilderArena.view l.fn.arena) (g.A.BuilderArena.view l.arena) l.fn.lim l.lim)
-    × TakesForAll (reading g.B.ReaderArena l.from) l.i 0 0 (change (form_in l.form) l.id l.at (g.A.BuilderArena.view l.fn.arena) (g.A.BuilderArena.view l.arena) l.fn.lim l.lim)
+    × TakesForAll (reading g.B.ReaderArena l.from) l.i (change (form_in l.form) l.id l.at (g.A.BuilderArena.view l.fn.arena) (g.A.BuilderArena.view l.arena) l.fn.lim l.lim)
 
 abbrev pub invariant-elements::copy_elements-loop-i : goal.invariant-elements::copy_elements-loop-i
 invariant-elements::copy_elements-loop-i g l =
     CopiesRows (reading g.B.ReaderArena l.from) l.sizes l.i (l.count - l.i) (change (form_in l.form) l.to.segment l.to.at (g.A.BuilderArena.view l.fn.arena) (g.A.BuilderArena.view l.arena) l.fn.lim l.lim)
-    × TakesForElements (reading g.B.ReaderArena l.from) l.sizes.source l.i 0 0 (change (form_in l.form) l.to.segment l.to.at (g.A.BuilderArena.view l.fn.arena) (g.A.BuilderArena.view l.arena) l.fn.lim l.lim)
+    × TakesForElements (reading g.B.ReaderArena l.from) l.sizes.source l.i (change (form_in l.form) l.to.segment l.to.at (g.A.BuilderArena.view l.fn.arena) (g.A.BuilderArena.view l.arena) l.fn.lim l.lim)

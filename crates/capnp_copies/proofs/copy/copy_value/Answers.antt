@@ -5,17 +5,11 @@ use Rattle.capnp_copies.proofs.copy.copy_value.Goals as goal
 pub returns-clause-copied : goal.returns-clause-copied
 returns-clause-copied g c = rw c.of.ensures at c.copy_in_form.ensures.copied
 
-pub returns-clause-stands : goal.returns-clause-stands
-returns-clause-stands g c = rw c.of.ensures at c.copy_in_form.ensures.stands
-
 pub returns-clause-fits : goal.returns-clause-fits
 returns-clause-fits g c = rw c.of.ensures at c.copy_in_form.ensures.fits
 
 pub returns-clause-refused : goal.returns-clause-refused
 returns-clause-refused g c = rw c.of.ensures at c.copy_in_form.ensures.refused
-
-pub returns-clause-spent : goal.returns-clause-spent
-returns-clause-spent g c = rw c.of.ensures at c.copy_in_form.ensures.spent
 
 pub returns-clause-taken : goal.returns-clause-taken
 returns-clause-taken g c = rw c.of.ensures at c.copy_in_form.ensures.taken

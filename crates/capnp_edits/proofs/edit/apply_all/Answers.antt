@@ -1,8 +1,8 @@
-use Rattle.std.proofs.Common.{◌≡◌, sym, ap, ◌∙◌, subst, arith}
-use Rattle.std.proofs.lemmas.List.{length-set, take_all}
-use Rattle.capnp_edits.specs.Edits.{refusal_of, IsApplied, refusals_after_all}
+use Rattle.std.proofs.Common.{◌≡◌, sym, ap, ◌∙◌, subst}
+use Rattle.std.proofs.lemmas.List.{length-set}
+use Rattle.capnp_edits.specs.Edits.{refusal_of, IsApplied}
 use Rattle.capnp_edits.specs.Steps.{IsStep}
-use Rattle.capnp_edits.proofs.Folded.{next_applied, next_counted}
+use Rattle.capnp_edits.proofs.Folded.{next_applied}
 use Rattle.capnp_edits.proofs.Stepped.{next_step}
 use Rattle.capnp_edits.proofs.edit.apply_all.Goals as goal
 use Rattle.capnp_edits.proofs.edit.apply_all.Goals.{in-Ok, in-Err}
@@ -20,10 +20,5 @@ loop-i-preserved g c =
     record {
       steps = next_step _ _ _ c.args.edits.now c.loop-i.outcomes c.loop-i.i edit (refusal_of c.apply.result) r c.loop-i-test.true before.long same before.steps step;
       applied = next_applied _ _ _ c.args.edits.now c.loop-i.outcomes c.loop-i.i edit (refusal_of c.apply.result) r c.loop-i-test.true before.long same before.applied applied;
-      counted = next_counted c.loop-i.outcomes c.loop-i.i _ _ _ (refusal_of c.apply.result) r (omega (arith, c.loop-i-test.true, before.long)) same before.counted c.apply.ensures.counted;
       long = length-set c.loop-i.outcomes c.loop-i.i r ∙ before.long;
     }
-
-pub returns-clause-counted : goal.returns-clause-counted
-returns-clause-counted g c =
-    c.loop-i.invariant.counted ∙ ap (λ ys. refusals_after_all ys (g.A.BuilderArena.view c.args.arena.now).refusals) (take_all c.loop-i.i c.loop-i.outcomes (omega (arith, c.loop-i-test.false, c.loop-i.invariant.long)))

@@ -1,5 +1,5 @@
 use Rattle.std.proofs.Common.{◌≡◌, take, length}
-use Rattle.capnp_edits.specs.Edits.{AreApplied, refusals_after_all}
+use Rattle.capnp_edits.specs.Edits.{AreApplied}
 use Rattle.capnp_edits.specs.Steps.{AreSteps}
 use Rattle.capnp_edits.proofs.edit.apply_all.Given as goal
 
@@ -7,6 +7,5 @@ abbrev pub invariant-loop-i : goal.invariant-loop-i
 invariant-loop-i g l = record {
   steps : AreSteps (g.A.BuilderArena.view l.fn.arena) (g.A.BuilderArena.view l.arena) (take l.i l.edits) (take l.i l.outcomes);
   applied : AreApplied (g.A.BuilderArena.view l.fn.arena).words (g.A.BuilderArena.view l.arena).words (take l.i l.edits) (take l.i l.outcomes);
-  counted : (g.A.BuilderArena.view l.arena).refusals ≡ refusals_after_all (take l.i l.outcomes) (g.A.BuilderArena.view l.fn.arena).refusals;
   long : length l.outcomes ≡ length l.edits;
 }

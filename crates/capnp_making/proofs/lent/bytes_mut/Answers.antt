@@ -1,6 +1,7 @@
 use Rattle.std.proofs.Common.{◌≡◌, ℕ, ◌+◌, ◌-◌, ◌*◌, List, [], length, drop, take, slice_index_or, refl, ap, ◌∙◌, arith}
 use Rattle.capnp_format.specs.Segments.{Segments}
-use Rattle.capnp_making.specs.InPlace.{bytes_there, rewritten, segment_with, segments_with}
+use Rattle.capnp_arena.specs.Written.{overwritten}
+use Rattle.capnp_making.specs.InPlace.{bytes_there, rewritten, segments_with}
 use Rattle.capnp_making.proofs.InPlaceBytes.{there_got, inside_bytes, count_bytes}
 use Rattle.capnp_making.proofs.BytesOver.{overwrites}
 use Rattle.capnp_making.proofs.Zeros.{length-over}
@@ -22,7 +23,7 @@ returns g c =
     let now : c.part_of.result.now ≡ bytes_there B c.args.bytes = c.part_of.ensures.now ∙ ap (λ k. take k (drop a bs)) (let e : a + n - a ≡ n = omega arith in e) in
     let room = inside_bytes S B c.args.bytes same c.requires.inside in
     let segments : (ws : List ℕ) → length ws ≡ n → g.A.ReaderArena.segments (then ws) ≡ segments_with B c.args.bytes ws = λ ws l.
-    g.met.A.BuilderArena.with_bytes_segments c.args.arena.now c.args.bytes.segment bs (segment_with B c.args.bytes ws)
+    g.met.A.BuilderArena.with_bytes_segments c.args.arena.now c.args.bytes.segment bs (overwritten (slice_index_or B c.args.bytes.segment []) (8 * c.args.bytes.start) ws)
     (there_got S B c.args.bytes.segment same c.requires.there) (length-over bs a ws (omega (arith, room, l))) in (
       (refl {a = c.part_of.result.ghost_name}, λ w. refl {a = then w}),
       record {

@@ -2,9 +2,8 @@ use Rattle.std.proofs.Common.{◌≡◌, ◌≢◌, ℕ, suc, ◌+◌, ◌*◌, 
 use Rattle.capnp_format.specs.Word.{kind}
 use Rattle.capnp_format.specs.Segments.{Segments, segment, word_at, Target, leads}
 use Rattle.capnp_making.specs.Landings.{target_of}
-use Rattle.capnp_making.specs.Zeroed.{nonzeros}
 use Rattle.capnp_making.proofs.Memory.{words_in}
-use Rattle.capnp_making.proofs.Zeros.{word_zeroed, pruned_again, zero_stays, here_once}
+use Rattle.capnp_making.proofs.Zeros.{nonzeros, word_zeroed, pruned_again, zero_stays, here_once}
 use Rattle.capnp_making.proofs.Below.{next_done, all_done}
 use Rattle.capnp_making.proofs.BelowElements.{next_element_done, elements_done, no_pointers, structs_zeroed, element_within, next_place}
 use Rattle.capnp_making.proofs.Objects.{object_done, nowhere_apart, null_done, landed_struct, landed_pointers, landed_structs}

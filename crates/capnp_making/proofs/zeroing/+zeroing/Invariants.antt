@@ -3,7 +3,10 @@ use Rattle.capnp_format.specs.Tree.{Trees, Elements, element_count}
 use Rattle.capnp_format.specs.Tree.{count as number}
 use Rattle.capnp_format.specs.Forest.{Interval, times}
 use Rattle.capnp_arena.specs.View.{KeepsLimits}
-use Rattle.capnp_making.specs.Zeroed.{IsZeroed, IsPruned, AreApart, AreApartElements, child_extents, element_extents, rest, rest_elements, nonzeros}
+use Rattle.capnp_making.specs.Zeroed.{IsZeroed, IsPruned, AreApart, AreApartElements, element_extents}
+use Rattle.capnp_making.proofs.Zeros.{nonzeros}
+use Rattle.capnp_making.proofs.Below.{child_extents, rest}
+use Rattle.capnp_making.proofs.BelowElements.{rest_elements}
 use Rattle.capnp_making.proofs.zeroing.+zeroing.Given as goal
 
 abbrev pub decreases-zero_object : goal.decreases-zero_object

@@ -1,5 +1,5 @@
 use Rattle.std.proofs.Common.{sym, ap, ◌∙◌, Ok}
-use Rattle.capnp_widening.specs.Opening.{HasWideStructs}
+use Rattle.capnp_widening.proofs.ListsOpened.{HasWideStructs}
 use Rattle.capnp_widening.proofs.ListsOpened.{list_made}
 use Rattle.capnp_widening.proofs.StructsOpened.{no_truth, nothing_spent}
 use Rattle.capnp_widening.proofs.Unspent.{unfound_spent}

@@ -50,16 +50,15 @@ returns-else-size-old-clause-leads g c =
 
 -- A struct is found.
 pub returns-in-None-clause-stays : goal.returns-in-None-clause-stays
-returns-in-None-clause-stays g c = λ h. (let (ws, ts, x, l, m) = h in absurd (no_struct _ (c.in-None.ensures.found (Struct ws ts) x)))
+returns-in-None-clause-stays g c = λ ws ts x l m. absurd (no_struct _ (c.in-None.ensures.found (Struct ws ts) x))
 
 pub returns-in-None-clause-fits : goal.returns-in-None-clause-fits
 returns-in-None-clause-fits g c = λ h. (let (ws, ts, x, room) = h in absurd (no_struct _ (c.in-None.ensures.found (Struct ws ts) x)))
 
 -- It is large enough, or is made anew.
 pub returns-else-size-old-clause-stays : goal.returns-else-size-old-clause-stays
-returns-else-size-old-clause-stays g c = λ h.
+returns-else-size-old-clause-stays g c = λ ws ts x l m.
     (let S : Segments = (g.A.BuilderArena.view c.args.arena.now).words in
-    let (ws, ts, x, l, m) = h in
     let same = same_struct (the_struct S c.args.id c.args.at ws ts) c.in-Some.old (sym (c.in-Some.ensures.found (Struct ws ts) x)) in
     let d = ap (λ e. e.size.data_words) same in
     let k = ap (λ e. e.size.pointers) same in

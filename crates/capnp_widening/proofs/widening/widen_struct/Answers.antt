@@ -70,7 +70,7 @@ returns-in-Err-move_row-clause-refused g c =
     struct_left S T D P U Z c.args.id c.args.at c.args.old c.args.size c.in-Ok.room steps
 
 pub returns-in-Err-clause-refused : goal.returns-in-Err-clause-refused
-returns-in-Err-clause-refused g c = λ ws ts i. nothing_grown (g.A.BuilderArena.view c.args.arena.now).words (g.A.BuilderArena.view c.take.new.arena).words c.in-Err.ensures.refused
+returns-in-Err-clause-refused g c = λ t i. nothing_grown (g.A.BuilderArena.view c.args.arena.now).words (g.A.BuilderArena.view c.take.new.arena).words c.in-Err.ensures.refused
 
 pub returns-in-Err-clause-full : goal.returns-in-Err-clause-full
 returns-in-Err-clause-full g c = (c.total.result, c.in-Err.ensures.full)

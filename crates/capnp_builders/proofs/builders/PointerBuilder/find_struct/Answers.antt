@@ -6,11 +6,11 @@ use Rattle.capnp_making.specs.Memory.{TakesWords}
 use Rattle.capnp_making.proofs.FillingMade.{null_stored}
 use Rattle.capnp_making.proofs.Memory.{words_in}
 use Rattle.capnp_making.proofs.Zeros.{there}
-use Rattle.capnp_widening.specs.Opening.{LeadsToOne, struct_opened}
+use Rattle.capnp_widening.specs.Opening.{LeadsToOne, OpensStruct, struct_opened}
 use Rattle.capnp_widening.specs.Rooms.{OpeningFits}
 use Rattle.capnp_widening.specs.Widened.{IsNoWider}
 use Rattle.capnp_builders.specs.Defaults.{object_default}
-use Rattle.capnp_builders.specs.Opening.{OpensStruct}
+use Rattle.capnp_builders.specs.Opening.{IsStructGiven}
 use Rattle.capnp_builders.proofs.DefaultRooms.{null_left, then_fits, refused_default}
 use Rattle.capnp_builders.proofs.DefaultUses.{then_does, stands_then}
 use Rattle.capnp_builders.proofs.Openings.{struct_opens, struct_refused, opens_longer, still_there}
@@ -26,7 +26,7 @@ returns-in-Ok-open_struct-clause-found g c = λ t stored.
     let p = c.args.self.now.at in
     let e = c.in-Ok-open_struct.opened in
     let small : length (segment b.words e.segment) < 2 ^ 32 = omega (arith, g.met.A.BuilderArena.within c.open_struct.new.arena e.segment, g.met.A.BuilderArena.small c.open_struct.new.arena e.segment) in
-    then_does (object_default c.args.default t) s p a m b t c.in-Ok.field-0 (Ok c.struct_place.result) (OpensStruct c.args.size (Ok c.struct_place.result)) stored (c.in-Ok.ensures.put t stored)
+    then_does (object_default c.args.default t) s p a m b t c.in-Ok.field-0 (Ok c.struct_place.result) (OpensStruct IsStructGiven c.args.size (Ok c.struct_place.result)) stored (c.in-Ok.ensures.put t stored)
     (λ u stands. (let o = c.in-Ok-open_struct.ensures.opened u stands in
     struct_opens m b s p u c.args.size e c.struct_place.result
     (record { there = there b.words s p (still_there a m b s p c.requires.there c.in-Ok.ensures.longer (opens_longer c.args.size LeadsToOne m b s p u (struct_opened c.args.size u) (Ok e) o)); small = small; starts = c.struct_place.ensures.starts }) o)))
@@ -39,7 +39,7 @@ returns-in-Err-open_struct-clause-found g c = λ t stored.
     let s = c.args.self.now.segment in
     let p = c.args.self.now.at in
     let k = c.in-Err-open_struct.k in
-    then_does (object_default c.args.default t) s p a m b t c.in-Ok.field-0 (Err k) (OpensStruct c.args.size (Err k)) stored (c.in-Ok.ensures.put t stored)
+    then_does (object_default c.args.default t) s p a m b t c.in-Ok.field-0 (Err k) (OpensStruct IsStructGiven c.args.size (Err k)) stored (c.in-Ok.ensures.put t stored)
     (λ u stands. struct_refused m b s p u c.args.size k (c.in-Err-open_struct.ensures.opened u stands)))
 
 pub returns-in-Err-open_struct-clause-there : goal.returns-in-Err-open_struct-clause-there

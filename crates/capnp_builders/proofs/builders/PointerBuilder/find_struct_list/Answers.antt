@@ -1,5 +1,6 @@
 use Rattle.std.proofs.Common.{Ok, Err, subst}
 use Rattle.capnp_arena.specs.View.{View}
+use Rattle.capnp_making.specs.Stored.{IsStored}
 use Rattle.capnp_widening.specs.Rooms.{WiderListFits}
 use Rattle.capnp_widening.specs.RowsRemade.{RefusesWider}
 use Rattle.capnp_builders.specs.Defaults.{object_default}
@@ -61,7 +62,7 @@ returns-in-Err-clause-fits g c = λ h.
     let m : View = g.A.BuilderArena.view c.put_default.new.arena in
     let s = c.args.self.now.segment in
     let p = c.args.self.now.at in
-    c.in-Err.ensures.fits (refused_default c.args.default s p a m t c.in-Err.k (λ v. WiderListFits v s p c.args.size) fits (c.in-Err.ensures.put t stored)))
+    c.in-Err.ensures.fits (refused_default c.args.default s p a m t c.in-Err.k (λ (v : View). WiderListFits (IsStored v.words s p) v s p c.args.size) fits (c.in-Err.ensures.put t stored)))
 
 pub returns-in-Err-open_struct_list-clause-fits : goal.returns-in-Err-open_struct_list-clause-fits
 returns-in-Err-open_struct_list-clause-fits g c = λ h.
@@ -70,10 +71,10 @@ returns-in-Err-open_struct_list-clause-fits g c = λ h.
     let m : View = g.A.BuilderArena.view c.put_default.new.arena in
     let s = c.args.self.now.segment in
     let p = c.args.self.now.at in
-    c.in-Err-open_struct_list.ensures.fits (then_fits (object_default c.args.default t) s p a m t c.in-Ok.field-0 (λ v. WiderListFits v s p c.args.size) fits (c.in-Ok.ensures.put t stored)))
+    c.in-Err-open_struct_list.ensures.fits (then_fits (object_default c.args.default t) s p a m t c.in-Ok.field-0 (λ (v : View). WiderListFits (IsStored v.words s p) v s p c.args.size) fits (c.in-Ok.ensures.put t stored)))
 
 -- A pointer that isn't null gets no default.
 pub returns-in-Err-open_struct_list-clause-set : goal.returns-in-Err-open_struct_list-clause-set
 returns-in-Err-open_struct_list-clause-set g c = λ some.
     (let b : View = g.A.BuilderArena.view c.open_struct_list.new.arena in
-    subst (λ (v : View). RefusesWider v b c.args.self.now.segment c.args.self.now.at c.args.size c.in-Err-open_struct_list.k) (c.in-Ok.ensures.stays some).1 c.in-Err-open_struct_list.ensures.named)
+    subst (λ (v : View). RefusesWider (IsStored v.words c.args.self.now.segment c.args.self.now.at) c.args.size v b c.in-Err-open_struct_list.k) (c.in-Ok.ensures.stays some).1 c.in-Err-open_struct_list.ensures.named)

@@ -1,11 +1,15 @@
-use Rattle.std.proofs.Common.{◌≡◌, ℕ, List, IfOk, OnErr, None}
+use Rattle.std.proofs.Common.{◌≡◌, ℕ, List, IfOk, IfErr, None}
 use Rattle.std.proofs.lemmas.Bool.{false≢true}
 use Rattle.capnp_words.specs.Meter.{unused}
+use Rattle.capnp_format.specs.Tree.{Null}
 use Rattle.capnp_arena.specs.View.{View}
-use Rattle.capnp_objects.specs.Refusals.{BreaksOff}
 use Rattle.capnp_objects.specs.Wanted.{of_default}
-use Rattle.capnp_copies.specs.Changes.{change, IsCopyOf}
-use Rattle.capnp_builders.specs.Defaults.{default_root}
+use Rattle.capnp_copies.specs.Changes.{change, MakesCopy, StopsCopy}
+use Rattle.capnp_copies.specs.Growth.{TakesAtMost}
+use Rattle.capnp_copies.specs.Originals.{value_original}
+use Rattle.capnp_copies.proofs.FlatRead.{err_so}
+use Rattle.capnp_builders.specs.Defaults.{default_root, default_copy}
+use Rattle.capnp_builders.proofs.CopiesHeld.{on_ok, on_err}
 use Rattle.capnp_builders.proofs.DefaultCopies.{nothing_spent, stands_for_null, refuses_default}
 use Rattle.capnp_builders.proofs.builders.defaults.copy_default.Goals as goal
 
@@ -19,18 +23,21 @@ returns g c =
     let bytes : List ℕ = c.args.default.now in
     let old : View = g.A.BuilderArena.view c.args.arena.now in
     let new : View = g.A.BuilderArena.view c.copy_in_form.new.arena in
-    let copied : IfOk c.copy_in_form.result (λ _. IsCopyOf (default_root bytes) (change of_default c.args.id c.args.at old new (unused None) c.copy_in_form.new.lim)) =
+    let taken : TakesAtMost c.copy_in_form.result (value_original (default_root bytes)) (change of_default c.args.id c.args.at old new (unused None) c.copy_in_form.new.lim) =
+    rw (from.source, from.place.0, from.place.1, from.nesting, c.new-lim.ensures) at c.copy_in_form.ensures.taken in
+    let same : c.copy_in_form.new.lim ≡ unused None = nothing_spent c.copy_in_form.result bytes c.args.id c.args.at old new (unused None) c.copy_in_form.new.lim taken in
+    let copied : IfOk c.copy_in_form.result (λ _. MakesCopy (value_original (default_root bytes)) (change of_default c.args.id c.args.at old new (unused None) c.copy_in_form.new.lim)) =
     rw (from.source, from.place.0, from.place.1, from.nesting, c.new-lim.ensures) at c.copy_in_form.ensures.copied in
-    let spent : OnErr c.copy_in_form.result (BreaksOff of_default (default_root bytes) (unused None) c.copy_in_form.new.lim) =
-    rw (from.source, from.place.0, from.place.1, from.nesting, c.new-lim.ensures) at c.copy_in_form.ensures.spent in
-    let same : c.copy_in_form.new.lim ≡ unused None = nothing_spent c.copy_in_form.result bytes c.args.id c.args.at old new (unused None) c.copy_in_form.new.lim copied spent in
+    let refused : IfErr c.copy_in_form.result (StopsCopy (value_original (default_root bytes)) (default_copy c.args.id c.args.at old new) Null) =
+    rw (from.source, from.place.0, from.place.1, from.nesting, c.new-lim.ensures, same) at c.copy_in_form.ensures.refused in
     record {
       copied = stands_for_null c.copy_in_form.result bytes c.args.id c.args.at old new (unused None) c.copy_in_form.new.lim copied;
-      stands = rw (from.source, from.place.0, from.place.1, from.nesting, c.new-lim.ensures, same) at c.copy_in_form.ensures.stands;
-      fits = rw (from.source, from.place.0, from.place.1, from.nesting) at c.copy_in_form.ensures.fits;
-      refused = c.copy_in_form.ensures.cleared;
-      named = refuses_default c.copy_in_form.result bytes c.args.id c.args.at old new (rw (from.source, from.place.0, from.place.1, from.nesting, c.new-lim.ensures, same) at c.copy_in_form.ensures.refused);
-      taken = rw (from.source, from.place.0, from.place.1, from.nesting, c.new-lim.ensures, same) at c.copy_in_form.ensures.taken;
-      granted = c.copy_in_form.ensures.granted;
-      memory = c.copy_in_form.ensures.memory;
+      fits = rw (from.source, from.place.0, from.place.1, from.nesting, c.new-lim.ensures) at c.copy_in_form.ensures.fits;
+      refused = on_err c.copy_in_form.result _ _ refused (λ k stop. stop.left);
+      named = refuses_default c.copy_in_form.result bytes c.args.id c.args.at old new refused;
+      taken = rw same at taken;
+      memory = record {
+        granted = on_ok c.copy_in_form.result _ _ copied (λ made. made.memory);
+        refused = err_so c.copy_in_form.result _ _ refused (λ k stop. stop.memory);
+      };
     }

@@ -4,9 +4,9 @@ use mir.Syntax.{w32}
 use Rattle.capnp_format.specs.Segments.{segment, word_at, IsPlace}
 use Rattle.capnp_objects.specs.Wanted.{plain}
 use Rattle.capnp_readers.specs.Readers.{reading}
-use Rattle.capnp_copies.proofs.FilledChildren.{no_child, children_grow, child_ahead}
+use Rattle.capnp_copies.proofs.FilledChildren.{no_child, children_grow, child_ahead, child_copied}
 use Rattle.capnp_copies.proofs.Growth.{none_taken, one_taken, stop_taken, all_taken}
-use Rattle.capnp_copies.proofs.EachCopied.{each_copied, each_stops, each_refused_rightly}
+use Rattle.capnp_copies.proofs.EachCopied.{each_stops, each_refused_rightly}
 use Rattle.capnp_copies.proofs.copy.each.copy_each.Goals as goal
 
 pub loop-i-init : goal.loop-i-init
@@ -22,14 +22,14 @@ copy_value-requires g c =
 pub returns-in-Err-clause-refused : goal.returns-in-Err-clause-refused
 returns-in-Err-clause-refused g c =
     let nl = to_z-of_z w32 c.args.from.nesting_limit (search rules) in
-    each_stops (omega (arith, c.requires.room, c.loop-i-test.true)) c.loop-i-test.true c.loop-i.invariant.0 (rw nl at c.in-Err.ensures.refused) (rw nl at c.in-Err.ensures.spent) c.in-Err.ensures.cleared c.in-Err.ensures.memory
+    each_stops (omega (arith, c.requires.room, c.loop-i-test.true)) c.loop-i-test.true c.loop-i.invariant.0 (rw nl at c.in-Err.ensures.refused) (rw nl at c.in-Err.ensures.taken).0
 
 pub loop-i-preserved : goal.loop-i-preserved
 loop-i-preserved g c =
     let nl = to_z-of_z w32 c.args.from.nesting_limit (search rules) in
     let few : length (segment (g.A.BuilderArena.view c.loop-i.arena).words c.args.id) < 2 ^ 29 =
     omega (arith, g.met.A.BuilderArena.within c.loop-i.arena c.args.id, g.met.A.BuilderArena.small c.loop-i.arena c.args.id) in (
-      each_copied (omega (arith, c.requires.room, c.loop-i-test.true)) few c.loop-i.invariant.0 (rw nl at c.in-Ok.ensures.copied) c.in-Ok.ensures.granted (rw nl at c.in-Ok.ensures.stands),
+      child_copied (omega (arith, c.requires.room, c.loop-i-test.true)) few c.loop-i.invariant.0 (rw nl at c.in-Ok.ensures.copied),
       one_taken c.loop-i.invariant.1 (rw nl at c.in-Ok.ensures.taken),
     )
 
@@ -44,4 +44,4 @@ returns-clause-taken g c = all_taken (omega arith) c.loop-i.invariant.1
 pub returns-in-Err-clause-fits : goal.returns-in-Err-clause-fits
 returns-in-Err-clause-fits g c =
     let nl = to_z-of_z w32 c.args.from.nesting_limit (search rules) in
-    λ fits. absurd (each_refused_rightly (each_stops (omega (arith, c.requires.room, c.loop-i-test.true)) c.loop-i-test.true c.loop-i.invariant.0 (rw nl at c.in-Err.ensures.refused) (rw nl at c.in-Err.ensures.spent) c.in-Err.ensures.cleared c.in-Err.ensures.memory) fits)
+    λ fits. absurd (each_refused_rightly (each_stops (omega (arith, c.requires.room, c.loop-i-test.true)) c.loop-i-test.true c.loop-i.invariant.0 (rw nl at c.in-Err.ensures.refused) (rw nl at c.in-Err.ensures.taken).0) fits)

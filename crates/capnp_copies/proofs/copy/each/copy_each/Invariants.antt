@@ -7,4 +7,4 @@ use Rattle.capnp_copies.proofs.copy.each.copy_each.Given as goal
 abbrev pub invariant-loop-i : goal.invariant-loop-i
 invariant-loop-i g l =
     CopiesChildren (reading g.B.ReaderArena l.from) l.i (change plain l.id l.at (g.A.BuilderArena.view l.fn.arena) (g.A.BuilderArena.view l.arena) l.fn.lim l.lim)
-    × TakesForAll (reading g.B.ReaderArena l.from) l.i 0 0 (change plain l.id l.at (g.A.BuilderArena.view l.fn.arena) (g.A.BuilderArena.view l.arena) l.fn.lim l.lim)
+    × TakesForAll (reading g.B.ReaderArena l.from) l.i (change plain l.id l.at (g.A.BuilderArena.view l.fn.arena) (g.A.BuilderArena.view l.arena) l.fn.lim l.lim)

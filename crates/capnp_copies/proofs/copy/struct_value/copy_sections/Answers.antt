@@ -1,23 +1,25 @@
-use Rattle.std.proofs.Common.{inl, inr, ℕ, ◌+◌, ◌/◌, ◌≤◌, List, length, take, refl, ap, ap₂, arith, length-take, rules}
+use Rattle.std.proofs.Common.{inl, inr, ℕ, ◌+◌, ◌≤◌, List, length, take, refl, ap, ap₂, arith, length-take, rules}
 use Rattle.std.proofs.lemmas.Int.{to_z-of_z}
 use Rattle.std.proofs.lemmas.Bool.{false≢true}
 use mir.Syntax.{w32}
+use Rattle.capnp_format.specs.Segments.{segment}
 use Rattle.capnp_format.proofs.Slices.{length_words}
 use Rattle.capnp_arena.specs.View.{View}
 use Rattle.capnp_objects.specs.Reading.{Reading, words_from}
 use Rattle.capnp_readers.specs.Sizes.{pointers_read}
 use Rattle.capnp_copies.specs.Forms.{form_of}
 use Rattle.capnp_copies.specs.StructValues.{data_of}
-use Rattle.capnp_copies.proofs.DataSections.{kept_count-le, section_long}
+use Rattle.capnp_copies.proofs.DataSections.{kept_count-le}
 use Rattle.capnp_copies.proofs.FilledObjects.{nothing_made, nothing_left}
 use Rattle.capnp_copies.proofs.FilledSections.{SectionsBegun, sections_fit, sections_null, sections_inside, sections_copied, sections_stop}
 use Rattle.capnp_copies.proofs.KeptForms.{SectionsCut}
+use Rattle.capnp_copies.proofs.Originals.{halfway, sections_large}
 use Rattle.capnp_copies.proofs.TooLarge.{no_sections_room}
 use Rattle.capnp_making.specs.Memory.{HasRoom, refusals_for}
 use Rattle.capnp_copies.proofs.FlatRead.{ok_so, err_so}
 use Rattle.capnp_making.proofs.Memory.{keeps_itself, spends_nothing}
 use Rattle.capnp_format.specs.Tree.{Null}
-use Rattle.capnp_copies.proofs.Growth.{none_itself, none_written, none_refused, struct_begins, taken_so, nothing_taken, all_within, among_within, among_behind, cut_taken}
+use Rattle.capnp_copies.proofs.Growth.{none_itself, none_written, none_refused, struct_begins, taken_so, made_none, all_within, among_within, sections_behind, sections_stop_behind}
 use Rattle.capnp_copies.proofs.copy.struct_value.copy_sections.Goals as goal
 
 -- A struct of more data words than a struct can have, and one that the arena refuses.
@@ -25,11 +27,8 @@ use Rattle.capnp_copies.proofs.copy.struct_value.copy_sections.Goals as goal
 pub returns-in-Err-clause-refused : goal.returns-in-Err-clause-refused
 returns-in-Err-clause-refused g c =
     let v = g.A.BuilderArena.view c.args.arena.now in
-    record {
-      why = inr (inr c.in-Err.ensures.wide);
-      off = inl refl;
-      left = ((Null, nothing_left v.words v.words c.args.id c.args.at c.requires.place c.requires.null refl), spends_nothing v v c.in-Err.k (λ n. ap (λ i. refusals_for i n) c.in-Err.ensures.wide.1) (keeps_itself v));
-    }
+    halfway (inr (inr c.in-Err.ensures.wide))
+    ((Null, nothing_left v.words v.words c.args.id c.args.at c.requires.place c.requires.null refl), spends_nothing v v c.in-Err.k (λ n. ap (λ i. refusals_for i n) c.in-Err.ensures.wide.1) (keeps_itself v))
 
 pub returns-in-Err-make_struct-clause-refused : goal.returns-in-Err-make_struct-clause-refused
 returns-in-Err-make_struct-clause-refused g c =
@@ -38,16 +37,14 @@ returns-in-Err-make_struct-clause-refused g c =
     let none = nothing_made (form_of c.args.canonicalize) c.args.id c.args.at (least.data_words + least.pointers) (g.A.BuilderArena.view c.args.arena.now) (g.A.BuilderArena.view c.make_struct.new.arena) c.args.lim.now c.args.lim.now c.in-Err-make_struct.k c.requires.place c.requires.null
     c.in-Err-make_struct.ensures.memory.named c.in-Err-make_struct.ensures.refused full in
     let cut : SectionsCut (form_of c.args.canonicalize) (data_of g.B.ReaderArena c.args.value) (pointers_read g.B.ReaderArena c.args.value) c.args.value.pointer_count least = record { inside = c.args.value.inside; of_data = c.in-Ok.ensures.data; of_pointers = c.in-Ok.ensures.pointers } in
-    record {
-      why = inl (
-        least.data_words + least.pointers,
-        none.0,
-        inl (refl, ap₂ (λ i j. i + j) c.in-Ok.ensures.data c.in-Ok.ensures.pointers),
-        λ ts m counts are_read. no_sections_room c.args.id (g.A.BuilderArena.view c.args.arena.now) (form_of c.args.canonicalize) cut full ts are_read.cost counts are_read.means,
-      );
-      off = inl refl;
-      left = none.1;
-    }
+    let makes = ap₂ (λ i j. i + j) c.in-Ok.ensures.data c.in-Ok.ensures.pointers in
+    halfway (inl (
+      least.data_words + least.pointers,
+      none.0,
+      inl (refl, makes),
+      sections_large (form_of c.args.canonicalize) (data_of g.B.ReaderArena c.args.value) (pointers_read g.B.ReaderArena c.args.value) c.args.value.pointer_count (length (segment (g.A.BuilderArena.view c.args.arena.now).words c.args.id)) ((g.A.BuilderArena.view c.args.arena.now).room c.args.id)
+          (no_sections_room c.args.id (g.A.BuilderArena.view c.args.arena.now) (form_of c.args.canonicalize) cut full),
+    )) none.1
 
 -- The struct is made, and its data words are written.
 
@@ -82,12 +79,12 @@ copy_children-requires g c =
 -- What is taken.
 
 pub returns-in-Err-clause-taken : goal.returns-in-Err-clause-taken
-returns-in-Err-clause-taken g c = inl (nothing_taken (none_itself (g.A.BuilderArena.view c.args.arena.now)))
+returns-in-Err-clause-taken g c = inl (refl, made_none (none_itself (g.A.BuilderArena.view c.args.arena.now)))
 
 pub returns-in-Err-make_struct-clause-taken : goal.returns-in-Err-make_struct-clause-taken
 returns-in-Err-make_struct-clause-taken g c =
     let least = c.in-Ok.kept in
-    inl (nothing_taken (none_refused (g.A.BuilderArena.view c.args.arena.now) (g.A.BuilderArena.view c.make_struct.new.arena) (least.data_words + least.pointers) c.in-Err-make_struct.k c.in-Err-make_struct.ensures.memory.named c.in-Err-make_struct.ensures.refused))
+    inl (refl, made_none (none_refused (g.A.BuilderArena.view c.args.arena.now) (g.A.BuilderArena.view c.make_struct.new.arena) (least.data_words + least.pointers) c.in-Err-make_struct.k c.in-Err-make_struct.ensures.memory.named c.in-Err-make_struct.ensures.refused))
 
 -- The copy of its pointers ends it.
 
@@ -102,7 +99,6 @@ returns g c =
     let words_kept : size.data_words ≤ length ws = omega (arith, c.in-Ok.ensures.data, kept_count-le (form_of c.args.canonicalize) ws) in
     let pointers_kept : size.pointers ≤ value.pointer_count =
     omega (arith, c.in-Ok.ensures.pointers, kept_count-le (form_of c.args.canonicalize) (words_from r value.pointer_count), length_words r.segments r.segment r.at value.pointer_count value.inside) in
-    let long = section_long value.bits value.content.now (search rules) in
     let start = c.in-Ok-make_struct.start in
     let old : View = g.A.BuilderArena.view c.args.arena.now in
     let e = c.in-Ok-make_struct.ensures in
@@ -110,7 +106,7 @@ returns g c =
     let over = none_written made put start.segment start.at (take size.data_words ws) (omega (arith, e.start.inside.1, length-take size.data_words ws)) c.put_section.ensures in
     let last = none_itself (g.A.BuilderArena.view c.copy_children.new.arena) in
     let nl = to_z-of_z w32 value.nesting_limit (search rules) in
-    let less : size.data_words + size.pointers ≤ (value.bits + 63) / 64 + value.pointer_count = omega (arith, words_kept, pointers_kept, long) in
+    let less : size.data_words + size.pointers ≤ length ws + value.pointer_count = omega (arith, words_kept, pointers_kept) in
     let begun : SectionsBegun (form_of c.args.canonicalize) (data_of g.B.ReaderArena c.args.value) (pointers_read g.B.ReaderArena c.args.value) c.args.value.pointer_count c.in-Ok.kept c.args.id c.args.at (g.A.BuilderArena.view c.args.arena.now) (g.A.BuilderArena.view c.make_struct.new.arena)
     (g.A.BuilderArena.view c.put_section.new.arena) c.in-Ok-make_struct.start = record {
       cut = record { inside = c.args.value.inside; of_data = c.in-Ok.ensures.data; of_pointers = c.in-Ok.ensures.pointers };
@@ -127,5 +123,5 @@ returns g c =
     record {
       copied = ok_so c.copy_children.result _ _ c.copy_children.ensures.copied (λ x made. sections_copied begun (rw (c.from.ensures, c.from-pointers.ensures, nl, c.of-form.ensures) at made));
       refused = err_so c.copy_children.result _ _ c.copy_children.ensures.refused (λ k stop. sections_stop begun (rw (c.from.ensures, c.from-pointers.ensures, nl, c.of-form.ensures) at stop));
-      taken = taken_so c.copy_children.result _ _ _ _ (λ x. cut_taken {p' = 0} value.inside c.in-Ok.ensures.pointers begins less (all_within over last x)) (λ x. inr (among_behind {p = 0} pointers_kept begins less (among_within (omega arith) over last x))) (rw (c.from.ensures, c.from-pointers.ensures, nl, c.of-form.ensures) at c.copy_children.ensures.taken);
+      taken = taken_so c.copy_children.result _ _ _ _ (λ x. sections_behind ws r value.pointer_count size.pointers (size.data_words + size.pointers) _ _ _ 0 _ _ _ _ _ value.inside c.in-Ok.ensures.pointers begins less (all_within over last x)) (λ x. sections_stop_behind ws r value.pointer_count size.pointers (size.data_words + size.pointers) _ _ _ 0 _ _ _ _ _ pointers_kept begins less (among_within (omega arith) over last x)) (rw (c.from.ensures, c.from-pointers.ensures, nl, c.of-form.ensures) at c.copy_children.ensures.taken);
     }

@@ -1,29 +1,22 @@
-use Rattle.std.proofs.Common.{inl, inr}
-use Rattle.capnp_format.specs.Tree.{Null}
-use Rattle.capnp_making.proofs.Memory.{words_refused_before}
-use Rattle.capnp_making.proofs.Replaced.{replaced_again}
-use Rattle.capnp_copies.proofs.Growth.{none_itself, none_pruned, either_within}
-use Rattle.capnp_copies.proofs.OneReading.{sections_refused_rightly, sections_stand}
+use Rattle.std.proofs.Common.{refl}
+use Rattle.capnp_readers.specs.Sizes.{pointers_read}
+use Rattle.capnp_copies.specs.Changes.{change}
+use Rattle.capnp_copies.specs.Forms.{form_of}
+use Rattle.capnp_copies.specs.StructValues.{data_of}
+use Rattle.capnp_copies.proofs.Cleared.{cleared}
+use Rattle.capnp_copies.proofs.Growth.{none_itself, none_pruned, sections_until_within}
+use Rattle.capnp_copies.proofs.OneReading.{sections_refused_rightly}
 use Rattle.capnp_copies.proofs.copy.struct_value.copy_struct_value.Goals as goal
 
 pub returns-in-Err-clause-refused : goal.returns-in-Err-clause-refused
-returns-in-Err-clause-refused g c = elim c.in-Err.ensures.refused.why [
-  | inl x ↦ inl (x.0, words_refused_before (g.A.BuilderArena.view c.args.arena.now) (g.A.BuilderArena.view c.copy_sections.new.arena) (g.A.BuilderArena.view c.clear.new.arena) x.0 c.in-Err.k x.1 c.clear.ensures.limits c.clear.ensures.only, x.2, x.3)
-  | inr x ↦ inr x
-]
-
-pub returns-in-Err-clause-cleared : goal.returns-in-Err-clause-cleared
-returns-in-Err-clause-cleared g c =
-    let (t, made) = c.in-Err.ensures.refused.left.0 in
-    replaced_again _ _ _ c.args.id c.args.at Null t Null made (c.clear.ensures.cleared t made.stored)
+returns-in-Err-clause-refused g c = cleared c.in-Err.ensures.refused c.clear.ensures.limits c.clear.ensures.only c.clear.ensures.cleared
 
 pub returns-in-Err-clause-taken : goal.returns-in-Err-clause-taken
 returns-in-Err-clause-taken g c =
-    either_within (none_itself (g.A.BuilderArena.view c.args.arena.now)) (none_pruned (g.A.BuilderArena.view c.copy_sections.new.arena) (g.A.BuilderArena.view c.clear.new.arena) c.clear.ensures.limits c.clear.ensures.only) c.in-Err.ensures.taken
-
--- A reading gives one value.
-pub returns-in-Ok-clause-stands : goal.returns-in-Ok-clause-stands
-returns-in-Ok-clause-stands g c = λ ts counts are_read. sections_stand c.in-Ok.ensures.copied ts counts are_read
+    sections_until_within (data_of g.B.ReaderArena c.args.value) (pointers_read g.B.ReaderArena c.args.value) c.args.value.pointer_count
+    (change (form_of c.args.canonicalize) c.args.id c.args.at (g.A.BuilderArena.view c.args.arena.now) (g.A.BuilderArena.view c.copy_sections.new.arena) c.args.lim.now c.copy_sections.new.lim)
+    (change (form_of c.args.canonicalize) c.args.id c.args.at (g.A.BuilderArena.view c.args.arena.now) (g.A.BuilderArena.view c.clear.new.arena) c.args.lim.now c.copy_sections.new.lim)
+    (none_itself (g.A.BuilderArena.view c.args.arena.now)) (none_pruned (g.A.BuilderArena.view c.copy_sections.new.arena) (g.A.BuilderArena.view c.clear.new.arena) c.clear.ensures.limits c.clear.ensures.only) refl c.in-Err.ensures.taken
 
 pub returns-in-Err-clause-fits : goal.returns-in-Err-clause-fits
-returns-in-Err-clause-fits g c = λ fits. absurd (sections_refused_rightly c.in-Err.ensures.refused fits)
+returns-in-Err-clause-fits g c = λ fits. absurd (sections_refused_rightly c.in-Err.ensures.refused.1 fits)

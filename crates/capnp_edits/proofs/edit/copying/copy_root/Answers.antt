@@ -1,4 +1,6 @@
 use Rattle.std.proofs.Common.{inl, refl}
+use Rattle.capnp_copies.proofs.FlatRead.{err_so}
+use Rattle.capnp_builders.proofs.CopiesHeld.{on_ok, on_err}
 use Rattle.capnp_edits.specs.Sources.{HasNothingToCopy}
 use Rattle.capnp_edits.specs.Edits.{place_of, root_unread}
 use Rattle.capnp_edits.proofs.Copied.{Tried, tried_done, copy_counted, tried_named, tried_taken, tried_fits, value_tried, struct_copied, list_copied, unread_counted, struct_unread, list_unread, struct_found, list_found}
@@ -23,10 +25,10 @@ value_at g c =
     value_tried c.copy_from.result c.args.copying _ _ _ _ _ (place_of c.args.pointer.now) c.in-Value.is c.in-Ok.ensures.found.reads c.in-Ok.ensures.found.once c.in-Ok.ensures.found.root c.copy_from.ensures.copied c.copy_from.ensures.refused c.copy_from.ensures.taken
 
 pub returns-in-Value-clause-done : goal.returns-in-Value-clause-done
-returns-in-Value-clause-done g c = tried_done c.copy_from.result c.args.copying _ _ _ (value_at g c) c.copy_from.ensures.cleared
+returns-in-Value-clause-done g c = tried_done c.copy_from.result c.args.copying _ _ _ (value_at g c) (on_err c.copy_from.result _ _ c.copy_from.ensures.refused (λ k x. x.cleared))
 
 pub returns-in-Value-clause-counted : goal.returns-in-Value-clause-counted
-returns-in-Value-clause-counted g c = copy_counted c.copy_from.result _ _ c.copy_from.ensures.granted c.copy_from.ensures.memory
+returns-in-Value-clause-counted g c = copy_counted c.copy_from.result _ _ (on_ok c.copy_from.result _ _ c.copy_from.ensures.copied (λ x. x.memory)) (err_so c.copy_from.result _ _ c.copy_from.ensures.refused (λ k x. x.memory))
 
 pub returns-in-Value-clause-named : goal.returns-in-Value-clause-named
 returns-in-Value-clause-named g c = tried_named c.copy_from.result c.args.copying _ _ _ (value_at g c)
@@ -43,10 +45,10 @@ struct_there g c =
     struct_copied c.set_struct.result c.args.copying _ c.in-Ok.opened.0 c.in-Ok-get_struct.value _ _ _ _ _ (place_of c.args.pointer.now) c.in-Struct.is c.in-Ok.ensures.found c.in-Ok-get_struct.value.content_is.1 c.in-Ok-get_struct.ensures.read c.set_struct.ensures.copied c.set_struct.ensures.refused c.set_struct.ensures.taken
 
 pub returns-in-Ok-get_struct-clause-done : goal.returns-in-Ok-get_struct-clause-done
-returns-in-Ok-get_struct-clause-done g c = tried_done c.set_struct.result c.args.copying _ _ _ (struct_there g c) c.set_struct.ensures.cleared
+returns-in-Ok-get_struct-clause-done g c = tried_done c.set_struct.result c.args.copying _ _ _ (struct_there g c) (on_err c.set_struct.result _ _ c.set_struct.ensures.refused (λ k x. x.cleared))
 
 pub returns-in-Ok-get_struct-clause-counted : goal.returns-in-Ok-get_struct-clause-counted
-returns-in-Ok-get_struct-clause-counted g c = copy_counted c.set_struct.result _ _ c.set_struct.ensures.granted c.set_struct.ensures.memory
+returns-in-Ok-get_struct-clause-counted g c = copy_counted c.set_struct.result _ _ (on_ok c.set_struct.result _ _ c.set_struct.ensures.copied (λ x. x.memory)) (err_so c.set_struct.result _ _ c.set_struct.ensures.refused (λ k x. x.memory))
 
 pub returns-in-Ok-get_struct-clause-named : goal.returns-in-Ok-get_struct-clause-named
 returns-in-Ok-get_struct-clause-named g c = tried_named c.set_struct.result c.args.copying _ _ _ (struct_there g c)
@@ -84,10 +86,10 @@ list_there g c =
     list_copied c.set_list.result c.args.copying _ c.in-Ok.opened.0 c.in-Ok-get_list.value _ _ _ _ _ (place_of c.args.pointer.now) c.in-List.is c.in-Ok.ensures.found c.in-Ok-get_list.ensures.read c.set_list.ensures.copied c.set_list.ensures.refused c.set_list.ensures.taken
 
 pub returns-in-Ok-get_list-clause-done : goal.returns-in-Ok-get_list-clause-done
-returns-in-Ok-get_list-clause-done g c = tried_done c.set_list.result c.args.copying _ _ _ (list_there g c) c.set_list.ensures.cleared
+returns-in-Ok-get_list-clause-done g c = tried_done c.set_list.result c.args.copying _ _ _ (list_there g c) (on_err c.set_list.result _ _ c.set_list.ensures.refused (λ k x. x.cleared))
 
 pub returns-in-Ok-get_list-clause-counted : goal.returns-in-Ok-get_list-clause-counted
-returns-in-Ok-get_list-clause-counted g c = copy_counted c.set_list.result _ _ c.set_list.ensures.granted c.set_list.ensures.memory
+returns-in-Ok-get_list-clause-counted g c = copy_counted c.set_list.result _ _ (on_ok c.set_list.result _ _ c.set_list.ensures.copied (λ x. x.memory)) (err_so c.set_list.result _ _ c.set_list.ensures.refused (λ k x. x.memory))
 
 pub returns-in-Ok-get_list-clause-named : goal.returns-in-Ok-get_list-clause-named
 returns-in-Ok-get_list-clause-named g c = tried_named c.set_list.result c.args.copying _ _ _ (list_there g c)

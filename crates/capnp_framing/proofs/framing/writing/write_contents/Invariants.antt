@@ -2,7 +2,7 @@ use Rattle.std.proofs.Common.{◌≡◌, false, take, drop}
 use Rattle.std.specs.List.{All}
 use Rattle.capnp_format.specs.Bytes.{message}
 use Rattle.capnp_framing.specs.Frames.{AreSegmentWords, contents}
-use Rattle.capnp_framing.specs.Writing.{IsLeftOver}
+use Rattle.capnp_framing.proofs.WritingLemmas.{IsLeftOver}
 use Rattle.capnp_framing.proofs.framing.writing.write_contents.Given as goal
 
 abbrev pub invariant-loop-i : goal.invariant-loop-i

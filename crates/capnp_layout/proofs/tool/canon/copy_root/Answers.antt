@@ -1,10 +1,9 @@
 use Rattle.std.proofs.Common.{rules, ◌≡◌, ◌⊎◌, Option, length, subst, sym, ℕ}
 use Rattle.capnp_format.specs.Tree.{Tree}
-use Rattle.capnp_objects.specs.Wanted.{canonical}
-use Rattle.capnp_copies.specs.Rooms.{IsTooLarge}
 use Rattle.capnp_readers.specs.Readers.{reading}
 use Rattle.capnp_layout.specs.Answers.{IsReadWithin, IsMadeWhereAlone}
-use Rattle.capnp_layout.proofs.CanonLemmas.{fresh_root, null_root, only_null, made_copy, kept_room, refused_copy, spread_copy}
+use Rattle.capnp_layout.specs.Tries.{NeedsMoreRoom}
+use Rattle.capnp_layout.proofs.CanonLemmas.{fresh_root, null_root, made_copy, kept_room, refused_copy, spread_copy}
 use Rattle.capnp_layout.proofs.tool.canon.copy_root.Goals as goal
 
 pub returns-in-Ok-clause-copied : goal.returns-in-Ok-clause-copied
@@ -22,7 +21,7 @@ returns-in-Ok-clause-room g c =
     let view = g.A.BuilderArena.view in
     let root = c.get_root-root.result in
     let fresh = fresh_root view root c.args.arena.now c.get_root-root.ensures.now c.get_root-root.ensures.place.0 c.requires.root in
-    let kept = kept_room (view root.arena.now) (view c.copy_from.new.self.arena.now) root.segment root.at fresh c.in-Ok.ensures.granted in
+    let kept = kept_room (view root.arena.now) (view c.copy_from.new.self.arena.now) root.segment root.at fresh c.in-Ok.ensures.copied.memory in
     subst (λ (a : g.row.A.Denot). (view a).room 0 ≡ (view c.args.arena.now).room 0) (search rules) kept
 
 pub returns-in-Ok-clause-alone : goal.returns-in-Ok-clause-alone
@@ -31,8 +30,8 @@ returns-in-Ok-clause-alone g c =
     let r = reading g.B.ReaderArena c.args.from in
     let root = c.get_root-root.result in
     let fresh = fresh_root view root c.args.arena.now c.get_root-root.ensures.now c.get_root-root.ensures.place.0 c.requires.root in
-    let spread = spread_copy r root.segment root.at (view root.arena.now) (view c.copy_from.new.self.arena.now) _ _ _ fresh (c.in-Ok.ensures.fresh (only_null fresh)) (c.in-Ok.ensures.near (null_root fresh c.get_root-root.ensures.place.1)) in
-    subst (λ (a : g.row.A.Denot). (length (view a).words ≡ 1) ⊎ IsTooLarge canonical r 1 ((view c.args.arena.now).room 0)) (search rules) spread
+    let spread = spread_copy r root.segment root.at (view root.arena.now) (view c.copy_from.new.self.arena.now) _ _ fresh (c.in-Ok.ensures.near (null_root fresh c.get_root-root.ensures.place.1)) in
+    subst (λ (a : g.row.A.Denot). (length (view a).words ≡ 1) ⊎ NeedsMoreRoom r ((view c.args.arena.now).room 0)) (search rules) spread
 
 pub returns-in-Err-clause-refused : goal.returns-in-Err-clause-refused
 returns-in-Err-clause-refused g c =

@@ -2,7 +2,7 @@ use Rattle.std.proofs.Common.{◌≡◌, drop, false}
 use Rattle.hex.specs.Hex.{encode_lower}
 use Rattle.capnp_format.specs.Bytes.{message}
 use Rattle.capnp_framing.specs.Frames.{lengths}
-use Rattle.capnp_framing.specs.Writing.{IsLeftOver}
+use Rattle.capnp_framing.proofs.WritingLemmas.{IsLeftOver}
 use Rattle.capnp_layout.proofs.tool.frames.write_lengths.Given as goal
 
 abbrev pub invariant-loop-i : goal.invariant-loop-i

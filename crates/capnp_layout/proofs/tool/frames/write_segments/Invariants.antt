@@ -1,6 +1,6 @@
 use Rattle.std.proofs.Common.{◌≡◌, drop, false}
 use Rattle.capnp_format.specs.Bytes.{message}
-use Rattle.capnp_framing.specs.Writing.{IsLeftOver}
+use Rattle.capnp_framing.proofs.WritingLemmas.{IsLeftOver}
 use Rattle.capnp_layout.specs.Commands.{segment_lines}
 use Rattle.capnp_layout.proofs.tool.frames.write_segments.Given as goal
 

@@ -1,6 +1,6 @@
 use Rattle.std.proofs.Common.{◌≡◌, drop, false}
 use Rattle.capnp_format.specs.Bytes.{words_of}
-use Rattle.capnp_framing.specs.Writing.{IsLeftOver}
+use Rattle.capnp_framing.proofs.WritingLemmas.{IsLeftOver}
 use Rattle.capnp_layout.specs.Answers.{digits_of}
 use Rattle.capnp_layout.proofs.tool.writing.write_digits.Given as goal
 

@@ -4,13 +4,13 @@ use Rattle.std.proofs.lemmas.Bool.{false≢true}
 use Rattle.capnp_words.specs.Meter.{Meter}
 use Rattle.capnp_objects.specs.Source.{levels}
 use Rattle.capnp_objects.specs.Objects.{IsObject}
-use Rattle.capnp_objects.specs.Landings.{landing_target, IsOpened}
-use Rattle.capnp_objects.specs.Expected.{too_deep, one_level, CanBeGiven, IsGiven, Withheld, no_level, unfollowed}
+use Rattle.capnp_objects.specs.Landings.{found_target, IsOpened}
+use Rattle.capnp_objects.specs.Expected.{too_deep, CanBeGiven, IsGiven, Withheld, no_level, unfollowed}
 use Rattle.capnp_objects.specs.Entering.{IsFitting, IsUnsuited}
 use Rattle.capnp_objects.specs.Reading.{Reading, reading_at, word_of}
 use Rattle.capnp_objects.specs.declared.object.Purpose.TheVariants.{Value}
-use Rattle.capnp_objects.proofs.Landings.{IsCounted, if_err, object_opened, unfollowed as not_followed}
-use Rattle.capnp_objects.proofs.Expecting.{is_entered, given, given_exactly, suited, withheld, level_counted, null_given, not_withheld, if_both}
+use Rattle.capnp_objects.proofs.Landings.{IsCounted, if_err, object_opened, unfollowed as not_followed, arrived}
+use Rattle.capnp_objects.proofs.Expecting.{one_level, is_entered, given, given_exactly, suited, withheld, level_counted, null_given, not_withheld, if_both}
 use Rattle.capnp_objects.proofs.source.Source.read_expected.Goals as goal
 
 pub returns-then-is_null-clause-exactly : goal.returns-then-is_null-clause-exactly
@@ -45,8 +45,8 @@ returns-in-Ok-clause-given g c =
     let r : Reading = reading_at g.A.ReaderArena c.args.self c.args.place c.args.nesting_limit in
     let depth : c.depth_of.result ≡ r.levels = c.depth_of.ensures ∙ ap levels (to_z-of_z w32 c.args.nesting_limit c.ranges.nesting_limit) in
     let level : too_deep c.args.expected r.levels ≡ None = rw depth at (sym c.name_of_depth.ensures ∙ c.in-None.is) in
-    if_both c.enter_expected.result (IsOpened Value r.segments r.charging 1 (landing_target c.in-Ok.landing) c.follow.new.lim c.enter_expected.new.lim) (IsFitting c.args.expected (landing_target c.in-Ok.landing)) (IsGiven c.args.expected r.levels)
-    (λ x opened fits. given x r.levels level fits.1 (is_entered r.segments r.charging opened fits.0)) c.enter_expected.ensures.object c.enter_expected.ensures.fits
+    if_both c.enter_expected.result (IsOpened Value (arrived (one_level r) (found_target c.in-Ok.found)) c.follow.new.lim c.enter_expected.new.lim) (IsFitting c.args.expected (found_target c.in-Ok.found)) (IsGiven c.args.expected r.levels)
+    (λ x opened fits. given x r.levels level fits.1 (is_entered opened fits.0)) c.enter_expected.ensures.object c.enter_expected.ensures.fits
 
 pub returns-in-Ok-clause-refused : goal.returns-in-Ok-clause-refused
 returns-in-Ok-clause-refused g c =
@@ -56,7 +56,7 @@ returns-in-Ok-clause-refused g c =
     let counted : IsCounted r c.args.lim.now c.count.new.lim = record { some = rw word at some; by_one = c.count.ensures } in
     let depth : c.depth_of.result ≡ r.levels = c.depth_of.ensures ∙ ap levels (to_z-of_z w32 c.args.nesting_limit c.ranges.nesting_limit) in
     let level : too_deep c.args.expected r.levels ≡ None = rw depth at (sym c.name_of_depth.ensures ∙ c.in-None.is) in
-    if_err c.enter_expected.result (IsUnsuited c.args.expected r.segments r.charging (landing_target c.in-Ok.landing) c.follow.new.lim c.enter_expected.new.lim)
+    if_err c.enter_expected.result (IsUnsuited c.args.expected (arrived (one_level r) (found_target c.in-Ok.found)) c.follow.new.lim c.enter_expected.new.lim)
     (Withheld c.args.expected r c.args.lim.now c.enter_expected.new.lim) (λ k h. withheld c.args.expected counted c.in-Ok.ensures.followed level h) c.enter_expected.ensures.refused
 
 pub returns-in-Ok-clause-exactly : goal.returns-in-Ok-clause-exactly
@@ -68,8 +68,8 @@ returns-in-Ok-clause-exactly g c =
     let depth : c.depth_of.result ≡ r.levels = c.depth_of.ensures ∙ ap levels (to_z-of_z w32 c.args.nesting_limit c.ranges.nesting_limit) in
     let level : too_deep c.args.expected r.levels ≡ None = rw depth at (sym c.name_of_depth.ensures ∙ c.in-None.is) in
     given_exactly c.args.expected r c.args.lim.now c.enter_expected.new.lim c.enter_expected.result
-    (if_both c.enter_expected.result (IsOpened Value r.segments r.charging 1 (landing_target c.in-Ok.landing) c.follow.new.lim c.enter_expected.new.lim) (IsFitting c.args.expected (landing_target c.in-Ok.landing)) (λ x. CanBeGiven c.args.expected r c.args.lim.now)
-    (λ x opened fits. suited c.args.expected x counted c.in-Ok.ensures.followed level fits.1 (is_entered r.segments r.charging opened fits.0)) c.enter_expected.ensures.object c.enter_expected.ensures.fits)
+    (if_both c.enter_expected.result (IsOpened Value (arrived (one_level r) (found_target c.in-Ok.found)) c.follow.new.lim c.enter_expected.new.lim) (IsFitting c.args.expected (found_target c.in-Ok.found)) (λ x. CanBeGiven c.args.expected r c.args.lim.now)
+    (λ x opened fits. suited c.args.expected x counted c.in-Ok.ensures.followed level fits.1 (is_entered opened fits.0)) c.enter_expected.ensures.object c.enter_expected.ensures.fits)
     (returns-in-Ok-clause-refused g c)
 
 pub returns-in-Err-clause-refused : goal.returns-in-Err-clause-refused

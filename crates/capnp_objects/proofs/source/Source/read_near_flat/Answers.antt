@@ -31,7 +31,7 @@ returns-in-Ok-claim-clause-object g c =
     let r : Reading = reading_at g.A.ReaderArena c.args.self c.args.place c.args.nesting_limit in
     let counted : IsCounted r c.args.lim.now c.count.new.lim = record { some = rw c.requires.there at c.requires.some; by_one = c.count.ensures } in
     let depth : c.depth_of.result ≡ r.levels = c.depth_of.ensures ∙ ap levels (to_z-of_z w32 c.args.nesting_limit c.ranges.nesting_limit) in
-    let a : Target = near_at r c.in-Ok.landing.start.at in
+    let a : Target = near_at r c.in-Ok.found.start.at in
     let is_list : kind (word_of r) ≡ 1 = rw c.requires.there at c.requires.is_list in
     let some : 0 < element_size (word_of r) = rw c.requires.there at c.requires.of_bits.0 in
     let small : element_size (word_of r) ≤ 5 = rw c.requires.there at c.requires.of_bits.1 in

@@ -23,7 +23,7 @@ claim-requires-clause-claimed g c =
     let r : Reading = reading_at g.A.ReaderArena c.args.self c.args.place c.args.nesting_limit in
     let is_struct : kind (word_of r) ≡ 0 = rw c.requires.there at c.requires.is_struct in
     let there = near_landing r c.in-Ok.ensures.followed (omega (arith, is_struct)) in
-    let word : c.in-Ok.landing.word.0 ≡ c.args.word.0 = ap (λ a. a.word) there ∙ sym c.requires.there in
+    let word : c.in-Ok.found.word.0 ≡ c.args.word.0 = ap (λ a. a.word) there ∙ sym c.requires.there in
     let claims : c.struct_word_size.result ≡ claim c.args.word.0 = search (c.struct_word_size.ensures, eq-eqb (kind c.args.word.0) 0 c.requires.is_struct) in
     claims ∙ ap claim (sym word)
 
@@ -33,7 +33,7 @@ returns-in-Ok-claim-clause-object g c =
     let counted : IsCounted r c.args.lim.now c.count.new.lim = record { some = rw c.requires.there at c.requires.some; by_one = c.count.ensures } in
     let depth : c.depth_of.result ≡ r.levels = c.depth_of.ensures ∙ ap levels (to_z-of_z w32 c.args.nesting_limit c.ranges.nesting_limit) in
     let is_struct : kind (word_of r) ≡ 0 = rw c.requires.there at c.requires.is_struct in
-    near_entered Value counted c.in-Ok.ensures.followed (omega (arith, is_struct)) (λ t. absurd (omega (arith, is_struct, t.0))) (extra_struct Value r.segments (near_at r c.in-Ok.landing.start.at) is_struct) (rw depth at c.in-Ok-claim.ensures.claimed)
+    near_entered Value counted c.in-Ok.ensures.followed (omega (arith, is_struct)) (λ t. absurd (omega (arith, is_struct, t.0))) (extra_struct Value r.segments (near_at r c.in-Ok.found.start.at) is_struct) (rw depth at c.in-Ok-claim.ensures.claimed)
 
 pub returns-in-Err-claim-clause-refused : goal.returns-in-Err-claim-clause-refused
 returns-in-Err-claim-clause-refused g c =

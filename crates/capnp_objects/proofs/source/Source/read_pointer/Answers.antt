@@ -3,10 +3,10 @@ use Rattle.std.proofs.lemmas.Int.{to_z-of_z}
 use Rattle.capnp_objects.specs.Source.{levels}
 use Rattle.capnp_objects.specs.Objects.{IsObject}
 use Rattle.capnp_objects.specs.Refusals.{Stopped}
-use Rattle.capnp_objects.specs.Landings.{landing_target, NotEntered}
+use Rattle.capnp_objects.specs.Landings.{found_target, NotEntered}
 use Rattle.capnp_objects.specs.Wanted.{plain}
 use Rattle.capnp_objects.specs.Reading.{Reading, reading_at}
-use Rattle.capnp_objects.proofs.Landings.{IsCounted, if_ok, if_err, object_opened, object_refused, stops_following}
+use Rattle.capnp_objects.proofs.Landings.{IsCounted, if_ok, if_err, object_opened, object_refused, stops_following, arrived}
 use Rattle.capnp_objects.proofs.source.Source.read_pointer.Goals as goal
 
 pub returns-in-Err-clause-refused : goal.returns-in-Err-clause-refused
@@ -27,5 +27,5 @@ returns-clause-refused g c =
     let r : Reading = reading_at g.A.ReaderArena c.args.self c.args.place c.args.nesting_limit in
     let counted : IsCounted r c.args.lim.now c.count.new.lim = record { some = rw c.requires.there at c.requires.some; by_one = c.count.ensures } in
     let depth : c.depth_of.result ≡ r.levels = c.depth_of.ensures ∙ ap levels (to_z-of_z w32 c.args.nesting_limit c.ranges.nesting_limit) in
-    if_err c.enter.result (NotEntered c.args.purpose r.segments r.charging c.depth_of.result (landing_target c.in-Ok.landing) c.follow.new.lim c.enter.new.lim)
+    if_err c.enter.result (NotEntered c.args.purpose (arrived (record r { levels = c.depth_of.result }) (found_target c.in-Ok.found)) c.follow.new.lim c.enter.new.lim)
     (Stopped c.args.purpose plain r c.args.lim.now c.enter.new.lim) (λ k h. object_refused counted c.in-Ok.ensures.followed (rw depth at h)) c.enter.ensures.refused

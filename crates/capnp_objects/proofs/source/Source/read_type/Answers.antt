@@ -19,7 +19,7 @@ returns-in-Ok-clause-refused g c =
     let word : c.word-word.result.0 ≡ word_of r = c.word-word.ensures.value ∙ ap (λ ws. get_or ws c.args.place.at 0) c.requires.held.0 in
     let some : c.word-word.result.0 ≢ 0 = λ e. false≢true (c.if-is_null.ensures.1 e) in
     let counted : IsCounted r c.args.lim.now c.count.new.lim = record { some = rw word at some; by_one = c.count.ensures } in
-    err_by c.described.result (type_of c.in-Ok.landing.word.0) (HasNoType r c.args.lim.now c.follow.new.lim) c.described.ensures (λ k e. has_no_type counted c.in-Ok.ensures.followed e)
+    err_by c.described.result (type_of c.in-Ok.found.word.0) (HasNoType r c.args.lim.now c.follow.new.lim) c.described.ensures (λ k e. has_no_type counted c.in-Ok.ensures.followed e)
 
 pub returns-in-Ok-clause-exactly : goal.returns-in-Ok-clause-exactly
 returns-in-Ok-clause-exactly g c =
@@ -28,7 +28,7 @@ returns-in-Ok-clause-exactly g c =
     let some : c.word-word.result.0 ≢ 0 = λ e. false≢true (c.if-is_null.ensures.1 e) in
     let counted : IsCounted r c.args.lim.now c.count.new.lim = record { some = rw word at some; by_one = c.count.ensures } in
     typed_exactly r c.args.lim.now c.follow.new.lim c.described.result
-    (ok_by c.described.result (type_of c.in-Ok.landing.word.0) (λ t. HasType r c.args.lim.now) c.described.ensures (λ t e. has_type t counted c.in-Ok.ensures.followed e))
+    (ok_by c.described.result (type_of c.in-Ok.found.word.0) (λ t. HasType r c.args.lim.now) c.described.ensures (λ t e. has_type t counted c.in-Ok.ensures.followed e))
     (returns-in-Ok-clause-refused g c)
 
 pub returns-in-Err-clause-exactly : goal.returns-in-Err-clause-exactly

@@ -13,7 +13,7 @@ pub returns-then-not-is_null-clause-read : goal.returns-then-not-is_null-clause-
 returns-then-not-is_null-clause-read g c =
     let made = c.in-Ok.ensures in
     let level = to_z-of_z w32 c.args.self.nesting_limit (search rules) in
-    of_default (record { null = c.requires.null; whole = made.exactly.0 refl; source = made.source; segment = made.place.0; first = made.place.1; nesting = level })
+    of_default c.requires.null (made.exactly.0 refl) made.source made.place.0 made.place.1 level
     (inr (λ e. false≢true (c.if-not-is_null.ensures.1 e)))
 
 pub returns-in-Some-clause-unread : goal.returns-in-Some-clause-unread
@@ -26,5 +26,5 @@ pub returns-in-None-clause-read : goal.returns-in-None-clause-read
 returns-in-None-clause-read g c =
     let made = c.in-Ok.ensures in
     let level = to_z-of_z w32 c.args.self.nesting_limit (search rules) in
-    of_default (record { null = c.requires.null; whole = made.exactly.0 refl; source = made.source; segment = made.place.0; first = made.place.1; nesting = level })
+    of_default c.requires.null (made.exactly.0 refl) made.source made.place.0 made.place.1 level
     (inl (sym c.name_of_null_default.ensures ∙ c.in-None.is))

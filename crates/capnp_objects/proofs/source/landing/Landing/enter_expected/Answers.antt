@@ -1,14 +1,12 @@
 use Rattle.std.proofs.Common.{sym, ◌∙◌}
 use Rattle.capnp_objects.specs.Entering.{misfits}
-use Rattle.capnp_objects.specs.Landings.{landing_target}
-use Rattle.capnp_objects.specs.Source.{source_segments, source_charging}
+use Rattle.capnp_objects.specs.Landings.{arrival}
 use Rattle.capnp_objects.proofs.Expecting.{IsEnteredAs, entered_object, misfit_of}
-use Rattle.capnp_objects.proofs.source.Source.enter_expected.Goals as goal
+use Rattle.capnp_objects.proofs.source.landing.Landing.enter_expected.Goals as goal
 
 pub returns-in-Some-name_of_misfit-clause-refused :
     goal.returns-in-Some-name_of_misfit-clause-refused
 returns-in-Some-name_of_misfit-clause-refused g c =
-    let self = c.args.self in
     let of_kind = sym c.name_of_kind.ensures ∙ c.in-None.is in
-    let there : IsEnteredAs c.args.expected (source_segments g.A.ReaderArena.segments self) (source_charging g.A.ReaderArena.charging self) (landing_target c.args.landing) c.args.lim.now c.enter.new.lim c.in-Ok.object = record { of_kind = of_kind; opened = c.in-Ok.ensures.object } in
+    let there : IsEnteredAs c.args.expected (arrival g.A.ReaderArena c.args.self) c.args.lim.now c.enter.new.lim c.in-Ok.object = record { of_kind = of_kind; opened = c.in-Ok.ensures.object } in
     misfits of_kind (entered_object c.in-Ok.object there) (sym (misfit_of c.in-Ok.object there) ∙ sym c.name_of_misfit.ensures ∙ c.in-Some-name_of_misfit.is)

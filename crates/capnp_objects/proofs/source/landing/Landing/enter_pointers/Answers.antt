@@ -1,5 +1,5 @@
 use Rattle.std.proofs.Common.{arith}
-use Rattle.capnp_objects.proofs.source.Source.enter_pointers.Goals as goal
+use Rattle.capnp_objects.proofs.source.landing.Landing.enter_pointers.Goals as goal
 
 pub returns-in-Err-clause-refused : goal.returns-in-Err-clause-refused
 returns-in-Err-clause-refused g c = c.in-Err.ensures.refused c.args.purpose (λ void. absurd (omega (arith, void.1, c.requires.of_pointers)))

@@ -1,0 +1,24 @@
+-- A copy that was refused halfway, once its place is cleared.
+use Rattle.capnp_words.specs.declared.error.ErrorKind.{ErrorKind}
+use Rattle.capnp_words.specs.Meter.{Meter}
+use Rattle.std.proofs.Common.{inl, inr, ℕ}
+use Rattle.capnp_format.specs.Tree.{Null}
+use Rattle.capnp_arena.specs.View.{View, KeepsLimits}
+use Rattle.capnp_making.specs.Stored.{Puts}
+use Rattle.capnp_making.specs.Zeroed.{IsPruned}
+use Rattle.capnp_making.proofs.Memory.{spends_then_limits, words_refused_before}
+use Rattle.capnp_making.proofs.Replaced.{replaced_again}
+use Rattle.capnp_objects.specs.Wanted.{Form}
+use Rattle.capnp_copies.specs.Changes.{change, StopsCopy, StopsHalfway}
+use Rattle.capnp_copies.specs.Originals.{Original}
+
+pub cleared : {o : Original} {b : Form} {s p : ℕ} {old mid new : View} {m m' : Meter} {k : ErrorKind} → StopsHalfway o (change b s p old mid m m') k → KeepsLimits mid new → IsPruned mid.words new.words → Puts mid.words new.words s p Null →
+    StopsCopy o (change b s p old new m m') Null k
+cleared {s = s} {p} {old} {mid} {new} {k = k} (t, stop) limits only puts = record {
+  why = elim stop.why [
+    | inl x ↦ inl (x.0, words_refused_before old mid new x.0 k x.1 limits only, x.2, x.3)
+    | inr x ↦ inr x
+  ];
+  left = replaced_again old.words mid.words new.words s p Null t Null stop.left (puts t stop.left.stored);
+  memory = spends_then_limits old mid new k stop.memory limits;
+}

@@ -1,0 +1,149 @@
+-- What is copied: what of it can be read, when it is too large, and a copy of it that is refused halfway.
+use Rattle.std.proofs.Common.{◌≡◌, ◌≢◌, inl, inr, ℕ, ◌+◌, ◌-◌, ◌^◌, ◌<◌, Bool, true, false, None, List, refl, sym, subst, arith}
+use Rattle.capnp_words.specs.declared.error.ErrorKind.{ErrorKind}
+use Rattle.capnp_words.specs.declared.error.ErrorKind.TheVariants.{MessageTooLarge}
+use Rattle.capnp_words.specs.declared.wire_pointer.ElementSize.{ElementSize}
+use Rattle.capnp_words.specs.declared.wire_pointer.ElementSize.TheVariants.{Void, Bit, Byte, TwoBytes, FourBytes, EightBytes, Pointer, InlineComposite}
+use Rattle.capnp_words.specs.declared.wire_pointer.StructSize.{StructSize}
+use Rattle.capnp_words.specs.Meter.{Meter, Affords, unused}
+use Rattle.capnp_format.specs.Tree.{Tree, Null, Struct, Pointers, Structs, Trees, Elements, count, element_count}
+use Rattle.capnp_format.specs.Canonical.{word_count}
+use Rattle.capnp_making.specs.Memory.{SpendsMemory}
+use Rattle.capnp_making.specs.Stored.{IsReplaced}
+use Rattle.capnp_objects.specs.Outcomes.{MeansThere, MeanThere, ElementsMean, Reads, ReadsAll, ReadsElements}
+use Rattle.capnp_objects.specs.Reading.{Reading, behind, words_from}
+use Rattle.capnp_objects.specs.Refusals.{Stopped}
+use Rattle.capnp_objects.specs.Spending.{after, pointers_in, pointers_in_all, pointers_in_elements}
+use Rattle.capnp_objects.specs.Wanted.{Form, plain}
+use Rattle.capnp_objects.specs.declared.object.Purpose.TheVariants.{Value}
+use Rattle.capnp_copies.specs.Changes.{Change, RefusesToCopy, MakesCopy, StopsCopy, StopsHalfway}
+use Rattle.capnp_copies.specs.Copies.{CanBeCopied}
+use Rattle.capnp_copies.specs.Forms.{kept}
+use Rattle.capnp_copies.specs.Originals.{Original, value_original, sections_original, numbers_original, pointers_original, structs_original, list_original, FitsListPointer}
+use Rattle.capnp_copies.specs.Rooms.{IsTooLarge}
+
+-- a limiter without a budget lets all be read
+
+affords_all : (charging : Bool) (n : ℕ) → Affords charging (unused None) n
+affords_all true n = tt
+affords_all false n = tt
+
+-- what a place means is too large
+
+pub value_large : (b : Form) (r : Reading) (used room : ℕ) → ((t : Tree) (c : ℕ) → MeansThere r t c → room < used + word_count (kept b t)) → IsTooLarge b (value_original r) used room
+value_large b r used room large any m m' t read = large t read.cost read.means
+
+pub value_beyond : (b : Form) (r : Reading) (used room : ℕ) → IsTooLarge b (value_original r) used room → (t : Tree) (c : ℕ) → MeansThere r t c → room < used + word_count (kept b t)
+value_beyond b r used room large t c means =
+    let read : Reads plain r (unused None) (after r.charging (unused None) c (pointers_in t)) t = record { cost = c; means = means; takes = λ f. absurd f; covers = affords_all r.charging c; spent = refl } in
+    large plain (unused None) (after r.charging (unused None) c (pointers_in t)) t read
+
+-- a struct of these data words, of whose pointers r is the first of q
+
+abbrev pub AreTooLargeSections : Form → List ℕ → Reading → ℕ → ℕ → ℕ → Type 0
+AreTooLargeSections b ws r q used room = (ts : Trees) (c : ℕ) → count ts ≡ q → MeanThere r ts c → room < used + word_count (kept b (Struct ws ts))
+
+abbrev pub IsTooLargeStruct : Form → Reading → StructSize → ℕ → ℕ → Type 0
+IsTooLargeStruct b r size used room = AreTooLargeSections b (words_from r size.data_words) (behind r size.data_words) size.pointers used room
+
+all_read : (r : Reading) (ts : Trees) (c : ℕ) → MeanThere r ts c → ReadsAll plain r (unused None) (after r.charging (unused None) c (pointers_in_all ts)) ts
+all_read r ts c means = record { cost = c; means = means; takes = λ f. absurd f; covers = affords_all r.charging c; spent = refl }
+
+pub sections_large : (b : Form) (ws : List ℕ) (r : Reading) (q used room : ℕ) → AreTooLargeSections b ws r q used room → IsTooLarge b (sections_original ws r q) used room
+sections_large b ws r q used room large any m m' t (ts, is, counts, read) = subst (λ u. room < used + word_count (kept b u)) (sym is) (large ts read.cost counts read.means)
+
+pub sections_beyond : (b : Form) (ws : List ℕ) (r : Reading) (q used room : ℕ) → IsTooLarge b (sections_original ws r q) used room → AreTooLargeSections b ws r q used room
+sections_beyond b ws r q used room large ts c counts means = large plain (unused None) (after r.charging (unused None) c (pointers_in_all ts)) (Struct ws ts) (ts, refl, counts, all_read r ts c means)
+
+-- a list of i pointers
+
+abbrev pub IsTooLargePointers : Form → Reading → ℕ → ℕ → ℕ → Type 0
+IsTooLargePointers b r i used room = (ts : Trees) (c : ℕ) → count ts ≡ i → MeanThere r ts c → room < used + word_count (kept b (Pointers ts))
+
+pub pointers_large : (b : Form) (r : Reading) (i used room : ℕ) → IsTooLargePointers b r i used room → IsTooLarge b (pointers_original i r) used room
+pointers_large b r i used room large any m m' t (ts, is, counts, read) = subst (λ u. room < used + word_count (kept b u)) (sym is) (large ts read.cost counts read.means)
+
+pub pointers_beyond : (b : Form) (r : Reading) (i used room : ℕ) → IsTooLarge b (pointers_original i r) used room → IsTooLargePointers b r i used room
+pointers_beyond b r i used room large ts c counts means = large plain (unused None) (after r.charging (unused None) c (pointers_in_all ts)) (Pointers ts) (ts, refl, counts, all_read r ts c means)
+
+-- a list of i structs of this size
+
+abbrev pub IsTooLargeList : Form → Reading → StructSize → ℕ → ℕ → ℕ → Type 0
+IsTooLargeList b r size i used room =
+    (es : Elements) (c : ℕ) → element_count es ≡ i → ElementsMean r size es c → room < used + word_count (kept b (Structs size.data_words size.pointers es))
+
+pub structs_large : (b : Form) (r : Reading) (size : StructSize) (i used room : ℕ) → IsTooLargeList b r size i used room → IsTooLarge b (structs_original size i r) used room
+structs_large b r size i used room large any m m' t (es, is, counts, read) = subst (λ u. room < used + word_count (kept b u)) (sym is) (large es read.cost counts read.means)
+
+pub structs_beyond : (b : Form) (r : Reading) (size : StructSize) (i used room : ℕ) → IsTooLarge b (structs_original size i r) used room → IsTooLargeList b r size i used room
+structs_beyond b r size i used room large es c counts means =
+    let read : ReadsElements plain r size (unused None) (after r.charging (unused None) c (pointers_in_elements es)) es = record { cost = c; means = means; takes = λ f. absurd f; covers = affords_all r.charging c; spent = refl } in
+    large plain (unused None) (after r.charging (unused None) c (pointers_in_elements es)) (Structs size.data_words size.pointers es) (es, refl, counts, read)
+
+-- a list by its size
+
+pub pointers_listed : (size : ElementSize) (sections : StructSize) (n : ℕ) (r : Reading) (P : Original → Type 0) → size ≡ Pointer → P (pointers_original n r) → P (list_original size sections n r)
+pointers_listed size sections n r P is h = subst (λ size. P (list_original size sections n r)) (sym is) h
+
+pub structs_listed : (size : ElementSize) (sections : StructSize) (n : ℕ) (r : Reading) (P : Original → Type 0) → size ≡ InlineComposite → P (structs_original sections n r) → P (list_original size sections n r)
+structs_listed size sections n r P is h = subst (λ size. P (list_original size sections n r)) (sym is) h
+
+pub numbers_listed : (size : ElementSize) (sections : StructSize) (n : ℕ) (r : Reading) (P : Original → Type 0) → size ≢ Pointer → size ≢ InlineComposite → P (numbers_original size n r) → P (list_original size sections n r)
+numbers_listed Pointer sections n r P pointer struct h = absurd (pointer refl)
+numbers_listed InlineComposite sections n r P pointer struct h = absurd (struct refl)
+numbers_listed Void sections n r P pointer struct h = h
+numbers_listed Bit sections n r P pointer struct h = h
+numbers_listed Byte sections n r P pointer struct h = h
+numbers_listed TwoBytes sections n r P pointer struct h = h
+numbers_listed FourBytes sections n r P pointer struct h = h
+numbers_listed EightBytes sections n r P pointer struct h = h
+
+pub pointers_list_copied : (size : ElementSize) (sections : StructSize) (n : ℕ) (r : Reading) {c : Change} → size ≡ Pointer → MakesCopy (pointers_original n r) c → MakesCopy (list_original size sections n r) c
+pointers_list_copied size sections n r {c} is h = pointers_listed size sections n r (λ o. MakesCopy o c) is h
+
+pub structs_list_copied : (size : ElementSize) (sections : StructSize) (n : ℕ) (r : Reading) {c : Change} → size ≡ InlineComposite → MakesCopy (structs_original sections n r) c → MakesCopy (list_original size sections n r) c
+structs_list_copied size sections n r {c} is h = structs_listed size sections n r (λ o. MakesCopy o c) is h
+
+pub pointers_list_stops : (size : ElementSize) (sections : StructSize) (n : ℕ) (r : Reading) {c : Change} {k : ErrorKind} → size ≡ Pointer → StopsHalfway (pointers_original n r) c k → StopsHalfway (list_original size sections n r) c k
+pointers_list_stops size sections n r {c} {k} is h = pointers_listed size sections n r (λ o. StopsHalfway o c k) is h
+
+pub structs_list_stops : (size : ElementSize) (sections : StructSize) (n : ℕ) (r : Reading) {c : Change} {k : ErrorKind} → size ≡ InlineComposite → StopsHalfway (structs_original sections n r) c k → StopsHalfway (list_original size sections n r) c k
+structs_list_stops size sections n r {c} {k} is h = structs_listed size sections n r (λ o. StopsHalfway o c k) is h
+
+-- it is larger than a list pointer can say
+
+pub list_exceeds : (size : ElementSize) (sections : StructSize) (n : ℕ) (r : Reading) (b : Form) → (FitsListPointer size n (sections.data_words + sections.pointers) → ⊥) → (list_original size sections n r).exceeds b (MessageTooLarge (2 ^ 64 - 1))
+list_exceeds Pointer sections n r b long = (long, refl)
+list_exceeds InlineComposite sections n r b long = (long, refl)
+list_exceeds Void sections n r b long = (long, refl)
+list_exceeds Bit sections n r b long = (long, refl)
+list_exceeds Byte sections n r b long = (long, refl)
+list_exceeds TwoBytes sections n r b long = (long, refl)
+list_exceeds FourBytes sections n r b long = (long, refl)
+list_exceeds EightBytes sections n r b long = (long, refl)
+
+pub exceeding : (size : ElementSize) (sections : StructSize) (n : ℕ) (r : Reading) (b : Form) (k : ErrorKind) → (list_original size sections n r).exceeds b k → (FitsListPointer size n (sections.data_words + sections.pointers) → ⊥) × (k ≡ MessageTooLarge (2 ^ 64 - 1))
+exceeding Pointer sections n r b k h = h
+exceeding InlineComposite sections n r b k h = h
+exceeding Void sections n r b k h = h
+exceeding Bit sections n r b k h = h
+exceeding Byte sections n r b k h = h
+exceeding TwoBytes sections n r b k h = h
+exceeding FourBytes sections n r b k h = h
+exceeding EightBytes sections n r b k h = h
+
+-- a copy that is refused halfway
+
+abbrev pub LeavesSomeValue : Change → ErrorKind → Type 0
+LeavesSomeValue c k = ((t : Tree) × IsReplaced c.old.words c.new.words c.segment c.at Null t) × SpendsMemory c.old c.new k
+
+pub halfway : {o : Original} {c : Change} {k : ErrorKind} → RefusesToCopy o c k → LeavesSomeValue c k → StopsHalfway o c k
+halfway why left = (left.0.0, record { why = why; left = left.0.1; memory = left.1 })
+
+-- one that can be copied is not refused
+pub refused_rightly : {o : Original} {c : Change} {t : Tree} {k : ErrorKind} → ((m : Meter) (u : Tree) → o.stops c.form (λ r i j. Stopped Value c.form r i j k) c.before c.after → o.reads c.form c.before m u → ⊥) → StopsCopy o c t k →
+    CanBeCopied o c.form c.before c.old c.segment → ⊥
+refused_rightly {c = c} {k = k} apart stop can = elim stop.why [
+  | inl x ↦ (let beyond = x.3 c.form c.before can.after can.value can.is_read in omega (arith, beyond, can.room))
+  | inr y ↦ elim y [ inl refused ↦ apart can.after can.value refused can.is_read | inr large ↦ can.small k large ]
+]

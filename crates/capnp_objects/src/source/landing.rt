@@ -1,0 +1,260 @@
+//! What a pointer leads to, once it is followed, and how that is entered: its checks and charges.
+ghost use Rattle.std.specs.Prelude.{◌≡◌, ⊤};
+ghost use Rattle.capnp_objects.specs.Wanted.{non_struct_tag};
+ghost use Rattle.capnp_objects.specs.Objects.{IsHeld};
+ghost use Rattle.capnp_objects.specs.Source.{source_segments};
+
+use super::{Found, Source};
+use crate::object::{Object, Place, Purpose};
+use capnp_arena::arena::ReaderArena;
+use capnp_words::error::ErrorKind;
+use capnp_words::read_limiter::ReadLimiter;
+use capnp_words::wire_pointer::{ElementSize, WirePointerKind, data_bits_per_element};
+use std::alloc::AllocError;
+
+// What following a pointer found, in the source that it is read from.
+pub(crate) struct Landing<'a, A: ReaderArena> {
+    // Where it is read from.
+    pub(crate) source: Source<'a, A>,
+    // The word that describes the object, and where that starts.
+    pub(crate) found: Found<'a>,
+    // How many levels are left, of which a struct and a list take one.
+    pub(crate) depth: u32,
+    ghost held: { IsHeld (source_segments A.segments source) found.start },
+}
+
+impl<'a, A: ReaderArena> Clone for Landing<'a, A> {
+    ghost is_clone = { λ x y. y ≡ x };
+
+    ghost is_infallible = { λ _. ⊤ };
+
+    fn clone(&self) -> Result<Self, AllocError> {
+        Ok(*self)
+    }
+}
+
+impl<'a, A: ReaderArena> Copy for Landing<'a, A> {}
+
+impl<'a, A: ReaderArena> Landing<'a, A> {
+    ghost use Rattle.std.specs.Prelude.{◌<◌, ◌≤◌, IfOk, OnOk, IfErr};
+    ghost use Rattle.capnp_format.specs.Word.{kind, element_size};
+    ghost use Rattle.capnp_words.specs.Sizes.{size_number};
+    ghost use Rattle.capnp_objects.specs.declared.object.Purpose.TheVariants.{Size};
+    ghost use Rattle.capnp_objects.specs.Demands.{claim};
+    ghost use Rattle.capnp_objects.specs.Objects.{IsFew};
+    ghost use Rattle.capnp_objects.specs.Landings.{arrival, IsClaimed, NotClaimed, NotEntered, IsOpened};
+
+    // Enters the object that a pointer leads to, which takes one of the levels. For its size one
+    // has to be left.
+    #[inline(always)]
+    pub(crate) fn enter(
+        self,
+        purpose: Purpose,
+        lim: &mut ReadLimiter,
+    ) -> Result<Object<'a>, ErrorKind>
+        requires level { purpose ≡ Size → 0 < self.depth }
+        ensures object { IfOk result (IsOpened purpose (arrival A.ReaderArena self.entry)
+            lim.old lim.new) }
+        ensures few { IfOk result IsFew }
+        ensures refused { IfErr result (NotEntered purpose (arrival A.ReaderArena self.entry)
+            lim.old lim.new) }
+    {
+        match self.found.word.kind() {
+            WirePointerKind::Struct => self.enter_struct(purpose, lim),
+            WirePointerKind::List => self.enter_list(purpose, lim),
+            WirePointerKind::Far => Err(ErrorKind::MalformedDoubleFarPointer),
+            WirePointerKind::Other => {
+                if self.found.word.is_capability() {
+                    Ok(Object::Capability(self.found.word.cap_index()))
+                } else {
+                    Err(ErrorKind::UnknownPointerType)
+                }
+            }
+        }
+    }
+
+    // Checks and charges the words that an object claims.
+    pub(crate) fn claim(self, words: u32, lim: &mut ReadLimiter) -> Result<(), ErrorKind>
+        requires is_object { kind self.found.word.0 < 2 }
+        requires claimed { words ≡ claim self.found.word.0 }
+        ensures claimed { OnOk result (IsClaimed (arrival A.ReaderArena self.entry)
+            lim.old lim.new) }
+        ensures refused { IfErr result (NotClaimed (arrival A.ReaderArena self.entry)
+            lim.old lim.new) }
+    {
+        if self.depth == 0 {
+            return Err(ErrorKind::MessageIsTooDeeplyNestedOrContainsCycles);
+        }
+        let end = u64::from(self.found.start.at) + u64::from(words);
+        if end > u64::from(self.found.start.length()) {
+            return Err(ErrorKind::MessageContainsOutOfBoundsPointer);
+        }
+        self.source.charge(u64::from(words), lim)
+    }
+
+    // Enters a struct.
+    fn enter_struct(self, purpose: Purpose, lim: &mut ReadLimiter) -> Result<Object<'a>, ErrorKind>
+        requires is_struct { kind self.found.word.0 ≡ 0 }
+        ensures object { IfOk result (IsOpened purpose (arrival A.ReaderArena self.entry)
+            lim.old lim.new) }
+        ensures few { IfOk result IsFew }
+        ensures refused { IfErr result (NotEntered purpose (arrival A.ReaderArena self.entry)
+            lim.old lim.new) }
+    {
+        match self.claim(self.found.word.struct_word_size(), lim) {
+            Ok(()) => Ok(Object::Struct {
+                start: self.found.start,
+                size: self.found.word.struct_size(),
+            }),
+            Err(k) => Err(k),
+        }
+    }
+
+    // Enters a list.
+    #[inline(always)]
+    fn enter_list(self, purpose: Purpose, lim: &mut ReadLimiter) -> Result<Object<'a>, ErrorKind>
+        requires is_list { kind self.found.word.0 ≡ 1 }
+        requires level { purpose ≡ Size → 0 < self.depth }
+        ensures object { IfOk result (IsOpened purpose (arrival A.ReaderArena self.entry)
+            lim.old lim.new) }
+        ensures few { IfOk result IsFew }
+        ensures refused { IfErr result (NotEntered purpose (arrival A.ReaderArena self.entry)
+            lim.old lim.new) }
+    {
+        match self.found.word.list_element_size() {
+            ElementSize::InlineComposite => self.enter_structs(purpose, lim),
+            ElementSize::Pointer => self.enter_pointers(purpose, lim),
+            ElementSize::Void => self.enter_void(purpose, lim),
+            size => self.enter_flat(purpose, size, lim),
+        }
+    }
+
+    // Enters a list of void, which for its size is neither looked for nor charged.
+    fn enter_void(self, purpose: Purpose, lim: &mut ReadLimiter) -> Result<Object<'a>, ErrorKind>
+        requires is_list { kind self.found.word.0 ≡ 1 }
+        requires of_void { element_size self.found.word.0 ≡ 0 }
+        requires level { purpose ≡ Size → 0 < self.depth }
+        ensures object { IfOk result (IsOpened purpose (arrival A.ReaderArena self.entry)
+            lim.old lim.new) }
+        ensures few { IfOk result IsFew }
+        ensures refused { IfErr result (NotEntered purpose (arrival A.ReaderArena self.entry)
+            lim.old lim.new) }
+    {
+        let start = self.found.start;
+        let size = ElementSize::Void;
+        let count = self.found.word.list_element_count();
+        match purpose {
+            Purpose::Size => return Ok(Object::Flat { start, size, count }),
+            Purpose::Value => {}
+        }
+        match self.claim(0, lim) {
+            Ok(()) => {}
+            Err(k) => return Err(k),
+        }
+        match self.source.charge(u64::from(count), lim) {
+            Ok(()) => Ok(Object::Flat { start, size, count }),
+            Err(k) => Err(k),
+        }
+    }
+
+    // Enters a list of elements of bits or bytes.
+    fn enter_flat(
+        self,
+        purpose: Purpose,
+        size: ElementSize,
+        lim: &mut ReadLimiter,
+    ) -> Result<Object<'a>, ErrorKind>
+        requires is_list { kind self.found.word.0 ≡ 1 }
+        requires is_size { size_number size ≡ element_size self.found.word.0 }
+        requires some { 0 < size_number size }
+        requires is_flat { size_number size ≤ 5 }
+        ensures object { IfOk result (IsOpened purpose (arrival A.ReaderArena self.entry)
+            lim.old lim.new) }
+        ensures few { IfOk result IsFew }
+        ensures refused { IfErr result (NotEntered purpose (arrival A.ReaderArena self.entry)
+            lim.old lim.new) }
+    {
+        let count = self.found.word.list_element_count();
+        let bits = data_bits_per_element(size);
+        let words = (u64::from(count) * u64::from(bits) + 63) / 64;
+        match self.claim(words as u32, lim) {
+            Ok(()) => Ok(Object::Flat {
+                start: self.found.start,
+                size,
+                count,
+            }),
+            Err(k) => Err(k),
+        }
+    }
+
+    // Enters a list of pointers.
+    fn enter_pointers(
+        self,
+        purpose: Purpose,
+        lim: &mut ReadLimiter,
+    ) -> Result<Object<'a>, ErrorKind>
+        requires is_list { kind self.found.word.0 ≡ 1 }
+        requires of_pointers { element_size self.found.word.0 ≡ 6 }
+        ensures object { IfOk result (IsOpened purpose (arrival A.ReaderArena self.entry)
+            lim.old lim.new) }
+        ensures few { IfOk result IsFew }
+        ensures refused { IfErr result (NotEntered purpose (arrival A.ReaderArena self.entry)
+            lim.old lim.new) }
+    {
+        let count = self.found.word.list_element_count();
+        match self.claim(count, lim) {
+            Ok(()) => Ok(Object::Pointers {
+                start: self.found.start,
+                count,
+            }),
+            Err(k) => Err(k),
+        }
+    }
+
+    // Enters a list of structs, whose first word is their tag.
+    fn enter_structs(self, purpose: Purpose, lim: &mut ReadLimiter) -> Result<Object<'a>, ErrorKind>
+        requires is_list { kind self.found.word.0 ≡ 1 }
+        requires of_structs { element_size self.found.word.0 ≡ 7 }
+        ensures object { IfOk result (IsOpened purpose (arrival A.ReaderArena self.entry)
+            lim.old lim.new) }
+        ensures few { IfOk result IsFew }
+        ensures refused { IfErr result (NotEntered purpose (arrival A.ReaderArena self.entry)
+            lim.old lim.new) }
+    {
+        let words = self.found.word.list_inline_composite_word_count();
+        match self.claim(words + 1, lim) {
+            Ok(()) => {}
+            Err(k) => return Err(k),
+        }
+        let tag = self.found.start.word();
+        if tag.kind() != WirePointerKind::Struct {
+            return Err(name_of_non_struct_tag(purpose));
+        }
+        let count = tag.inline_composite_list_element_count();
+        let width = tag.struct_word_size();
+        if u64::from(count) * u64::from(width) > u64::from(words) {
+            return Err(ErrorKind::InlineCompositeListsElementsOverrunItsWordCount);
+        }
+        match self.source.charge_count(purpose, width, count, lim) {
+            Ok(()) => Ok(Object::Structs {
+                start: Place {
+                    at: self.found.start.at + 1,
+                    ..self.found.start
+                },
+                size: tag.struct_size(),
+                count,
+            }),
+            Err(k) => Err(k),
+        }
+    }
+}
+
+// How it is refused that a list of structs has no tag.
+fn name_of_non_struct_tag(purpose: Purpose) -> ErrorKind
+    ensures { result ≡ non_struct_tag purpose }
+{
+    match purpose {
+        Purpose::Value => ErrorKind::InlineCompositeListsOfNonStructTypeAreNotSupported,
+        Purpose::Size => ErrorKind::CantHandleNonStructInlineComposite,
+    }
+}

@@ -1,0 +1,50 @@
+-- What stands when an object is made anew in other words, and the landing pads of rows of pointers.
+use Rattle.std.specs.Prelude.{cond, flat_map, nat_eq, ◌≡◌, ◌≢◌, ℕ, zero, suc, ◌+◌, ◌<◌, ◌≤◌, ◌⊎◌, List, [], ◌∷◌, ◌++◌, length}
+use Rattle.capnp_format.specs.Segments.{Segments, segment, word_at, Target}
+use Rattle.capnp_format.specs.Tree.{Tree, Struct}
+use Rattle.capnp_format.specs.Forest.{Interval, times, pads_of, object_of}
+use Rattle.capnp_format.specs.Word.{kind}
+use Rattle.capnp_making.specs.Path.{word_interval}
+use Rattle.capnp_widening.specs.Moved.{Move}
+
+-- The data words of a struct.
+abbrev pub struct_data_words : Tree → List ℕ
+struct_data_words (Struct ws ts) = ws
+struct_data_words t = []
+
+-- The landing pads of n pointers from a place on; and of k pointers from a place on, and every w words again, n times.
+abbrev pub pads_from : Segments → ℕ → ℕ → ℕ → List Interval
+pads_from S s p zero = []
+pads_from S s p (suc n) = pads_of (word_at S s p) ++ pads_from S s (p + 1) n
+
+abbrev pub pads_in_rows : Segments → ℕ → ℕ → ℕ → ℕ → ℕ → List Interval
+pads_in_rows S s p w k zero = []
+pads_in_rows S s p w k (suc n) = pads_from S s p k ++ pads_in_rows S s (p + w) w k n
+
+-- An object of size words, where the pointer at (u, q) leads in S, is made anew in wide words: from S to M the new object b and its pads are written
+-- into new words; from M to Q the pointer is overwritten, last of all, and the old object and its pads become zero. Its pointers had pads before, and
+-- have pads after; fresh are the new words that are used.
+pub record IsRehoused (S M Q : Segments) (u q : ℕ) (a : Target) (size : ℕ) (b : Target) (wide : ℕ) (before after fresh : List Interval) : Type 0 where
+  pub more_segments : length S ≤ length M
+  pub more_words : (x : ℕ) → length (segment S x) ≤ length (segment M x)
+  pub same_segments : length Q ≡ length M
+  pub same_words : (x : ℕ) → length (segment Q x) ≡ length (segment M x)
+  pub extends : (x y : ℕ) → y < length (segment S x) → word_at M x y ≡ word_at S x y
+  pub zero_new : (x y : ℕ) → length (segment S x) ≤ y → times fresh x y ≡ 0 → word_at M x y ≡ 0
+  pub fresh_once : (x y : ℕ) → times fresh x y ≤ 1
+  pub fresh_new : (x y : ℕ) → 0 < times fresh x y → (length (segment S x) ≤ y) × (y < length (segment M x))
+  pub all_fresh : (x y : ℕ) → times (pads_of (word_at Q u q)) x y + times (object_of b wide ∷ []) x y + times after x y ≡ times fresh x y + times before x y
+  pub object_new : (y : ℕ) → b.start ≤ y → y < b.start + wide → length (segment S b.segment) ≤ y
+  pub claim : b.start + wide ≤ length (segment M b.segment)
+  pub only_old : (x y : ℕ) → times (word_interval u q ∷ pads_of (word_at S u q) ++ object_of a size ∷ []) x y ≡ 0 → word_at Q x y ≡ word_at M x y
+  pub zero_old : (x y : ℕ) → (x ≢ u) ⊎ (y ≢ q) → 0 < times (pads_of (word_at S u q) ++ object_of a size ∷ []) x y → word_at Q x y ≡ 0
+
+-- The landing pads of moved pointers at their old places, and at the new ones; and the own ones of one pointer.
+abbrev pub old_pads : Segments → List Move → List Interval
+old_pads R ms = flat_map (λ (m : Move). pads_of (word_at R m.segment m.at)) ms
+
+abbrev pub new_pads : Segments → List Move → List Interval
+new_pads R ms = flat_map (λ (m : Move). pads_of (word_at R m.to_segment m.to_at)) ms
+
+abbrev pub own_pads : Segments → Move → List Interval
+own_pads R m = cond (nat_eq (kind (word_at R m.segment m.at)) 2) [] (pads_of (word_at R m.to_segment m.to_at))
