@@ -74,6 +74,7 @@ impl<'a, A: ReaderArena> Landing<'a, A> {
     }
 
     // Checks and charges the words that an object claims.
+    #[inline(always)]
     pub(crate) fn claim(self, words: u32, lim: &mut ReadLimiter) -> Result<(), ErrorKind>
         requires is_object { kind self.found.word.0 < 2 }
         requires claimed { words ≡ claim self.found.word.0 }
@@ -93,6 +94,7 @@ impl<'a, A: ReaderArena> Landing<'a, A> {
     }
 
     // Enters a struct.
+    #[inline(always)]
     fn enter_struct(self, purpose: Purpose, lim: &mut ReadLimiter) -> Result<Object<'a>, ErrorKind>
         requires is_struct { kind self.found.word.0 ≡ 0 }
         ensures object { IfOk result (IsOpened purpose (arrival A.ReaderArena self.entry)
@@ -130,6 +132,7 @@ impl<'a, A: ReaderArena> Landing<'a, A> {
     }
 
     // Enters a list of void, which for its size is neither looked for nor charged.
+    #[inline(always)]
     fn enter_void(self, purpose: Purpose, lim: &mut ReadLimiter) -> Result<Object<'a>, ErrorKind>
         requires is_list { kind self.found.word.0 ≡ 1 }
         requires of_void { element_size self.found.word.0 ≡ 0 }
@@ -158,6 +161,7 @@ impl<'a, A: ReaderArena> Landing<'a, A> {
     }
 
     // Enters a list of elements of bits or bytes.
+    #[inline(always)]
     fn enter_flat(
         self,
         purpose: Purpose,
@@ -188,6 +192,7 @@ impl<'a, A: ReaderArena> Landing<'a, A> {
     }
 
     // Enters a list of pointers.
+    #[inline(always)]
     fn enter_pointers(
         self,
         purpose: Purpose,
@@ -212,6 +217,7 @@ impl<'a, A: ReaderArena> Landing<'a, A> {
     }
 
     // Enters a list of structs, whose first word is their tag.
+    #[inline(always)]
     fn enter_structs(self, purpose: Purpose, lim: &mut ReadLimiter) -> Result<Object<'a>, ErrorKind>
         requires is_list { kind self.found.word.0 ≡ 1 }
         requires of_structs { element_size self.found.word.0 ≡ 7 }
