@@ -492,7 +492,8 @@ impl<'a, A: BuilderArena> PointerBuilder<'a, A> {
         canonicalize: bool,
     ) -> Result<(), ErrorKind>
         requires place { IsThere (built A.view self.old) }
-        ensures copied { IfOk result (λ _. PutsCopy (value_original (reading B.ReaderArena from.entry))
+        ensures copied { IfOk result (λ _. PutsCopy
+            (value_original (reading B.ReaderArena from.entry))
             (copying A.view canonicalize self.old self.new lim.old lim.new)) }
         ensures near { IsNull (built A.view self.old)
             → IfOk result
@@ -509,7 +510,8 @@ impl<'a, A: BuilderArena> PointerBuilder<'a, A> {
         ensures fits { CanBeCopied (value_original (reading B.ReaderArena from.entry))
             (form_of canonicalize) lim.old (A.view self.old.arena.now) self.old.segment
             → IsOk result }
-        ensures refused { IfErr result (LeavesCleared (value_original (reading B.ReaderArena from.entry))
+        ensures refused { IfErr result (LeavesCleared
+            (value_original (reading B.ReaderArena from.entry))
             (copying A.view canonicalize self.old self.new lim.old lim.new)) }
         ensures taken { TakesAtMost result (value_original (reading B.ReaderArena from.entry))
             (copying A.view canonicalize self.old self.new lim.old lim.new) }

@@ -38,7 +38,8 @@ pub fn open_struct<A: BuilderArena>(
 ) -> Result<ExistingStruct, ErrorKind>
     requires place { IsPlace (A.view arena.old).words id at }
     ensures opened { (t : Tree) → IsStored (A.view arena.old).words id at t
-        → OpensStruct LeadsToOne size result (call_at id at (A.view arena.old) (A.view arena.new)) t }
+        → OpensStruct LeadsToOne size result
+        (call_at id at (A.view arena.old) (A.view arena.new)) t }
     ensures wide { IfOk result (IsAtLeast size) }
     ensures granted { OnOk result (KeepsMemory (A.view arena.old) (A.view arena.new)) }
     ensures memory { IfErr result (SpendsMemory (A.view arena.old) (A.view arena.new)) }
@@ -119,7 +120,8 @@ fn widen_struct<A: BuilderArena>(
     requires narrow { size.data_words ≤ narrow.data_words → size.pointers ≤ narrow.pointers → ⊥ }
     ensures opened { (t : Tree) → IsStored (A.view arena.old).words id at t
         → struct_in (target (A.view arena.old).words id at) t ≡ Some (existing_struct start narrow)
-        → OpensStruct LeadsToOne size result (call_at id at (A.view arena.old) (A.view arena.new)) t }
+        → OpensStruct LeadsToOne size result
+        (call_at id at (A.view arena.old) (A.view arena.new)) t }
     ensures wide { IfOk result (IsAtLeast size) }
     ensures granted { OnOk result (KeepsMemory (A.view arena.old) (A.view arena.new)) }
     ensures memory { IfErr result (SpendsMemory (A.view arena.old) (A.view arena.new)) }

@@ -51,7 +51,8 @@ impl<'a, A: BuilderArena> PointerBuilder<'a, A> {
             × (A.view self.new.arena.now ≡ A.view self.old.arena.now) }
         ensures fits { DefaultFits default.entry (A.view self.old.arena.now) self.old.segment
             → IsOk result }
-        ensures memory { ChangesWords result (A.view self.old.arena.now) (A.view self.new.arena.now) }
+        ensures memory { ChangesWords result (A.view self.old.arena.now)
+            (A.view self.new.arena.now) }
         ensures there { IsThere (built A.view self.new) }
         ensures builder { KeepsBuilder self.old self.new }
     {
@@ -84,7 +85,8 @@ impl<'a, A: BuilderArena> PointerBuilder<'a, A> {
             → IfErr result
             (IsNoWider (A.view self.old.arena.now)
             (A.view self.new.arena.now) self.old.segment self.old.at) }
-        ensures memory { ChangesWords result (A.view self.old.arena.now) (A.view self.new.arena.now) }
+        ensures memory { ChangesWords result (A.view self.old.arena.now)
+            (A.view self.new.arena.now) }
         ensures there { OfStored (built A.view self.old) (λ t. IsThere (built A.view self.new)) }
         ensures builder { KeepsBuilder self.old self.new }
     {
@@ -155,7 +157,8 @@ impl<'a, A: BuilderArena> PointerBuilder<'a, A> {
             (RefusesWider
             (IsStored (A.view self.old.arena.now).words self.old.segment self.old.at)
             size (A.view self.old.arena.now) (A.view self.new.arena.now)) }
-        ensures memory { ChangesWords result (A.view self.old.arena.now) (A.view self.new.arena.now) }
+        ensures memory { ChangesWords result (A.view self.old.arena.now)
+            (A.view self.new.arena.now) }
         ensures there { OfStored (built A.view self.old) (λ t. IsThere (built A.view self.new)) }
         ensures builder { KeepsBuilder self.old self.new }
     {
@@ -221,7 +224,8 @@ impl<'a, A: BuilderArena> PointerBuilder<'a, A> {
         ensures set { (IsNull (built A.view self.old) → ⊥)
             → (A.view self.new.arena.now ≡ A.view self.old.arena.now)
             × IfErr result (λ k. is_unfound k ≡ true) }
-        ensures memory { ChangesWords result (A.view self.old.arena.now) (A.view self.new.arena.now) }
+        ensures memory { ChangesWords result (A.view self.old.arena.now)
+            (A.view self.new.arena.now) }
         ensures there { IsThere (built A.view self.new) }
         ensures builder { KeepsBuilder self.old self.new }
     {
@@ -274,7 +278,8 @@ impl<'a, A: BuilderArena> PointerBuilder<'a, A> {
         ensures set { (IsNull (built A.view self.old) → ⊥)
             → (A.view self.new.arena.now ≡ A.view self.old.arena.now)
             × IfErr result (λ k. is_unfound k ≡ true) }
-        ensures memory { ChangesWords result (A.view self.old.arena.now) (A.view self.new.arena.now) }
+        ensures memory { ChangesWords result (A.view self.old.arena.now)
+            (A.view self.new.arena.now) }
         ensures there { IsThere (built A.view self.new) }
         ensures builder { KeepsBuilder self.old self.new }
     {
@@ -324,7 +329,8 @@ impl<'a, A: BuilderArena> PointerBuilder<'a, A> {
         ensures set { (IsNull (built A.view self.old) → ⊥)
             → (A.view self.new.arena.now ≡ A.view self.old.arena.now)
             × IfErr result (λ k. is_unfound k ≡ true) }
-        ensures memory { ChangesWords result (A.view self.old.arena.now) (A.view self.new.arena.now) }
+        ensures memory { ChangesWords result (A.view self.old.arena.now)
+            (A.view self.new.arena.now) }
         ensures there { IsThere (built A.view self.new) }
         ensures builder { KeepsBuilder self.old self.new }
     {
