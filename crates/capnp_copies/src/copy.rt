@@ -6,10 +6,6 @@
 ghost use Rattle.std.specs.Prelude.{◌≡◌, IsOk, IfOk, IfErr};
 ghost use Rattle.capnp_format.specs.Segments.{word_at, IsPlace};
 ghost use Rattle.capnp_format.specs.Tree.{Null};
-ghost use Rattle.capnp_objects.specs.declared.object.Purpose.TheVariants.{Value};
-ghost use Rattle.capnp_objects.specs.Objects.{IsFew, IsObject};
-ghost use Rattle.capnp_objects.specs.Refusals.{Stopped};
-ghost use Rattle.capnp_objects.specs.Wanted.{plain};
 ghost use Rattle.capnp_readers.specs.Readers.{reading};
 ghost use Rattle.capnp_copies.specs.Growth.{TakesAtMost};
 ghost use Rattle.capnp_copies.specs.Changes.{change, MakesCopy, StopsCopy, StopsHalfway};
@@ -141,7 +137,7 @@ fn copy_object<A: BuilderArena, B: ReaderArena>(
         (value_original (reading B.ReaderArena from.entry))
         (change (form_in form) id at (A.view arena.old) (A.view arena.new) lim.old lim.new) }
 {
-    let object = match read_apart(from, lim) {
+    let object = match from.source.read_object(from.place, from.nesting_limit, lim) {
         Ok(object) => object,
         Err(k) => return Err(k),
     };
@@ -185,20 +181,4 @@ fn copy_object<A: BuilderArena, B: ReaderArena>(
             lists::copy_structs(arena, id, at, inner, size, count, lim, form)
         }
     }
-}
-
-// Reads the object that a pointer leads to, out of line: the loops over elements and children, which
-// stand in line in `copy_object`, then keep more of what they need in registers.
-#[inline(never)]
-fn read_apart<'a, B: ReaderArena>(
-    from: PointerReader<'a, B>,
-    lim: &mut ReadLimiter,
-) -> Result<Object<'a>, ErrorKind>
-    ensures object { IfOk result (IsObject Value (reading B.ReaderArena from.entry)
-        lim.old lim.new) }
-    ensures few { IfOk result IsFew }
-    ensures refused { IfErr result (Stopped Value plain (reading B.ReaderArena from.entry)
-        lim.old lim.new) }
-{
-    from.source.read_object(from.place, from.nesting_limit, lim)
 }

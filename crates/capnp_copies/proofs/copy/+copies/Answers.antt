@@ -157,11 +157,13 @@ children::copy_near_struct-copy_struct-requires g t c κs within =
 
 pub copy_object-returns-in-Err-clause-refused : goal.copy_object-returns-in-Err-clause-refused
 copy_object-returns-in-Err-clause-refused g t c =
-    read_stops c.requires.place c.requires.null c.in-Err.ensures.refused
+    let nl = to_z-of_z w32 c.args.from.nesting_limit (search rules) in
+    read_stops c.requires.place c.requires.null (rw nl at c.in-Err.ensures.refused)
 
 pub copy_object-returns-in-Err-clause-taken : goal.copy_object-returns-in-Err-clause-taken
 copy_object-returns-in-Err-clause-taken g t c =
-    read_stop_taken c.in-Err.ensures.refused
+    let nl = to_z-of_z w32 c.args.from.nesting_limit (search rules) in
+    read_stop_taken (rw nl at c.in-Err.ensures.refused)
 
 pub copy_object-returns-in-Canonical-clause-refused : goal.copy_object-returns-in-Canonical-clause-refused
 copy_object-returns-in-Canonical-clause-refused g t c =
@@ -215,68 +217,79 @@ copy_object-returns-in-Plain-clause-taken g t c =
 
 pub copy_object-returns-in-Struct-clause-copied : goal.copy_object-returns-in-Struct-clause-copied
 copy_object-returns-in-Struct-clause-copied g t c =
-    let object = rw c.in-Struct.is at c.in-Ok.ensures.object in
+    let nl = to_z-of_z w32 c.args.from.nesting_limit (search rules) in
+    let object = rw (c.in-Struct.is, nl) at c.in-Ok.ensures.object in
     let less = one_level_in c.args.from.nesting_limit (search rules) in
     ok_so c.copy_struct.result _ _ c.copy_struct.ensures.copied (λ x made. struct_value c.in-Struct.start less object made)
 
 pub copy_object-returns-in-Struct-clause-refused : goal.copy_object-returns-in-Struct-clause-refused
 copy_object-returns-in-Struct-clause-refused g t c =
-    let object = rw c.in-Struct.is at c.in-Ok.ensures.object in
+    let nl = to_z-of_z w32 c.args.from.nesting_limit (search rules) in
+    let object = rw (c.in-Struct.is, nl) at c.in-Ok.ensures.object in
     let less = one_level_in c.args.from.nesting_limit (search rules) in
     err_so c.copy_struct.result _ _ c.copy_struct.ensures.refused (λ k stop. struct_value_stops c.in-Struct.start less object stop)
 
 pub copy_object-returns-in-Struct-clause-taken : goal.copy_object-returns-in-Struct-clause-taken
 copy_object-returns-in-Struct-clause-taken g t c =
+    let nl = to_z-of_z w32 c.args.from.nesting_limit (search rules) in
     let less = one_level_in c.args.from.nesting_limit (search rules) in
-    let object = rw c.in-Struct.is at c.in-Ok.ensures.object in
+    let object = rw (c.in-Struct.is, nl) at c.in-Ok.ensures.object in
     taken_so c.copy_struct.result _ _ _ _ (λ x. struct_takes c.in-Struct.start less object x) (λ x. struct_stop_takes c.in-Struct.start less object x) c.copy_struct.ensures.taken
 
 pub copy_object-returns-in-Flat-clause-copied : goal.copy_object-returns-in-Flat-clause-copied
 copy_object-returns-in-Flat-clause-copied g t c =
-    let object = rw c.in-Flat.is at c.in-Ok.ensures.object in
+    let nl = to_z-of_z w32 c.args.from.nesting_limit (search rules) in
+    let object = rw (c.in-Flat.is, nl) at c.in-Ok.ensures.object in
     let outcome : FlatOutcome c.copy_flat.result c.args.id c.args.at (words_for (size_number c.in-Flat.size) c.in-Flat.count) (g.A.BuilderArena.view c.args.arena.now) (g.A.BuilderArena.view c.copy_flat.new.arena) (Flat (size_number c.in-Flat.size) (unpacked (size_number c.in-Flat.size) c.in-Flat.count (words_of c.part-elements.result.now))) =
     record { copied = c.copy_flat.ensures.copied; granted = c.copy_flat.ensures.granted; refused = c.copy_flat.ensures.refused; kept = c.copy_flat.ensures.kept; memory = c.copy_flat.ensures.memory; stands = c.copy_flat.ensures.stands; fits = λ room. c.copy_flat.ensures.fits (omega (arith, room, flat_words (size_number c.in-Flat.size) c.in-Flat.count (words_of c.part-elements.result.now))) } in
     flat_value (form_in c.args.form) c.copy_flat.result c.in-Flat.start c.in-Flat.size object c.flat_words-words.ensures c.part-elements.ensures.words outcome
 
 pub copy_object-returns-in-Flat-clause-refused : goal.copy_object-returns-in-Flat-clause-refused
 copy_object-returns-in-Flat-clause-refused g t c =
-    let object = rw c.in-Flat.is at c.in-Ok.ensures.object in
+    let nl = to_z-of_z w32 c.args.from.nesting_limit (search rules) in
+    let object = rw (c.in-Flat.is, nl) at c.in-Ok.ensures.object in
     let outcome : FlatOutcome c.copy_flat.result c.args.id c.args.at (words_for (size_number c.in-Flat.size) c.in-Flat.count) (g.A.BuilderArena.view c.args.arena.now) (g.A.BuilderArena.view c.copy_flat.new.arena) (Flat (size_number c.in-Flat.size) (unpacked (size_number c.in-Flat.size) c.in-Flat.count (words_of c.part-elements.result.now))) =
     record { copied = c.copy_flat.ensures.copied; granted = c.copy_flat.ensures.granted; refused = c.copy_flat.ensures.refused; kept = c.copy_flat.ensures.kept; memory = c.copy_flat.ensures.memory; stands = c.copy_flat.ensures.stands; fits = λ room. c.copy_flat.ensures.fits (omega (arith, room, flat_words (size_number c.in-Flat.size) c.in-Flat.count (words_of c.part-elements.result.now))) } in
     flat_stops (form_in c.args.form) c.copy_flat.result c.in-Flat.start c.in-Flat.size object c.flat_words-words.ensures c.part-elements.ensures.words (c.requires.place, c.requires.null) outcome
 
 pub copy_object-returns-in-Flat-clause-taken : goal.copy_object-returns-in-Flat-clause-taken
 copy_object-returns-in-Flat-clause-taken g t c =
-    let object = rw c.in-Flat.is at c.in-Ok.ensures.object in
+    let nl = to_z-of_z w32 c.args.from.nesting_limit (search rules) in
+    let object = rw (c.in-Flat.is, nl) at c.in-Ok.ensures.object in
     taken_so c.copy_flat.result _ _ _ _ (λ made. flat_takes c.in-Flat.size c.in-Flat.start object made) (λ none. flat_stop_takes c.in-Flat.size c.in-Flat.start object none) c.copy_flat.ensures.taken
 
 pub copy_object-returns-in-Pointers-clause-copied : goal.copy_object-returns-in-Pointers-clause-copied
 copy_object-returns-in-Pointers-clause-copied g t c =
-    let object = rw c.in-Pointers.is at c.in-Ok.ensures.object in
+    let nl = to_z-of_z w32 c.args.from.nesting_limit (search rules) in
+    let object = rw (c.in-Pointers.is, nl) at c.in-Ok.ensures.object in
     let less = one_level_in c.args.from.nesting_limit (search rules) in
     ok_so c.copy_pointers.result _ _ c.copy_pointers.ensures.copied (λ x made. pointers_value c.in-Pointers.start less object made)
 
 pub copy_object-returns-in-Pointers-clause-refused : goal.copy_object-returns-in-Pointers-clause-refused
 copy_object-returns-in-Pointers-clause-refused g t c =
-    let object = rw c.in-Pointers.is at c.in-Ok.ensures.object in
+    let nl = to_z-of_z w32 c.args.from.nesting_limit (search rules) in
+    let object = rw (c.in-Pointers.is, nl) at c.in-Ok.ensures.object in
     let less = one_level_in c.args.from.nesting_limit (search rules) in
     err_so c.copy_pointers.result _ _ c.copy_pointers.ensures.refused (λ k stop. pointers_value_stops c.in-Pointers.start less object (rw c.in-Pointers.is at c.in-Ok.ensures.few) stop)
 
 pub copy_object-returns-in-Pointers-clause-taken : goal.copy_object-returns-in-Pointers-clause-taken
 copy_object-returns-in-Pointers-clause-taken g t c =
+    let nl = to_z-of_z w32 c.args.from.nesting_limit (search rules) in
     let less = one_level_in c.args.from.nesting_limit (search rules) in
-    let object = rw c.in-Pointers.is at c.in-Ok.ensures.object in
+    let object = rw (c.in-Pointers.is, nl) at c.in-Ok.ensures.object in
     taken_so c.copy_pointers.result _ _ _ _ (λ x. pointers_take c.in-Pointers.start less object x) (λ x. pointers_stop_take c.in-Pointers.start less object x) c.copy_pointers.ensures.taken
 
 pub copy_object-returns-in-Structs-clause-copied : goal.copy_object-returns-in-Structs-clause-copied
 copy_object-returns-in-Structs-clause-copied g t c =
-    let object = rw c.in-Structs.is at c.in-Ok.ensures.object in
+    let nl = to_z-of_z w32 c.args.from.nesting_limit (search rules) in
+    let object = rw (c.in-Structs.is, nl) at c.in-Ok.ensures.object in
     let less = one_level_in c.args.from.nesting_limit (search rules) in
     ok_so c.copy_structs.result _ _ c.copy_structs.ensures.copied (λ x made. structs_value c.in-Structs.start less object made)
 
 pub copy_object-returns-in-Structs-clause-refused : goal.copy_object-returns-in-Structs-clause-refused
 copy_object-returns-in-Structs-clause-refused g t c =
-    let object = rw c.in-Structs.is at c.in-Ok.ensures.object in
+    let nl = to_z-of_z w32 c.args.from.nesting_limit (search rules) in
+    let object = rw (c.in-Structs.is, nl) at c.in-Ok.ensures.object in
     let less = one_level_in c.args.from.nesting_limit (search rules) in
     err_so c.copy_structs.result _ _ c.copy_structs.ensures.refused (λ k stop. structs_value_stops c.in-Structs.start less object (rw c.in-Structs.is at c.in-Ok.ensures.few) stop)
 
@@ -284,8 +297,9 @@ copy_object-returns-in-Structs-clause-refused g t c =
 
 pub copy_object-returns-in-Structs-clause-taken : goal.copy_object-returns-in-Structs-clause-taken
 copy_object-returns-in-Structs-clause-taken g t c =
+    let nl = to_z-of_z w32 c.args.from.nesting_limit (search rules) in
     let less = one_level_in c.args.from.nesting_limit (search rules) in
-    let object = rw c.in-Structs.is at c.in-Ok.ensures.object in
+    let object = rw (c.in-Structs.is, nl) at c.in-Ok.ensures.object in
     taken_so c.copy_structs.result _ _ _ _ (λ x. structs_take c.in-Structs.start less object x) (λ x. structs_stop_take c.in-Structs.start less object x) c.copy_structs.ensures.taken
 
 pub elements::copy_element-returns-clause-copied : goal.elements::copy_element-returns-clause-copied
