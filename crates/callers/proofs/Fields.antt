@@ -1,5 +1,5 @@
 -- Values put at the root of a forest, and at a pointer of the root's struct.
-use Rattle.std.proofs.Common.{◌≡◌, ℕ, zero, suc, ◌+◌, ◌<◌, [], ◌∷◌, length, refl, sym, arith}
+use Rattle.std.proofs.Common.{◌≡◌, ℕ, zero, suc, ◌+◌, ◌<◌, [], ◌∷◌, length, refl, sym, ap, arith}
 use Rattle.std.proofs.lemmas.List.{length-replicate}
 use Rattle.capnp_format.specs.Segments.{Segments}
 use Rattle.capnp_format.specs.Tree.{Tree, Null, Struct}
@@ -7,11 +7,13 @@ use Rattle.capnp_format.specs.Forest.{IsForest, target}
 use Rattle.capnp_words.specs.declared.wire_pointer.StructSize.{StructSize}
 use Rattle.capnp_readers.specs.declared.readers.struct_reader.StructPlace.{StructPlace}
 use Rattle.capnp_making.specs.Made.{words_of_zero, nulls, zero_struct}
+use Rattle.capnp_making.specs.Memory.{start_of}
 use Rattle.capnp_making.specs.Path.{Child, PathLeads, put_tree, tree_at}
 use Rattle.capnp_making.specs.Stored.{Puts}
 use Rattle.capnp_making.proofs.Placed.{count-nulls}
 use Rattle.capnp_making.proofs.Replaced.{forest_stored, forest_updated, stored_within}
-use Rattle.capnp_builders.specs.Places.{IsStructOf}
+use Rattle.capnp_widening.specs.Opening.{existing_struct}
+use Rattle.capnp_builders.specs.Places.{struct_place}
 
 pub root_put : (S R : Segments) (t y : Tree) → IsForest S t → Puts S R 0 0 y → IsForest R y
 root_put S R t y forest puts = forest_updated S R t [] 0 0 t y forest (refl, refl, refl) (puts t (forest_stored S t forest))
@@ -20,10 +22,11 @@ null_first : (q : ℕ) → tree_at (nulls q) 0 ≡ Null
 null_first zero = refl
 null_first (suc q) = refl
 
-pub field_put : (S M R : Segments) (t y : Tree) (size : StructSize) (place : StructPlace) → IsForest S t → Puts S M 0 0 (zero_struct size) → IsStructOf M 0 0 size place → 0 < size.pointers → Puts M R place.segment (place.pointers_at) y →
+pub field_put : (S M R : Segments) (t y : Tree) (size : StructSize) (place : StructPlace) → IsForest S t → Puts S M 0 0 (zero_struct size) → place ≡ struct_place (existing_struct (start_of (target M 0 0)) size) → 0 < size.pointers → Puts M R place.segment (place.pointers_at) y →
     IsForest R (Struct (words_of_zero size.data_words) (put_tree (nulls size.pointers) 0 y))
 field_put S M R t y size place forest first leads some puts =
-    let (is_segment, is_byte, is_bits, is_pointers, is_count) = leads.starts in
+    let is_segment = ap (λ (p : StructPlace). p.segment) leads in
+    let is_pointers = ap (λ (p : StructPlace). p.pointers_at) leads in
     let made = root_put S M t (zero_struct size) forest first in
     let long : length (words_of_zero size.data_words) ≡ size.data_words = length-replicate {A = ℕ} size.data_words 0 in
     let at : (target M 0 0).start + length (words_of_zero size.data_words) + 0 ≡ place.pointers_at = omega (arith, is_pointers, long) in

@@ -4,10 +4,10 @@ use Rattle.capnp_words.specs.declared.error.ErrorKind.{ErrorKind}
 use Rattle.capnp_format.specs.Bytes.{message}
 use Rattle.capnp_format.specs.Segments.{Segments}
 use Rattle.capnp_edits.specs.declared.edit.Edit.{Edit}
-use Rattle.capnp_edits.specs.Edits.{AreApplied}
+use Rattle.capnp_edits.specs.Edits.{IsApplied, TakesAll}
 use Rattle.callers.specs.Meaning.{MeansTheSame, AreReadBack}
 
-pub read_after : {A E : Type 0} (result : Result A E) (S M : Segments) (segments : A → List (List ℕ)) (edits : List Edit) (outcomes : List (Option ErrorKind)) → AreApplied S M edits outcomes → IfOk result (λ r. MeansTheSame M (message (segments r))) →
+pub read_after : {A E : Type 0} (result : Result A E) (S M : Segments) (segments : A → List (List ℕ)) (edits : List Edit) (outcomes : List (Option ErrorKind)) → IsApplied (TakesAll edits outcomes) S M → IfOk result (λ r. MeansTheSame M (message (segments r))) →
     IfOk result (λ r. AreReadBack S (segments r) edits outcomes)
 read_after (Ok r) S M segments edits outcomes applied same = λ t forest.
     (let (u, after, takes) = applied t forest in

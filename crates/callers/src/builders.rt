@@ -1,6 +1,7 @@
 //! Callers of builders that know their contracts alone, generic over the arena: they show that a
 //! message's value can be followed from call to call, whether a call is granted or refused.
 ghost use Rattle.std.specs.Prelude.{◌≡◌, ◌<◌, length, IfOk, OnOk, OnErr};
+ghost use Rattle.capnp_making.specs.Makes.{call_at};
 ghost use Rattle.capnp_builders.specs.Places.{IsStructOf};
 ghost use Rattle.capnp_making.specs.Stored.{Puts};
 ghost use Rattle.capnp_readers.specs.Readers.{IsStructPlace};
@@ -62,7 +63,8 @@ fn root_struct<A: BuilderArena>(arena: &mut A, size: StructSize) -> Result<Struc
     requires { IsPlace (A.view arena.old).words 0 0 }
     ensures made { OnOk result (Puts (A.view arena.old).words (A.view arena.new).words 0 0
         (zero_struct size)) }
-    ensures leads { IfOk result (IsStructOf (A.view arena.new).words 0 0 size) }
+    ensures leads { IfOk result
+        (IsStructOf (call_at 0 0 (A.view arena.old) (A.view arena.new)) size) }
     ensures refused { OnErr result
         (Puts (A.view arena.old).words (A.view arena.new).words 0 0 Null) }
 {

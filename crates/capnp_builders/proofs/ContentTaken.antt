@@ -25,7 +25,9 @@ use Rattle.capnp_making.proofs.Replaced.{replaced_again}
 use Rattle.capnp_readers.specs.declared.readers.struct_reader.StructPlace.{StructPlace}
 use Rattle.capnp_builders.specs.Content.{content_byte, with_fields, with_content, AreCleared}
 use Rattle.capnp_builders.specs.Laws.{HoldContent, up_to, TakesBytes, ContentTaken, ContentStopped}
-use Rattle.capnp_builders.specs.Places.{StructStartsAt}
+use Rattle.capnp_widening.specs.Opening.{existing_struct}
+use Rattle.capnp_builders.proofs.StructPlaces.{StructStartsAt, struct_starts}
+use Rattle.capnp_making.specs.Memory.{start_of}
 
 -- From S to R a place that leads to a gets another struct, and leads to a still.
 abbrev pub Turns : Segments → Segments → ℕ → ℕ → Target → Tree → Tree → Type 0
@@ -210,15 +212,15 @@ struct_content s p d q a = record {
 }
 
 pub content_taken : ContentTaken
-content_taken S M R s p ws ts us place bits bytes y starts takes fills few =
+content_taken S M R s p ws ts us place bits bytes y is takes fills few =
     let a : Target = target S s p in
     let (vs, hold, turns) =
-    filled Struct (λ i. Child i ∷ []) S M R s p (length ws) (count ts) a a.start (length ws + count ts) ws ts us place bits bytes (struct_content s p (length ws) (count ts) a) (record { stored = y; leads = (leads_of S s p ws ts y).0 }) refl refl starts takes fills few in
+    filled Struct (λ i. Child i ∷ []) S M R s p (length ws) (count ts) a a.start (length ws + count ts) ws ts us place bits bytes (struct_content s p (length ws) (count ts) a) (record { stored = y; leads = (leads_of S s p ws ts y).0 }) refl refl (struct_starts place (existing_struct (start_of a) (record { data_words = length ws; pointers = count ts })) is) takes fills few in
     (vs, hold, turns.0, ap target_in turns.1.1)
 
 pub content_stopped : ContentStopped
-content_stopped S M K R s p ws ts us place bits bytes y starts takes fills fewer null =
+content_stopped S M K R s p ws ts us place bits bytes y is takes fills fewer null =
     let a : Target = target S s p in
     let (vs, hold, turns) =
-    stopped Struct (λ i. Child i ∷ []) S M K R s p (length ws) (count ts) a a.start (length ws + count ts) ws ts us place bits bytes (struct_content s p (length ws) (count ts) a) (record { stored = y; leads = (leads_of S s p ws ts y).0 }) refl refl starts takes fills fewer null in
+    stopped Struct (λ i. Child i ∷ []) S M K R s p (length ws) (count ts) a a.start (length ws + count ts) ws ts us place bits bytes (struct_content s p (length ws) (count ts) a) (record { stored = y; leads = (leads_of S s p ws ts y).0 }) refl refl (struct_starts place (existing_struct (start_of a) (record { data_words = length ws; pointers = count ts })) is) takes fills fewer null in
     (vs, hold, turns.0, ap target_in turns.1.1)

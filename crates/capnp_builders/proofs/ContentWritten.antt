@@ -11,9 +11,8 @@ use Rattle.capnp_making.proofs.FillingChains.{filled_grows}
 use Rattle.capnp_making.proofs.Zeros.{lengths_kept}
 use Rattle.capnp_objects.specs.Reading.{Reading}
 use Rattle.capnp_readers.specs.Readers.{IsStructPlace}
-use Rattle.capnp_copies.specs.Changes.{Change, CopiesChildren}
+use Rattle.capnp_copies.specs.Changes.{Change, CopiesChildren, CopiesFirst}
 use Rattle.capnp_copies.specs.Forms.{kept_each}
-use Rattle.capnp_copies.specs.StructValues.{CopiesFirst}
 use Rattle.capnp_readers.specs.declared.readers.struct_reader.StructPlace.{StructPlace}
 use Rattle.capnp_builders.specs.Content.{content_byte, with_fields, with_content}
 

@@ -17,7 +17,7 @@ use Rattle.capnp_making.proofs.Replaced.{replaced_again}
 use Rattle.capnp_objects.specs.Reading.{Reading}
 use Rattle.capnp_objects.specs.Wanted.{Form}
 use Rattle.capnp_copies.specs.Changes.{Change, MakesCopy, StopsCopy}
-use Rattle.capnp_copies.specs.Copies.{CanBeCopied}
+use Rattle.capnp_copies.specs.Rooms.{CanBeCopied}
 use Rattle.capnp_copies.specs.Forms.{kept}
 use Rattle.capnp_copies.specs.Originals.{Original, value_original}
 use Rattle.capnp_builders.specs.Kept.{PutsCopy, LeavesCleared, FillsSegment, FillsMessage}
@@ -67,7 +67,7 @@ pub nothing_zeroed : (S : Segments) → IsPruned S S
 nothing_zeroed S = record { segments = refl; words = λ v. refl; only = λ v r. inl refl }
 
 -- the segment of the place gets no shorter, whether the copy is made or refused
-pub grows_there : {X : Type 0} (result : Result X ErrorKind) (o : Original) (c : Change) → IfOk result (λ _. MakesCopy o c) → IfErr result (StopsCopy o c Null) → length (segment c.old.words c.segment) ≤ length (segment c.new.words c.segment)
+pub grows_there : {X : Type 0} (result : Result X ErrorKind) (o : Original Tree) (c : Change) → IfOk result (λ _. MakesCopy o c) → IfErr result (StopsCopy o c Null) → length (segment c.old.words c.segment) ≤ length (segment c.new.words c.segment)
 grows_there (Ok x) o c copied refused = copied.made.words c.segment
 grows_there (Err k) o c copied refused = refused.left.words c.segment
 
@@ -82,12 +82,12 @@ exceeds_before n a b s limits pruned beyond = omega (arith, beyond, ap (λ (v : 
 pub room_later : (n : ℕ) (a b : View) (s : ℕ) → KeepsLimits a b → IsPruned a.words b.words → HasOwnRoom a s n → HasOwnRoom b s n
 room_later n a b s limits pruned room = omega (arith, room, ap (λ (v : View). v.room s) limits, pruned.words s)
 
-pub can_later : (o : Original) (form : Form) (m : Meter) (a b : View) (s : ℕ) → KeepsLimits a b → IsPruned a.words b.words → CanBeCopied o form m a s → CanBeCopied o form m b s
+pub can_later : {V : Type 0} (o : Original V) (form : Form) (m : Meter) (a b : View) (s : ℕ) → KeepsLimits a b → IsPruned a.words b.words → CanBeCopied o form m a s → CanBeCopied o form m b s
 can_later o form m a b s limits pruned can = record { small = can.small; value = can.value; after = can.after; is_read = can.is_read; room = room_later _ a b s limits pruned can.room }
 
 -- a copy to a place that was cleared first, or is null
 
-pub put_copied : {o : Original} (c : Change) (mid : View) → KeepsLimits c.old mid → IsPruned c.old.words mid.words → Puts c.old.words mid.words c.segment c.at Null → MakesCopy o (record c { old = mid }) → PutsCopy o c
+pub put_copied : {o : Original Tree} (c : Change) (mid : View) → KeepsLimits c.old mid → IsPruned c.old.words mid.words → Puts c.old.words mid.words c.segment c.at Null → MakesCopy o (record c { old = mid }) → PutsCopy o c
 put_copied c mid limits only null made = record {
   value = made.value;
   is_read = made.is_read;
@@ -96,7 +96,7 @@ put_copied c mid limits only null made = record {
   stands = record { cleared = mid; zeroed = only; limits = limits; null = null; stands = made.stands };
 }
 
-pub put_stopped : {o : Original} {k : ErrorKind} (c : Change) (mid : View) → KeepsLimits c.old mid → IsPruned c.old.words mid.words → Puts c.old.words mid.words c.segment c.at Null → StopsCopy o (record c { old = mid }) Null k → LeavesCleared o c k
+pub put_stopped : {o : Original Tree} {k : ErrorKind} (c : Change) (mid : View) → KeepsLimits c.old mid → IsPruned c.old.words mid.words → Puts c.old.words mid.words c.segment c.at Null → StopsCopy o (record c { old = mid }) Null k → LeavesCleared o c k
 put_stopped {k = k} c mid limits only null stop = record {
   why = elim stop.why [
     | inl x ↦ inl (x.0, words_refused_later c.old mid c.new x.0 k limits x.1, x.2, λ any m m' t read. exceeds_before _ c.old mid c.segment limits only (x.3 any m m' t read))

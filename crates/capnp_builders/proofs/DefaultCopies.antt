@@ -2,7 +2,7 @@
 use Rattle.std.proofs.Common.{◌≡◌, inl, inr, ℕ, List, Result, Ok, Err, IfOk, IfErr, OnOk}
 use Rattle.capnp_words.specs.declared.error.ErrorKind.{ErrorKind}
 use Rattle.capnp_words.specs.Meter.{Meter}
-use Rattle.capnp_format.specs.Tree.{Null}
+use Rattle.capnp_format.specs.Tree.{Tree, Null}
 use Rattle.capnp_arena.specs.View.{View}
 use Rattle.capnp_objects.specs.Wanted.{of_default}
 use Rattle.capnp_objects.proofs.Refusals.{breaks_off_spends, unreadable}
@@ -10,21 +10,36 @@ use Rattle.capnp_objects.proofs.Truths.{unlimited_refusal}
 use Rattle.capnp_copies.specs.Changes.{change, MakesCopy, StopsCopy}
 use Rattle.capnp_copies.specs.Growth.{TakesAtMost}
 use Rattle.capnp_copies.specs.Originals.{value_original}
-use Rattle.capnp_builders.specs.Defaults.{default_root, default_copy, StandsForNull, RefusesDefault}
+use Rattle.capnp_making.specs.Makes.{call_at}
+use Rattle.capnp_builders.specs.Defaults.{default_root, default_copy, DropsDefault, PutsDefault, RefusesDefault}
 
 -- reading a default spends nothing, whether it ends or breaks off
 pub nothing_spent : {X E : Type 0} (o : Result X E) (bytes : List ℕ) (id at : ℕ) (old new : View) (m m' : Meter) → TakesAtMost o (value_original (default_root bytes)) (change of_default id at old new m m') → m' ≡ m
 nothing_spent (Ok x) bytes id at old new m m' taken = taken.1.spent
 nothing_spent (Err k) bytes id at old new m m' taken = let (g, r, covers, spent, few) = breaks_off_spends taken.0 in spent
 
-pub stands_for_null : {X E : Type 0} (o : Result X E) (bytes : List ℕ) (id at : ℕ) (old new : View) (m m' : Meter) → IfOk o (λ _. MakesCopy (value_original (default_root bytes)) (change of_default id at old new m m')) → OnOk o (StandsForNull bytes old new id at)
-stands_for_null (Ok x) bytes id at old new m m' made =
-    record { value = made.value; meant = (made.is_read.cost, made.is_read.means); plain = made.is_read.takes tt; replaced = made.made; stands = made.stands }
-stands_for_null (Err k) bytes id at old new m m' made = tt
+pub puts_default : {X E : Type 0} (o : Result X E) (bytes : List ℕ) (id at : ℕ) (old new : View) → IfOk o (λ _. MakesCopy (value_original (default_root bytes)) (default_copy id at old new)) →
+    TakesAtMost o (value_original (default_root bytes)) (default_copy id at old new) → OnOk o ((value : Tree) × PutsDefault bytes (call_at id at old new) value)
+puts_default (Ok x) bytes id at old new made taken = (
+  made.value,
+  record {
+    meant = (made.is_read.cost, made.is_read.means);
+    plain = made.is_read.takes tt;
+    replaced = made.made;
+    stands = made.stands;
+    memory = made.memory;
+    taken = taken;
+  },
+)
+puts_default (Err k) bytes id at old new made taken = tt
 
-pub refuses_default : {X : Type 0} (o : Result X ErrorKind) (bytes : List ℕ) (id at : ℕ) (old new : View) → IfErr o (StopsCopy (value_original (default_root bytes)) (default_copy id at old new) Null) → IfErr o (RefusesDefault bytes (default_copy id at old new))
-refuses_default (Ok x) bytes id at old new stop = tt
-refuses_default (Err k) bytes id at old new stop = elim stop.why [
+refuses_default : (bytes : List ℕ) (id at : ℕ) (old new : View) (k : ErrorKind) → StopsCopy (value_original (default_root bytes)) (default_copy id at old new) Null k → RefusesDefault bytes (default_copy id at old new) k
+refuses_default bytes id at old new k stop = elim stop.why [
   | inl x ↦ inr (x.0, x.1, elim x.2 [ inl none ↦ absurd none.1 | inr wanted ↦ wanted ], x.3)
   | inr y ↦ elim y [ inl read ↦ inl (unlimited_refusal (λ x. tt) (unreadable read)) | inr none ↦ absurd none ]
 ]
+
+pub drops_default : {X : Type 0} (o : Result X ErrorKind) (bytes : List ℕ) (id at : ℕ) (old new : View) → IfErr o (StopsCopy (value_original (default_root bytes)) (default_copy id at old new) Null) →
+    TakesAtMost o (value_original (default_root bytes)) (default_copy id at old new) → IfErr o (DropsDefault bytes (call_at id at old new))
+drops_default (Ok x) bytes id at old new stop taken = tt
+drops_default (Err k) bytes id at old new stop taken = record { named = refuses_default bytes id at old new k stop; replaced = stop.left; memory = stop.memory; taken = taken }

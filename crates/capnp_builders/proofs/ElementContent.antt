@@ -14,6 +14,7 @@ use Rattle.capnp_making.proofs.FillingElements.{put_struct-count, put_struct-her
 use Rattle.capnp_making.proofs.MadeWords.{IsPut, word_put}
 use Rattle.capnp_builders.specs.Laws.{up_to, ElementContentTaken, ElementContentStopped}
 use Rattle.capnp_builders.proofs.ContentTaken.{Turns, IsContent, filled, stopped}
+use Rattle.capnp_builders.proofs.StructPlaces.{struct_starts}
 
 put_struct-same : (X : Elements) (i : ℕ) (ws : List ℕ) (ts : Trees) → struct_at X i ≡ Struct ws ts → put_struct X i (Struct ws ts) ≡ X
 put_struct-same no_elements i ws ts e = refl
@@ -74,23 +75,23 @@ element_content s p d q a X i less = record {
 }
 
 pub element_content_taken : ElementContentTaken
-element_content_taken S M R s p d q es i ws ts us place bits bytes y less is starts takes fills few =
+element_content_taken S M R s p d q es i ws ts us place bits bytes y less is placed takes fills few =
     let a : Target = target S s p in
     let F : List ℕ → Trees → Tree = λ vs os. Structs d q (put_struct es i (Struct vs os)) in
     let own : put_struct es i (Struct ws ts) ≡ es = put_struct-same es i ws ts is in
     let long = element_long S s p d q es i ws ts y less is in
     let held : Holds (F ws) S s p a ts = record { stored = subst (λ X. IsStored S s p (Structs d q X)) (sym own) y; leads = list_leads S s p d q es y } in
     let (vs, hold, turns) =
-    filled F (λ j. Element i ∷ Child j ∷ []) S M R s p d q a (a.start + 1 + i * (d + q)) (1 + element_count es * (d + q)) ws ts us place bits bytes (element_content s p d q a es i less) held long.0 long.1 starts takes fills few in
+    filled F (λ j. Element i ∷ Child j ∷ []) S M R s p d q a (a.start + 1 + i * (d + q)) (1 + element_count es * (d + q)) ws ts us place bits bytes (element_content s p d q a es i less) held long.0 long.1 (struct_starts place (record { segment = a.segment; start = a.start + 1 + i * (d + q); size = record { data_words = d; pointers = q } }) placed) takes fills few in
     (vs, hold, subst (λ X. IsReplaced S R s p (Structs d q X) (F vs (up_to q us))) own turns.0)
 
 pub element_content_stopped : ElementContentStopped
-element_content_stopped S M K R s p d q es i ws ts us place bits bytes y less is starts takes fills fewer null =
+element_content_stopped S M K R s p d q es i ws ts us place bits bytes y less is placed takes fills fewer null =
     let a : Target = target S s p in
     let F : List ℕ → Trees → Tree = λ vs os. Structs d q (put_struct es i (Struct vs os)) in
     let own : put_struct es i (Struct ws ts) ≡ es = put_struct-same es i ws ts is in
     let long = element_long S s p d q es i ws ts y less is in
     let held : Holds (F ws) S s p a ts = record { stored = subst (λ X. IsStored S s p (Structs d q X)) (sym own) y; leads = list_leads S s p d q es y } in
     let (vs, hold, turns) =
-    stopped F (λ j. Element i ∷ Child j ∷ []) S M K R s p d q a (a.start + 1 + i * (d + q)) (1 + element_count es * (d + q)) ws ts us place bits bytes (element_content s p d q a es i less) held long.0 long.1 starts takes fills fewer null in
+    stopped F (λ j. Element i ∷ Child j ∷ []) S M K R s p d q a (a.start + 1 + i * (d + q)) (1 + element_count es * (d + q)) ws ts us place bits bytes (element_content s p d q a es i less) held long.0 long.1 (struct_starts place (record { segment = a.segment; start = a.start + 1 + i * (d + q); size = record { data_words = d; pointers = q } }) placed) takes fills fewer null in
     (vs, hold, subst (λ X. IsReplaced S R s p (Structs d q X) (F vs (up_to q us))) own turns.0)

@@ -1,5 +1,6 @@
 pub mod BytesAsFields
 pub mod ElementFields
+pub mod StructPlaces
 pub mod ElementPlaces
 pub mod FieldPlaces
 pub mod FoundBytes

@@ -20,7 +20,8 @@ use Rattle.capnp_widening.specs.Widened.{list_widened}
 use Rattle.capnp_widening.proofs.StructSteps.{the_struct, same_struct}
 use Rattle.capnp_builders.specs.Found.{list_given, void_list}
 use Rattle.capnp_builders.specs.Opening.{IsStructGiven, IsListGiven, OpensList}
-use Rattle.capnp_builders.specs.Places.{StructStartsAt}
+use Rattle.capnp_builders.specs.Places.{struct_place}
+use Rattle.capnp_builders.proofs.StructPlaces.{struct_starts}
 use Rattle.capnp_builders.proofs.FoundLists.{given_inside}
 
 -- another form of what is given, and of a refusal
@@ -53,21 +54,16 @@ struct_exists S s p ws ts there stored = at_level stored.means.0 stored.means.1 
 pub record PlaceOf (S : Segments) (s : ℕ) (e : ExistingStruct) (place : StructPlace) : Type 0 where
   pub there : s < length S
   pub small : length (segment S e.segment) < 2 ^ 32
-  pub starts : e.start + e.size.data_words < 2 ^ 32 → StructStartsAt place e.segment e.start e.size.data_words e.size.pointers
+  pub placed : e.start + e.size.data_words < 2 ^ 32 → place ≡ struct_place e
 
 one_given : (S : Segments) (s p : ℕ) (ws : List ℕ) (ts : Trees) (e : ExistingStruct) (place : StructPlace) → PlaceOf S s e place → IsStored S s p (Struct ws ts) → the_struct S s p ws ts ≡ e →
     e.start + e.size.data_words + e.size.pointers ≤ length (segment S e.segment) → IsStructGiven S s p (Struct ws ts) place
 one_given S s p ws ts e place k stored is inside =
-    let starts = k.starts (omega (arith, inside, k.small)) in
-    let at = ap (λ (x : ExistingStruct). x.start) is in
-    let d = ap (λ (x : ExistingStruct). x.size.data_words) is in
-    let q = ap (λ (x : ExistingStruct). x.size.pointers) is in
+    let placed : place ≡ struct_place e = k.placed (omega (arith, inside, k.small)) in
+    let starts = struct_starts place e placed in
     let seg : place.segment ≡ (target S s p).segment = starts.0 ∙ sym (ap (λ (x : ExistingStruct). x.segment) is) in
     let long : length (segment S place.segment) ≡ length (segment S e.segment) = ap (λ v. length (segment S v)) starts.0 in
-    record {
-      starts = (seg, omega (arith, starts.1, at), omega (arith, starts.2, d), omega (arith, starts.3, at, d), omega (arith, starts.4, q));
-      inside = (omega (arith, seg, struct_exists S s p ws ts k.there stored), omega (arith, starts.1, starts.2, inside, long), omega (arith, starts.3, starts.4, inside, long));
-    }
+    (placed ∙ sym (ap struct_place is), (omega (arith, seg, struct_exists S s p ws ts k.there stored), omega (arith, starts.1, starts.2, inside, long), omega (arith, starts.3, starts.4, inside, long)))
 
 no_struct : (e : ExistingStruct) → None ≡ Some e → ⊥
 no_struct e x = cc

@@ -12,9 +12,10 @@ use Rattle.capnp_readers.specs.declared.readers.struct_reader.StructReader.{Stru
 use Rattle.capnp_words.specs.declared.error.ErrorKind.{ErrorKind}
 use Rattle.capnp_objects.specs.Wanted.{plain}
 use Rattle.capnp_readers.specs.Sizes.{pointers_read}
-use Rattle.capnp_copies.specs.Changes.{Change, CopiesChildren, change}
-use Rattle.capnp_copies.specs.Growth.{TakesForPointers}
-use Rattle.capnp_copies.specs.StructValues.{CopiesFirst, PointersFit}
+use Rattle.capnp_copies.specs.Changes.{Change, CopiesChildren, change, CopiesFirst}
+use Rattle.capnp_copies.specs.Rooms.{CanBeCopied}
+use Rattle.capnp_copies.specs.Growth.{TakesAtMost}
+use Rattle.capnp_copies.specs.Originals.{children_original}
 
 -- Byte number i of content of so many bits: the bits behind these are zero.
 abbrev pub content_byte : ℕ → List ℕ → ℕ → ℕ
@@ -63,8 +64,8 @@ module _ {A : Type 0} (g : Ghosts A) where
 
   -- The pointers that both have can be read, and the words of what they mean fit behind those of the struct's segment.
   abbrev pub ContentFits : StructReader A g → StructPlace → Change → Type 0
-  ContentFits value place c = PointersFit (pointers_read g value) (both_have value place) c
+  ContentFits value place c = CanBeCopied (children_original (pointers_read g value) (both_have value place)) c.form c.before c.old c.segment
 
   -- Words are taken for the copies of these pointers alone.
   abbrev pub TakesForContent : {B E : Type 0} → Result B E → StructReader A g → StructPlace → Change → Type 0
-  TakesForContent result value place c = TakesForPointers result (pointers_read g value) (both_have value place) c
+  TakesForContent result value place c = TakesAtMost result (children_original (pointers_read g value) (both_have value place)) c

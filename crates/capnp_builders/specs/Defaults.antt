@@ -16,10 +16,9 @@ use Rattle.capnp_objects.specs.Refusals.{StopsWithin}
 use Rattle.capnp_objects.specs.Source.{default_segment, default_segments}
 use Rattle.capnp_objects.specs.Wanted.{of_default}
 use Rattle.capnp_copies.specs.Changes.{Change, IsCopiedInRoom, LacksRoom, WantsWords, change}
-use Rattle.capnp_copies.specs.Copies.{CanBeCopied}
-use Rattle.capnp_copies.specs.Growth.{TakesForCopy, TakesUntilStop}
+use Rattle.capnp_copies.specs.Growth.{MakesAtMost}
 use Rattle.capnp_copies.specs.Originals.{value_original}
-use Rattle.capnp_copies.specs.Rooms.{IsTooLarge}
+use Rattle.capnp_copies.specs.Rooms.{IsTooLarge, CanBeCopied}
 use Rattle.capnp_making.specs.Makes.{CallAt, call_at}
 
 -- The first word of a default, whose bytes are one segment. Nothing is charged there, and as many levels may be entered as a nesting limit can say.
@@ -29,15 +28,6 @@ default_root bytes = record { segments = default_segments bytes; charging = fals
 -- The copy of a default to position at of segment id.
 abbrev pub default_copy : ℕ → ℕ → View → View → Change
 default_copy id at old new = change of_default id at old new (unused None) (unused None)
-
--- A default means a value without capabilities, which stands at the place that was null, and its words in place behind those of the
--- segment, where they fit there.
-pub record StandsForNull (bytes : List ℕ) (old new : View) (id at : ℕ) : Type 0 where
-  pub value : Tree
-  pub meant : (n : ℕ) × MeansThere (default_root bytes) value n
-  pub plain : capabilities value ≡ 0
-  pub replaced : IsReplaced old.words new.words id at Null value
-  pub stands : IsCopiedInRoom old new id at value
 
 -- Why a default isn't copied, by the name k: what its first word leads to has this fault, of which a capability is one; or there is no room for an object
 -- of it.
@@ -84,14 +74,14 @@ pub record PutsDefault (bytes : List ℕ) (c : CallAt) (u : Tree) : Type 0 where
   pub replaced : IsReplaced c.old.words c.new.words c.segment c.at Null u
   pub stands : IsCopiedInRoom c.old c.new c.segment c.at u
   pub memory : KeepsMemory c.old c.new
-  pub taken : TakesForCopy (value_original (default_root bytes)) (default_copy c.segment c.at c.old c.new)
+  pub taken : (value_original (default_root bytes)).takes of_default (unused None) (unused None) (MakesAtMost c.segment c.old c.new)
 
 -- The copy of a default is refused by the name k: null stands, and new words are zero.
 pub record DropsDefault (bytes : List ℕ) (c : CallAt) (k : ErrorKind) : Type 0 where
   pub named : RefusesDefault bytes (default_copy c.segment c.at c.old c.new) k
   pub replaced : IsReplaced c.old.words c.new.words c.segment c.at Null Null
   pub memory : SpendsMemory c.old c.new k
-  pub taken : TakesUntilStop (value_original (default_root bytes)) (default_copy c.segment c.at c.old c.new)
+  pub taken : (value_original (default_root bytes)).takes_until of_default (unused None) (unused None) (MakesAtMost c.segment c.old c.new)
 
 -- A default's value is put in place of null, and from there on the call does what P says of a value that stands.
 pub record OnDefault (bytes : List ℕ) (c : CallAt) (P : CallAt → Tree → Type 0) : Type 0 where

@@ -1,5 +1,5 @@
 -- What a builder call gives that looks for a list, a text or data ("Lists").
-use Rattle.std.specs.Prelude.{◌≡◌, ℕ, ◌*◌, List, Option, Some, None, Result, Ok, Err}
+use Rattle.std.specs.Prelude.{◌≡◌, ℕ, List, Option, Some, None, Result, Ok, Err}
 use Rattle.std.specs.Borrow.{Bor}
 use Rattle.capnp_format.specs.Forest.{target}
 use Rattle.capnp_format.specs.Segments.{Target}
@@ -14,10 +14,7 @@ use Rattle.capnp_making.specs.declared.existing.ExistingList.{ExistingList}
 use Rattle.capnp_readers.specs.declared.readers.list_reader.ListPlace.{ListPlace}
 use Rattle.capnp_making.specs.Makes.{CallAt}
 use Rattle.capnp_builders.specs.Defaults.{object_default, blob_default, WithDefault}
-
--- The place of a list that is found.
-abbrev pub found_list_place : ExistingList → ListPlace
-found_list_place l = record { segment = l.segment; byte = 8 * l.start; size = l.size; struct_size = l.struct_size; count = l.count }
+use Rattle.capnp_builders.specs.Places.{list_place}
 
 -- A void list of none, in segment id.
 abbrev pub void_list : ℕ → ListPlace
@@ -29,7 +26,7 @@ no_bytes id = record { segment = id; start = 0; length = 0 }
 
 -- What a call gives at a pointer of segment id, by what is found: a list of none, or no bytes, where that is null.
 abbrev pub list_given : ℕ → Result (Option ExistingList) ErrorKind → Result ListPlace ErrorKind
-list_given id (Ok (Some l)) = Ok (found_list_place l)
+list_given id (Ok (Some l)) = Ok (list_place l)
 list_given id (Ok None) = Ok (void_list id)
 list_given id (Err k) = Err k
 

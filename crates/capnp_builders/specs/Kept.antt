@@ -11,7 +11,7 @@ use Rattle.capnp_making.specs.Stored.{Puts}
 use Rattle.capnp_making.specs.Zeroed.{IsPruned}
 use Rattle.capnp_objects.specs.Outcomes.{Reads}
 use Rattle.capnp_objects.specs.Reading.{Reading}
-use Rattle.capnp_copies.specs.Changes.{Change, Fits, IsCopiedInRoom, RefusesToCopy, change}
+use Rattle.capnp_copies.specs.Changes.{Change, StayInSegment, IsCopiedInRoom, RefusesToCopy, change}
 use Rattle.capnp_copies.specs.Forms.{form_of, kept}
 use Rattle.capnp_copies.specs.Originals.{Original}
 use Rattle.capnp_builders.specs.declared.builders.PointerBuilder.{PointerBuilder}
@@ -29,7 +29,7 @@ pub record OnceCleared (P : Change → Type 0) (c : Change) : Type 0 where
   pub stands : P (record c { old = cleared })
 
 -- What is copied is read, and whatever value the place had, what is kept of the value that was read stands in its stead.
-pub record PutsCopy (o : Original) (c : Change) : Type 0 where
+pub record PutsCopy (o : Original Tree) (c : Change) : Type 0 where
   pub value : Tree
   pub is_read : o.reads c.form c.before c.after value
   pub put : Puts c.old.words c.new.words c.segment c.at (kept c.form value)
@@ -37,7 +37,7 @@ pub record PutsCopy (o : Original) (c : Change) : Type 0 where
   pub stands : OnceCleared (λ d. IsCopiedInRoom d.old d.new d.segment d.at (kept d.form value)) c
 
 -- The copy is refused by the name k, and leaves null in the stead of whatever value the place had.
-pub record LeavesCleared (o : Original) (c : Change) (k : ErrorKind) : Type 0 where
+pub record LeavesCleared (o : Original Tree) (c : Change) (k : ErrorKind) : Type 0 where
   pub why : RefusesToCopy o c k
   pub cleared : Puts c.old.words c.new.words c.segment c.at Null
   pub memory : SpendsMemory c.old c.new k
@@ -46,7 +46,7 @@ pub record LeavesCleared (o : Original) (c : Change) (k : ErrorKind) : Type 0 wh
 abbrev pub FillsSegment : Reading → Change → Type 0
 FillsSegment r c =
     (t : Tree) × Reads c.form r c.before c.after t
-    × (Fits c (word_count (kept c.form t)) → segment c.new.words c.segment ≡ encoding (kept c.form t))
+    × (StayInSegment c.old c.new c.segment (word_count (kept c.form t)) → segment c.new.words c.segment ≡ encoding (kept c.form t))
 
 -- It is read, and its copy is all of the message, where that has one segment.
 abbrev pub FillsMessage : Reading → Change → Type 0

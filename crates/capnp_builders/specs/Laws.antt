@@ -6,11 +6,13 @@ use Rattle.capnp_format.specs.Tree.{Null, Struct, Structs, Trees, no_trees, tree
 use Rattle.capnp_making.specs.Fields.{field_in}
 use Rattle.capnp_making.specs.Filled.{AreFilled}
 use Rattle.capnp_making.specs.Made.{nulls}
+use Rattle.capnp_making.specs.Memory.{start_of}
 use Rattle.capnp_making.specs.Path.{struct_at, put_struct}
 use Rattle.capnp_making.specs.Stored.{IsStored, IsReplaced}
 use Rattle.capnp_readers.specs.declared.readers.struct_reader.StructPlace.{StructPlace}
 use Rattle.capnp_builders.specs.Content.{content_byte, with_content, AreCleared}
-use Rattle.capnp_builders.specs.Places.{StructStartsAt}
+use Rattle.capnp_widening.specs.Opening.{existing_struct}
+use Rattle.capnp_builders.specs.Places.{struct_place}
 
 -- d data words, of which each byte is that of content.
 abbrev pub HoldContent : List ℕ → ℕ → ℕ → List ℕ → Type 0
@@ -30,7 +32,7 @@ TakesBytes S M place bits bytes = AreCleared (with_content S place bits bytes) M
 abbrev pub ContentTaken : Type 0
 ContentTaken =
     (S M R : Segments) (s p : ℕ) (ws : List ℕ) (ts us : Trees) (place : StructPlace) (bits : ℕ) (bytes : List ℕ) → IsStored S s p (Struct ws ts)
-    → StructStartsAt place (target S s p).segment (target S s p).start (length ws) (count ts) → TakesBytes S M place bits bytes
+    → place ≡ struct_place (existing_struct (start_of (target S s p)) (record { data_words = length ws; pointers = count ts })) → TakesBytes S M place bits bytes
     → AreFilled M R place.segment place.pointers_at us → count us ≤ count ts
     → (vs : List ℕ) × HoldContent vs (length ws) bits bytes × IsReplaced S R s p (Struct ws ts) (Struct vs (up_to (count ts) us)) × (target R s p ≡ target S s p)
 
@@ -39,7 +41,7 @@ ContentTaken =
 abbrev pub ContentStopped : Type 0
 ContentStopped =
     (S M F R : Segments) (s p : ℕ) (ws : List ℕ) (ts us : Trees) (place : StructPlace) (bits : ℕ) (bytes : List ℕ) → IsStored S s p (Struct ws ts)
-    → StructStartsAt place (target S s p).segment (target S s p).start (length ws) (count ts) → TakesBytes S M place bits bytes
+    → place ≡ struct_place (existing_struct (start_of (target S s p)) (record { data_words = length ws; pointers = count ts })) → TakesBytes S M place bits bytes
     → AreFilled M F place.segment place.pointers_at us → count us < count ts → IsReplaced F R place.segment (place.pointers_at + count us) Null Null
     → (vs : List ℕ) × HoldContent vs (length ws) bits bytes × IsReplaced S R s p (Struct ws ts) (Struct vs (up_to (count ts) us)) × (target R s p ≡ target S s p)
 
@@ -48,13 +50,15 @@ ContentStopped =
 abbrev pub ElementContentTaken : Type 0
 ElementContentTaken =
     (S M R : Segments) (s p d q : ℕ) (es : Elements) (i : ℕ) (ws : List ℕ) (ts us : Trees) (place : StructPlace) (bits : ℕ) (bytes : List ℕ) → IsStored S s p (Structs d q es)
-    → i < element_count es → struct_at es i ≡ Struct ws ts → StructStartsAt place (target S s p).segment ((target S s p).start + 1 + i * (d + q)) d q → TakesBytes S M place bits bytes
+    → i < element_count es → struct_at es i ≡ Struct ws ts → place ≡ struct_place (record { segment = (target S s p).segment; start = (target S s p).start + 1 + i * (d + q); size = record { data_words = d; pointers = q } })
+    → TakesBytes S M place bits bytes
     → AreFilled M R place.segment place.pointers_at us → count us ≤ q
     → (vs : List ℕ) × HoldContent vs d bits bytes × IsReplaced S R s p (Structs d q es) (Structs d q (put_struct es i (Struct vs (up_to q us))))
 
 abbrev pub ElementContentStopped : Type 0
 ElementContentStopped =
     (S M F R : Segments) (s p d q : ℕ) (es : Elements) (i : ℕ) (ws : List ℕ) (ts us : Trees) (place : StructPlace) (bits : ℕ) (bytes : List ℕ) → IsStored S s p (Structs d q es)
-    → i < element_count es → struct_at es i ≡ Struct ws ts → StructStartsAt place (target S s p).segment ((target S s p).start + 1 + i * (d + q)) d q → TakesBytes S M place bits bytes
+    → i < element_count es → struct_at es i ≡ Struct ws ts → place ≡ struct_place (record { segment = (target S s p).segment; start = (target S s p).start + 1 + i * (d + q); size = record { data_words = d; pointers = q } })
+    → TakesBytes S M place bits bytes
     → AreFilled M F place.segment place.pointers_at us → count us < q → IsReplaced F R place.segment (place.pointers_at + count us) Null Null
     → (vs : List ℕ) × HoldContent vs d bits bytes × IsReplaced S R s p (Structs d q es) (Structs d q (put_struct es i (Struct vs (up_to q us))))

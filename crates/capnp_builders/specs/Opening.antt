@@ -1,16 +1,16 @@
 -- Structs and lists of structs of a message that is built, opened for writing ("Structs", "Lists").
-use Rattle.std.specs.Prelude.{◌≡◌, ℕ, Option, Result, List, Ok, length}
+use Rattle.std.specs.Prelude.{◌≡◌, ℕ, Option, Result, List, Ok, IsSomeAnd}
 use Rattle.std.specs.Borrow.{Bor}
 use Rattle.capnp_words.specs.declared.error.ErrorKind.{ErrorKind}
 use Rattle.capnp_format.specs.Forest.{target}
 use Rattle.capnp_format.specs.Segments.{Segments}
-use Rattle.capnp_format.specs.Tree.{Tree, Null, Struct, count}
+use Rattle.capnp_format.specs.Tree.{Tree, Null}
 use Rattle.capnp_words.specs.declared.wire_pointer.ElementSize.TheVariants.{Void}
 use Rattle.capnp_words.specs.declared.wire_pointer.StructSize.{StructSize}
-use Rattle.capnp_making.specs.Existing.{list_in}
+use Rattle.capnp_making.specs.Existing.{list_in, struct_in}
 use Rattle.capnp_making.specs.Stored.{IsStored}
 use Rattle.capnp_arena.specs.View.{View}
-use Rattle.capnp_readers.specs.Readers.{IsListPlace}
+use Rattle.capnp_readers.specs.Readers.{IsListPlace, IsStructPlace}
 use Rattle.capnp_readers.specs.declared.readers.list_reader.ListPlace.{ListPlace}
 use Rattle.capnp_readers.specs.declared.readers.struct_reader.StructPlace.{StructPlace}
 use Rattle.capnp_making.specs.Makes.{CallAt}
@@ -19,12 +19,11 @@ use Rattle.capnp_widening.specs.Rooms.{WiderListFits, OpeningFits}
 use Rattle.capnp_widening.specs.Widened.{list_widened}
 use Rattle.capnp_builders.specs.Defaults.{object_default, FitsWithDefault, WithDefault}
 use Rattle.capnp_builders.specs.Found.{list_given, void_list}
-use Rattle.capnp_builders.specs.Places.{IsStructOf}
+use Rattle.capnp_builders.specs.Places.{struct_place}
 
 -- The pointer at a place leads to the struct u, which a call gives; or to the list u.
 abbrev pub IsStructGiven : Segments → ℕ → ℕ → Tree → StructPlace → Type 0
-IsStructGiven S s p (Struct ws ts) place = IsStructOf S s p (record { data_words = length ws; pointers = count ts }) place
-IsStructGiven S s p u place = ⊥
+IsStructGiven S s p u place = IsSomeAnd (struct_in (target S s p) u) (λ e. place ≡ struct_place e) × IsStructPlace S place
 
 abbrev pub IsListGiven : Segments → ℕ → ℕ → Tree → ListPlace → Type 0
 IsListGiven S s p u place = (list_given s (list_in (target S s p) Void u) ≡ Ok place) × IsListPlace S place

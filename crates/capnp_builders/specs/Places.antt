@@ -4,7 +4,12 @@ use Rattle.capnp_arena.specs.View.{View}
 use Rattle.capnp_making.specs.Fields.{with_field, field_in}
 use Rattle.capnp_format.specs.Numbers.{element_bits}
 use Rattle.capnp_format.specs.Forest.{target}
-use Rattle.capnp_format.specs.Segments.{Segments, segment}
+use Rattle.capnp_format.specs.Segments.{Target, segment}
+use Rattle.capnp_making.specs.Makes.{CallAt}
+use Rattle.capnp_making.specs.Memory.{start_of}
+use Rattle.capnp_making.specs.declared.existing.ExistingList.{ExistingList}
+use Rattle.capnp_making.specs.declared.existing.ExistingStruct.{ExistingStruct}
+use Rattle.capnp_widening.specs.Opening.{existing_struct}
 use Rattle.capnp_words.specs.Sizes.{size_number}
 use Rattle.capnp_words.specs.declared.wire_pointer.ElementSize.{ElementSize}
 use Rattle.capnp_words.specs.declared.wire_pointer.ElementSize.TheVariants.{Pointer, InlineComposite}
@@ -13,43 +18,40 @@ use Rattle.capnp_readers.specs.Readers.{IsStructPlace, IsListPlace}
 use Rattle.capnp_readers.specs.declared.readers.struct_reader.StructPlace.{StructPlace}
 use Rattle.capnp_readers.specs.declared.readers.list_reader.ListPlace.{ListPlace}
 
--- A struct of d data words and q pointers starts at position p of segment s.
-abbrev pub StructStartsAt : StructPlace → ℕ → ℕ → ℕ → ℕ → Type 0
-StructStartsAt place s p d q =
-    (place.segment ≡ s) × (place.byte ≡ 8 * p) × (place.bits ≡ 64 * d) × (place.pointers_at ≡ p + d) × (place.pointers ≡ q)
+-- Where a struct of a message is, as a builder has it.
+abbrev pub struct_place : ExistingStruct → StructPlace
+struct_place e = record {
+  segment = e.segment;
+  byte = 8 * e.start;
+  bits = 64 * e.size.data_words;
+  pointers_at = e.start + e.size.data_words;
+  pointers = e.size.pointers;
+}
 
--- The pointer at a place leads to a struct of this size, whose sections lie in the message.
-pub record IsStructOf (S : Segments) (s p : ℕ) (size : StructSize) (place : StructPlace) : Type 0 where
-  pub starts : StructStartsAt place (target S s p).segment (target S s p).start size.data_words size.pointers
-  pub inside : IsStructPlace S place
+-- Where a list of a message is, as a builder has it.
+abbrev pub list_place : ExistingList → ListPlace
+list_place l = record { segment = l.segment; byte = 8 * l.start; size = l.size; struct_size = l.struct_size; count = l.count }
 
--- The pointer at a place leads to a list of so many elements, which are no structs and lie in the message.
-pub record IsListOf (S : Segments) (s p : ℕ) (size : ElementSize) (n : ℕ) (place : ListPlace) : Type 0 where
-  pub segment_is : place.segment ≡ (target S s p).segment
-  pub starts : place.byte ≡ 8 * (target S s p).start
-  pub size_is : place.size ≡ size
-  pub counts : place.count ≡ n
-  pub inside : IsListPlace S place
+-- The pointer of a call leads to a struct of this size, whose sections lie in the message.
+pub record IsStructOf (c : CallAt) (size : StructSize) (place : StructPlace) : Type 0 where
+  pub is : place ≡ struct_place (existing_struct (start_of (target c.new.words c.segment c.at)) size)
+  pub inside : IsStructPlace c.new.words place
 
--- The pointer at a place leads to the tag of a list of so many structs of this size, which lie in the message.
-pub record IsStructListOf (S : Segments) (s p n : ℕ) (size : StructSize) (place : ListPlace) : Type 0 where
-  pub segment_is : place.segment ≡ (target S s p).segment
-  pub starts : place.byte ≡ 8 * ((target S s p).start + 1)
-  pub size_is : place.size ≡ InlineComposite
-  pub sections : place.struct_size ≡ size
-  pub counts : place.count ≡ n
-  pub inside : IsListPlace S place
+-- The pointer of a call leads to a list, which `list` says of where that leads, and whose elements lie in the message.
+pub record IsListOf (c : CallAt) (list : Target → ExistingList) (place : ListPlace) : Type 0 where
+  pub is : place ≡ list_place (list (target c.new.words c.segment c.at))
+  pub inside : IsListPlace c.new.words place
 
--- Element number i of a list of this element size, as a struct: its two sections, one pointer, or the bits of a number.
-abbrev pub IsElement : ElementSize → ListPlace → ℕ → StructPlace → Type 0
-IsElement InlineComposite list i place =
-    let d = list.struct_size.data_words in
-    let q = list.struct_size.pointers in
-    StructStartsAt place list.segment (list.byte / 8 + i * (d + q)) d q
-IsElement Pointer list i place = StructStartsAt place list.segment (list.byte / 8 + i) 0 1
-IsElement size list i place =
+-- Where element number i of a list of this element size is, as a struct: its two sections, one pointer, or the bits of a number.
+abbrev pub element_place : ElementSize → ListPlace → ℕ → StructPlace
+element_place InlineComposite list i =
+    let step = list.struct_size.data_words + list.struct_size.pointers in
+    struct_place (record { segment = list.segment; start = list.byte / 8 + i * step; size = list.struct_size })
+element_place Pointer list i =
+    struct_place (record { segment = list.segment; start = list.byte / 8 + i; size = record { data_words = 0; pointers = 1 } })
+element_place size list i =
     let bits = element_bits (size_number size) in
-    (place.segment ≡ list.segment) × (place.byte ≡ list.byte + i * (bits / 8)) × (place.bits ≡ bits) × (place.pointers_at ≡ list.byte / 8) × (place.pointers ≡ 0)
+    record { segment = list.segment; byte = list.byte + i * (bits / 8); bits = bits; pointers_at = list.byte / 8; pointers = 0 }
 
 -- A data section starts at a multiple of the widest numbers that it holds, which take 1, 2, 4 or 8 bytes.
 abbrev pub IsAligned : StructPlace → Type 0

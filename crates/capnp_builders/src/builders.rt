@@ -6,19 +6,19 @@ ghost use Rattle.capnp_format.specs.Tree.{Null, Capability, Flat, count};
 ghost use Rattle.capnp_format.specs.Word.{capability_word, struct_word};
 ghost use Rattle.capnp_format.specs.Numbers.{words_for};
 ghost use Rattle.capnp_format.specs.Value.{AreBelow};
-ghost use Rattle.capnp_making.specs.Existing.{AreInside, capability_of};
+ghost use Rattle.capnp_making.specs.Existing.{AreInside, capability_of, plain_list, struct_list};
 ghost use Rattle.capnp_making.specs.InPlace.{bytes_there, rewritten, AreZeroOnce, Overwrites};
 ghost use Rattle.capnp_words.specs.Sizes.{size_number};
 ghost use Rattle.capnp_making.specs.Made.{zero_struct, zero_structs, zero_list, list_words};
 ghost use Rattle.capnp_making.specs.Makes.{AsksForObject, MakesObject};
 ghost use Rattle.capnp_making.specs.Near.{LeadsToEnd};
 ghost use Rattle.capnp_making.specs.Zeroed.{IsPruned, IsPrunedBut};
-ghost use Rattle.capnp_builders.specs.Places.{IsAligned, IsStructOf, IsListOf, IsStructListOf};
+ghost use Rattle.capnp_builders.specs.Places.{IsAligned, IsStructOf, IsListOf};
 ghost use Rattle.capnp_words.specs.declared.error.ErrorKind.{ErrorKind};
 ghost use Rattle.capnp_builders.specs.Reads.{IsArenaOf};
 ghost use Rattle.capnp_objects.specs.Wanted.{canonical, plain};
 ghost use Rattle.capnp_copies.specs.Changes.{MakesCopy};
-ghost use Rattle.capnp_copies.specs.Copies.{CanBeCopied};
+ghost use Rattle.capnp_copies.specs.Rooms.{CanBeCopied};
 ghost use Rattle.capnp_copies.specs.Forms.{form_of};
 ghost use Rattle.capnp_copies.specs.Growth.{TakesAtMost};
 ghost use Rattle.capnp_copies.specs.ListValues.{list_read};
@@ -31,6 +31,7 @@ pub mod defaults;
 mod finding;
 mod found;
 mod list_builder;
+pub mod places;
 mod primitive_element;
 mod struct_builder;
 
@@ -171,8 +172,7 @@ impl<'a, A: BuilderArena> PointerBuilder<'a, A> {
         requires { IsThere (built A.view self.old) }
         ensures object { MakesObject result (calling A.view self.old self.new)
             (zero_struct size) (size.data_words + size.pointers) }
-        ensures leads { IfOk result (IsStructOf (A.view self.new.arena.now).words self.old.segment
-            self.old.at size) }
+        ensures leads { IfOk result (IsStructOf (calling A.view self.old self.new) size) }
         ensures empty { size.data_words + size.pointers ≡ 0
             → OnOk result
             (word_at (A.view self.new.arena.now).words self.new.segment self.new.at
@@ -218,7 +218,7 @@ impl<'a, A: BuilderArena> PointerBuilder<'a, A> {
             (λ new r. MakesObject r (calling_last A.view self.entry new)
             (zero_struct size) (size.data_words + size.pointers)) result }
         ensures leads { IfOk result (λ b.
-            IsStructOf (A.view b.arena.now).words self.entry.segment self.entry.at size b.place) }
+            IsStructOf (calling_last A.view self.entry (A.view b.arena.now)) size b.place) }
         ensures empty { size.data_words + size.pointers ≡ 0
             → IfOk result (λ b.
             word_at (A.view b.arena.now).words self.entry.segment self.entry.at
@@ -245,8 +245,8 @@ impl<'a, A: BuilderArena> PointerBuilder<'a, A> {
         requires plain { size_number size ≤ 6 }
         ensures object { MakesObject result (calling A.view self.old self.new)
             (zero_list (size_number size) count) (list_words (size_number size) count) }
-        ensures leads { IfOk result (IsListOf (A.view self.new.arena.now).words self.old.segment
-            self.old.at size count) }
+        ensures leads { IfOk result (IsListOf (calling A.view self.old self.new)
+            (λ a. plain_list a size count)) }
         ensures at_end { OnOk result (LeadsToEnd (calling A.view self.old self.new)
             (list_words (size_number size) count)) }
         ensures builder { KeepsBuilder self.old self.new }
@@ -295,8 +295,8 @@ impl<'a, A: BuilderArena> PointerBuilder<'a, A> {
             (λ new r. MakesObject r (calling_last A.view self.entry new)
             (zero_list (size_number size) count) (list_words (size_number size) count)) result }
         ensures leads { IfOk result (λ b.
-            IsListOf (A.view b.arena.now).words self.entry.segment self.entry.at size
-            count b.place) }
+            IsListOf (calling_last A.view self.entry (A.view b.arena.now))
+            (λ a. plain_list a size count) b.place) }
         ensures at_end { IfOk result (λ b.
             LeadsToEnd (calling_last A.view self.entry (A.view b.arena.now))
             (list_words (size_number size) count)) }
@@ -320,8 +320,8 @@ impl<'a, A: BuilderArena> PointerBuilder<'a, A> {
         requires words { count * (size.data_words + size.pointers) < 2 ^ 29 }
         ensures object { MakesObject result (calling A.view self.old self.new)
             (zero_structs count size) (1 + count * (size.data_words + size.pointers)) }
-        ensures leads { IfOk result (IsStructListOf (A.view self.new.arena.now).words
-            self.old.segment self.old.at count size) }
+        ensures leads { IfOk result (IsListOf (calling A.view self.old self.new)
+            (λ a. struct_list a size.data_words size.pointers count)) }
         ensures builder { KeepsBuilder self.old self.new }
     {
         match making::init_struct_list(&mut *self.arena, self.segment, self.at, count, size) {
@@ -352,8 +352,9 @@ impl<'a, A: BuilderArena> PointerBuilder<'a, A> {
         ensures object { LeavesMessage (λ b. A.view b.arena.now) (λ b. b.place)
             (λ new r. MakesObject r (calling_last A.view self.entry new)
             (zero_structs count size) (1 + count * (size.data_words + size.pointers))) result }
-        ensures leads { IfOk result (λ b. IsStructListOf
-            (A.view b.arena.now).words self.entry.segment self.entry.at count size b.place) }
+        ensures leads { IfOk result (λ b.
+            IsListOf (calling_last A.view self.entry (A.view b.arena.now))
+            (λ a. struct_list a size.data_words size.pointers count) b.place) }
         ensures asked { AsksForObject result (A.view self.entry.arena.now) self.entry.segment
             self.entry.at (1 + count * (size.data_words + size.pointers)) }
     {

@@ -10,7 +10,7 @@ use Rattle.capnp_arena.specs.Written.{with_segment}
 use Rattle.capnp_objects.specs.Reading.{Reading, behind}
 use Rattle.capnp_objects.specs.Wanted.{Form}
 use Rattle.capnp_copies.specs.Copied.{copied, with_children}
-use Rattle.capnp_copies.specs.Copies.{AreCopied}
+use Rattle.capnp_copies.proofs.InPlace.{AreCopied}
 use Rattle.capnp_copies.proofs.CopiesNear.{Call, call_of, CopiesValue, CopiesChildren}
 use Rattle.capnp_copies.specs.Forms.{kept, kept_each}
 use Rattle.capnp_copies.proofs.ChildrenCopied.{length_children, child_added}

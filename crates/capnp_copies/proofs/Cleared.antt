@@ -2,7 +2,7 @@
 use Rattle.capnp_words.specs.declared.error.ErrorKind.{ErrorKind}
 use Rattle.capnp_words.specs.Meter.{Meter}
 use Rattle.std.proofs.Common.{inl, inr, ℕ}
-use Rattle.capnp_format.specs.Tree.{Null}
+use Rattle.capnp_format.specs.Tree.{Tree, Null}
 use Rattle.capnp_arena.specs.View.{View, KeepsLimits}
 use Rattle.capnp_making.specs.Stored.{Puts}
 use Rattle.capnp_making.specs.Zeroed.{IsPruned}
@@ -12,7 +12,7 @@ use Rattle.capnp_objects.specs.Wanted.{Form}
 use Rattle.capnp_copies.specs.Changes.{change, StopsCopy, StopsHalfway}
 use Rattle.capnp_copies.specs.Originals.{Original}
 
-pub cleared : {o : Original} {b : Form} {s p : ℕ} {old mid new : View} {m m' : Meter} {k : ErrorKind} → StopsHalfway o (change b s p old mid m m') k → KeepsLimits mid new → IsPruned mid.words new.words → Puts mid.words new.words s p Null →
+pub cleared : {o : Original Tree} {b : Form} {s p : ℕ} {old mid new : View} {m m' : Meter} {k : ErrorKind} → StopsHalfway o (change b s p old mid m m') k → KeepsLimits mid new → IsPruned mid.words new.words → Puts mid.words new.words s p Null →
     StopsCopy o (change b s p old new m m') Null k
 cleared {s = s} {p} {old} {mid} {new} {k = k} (t, stop) limits only puts = record {
   why = elim stop.why [

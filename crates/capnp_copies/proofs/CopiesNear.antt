@@ -11,7 +11,7 @@ use Rattle.capnp_objects.specs.Wanted.{Form}
 use Rattle.capnp_format.specs.Canonical.{cut_to}
 use Rattle.capnp_copies.specs.Forms.{kept, kept_each, kept_elements}
 use Rattle.capnp_copies.specs.Copied.{with_children, rows_laid}
-use Rattle.capnp_copies.specs.Copies.{IsCopied, AreCopied}
+use Rattle.capnp_copies.proofs.InPlace.{IsCopied, AreCopied}
 use Rattle.capnp_copies.specs.declared.widths.ElementSizes.{ElementSizes}
 
 -- A copy into segment id: the message and the read limiter, before it and after it.

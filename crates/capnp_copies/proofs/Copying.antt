@@ -5,7 +5,7 @@ use Rattle.capnp_format.specs.Tree.{Tree}
 use Rattle.capnp_format.specs.Canonical.{encoding}
 use Rattle.capnp_arena.specs.Written.{with_segment}
 use Rattle.capnp_copies.specs.Copied.{copied}
-use Rattle.capnp_copies.specs.Copies.{IsCopied}
+use Rattle.capnp_copies.proofs.InPlace.{IsCopied}
 
 -- segments
 

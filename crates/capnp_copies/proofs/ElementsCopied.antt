@@ -8,7 +8,7 @@ use Rattle.capnp_format.specs.Canonical.{used_words, take_trees, cut_to, trim_ea
 use Rattle.capnp_words.specs.Meter.{Meter}
 use Rattle.capnp_arena.specs.Written.{overwritten}
 use Rattle.capnp_copies.specs.Copied.{with_children, rows_laid}
-use Rattle.capnp_copies.specs.Widths.{pointers_used}
+use Rattle.capnp_copies.proofs.Scanning.{pointers_used, next_used}
 use Rattle.capnp_copies.proofs.Shapes.{AreShapedElements, length-rows, length-element_bodies}
 use Rattle.capnp_copies.proofs.ElementsLaid.{Laid, rows_end}
 use Rattle.capnp_copies.proofs.UsedChildren.{take_trees-trim, fill_nulls, null_behind}
@@ -35,7 +35,7 @@ pointers_within ws p size (suc n) (suc j) l =
     let more = pointers_within ws (p + (d + q)) size n j (omega arith) in
     let same : used_words (take q (drop (p + suc j * (d + q) + d) ws)) ≡ used_words (take q (drop (p + (d + q) + j * (d + q) + d) ws)) =
     ap (λ i. used_words (take q (drop i ws))) (let e : p + suc j * (d + q) + d ≡ p + (d + q) + j * (d + q) + d = omega arith in e) in
-    omega arith
+    omega (arith, next_used ws p d q n)
 
 -- one element more
 

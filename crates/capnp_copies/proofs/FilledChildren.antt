@@ -23,6 +23,7 @@ use Rattle.capnp_copies.specs.Forms.{kept, kept_each}
 use Rattle.capnp_copies.proofs.ChildrenCopied.{no_children}
 use Rattle.capnp_copies.proofs.SegmentsWritten.{not_written}
 use Rattle.capnp_copies.proofs.TightChildren.{child_tight}
+use Rattle.capnp_copies.proofs.Originals.{refuses_children}
 use Rattle.capnp_copies.proofs.TooLarge.{child_too_large}
 use Rattle.capnp_copies.proofs.KeptChildren.{kept_none, kept_each-count, kept_each-with_last}
 
@@ -70,7 +71,7 @@ child_stops {r} {b} {s} {p} {i} {n} {old} {mid} {new} {m} {m'} {m''} {k} place l
     let ts : Trees = first.children in
     let fewer : count ts < n = omega (arith, first.counts) in
     record {
-      why = elim stop.why [
+      why = refuses_children r n (change b s p old new m m'') k (elim stop.why [
         | inl x ↦ inl (
           x.0,
           words_refused_after old mid new x.0 k first.memory x.1,
@@ -78,7 +79,7 @@ child_stops {r} {b} {s} {p} {i} {n} {old} {mid} {new} {m} {m'} {m''} {k} place l
           child_too_large b place less first x.3,
         )
         | inr y ↦ elim y [ inl x ↦ inr (record { first = ts; fewer = fewer; mid = m'; are_read = first.are_read; stops = (let h : Refused b (behind r (count ts)) m' m'' k = rw first.counts x in h) }) | inr none ↦ absurd none ]
-      ];
+      ]);
       left = with_last (kept_each b ts) t;
       few = omega (arith, count-with_last (kept_each b ts) t, kept_each-count b ts, first.counts);
       made = one_filled new t first stop.left;

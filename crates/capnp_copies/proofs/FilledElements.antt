@@ -17,12 +17,12 @@ use Rattle.capnp_objects.specs.Refusals.{RefusedAll, StopsAmong}
 use Rattle.capnp_objects.specs.Reading.{Reading, behind, segment_read, words_from, pointers_of}
 use Rattle.capnp_objects.specs.Wanted.{Form, canonical}
 use Rattle.capnp_objects.proofs.Copies.{read_no_element, with_last_element}
-use Rattle.capnp_copies.specs.Changes.{WantsWords, change, CopiesChildren, StopsAtChildren, CopiesElement, StopsAtElement, CopiesRows, CopiesElements, StopsAtElements}
+use Rattle.capnp_copies.specs.Changes.{WantsWords, change, CopiesChildren, StopsAtChildren, CopiesElement, StopsAtElement, CopiesRows, StopsAtElements}
 use Rattle.capnp_copies.specs.Forms.{kept_each, kept_elements}
-use Rattle.capnp_copies.specs.Rooms.{AreTooLarge}
 use Rattle.capnp_copies.specs.declared.widths.ElementSizes.{ElementSizes}
 use Rattle.capnp_copies.proofs.TightElements.{element_tight, no_row_tight, no_width_tight, row_tight}
 use Rattle.capnp_copies.proofs.SegmentsWritten.{length-with_words}
+use Rattle.capnp_copies.proofs.Originals.{AreTooLarge, children_refused, refuses_children, elements_large}
 use Rattle.capnp_copies.proofs.TooLarge.{row_too_large}
 use Rattle.capnp_copies.specs.Copied.{rows_laid}
 use Rattle.capnp_copies.proofs.KeptChildren.{kept_each-count, kept_no_elements, cut_kept-count}
@@ -68,11 +68,11 @@ element_too_large b from n {r} {sizes} {s} {p} {old} {mid} put large =
 
 pub element_stops : {r : Reading} {sizes : ElementSizes} {b : Form} {s p : ℕ} {old mid new : View} {m m' : Meter} {k : ErrorKind} → DataWritten r sizes old mid s p →
     StopsAtChildren (behind r sizes.source.data_words) sizes.kept.pointers (change b s (p + sizes.kept.data_words) mid new m m') k → StopsAtElement r sizes (change b s p old new m m') k
-element_stops {r} {sizes} {b} {s} {p} {old} {mid} {new} {k = k} put stop = record {
-  why = elim stop.why [
+element_stops {r} {sizes} {b} {s} {p} {old} {mid} {new} {m} {m'} {k} put stop = record {
+  why = refuses_children (behind r sizes.source.data_words) sizes.kept.pointers (change b s p old new m m') k (elim (children_refused (behind r sizes.source.data_words) sizes.kept.pointers (change b s (p + sizes.kept.data_words) mid new m m') k stop.why) [
     | inl x ↦ inl (x.0, words_refused_after old mid new x.0 k (keeps_written old mid _ put.writes) x.1, x.2, element_too_large b (behind r sizes.source.data_words) sizes.kept.pointers put x.3)
     | inr x ↦ inr x
-  ];
+  ]);
   left = stop.left;
   few = stop.few;
   made = element_made new stop.left put stop.made;
@@ -104,7 +104,7 @@ no_row r sizes n b s p v m = record {
     none _ = refl
 
 -- where no section is kept, there is nothing to copy
-pub no_width : (r : Reading) (sizes : ElementSizes) (n : ℕ) (b : Form) (s p : ℕ) (v : View) (m : Meter) → SourceKept b r sizes n → sizes.kept.data_words + sizes.kept.pointers ≡ 0 → CopiesElements r sizes n (change b s p v v m m)
+pub no_width : (r : Reading) (sizes : ElementSizes) (n : ℕ) (b : Form) (s p : ℕ) (v : View) (m : Meter) → SourceKept b r sizes n → sizes.kept.data_words + sizes.kept.pointers ≡ 0 → CopiesRows r sizes n 0 (change b s p v v m m)
 no_width r sizes n b s p v m fits none =
     let no_data : 0 ≡ sizes.kept.data_words = omega arith in
     let no_pointers : 0 ≡ sizes.kept.pointers = omega arith in
@@ -198,7 +198,7 @@ module _ {r : Reading} {sizes : ElementSizes} {n i : ℕ} {b : Form} {s p : ℕ}
       let es : Elements = here.rows.elements in
       let fewer : element_count es < n = omega (arith, here.rows.counts, here.more) in
       record {
-        why = elim stop.why [
+        why = elim (children_refused (pointers_of r sizes.source i) q (change b s (p + i * (d + q)) mid new m' m'') k stop.why) [
           | inl x ↦ inl (
             x.0,
             words_refused_after old mid new x.0 k here.rows.memory x.1,
@@ -209,7 +209,7 @@ module _ {r : Reading} {sizes : ElementSizes} {n i : ℕ} {b : Form} {s p : ℕ}
               are_read = here.rows.are_read;
               stops = stops_sooner here.fits.less_pointers (let h : StopsAmong b (WantsWords b x.0) (pointers_of r sizes.source (element_count es)) q m' m'' = rw here.rows.counts x.2 in h);
             },
-            λ last. row_too_large {new = new} {m'' = m''} b here.fits here.wide here.more here.rows x.3 last,
+            λ last. elements_large b r sizes n (length (segment old.words s)) (old.room s) (row_too_large {new = new} {m'' = m''} b here.fits here.wide here.more here.rows x.3 last),
           )
           | inr x ↦ inr (record {
             first = es;

@@ -22,18 +22,18 @@ use Rattle.capnp_making.proofs.Memory.{keeps_both, keeps_written, keeps_then_spe
 use Rattle.capnp_making.proofs.WordsPut.{words_put}
 use Rattle.capnp_objects.specs.Reading.{Reading, behind, segment_read, words_from}
 use Rattle.capnp_objects.specs.Wanted.{Form, canonical}
-use Rattle.capnp_copies.specs.Changes.{change, MakesCopy, StopsHalfway, CopiesChildren, StopsAtChildren, CopiesElements, StopsAtElements}
+use Rattle.capnp_copies.specs.Changes.{change, MakesCopy, StopsHalfway, CopiesChildren, StopsAtChildren, CopiesRows, StopsAtElements}
 use Rattle.capnp_copies.specs.Forms.{kept, kept_each, kept_elements}
 use Rattle.capnp_copies.specs.Originals.{sections_original, pointers_original, structs_original}
-use Rattle.capnp_copies.specs.Widths.{KeepsSections, KeepsPointers}
+use Rattle.capnp_copies.specs.Widths.{KeepsPointers}
 use Rattle.capnp_copies.specs.declared.widths.ElementSizes.{ElementSizes}
 use Rattle.capnp_copies.proofs.FilledChildren.{children_grow}
-use Rattle.capnp_copies.proofs.Originals.{LeavesSomeValue, halfway, sections_large, pointers_large, structs_large}
+use Rattle.capnp_copies.proofs.Originals.{LeavesSomeValue, children_refused, elements_beyond, halfway, sections_large, pointers_large, structs_large}
 use Rattle.capnp_copies.proofs.SegmentsWritten.{length-with_words}
 use Rattle.capnp_copies.proofs.TooLarge.{ObjectMade, struct_too_large, pointers_too_large, structs_too_large}
 use Rattle.capnp_copies.proofs.TightObjects.{StructMade, struct_tight, PointersMade, pointers_tight, StructsMade, ends_in_zeros, structs_tight}
 use Rattle.capnp_copies.proofs.KeptChildren.{kept_each-count, cut_kept-count}
-use Rattle.capnp_copies.proofs.KeptForms.{KeepsWidths, stops_sooner, struct_kept, list_kept}
+use Rattle.capnp_copies.proofs.KeptForms.{KeepsSections, KeepsWidths, stops_sooner, struct_kept, list_kept}
 
 -- an object that the arena refuses leaves the pointer null
 
@@ -126,7 +126,7 @@ module _ {b : Form} {r : Reading} {size least : StructSize} {s p : ℕ} {old mad
   pub struct_stops : {new : View} {m m' : Meter} {k : ErrorKind} → StopsAtChildren (behind r size.data_words) least.pointers (change b h.segment (h.at + least.data_words) mid new m m') k → StopsHalfway (sections_original (words_from r size.data_words) (behind r size.data_words) size.pointers) (change b s p old new m m') k
   struct_stops {new} {m} {m'} {k} stop =
       halfway (
-      elim stop.why [
+      elim (children_refused (behind r size.data_words) least.pointers (change b h.segment (h.at + least.data_words) mid new m m') k stop.why) [
         | inl x ↦ inl (x.0, words_refused_after old mid new x.0 k keeps x.1, inr (stops_sooner o.less_pointers x.2), sections_large b (words_from r size.data_words) (behind r size.data_words) size.pointers (length (segment old.words s)) (old.room s) (struct_too_large r size least b (record { place = o.place; memory = o.memory; taken = o.taken; behind = o.behind }) o.inside o.sections same_long same_room o.within x.3))
         | inr x ↦ inr (inl (stops_sooner o.less_pointers x))
       ]
@@ -158,9 +158,9 @@ pointers_copied {b} {r} {i} {s} {p} {old} {mid} {new} {h} o near children =
 
 pub pointers_stop : {b : Form} {r : Reading} {i s p : ℕ} {old mid new : View} {h : Start} {m m' : Meter} {k : ErrorKind} → ObjectBegun s p i old mid h (Pointers (nulls i)) → ObjectMade s p i old mid h → (HasOwnRoom old s i → StartsBehind old.words s h) → StopsAtChildren r i (change b h.segment h.at mid new m m') k →
     StopsHalfway (pointers_original i r) (change b s p old new m m') k
-pointers_stop {b} {r} {i} {s} {p} {old} {mid} {new} {h} {k = k} o made at_end stop =
+pointers_stop {b} {r} {i} {s} {p} {old} {mid} {new} {h} {m} {m'} {k} o made at_end stop =
     halfway (
-    elim stop.why [
+    elim (children_refused r i (change b h.segment h.at mid new m m') k stop.why) [
       | inl x ↦ inl (x.0, words_refused_after old mid new x.0 k o.memory x.1, inr x.2, pointers_large b r i (length (segment old.words s)) (old.room s) (pointers_too_large b r made at_end x.3))
       | inr x ↦ inr (inl x)
     ]
@@ -174,7 +174,7 @@ widths_keep canonical r sizes i widths = omega (arith, ap (λ s. s.pointers) wid
 widths_keep _ r sizes i same = same
 
 pub structs_copied : {b : Form} {r : Reading} {sizes : ElementSizes} {i s p : ℕ} {old mid new : View} {h : Start} {m m' : Meter} → r.at + i * (sizes.source.data_words + sizes.source.pointers) ≤ length (segment_read r) → KeepsWidths b r sizes.source i sizes.kept →
-    ObjectBegun s p (1 + i * (sizes.kept.data_words + sizes.kept.pointers)) old mid h (zero_structs i sizes.kept) → StructsMade i s p sizes.kept old mid h → CopiesElements r sizes i (change b h.segment (h.at + 1) mid new m m') → MakesCopy (structs_original sizes.source i r) (change b s p old new m m')
+    ObjectBegun s p (1 + i * (sizes.kept.data_words + sizes.kept.pointers)) old mid h (zero_structs i sizes.kept) → StructsMade i s p sizes.kept old mid h → CopiesRows r sizes i 0 (change b h.segment (h.at + 1) mid new m m') → MakesCopy (structs_original sizes.source i r) (change b s p old new m m')
 structs_copied {b} {r} {sizes} {i} {s} {p} {old} {mid} {new} {h} inside widths o near elements =
     let d : ℕ = sizes.kept.data_words in
     let q : ℕ = sizes.kept.pointers in
@@ -195,7 +195,7 @@ pub structs_stop : {b : Form} {r : Reading} {sizes : ElementSizes} {i s p : ℕ}
 structs_stop {b} {r} {sizes} {i} {s} {p} {old} {mid} {new} {h} {m} {m'} {k} inside widths o near stop =
     halfway (
     elim stop.why [
-      | inl x ↦ inl (x.0, words_refused_after old mid new x.0 k o.memory x.1, inr x.2, structs_large b r sizes.source i (length (segment old.words s)) (old.room s) (structs_too_large r sizes (record { place = near.place; memory = near.memory; taken = near.taken; behind = near.behind }) inside b widths (λ room. x.3 (ends_in_zeros {new = new} {m = m} {m' = m'} b near room))))
+      | inl x ↦ inl (x.0, words_refused_after old mid new x.0 k o.memory x.1, inr x.2, structs_large b r sizes.source i (length (segment old.words s)) (old.room s) (structs_too_large r sizes (record { place = near.place; memory = near.memory; taken = near.taken; behind = near.behind }) inside b widths (λ room. elements_beyond b r sizes i (length (segment mid.words h.segment)) (mid.room h.segment) (x.3 (ends_in_zeros {new = new} {m = m} {m' = m'} b near room)))))
       | inr x ↦ inr (inl x)
     ]
     )

@@ -25,12 +25,11 @@ use Rattle.capnp_objects.specs.Wanted.{Form, canonical}
 use Rattle.capnp_copies.specs.Changes.{change, MakesCopy, StopsHalfway, CopiesChildren, StopsAtChildren}
 use Rattle.capnp_copies.specs.Forms.{kept, kept_each}
 use Rattle.capnp_copies.specs.Originals.{kept_count, sections_original}
-use Rattle.capnp_copies.specs.Rooms.{AreTooLarge}
 use Rattle.capnp_copies.proofs.DataSections.{kept_count-le}
 use Rattle.capnp_copies.proofs.FilledChildren.{children_grow}
 use Rattle.capnp_copies.proofs.KeptChildren.{kept_each-count}
 use Rattle.capnp_copies.proofs.KeptForms.{stops_sooner, SectionsCut, sections_meant}
-use Rattle.capnp_copies.proofs.Originals.{AreTooLargeSections, sections_large, halfway}
+use Rattle.capnp_copies.proofs.Originals.{AreTooLarge, AreTooLargeSections, children_refused, sections_large, halfway}
 use Rattle.capnp_copies.proofs.SegmentsWritten.{length-with_words}
 use Rattle.capnp_copies.proofs.TooLarge.{ObjectMade, sections_too_large}
 use Rattle.capnp_copies.proofs.TightObjects.{StructMade, struct_tight}
@@ -153,7 +152,7 @@ module _ {b : Form} {ws : List ℕ} {r : Reading} {q : ℕ} {least : StructSize}
   pub sections_stop : {new : View} {m m' : Meter} {k : ErrorKind} → StopsAtChildren r least.pointers (change b h.segment (h.at + least.data_words) mid new m m') k → StopsHalfway (sections_original ws r q) (change b s p old new m m') k
   sections_stop {new} {m} {m'} {k} stop =
       halfway (
-      elim stop.why [
+      elim (children_refused r least.pointers (change b h.segment (h.at + least.data_words) mid new m m') k stop.why) [
         | inl x ↦ inl (x.0, words_refused_after old mid new x.0 k keeps x.1, inr (stops_sooner fewer x.2), sections_large b ws r q (length (segment old.words s)) (old.room s) (exceeds x.3))
         | inr x ↦ inr (inl (stops_sooner fewer x))
       ]

@@ -1,5 +1,5 @@
 -- The copy of what a pointer means, to a message of any number of segments, once its object was read.
-use Rattle.std.proofs.Common.{◌≡◌, inl, inr, ℕ, pred, ◌+◌, ◌*◌, ◌^◌, ◌<◌, List, length, take, drop, length-take, refl, append-nil, set, sym, ap, ap₂, ◌∙◌, subst, arith, Result, Ok, Err, IsOk, OnOk, OnErr, IfOk, IfErr}
+use Rattle.std.proofs.Common.{◌≡◌, ◌⊎◌, inl, inr, ℕ, pred, ◌+◌, ◌*◌, ◌^◌, ◌<◌, List, length, take, drop, length-take, refl, append-nil, set, sym, ap, ap₂, ◌∙◌, subst, arith, Result, Ok, Err, IsOk, OnOk, OnErr, IfOk, IfErr}
 use Rattle.capnp_words.specs.declared.error.ErrorKind.{ErrorKind}
 use Rattle.capnp_words.specs.declared.error.ErrorKind.TheVariants.{CannotCreateACanonicalMessageWithACapability, UnknownPointerType}
 use Rattle.capnp_words.specs.Meter.{Meter}
@@ -30,9 +30,10 @@ use Rattle.capnp_objects.specs.declared.object.Purpose.TheVariants.{Value}
 use Rattle.capnp_objects.proofs.Limits.{not_for_memory}
 use Rattle.capnp_objects.proofs.Objects.{read_null, read_flat, read_struct, read_pointers, read_structs}
 use Rattle.capnp_objects.proofs.Refusals.{unreadable, stops_struct, stops_pointers, stops_structs}
-use Rattle.capnp_copies.specs.Changes.{WantsWords, as_struct, as_numbers, as_pointers, as_structs, Change, change, IsCopiedInRoom, Fits, MakesCopy, StopsCopy, StopsHalfway}
+use Rattle.capnp_copies.specs.Changes.{WantsWords, as_struct, as_numbers, as_pointers, as_structs, Change, change, IsCopiedInRoom, StayInSegment, MakesCopy, StopsCopy, StopsHalfway}
 use Rattle.capnp_copies.specs.Forms.{kept}
-use Rattle.capnp_copies.specs.Copies.{IsCopied, CanBeCopied}
+use Rattle.capnp_copies.proofs.InPlace.{IsCopied}
+use Rattle.capnp_copies.specs.Rooms.{CanBeCopied}
 use Rattle.capnp_copies.specs.Originals.{value_original, sections_original, pointers_original, structs_original}
 use Rattle.capnp_copies.proofs.DataSections.{kept_count-le}
 use Rattle.capnp_copies.proofs.FilledObjects.{nothing_left}
@@ -62,7 +63,7 @@ null_copied {r} {b} {s} {p} {v} {m} {m'} object place null = record {
   is_read = subst (λ x. Reads b r m x Null) (sym object.1) (read_null m object.0);
   made = subst (IsReplaced v.words v.words s p Null) (sym (kept_null b)) (nothing_left v.words v.words s p place null refl);
   memory = keeps_itself v;
-  stands = subst (λ t. Fits (change b s p v v m m') (word_count t) → IsCopied v.words v.words s p t) (sym (kept_null b)) (λ fits. null_written v.words s p null);
+  stands = subst (λ t. StayInSegment v v s (word_count t) → IsCopied v.words v.words s p t) (sym (kept_null b)) (λ fits. null_written v.words s p null);
 }
 
 unfoldable pub capability_read : {r : Reading} (m m' : Meter) (i : ℕ) → IsObject Value r m m' (ObjectCapability i) → Reads plain r m m' (Capability i)
@@ -83,6 +84,27 @@ capability_stops {i = i} {m = m} {m'} object place null = object_stops place nul
 
 pub default_stops : {r : Reading} {s p i : ℕ} {v : View} {m m' : Meter} → IsObject Value r m m' (ObjectCapability i) → IsPlace v.words s p → word_at v.words s p ≡ 0 → StopsHalfway (value_original r) (change of_default s p v v m m') UnknownPointerType
 default_stops {i = i} {m = m} {m'} object place null = object_stops place null (default_stopped m m' i object)
+
+-- the call that copies a capability
+pub record CapabilityCopied (result : Result (Unit {0}) ErrorKind) (b : Form) (s p i : ℕ) (old new : View) : Type 0 where
+  pub as_it_stands : OnOk result (b ≡ plain)
+  pub copied : OnOk result (new ≡ record old { words = with_word old.words s p (capability_word i) })
+  pub refused : IfErr result (λ k. ((b ≡ canonical) × (k ≡ CannotCreateACanonicalMessageWithACapability)) ⊎ ((b ≡ of_default) × (k ≡ UnknownPointerType)))
+  pub unchanged : OnErr result (new ≡ old)
+
+pub capability_value : {b : Form} {s p i : ℕ} {old new : View} (r : Reading) (m m' : Meter) (result : Result (Unit {0}) ErrorKind) → IsObject Value r m m' (ObjectCapability i) → IsPlace old.words s p → CapabilityCopied result b s p i old new →
+    IfOk result (λ _. MakesCopy (value_original r) (change b s p old new m m'))
+capability_value {b} {s} {p} {i} {old} {new} r m m' (Ok x) object place o =
+    subst (λ f. MakesCopy (value_original r) (change f s p old new m m')) (sym o.as_it_stands) (capability_copied object place o.copied)
+capability_value r m m' (Err k) object place o = tt
+
+pub capability_value_stops : {b : Form} {s p i : ℕ} {old new : View} (r : Reading) (m m' : Meter) (result : Result (Unit {0}) ErrorKind) → IsObject Value r m m' (ObjectCapability i) → IsPlace old.words s p → word_at old.words s p ≡ 0 → CapabilityCopied result b s p i old new →
+    IfErr result (StopsHalfway (value_original r) (change b s p old new m m'))
+capability_value_stops r m m' (Ok x) object place null o = tt
+capability_value_stops {b} {s} {p} {i} {old} {new} r m m' (Err k) object place null o = elim o.refused [
+  | inl x ↦ rw (x.0, x.1, o.unchanged) (capability_stops object place null)
+  | inr x ↦ rw (x.0, x.1, o.unchanged) (default_stops object place null)
+]
 
 -- a struct
 
@@ -238,7 +260,7 @@ flat_value {s = s} {p = p} {i = i} {old = old} {new = new} {m = m} {m' = m'} {ws
   is_read = flat_read_in b start size object words part;
   made = subst (IsReplaced old.words new.words s p Null) (sym (kept_flat b (size_number size) (unpacked (size_number size) i ws))) f.copied;
   memory = f.granted;
-  stands = subst (λ t. Fits (change b s p old new m m') (word_count t) → IsCopied old.words new.words s p t) (sym (kept_flat b (size_number size) (unpacked (size_number size) i ws))) f.stands;
+  stands = subst (λ t. StayInSegment old new s (word_count t) → IsCopied old.words new.words s p t) (sym (kept_flat b (size_number size) (unpacked (size_number size) i ws))) f.stands;
 }
 flat_value b (Err k) start size object words part f = tt
 

@@ -9,7 +9,7 @@ use Rattle.capnp_words.specs.Meter.{Meter, Affords}
 use Rattle.capnp_format.specs.Forest.{target_in}
 use Rattle.capnp_format.specs.Segments.{Segments, Target, segment, words_at, IsPlace}
 use Rattle.capnp_format.specs.Tree.{Null, Capability, Struct, Flat, Pointers, Structs, no_trees, no_elements, count, element_count}
-use Rattle.capnp_format.specs.Word.{offset_bits, data_words, pointer_count, element_size, list_count, struct_word}
+use Rattle.capnp_format.specs.Word.{capability_word, offset_bits, data_words, pointer_count, element_size, list_count, struct_word}
 use Rattle.capnp_format.proofs.Children.{with_last, count-with_last}
 use Rattle.capnp_arena.specs.View.{View, KeepsLimits}
 use Rattle.capnp_arena.specs.Written.{with_words, with_word}
@@ -44,13 +44,13 @@ use Rattle.capnp_objects.proofs.Objects.{own_struct, own_flat, own_pointers, own
 use Rattle.capnp_objects.proofs.Refusals.{breaks_off_spends, stops_struct, stops_pointers, stops_structs}
 use Rattle.capnp_objects.proofs.Truths.{few_followed, reading_spends}
 use Rattle.capnp_copies.specs.Changes.{Change, change, StayInSegment}
-use Rattle.capnp_copies.specs.Costs.{cost_before, cost_until, cost_among, cost_among_elements, followed_before, followed_until, followed_among, followed_among_elements}
-use Rattle.capnp_copies.specs.Originals.{value_original, sections_original, numbers_original, pointers_original, structs_original, list_original, kept_count}
-use Rattle.capnp_copies.specs.Growth.{message_words, TakesNone, Makes, no_object, near, far, both, MakesAtMost, Gains, TakesForCopy, TakesUntilStop, TakesAtMost, TakesForAll, TakesAmong, TakesForElements, TakesAmongElements, PadsApart, TakesFew, FewTaken}
+use Rattle.capnp_copies.specs.Costs.{spent_before, spent_until, spent_among, spent_among_elements}
+use Rattle.capnp_copies.specs.Originals.{Original, value_original, children_original, elements_original, sections_original, numbers_original, pointers_original, structs_original, list_original, kept_count}
+use Rattle.capnp_copies.specs.Growth.{message_words, TakesNone, Makes, no_object, near, far, both, MakesAtMost, TakesAtMost, PadsApart, TakesFew, FewTaken}
 use Rattle.capnp_copies.specs.declared.widths.ElementSizes.{ElementSizes}
 use Rattle.capnp_copies.proofs.Copying.{there}
 use Rattle.capnp_copies.proofs.FilledSections.{sections_kept}
-use Rattle.capnp_copies.proofs.FilledValues.{capability_read}
+use Rattle.capnp_copies.proofs.FilledValues.{capability_read, CapabilityCopied}
 use Rattle.capnp_copies.proofs.KeptForms.{SourceKept, one_more as one_row_more, stops_sooner, blank_elements}
 use Rattle.capnp_copies.proofs.ObjectsRead.{inside, stopped_in, capability_stopped, default_stopped}
 use Rattle.capnp_copies.proofs.StayingNear.{stay_fewer}
@@ -117,22 +117,30 @@ none_pruned old new limits pruned = record { segments = pruned.segments; words =
 pub none_refused : (old new : View) (n : ℕ) (k : ErrorKind) → IsRefusedFor old new n k → new.words ≡ old.words → TakesNone old new
 none_refused old new n k refused same = record { segments = ap length same; words = λ v. ap (λ (S : Segments). length (segment S v)) same; room = λ j l. ap (λ (v : View). v.room j) refused.1 }
 
+-- What a copy takes where all is read, and where it is refused.
+
+abbrev pub TakesForCopy : {V : Type 0} → Original V → Change → Type 0
+TakesForCopy o c = o.takes c.form c.before c.after (MakesAtMost c.segment c.old c.new)
+
+abbrev pub TakesUntilStop : {V : Type 0} → Original V → Change → Type 0
+TakesUntilStop o c = o.takes_until c.form c.before c.after (MakesAtMost c.segment c.old c.new)
+
 -- What is made, at most.
 
-pub made_none : {id : ℕ} {old new : View} → TakesNone old new → MakesAtMost id 0 0 old new
+pub made_none : {id : ℕ} {old new : View} → TakesNone old new → MakesAtMost id old new 0 0
 made_none none = record { words = 0; pads = 0; made = no_object none; less = omega arith; few = omega arith }
 
-pub made_more : {id n p m q : ℕ} {old new : View} → n ≤ m → p ≤ q → MakesAtMost id n p old new → MakesAtMost id m q old new
+pub made_more : {id n p m q : ℕ} {old new : View} → n ≤ m → p ≤ q → MakesAtMost id old new n p → MakesAtMost id old new m q
 made_more less few x = record { words = x.words; pads = x.pads; made = x.made; less = omega (arith, x.less, less); few = omega (arith, x.few, few) }
 
-pub made_both : {id n p m q : ℕ} {old mid new : View} → MakesAtMost id n p old mid → MakesAtMost id m q mid new → MakesAtMost id (n + m) (p + q) old new
+pub made_both : {id n p m q : ℕ} {old mid new : View} → MakesAtMost id old mid n p → MakesAtMost id mid new m q → MakesAtMost id old new (n + m) (p + q)
 made_both {mid = mid} x y = record { words = x.words + y.words; pads = x.pads + y.pads; made = both mid x.made y.made; less = omega (arith, x.less, y.less); few = omega (arith, x.few, y.few) }
 
-pub made_within : {id n p : ℕ} {old mid last new : View} → TakesNone old mid → TakesNone last new → MakesAtMost id n p mid last → MakesAtMost id n p old new
+pub made_within : {id n p : ℕ} {old mid last new : View} → TakesNone old mid → TakesNone last new → MakesAtMost id mid last n p → MakesAtMost id old new n p
 made_within before after x = made_more (omega arith) (omega arith) (made_both (made_none before) (made_both x (made_none after)))
 
-pub gains_within : {n p : ℕ} (c d : Change) → TakesNone d.old c.old → TakesNone c.new d.new → d.segment ≡ c.segment → Gains c n p → Gains d n p
-gains_within {n} {p} c d before after same made = subst (λ id. MakesAtMost id n p d.old d.new) (sym same) (made_within before after made)
+pub made_elsewhere : {n p : ℕ} (c d : Change) → TakesNone d.old c.old → TakesNone c.new d.new → d.segment ≡ c.segment → MakesAtMost c.segment c.old c.new n p → MakesAtMost d.segment d.old d.new n p
+made_elsewhere {n} {p} c d before after same made = subst (λ id. MakesAtMost id d.old d.new n p) (sym same) (made_within before after made)
 
 -- An object of n words is made for a pointer of segment id, and its own pointers stand in segment k.
 pub record Begins (id k n : ℕ) (old mid : View) : Type 0 where
@@ -176,7 +184,7 @@ next_room_elsewhere v id n k there full (inl fit) = λ same.
     absurd (omega (arith, room, full)))
 next_room_elsewhere v id n k there full (inr (none, another)) = λ same. absurd (omega (arith, another, same, there))
 
-pub made_object : {id k n m p : ℕ} {old mid new : View} → Begins id k n old mid → MakesAtMost k m p mid new → MakesAtMost id (n + m) (1 + p) old new
+pub made_object : {id k n m p : ℕ} {old mid new : View} → Begins id k n old mid → MakesAtMost k mid new m p → MakesAtMost id old new (n + m) (1 + p)
 made_object {id} {k} {n} {m} {p} {old} {mid} {new} o x = elim (cases_lt (old.room id) (length (segment old.words id) + n)) [
   | inl full ↦ (
       let (j, next, long) = o.taken.far full in
@@ -198,84 +206,81 @@ taken_so (Err k) P P' Q Q' f h taken = h taken
 
 -- Pointers one behind the other: none yet, one more, and one that is refused.
 
-pub none_taken : (r : Reading) (b : Form) (s p : ℕ) (v : View) (m : Meter) → TakesForAll r 0 (change b s p v v m m)
+pub none_taken : (r : Reading) (b : Form) (s : ℕ) (v : View) (m : Meter) → TakesForCopy (children_original r 0) (change b s 0 v v m m)
 unfolding read_none
-none_taken r b s p v m = record { children = no_trees; counts = refl; are_read = read_none b r m; made = made_more (omega arith) (omega arith) (made_none (none_itself v)) }
+none_taken r b s v m = (no_trees, refl, read_none b r m, made_more (omega arith) (omega arith) (made_none (none_itself v)))
 
-pub one_taken : {r : Reading} {b : Form} {s p i : ℕ} {old mid new : View} {m m' m'' : Meter} → TakesForAll r i (change b s p old mid m m') → TakesForCopy (value_original (behind r i)) (change b s p mid new m' m'') → TakesForAll r (i + 1) (change b s p old new m m'')
+pub one_taken : {r : Reading} {b : Form} {s i : ℕ} {old mid new : View} {m m' m'' : Meter} → TakesForCopy (children_original r i) (change b s 0 old mid m m') → TakesForCopy (value_original (behind r i)) (change b s 0 mid new m' m'') →
+    TakesForCopy (children_original r (i + 1)) (change b s 0 old new m m'')
 unfolding read_more
-one_taken {r} {b} {s} {mid = mid} {new} {m' = m'} {m''} first next =
-    let ts = first.children in
+one_taken {r} {b} {s} {mid = mid} {new} {m' = m'} {m''} (ts, counts, are_read, made) next =
     let t = next.0 in
-    let here : (one : Reads b (behind r (count ts)) m' m'' t) × MakesAtMost s one.cost (pointers_in t) mid new = rw first.counts (next.1, next.2) in
-    record { children = with_last ts t; counts = count-with_last ts t ∙ omega (arith, first.counts); are_read = read_more first.are_read here.0; made = made_more (omega arith) (omega (arith, pointers_in-with_last ts t)) (made_both first.made here.1) }
+    let here : (one : Reads b (behind r (count ts)) m' m'' t) × MakesAtMost s mid new one.cost (pointers_in t) = rw counts (next.1, next.2) in
+    (with_last ts t, count-with_last ts t ∙ omega (arith, counts), read_more are_read here.0, made_more (omega arith) (omega (arith, pointers_in-with_last ts t)) (made_both made here.1))
 
-pub stop_taken : {r : Reading} {b : Form} {s p i n : ℕ} {old mid new : View} {m m' m'' : Meter} → i < n → TakesForAll r i (change b s p old mid m m') → TakesUntilStop (value_original (behind r i)) (change b s p mid new m' m'') → TakesAmong r n (change b s p old new m m'')
-stop_taken {r} {b} {s} {mid = mid} {new} {m' = m'} {m''} less first stop =
-    let ts = first.children in
-    let here : (one : BreaksOff b (behind r (count ts)) m' m'') × MakesAtMost s (cost_until one) (followed_until one) mid new = rw first.counts (stop.0, stop.1) in
-    record { off = record { first = ts; fewer = omega (arith, first.counts, less); mid = m'; are_read = first.are_read; stops = here.0 }; made = made_more (omega arith) (omega arith) (made_both first.made here.1) }
+pub stop_taken : {r : Reading} {b : Form} {s i n : ℕ} {old mid new : View} {m m' m'' : Meter} → i < n → TakesForCopy (children_original r i) (change b s 0 old mid m m') → TakesUntilStop (value_original (behind r i)) (change b s 0 mid new m' m'') →
+    TakesUntilStop (children_original r n) (change b s 0 old new m m'')
+stop_taken {r} {b} {s} {mid = mid} {new} {m' = m'} {m''} less (ts, counts, are_read, made) stop =
+    let here : (one : BreaksOff b (behind r (count ts)) m' m'') × MakesAtMost s mid new (spent_until one).words (spent_until one).pointers = rw counts (stop.0, stop.1) in
+    (record { first = ts; fewer = omega (arith, counts, less); mid = m'; are_read = are_read; stops = here.0 }, made_more (omega arith) (omega arith) (made_both made here.1))
 
-pub all_taken : {r : Reading} {i j : ℕ} {c : Change} → i ≡ j → TakesForAll r i c → TakesForAll r j c
-all_taken {r} {c = c} same taken = subst (λ k. TakesForAll r k c) same taken
+pub all_taken : {r : Reading} {b : Form} {s i j : ℕ} {old new : View} {m m' : Meter} → i ≡ j → TakesForCopy (children_original r i) (change b s 0 old new m m') → TakesForCopy (children_original r j) (change b s 0 old new m m')
+all_taken same (ts, counts, are_read, made) = (ts, counts ∙ same, are_read, made)
 
 -- The pointers of elements: none yet, those of one element more, and one that is refused.
 
-pub no_row_taken : (r : Reading) (size : StructSize) (b : Form) (s p : ℕ) (v : View) (m : Meter) → TakesForElements r size 0 (change b s p v v m m)
+pub no_row_taken : (r : Reading) (sizes : ElementSizes) (b : Form) (s : ℕ) (v : View) (m : Meter) → TakesForCopy (elements_original r sizes 0) (change b s 0 v v m m)
 unfolding read_no_element
-no_row_taken r size b s p v m = record { elements = no_elements; counts = refl; are_read = read_no_element b r size m; made = made_more (omega arith) (omega arith) (made_none (none_itself v)) }
+no_row_taken r sizes b s v m = (no_elements, refl, read_no_element b r sizes.source m, made_more (omega arith) (omega arith) (made_none (none_itself v)))
 
-pub blank_taken : (r : Reading) (sizes : ElementSizes) (n : ℕ) (b : Form) (s p : ℕ) (v : View) (m : Meter) → SourceKept b r sizes n → sizes.kept.data_words + sizes.kept.pointers ≡ 0 → TakesForElements r sizes.source n (change b s p v v m m)
-blank_taken r sizes n b s p v m fits none =
+pub blank_taken : (r : Reading) (sizes : ElementSizes) (n : ℕ) (b : Form) (s : ℕ) (v : View) (m : Meter) → SourceKept b r sizes n → sizes.kept.data_words + sizes.kept.pointers ≡ 0 → TakesForCopy (elements_original r sizes n) (change b s 0 v v m m)
+blank_taken r sizes n b s v m fits none =
     let x = blank_elements b r sizes n m n (omega arith) fits (omega (arith, none)) in
-    record { elements = x.all; counts = x.counts; are_read = x.are_read; made = made_more (omega arith) (omega arith) (made_none (none_itself v)) }
+    (x.all, x.counts, x.are_read, made_more (omega arith) (omega arith) (made_none (none_itself v)))
 
-pub row_taken : {r : Reading} {sizes : ElementSizes} {b : Form} {s p p' i n : ℕ} {old mid new : View} {m m' m'' : Meter} → SourceKept b r sizes n → i < n → TakesForElements r sizes.source i (change b s p old mid m m') →
-    TakesForAll (pointers_of r sizes.source i) sizes.kept.pointers (change b s p' mid new m' m'') → TakesForElements r sizes.source (i + 1) (change b s p old new m m'')
-row_taken {r} {sizes} {b} {s} {n = n} {mid = mid} {new} {m} {m'} {m''} fits less first next =
-    let es = first.elements in
-    let ts = next.children in
-    let here : (one : ReadsAll b (pointers_of r sizes.source (element_count es)) m' m'' ts) × MakesAtMost s one.cost (pointers_in_all ts) mid new = rw first.counts (next.are_read, next.made) in
-    let a = one_row_more b r sizes n m m' m'' es ts fits first.are_read (omega (arith, first.counts, less)) next.counts here.0 in
-    record { elements = a.all; counts = a.counts ∙ omega (arith, first.counts); are_read = a.are_read; made = made_more (omega (arith, a.costs)) (omega (arith, a.follows)) (made_both first.made here.1) }
+pub row_taken : {r : Reading} {sizes : ElementSizes} {b : Form} {s i n : ℕ} {old mid new : View} {m m' m'' : Meter} → SourceKept b r sizes n → i < n → TakesForCopy (elements_original r sizes i) (change b s 0 old mid m m') →
+    TakesForCopy (children_original (pointers_of r sizes.source i) sizes.kept.pointers) (change b s 0 mid new m' m'') → TakesForCopy (elements_original r sizes (i + 1)) (change b s 0 old new m m'')
+row_taken {r} {sizes} {b} {s} {n = n} {mid = mid} {new} {m} {m'} {m''} fits less (es, counts, are_read, made) (ts, all, next, more) =
+    let here : (one : ReadsAll b (pointers_of r sizes.source (element_count es)) m' m'' ts) × MakesAtMost s mid new one.cost (pointers_in_all ts) = rw counts (next, more) in
+    let a = one_row_more b r sizes n m m' m'' es ts fits are_read (omega (arith, counts, less)) all here.0 in
+    (a.all, a.counts ∙ omega (arith, counts), a.are_read, made_more (omega (arith, a.costs)) (omega (arith, a.follows)) (made_both made here.1))
 
-pub row_stop_taken : {r : Reading} {sizes : ElementSizes} {b : Form} {s p p' i n : ℕ} {old mid new : View} {m m' m'' : Meter} → SourceKept b r sizes n → i < n → TakesForElements r sizes.source i (change b s p old mid m m') →
-    TakesAmong (pointers_of r sizes.source i) sizes.kept.pointers (change b s p' mid new m' m'') → TakesAmongElements r sizes.source n (change b s p old new m m'')
+pub row_stop_taken : {r : Reading} {sizes : ElementSizes} {b : Form} {s i n : ℕ} {old mid new : View} {m m' m'' : Meter} → SourceKept b r sizes n → i < n → TakesForCopy (elements_original r sizes i) (change b s 0 old mid m m') →
+    TakesUntilStop (children_original (pointers_of r sizes.source i) sizes.kept.pointers) (change b s 0 mid new m' m'') → TakesUntilStop (elements_original r sizes n) (change b s 0 old new m m'')
 unfolding stops_sooner
-row_stop_taken {r} {sizes} {b} {s} {mid = mid} {new} {m' = m'} {m''} fits less first stop =
-    let es = first.elements in
-    let here : (one : BreaksOffAmong b (pointers_of r sizes.source (element_count es)) sizes.kept.pointers m' m'') × MakesAtMost s (cost_among one) (followed_among one) mid new = rw first.counts (stop.off, stop.made) in
-    record { off = record { first = es; fewer = omega (arith, first.counts, less); mid = m'; are_read = first.are_read; stops = stops_sooner fits.less_pointers here.0 }; made = made_more (omega arith) (omega arith) (made_both first.made here.1) }
+row_stop_taken {r} {sizes} {b} {s} {mid = mid} {new} {m' = m'} {m''} fits less (es, counts, are_read, made) stop =
+    let here : (one : BreaksOffAmong b (pointers_of r sizes.source (element_count es)) sizes.kept.pointers m' m'') × MakesAtMost s mid new (spent_among one).words (spent_among one).pointers = rw counts (stop.0, stop.1) in
+    (record { first = es; fewer = omega (arith, counts, less); mid = m'; are_read = are_read; stops = stops_sooner fits.less_pointers here.0 }, made_more (omega arith) (omega arith) (made_both made here.1))
 
-pub rows_taken : {r : Reading} {size : StructSize} {i j : ℕ} {c : Change} → i ≡ j → TakesForElements r size i c → TakesForElements r size j c
-rows_taken {r} {size} {c = c} same taken = subst (λ k. TakesForElements r size k c) same taken
+pub rows_taken : {r : Reading} {b : Form} {s i j : ℕ} {old new : View} {m m' : Meter} (sizes : ElementSizes) → i ≡ j → TakesForCopy (elements_original r sizes i) (change b s 0 old new m m') → TakesForCopy (elements_original r sizes j) (change b s 0 old new m m')
+rows_taken sizes same (es, counts, are_read, made) = (es, counts ∙ same, are_read, made)
 
 -- No words are taken before something is copied, and none behind.
 
-pub all_within : {r : Reading} {b : Form} {s p p' i : ℕ} {old mid last new : View} {m m' : Meter} → TakesNone old mid → TakesNone last new → TakesForAll r i (change b s p mid last m m') → TakesForAll r i (change b s p' old new m m')
-all_within before after x = record { children = x.children; counts = x.counts; are_read = x.are_read; made = made_within before after x.made }
+pub all_within : {r : Reading} {b : Form} {s i : ℕ} {old mid last new : View} {m m' : Meter} → TakesNone old mid → TakesNone last new → TakesForCopy (children_original r i) (change b s 0 mid last m m') → TakesForCopy (children_original r i) (change b s 0 old new m m')
+all_within before after (ts, counts, are_read, made) = (ts, counts, are_read, made_within before after made)
 
-pub among_within : {r : Reading} {b : Form} {s p p' i j : ℕ} {old mid last new : View} {m m' : Meter} → i ≤ j → TakesNone old mid → TakesNone last new → TakesAmong r i (change b s p mid last m m') → TakesAmong r j (change b s p' old new m m')
+pub among_within : {r : Reading} {b : Form} {s i j : ℕ} {old mid last new : View} {m m' : Meter} → i ≤ j → TakesNone old mid → TakesNone last new → TakesUntilStop (children_original r i) (change b s 0 mid last m m') → TakesUntilStop (children_original r j) (change b s 0 old new m m')
 unfolding stops_sooner
-among_within fewer before after x = record { off = stops_sooner fewer x.off; made = made_within before after x.made }
+among_within fewer before after (off, made) = (stops_sooner fewer off, made_within before after made)
 
 -- of what a place means, of a struct, and of a list
 
-pub value_within : (r : Reading) (c d : Change) → TakesNone d.old c.old → TakesNone c.new d.new → d.segment ≡ c.segment → (value_original r).takes c.form c.before c.after (Gains c) → (value_original r).takes c.form c.before c.after (Gains d)
-value_within r c d before after same (t, x, made) = (t, x, gains_within c d before after same made)
+pub value_within : (r : Reading) (c d : Change) → TakesNone d.old c.old → TakesNone c.new d.new → d.segment ≡ c.segment → (value_original r).takes c.form c.before c.after (MakesAtMost c.segment c.old c.new) → (value_original r).takes c.form c.before c.after (MakesAtMost d.segment d.old d.new)
+value_within r c d before after same (t, x, made) = (t, x, made_elsewhere c d before after same made)
 
-pub until_within : (r : Reading) (c d : Change) → TakesNone d.old c.old → TakesNone c.new d.new → d.segment ≡ c.segment → (value_original r).takes_until c.form c.before c.after (Gains c) → (value_original r).takes_until c.form c.before c.after (Gains d)
-until_within r c d before after same (x, made) = (x, gains_within c d before after same made)
+pub until_within : (r : Reading) (c d : Change) → TakesNone d.old c.old → TakesNone c.new d.new → d.segment ≡ c.segment → (value_original r).takes_until c.form c.before c.after (MakesAtMost c.segment c.old c.new) → (value_original r).takes_until c.form c.before c.after (MakesAtMost d.segment d.old d.new)
+until_within r c d before after same (x, made) = (x, made_elsewhere c d before after same made)
 
-pub sections_within : (ws : List ℕ) (r : Reading) (q : ℕ) (c d : Change) → TakesNone d.old c.old → TakesNone c.new d.new → d.segment ≡ c.segment → (sections_original ws r q).takes c.form c.before c.after (Gains c) →
-    (sections_original ws r q).takes c.form c.before c.after (Gains d)
-sections_within ws r q c d before after same (ts, counts, x, made) = (ts, counts, x, gains_within c d before after same made)
+pub sections_within : (ws : List ℕ) (r : Reading) (q : ℕ) (c d : Change) → TakesNone d.old c.old → TakesNone c.new d.new → d.segment ≡ c.segment → (sections_original ws r q).takes c.form c.before c.after (MakesAtMost c.segment c.old c.new) →
+    (sections_original ws r q).takes c.form c.before c.after (MakesAtMost d.segment d.old d.new)
+sections_within ws r q c d before after same (ts, counts, x, made) = (ts, counts, x, made_elsewhere c d before after same made)
 
-pub sections_until_within : (ws : List ℕ) (r : Reading) (q : ℕ) (c d : Change) → TakesNone d.old c.old → TakesNone c.new d.new → d.segment ≡ c.segment → (sections_original ws r q).takes_until c.form c.before c.after (Gains c) →
-    (sections_original ws r q).takes_until c.form c.before c.after (Gains d)
+pub sections_until_within : (ws : List ℕ) (r : Reading) (q : ℕ) (c d : Change) → TakesNone d.old c.old → TakesNone c.new d.new → d.segment ≡ c.segment → (sections_original ws r q).takes_until c.form c.before c.after (MakesAtMost c.segment c.old c.new) →
+    (sections_original ws r q).takes_until c.form c.before c.after (MakesAtMost d.segment d.old d.new)
 sections_until_within ws r q c d before after same tried = elim tried [
-  | inl x ↦ inl (x.0, gains_within c d before after same x.1)
-  | inr x ↦ inr (x.0, gains_within c d before after same x.1)
+  | inl x ↦ inl (x.0, made_elsewhere c d before after same x.1)
+  | inr x ↦ inr (x.0, made_elsewhere c d before after same x.1)
 ]
 
 list_more : (size : ElementSize) (sections : StructSize) (n : ℕ) (r : Reading) (b : Form) (m m' : Meter) (P Q : ℕ → ℕ → Type 0) → ((i j : ℕ) → P i j → Q i j) → (list_original size sections n r).takes b m m' P → (list_original size sections n r).takes b m m' Q
@@ -298,42 +303,42 @@ list_until_more TwoBytes sections n r b m m' P Q f (same, made) = (same, f _ _ m
 list_until_more FourBytes sections n r b m m' P Q f (same, made) = (same, f _ _ made)
 list_until_more EightBytes sections n r b m m' P Q f (same, made) = (same, f _ _ made)
 
-pub list_within : (size : ElementSize) (sections : StructSize) (n : ℕ) (r : Reading) (c d : Change) → TakesNone d.old c.old → TakesNone c.new d.new → d.segment ≡ c.segment → (list_original size sections n r).takes c.form c.before c.after (Gains c) →
-    (list_original size sections n r).takes c.form c.before c.after (Gains d)
-list_within size sections n r c d before after same x = list_more size sections n r c.form c.before c.after (Gains c) (Gains d) (λ i j made. gains_within c d before after same made) x
+pub list_within : (size : ElementSize) (sections : StructSize) (n : ℕ) (r : Reading) (c d : Change) → TakesNone d.old c.old → TakesNone c.new d.new → d.segment ≡ c.segment → (list_original size sections n r).takes c.form c.before c.after (MakesAtMost c.segment c.old c.new) →
+    (list_original size sections n r).takes c.form c.before c.after (MakesAtMost d.segment d.old d.new)
+list_within size sections n r c d before after same x = list_more size sections n r c.form c.before c.after (MakesAtMost c.segment c.old c.new) (MakesAtMost d.segment d.old d.new) (λ i j made. made_elsewhere c d before after same made) x
 
-pub list_until_within : (size : ElementSize) (sections : StructSize) (n : ℕ) (r : Reading) (c d : Change) → TakesNone d.old c.old → TakesNone c.new d.new → d.segment ≡ c.segment → (list_original size sections n r).takes_until c.form c.before c.after (Gains c) →
-    (list_original size sections n r).takes_until c.form c.before c.after (Gains d)
-list_until_within size sections n r c d before after same x = list_until_more size sections n r c.form c.before c.after (Gains c) (Gains d) (λ i j made. gains_within c d before after same made) x
+pub list_until_within : (size : ElementSize) (sections : StructSize) (n : ℕ) (r : Reading) (c d : Change) → TakesNone d.old c.old → TakesNone c.new d.new → d.segment ≡ c.segment → (list_original size sections n r).takes_until c.form c.before c.after (MakesAtMost c.segment c.old c.new) →
+    (list_original size sections n r).takes_until c.form c.before c.after (MakesAtMost d.segment d.old d.new)
+list_until_within size sections n r c d before after same x = list_until_more size sections n r c.form c.before c.after (MakesAtMost c.segment c.old c.new) (MakesAtMost d.segment d.old d.new) (λ i j made. made_elsewhere c d before after same made) x
 
 -- An object is made before pointers are copied to it.
 
-pub pointers_behind : (r : Reading) (i : ℕ) (b : Form) (s k p : ℕ) (old mid new : View) (m m' : Meter) → Begins s k i old mid → TakesForAll r i (change b k p mid new m m') → TakesForCopy (pointers_original i r) (change b s p old new m m')
-pointers_behind r i b s k p old mid new m m' begun x = (x.children, x.counts, x.are_read, made_object begun x.made)
+pub pointers_behind : (r : Reading) (i : ℕ) (b : Form) (s k : ℕ) (old mid new : View) (m m' : Meter) → Begins s k i old mid → TakesForCopy (children_original r i) (change b k 0 mid new m m') → TakesForCopy (pointers_original i r) (change b s 0 old new m m')
+pointers_behind r i b s k old mid new m m' begun (ts, counts, are_read, made) = (ts, counts, are_read, made_object begun made)
 
-pub pointers_stop_behind : (r : Reading) (i : ℕ) (b : Form) (s k p : ℕ) (old mid new : View) (m m' : Meter) → Begins s k i old mid → TakesAmong r i (change b k p mid new m m') → TakesUntilStop (pointers_original i r) (change b s p old new m m')
-pointers_stop_behind r i b s k p old mid new m m' begun x = inr (x.off, made_object begun x.made)
+pub pointers_stop_behind : (r : Reading) (i : ℕ) (b : Form) (s k : ℕ) (old mid new : View) (m m' : Meter) → Begins s k i old mid → TakesUntilStop (children_original r i) (change b k 0 mid new m m') → TakesUntilStop (pointers_original i r) (change b s 0 old new m m')
+pointers_stop_behind r i b s k old mid new m m' begun (off, made) = inr (off, made_object begun made)
 
-pub structs_behind : (r : Reading) (size : StructSize) (i n : ℕ) (b : Form) (s k p : ℕ) (old mid new : View) (m m' : Meter) → Begins s k n old mid → n ≤ structs_words i size → TakesForElements r size i (change b k p mid new m m') →
-    TakesForCopy (structs_original size i r) (change b s p old new m m')
-structs_behind r size i n b s k p old mid new m m' begun less x = (x.elements, x.counts, x.are_read, made_more (omega (arith, less)) (omega arith) (made_object begun x.made))
+pub structs_behind : (r : Reading) (sizes : ElementSizes) (i n : ℕ) (b : Form) (s k : ℕ) (old mid new : View) (m m' : Meter) → Begins s k n old mid → n ≤ structs_words i sizes.source → TakesForCopy (elements_original r sizes i) (change b k 0 mid new m m') →
+    TakesForCopy (structs_original sizes.source i r) (change b s 0 old new m m')
+structs_behind r sizes i n b s k old mid new m m' begun less (es, counts, are_read, made) = (es, counts, are_read, made_more (omega (arith, less)) (omega arith) (made_object begun made))
 
-pub structs_stop_behind : (r : Reading) (size : StructSize) (i n : ℕ) (b : Form) (s k p : ℕ) (old mid new : View) (m m' : Meter) → Begins s k n old mid → n ≤ structs_words i size → TakesAmongElements r size i (change b k p mid new m m') →
-    TakesUntilStop (structs_original size i r) (change b s p old new m m')
-structs_stop_behind r size i n b s k p old mid new m m' begun less x = inr (x.off, made_more (omega (arith, less)) (omega arith) (made_object begun x.made))
+pub structs_stop_behind : (r : Reading) (sizes : ElementSizes) (i n : ℕ) (b : Form) (s k : ℕ) (old mid new : View) (m m' : Meter) → Begins s k n old mid → n ≤ structs_words i sizes.source → TakesUntilStop (elements_original r sizes i) (change b k 0 mid new m m') →
+    TakesUntilStop (structs_original sizes.source i r) (change b s 0 old new m m')
+structs_stop_behind r sizes i n b s k old mid new m m' begun less (off, made) = inr (off, made_more (omega (arith, less)) (omega arith) (made_object begun made))
 
 -- A struct is made of the pointers that are kept: all of them are read.
 
-pub sections_behind : (ws : List ℕ) (r : Reading) (q used n : ℕ) (b : Form) (s k p : ℕ) (old mid new : View) (m m' : Meter) → r.at + q ≤ length (segment_read r) → used ≡ kept_count b (words_from r q) → Begins s k n old mid → n ≤ length ws + q →
-    TakesForAll r used (change b k p mid new m m') → TakesForCopy (sections_original ws r q) (change b s p old new m m')
-sections_behind ws r q used n b s k p old mid new m m' room cut begun less x =
-    let f = sections_kept b [] r q m m' x.children room (x.counts ∙ cut) x.are_read in
-    (f.all, f.counts, f.are_read, made_more (omega (arith, less, f.costs)) (omega (arith, f.follows)) (made_object begun x.made))
+pub sections_behind : (ws : List ℕ) (r : Reading) (q used n : ℕ) (b : Form) (s k : ℕ) (old mid new : View) (m m' : Meter) → r.at + q ≤ length (segment_read r) → used ≡ kept_count b (words_from r q) → Begins s k n old mid → n ≤ length ws + q →
+    TakesForCopy (children_original r used) (change b k 0 mid new m m') → TakesForCopy (sections_original ws r q) (change b s 0 old new m m')
+sections_behind ws r q used n b s k old mid new m m' room cut begun less (ts, counts, are_read, made) =
+    let f = sections_kept b [] r q m m' ts room (counts ∙ cut) are_read in
+    (f.all, f.counts, f.are_read, made_more (omega (arith, less, f.costs)) (omega (arith, f.follows)) (made_object begun made))
 
-pub sections_stop_behind : (ws : List ℕ) (r : Reading) (q used n : ℕ) (b : Form) (s k p : ℕ) (old mid new : View) (m m' : Meter) → used ≤ q → Begins s k n old mid → n ≤ length ws + q → TakesAmong r used (change b k p mid new m m') →
-    TakesUntilStop (sections_original ws r q) (change b s p old new m m')
+pub sections_stop_behind : (ws : List ℕ) (r : Reading) (q used n : ℕ) (b : Form) (s k : ℕ) (old mid new : View) (m m' : Meter) → used ≤ q → Begins s k n old mid → n ≤ length ws + q → TakesUntilStop (children_original r used) (change b k 0 mid new m m') →
+    TakesUntilStop (sections_original ws r q) (change b s 0 old new m m')
 unfolding stops_sooner
-sections_stop_behind ws r q used n b s k p old mid new m m' fewer begun less x = inr (stops_sooner fewer x.off, made_more (omega (arith, less)) (omega arith) (made_object begun x.made))
+sections_stop_behind ws r q used n b s k old mid new m m' fewer begun less (off, made) = inr (stops_sooner fewer off, made_more (omega (arith, less)) (omega arith) (made_object begun made))
 
 -- elements with sections that are no wider take no more words
 pub no_wider : (n a b c d : ℕ) → a ≤ c → b ≤ d → n * (a + b) ≤ n * (c + d)
@@ -358,8 +363,16 @@ capability_stop_takes {i = i} {v} {m} {m'} object = (here (inl (CannotCreateACan
 pub default_stop_takes : {r : Reading} {s i : ℕ} {v : View} {m m' : Meter} → IsObject Value r m m' (ObjectCapability i) → TakesUntilStop (value_original r) (change of_default s 0 v v m m')
 default_stop_takes {i = i} {v} {m} {m'} object = (here (inl (UnknownPointerType, default_stopped m m' i object)), made_none (none_itself v))
 
+pub capability_value_takes : {b : Form} {s p i : ℕ} {old new : View} (r : Reading) (m m' : Meter) (result : Result (Unit {0}) ErrorKind) → IsObject Value r m m' (ObjectCapability i) → CapabilityCopied result b s p i old new → TakesAtMost result (value_original r) (change b s p old new m m')
+capability_value_takes {b} {s} {p} {i} {old} {new} r m m' (Ok x) object o =
+    subst (λ f. TakesForCopy (value_original r) (change f s 0 old new m m')) (sym o.as_it_stands) (capability_takes object (none_word old new s p (capability_word i) o.copied))
+capability_value_takes {b} {s} {p} {i} {old} {new} r m m' (Err k) object o = elim o.refused [
+  | inl x ↦ rw (x.0, o.unchanged) (capability_stop_takes object)
+  | inr x ↦ rw (x.0, o.unchanged) (default_stop_takes object)
+]
+
 -- an object is read, and there is no room for it
-entered_takes : (r : Reading) (b : Form) (s : ℕ) (old new : View) (m m' m'' : Meter) {a : Target} → Entered Value r m m' a → m'' ≡ m' → MakesAtMost s 0 0 old new → TakesUntilStop (value_original r) (change b s 0 old new m m'')
+entered_takes : (r : Reading) (b : Form) (s : ℕ) (old new : View) (m m' m'' : Meter) {a : Target} → Entered Value r m m' a → m'' ≡ m' → MakesAtMost s old new 0 0 → TakesUntilStop (value_original r) (change b s 0 old new m m'')
 entered_takes r b s old new m m' m'' {a} o same none =
     subst (λ n. TakesUntilStop (value_original r) (change b s 0 old new m n)) (sym same) (here (inr (a, o)), none)
 
@@ -370,7 +383,7 @@ struct_takes {r} {b} {s} {levels = levels} {old} {new} {m' = m'} {m''} {size} st
     let en = less o.meets.levels in
     let e : start.at ≡ a.start = omega arith in
     let fewer = length-take size.data_words (drop start.at (segment r.segments start.segment)) in
-    let given : (all : ReadsAll b (behind (inside r levels start) size.data_words) m' m'' ts) × MakesAtMost s (size.data_words + size.pointers + all.cost) (1 + pointers_in_all ts) old new = (read, made_more (omega (arith, fewer)) (omega arith) made) in
+    let given : (all : ReadsAll b (behind (inside r levels start) size.data_words) m' m'' ts) × MakesAtMost s old new (size.data_words + size.pointers + all.cost) (1 + pointers_in_all ts) = (read, made_more (omega (arith, fewer)) (omega arith) made) in
     let all = rw (en, es, e, ed, eq) at given in
     (Struct (words_at r.segments a.segment a.start (data_words a.word)) ts, read_struct o z (counts ∙ eq) all.0, made_more (omega (arith, own_struct r.segments a z)) (omega arith) all.1)
 
@@ -383,7 +396,7 @@ struct_stop_takes {r} {b} {s} {levels} {old} {new} {m} {m'} {m''} {size} start l
     elim tried [
       | inl nothing ↦ entered_takes r b s old new m m' m'' o nothing.0 nothing.1
       | inr x ↦
-          (let given : (off : BreaksOffAmong b (behind (inside r levels start) size.data_words) size.pointers m' m'') × MakesAtMost s (size.data_words + size.pointers + cost_among off) (1 + followed_among off) old new = (x.0, made_more (omega (arith, length-take size.data_words (drop start.at (segment r.segments start.segment)))) (omega arith) x.1) in
+          (let given : (off : BreaksOffAmong b (behind (inside r levels start) size.data_words) size.pointers m' m'') × MakesAtMost s old new (size.data_words + size.pointers + (spent_among off).words) (1 + (spent_among off).pointers) = (x.0, made_more (omega (arith, length-take size.data_words (drop start.at (segment r.segments start.segment)))) (omega arith) x.1) in
           let off = rw (en, es, e, ed, eq) at given in
           (stops_struct o z off.0, made_more (omega (arith, own_struct r.segments a z)) (omega arith) off.1))
     ]
@@ -394,7 +407,7 @@ unfolding read_pointers
 pointers_take {r} {b} {s} {levels = levels} {i} {old} {new} {m' = m'} {m''} start less (a, o, z, six, (held, es, eb), ei) (ts, counts, read, made) =
     let en = less o.meets.levels in
     let e : start.at ≡ a.start = omega arith in
-    let given : (all : ReadsAll b (inside r levels start) m' m'' ts) × MakesAtMost s (i + all.cost) (1 + pointers_in_all ts) old new = (read, made) in
+    let given : (all : ReadsAll b (inside r levels start) m' m'' ts) × MakesAtMost s old new (i + all.cost) (1 + pointers_in_all ts) = (read, made) in
     let all = rw (en, es, e) at given in
     (Pointers ts, read_pointers o z six (counts ∙ ei) all.0, made_more (omega (arith, own_pointers r.segments a z six, ei)) (omega arith) all.1)
 
@@ -407,7 +420,7 @@ pointers_stop_take {r} {b} {s} {levels} {i} {old} {new} {m} {m'} {m''} start les
     elim tried [
       | inl nothing ↦ entered_takes r b s old new m m' m'' o nothing.0 nothing.1
       | inr x ↦
-          (let given : (off : BreaksOffAmong b (inside r levels start) i m' m'') × MakesAtMost s (i + cost_among off) (1 + followed_among off) old new = (x.0, x.1) in
+          (let given : (off : BreaksOffAmong b (inside r levels start) i m' m'') × MakesAtMost s old new (i + (spent_among off).words) (1 + (spent_among off).pointers) = (x.0, x.1) in
           let off = rw (en, es, e, ei) at given in
           (stops_pointers o z six off.0, made_more (omega (arith, own_pointers r.segments a z six)) (omega arith) off.1))
     ]
@@ -418,7 +431,7 @@ unfolding read_structs
 structs_take {r} {b} {s} {levels = levels} {i} {old} {new} {m' = m'} {m''} {size} start less (a, o, z, seven, (held, eu, eb), ei, ed, eq) (es, counts, read, made) =
     let en = less o.meets.levels in
     let e : start.at ≡ a.start + 1 = omega arith in
-    let given : (all : ReadsElements b (inside r levels start) size m' m'' es) × MakesAtMost s (1 + i * (size.data_words + size.pointers) + all.cost) (1 + pointers_in_elements es) old new = (read, made) in
+    let given : (all : ReadsElements b (inside r levels start) size m' m'' es) × MakesAtMost s old new (1 + i * (size.data_words + size.pointers) + all.cost) (1 + pointers_in_elements es) = (read, made) in
     let all = rw (en, eu, e, ed, eq, ei) at given in
     (Structs (data_words (tag r.segments a)) (pointer_count (tag r.segments a)) es, read_structs o z seven (counts ∙ ei) all.0, made_more (omega (arith, own_structs r.segments a z seven, (o.meets.tagged (z, seven)).1)) (omega arith) all.1)
 
@@ -431,12 +444,12 @@ structs_stop_take {r} {b} {s} {levels} {i} {old} {new} {m} {m'} {m''} {size} sta
     elim tried [
       | inl nothing ↦ entered_takes r b s old new m m' m'' o nothing.0 nothing.1
       | inr x ↦
-          (let given : (off : BreaksOffAmongElements b (inside r levels start) size i m' m'') × MakesAtMost s (1 + i * (size.data_words + size.pointers) + cost_among_elements off) (1 + followed_among_elements off) old new = (x.0, x.1) in
+          (let given : (off : BreaksOffAmongElements b (inside r levels start) size i m' m'') × MakesAtMost s old new (1 + i * (size.data_words + size.pointers) + (spent_among_elements off).words) (1 + (spent_among_elements off).pointers) = (x.0, x.1) in
           let off = rw (en, eu, e, ed, eq, ei) at given in
           (stops_structs o z seven off.0, made_more (omega (arith, own_structs r.segments a z seven, (o.meets.tagged (z, seven)).1)) (omega arith) off.1))
     ]
 
-pub flat_takes : {r : Reading} {b : Form} {s i : ℕ} {old new : View} {m m' : Meter} (size : ElementSize) (start : Place) → IsObject Value r m m' (ObjectFlat start size i) → MakesAtMost s (words_for (size_number size) i) 1 old new → TakesForCopy (value_original r) (change b s 0 old new m m')
+pub flat_takes : {r : Reading} {b : Form} {s i : ℕ} {old new : View} {m m' : Meter} (size : ElementSize) (start : Place) → IsObject Value r m m' (ObjectFlat start size i) → MakesAtMost s old new (words_for (size_number size) i) 1 → TakesForCopy (value_original r) (change b s 0 old new m m')
 unfolding read_flat
 flat_takes {r} size start (a, o, z, small, at, es, ec) made =
     let given = rw (es, ec) at made in
@@ -457,7 +470,7 @@ nothing_for_list TwoBytes sections n r b m P none = (refl, none)
 nothing_for_list FourBytes sections n r b m P none = (refl, none)
 nothing_for_list EightBytes sections n r b m P none = (refl, none)
 
-pub numbers_take : {A E : Type 0} (result : Result A E) (size : ElementSize) (n : ℕ) (r : Reading) (b : Form) (s p : ℕ) (old new : View) (m : Meter) → MatchResult result (λ _. MakesAtMost s (words_for (size_number size) n) 1 old new) (λ _. TakesNone old new) →
+pub numbers_take : {A E : Type 0} (result : Result A E) (size : ElementSize) (n : ℕ) (r : Reading) (b : Form) (s p : ℕ) (old new : View) (m : Meter) → MatchResult result (λ _. MakesAtMost s old new (words_for (size_number size) n) 1) (λ _. TakesNone old new) →
     TakesAtMost result (numbers_original size n r) (change b s p old new m m)
 numbers_take (Ok x) size n r b s p old new m made = (refl, made)
 numbers_take (Err k) size n r b s p old new m none = (refl, made_none none)
@@ -519,7 +532,7 @@ abbrev Covered : Bool → Meter → ℕ → ℕ → Type 0
 Covered charging m g f = Affords charging m g × (f ≤ g + 1)
 
 covered_below : {form : Form} {r : Reading} {m first mid : Meter} {q : ℕ} {a : Target} (g f : ℕ) → Entered Value r m first a → (before : ReadsBefore form r a q first mid) → Covered r.charging mid g f →
-    Covered r.charging m (own Value r.segments a + (cost_before before + g)) (1 + (followed_before before + f))
+    Covered r.charging m (own Value r.segments a + ((spent_before before).words + g)) (1 + ((spent_before before).pointers + f))
 covered_below {r = r} {a = a} g f o (in_struct ts z fewer e all) (covers, few) =
     let own_words = own_struct r.segments a z in
     let within = pointers_within_all (child_at r a (pred r.levels) (a.start + data_words a.word)) ts all.cost all.means in
@@ -541,27 +554,25 @@ covered_below {r = r} {m = m} {a = a} g f o (in_element es ts between (z, seven)
       omega (arith, few, less, own_words, fits, in_rows, within, one_element_more (element_count es) n q fewer, fewer_than_words n (data_words (tag S a)) q),
     )
 
-covered_until : {form : Form} {P : Reading → Meter → Meter → Type 0} {r : Reading} {m m' : Meter} (off : StopsWithin form P r m m') → Covered r.charging m (cost_until off) (followed_until off)
+covered_until : {form : Form} {P : Reading → Meter → Meter → Type 0} {r : Reading} {m m' : Meter} (off : StopsWithin form P r m m') → Covered r.charging m (spent_until off).words ((spent_until off).pointers)
 covered_until {r = r} {m} (here stops) = (affords_none r.charging m, omega arith)
-covered_until (below a q o before rest) = covered_below (cost_until rest) (followed_until rest) o before (covered_until rest)
+covered_until (below a q o before rest) = covered_below (spent_until rest).words (spent_until rest).pointers o before (covered_until rest)
 
 -- where it is charged, of a budget of x words
 covered_by : (charging : Bool) (m : Meter) (g x : ℕ) → charging ≡ true → m.left ≡ Some x → Affords charging m g → g ≤ x
 covered_by charging m g x charged budget covers = let all : Affords true m g = subst (λ b. Affords b m g) charged covers in rw budget at all
 
-few_of : (c : Change) (x : ℕ) → Gains c x (x + 1) → c.after.followed ≤ c.before.followed + (x + 1) → TakesFew c x
+few_of : (c : Change) (x : ℕ) → MakesAtMost c.segment c.old c.new x (x + 1) → c.after.followed ≤ c.before.followed + (x + 1) → TakesFew c x
 few_of c x made followed =
     let apart = pads_apart c.segment made.words made.pads c.old c.new made.made in
     record { made = made; words = omega (arith, apart.0, made.less); alone = λ there fits. apart.1 there (stay_fewer c.old c.new c.segment x made.words made.less fits); followed = followed }
 
 pub few_taken : FewTaken
-few_taken r c x charged budget taken = elim taken [
-  | inl whole ↦
-      (let paid = covered_by r.charging c.before whole.1.cost x charged budget whole.1.covers in
-      let few = pointers_within r.segments r.levels r.segment r.at whole.0 (whole.1.cost, whole.1.means) in
-      few_of c x (made_more paid (omega (arith, paid, few)) whole.2) (few_followed c.before c.after x budget (subst (λ b. Spends b c.before c.after 1) charged (reading_spends whole.1))))
-  | inr until ↦
-      (let covered = covered_until until.0 in
-      let paid = covered_by r.charging c.before (cost_until until.0) x charged budget covered.0 in
-      few_of c x (made_more paid (omega (arith, paid, covered.1)) until.1) (few_followed c.before c.after x budget (subst (λ b. Spends b c.before c.after 1) charged (breaks_off_spends until.0))))
-]
+few_taken r c x (Ok done) charged budget whole =
+    let paid = covered_by r.charging c.before whole.1.cost x charged budget whole.1.covers in
+    let few = pointers_within r.segments r.levels r.segment r.at whole.0 (whole.1.cost, whole.1.means) in
+    few_of c x (made_more paid (omega (arith, paid, few)) whole.2) (few_followed c.before c.after x budget (subst (λ b. Spends b c.before c.after 1) charged (reading_spends whole.1)))
+few_taken r c x (Err k) charged budget until =
+    let covered = covered_until until.0 in
+    let paid = covered_by r.charging c.before (spent_until until.0).words x charged budget covered.0 in
+    few_of c x (made_more paid (omega (arith, paid, covered.1)) until.1) (few_followed c.before c.after x budget (subst (λ b. Spends b c.before c.after 1) charged (breaks_off_spends until.0)))

@@ -13,11 +13,11 @@ use Rattle.capnp_making.specs.Filled.{AreElementsFilled}
 use Rattle.capnp_making.proofs.WordsPut.{none_over}
 use Rattle.capnp_objects.specs.Outcomes.{ReadsAll, ReadsElements, MeanThere, ElementsMean}
 use Rattle.capnp_objects.specs.Refusals.{StopsAmong}
-use Rattle.capnp_objects.specs.Reading.{Reading, behind, segment_read, words_from, pointers_of}
+use Rattle.capnp_objects.specs.Reading.{Reading, behind, sized, segment_read, words_from, pointers_of}
 use Rattle.capnp_objects.specs.Spending.{pointers_in_all, pointers_in_elements}
 use Rattle.capnp_objects.specs.Wanted.{Form, canonical}
 use Rattle.capnp_objects.proofs.Copies.{with_last_element, count-with_last_element, pointers_in-with_last_element, read_element, read_none, read_no_element}
-use Rattle.capnp_copies.specs.Widths.{KeepsSections, KeepsPointers, widths_kept}
+use Rattle.capnp_copies.specs.Widths.{KeepsPointers, widths_kept}
 use Rattle.capnp_copies.specs.Forms.{kept, kept_each, kept_elements}
 use Rattle.capnp_copies.specs.Originals.{kept_count}
 use Rattle.capnp_copies.specs.declared.widths.ElementSizes.{ElementSizes}
@@ -25,7 +25,7 @@ use Rattle.capnp_copies.proofs.ElementsCopied.{SourceFits, another, pointers_wit
 use Rattle.capnp_copies.proofs.ElementsLaid.{words_taken}
 use Rattle.capnp_copies.proofs.KeptChildren.{cut_kept-count}
 use Rattle.capnp_copies.proofs.ListSteps.{AreLeast, trimmed_list}
-use Rattle.capnp_copies.proofs.StructSteps.{struct_filled}
+use Rattle.capnp_copies.proofs.StructSteps.{Uses, struct_filled}
 use Rattle.capnp_copies.proofs.UsedChildren.{used_children, means_taken, trim-struct}
 
 -- children
@@ -33,6 +33,18 @@ use Rattle.capnp_copies.proofs.UsedChildren.{used_children, means_taken, trim-st
 -- what stops among the first pointers stops among them all
 unfoldable pub stops_sooner : {form : Form} {P : Reading → Meter → Meter → Type 0} {r : Reading} {m m' : Meter} {q used : ℕ} → used ≤ q → StopsAmong form P r used m m' → StopsAmong form P r q m m'
 stops_sooner le h = record { first = h.first; fewer = omega (arith, h.fewer, le); mid = h.mid; are_read = h.are_read; stops = h.stops }
+
+-- the sections that a copy in a form keeps of a struct
+
+abbrev pub KeepsSections : Form → Reading → StructSize → StructSize → Type 0
+KeepsSections canonical r size least = Uses r size least
+KeepsSections _ r size least = least ≡ size
+
+pub keeps_sections : (b : Form) (r : Reading) (size least : StructSize) → r.at + (size.data_words + size.pointers) ≤ length (segment_read r) → least.data_words ≡ kept_count b (words_from r size.data_words) →
+    least.pointers ≡ kept_count b (words_from (behind r size.data_words) size.pointers) → least.data_words ≤ size.data_words → least.pointers ≤ size.pointers → KeepsSections b r size least
+keeps_sections canonical r size least inside wide many less_data less_pointers = record { of_data = wide; of_pointers = many; less_data = less_data; less_pointers = less_pointers }
+keeps_sections _ r size least inside wide many less_data less_pointers =
+    ap₂ sized (wide ∙ length_words r.segments r.segment r.at size.data_words (omega (arith, inside))) (many ∙ length_words r.segments r.segment (r.at + size.data_words) size.pointers (omega (arith, inside)))
 
 -- a struct, of which the kept pointers were read
 

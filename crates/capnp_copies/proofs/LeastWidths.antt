@@ -7,7 +7,8 @@ use Rattle.capnp_words.specs.declared.wire_pointer.StructSize.{StructSize}
 use Rattle.capnp_objects.specs.Outcomes.{MeansThere, MeanThere, ElementsMean}
 use Rattle.capnp_objects.specs.Reading.{Reading, behind, segment_read, word_of, words_from}
 use Rattle.capnp_format.specs.Canonical.{used_from, used_words, is_null, used_trees, data_width, pointer_width}
-use Rattle.capnp_copies.specs.Widths.{data_used, pointers_used}
+use Rattle.capnp_copies.specs.Widths.{most_used}
+use Rattle.capnp_copies.proofs.Scanning.{data_used, pointers_used}
 
 -- a child is Null exactly where its pointer is zero
 pub means_is_null : (r : Reading) (t : Tree) (c : ℕ) → MeansThere r t c → nat_eq (word_of r) 0 ≡ is_null t
@@ -48,4 +49,4 @@ pointers_where_meant r size (element ws ts es) c l (k, m, long, len, e, all, res
     let d : ℕ = size.data_words in
     let q : ℕ = size.pointers in
     ap₂ max (sym (used_where_meant (behind r d) ts k (omega (arith, len)) all) ∙ ap (λ i. used_words (words_from (behind r d) i)) len)
-    (pointers_where_meant (next r size) size es m (omega arith) rest ∙ ap (λ i. pointers_used (segment_read r) i d q (element_count es)) (let b : r.at + d + q ≡ r.at + (d + q) = omega arith in b))
+    (pointers_where_meant (next r size) size es m (omega arith) rest ∙ ap (λ i. most_used (segment_read r) i q (d + q) (element_count es)) (let b : r.at + d + q + d ≡ r.at + d + (d + q) = omega arith in b))

@@ -1,3 +1,4 @@
+pub mod InPlace
 pub mod ChildrenCopied
 pub mod CopiesNear
 pub mod ChildrenSteps

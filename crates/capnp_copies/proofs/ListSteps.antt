@@ -14,10 +14,10 @@ use Rattle.capnp_objects.specs.Reading.{Reading, segment_read}
 use Rattle.capnp_objects.specs.Wanted.{Form}
 use Rattle.capnp_copies.specs.Forms.{kept_elements}
 use Rattle.capnp_copies.specs.Copied.{rows_laid}
-use Rattle.capnp_copies.specs.Copies.{IsCopied}
+use Rattle.capnp_copies.proofs.InPlace.{IsCopied}
 use Rattle.capnp_copies.proofs.CopiesNear.{TakesWords}
 use Rattle.capnp_copies.proofs.CopiesNear.{call_of, CopiesElements}
-use Rattle.capnp_copies.specs.Widths.{data_used, pointers_used}
+use Rattle.capnp_copies.proofs.Scanning.{data_used, pointers_used}
 use Rattle.capnp_copies.proofs.Copying.{there}
 use Rattle.capnp_copies.proofs.KeptChildren.{cut_kept-count}
 use Rattle.capnp_copies.proofs.LeastWidths.{data_where_meant, pointers_where_meant}

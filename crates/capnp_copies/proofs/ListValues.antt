@@ -18,18 +18,24 @@ use Rattle.capnp_making.specs.Near.{HasOwnRoom}
 use Rattle.capnp_making.specs.Stored.{IsReplaced}
 use Rattle.capnp_making.proofs.Memory.{keeps_itself, spends_nothing}
 use Rattle.capnp_objects.specs.Objects.{IsHeld}
-use Rattle.capnp_objects.specs.Reading.{Reading, words_from}
+use Rattle.capnp_objects.specs.Reading.{Reading, words_from, reading_at}
 use Rattle.capnp_objects.specs.declared.object.Place.{Place}
 use Rattle.capnp_objects.specs.Wanted.{Form}
 use Rattle.capnp_readers.specs.Sections.{IsPart, HasWordsFrom, elements_words}
-use Rattle.capnp_copies.specs.Changes.{Change, change, Fits, MakesCopy, StopsHalfway}
-use Rattle.capnp_copies.specs.Copies.{IsCopied}
+use Rattle.capnp_copies.specs.Changes.{Change, change, StayInSegment, MakesCopy, StopsHalfway}
+use Rattle.capnp_copies.proofs.InPlace.{IsCopied}
 use Rattle.capnp_copies.specs.Forms.{kept}
 use Rattle.capnp_copies.specs.Originals.{numbers_original, list_original, FitsListPointer}
 use Rattle.capnp_copies.specs.Rooms.{IsTooLarge}
 use Rattle.capnp_copies.proofs.FilledObjects.{nothing_left}
 use Rattle.capnp_copies.proofs.FilledValues.{FlatOutcome, kept_flat}
 use Rattle.capnp_copies.proofs.Originals.{halfway, list_exceeds}
+use Rattle.capnp_arena.specs.declared.arena.reader_arena.ReaderArena.{Ghosts}
+use Rattle.capnp_readers.specs.declared.readers.list_reader.ListReader.{ListReader}
+
+-- the place of the first element of a list that is read
+abbrev pub first_read : {A : Type 0} (g : Ghosts A) → ListReader A g → Reading
+first_read g value = reading_at g value.source value.start value.nesting_limit
 
 -- one that is too long leaves all as it was
 pub too_long : (size : ElementSize) (sections : StructSize) (n : ℕ) (r : Reading) {b : Form} {s p : ℕ} {v : View} {m : Meter} → IsPlace v.words s p → word_at v.words s p ≡ 0 → (FitsListPointer size n (sections.data_words + sections.pointers) → ⊥) →
@@ -106,7 +112,7 @@ numbers_copied size n r c bytes (Ok x) stand free f =
       is_read = (ap (λ ws. Flat (size_number size) (unpacked (size_number size) n ws)) stand, free);
       made = subst (IsReplaced c.old.words c.new.words c.segment c.at Null) (sym (kept_flat c.form (size_number size) ns)) f.copied;
       memory = f.granted;
-      stands = subst (λ t. Fits c (word_count t) → IsCopied c.old.words c.new.words c.segment c.at t) (sym (kept_flat c.form (size_number size) ns)) f.stands;
+      stands = subst (λ t. StayInSegment c.old c.new c.segment (word_count t) → IsCopied c.old.words c.new.words c.segment c.at t) (sym (kept_flat c.form (size_number size) ns)) f.stands;
     }
 numbers_copied size n r c bytes (Err k) stand free f = tt
 

@@ -13,7 +13,7 @@ use Rattle.capnp_objects.specs.declared.object.Purpose.TheVariants.{Value}
 use Rattle.capnp_objects.proofs.Copies.{read_stop, read_element_stop}
 use Rattle.capnp_objects.proofs.Refusals.{unreadable}
 use Rattle.capnp_copies.specs.Changes.{Change, StopsCopy}
-use Rattle.capnp_copies.specs.Copies.{CanBeCopied}
+use Rattle.capnp_copies.specs.Rooms.{CanBeCopied}
 use Rattle.capnp_copies.specs.Originals.{sections_original, list_original}
 use Rattle.capnp_copies.proofs.Originals.{refused_rightly}
 

@@ -1,5 +1,5 @@
 -- What is copied: what of it can be read, when it is too large, and a copy of it that is refused halfway.
-use Rattle.std.proofs.Common.{◌≡◌, ◌≢◌, inl, inr, ℕ, ◌+◌, ◌-◌, ◌^◌, ◌<◌, Bool, true, false, None, List, refl, sym, subst, arith}
+use Rattle.std.proofs.Common.{◌≡◌, ◌≢◌, ◌⊎◌, inl, inr, ℕ, ◌+◌, ◌-◌, ◌^◌, ◌<◌, Bool, true, false, None, List, length, refl, sym, subst, arith}
 use Rattle.capnp_words.specs.declared.error.ErrorKind.{ErrorKind}
 use Rattle.capnp_words.specs.declared.error.ErrorKind.TheVariants.{MessageTooLarge}
 use Rattle.capnp_words.specs.declared.wire_pointer.ElementSize.{ElementSize}
@@ -7,20 +7,21 @@ use Rattle.capnp_words.specs.declared.wire_pointer.ElementSize.TheVariants.{Void
 use Rattle.capnp_words.specs.declared.wire_pointer.StructSize.{StructSize}
 use Rattle.capnp_words.specs.Meter.{Meter, Affords, unused}
 use Rattle.capnp_format.specs.Tree.{Tree, Null, Struct, Pointers, Structs, Trees, Elements, count, element_count}
-use Rattle.capnp_format.specs.Canonical.{word_count}
+use Rattle.capnp_format.specs.Canonical.{cut_to, word_count, word_count_all, word_count_elements}
+use Rattle.capnp_format.specs.Segments.{segment}
 use Rattle.capnp_making.specs.Memory.{SpendsMemory}
 use Rattle.capnp_making.specs.Stored.{IsReplaced}
 use Rattle.capnp_objects.specs.Outcomes.{MeansThere, MeanThere, ElementsMean, Reads, ReadsAll, ReadsElements}
 use Rattle.capnp_objects.specs.Reading.{Reading, behind, words_from}
-use Rattle.capnp_objects.specs.Refusals.{Stopped}
+use Rattle.capnp_objects.specs.Refusals.{Stopped, StopsAmong, RefusedAll}
 use Rattle.capnp_objects.specs.Spending.{after, pointers_in, pointers_in_all, pointers_in_elements}
 use Rattle.capnp_objects.specs.Wanted.{Form, plain}
 use Rattle.capnp_objects.specs.declared.object.Purpose.TheVariants.{Value}
-use Rattle.capnp_copies.specs.Changes.{Change, RefusesToCopy, MakesCopy, StopsCopy, StopsHalfway}
-use Rattle.capnp_copies.specs.Copies.{CanBeCopied}
-use Rattle.capnp_copies.specs.Forms.{kept}
-use Rattle.capnp_copies.specs.Originals.{Original, value_original, sections_original, numbers_original, pointers_original, structs_original, list_original, FitsListPointer}
-use Rattle.capnp_copies.specs.Rooms.{IsTooLarge}
+use Rattle.capnp_copies.specs.Changes.{Change, LacksRoom, WantsWords, RefusesToCopy, MakesCopy, StopsCopy, StopsHalfway}
+use Rattle.capnp_copies.specs.Forms.{kept, kept_each, kept_elements}
+use Rattle.capnp_copies.specs.Originals.{Original, value_original, children_original, elements_original, sections_original, numbers_original, pointers_original, structs_original, list_original, FitsListPointer}
+use Rattle.capnp_copies.specs.Rooms.{IsTooLarge, CanBeCopied}
+use Rattle.capnp_copies.specs.declared.widths.ElementSizes.{ElementSizes}
 
 -- a limiter without a budget lets all be read
 
@@ -55,6 +56,33 @@ sections_large b ws r q used room large any m m' t (ts, is, counts, read) = subs
 pub sections_beyond : (b : Form) (ws : List ℕ) (r : Reading) (q used room : ℕ) → IsTooLarge b (sections_original ws r q) used room → AreTooLargeSections b ws r q used room
 sections_beyond b ws r q used room large ts c counts means = large plain (unused None) (after r.charging (unused None) c (pointers_in_all ts)) (Struct ws ts) (ts, refl, counts, all_read r ts c means)
 
+-- i pointers from a place on
+
+abbrev pub AreTooLarge : Form → Reading → ℕ → ℕ → ℕ → Type 0
+AreTooLarge b r i used room = (ts : Trees) (c : ℕ) → count ts ≡ i → MeanThere r ts c → room < used + word_count_all (kept_each b ts)
+
+pub children_large : (b : Form) (r : Reading) (i used room : ℕ) → AreTooLarge b r i used room → IsTooLarge b (children_original r i) used room
+children_large b r i used room large any m m' ts (counts, read) = large ts read.cost counts read.means
+
+pub children_beyond : (b : Form) (r : Reading) (i used room : ℕ) → IsTooLarge b (children_original r i) used room → AreTooLarge b r i used room
+children_beyond b r i used room large ts c counts means = large plain (unused None) (after r.charging (unused None) c (pointers_in_all ts)) ts (counts, all_read r ts c means)
+
+-- why the copy of children is refused
+abbrev pub ChildrenRefused : Reading → ℕ → Change → ErrorKind → Type 0
+ChildrenRefused r i c k = LacksRoom c k (λ n. StopsAmong c.form (WantsWords c.form n) r i c.before c.after) (AreTooLarge c.form r i) ⊎ RefusedAll c.form r i c.before c.after k
+
+pub children_refused : (r : Reading) (i : ℕ) (c : Change) (k : ErrorKind) → RefusesToCopy (children_original r i) c k → ChildrenRefused r i c k
+children_refused r i c k why = elim why [
+  | inl x ↦ inl (x.0, x.1, (let wanted : StopsAmong c.form (WantsWords c.form x.0) r i c.before c.after = elim x.2 [ inl none ↦ absurd none.1 | inr w ↦ w ] in wanted), children_beyond c.form r i (length (segment c.old.words c.segment)) (c.old.room c.segment) x.3)
+  | inr y ↦ elim y [ inl refused ↦ inr refused | inr none ↦ absurd none ]
+]
+
+pub refuses_children : (r : Reading) (i : ℕ) (c : Change) (k : ErrorKind) → ChildrenRefused r i c k → RefusesToCopy (children_original r i) c k
+refuses_children r i c k why = elim why [
+  | inl x ↦ inl (x.0, x.1, inr x.2, children_large c.form r i (length (segment c.old.words c.segment)) (c.old.room c.segment) x.3)
+  | inr refused ↦ inr (inl refused)
+]
+
 -- a list of i pointers
 
 abbrev pub IsTooLargePointers : Form → Reading → ℕ → ℕ → ℕ → Type 0
@@ -65,6 +93,21 @@ pointers_large b r i used room large any m m' t (ts, is, counts, read) = subst (
 
 pub pointers_beyond : (b : Form) (r : Reading) (i used room : ℕ) → IsTooLarge b (pointers_original i r) used room → IsTooLargePointers b r i used room
 pointers_beyond b r i used room large ts c counts means = large plain (unused None) (after r.charging (unused None) c (pointers_in_all ts)) (Pointers ts) (ts, refl, counts, all_read r ts c means)
+
+-- i elements, cut to the sections of the copy
+
+abbrev pub AreTooLargeElements : Form → Reading → ElementSizes → ℕ → ℕ → ℕ → Type 0
+AreTooLargeElements b r sizes i used room =
+    (es : Elements) (c : ℕ) → element_count es ≡ i → ElementsMean r sizes.source es c → room < used + word_count_elements (cut_to sizes.kept.data_words sizes.kept.pointers (kept_elements b es))
+
+elements_read : (r : Reading) (size : StructSize) (es : Elements) (c : ℕ) → ElementsMean r size es c → ReadsElements plain r size (unused None) (after r.charging (unused None) c (pointers_in_elements es)) es
+elements_read r size es c means = record { cost = c; means = means; takes = λ f. absurd f; covers = affords_all r.charging c; spent = refl }
+
+pub elements_large : (b : Form) (r : Reading) (sizes : ElementSizes) (i used room : ℕ) → AreTooLargeElements b r sizes i used room → IsTooLarge b (elements_original r sizes i) used room
+elements_large b r sizes i used room large any m m' es (counts, read) = large es read.cost counts read.means
+
+pub elements_beyond : (b : Form) (r : Reading) (sizes : ElementSizes) (i used room : ℕ) → IsTooLarge b (elements_original r sizes i) used room → AreTooLargeElements b r sizes i used room
+elements_beyond b r sizes i used room large es c counts means = large plain (unused None) (after r.charging (unused None) c (pointers_in_elements es)) es (counts, elements_read r sizes.source es c means)
 
 -- a list of i structs of this size
 
@@ -77,18 +120,17 @@ structs_large b r size i used room large any m m' t (es, is, counts, read) = sub
 
 pub structs_beyond : (b : Form) (r : Reading) (size : StructSize) (i used room : ℕ) → IsTooLarge b (structs_original size i r) used room → IsTooLargeList b r size i used room
 structs_beyond b r size i used room large es c counts means =
-    let read : ReadsElements plain r size (unused None) (after r.charging (unused None) c (pointers_in_elements es)) es = record { cost = c; means = means; takes = λ f. absurd f; covers = affords_all r.charging c; spent = refl } in
-    large plain (unused None) (after r.charging (unused None) c (pointers_in_elements es)) (Structs size.data_words size.pointers es) (es, refl, counts, read)
+    large plain (unused None) (after r.charging (unused None) c (pointers_in_elements es)) (Structs size.data_words size.pointers es) (es, refl, counts, elements_read r size es c means)
 
 -- a list by its size
 
-pub pointers_listed : (size : ElementSize) (sections : StructSize) (n : ℕ) (r : Reading) (P : Original → Type 0) → size ≡ Pointer → P (pointers_original n r) → P (list_original size sections n r)
+pub pointers_listed : (size : ElementSize) (sections : StructSize) (n : ℕ) (r : Reading) (P : Original Tree → Type 0) → size ≡ Pointer → P (pointers_original n r) → P (list_original size sections n r)
 pointers_listed size sections n r P is h = subst (λ size. P (list_original size sections n r)) (sym is) h
 
-pub structs_listed : (size : ElementSize) (sections : StructSize) (n : ℕ) (r : Reading) (P : Original → Type 0) → size ≡ InlineComposite → P (structs_original sections n r) → P (list_original size sections n r)
+pub structs_listed : (size : ElementSize) (sections : StructSize) (n : ℕ) (r : Reading) (P : Original Tree → Type 0) → size ≡ InlineComposite → P (structs_original sections n r) → P (list_original size sections n r)
 structs_listed size sections n r P is h = subst (λ size. P (list_original size sections n r)) (sym is) h
 
-pub numbers_listed : (size : ElementSize) (sections : StructSize) (n : ℕ) (r : Reading) (P : Original → Type 0) → size ≢ Pointer → size ≢ InlineComposite → P (numbers_original size n r) → P (list_original size sections n r)
+pub numbers_listed : (size : ElementSize) (sections : StructSize) (n : ℕ) (r : Reading) (P : Original Tree → Type 0) → size ≢ Pointer → size ≢ InlineComposite → P (numbers_original size n r) → P (list_original size sections n r)
 numbers_listed Pointer sections n r P pointer struct h = absurd (pointer refl)
 numbers_listed InlineComposite sections n r P pointer struct h = absurd (struct refl)
 numbers_listed Void sections n r P pointer struct h = h
@@ -109,6 +151,18 @@ pointers_list_stops size sections n r {c} {k} is h = pointers_listed size sectio
 
 pub structs_list_stops : (size : ElementSize) (sections : StructSize) (n : ℕ) (r : Reading) {c : Change} {k : ErrorKind} → size ≡ InlineComposite → StopsHalfway (structs_original sections n r) c k → StopsHalfway (list_original size sections n r) c k
 structs_list_stops size sections n r {c} {k} is h = structs_listed size sections n r (λ o. StopsHalfway o c k) is h
+
+-- how many words of it a copy has
+
+pub list_words : (size : ElementSize) (sections : StructSize) (n : ℕ) (r : Reading) (b : Form) (t : Tree) → (list_original size sections n r).words b t ≡ word_count (kept b t)
+list_words Pointer sections n r b t = refl
+list_words InlineComposite sections n r b t = refl
+list_words Void sections n r b t = refl
+list_words Bit sections n r b t = refl
+list_words Byte sections n r b t = refl
+list_words TwoBytes sections n r b t = refl
+list_words FourBytes sections n r b t = refl
+list_words EightBytes sections n r b t = refl
 
 -- it is larger than a list pointer can say
 
@@ -137,11 +191,11 @@ exceeding EightBytes sections n r b k h = h
 abbrev pub LeavesSomeValue : Change → ErrorKind → Type 0
 LeavesSomeValue c k = ((t : Tree) × IsReplaced c.old.words c.new.words c.segment c.at Null t) × SpendsMemory c.old c.new k
 
-pub halfway : {o : Original} {c : Change} {k : ErrorKind} → RefusesToCopy o c k → LeavesSomeValue c k → StopsHalfway o c k
+pub halfway : {o : Original Tree} {c : Change} {k : ErrorKind} → RefusesToCopy o c k → LeavesSomeValue c k → StopsHalfway o c k
 halfway why left = (left.0.0, record { why = why; left = left.0.1; memory = left.1 })
 
 -- one that can be copied is not refused
-pub refused_rightly : {o : Original} {c : Change} {t : Tree} {k : ErrorKind} → ((m : Meter) (u : Tree) → o.stops c.form (λ r i j. Stopped Value c.form r i j k) c.before c.after → o.reads c.form c.before m u → ⊥) → StopsCopy o c t k →
+pub refused_rightly : {o : Original Tree} {c : Change} {t : Tree} {k : ErrorKind} → ((m : Meter) (u : Tree) → o.stops c.form (λ r i j. Stopped Value c.form r i j k) c.before c.after → o.reads c.form c.before m u → ⊥) → StopsCopy o c t k →
     CanBeCopied o c.form c.before c.old c.segment → ⊥
 refused_rightly {c = c} {k = k} apart stop can = elim stop.why [
   | inl x ↦ (let beyond = x.3 c.form c.before can.after can.value can.is_read in omega (arith, beyond, can.room))

@@ -2,7 +2,7 @@
 use Rattle.std.proofs.Common.{◌≡◌, ℕ, zero, suc, ◌+◌, ◌-◌, ◌<◌, ◌≤◌, max, Bool, true, false, nat_eq, List, [], ◌∷◌, length, take, drop, refl, ap, ◌∙◌, arith, length-take, length-drop, drop-drop}
 use Rattle.std.proofs.lemmas.List.{drop-take}
 use Rattle.capnp_format.specs.Canonical.{used_from, used_words}
-use Rattle.capnp_copies.specs.Widths.{data_used, pointers_used}
+use Rattle.capnp_copies.specs.Widths.{most_used}
 
 -- what is used beyond the first n words, and at least these
 used_beyond : (n : ℕ) (xs : List ℕ) → n ≤ length xs → max n (used_words xs) ≡ n + used_words (drop n xs)
@@ -22,15 +22,29 @@ used_section ws at n least l fits =
     ∙ ap (λ m. least + used_words (drop least (take m (drop at ws)))) (let e : n ≡ least + (n - least) = omega arith in e)
     ∙ ap (λ xs. least + used_words xs) (drop-take least (n - least) (drop at ws) ∙ ap (take (n - least)) (drop-drop least at ws))
 
+-- the most that elements of d data words and q pointers from position p on use
+
+abbrev pub data_used : List ℕ → ℕ → ℕ → ℕ → ℕ → ℕ
+data_used ws p d q n = most_used ws p d (d + q) n
+
+abbrev pub pointers_used : List ℕ → ℕ → ℕ → ℕ → ℕ → ℕ
+pointers_used ws p d q n = most_used ws (p + d) q (d + q) n
+
+-- the pointers of the next element
+pub next_used : (ws : List ℕ) (p d q n : ℕ) → most_used ws (p + d + (d + q)) q (d + q) n ≡ pointers_used ws (p + (d + q)) d q n
+next_used ws p d q n = ap (λ i. most_used ws i q (d + q) n) (let e : p + d + (d + q) ≡ p + (d + q) + d = omega arith in e)
+
 -- a section of no words uses none
 
+none_used : (ws : List ℕ) (p stride n : ℕ) → most_used ws p 0 stride n ≡ 0
+none_used ws p stride zero = refl
+none_used ws p stride (suc n) = ap (max 0) (none_used ws (p + stride) stride n)
+
 pub no_data : (ws : List ℕ) (p q n : ℕ) → data_used ws p 0 q n ≡ 0
-no_data ws p q zero = refl
-no_data ws p q (suc n) = ap (max 0) (no_data ws (p + (0 + q)) q n)
+no_data ws p q n = none_used ws p (0 + q) n
 
 pub no_pointers : (ws : List ℕ) (p d n : ℕ) → pointers_used ws p d 0 n ≡ 0
-no_pointers ws p d zero = refl
-no_pointers ws p d (suc n) = ap (max 0) (no_pointers ws (p + (d + 0)) d n)
+no_pointers ws p d n = none_used ws (p + d) (d + 0) n
 
 -- one element more is looked at
 
@@ -41,4 +55,4 @@ pub data_more : (ws : List ℕ) (p d q k least : ℕ) → max least (data_used w
 data_more ws p d q k least = omega arith
 
 pub pointers_more : (ws : List ℕ) (p d q k least : ℕ) → max least (pointers_used ws p d q (suc k)) ≡ max (max least (used_words (take q (drop (p + d) ws)))) (pointers_used ws (p + (d + q)) d q k)
-pointers_more ws p d q k least = omega arith
+pointers_more ws p d q k least = omega (arith, next_used ws p d q k)

@@ -14,9 +14,8 @@ use Rattle.capnp_objects.specs.Spending.{pointers_in_all}
 use Rattle.capnp_objects.specs.Wanted.{canonical, Form}
 use Rattle.capnp_copies.specs.Forms.{kept_each}
 use Rattle.capnp_copies.specs.Copied.{copied, with_children}
-use Rattle.capnp_copies.specs.Copies.{IsCopied}
+use Rattle.capnp_copies.proofs.InPlace.{IsCopied}
 use Rattle.capnp_copies.proofs.CopiesNear.{TakesWords}
-use Rattle.capnp_copies.specs.Widths.{Uses}
 use Rattle.capnp_copies.proofs.CopiesNear.{call_of, CopiesChildren}
 use Rattle.capnp_copies.proofs.Copying.{there}
 use Rattle.capnp_copies.proofs.KeptChildren.{kept_each-count}
@@ -42,6 +41,13 @@ pointers_put {b} {r} {old} {mid} {last} {new} {id} {at} {head} {q} {x} place tak
     ∙ ap (with_segment M id) (ap₂ (λ xs y. set xs at y) (object_children W q ts len) is)
 
 -- what of a struct is used, its children being meant: its canonical form
+
+-- so many words of each section of a struct are used, up to the last that is not zero
+pub record Uses (r : Reading) (size used : StructSize) : Type 0 where
+  pub of_data : used.data_words ≡ used_words (words_from r size.data_words)
+  pub of_pointers : used.pointers ≡ used_words (words_from (behind r size.data_words) size.pointers)
+  pub less_data : used.data_words ≤ size.data_words
+  pub less_pointers : used.pointers ≤ size.pointers
 
 trimmed_struct : {r : Reading} {size used : StructSize} (us : Trees) (c : ℕ) → r.at + (size.data_words + size.pointers) ≤ length (segment_read r) → Uses r size used → count us ≡ size.pointers → MeanThere (behind r size.data_words) us c →
     trim (Struct (words_from r size.data_words) us) ≡ Struct (take (used_words (words_from r size.data_words)) (words_from r size.data_words)) (trim_each (take_trees used.pointers us))

@@ -9,10 +9,10 @@ use Rattle.capnp_arena.specs.View.{View}
 use Rattle.capnp_making.specs.Memory.{KeepsMemory}
 use Rattle.capnp_objects.specs.Reading.{Reading, behind}
 use Rattle.capnp_objects.specs.Wanted.{Form}
-use Rattle.capnp_copies.specs.Changes.{change, Fits, MakesCopy, CopiesChildren}
+use Rattle.capnp_copies.specs.Changes.{change, StayInSegment, MakesCopy, CopiesChildren}
 use Rattle.capnp_copies.specs.Originals.{value_original}
 use Rattle.capnp_copies.specs.Forms.{kept, kept_each}
-use Rattle.capnp_copies.specs.Copies.{IsCopied, AreCopied}
+use Rattle.capnp_copies.proofs.InPlace.{IsCopied, AreCopied}
 use Rattle.capnp_copies.proofs.CopiesNear.{call_of, CopiesValue as ValueCopied, CopiesChildren as ChildrenCopied}
 use Rattle.capnp_copies.proofs.ChildrenSteps.{child_put, now, now_long}
 use Rattle.capnp_copies.proofs.Copying.{there}
@@ -24,7 +24,7 @@ pub room_kept : (old new : View) (s p : ℕ) → IsPlace old.words s p → Keeps
 room_kept old new s p place memory = memory.1 s (there old.words s p place)
 
 pub child_tight : {r : Reading} {s p i : ℕ} {old mid new : View} {m m' m'' : Meter} (b : Form) → IsPlace old.words s (p + i) → length (segment mid.words s) < 2 ^ 29 → length old.words ≤ length mid.words → length mid.words ≤ length new.words → (first : CopiesChildren r i (change b s p old mid m m')) →
-    (next : MakesCopy (value_original (behind r i)) (change b s (p + i) mid new m' m'')) → Fits (change b s p old new m m'') (word_count_all (kept_each b (with_last first.children next.value))) → AreCopied old.words new.words s p (kept_each b (with_last first.children next.value))
+    (next : MakesCopy (value_original (behind r i)) (change b s (p + i) mid new m' m'')) → StayInSegment old new s (word_count_all (kept_each b (with_last first.children next.value))) → AreCopied old.words new.words s p (kept_each b (with_last first.children next.value))
 child_tight {r} {s} {p} {i} {old} {mid} {new} {m} {m'} {m''} b place few grows more first next fits =
     let ts : Trees = first.children in
     let u : Tree = next.value in

@@ -10,7 +10,7 @@ use Rattle.capnp_arena.specs.Written.{with_segment, with_words, overwritten}
 use Rattle.capnp_objects.specs.Reading.{Reading, behind, words_from}
 use Rattle.capnp_objects.specs.Wanted.{Form}
 use Rattle.capnp_objects.proofs.Copies.{with_last_element}
-use Rattle.capnp_copies.specs.Changes.{change, Fits, EndsInZeros, CopiesChildren, CopiesElement, CopiesRows}
+use Rattle.capnp_copies.specs.Changes.{change, StayInSegment, EndsInZeros, CopiesChildren, CopiesElement, CopiesRows}
 use Rattle.capnp_copies.specs.Forms.{kept_each, kept_elements}
 use Rattle.capnp_copies.specs.Copied.{with_children, rows_laid}
 use Rattle.capnp_copies.proofs.CopiesNear.{call_of, CopiesChildren as ChildrenCopied, CopiesElement as ElementCopied}
@@ -32,7 +32,7 @@ pub record IsPut (r : Reading) (sizes : ElementSizes) (old mid : View) (s p : �
   pub writes : mid ≡ record old { words = with_words old.words s p (words_from r sizes.kept.data_words) }
 
 pub element_tight : {r : Reading} {sizes : ElementSizes} {s p : ℕ} {old mid new : View} {m m' : Meter} (b : Form) → IsPut r sizes old mid s p → (children : CopiesChildren (behind r sizes.source.data_words) sizes.kept.pointers (change b s (p + sizes.kept.data_words) mid new m m')) →
-    IsPlace old.words s p → Fits (change b s p old new m m') (word_count_all (kept_each b children.children)) →
+    IsPlace old.words s p → StayInSegment old new s (word_count_all (kept_each b children.children)) →
     new.words ≡ with_segment old.words s (with_children (overwritten (segment old.words s) p (words_from r sizes.kept.data_words)) (p + sizes.kept.data_words) (kept_each b children.children))
 element_tight {r} {sizes} {s} {p} {old} {mid} {new} {m} {m'} b put children place fits =
     let us : List ℕ = words_from r sizes.kept.data_words in
@@ -64,7 +64,7 @@ pub row_tight : {r : Reading} {sizes : ElementSizes} {n i s p : ℕ} {old mid ne
     (next : CopiesElement (behind r (i * (sizes.source.data_words + sizes.source.pointers))) sizes (change b s (p + i * (sizes.kept.data_words + sizes.kept.pointers)) mid new m' m'')) → (all : Elements) →
     cut_to sizes.kept.data_words sizes.kept.pointers (kept_elements b all)
     ≡ with_last_element (cut_to sizes.kept.data_words sizes.kept.pointers (kept_elements b first.elements)) (words_from (behind r (i * (sizes.source.data_words + sizes.source.pointers))) sizes.kept.data_words) (kept_each b next.children) →
-    EndsInZeros (change b s p old new m m'') ((i + 1 + (n - (i + 1))) * (sizes.kept.data_words + sizes.kept.pointers)) → Fits (change b s p old new m m'') (word_count_elements (cut_kept b sizes all)) →
+    EndsInZeros (change b s p old new m m'') ((i + 1 + (n - (i + 1))) * (sizes.kept.data_words + sizes.kept.pointers)) → StayInSegment old new s (word_count_elements (cut_kept b sizes all)) →
     new.words ≡ with_segment old.words s (rows_laid (take p (segment old.words s)) sizes.kept.data_words sizes.kept.pointers (cut_kept b sizes all) (n - (i + 1)))
 row_tight {r} {sizes} {n} {i} {s} {p} {old} {mid} {new} {m} {m'} {m''} b place grows longer fit wide more first next all shape last fits =
     let w : ℕ = sizes.kept.data_words + sizes.kept.pointers in

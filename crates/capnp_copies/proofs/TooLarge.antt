@@ -23,19 +23,18 @@ use Rattle.capnp_objects.specs.declared.object.Place.{Place}
 use Rattle.capnp_objects.specs.declared.object.Object.TheVariants.{Struct as ObjectStruct, Pointers as ObjectPointers, Structs as ObjectStructs}
 use Rattle.capnp_objects.specs.declared.object.Purpose.TheVariants.{Value}
 use Rattle.capnp_copies.specs.Changes.{change, EndsInZeros, CopiesChildren, CopiesRows}
-use Rattle.capnp_copies.specs.Copies.{AreCopied}
+use Rattle.capnp_copies.proofs.InPlace.{AreCopied}
 use Rattle.capnp_copies.proofs.CopiesNear.{call_of, CopiesChildren as ChildrenCopied}
 use Rattle.capnp_copies.specs.Originals.{value_original}
-use Rattle.capnp_copies.specs.Rooms.{IsTooLarge, AreTooLarge, AreTooLargeElements}
-use Rattle.capnp_copies.specs.Widths.{KeepsSections}
-use Rattle.capnp_copies.proofs.Originals.{IsTooLargePointers, IsTooLargeStruct, IsTooLargeList, value_large, value_beyond}
+use Rattle.capnp_copies.specs.Rooms.{IsTooLarge}
+use Rattle.capnp_copies.proofs.Originals.{AreTooLarge, AreTooLargeElements, IsTooLargePointers, IsTooLargeStruct, IsTooLargeList, value_large, value_beyond}
 use Rattle.capnp_copies.specs.declared.widths.ElementSizes.{ElementSizes}
 use Rattle.capnp_copies.proofs.ChildrenSteps.{now, now_long}
 use Rattle.capnp_copies.proofs.ElementsLaid.{next_element_words}
 use Rattle.capnp_copies.proofs.ElementSteps.{ElementsFit, RowsCopied, AtRow, next_row}
 use Rattle.capnp_copies.specs.Forms.{kept, kept_each}
 use Rattle.capnp_copies.proofs.KeptChildren.{kept_none, kept_pointers, kept_each-count, take_trees-kept, cut_kept}
-use Rattle.capnp_copies.proofs.KeptForms.{KeepsWidths, SourceKept, SectionsCut, sections_cut, sections_meant, row_kept, words_of_kept_list}
+use Rattle.capnp_copies.proofs.KeptForms.{KeepsSections, KeepsWidths, SourceKept, SectionsCut, sections_cut, sections_meant, row_kept, words_of_kept_list}
 use Rattle.capnp_copies.proofs.ObjectsRead.{inside, means_struct, means_pointers, means_structs}
 use Rattle.capnp_copies.proofs.RoomLemmas.{next_words}
 use Rattle.capnp_copies.proofs.TightChildren.{room_kept}

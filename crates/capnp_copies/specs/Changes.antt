@@ -1,9 +1,9 @@
 -- What a copy into a message of any number of segments leaves, and why it stops.
-use Rattle.std.specs.Prelude.{◌≡◌, ◌⊎◌, ℕ, pred, ◌+◌, ◌*◌, ◌≤◌, take, length}
+use Rattle.std.specs.Prelude.{◌≡◌, ◌⊎◌, ℕ, pred, ◌+◌, ◌*◌, ◌<◌, ◌≤◌, take, length}
 use Rattle.capnp_words.specs.declared.error.ErrorKind.{ErrorKind}
 use Rattle.capnp_words.specs.Meter.{Meter}
 use Rattle.capnp_format.specs.Numbers.{words_for}
-use Rattle.capnp_format.specs.Segments.{Target, segment, words_at, word_at, IsPlace}
+use Rattle.capnp_format.specs.Segments.{Segments, Target, segment, words_at, word_at, IsPlace}
 use Rattle.capnp_format.specs.Word.{kind, offset_bits, data_words, pointer_count, element_size, list_count}
 use Rattle.capnp_format.specs.Tree.{Tree, Null, Trees, Elements, count, element_count}
 use Rattle.capnp_format.specs.Canonical.{cut_to, word_count, word_count_all, word_count_elements}
@@ -17,15 +17,14 @@ use Rattle.capnp_making.specs.Stored.{IsReplaced}
 use Rattle.capnp_objects.specs.Demands.{IsStructList, tag}
 use Rattle.capnp_objects.specs.Faults.{child_at}
 use Rattle.capnp_objects.specs.Outcomes.{Entered, ReadsAll, ReadsElements}
-use Rattle.capnp_objects.specs.Refusals.{Stopped, RefusedAll, RefusedElements, StopsAmong, StopsAmongElements}
+use Rattle.capnp_objects.specs.Refusals.{Stopped, StopsWithin, Refused, RefusedElements, StopsAmongElements}
 use Rattle.capnp_objects.specs.Reading.{Reading, behind, tag_size, words_from}
-use Rattle.capnp_objects.specs.Wanted.{Form}
+use Rattle.capnp_objects.specs.Wanted.{Form, plain}
 use Rattle.capnp_objects.specs.declared.object.Purpose.TheVariants.{Value}
 use Rattle.capnp_copies.specs.Forms.{kept, kept_each, kept_elements}
-use Rattle.capnp_copies.specs.Copied.{with_children, rows_laid}
-use Rattle.capnp_copies.specs.Copies.{IsCopied, AreCopied}
-use Rattle.capnp_copies.specs.Originals.{Original, kept_count}
-use Rattle.capnp_copies.specs.Rooms.{IsTooLarge, AreTooLarge, AreTooLargeElements}
+use Rattle.capnp_copies.specs.Copied.{copied, with_children, rows_laid}
+use Rattle.capnp_copies.specs.Originals.{Original, children_original, elements_original, kept_count}
+use Rattle.capnp_copies.specs.Rooms.{IsTooLarge}
 use Rattle.capnp_copies.specs.Widths.{widths_kept}
 use Rattle.capnp_copies.specs.declared.widths.ElementSizes.{ElementSizes}
 
@@ -42,17 +41,13 @@ pub record Change : Type 0 where
 abbrev pub change : Form → ℕ → ℕ → View → View → Meter → Meter → Change
 change form s p old new before after = record { form = form; segment = s; at = p; old = old; new = new; before = before; after = after }
 
--- n words fit behind those of segment id, or the message has but one segment once they are written.
+-- n words fit behind those of segment id, or the message has but one segment once they are written: they stay in the segment.
 abbrev pub StayInSegment : View → View → ℕ → ℕ → Type 0
 StayInSegment old new id n = HasOwnRoom old id n ⊎ (length new.words ≡ 1)
 
--- The n words of a copy stay in its segment.
-abbrev pub Fits : Change → ℕ → Type 0
-Fits c n = StayInSegment c.old c.new c.segment n
-
 -- The words of t, where they stay in segment id, stand behind those that were there, and their pointer at position at of it.
 abbrev pub IsCopiedInRoom : View → View → ℕ → ℕ → Tree → Type 0
-IsCopiedInRoom old new id at t = StayInSegment old new id (word_count t) → IsCopied old.words new.words id at t
+IsCopiedInRoom old new id at t = StayInSegment old new id (word_count t) → new.words ≡ with_segment old.words id (copied (segment old.words id) at t)
 
 -- So many words are made of the object a, to which the pointer at a place leads: of a struct its sections that are kept, of a
 -- list its elements, and of a list of structs its tag and theirs, cut to the sections that are kept.
@@ -81,7 +76,7 @@ LacksRoom c k Q P = (n : ℕ) × RefusesWords c.old c.new n k × Q n × P (lengt
 
 -- Why a copy is refused by the name k: the arena has no room for an object of words that are at hand, before anything is read, or
 -- for one that reading leads to; reading is refused; or what is copied is larger than an object can be.
-abbrev pub RefusesToCopy : Original → Change → ErrorKind → Type 0
+abbrev pub RefusesToCopy : {V : Type 0} → Original V → Change → ErrorKind → Type 0
 RefusesToCopy o c k =
     LacksRoom c k (λ n. ((c.after ≡ c.before) × o.makes c.form n) ⊎ o.stops c.form (WantsWords c.form n) c.before c.after) (IsTooLarge c.form o)
     ⊎ o.stops c.form (λ r m m'. Stopped Value c.form r m m' k) c.before c.after ⊎ o.exceeds c.form k
@@ -92,7 +87,7 @@ pub record EndsInZeros (c : Change) (n : ℕ) : Type 0 where
   pub zero : (j : ℕ) → c.at ≤ j → word_at c.old.words c.segment j ≡ 0
 
 -- What is copied is read, and what is kept of its value stands at the place that was null; nothing but words is changed.
-pub record MakesCopy (o : Original) (c : Change) : Type 0 where
+pub record MakesCopy (o : Original Tree) (c : Change) : Type 0 where
   pub value : Tree
   pub is_read : o.reads c.form c.before c.after value
   pub made : IsReplaced c.old.words c.new.words c.segment c.at Null (kept c.form value)
@@ -100,18 +95,14 @@ pub record MakesCopy (o : Original) (c : Change) : Type 0 where
   pub stands : IsCopiedInRoom c.old c.new c.segment c.at (kept c.form value)
 
 -- A copy is refused by the name k, and leaves t at the place that was null, and what was allocated.
-pub record StopsCopy (o : Original) (c : Change) (t : Tree) (k : ErrorKind) : Type 0 where
+pub record StopsCopy (o : Original Tree) (c : Change) (t : Tree) (k : ErrorKind) : Type 0 where
   pub why : RefusesToCopy o c k
   pub left : IsReplaced c.old.words c.new.words c.segment c.at Null t
   pub memory : SpendsMemory c.old c.new k
 
 -- It is refused so, and leaves some value.
-abbrev pub StopsHalfway : Original → Change → ErrorKind → Type 0
+abbrev pub StopsHalfway : Original Tree → Change → ErrorKind → Type 0
 StopsHalfway o c k = (t : Tree) × StopsCopy o c t k
-
--- n words are wanted for an object that i pointers from a place on lead to.
-abbrev pub WantedAmong : Reading → ℕ → Change → ℕ → Type 0
-WantedAmong r i c n = StopsAmong c.form (WantsWords c.form n) r i c.before c.after
 
 -- A call copies what i pointers from a place on mean.
 pub record CopiesChildren (r : Reading) (i : ℕ) (c : Change) : Type 0 where
@@ -120,13 +111,28 @@ pub record CopiesChildren (r : Reading) (i : ℕ) (c : Change) : Type 0 where
   pub are_read : ReadsAll c.form r c.before c.after children
   pub made : AreFilled c.old.words c.new.words c.segment c.at (kept_each c.form children)
   pub memory : KeepsMemory c.old c.new
-  pub stands : Fits c (word_count_all (kept_each c.form children)) → AreCopied c.old.words c.new.words c.segment c.at (kept_each c.form children)
+  pub stands : StayInSegment c.old c.new c.segment (word_count_all (kept_each c.form children)) → c.new.words ≡ with_segment c.old.words c.segment (with_children (segment c.old.words c.segment) c.at (kept_each c.form children))
 
 pub record StopsAtChildren (r : Reading) (i : ℕ) (c : Change) (k : ErrorKind) : Type 0 where
-  pub why : LacksRoom c k (WantedAmong r i c) (AreTooLarge c.form r i) ⊎ RefusedAll c.form r i c.before c.after k
+  pub why : RefusesToCopy (children_original r i) c k
   pub left : Trees
   pub few : count left ≤ i
   pub made : AreFilled c.old.words c.new.words c.segment c.at left
+  pub memory : SpendsMemory c.old c.new k
+
+-- Of i pointers from a place on the first are read and copied as they stand; the next one is refused by the name k, and stays
+-- null.
+pub record CopiesFirst (r : Reading) (i : ℕ) (c : Change) (k : ErrorKind) : Type 0 where
+  pub first : Trees
+  pub fewer : count first < i
+  pub between : Meter
+  pub are_read : ReadsAll plain r c.before between first
+  pub filled : Segments
+  pub made : AreFilled c.old.words filled c.segment c.at first
+  pub cleared : IsReplaced filled c.new.words c.segment (c.at + count first) Null Null
+  pub why :
+      LacksRoom c k (λ n. StopsWithin plain (WantsWords plain n) (behind r (count first)) between c.after) (IsTooLarge plain (children_original r i))
+      ⊎ Refused plain (behind r (count first)) between c.after k
   pub memory : SpendsMemory c.old c.new k
 
 -- A call copies i elements of a list of structs, cut to the sections that are kept, where the rows of so many others are still to
@@ -141,18 +147,15 @@ pub record CopiesRows (r : Reading) (sizes : ElementSizes) (i left : ℕ) (c : C
   pub memory : KeepsMemory c.old c.new
   pub stands :
       EndsInZeros c ((i + left) * (sizes.kept.data_words + sizes.kept.pointers))
-      → Fits c (word_count_elements (cut_to sizes.kept.data_words sizes.kept.pointers (kept_elements c.form elements)))
+      → StayInSegment c.old c.new c.segment (word_count_elements (cut_to sizes.kept.data_words sizes.kept.pointers (kept_elements c.form elements)))
       → c.new.words
       ≡ with_segment c.old.words c.segment
       (rows_laid (take c.at (segment c.old.words c.segment)) sizes.kept.data_words sizes.kept.pointers (cut_to sizes.kept.data_words sizes.kept.pointers (kept_elements c.form elements)) left)
 
-abbrev pub CopiesElements : Reading → ElementSizes → ℕ → Change → Type 0
-CopiesElements r sizes i c = CopiesRows r sizes i 0 c
-
 pub record StopsAtElements (r : Reading) (sizes : ElementSizes) (i : ℕ) (c : Change) (k : ErrorKind) : Type 0 where
   pub why :
       LacksRoom c k (λ n. StopsAmongElements c.form (WantsWords c.form n) r sizes.source i c.before c.after)
-      (λ used room. EndsInZeros c (i * (sizes.kept.data_words + sizes.kept.pointers)) → AreTooLargeElements c.form r sizes i used room)
+      (λ used room. EndsInZeros c (i * (sizes.kept.data_words + sizes.kept.pointers)) → IsTooLarge c.form (elements_original r sizes i) used room)
       ⊎ RefusedElements c.form r sizes.source i c.before c.after k
   pub left : ArePartlyFilled c.old.words c.new.words c.segment c.at sizes.kept.data_words sizes.kept.pointers i
   pub memory : SpendsMemory c.old c.new k
@@ -165,15 +168,13 @@ pub record CopiesElement (r : Reading) (sizes : ElementSizes) (c : Change) : Typ
   pub made : IsElementFilled c.old.words c.new.words c.segment c.at (words_from r sizes.kept.data_words) (kept_each c.form children)
   pub memory : KeepsMemory c.old c.new
   pub stands :
-      IsPlace c.old.words c.segment c.at → Fits c (word_count_all (kept_each c.form children))
+      IsPlace c.old.words c.segment c.at → StayInSegment c.old c.new c.segment (word_count_all (kept_each c.form children))
       → c.new.words
       ≡ with_segment c.old.words c.segment
       (with_children (overwritten (segment c.old.words c.segment) c.at (words_from r sizes.kept.data_words)) (c.at + sizes.kept.data_words) (kept_each c.form children))
 
 pub record StopsAtElement (r : Reading) (sizes : ElementSizes) (c : Change) (k : ErrorKind) : Type 0 where
-  pub why :
-      LacksRoom c k (WantedAmong (behind r sizes.source.data_words) sizes.kept.pointers c) (AreTooLarge c.form (behind r sizes.source.data_words) sizes.kept.pointers)
-      ⊎ RefusedAll c.form (behind r sizes.source.data_words) sizes.kept.pointers c.before c.after k
+  pub why : RefusesToCopy (children_original (behind r sizes.source.data_words) sizes.kept.pointers) c k
   pub left : Trees
   pub few : count left ≤ sizes.kept.pointers
   pub made : IsElementFilled c.old.words c.new.words c.segment c.at (words_from r sizes.kept.data_words) left

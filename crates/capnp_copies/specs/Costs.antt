@@ -11,37 +11,28 @@ use Rattle.capnp_objects.specs.Spending.{pointers_in_all, pointers_in_elements}
 use Rattle.capnp_objects.specs.Wanted.{Form}
 use Rattle.capnp_objects.specs.declared.object.Purpose.TheVariants.{Value}
 
--- The words for the pointers of an object before one of them.
-abbrev pub cost_before : {form : Form} {r : Reading} {a : Target} {q : ℕ} {m m' : Meter} → ReadsBefore form r a q m m' → ℕ
-cost_before (in_struct ts is fewer at reads) = reads.cost
-cost_before (in_pointers ts is six fewer at reads) = reads.cost
-cost_before (in_element es ts mid is fewer few at rows reads) = rows.cost + reads.cost
+-- What is spent: words that are granted, and pointers that are followed.
+pub record Spent : Type 0 where
+  pub words : ℕ
+  pub pointers : ℕ
 
--- Those for each object on the way, and for what its pointers before the next one on the way mean.
-abbrev pub cost_until : {form : Form} {P : Reading → Meter → Meter → Type 0} {r : Reading} {m m' : Meter} → StopsWithin form P r m m' → ℕ
-cost_until (here stops) = 0
-cost_until {r = r} (below a q entered before rest) = own Value r.segments a + (cost_before before + cost_until rest)
+-- What is spent on the pointers of an object before one of them.
+abbrev pub spent_before : {form : Form} {r : Reading} {a : Target} {q : ℕ} {m m' : Meter} → ReadsBefore form r a q m m' → Spent
+spent_before (in_struct ts is fewer at reads) = record { words = reads.cost; pointers = pointers_in_all ts }
+spent_before (in_pointers ts is six fewer at reads) = record { words = reads.cost; pointers = pointers_in_all ts }
+spent_before (in_element es ts mid is fewer few at rows reads) = record { words = rows.cost + reads.cost; pointers = pointers_in_elements es + pointers_in_all ts }
 
--- What is read of pointers one behind the other, before the object where their reading stops, costs so much; and of the pointers
--- of elements.
-abbrev pub cost_among : {form : Form} {P : Reading → Meter → Meter → Type 0} {r : Reading} {i : ℕ} {m m' : Meter} → StopsAmong form P r i m m' → ℕ
-cost_among x = x.are_read.cost + cost_until x.stops
+-- What is spent on each object on the way, and on what its pointers before the next one on the way mean.
+abbrev pub spent_until : {form : Form} {P : Reading → Meter → Meter → Type 0} {r : Reading} {m m' : Meter} → StopsWithin form P r m m' → Spent
+spent_until (here stops) = record { words = 0; pointers = 0 }
+spent_until {r = r} (below a q entered before rest) = record {
+  words = own Value r.segments a + ((spent_before before).words + (spent_until rest).words);
+  pointers = 1 + ((spent_before before).pointers + (spent_until rest).pointers);
+}
 
-abbrev pub cost_among_elements : {form : Form} {P : Reading → Meter → Meter → Type 0} {r : Reading} {size : StructSize} {i : ℕ} {m m' : Meter} → StopsAmongElements form P r size i m m' → ℕ
-cost_among_elements x = x.are_read.cost + cost_among x.stops
+-- What is spent on pointers one behind the other, before the object where their reading stops; and on the pointers of elements.
+abbrev pub spent_among : {form : Form} {P : Reading → Meter → Meter → Type 0} {r : Reading} {i : ℕ} {m m' : Meter} → StopsAmong form P r i m m' → Spent
+spent_among x = record { words = x.are_read.cost + (spent_until x.stops).words; pointers = pointers_in_all x.first + (spent_until x.stops).pointers }
 
--- The pointers that were followed, in the same order.
-abbrev pub followed_before : {form : Form} {r : Reading} {a : Target} {q : ℕ} {m m' : Meter} → ReadsBefore form r a q m m' → ℕ
-followed_before (in_struct ts is fewer at reads) = pointers_in_all ts
-followed_before (in_pointers ts is six fewer at reads) = pointers_in_all ts
-followed_before (in_element es ts mid is fewer few at rows reads) = pointers_in_elements es + pointers_in_all ts
-
-abbrev pub followed_until : {form : Form} {P : Reading → Meter → Meter → Type 0} {r : Reading} {m m' : Meter} → StopsWithin form P r m m' → ℕ
-followed_until (here stops) = 0
-followed_until (below a q entered before rest) = 1 + (followed_before before + followed_until rest)
-
-abbrev pub followed_among : {form : Form} {P : Reading → Meter → Meter → Type 0} {r : Reading} {i : ℕ} {m m' : Meter} → StopsAmong form P r i m m' → ℕ
-followed_among x = pointers_in_all x.first + followed_until x.stops
-
-abbrev pub followed_among_elements : {form : Form} {P : Reading → Meter → Meter → Type 0} {r : Reading} {size : StructSize} {i : ℕ} {m m' : Meter} → StopsAmongElements form P r size i m m' → ℕ
-followed_among_elements x = pointers_in_elements x.first + followed_among x.stops
+abbrev pub spent_among_elements : {form : Form} {P : Reading → Meter → Meter → Type 0} {r : Reading} {size : StructSize} {i : ℕ} {m m' : Meter} → StopsAmongElements form P r size i m m' → Spent
+spent_among_elements x = record { words = x.are_read.cost + (spent_among x.stops).words; pointers = pointers_in_elements x.first + (spent_among x.stops).pointers }

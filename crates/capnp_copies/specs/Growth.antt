@@ -1,18 +1,13 @@
 -- How many words a copy takes of a message, whether it ends or is refused: those of its objects, and its landing pads.
-use Rattle.std.specs.Prelude.{◌≡◌, ◌≢◌, ◌⊎◌, ℕ, ◌+◌, ◌<◌, ◌≤◌, true, length, sum_by, Some, Result, MatchResult}
-use Rattle.capnp_words.specs.declared.wire_pointer.StructSize.{StructSize}
+use Rattle.std.specs.Prelude.{◌≡◌, ◌≢◌, ℕ, ◌+◌, ◌<◌, ◌≤◌, true, length, sum_by, Some, Result, MatchResult}
+use Rattle.capnp_words.specs.declared.error.ErrorKind.{ErrorKind}
 use Rattle.capnp_format.specs.Segments.{Segments, segment}
-use Rattle.capnp_format.specs.Tree.{Trees, Elements, count, element_count}
 use Rattle.capnp_arena.specs.Taking.{SameRoomBelow}
 use Rattle.capnp_arena.specs.View.{View}
 use Rattle.capnp_making.specs.Memory.{Lengthens, IsNextRoom}
 use Rattle.capnp_making.specs.Near.{HasOwnRoom}
-use Rattle.capnp_objects.specs.Outcomes.{ReadsAll, ReadsElements}
 use Rattle.capnp_objects.specs.Reading.{Reading}
-use Rattle.capnp_objects.specs.Refusals.{BreaksOffAmong, BreaksOffAmongElements}
-use Rattle.capnp_objects.specs.Spending.{pointers_in_all, pointers_in_elements}
-use Rattle.capnp_copies.specs.Changes.{Change, StayInSegment, Fits}
-use Rattle.capnp_copies.specs.Costs.{cost_among, cost_among_elements, followed_among, followed_among_elements}
+use Rattle.capnp_copies.specs.Changes.{Change, StayInSegment}
 use Rattle.capnp_copies.specs.Originals.{Original, value_original}
 
 -- The words of all segments of a message.
@@ -52,59 +47,19 @@ pub data Makes : ℕ → View → View → ℕ → ℕ → Type 0 where
       Makes id old new (words + more_words) (pads + more_pads)
 
 -- From old to new objects of at most n words in all are made for pointers of segment id, with at most p landing pads.
-pub record MakesAtMost (id n p : ℕ) (old new : View) : Type 0 where
+pub record MakesAtMost (id : ℕ) (old new : View) (n p : ℕ) : Type 0 where
   pub words : ℕ
   pub pads : ℕ
   pub made : Makes id old new words pads
   pub less : words ≤ n
   pub few : pads ≤ p
 
--- A call makes objects of at most n words in all, with at most p landing pads.
-abbrev pub Gains : Change → ℕ → ℕ → Type 0
-Gains c n p = MakesAtMost c.segment n p c.old c.new
-
--- What a copy takes where all is read, by what that costs.
-abbrev pub TakesForCopy : Original → Change → Type 0
-TakesForCopy o c = o.takes c.form c.before c.after (Gains c)
-
--- What a copy takes that is refused: where reading is broken off, by what was read before the object where it stops.
-abbrev pub TakesUntilStop : Original → Change → Type 0
-TakesUntilStop o c = o.takes_until c.form c.before c.after (Gains c)
-
-abbrev pub TakesAtMost : {A E : Type 0} → Result A E → Original → Change → Type 0
-TakesAtMost result o c = MatchResult result (λ _. TakesForCopy o c) (λ _. TakesUntilStop o c)
-
--- What is taken for copies of i pointers from a place on: all of them are read; or reading them is broken off.
-pub record TakesForAll (r : Reading) (i : ℕ) (c : Change) : Type 0 where
-  pub children : Trees
-  pub counts : count children ≡ i
-  pub are_read : ReadsAll c.form r c.before c.after children
-  pub made : Gains c are_read.cost (pointers_in_all children)
-
-pub record TakesAmong (r : Reading) (i : ℕ) (c : Change) : Type 0 where
-  pub off : BreaksOffAmong c.form r i c.before c.after
-  pub made : Gains c (cost_among off) (followed_among off)
-
-abbrev pub TakesForPointers : {A E : Type 0} → Result A E → Reading → ℕ → Change → Type 0
-TakesForPointers result r i c = MatchResult result (λ _. TakesForAll r i c) (λ _. TakesAmong r i c)
-
--- What is taken for copies of the pointers of i structs of this size from a place on.
-pub record TakesForElements (r : Reading) (size : StructSize) (i : ℕ) (c : Change) : Type 0 where
-  pub elements : Elements
-  pub counts : element_count elements ≡ i
-  pub are_read : ReadsElements c.form r size c.before c.after elements
-  pub made : Gains c are_read.cost (pointers_in_elements elements)
-
-pub record TakesAmongElements (r : Reading) (size : StructSize) (i : ℕ) (c : Change) : Type 0 where
-  pub off : BreaksOffAmongElements c.form r size i c.before c.after
-  pub made : Gains c (cost_among_elements off) (followed_among_elements off)
-
-abbrev pub TakesForRows : {A E : Type 0} → Result A E → Reading → StructSize → ℕ → Change → Type 0
-TakesForRows result r size i c = MatchResult result (λ _. TakesForElements r size i c) (λ _. TakesAmongElements r size i c)
-
--- A list of numbers is made, of n words; or there is no room for it, and nothing is taken.
-abbrev pub TakesForNumbers : {A E : Type 0} → Result A E → ℕ → ℕ → View → View → Type 0
-TakesForNumbers result id n old new = MatchResult result (λ _. MakesAtMost id n 1 old new) (λ _. TakesNone old new)
+-- What a copy takes: where all is read, by what that costs; and where it is refused, by what was read before the object where it
+-- breaks off.
+abbrev pub TakesAtMost : {A E V : Type 0} → Result A E → Original V → Change → Type 0
+TakesAtMost result o c =
+    MatchResult result (λ _. o.takes c.form c.before c.after (MakesAtMost c.segment c.old c.new))
+    (λ _. o.takes_until c.form c.before c.after (MakesAtMost c.segment c.old c.new))
 
 -- What is made takes just its words and its landing pads. There is no pad where all the words have room in the segment of the pointers, and
 -- none where the message has but one segment afterwards.
@@ -114,13 +69,14 @@ PadsApart =
     (message_words new.words ≡ message_words old.words + (words + pads)) × (id < length old.words → StayInSegment old new id words → pads ≡ 0)
 
 -- Under a budget of x words a copy makes objects of at most x words in all, with at most x + 1 landing pads, and follows at most x + 1 pointers.
--- So it takes at most x words, its pads apart, and has no pad where x words have room in the place's segment, nor in a message of one segment.
+-- It takes at most x words, its pads apart, and has no pad where x words have room in the place's segment, nor in a message of one segment.
 pub record TakesFew (c : Change) (x : ℕ) : Type 0 where
-  pub made : Gains c x (x + 1)
+  pub made : MakesAtMost c.segment c.old c.new x (x + 1)
   pub words : message_words c.new.words ≤ message_words c.old.words + x + made.pads
-  pub alone : c.segment < length c.old.words → Fits c x → made.pads ≡ 0
+  pub alone : c.segment < length c.old.words → StayInSegment c.old c.new c.segment x → made.pads ≡ 0
   pub followed : c.after.followed ≤ c.before.followed + (x + 1)
 
 abbrev pub FewTaken : Type 0
 FewTaken =
-    (r : Reading) (c : Change) (x : ℕ) → r.charging ≡ true → c.before.left ≡ Some x → TakesForCopy (value_original r) c ⊎ TakesUntilStop (value_original r) c → TakesFew c x
+    (r : Reading) (c : Change) (x : ℕ) (result : Result (Unit {0}) ErrorKind) → r.charging ≡ true → c.before.left ≡ Some x →
+    TakesAtMost result (value_original r) c → TakesFew c x

@@ -2,7 +2,6 @@ pub mod Copied
 pub mod Forms
 pub mod Widths
 pub mod Originals
-pub mod Copies
 pub mod Rooms
 pub mod Changes
 pub mod Costs

@@ -3,14 +3,18 @@
 //!
 //! Each object is made before its children: in the segment of its pointer where it fits, else behind
 //! a landing pad. So the place holds a value at each moment.
-ghost use Rattle.std.specs.Prelude.{◌≡◌, IsOk, IfOk, IfErr};
+ghost use Rattle.std.specs.Prelude.{◌≡◌, ◌⊎◌, IsOk, IfOk, IfErr, OnOk, OnErr};
+ghost use Rattle.capnp_words.specs.declared.error.ErrorKind.TheVariants.{CannotCreateACanonicalMessageWithACapability, UnknownPointerType};
 ghost use Rattle.capnp_format.specs.Segments.{word_at, IsPlace};
+ghost use Rattle.capnp_format.specs.Word.{capability_word};
+ghost use Rattle.capnp_arena.specs.Written.{with_word};
+ghost use Rattle.capnp_objects.specs.Wanted.{plain, canonical, of_default};
 ghost use Rattle.capnp_format.specs.Tree.{Null};
 ghost use Rattle.capnp_readers.specs.Readers.{reading};
 ghost use Rattle.capnp_copies.specs.Growth.{TakesAtMost};
 ghost use Rattle.capnp_copies.specs.Changes.{change, MakesCopy, StopsCopy, StopsHalfway};
 ghost use Rattle.capnp_copies.specs.Forms.{form_of, form_in};
-ghost use Rattle.capnp_copies.specs.Copies.{CanBeCopied};
+ghost use Rattle.capnp_copies.specs.Rooms.{CanBeCopied};
 ghost use Rattle.capnp_copies.specs.Originals.{value_original};
 
 mod children;
@@ -143,14 +147,7 @@ fn copy_object<A: BuilderArena, B: ReaderArena>(
     };
     match object {
         Object::Null => Ok(()),
-        Object::Capability(index) => match form {
-            CopyForm::Plain => {
-                arena.set_word(id, at, WirePointer::new_capability(index).0);
-                Ok(())
-            }
-            CopyForm::Canonical => Err(ErrorKind::CannotCreateACanonicalMessageWithACapability),
-            CopyForm::OfDefault => Err(ErrorKind::UnknownPointerType),
-        },
+        Object::Capability(index) => copy_capability(arena, id, at, index, form),
         Object::Struct { start, size } => {
             let inner = PointerReader {
                 source: from.source,
@@ -180,5 +177,33 @@ fn copy_object<A: BuilderArena, B: ReaderArena>(
             };
             lists::copy_structs(arena, id, at, inner, size, count, lim, form)
         }
+    }
+}
+
+/// Copies a capability to a place, where the form takes one. Where it doesn't, nothing is changed.
+#[inline(always)]
+fn copy_capability<A: BuilderArena>(
+    arena: &mut A,
+    id: u32,
+    at: u32,
+    index: u32,
+    form: CopyForm,
+) -> Result<(), ErrorKind>
+    requires { IsPlace (A.view arena.old).words id at }
+    ensures as_it_stands { OnOk result (form_in form ≡ plain) }
+    ensures copied { OnOk result (A.view arena.new ≡ record (A.view arena.old)
+        { words = with_word (A.view arena.old).words id at (capability_word index) }) }
+    ensures refused { IfErr result (λ k.
+        ((form_in form ≡ canonical) × (k ≡ CannotCreateACanonicalMessageWithACapability))
+        ⊎ ((form_in form ≡ of_default) × (k ≡ UnknownPointerType))) }
+    ensures unchanged { OnErr result (A.view arena.new ≡ A.view arena.old) }
+{
+    match form {
+        CopyForm::Plain => {
+            arena.set_word(id, at, WirePointer::new_capability(index).0);
+            Ok(())
+        }
+        CopyForm::Canonical => Err(ErrorKind::CannotCreateACanonicalMessageWithACapability),
+        CopyForm::OfDefault => Err(ErrorKind::UnknownPointerType),
     }
 }

@@ -25,7 +25,7 @@ use Rattle.capnp_making.proofs.Replaced.{forest_stored, forest_updated, stored_w
 use Rattle.capnp_readers.specs.declared.readers.PointerPlace.{PointerPlace}
 use Rattle.capnp_builders.specs.Places.{Field}
 use Rattle.capnp_edits.specs.declared.edit.Edit.{Edit}
-use Rattle.capnp_edits.specs.Paths.{Spot, PointerTo, ElementOf, path_of, found, IsPointerFound, IsElementFound, IsPathFound}
+use Rattle.capnp_edits.specs.Paths.{EndValue, PointerTo, ElementOf, path_of, found, IsPointerFound, IsElementFound, IsPathFound}
 use Rattle.capnp_edits.specs.declared.edit.tasks.Task.{Task}
 use Rattle.capnp_edits.specs.declared.edit.tasks.Task.TheVariants.{Make, Point, InStruct, Write, Search, CopyRoot}
 use Rattle.capnp_edits.specs.declared.edit.tasks.Object.{Object}
@@ -34,8 +34,8 @@ use Rattle.capnp_edits.specs.declared.edit.tasks.Part.{Part}
 use Rattle.capnp_edits.specs.declared.edit.tasks.StructChange.{StructChange}
 use Rattle.capnp_edits.specs.declared.edit.tasks.StructChange.TheVariants.{Bits, Content}
 use Rattle.capnp_edits.specs.Tasks.{task_of}
-use Rattle.capnp_edits.specs.Edits.{refusal_of, bits_of, value_of, words_made, Making, becomes, denied, with_written, struct_changed, made_at, IsOfMemory, is_of_place, DoesAt, Leaves, as_it_stands, is_done, is_denied, is_allocated, is_not_allocated, leads_to, are_written, are_outside, PutsBits, Takes, leads_nowhere, IsApplied, refusals_after}
-use Rattle.capnp_edits.specs.Steps.{KeepsLengths, IsOfPlace, IsDoneAt}
+use Rattle.capnp_edits.specs.Edits.{refusal_of, bits_of, value_of, words_made, Making, becomes, denied, with_written, struct_changed, made_at, IsOfMemory, is_of_path, DoesAt, Leaves, as_it_stands, is_done, is_denied, is_allocated, is_not_allocated, leads_to, are_written, are_outside, PutsBits, Takes, leads_nowhere, IsApplied, refusals_after}
+use Rattle.capnp_edits.specs.Steps.{KeepsLengths, IsOfPath, IsDoneAt}
 use Rattle.capnp_edits.proofs.Steps.{first, same_some, struct_of}
 use Rattle.capnp_edits.proofs.Walks.{found-append, update-append}
 
@@ -43,8 +43,8 @@ use Rattle.capnp_edits.proofs.Walks.{found-append, update-append}
 abbrev pub Does : Segments → Segments → PointerPlace → Task → Option ErrorKind → Type 0
 Does S R place task r = (t : Tree) → IsStored S place.segment place.word t → DoesAt S R place (made_at task (PointerTo t)) t r
 
-abbrev pub made : Option Task → Spot → Making
-made task spot = option_map_or (λ (x : Task). made_at x spot) task (denied NoSuchPlace)
+abbrev pub made : Option Task → EndValue → Making
+made task end_value = option_map_or (λ (x : Task). made_at x end_value) task (denied NoSuchPlace)
 
 -- a refusal for words is one for want of memory, or of room
 pub of_allocation : (old new : View) (segments amount : ℕ) (k : ErrorKind) → IsAllocationRefusal old new segments amount k → IsOfMemory k
@@ -63,24 +63,24 @@ of_no_place k (inl h) e = absurd (cc)
 of_no_place k (inr h) e = let same = h.1 in absurd (cc)
 
 -- a call that is refused for what a path leads to, and changes nothing then
-pub refused_there : {A : Type 0} (result : Result A ErrorKind) (old new : View) (Q : ErrorKind → Type 0) (k : ErrorKind) → IfErr result (λ k. is_of_place k ≡ true) → OnErr result (new ≡ old) → refusal_of result ≡ Some k → IsOfPlace old new k ⊎ Q k
+pub refused_there : {A : Type 0} (result : Result A ErrorKind) (old new : View) (Q : ErrorKind → Type 0) (k : ErrorKind) → IfErr result (λ k. is_of_path k ≡ true) → OnErr result (new ≡ old) → refusal_of result ≡ Some k → IsOfPath old new k ⊎ Q k
 refused_there (Ok x) old new Q k named kept e = absurd (cc)
-refused_there (Err j) old new Q k named kept e = inl (subst (λ x. is_of_place x ≡ true) (same_some j k e) named, kept)
+refused_there (Err j) old new Q k named kept e = inl (subst (λ x. is_of_path x ≡ true) (same_some j k e) named, kept)
 
 -- by a name of what a path leads to
-pub of_place : {A : Type 0} (result : Result A ErrorKind) → IfErr result (λ k. k ≡ NoSuchPlace) → IfErr result (λ k. is_of_place k ≡ true)
+pub of_place : {A : Type 0} (result : Result A ErrorKind) → IfErr result (λ k. k ≡ NoSuchPlace) → IfErr result (λ k. is_of_path k ≡ true)
 of_place (Ok x) named = tt
-of_place (Err k) named = ap is_of_place named
+of_place (Err k) named = ap is_of_path named
 
-not_counted : (k : ErrorKind) (n : ℕ) → is_of_place k ≡ true → refusals_after (Some k) n ≡ n
+not_counted : (k : ErrorKind) (n : ℕ) → is_of_path k ≡ true → refusals_after (Some k) n ≡ n
 not_counted AllocationFailed n e = absurd (cc)
 not_counted k n e = refl
 
-pub none_counted : {A : Type 0} (result : Result A ErrorKind) (n m : ℕ) → m ≡ n → IfErr result (λ k. is_of_place k ≡ true) → m ≡ refusals_after (refusal_of result) n
+pub none_counted : {A : Type 0} (result : Result A ErrorKind) (n m : ℕ) → m ≡ n → IfErr result (λ k. is_of_path k ≡ true) → m ≡ refusals_after (refusal_of result) n
 none_counted (Ok x) n m same named = same
 none_counted (Err k) n m same named = same ∙ sym (not_counted k n named)
 
-pub never_refused : {A : Type 0} (result : Result A ErrorKind) → IsOk result → IfErr result (λ k. is_of_place k ≡ true)
+pub never_refused : {A : Type 0} (result : Result A ErrorKind) → IsOk result → IfErr result (λ k. is_of_path k ≡ true)
 never_refused (Ok x) done = tt
 never_refused (Err k) done = absurd (cc)
 
@@ -138,12 +138,12 @@ pointed old new place i u makes puts same lengths = record {
 
 -- a call that writes a part
 pub part_done : {A : Type 0} (result : Result A ErrorKind) (old new : View) (place : PointerPlace) (part : Part) → Does old.words new.words place (Write part) (refusal_of result) → KeepsLengths old.words new.words → KeepsLimits old new →
-    IfErr result (λ k. is_of_place k ≡ true) → OnErr result (new ≡ old) → IsDoneAt old new place (Write part) (refusal_of result)
+    IfErr result (λ k. is_of_path k ≡ true) → OnErr result (new ≡ old) → IsDoneAt old new place (Write part) (refusal_of result)
 part_done result old new place part does lengths limits named kept = record {
   done = does;
   counted = none_counted result old.refusals new.refusals (ap (λ (v : View). v.refusals) limits) named;
   named = λ k. refused_there result old new (λ j. ⊥) k named kept;
-  fits = λ room k e. named_refusal result (λ j. is_of_place j ≡ true) k named e;
+  fits = λ room k e. named_refusal result (λ j. is_of_path j ≡ true) k named e;
   nowhere = kept_nowhere result old new kept;
   taken = λ some. lengths;
 }
@@ -202,19 +202,19 @@ no_struct a (Content source) (Structs d q es) none = refl
 
 -- at a pointer
 at_pointer : (S R : Segments) (e : Edit) (place : PointerPlace) (making : Making) (r : Option ErrorKind) (t x : Tree) → made (task_of e.op) (PointerTo x) ≡ making → PathLeads S 0 0 t (path_of e.path.now) place.segment place.word x →
-    found t (path_of e.path.now) ≡ Some (PointerTo x) → IsForest S t → DoesAt S R place making x r → (u : Tree) × IsForest R u × Takes e t r u
-at_pointer S R e place making r t x makes leads spot forest does = stands does.left (subst (λ m. Leaves m r does.left) (sym makes) does.leaves) does.stands
+    found t (path_of e.path.now) ≡ Some (PointerTo x) → IsForest S t → DoesAt S R place making x r → (u : Tree) × IsForest R u × Takes e r t u
+at_pointer S R e place making r t x makes leads end_value forest does = stands does.left (subst (λ m. Leaves m r does.left) (sym makes) does.leaves) does.stands
   where
-    stands : (o : Option Tree) → Leaves (made (task_of e.op) (PointerTo x)) r o → MatchOption o (R ≡ S) (IsReplaced S R place.segment place.word x) → (u : Tree) × IsForest R u × Takes e t r u
-    stands (Some y) left replaced = (update t (path_of e.path.now) y, forest_updated S R t (path_of e.path.now) place.segment place.word x y forest leads replaced, leads_to (PointerTo x) (Some y) spot left refl)
-    stands None left same = (t, subst (λ Q. IsForest Q t) (sym same) forest, leads_to (PointerTo x) None spot left refl)
+    stands : (o : Option Tree) → Leaves (made (task_of e.op) (PointerTo x)) r o → MatchOption o (R ≡ S) (IsReplaced S R place.segment place.word x) → (u : Tree) × IsForest R u × Takes e r t u
+    stands (Some y) left replaced = (update t (path_of e.path.now) y, forest_updated S R t (path_of e.path.now) place.segment place.word x y forest leads replaced, leads_to (PointerTo x) (Some y) end_value left refl)
+    stands None left same = (t, subst (λ Q. IsForest Q t) (sym same) forest, leads_to (PointerTo x) None end_value left refl)
 
 pub applied_pointer : (S R : Segments) (e : Edit) (place : PointerPlace) (task : Task) (r : Option ErrorKind) → task_of e.op ≡ Some task →
-    ((t : Tree) → IsStored S 0 0 t → IsPointerFound S 0 0 t (path_of e.path.now) place.segment place.word) → Does S R place task r → IsApplied S R e r
+    ((t : Tree) → IsStored S 0 0 t → IsPointerFound S 0 0 t (path_of e.path.now) place.segment place.word) → Does S R place task r → IsApplied (Takes e r) S R
 applied_pointer S R e place task r is leads does t forest =
     let stored = forest_stored S t forest in
     let f = leads t stored in
-    at_pointer S R e place (made_at task (PointerTo f.value)) r t f.value (ap (λ o. made o (PointerTo f.value)) is) f.leads f.spot forest
+    at_pointer S R e place (made_at task (PointerTo f.value)) r t f.value (ap (λ o. made o (PointerTo f.value)) is) f.leads f.end_value forest
     (does f.value (stored_within S 0 0 t (path_of e.path.now) place.segment place.word f.value f.leads stored))
 
 -- an element of a list of structs is a struct
@@ -232,8 +232,8 @@ element_width_stored S s p d q es i ws ts stored l is = let m = stored.means in 
 
 at_element : (S R : Segments) (e : Edit) (s : ExistingStruct) (g : Field) (r : Option ErrorKind) (t : Tree) (f : IsElementFound S 0 0 t (path_of e.path.now) s) (ws : List ℕ) (ts : Trees) → struct_at f.elements f.index ≡ Struct ws ts →
     length ws ≡ s.size.data_words → IsStored S f.list_segment f.list_at (Structs s.size.data_words s.size.pointers f.elements) → found t (path_of e.path.now) ≡ Some (ElementOf (Struct ws ts)) → IsForest S t →
-    made (task_of e.op) (ElementOf (Struct ws ts)) ≡ with_written g (Struct ws ts) → PutsBits S R s g r → (u : Tree) × IsForest R u × Takes e t r u
-at_element S R e s g r t f ws ts is wide stored spot forest makes (are_written starts ends done written) =
+    made (task_of e.op) (ElementOf (Struct ws ts)) ≡ with_written g (Struct ws ts) → PutsBits S R s g r → (u : Tree) × IsForest R u × Takes e r t u
+at_element S R e s g r t f ws ts is wide stored end_value forest makes (are_written starts ends done written) =
     let d = s.size.data_words in
     let q = s.size.pointers in
     let list = Structs d q f.elements in
@@ -243,23 +243,23 @@ at_element S R e s g r t f ws ts is wide stored spot forest makes (are_written s
     let placed = rw (f.segment_is, f.start_is) at written in
     let replaced = element_field_written S R f.list_segment f.list_at d q f.elements f.index ws ts g.start g.bits g.value stored f.counts is there placed in
     let same : update t (path_of e.path.now) y ≡ update t f.front (Structs d q (put_struct f.elements f.index y)) =
-    ap (λ p. update t p y) f.path_is ∙ update-append t f.front (Element f.index ∷ []) list y f.spot in (
+    ap (λ p. update t p y) f.path_is ∙ update-append t f.front (Element f.index ∷ []) list y f.end_value in (
       update t f.front (Structs d q (put_struct f.elements f.index y)),
       forest_updated S R t f.front f.list_segment f.list_at list (Structs d q (put_struct f.elements f.index y)) forest f.leads replaced,
-      leads_to (ElementOf (Struct ws ts)) (Some y) spot (as_it_stands (is_done y (makes ∙ field_there g ws ts within) done refl)) (sym same),
+      leads_to (ElementOf (Struct ws ts)) (Some y) end_value (as_it_stands (is_done y (makes ∙ field_there g ws ts within) done refl)) (sym same),
     )
-at_element S R e s g r t f ws ts is wide stored spot forest makes (are_outside far named same) =
+at_element S R e s g r t f ws ts is wide stored end_value forest makes (are_outside far named same) =
     let past : 64 * length ws < g.start + g.bits = rw wide far in
-    (t, subst (λ Q. IsForest Q t) (sym same) forest, leads_to (ElementOf (Struct ws ts)) None spot (as_it_stands (is_denied NoSuchPlace (makes ∙ field_past g ws ts past) named refl)) refl)
+    (t, subst (λ Q. IsForest Q t) (sym same) forest, leads_to (ElementOf (Struct ws ts)) None end_value (as_it_stands (is_denied NoSuchPlace (makes ∙ field_past g ws ts past) named refl)) refl)
 
 -- what a path leads to that leads to an element
-pub element_spot : (S : Segments) (e : Edit) (s : ExistingStruct) (t : Tree) (f : IsElementFound S 0 0 t (path_of e.path.now) s) (ws : List ℕ) (ts : Trees) → struct_at f.elements f.index ≡ Struct ws ts → found t (path_of e.path.now) ≡ Some (ElementOf (Struct ws ts))
-element_spot S e s t f ws ts is =
-    ap (found t) f.path_is ∙ found-append t f.front (Element f.index ∷ []) (Structs s.size.data_words s.size.pointers f.elements) f.spot ∙ first f.index (element_count f.elements) _ _ f.counts ∙ ap (λ x. Some (ElementOf x)) is
+pub element_end : (S : Segments) (e : Edit) (s : ExistingStruct) (t : Tree) (f : IsElementFound S 0 0 t (path_of e.path.now) s) (ws : List ℕ) (ts : Trees) → struct_at f.elements f.index ≡ Struct ws ts → found t (path_of e.path.now) ≡ Some (ElementOf (Struct ws ts))
+element_end S e s t f ws ts is =
+    ap (found t) f.path_is ∙ found-append t f.front (Element f.index ∷ []) (Structs s.size.data_words s.size.pointers f.elements) f.end_value ∙ first f.index (element_count f.elements) _ _ f.counts ∙ ap (λ x. Some (ElementOf x)) is
 
 -- bits of an element are written
 pub applied_bits : (S R : Segments) (e : Edit) (s : ExistingStruct) (n : Number) (r : Option ErrorKind) → task_of e.op ≡ Some (InStruct (Bits n)) → ((t : Tree) → IsStored S 0 0 t → IsElementFound S 0 0 t (path_of e.path.now) s) → PutsBits S R s (bits_of n) r →
-    IsApplied S R e r
+    IsApplied (Takes e r) S R
 applied_bits S R e s n r is_task leads w t forest =
     let stored = forest_stored S t forest in
     let f = leads t stored in
@@ -268,7 +268,7 @@ applied_bits S R e s n r is_task leads w t forest =
     let there = stored_within S 0 0 t f.front f.list_segment f.list_at list f.leads stored in
     let means = there.means in
     let wide = element_width S means.0 f.list_segment f.list_at s.size.data_words s.size.pointers f.elements means.1 f.index ws ts means.2 f.counts is in
-    at_element S R e s (bits_of n) r t f ws ts is wide there (element_spot S e s t f ws ts is) forest (ap (λ o. made o (ElementOf (Struct ws ts))) is_task) w
+    at_element S R e s (bits_of n) r t f ws ts is wide there (element_end S e s t f ws ts is) forest (ap (λ o. made o (ElementOf (Struct ws ts))) is_task) w
 
 -- any other task is for no element
 none_made : (task : Task) (t : Tree) → ((change : StructChange) → task ≡ InStruct change → ⊥) → made_at task (ElementOf t) ≡ denied NoSuchPlace
@@ -281,25 +281,25 @@ none_made (Search sought default) t other = refl
 none_made (CopyRoot c) t other = refl
 
 pub none_applied : (S : Segments) (e : Edit) (s : ExistingStruct) (task : Task) → task_of e.op ≡ Some task → ((change : StructChange) → task ≡ InStruct change → ⊥) → ((t : Tree) → IsStored S 0 0 t → IsElementFound S 0 0 t (path_of e.path.now) s) →
-    IsApplied S S e (Some NoSuchPlace)
+    IsApplied (Takes e (Some NoSuchPlace)) S S
 none_applied S e s task is_task other leads t forest =
     let f = leads t (forest_stored S t forest) in
     let (ws, ts, is) = element_struct f.elements f.index f.counts in
     let x : Tree = Struct ws ts in
-    (t, forest, leads_to (ElementOf x) None (element_spot S e s t f ws ts is) (as_it_stands (is_denied NoSuchPlace (ap (λ o. made o (ElementOf x)) is_task ∙ none_made task x other) refl refl)) refl)
+    (t, forest, leads_to (ElementOf x) None (element_end S e s t f ws ts is) (as_it_stands (is_denied NoSuchPlace (ap (λ o. made o (ElementOf x)) is_task ∙ none_made task x other) refl refl)) refl)
 
 -- numbers that are out of range
-pub out_applied : (S : Segments) (e : Edit) → task_of e.op ≡ None → IsApplied S S e (Some NoSuchPlace)
+pub out_applied : (S : Segments) (e : Edit) → task_of e.op ≡ None → IsApplied (Takes e (Some NoSuchPlace)) S S
 out_applied S e out t forest = (t, forest, takes (found t (path_of e.path.now)) refl)
   where
-    takes : (o : Option Spot) → found t (path_of e.path.now) ≡ o → Takes e t (Some NoSuchPlace) t
-    takes (Some spot) is = leads_to spot None is (as_it_stands (is_denied NoSuchPlace (ap (λ x. made x spot) out) refl refl)) refl
+    takes : (o : Option EndValue) → found t (path_of e.path.now) ≡ o → Takes e (Some NoSuchPlace) t t
+    takes (Some end_value) is = leads_to end_value None is (as_it_stands (is_denied NoSuchPlace (ap (λ x. made x end_value) out) refl refl)) refl
     takes None is = leads_nowhere is refl refl
 
 -- nowhere
-pub applied_nowhere : (S : Segments) (e : Edit) → ((t : Tree) → IsStored S 0 0 t → IsPathFound S 0 0 t (path_of e.path.now) None) → IsApplied S S e (Some NoSuchPlace)
+pub applied_nowhere : (S : Segments) (e : Edit) → ((t : Tree) → IsStored S 0 0 t → IsPathFound S 0 0 t (path_of e.path.now) None) → IsApplied (Takes e (Some NoSuchPlace)) S S
 applied_nowhere S e none t forest = (t, forest, leads_nowhere (ap (found t) (sym (append-nil (path_of e.path.now))) ∙ none t (forest_stored S t forest) []) refl refl)
 
 -- a forest has a root
-pub no_forest : (S : Segments) (e : Edit) (r : Option ErrorKind) → (1 ≤ length (segment S 0) → ⊥) → IsApplied S S e r
+pub no_forest : (S : Segments) (e : Edit) (r : Option ErrorKind) → (1 ≤ length (segment S 0) → ⊥) → IsApplied (Takes e r) S S
 no_forest S e r empty t forest = absurd (empty (omega (arith, (forest_stored S t forest).inside 0 0 (omega (arith, times-first (word_interval 0 0) (cover S 0 0 t) 0 0, once_held 0 0)))))

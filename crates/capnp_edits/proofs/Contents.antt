@@ -1,5 +1,5 @@
 -- What is written in lists, texts and data.
-use Rattle.std.proofs.Common.{◌≡◌, ℕ, zero, suc, ◌+◌, ◌-◌, ◌*◌, ◌^◌, ◌<◌, ◌≤◌, Bool, true, false, cond, ◌&&◌, nat_eq, nat_le, List, length, Option, Some, None, Result, Ok, Err, refl, sym, ap, ◌∙◌, subst, arith}
+use Rattle.std.proofs.Common.{◌≡◌, ℕ, zero, suc, ◌+◌, ◌-◌, ◌*◌, ◌^◌, ◌<◌, ◌≤◌, Bool, true, false, cond, ◌&&◌, nat_eq, nat_le, nat_lt, List, length, Option, Some, None, Result, Ok, Err, refl, sym, ap, ◌∙◌, subst, arith}
 use Rattle.std.proofs.lemmas.Bool.{eqb-true}
 use Rattle.std.proofs.lemmas.Bool.Decides.{nat_tests}
 use Rattle.capnp_words.specs.declared.error.ErrorKind.{ErrorKind}
@@ -27,10 +27,16 @@ use Rattle.capnp_builders.proofs.FoundLists.{found_inside}
 use Rattle.capnp_edits.specs.declared.edit.tasks.Task.TheVariants.{Write}
 use Rattle.capnp_edits.specs.declared.edit.tasks.Part.TheVariants.{ListElement, TextByte, DataByte}
 use Rattle.capnp_edits.specs.Tasks.{is_number}
-use Rattle.capnp_edits.specs.Edits.{becomes, denied, struct_with, with_lowest, nowhere, count_of, if_reached, made_of_found, part_written, DoesAt, PutsElement, element_put, element_past, no_list, list_denied, PutsByte, byte_put, byte_past, no_bytes_there, bytes_denied}
+use Rattle.capnp_edits.specs.Edits.{becomes, denied, struct_with, with_lowest, nowhere, if_reached, part_written, DoesAt, PutsElement, element_put, element_past, no_list, list_denied, PutsByte, byte_put, byte_past, no_bytes_there, bytes_denied}
 use Rattle.capnp_edits.proofs.Steps.{first, second, chosen}
 use Rattle.capnp_edits.proofs.Applied.{Does, done_at, denied_at, element_struct, element_width_stored}
 use Rattle.capnp_edits.proofs.Fields.{number_parts}
+
+-- How many are in what is found, as elements or bytes: none in a null pointer.
+abbrev count_of : {A : Type 0} → (A → ℕ) → Result (Option A) ErrorKind → Result ℕ ErrorKind
+count_of number (Ok (Some x)) = Ok (number x)
+count_of number (Ok None) = Ok 0
+count_of number (Err k) = Err k
 
 -- How many elements of a list are found, and how many bytes.
 abbrev elements_in : Result (Option ExistingList) ErrorKind → Result ℕ ErrorKind
@@ -78,15 +84,31 @@ text_anywhere f alike a b (Flat s ns) =
 text_anywhere f alike a b (Pointers ts) = refl
 text_anywhere f alike a b (Structs d q es) = refl
 
+same_count : (n m : ℕ) → ◌≡◌ {A = Result ℕ ErrorKind} (Ok n) (Ok m) → n ≡ m
+same_count n m e = cc
+
+same_err_count : (k l : ErrorKind) → ◌≡◌ {A = Result ℕ ErrorKind} (Err k) (Err l) → k ≡ l
+same_err_count k l e = cc
+
 -- an element that is reached, or not
-reached_done : (S R : Segments) (place : PointerPlace) (t u : Tree) (i n : ℕ) (c : Result ℕ ErrorKind) → c ≡ Ok n → i < n → IsReplaced S R place.segment place.word t u → DoesAt S R place (made_of_found (if_reached i u) c) t None
-reached_done S R place t u i n c is_n l replaced = done_at u (ap (made_of_found (if_reached i u)) is_n ∙ first i n (becomes u) (denied NoSuchPlace) l) refl replaced
+reached : {A : Type 0} (number : A → ℕ) (u : Tree) (i n : ℕ) (q : Result (Option A) ErrorKind) → count_of number q ≡ Ok n → if_reached number i u q ≡ cond (nat_lt i n) (becomes u) (denied NoSuchPlace)
+reached number u i n (Ok (Some x)) is_n = ap (λ m. cond (nat_lt i m) (becomes u) (denied NoSuchPlace)) (same_count (number x) n is_n)
+reached number u i n (Ok None) is_n = sym (second i n (becomes u) (denied NoSuchPlace) (omega (arith, same_count 0 n is_n)))
+reached number u i n (Err k) is_n = absurd (cc is_n)
 
-reached_past : (S : Segments) (place : PointerPlace) (t u : Tree) (i n : ℕ) (c : Result ℕ ErrorKind) → c ≡ Ok n → n ≤ i → DoesAt S S place (made_of_found (if_reached i u) c) t (Some NoSuchPlace)
-reached_past S place t u i n c is_n l = denied_at NoSuchPlace (ap (made_of_found (if_reached i u)) is_n ∙ second i n (becomes u) (denied NoSuchPlace) l) refl refl
+reached_done : {A : Type 0} (number : A → ℕ) (S R : Segments) (place : PointerPlace) (t u : Tree) (i n : ℕ) (q : Result (Option A) ErrorKind) → count_of number q ≡ Ok n → i < n → IsReplaced S R place.segment place.word t u → DoesAt S R place (if_reached number i u q) t None
+reached_done number S R place t u i n q is_n l replaced = done_at u (reached number u i n q is_n ∙ first i n (becomes u) (denied NoSuchPlace) l) refl replaced
 
-reached_denied : (S : Segments) (place : PointerPlace) (t u : Tree) (i : ℕ) (k : ErrorKind) (c : Result ℕ ErrorKind) → c ≡ Err k → DoesAt S S place (made_of_found (if_reached i u) c) t (Some k)
-reached_denied S place t u i k c is_k = denied_at k (ap (made_of_found (if_reached i u)) is_k) refl refl
+reached_past : {A : Type 0} (number : A → ℕ) (S : Segments) (place : PointerPlace) (t u : Tree) (i n : ℕ) (q : Result (Option A) ErrorKind) → count_of number q ≡ Ok n → n ≤ i → DoesAt S S place (if_reached number i u q) t (Some NoSuchPlace)
+reached_past number S place t u i n q is_n l = denied_at NoSuchPlace (reached number u i n q is_n ∙ second i n (becomes u) (denied NoSuchPlace) l) refl refl
+
+not_reached : {A : Type 0} (number : A → ℕ) (u : Tree) (i : ℕ) (k : ErrorKind) (q : Result (Option A) ErrorKind) → count_of number q ≡ Err k → if_reached number i u q ≡ denied k
+not_reached number u i k (Ok (Some x)) is_k = absurd (cc is_k)
+not_reached number u i k (Ok None) is_k = absurd (cc is_k)
+not_reached number u i k (Err l) is_k = ap denied (same_err_count l k is_k)
+
+reached_denied : {A : Type 0} (number : A → ℕ) (S : Segments) (place : PointerPlace) (t u : Tree) (i : ℕ) (k : ErrorKind) (q : Result (Option A) ErrorKind) → count_of number q ≡ Err k → DoesAt S S place (if_reached number i u q) t (Some k)
+reached_denied number S place t u i k q is_k = denied_at k (not_reached number u i k q is_k) refl refl
 
 -- elements that are no structs, where numbers or bits are expected: they are at least as wide
 plain_wide : (expected found : ElementSize) → plain_misfit expected found ≡ None → element_bits (size_number expected) ≤ element_bits (size_number found)
@@ -245,15 +267,15 @@ element_does S R place size i v r looked inside range is_found puts t stored = d
 
     does : looked ≡ list_in (target S place.segment place.word) size t → PutsElement S R looked size i v r → DoesAt S R place (part_written (ListElement (record { size = size; index = i; value = v })) t) t r
     does found (element_put l is_l less done written) = rw done (
-        reached_done S R place t (with_lowest i w v t) i l.count (elements_in (list_in nowhere size t)) (counted found ∙ ap elements_in is_l) less
+        reached_done (λ (l : ExistingList). l.count) S R place t (with_lowest i w v t) i l.count (list_in nowhere size t) (counted found ∙ ap elements_in is_l) less
         (list_written S R place.segment place.word size t l i v parts.0 parts.1 parts.2 (sym is_l ∙ found) stored less written))
     does found (element_past l is_l past named kept) = rw (named, kept) (
-        reached_past S place t (with_lowest i w v t) i l.count (elements_in (list_in nowhere size t)) (counted found ∙ ap elements_in is_l)
+        reached_past (λ (l : ExistingList). l.count) S place t (with_lowest i w v t) i l.count (list_in nowhere size t) (counted found ∙ ap elements_in is_l)
         (past (found_inside S place.segment place.word size t l (there S place.segment place.word inside) stored (sym found ∙ is_l)) (found_wide S place.segment place.word size t l parts.0 parts.1 (sym is_l ∙ found) stored)))
     does found (no_list is_none named kept) = rw (named, kept) (
-        reached_past S place t (with_lowest i w v t) i 0 (elements_in (list_in nowhere size t)) (counted found ∙ ap elements_in is_none) (omega arith))
+        reached_past (λ (l : ExistingList). l.count) S place t (with_lowest i w v t) i 0 (list_in nowhere size t) (counted found ∙ ap elements_in is_none) (omega arith))
     does found (list_denied k is_k named kept) = rw (named, kept) (
-        reached_denied S place t (with_lowest i w v t) i k (elements_in (list_in nowhere size t)) (counted found ∙ ap elements_in is_k))
+        reached_denied (λ (l : ExistingList). l.count) S place t (with_lowest i w v t) i k (list_in nowhere size t) (counted found ∙ ap elements_in is_k))
 
 -- where bytes are looked for, and how a byte of them is written
 record Looks (look : Target → Tree → Result (Option ExistingBytes) ErrorKind) (i v : ℕ) : Type 0 where
@@ -263,23 +285,23 @@ record Looks (look : Target → Tree → Result (Option ExistingBytes) ErrorKind
 
 byte_does : (S R : Segments) (place : PointerPlace) (i v : ℕ) (look : Target → Tree → Result (Option ExistingBytes) ErrorKind) (r : Option ErrorKind) (looked : Result (Option ExistingBytes) ErrorKind) (t : Tree) →
     IsPlace S place.segment place.word → Looks look i v → IsStored S place.segment place.word t → looked ≡ look (target S place.segment place.word) t → PutsByte S R looked i v r →
-    DoesAt S R place (made_of_found (if_reached i (with_lowest i 8 v t)) (length_in (look nowhere t))) t r
+    DoesAt S R place (if_reached (λ b. b.length) i (with_lowest i 8 v t) (look nowhere t)) t r
 byte_does S R place i v look r looked t inside looks stored found puts = does puts
   where
     counted : length_in (look nowhere t) ≡ length_in looked
     counted = looks.long nowhere (target S place.segment place.word) t ∙ ap length_in (sym found)
 
-    does : PutsByte S R looked i v r → DoesAt S R place (made_of_found (if_reached i (with_lowest i 8 v t)) (length_in (look nowhere t))) t r
+    does : PutsByte S R looked i v r → DoesAt S R place (if_reached (λ b. b.length) i (with_lowest i 8 v t) (look nowhere t)) t r
     does (byte_put b is_b less done written) = rw done (
-        reached_done S R place t (with_lowest i 8 v t) i b.length (length_in (look nowhere t)) (counted ∙ ap length_in is_b) less
+        reached_done (λ (b : ExistingBytes). b.length) S R place t (with_lowest i 8 v t) i b.length (look nowhere t) (counted ∙ ap length_in is_b) less
         (looks.written S R place.segment place.word t b (sym is_b ∙ found) stored less written))
     does (byte_past b is_b past named kept) = rw (named, kept) (
-        reached_past S place t (with_lowest i 8 v t) i b.length (length_in (look nowhere t)) (counted ∙ ap length_in is_b)
+        reached_past (λ (b : ExistingBytes). b.length) S place t (with_lowest i 8 v t) i b.length (look nowhere t) (counted ∙ ap length_in is_b)
         (past (looks.inside S place.segment place.word t b (there S place.segment place.word inside) stored (sym found ∙ is_b))))
     does (no_bytes_there is_none named kept) = rw (named, kept) (
-        reached_past S place t (with_lowest i 8 v t) i 0 (length_in (look nowhere t)) (counted ∙ ap length_in is_none) (omega arith))
+        reached_past (λ (b : ExistingBytes). b.length) S place t (with_lowest i 8 v t) i 0 (look nowhere t) (counted ∙ ap length_in is_none) (omega arith))
     does (bytes_denied k is_k named kept) = rw (named, kept) (
-        reached_denied S place t (with_lowest i 8 v t) i k (length_in (look nowhere t)) (counted ∙ ap length_in is_k))
+        reached_denied (λ (b : ExistingBytes). b.length) S place t (with_lowest i 8 v t) i k (look nowhere t) (counted ∙ ap length_in is_k))
 
 pub text_does : (S R : Segments) (place : PointerPlace) (i v : ℕ) (r : Option ErrorKind) (looked : Result (Option ExistingBytes) ErrorKind) → IsPlace S place.segment place.word → v < 256 →
     ((t : Tree) → IsStored S place.segment place.word t → looked ≡ text_in (target S place.segment place.word) t) → PutsByte S R looked i v r → Does S R place (Write (TextByte i v)) r

@@ -1,9 +1,9 @@
 -- What a copy from another message leaves, and what it is refused for.
-use Rattle.std.proofs.Common.{◌≡◌, inl, inr, ◌⊎◌, ℕ, zero, suc, ◌+◌, Bool, true, false, cond, not, ◌&&◌, ◌||◌, nat_eq, nat_lt, length, Option, Some, None, Result, Ok, Err, IfOk, IfErr, OnOk, OnErr, refl, sym, ap, ◌∙◌, subst, arith, IsOk}
+use Rattle.std.proofs.Common.{◌≡◌, inl, inr, ◌⊎◌, ℕ, ◌+◌, Bool, true, false, cond, not, ◌&&◌, ◌||◌, nat_eq, nat_lt, length, Option, Some, None, Result, Ok, Err, IfOk, IfErr, OnOk, OnErr, refl, sym, ap, ◌∙◌, subst, arith, IsOk}
 use Rattle.std.proofs.lemmas.Bool.{cases_lt, false≢true}
 use Rattle.capnp_words.specs.Meter.{Meter}
 use Rattle.capnp_words.specs.declared.error.ErrorKind.{ErrorKind}
-use Rattle.capnp_words.specs.declared.error.ErrorKind.TheVariants.{AllocationFailed, FoundBitListWhereStructListWasExpected, InvalidSegmentId, MessageContainsListWithIncompatibleElementType, MessageContainsNonListPointerWhereListPointerWasExpected, MessageContainsNonStructPointerWhereStructPointerWasExpected, MessageContainsOutOfBoundsPointer, NoSuchPlace, ReadLimitExceeded}
+use Rattle.capnp_words.specs.declared.error.ErrorKind.TheVariants.{AllocationFailed, FoundBitListWhereStructListWasExpected, InvalidSegmentId, MessageContainsListWithIncompatibleElementType, MessageContainsNonListPointerWhereListPointerWasExpected, MessageContainsNonStructPointerWhereStructPointerWasExpected, MessageContainsOutOfBoundsPointer, MessageIsTooDeeplyNestedOrContainsCycles, NestingLimitExceeded, NoSuchPlace, ReadLimitExceeded}
 use Rattle.capnp_words.specs.declared.wire_pointer.ElementSize.TheVariants.{Void}
 use Rattle.capnp_arena.specs.View.{View}
 use Rattle.capnp_arena.specs.Checks.{misplaced}
@@ -16,9 +16,7 @@ use Rattle.capnp_format.specs.Tree.{Tree, Null}
 use Rattle.capnp_making.specs.Memory.{KeepsMemory, SpendsMemory}
 use Rattle.capnp_making.proofs.Memory.{not_the_allocator}
 use Rattle.capnp_making.specs.Stored.{Puts}
-use Rattle.capnp_objects.specs.declared.object.Expected.{Expected}
-use Rattle.capnp_objects.specs.declared.object.Expected.TheVariants.{Struct as ExpectedStruct, List as ExpectedList}
-use Rattle.capnp_objects.specs.Expected.{CanBeGiven, too_deep, another_kind, misfit, narrow_elements, Withheld, no_level, unfollowed, of_another_kind, stopped, misfits}
+use Rattle.capnp_objects.specs.Expected.{Expectation, struct_expected, list_expected, CanBeGiven, narrow_elements, Withheld, no_level, unfollowed, of_another_kind, stopped, misfits}
 use Rattle.capnp_objects.specs.Outcomes.{Reads}
 use Rattle.capnp_objects.specs.Reading.{Reading}
 use Rattle.capnp_objects.specs.Refusals.{Refused, here as stops_here, Unfollowed, no_target}
@@ -26,7 +24,7 @@ use Rattle.capnp_objects.specs.Wanted.{plain}
 use Rattle.capnp_objects.proofs.Expecting.{not_withheld, one_level}
 use Rattle.capnp_objects.proofs.Limits.{not_for_memory, not_for_place}
 use Rattle.capnp_objects.proofs.Refusals.{unreadable}
-use Rattle.capnp_readers.specs.Calls.{IsRead, without_default, WhereRead, IsAnswered, IsRefused, IsStructRead, IsListRead, call}
+use Rattle.capnp_readers.specs.Calls.{IsRead, of_pointer, of_default, short_default, of_null_default, WhereRead, IsRefused, IsStructRead, IsListRead}
 use Rattle.capnp_readers.specs.Readers.{reading}
 use Rattle.capnp_readers.specs.Sections.{bytes_for}
 use Rattle.capnp_readers.specs.Sizes.{pointers_read}
@@ -48,9 +46,9 @@ use Rattle.capnp_edits.specs.declared.edit.copying.Copying.{Copying}
 use Rattle.capnp_edits.specs.declared.edit.copying.Wanted.{Wanted}
 use Rattle.capnp_edits.specs.declared.edit.copying.Wanted.TheVariants.{Value, Struct as AStruct, List as AList}
 use Rattle.capnp_edits.specs.declared.edit.tasks.Task.TheVariants.{CopyRoot}
-use Rattle.capnp_edits.specs.Sources.{copy_at, words_in, root_of, once_at_root, as_wanted, HasRoot, IsRootReader, CanBeCopiedAs, IsRootless, IsWithheld, HasNothingToCopy, FitsBehind, Sections, ListElements, LeadsToStruct, LeadsToList, RefusesAs, CopiedOrRefused}
-use Rattle.capnp_edits.specs.Edits.{as_it_stands, refusal_of, IsOfMemory, is_of_place, refusals_after, CopiesRoot, root_copied, root_not_copied, root_unread, is_copied, is_not_copied, is_unread}
-use Rattle.capnp_edits.specs.Steps.{call_to, result_of, IsDoneAt, IsWholeRefused, TakesForWanted, TakesForWhole}
+use Rattle.capnp_edits.specs.Sources.{copy_at, words_in, root_of, once_at_root, as_wanted, HasRoot, IsRootReader, CanBeCopiedAs, IsRootless, IsWithheld, HasNothingToCopy, FitsBehind, Sections, ListElements, LeadsToStruct, LeadsToList, OfWanted, CopiedOrRefused}
+use Rattle.capnp_edits.specs.Edits.{as_it_stands, refusal_of, IsOfMemory, is_of_path, refusals_after, CopiesRoot, root_copied, root_not_copied, root_unread, is_copied, is_not_copied, is_unread}
+use Rattle.capnp_edits.specs.Steps.{call_to, result_of, IsDoneAt, IsWholeRefused, TakesForWhole}
 use Rattle.capnp_edits.proofs.Taken.{copy_taken}
 use Rattle.capnp_edits.proofs.Applied.{Does, of_allocation, of_no_place, named_refusal, never_refused}
 use Rattle.capnp_edits.proofs.CopiedStruct.{struct_at, struct_reads, struct_refused, struct_given, struct_fits}
@@ -71,20 +69,20 @@ value_refused b id at old new r m m' k (inl (n, (refuses, none), wanted, large))
 value_refused b id at old new r m m' k (inr (inl refused)) = inr refused
 value_refused b id at old new r m m' k (inr (inr none)) = absurd none
 
-copy_refused_as : (w : Wanted) (b : Bool) (id at : ℕ) (old new : View) (r : Reading) (m m' : Meter) (k : ErrorKind) → RefusesAs w r (change (form_of b) id at old new m m') k →
+copy_refused_as : (w : Wanted) (b : Bool) (id at : ℕ) (old new : View) (r : Reading) (m m' : Meter) (k : ErrorKind) → OfWanted w r (change (form_of b) id at old new m m') (λ o d. RefusesToCopy o d k) →
     IsOfMemory k ⊎ Refused (form_of b) r m m' k
 copy_refused_as Value b id at old new r m m' k refuses = value_refused b id at old new r m m' k refuses
 copy_refused_as AStruct b id at old new r m m' k (s, leads, refuses) = struct_refused b id at old new r m m' s k leads refuses
 copy_refused_as AList b id at old new r m m' k (l, n, leads, refuses) = list_refused b id at old new r m n m' l k leads refuses
 
-copy_nowhere_as : (w : Wanted) (b : Bool) (id at : ℕ) (old new : View) (r : Reading) (m m' : Meter) (k : ErrorKind) → RefusesAs w r (change (form_of b) id at old new m m') k → k ≡ NoSuchPlace → ⊥
+copy_nowhere_as : (w : Wanted) (b : Bool) (id at : ℕ) (old new : View) (r : Reading) (m m' : Meter) (k : ErrorKind) → OfWanted w r (change (form_of b) id at old new m m') (λ o d. RefusesToCopy o d k) → k ≡ NoSuchPlace → ⊥
 copy_nowhere_as w b id at old new r m m' k refuses e = elim (copy_refused_as w b id at old new r m m' k refuses) [
   | inl memory ↦ of_no_place k memory e
   | inr refused ↦ not_for_place (subst (λ y. Refused (form_of b) r m m' y) e refused)
 ]
 
 copy_fits_as : (w : Wanted) (c : Copying) (id at : ℕ) (old new : View) (r : Reading) (m m' : Meter) (k : ErrorKind) → c.wanted ≡ w → (c.wanted ≡ AList → AreWords r.segments) →
-    CanBeCopiedAs c r m (length (segment old.words id)) (old.room id) → RefusesAs w r (change (form_of c.canonicalize) id at old new m m') k → ⊥
+    CanBeCopiedAs c r m (length (segment old.words id)) (old.room id) → OfWanted w r (change (form_of c.canonicalize) id at old new m m') (λ o d. RefusesToCopy o d k) → ⊥
 copy_fits_as Value c id at old new r m m' k is small can (inl (n, why, wanted, large)) =
     let same : can.value ≡ can.copied = same_some can.value can.copied (subst (λ w. as_wanted w can.value ≡ Some can.copied) is can.is_wanted) in
     omega (arith, can.fits, value_beyond (form_of c.canonicalize) r (length (segment old.words id)) (old.room id) large can.value can.cost can.means, ap (λ t. word_count (kept (form_of c.canonicalize) t)) same)
@@ -98,8 +96,8 @@ pub record Tried {A : Type 0} (result : Result A ErrorKind) (c : Copying) (old n
   pub root : HasRoot c.source
   pub after : Meter
   pub done : IfOk result (λ x. IsDone c after old.words new.words place)
-  pub refused : IfErr result (RefusesAs c.wanted (root_of c.source) (change (form_of c.canonicalize) place.segment place.word old new (once_at_root c.source) after))
-  pub taken : TakesForWanted c.wanted (refusal_of result) c.source (copy_at (call_to place old new) c after)
+  pub refused : IfErr result (λ k. OfWanted c.wanted (root_of c.source) (change (form_of c.canonicalize) place.segment place.word old new (once_at_root c.source) after) (λ o d. RefusesToCopy o d k))
+  pub taken : OfWanted c.wanted (root_of c.source) (copy_at (call_to place old new) c after) (TakesAtMost (result_of (refusal_of result)))
 
 pub tried_done : {A : Type 0} (result : Result A ErrorKind) (c : Copying) (old new : View) (place : PointerPlace) → Tried result c old new place → OnErr result (Puts old.words new.words place.segment place.word Null) →
     CopiesRoot old.words new.words place c (refusal_of result)
@@ -139,16 +137,16 @@ value_tried result c r m m' old new place is is_r is_m has done refused taken = 
     good (Err k) h = tt
 
     bad : {A : Type 0} (q : Result A ErrorKind) → IfErr q (LeavesCleared (value_original r) (change (form_of c.canonicalize) place.segment place.word old new m m')) →
-        IfErr q (RefusesAs c.wanted (root_of c.source) (change (form_of c.canonicalize) place.segment place.word old new (once_at_root c.source) m'))
+        IfErr q (λ k. OfWanted c.wanted (root_of c.source) (change (form_of c.canonicalize) place.segment place.word old new (once_at_root c.source) m') (λ o d. RefusesToCopy o d k))
     bad (Ok x) h = tt
     bad (Err k) h =
-        subst (λ w. RefusesAs w (root_of c.source) (change (form_of c.canonicalize) place.segment place.word old new (once_at_root c.source) m') k) (sym is)
+        subst (λ w. OfWanted w (root_of c.source) (change (form_of c.canonicalize) place.segment place.word old new (once_at_root c.source) m') (λ o d. RefusesToCopy o d k)) (sym is)
         (subst (λ y. RefusesToCopy (value_original (root_of c.source)) (change (form_of c.canonicalize) place.segment place.word old new y m') k) is_m (subst (λ y. RefusesToCopy (value_original y) (change (form_of c.canonicalize) place.segment place.word old new m m') k) is_r h.why))
 
-    takes : TakesForWanted c.wanted (refusal_of result) c.source (copy_at (call_to place old new) c m')
+    takes : OfWanted c.wanted (root_of c.source) (copy_at (call_to place old new) c m') (TakesAtMost (result_of (refusal_of result)))
     takes =
         let ch : Meter → Change = λ y. change (form_of c.canonicalize) place.segment place.word old new y m' in
-        subst (λ w. TakesForWanted w (refusal_of result) c.source (ch (once_at_root c.source))) (sym is)
+        subst (λ w. OfWanted w (root_of c.source) (ch (once_at_root c.source)) (TakesAtMost (result_of (refusal_of result)))) (sym is)
         (subst (λ y. TakesAtMost (result_of (refusal_of result)) (value_original (root_of c.source)) (ch y)) is_m (subst (λ y. TakesAtMost (result_of (refusal_of result)) (value_original y) (ch m)) is_r (copy_taken result (value_original r) (ch m) taken)))
 
 -- of the struct that it leads to
@@ -166,12 +164,12 @@ struct_tried result c s m' old new place is has leads done refused taken = recor
     good (Err k) h = tt
 
     bad : {A : Type 0} (q : Result A ErrorKind) → IfErr q (LeavesCleared (sections_original s.words s.first s.pointers) (change (form_of c.canonicalize) place.segment place.word old new s.limiter m')) →
-        IfErr q (RefusesAs c.wanted (root_of c.source) (change (form_of c.canonicalize) place.segment place.word old new (once_at_root c.source) m'))
+        IfErr q (λ k. OfWanted c.wanted (root_of c.source) (change (form_of c.canonicalize) place.segment place.word old new (once_at_root c.source) m') (λ o d. RefusesToCopy o d k))
     bad (Ok x) h = tt
-    bad (Err k) h = subst (λ w. RefusesAs w (root_of c.source) (change (form_of c.canonicalize) place.segment place.word old new (once_at_root c.source) m') k) (sym is) (s, leads, h.why)
+    bad (Err k) h = subst (λ w. OfWanted w (root_of c.source) (change (form_of c.canonicalize) place.segment place.word old new (once_at_root c.source) m') (λ o d. RefusesToCopy o d k)) (sym is) (s, leads, h.why)
 
-    takes : TakesForWanted c.wanted (refusal_of result) c.source (copy_at (call_to place old new) c m')
-    takes = subst (λ w. TakesForWanted w (refusal_of result) c.source (copy_at (call_to place old new) c m')) (sym is) (s, leads, copy_taken result (sections_original s.words s.first s.pointers) (change (form_of c.canonicalize) place.segment place.word old new s.limiter m') taken)
+    takes : OfWanted c.wanted (root_of c.source) (copy_at (call_to place old new) c m') (TakesAtMost (result_of (refusal_of result)))
+    takes = subst (λ w. OfWanted w (root_of c.source) (copy_at (call_to place old new) c m') (TakesAtMost (result_of (refusal_of result)))) (sym is) (s, leads, copy_taken result (sections_original s.words s.first s.pointers) (change (form_of c.canonicalize) place.segment place.word old new s.limiter m') taken)
 
 -- of the list
 list_tried : {A : Type 0} (result : Result A ErrorKind) (c : Copying) (l : ListElements) (m m' : Meter) (old new : View) (place : PointerPlace) → c.wanted ≡ AList → HasRoot c.source →
@@ -187,66 +185,76 @@ list_tried result c l m m' old new place is has leads done refused taken = recor
     good (Err k) h = tt
 
     bad : {A : Type 0} (q : Result A ErrorKind) → IfErr q (LeavesCleared (list_original l.size l.sections l.count l.first) (change (form_of c.canonicalize) place.segment place.word old new m m')) →
-        IfErr q (RefusesAs c.wanted (root_of c.source) (change (form_of c.canonicalize) place.segment place.word old new (once_at_root c.source) m'))
+        IfErr q (λ k. OfWanted c.wanted (root_of c.source) (change (form_of c.canonicalize) place.segment place.word old new (once_at_root c.source) m') (λ o d. RefusesToCopy o d k))
     bad (Ok x) h = tt
-    bad (Err k) h = subst (λ w. RefusesAs w (root_of c.source) (change (form_of c.canonicalize) place.segment place.word old new (once_at_root c.source) m') k) (sym is) (l, m, leads, h.why)
+    bad (Err k) h = subst (λ w. OfWanted w (root_of c.source) (change (form_of c.canonicalize) place.segment place.word old new (once_at_root c.source) m') (λ o d. RefusesToCopy o d k)) (sym is) (l, m, leads, h.why)
 
-    takes : TakesForWanted c.wanted (refusal_of result) c.source (copy_at (call_to place old new) c m')
-    takes = subst (λ w. TakesForWanted w (refusal_of result) c.source (copy_at (call_to place old new) c m')) (sym is) (l, m, leads, copy_taken result (list_original l.size l.sections l.count l.first) (change (form_of c.canonicalize) place.segment place.word old new m m') taken)
+    takes : OfWanted c.wanted (root_of c.source) (copy_at (call_to place old new) c m') (TakesAtMost (result_of (refusal_of result)))
+    takes = subst (λ w. OfWanted w (root_of c.source) (copy_at (call_to place old new) c m') (TakesAtMost (result_of (refusal_of result)))) (sym is) (l, m, leads, copy_taken result (list_original l.size l.sections l.count l.first) (change (form_of c.canonicalize) place.segment place.word old new m m') taken)
 
 -- A call without a default reads the pointer itself.
-own_pointer : {A : Type 0} (g : Ghosts A) (expected : Expected) (from p : PointerReader A g) → IsRead g expected from p None → p ≡ from
-own_pointer g expected from p (without_default e) = e
+own_pointer : {A : Type 0} (g : Ghosts A) (expected : Expectation) (from p : PointerReader A g) → IsRead g (record { from = from; expected = expected; default = None }) (Ok p) → p ≡ from
+own_pointer g expected from p (of_pointer w e) = cc (e)
+own_pointer g expected from p (of_default null has whole source segment first nesting may e) = absurd (cc (has))
+own_pointer g expected from p (short_default null has less e) = absurd (cc (has))
+own_pointer g expected from p (of_null_default null has whole none named e) = absurd (cc (has))
 
-pub where_read : {A : Type 0} (g : Ghosts A) (expected : Expected) (from : PointerReader A g) (P : PointerReader A g → Type 0) → WhereRead g (call g from expected None) P → P from
+never_unread : {A : Type 0} (g : Ghosts A) (expected : Expectation) (from : PointerReader A g) (k : ErrorKind) → IsRead g (record { from = from; expected = expected; default = None }) (Err k) → ⊥
+never_unread g expected from k (of_pointer w e) = absurd (cc (e))
+never_unread g expected from k (of_default null has whole source segment first nesting may e) = absurd (cc (has))
+never_unread g expected from k (short_default null has less e) = absurd (cc (has))
+never_unread g expected from k (of_null_default null has whole none named e) = absurd (cc (has))
+
+pub where_read : {A : Type 0} (g : Ghosts A) (expected : Expectation) (from : PointerReader A g) (P : PointerReader A g → Type 0) → WhereRead g (record { from = from; expected = expected; default = None }) P → P from
 where_read g expected from P (p, is, h) = subst P (own_pointer g expected from p is) h
 
-answered : {A : Type 0} (g : Ghosts A) (expected : Expected) (from : PointerReader A g) (m : Meter) → CanBeGiven expected (reading g from) m → IsAnswered g (call g from expected None) m
-answered g expected from m given = (from, without_default refl, given)
+answered : {A : Type 0} (g : Ghosts A) (expected : Expectation) (from : PointerReader A g) (m : Meter) → CanBeGiven expected (reading g from) m →
+    WhereRead g (record { from = from; expected = expected; default = None }) (λ p. CanBeGiven expected (reading g p) m)
+answered g expected from m given = (from, of_pointer (inl refl) refl, given)
 
-withheld_at : {A : Type 0} (g : Ghosts A) (expected : Expected) (from : PointerReader A g) (m m' : Meter) (k : ErrorKind) → IsRefused g (call g from expected None) m m' k → Withheld expected (reading g from) m m' k
-withheld_at g expected from m m' k (inl (unread, same)) = elim unread [ ]
+withheld_at : {A : Type 0} (g : Ghosts A) (expected : Expectation) (from : PointerReader A g) (m m' : Meter) (k : ErrorKind) → IsRefused g (record { from = from; expected = expected; default = None }) m m' k → Withheld expected (reading g from) m m' k
+withheld_at g expected from m m' k (inl (unread, same)) = absurd (never_unread g expected from k unread)
 withheld_at g expected from m m' k (inr h) = where_read g expected from (λ p. Withheld expected (reading g p) m m' k) h
 
 -- The calls on a root's reader.
 pub struct_copied : {A B : Type 0} (result : Result B ErrorKind) (c : Copying) (g : Ghosts A) (from : PointerReader A g) (v : StructReader A g) (m n m' : Meter) (old new : View) (place : PointerPlace) → c.wanted ≡ AStruct → IsRootReader g c.source from m →
-    length v.content.now ≡ bytes_for v.bits → WhereRead g (call g from ExpectedStruct None) (λ p. IsStructRead g p m n v) → IfOk result (λ x. PutsCopy (struct_read g v) (change (form_of c.canonicalize) place.segment place.word old new n m')) →
+    length v.content.now ≡ bytes_for v.bits → WhereRead g (record { from = from; expected = struct_expected; default = None }) (λ p. IsStructRead g p m n v) → IfOk result (λ x. PutsCopy (struct_read g v) (change (form_of c.canonicalize) place.segment place.word old new n m')) →
     IfErr result (LeavesCleared (struct_read g v) (change (form_of c.canonicalize) place.segment place.word old new n m')) → TakesAtMost result (struct_read g v) (change (form_of c.canonicalize) place.segment place.word old new n m') → Tried result c old new place
 struct_copied result c g from v m n m' old new place is here long read done refused taken =
     let s : Sections = record { words = data_of g v; first = pointers_read g v; pointers = v.pointer_count; limiter = n } in
-    let there : IsStructRead g from m n v = where_read g ExpectedStruct from (λ p. IsStructRead g p m n v) read in
+    let there : IsStructRead g from m n v = where_read g struct_expected from (λ p. IsStructRead g p m n v) read in
     let leads : LeadsToStruct (reading g from) m s = struct_at g from m n v long there in
     struct_tried result c s m' old new place is here.root (subst (λ y. LeadsToStruct (root_of c.source) y s) here.once (subst (λ r. LeadsToStruct r m s) here.reads leads)) done refused taken
 
 pub list_copied : {A B : Type 0} (result : Result B ErrorKind) (c : Copying) (g : Ghosts A) (from : PointerReader A g) (v : ListReader A g) (m n m' : Meter) (old new : View) (place : PointerPlace) → c.wanted ≡ AList → IsRootReader g c.source from m →
-    WhereRead g (call g from (ExpectedList Void) None) (λ p. IsListRead g Void p m n v) → IfOk result (λ x. PutsCopy (list_read g v) (change (form_of c.canonicalize) place.segment place.word old new n m')) →
+    WhereRead g (record { from = from; expected = list_expected Void; default = None }) (λ p. IsListRead g Void p m n v) → IfOk result (λ x. PutsCopy (list_read g v) (change (form_of c.canonicalize) place.segment place.word old new n m')) →
     IfErr result (LeavesCleared (list_read g v) (change (form_of c.canonicalize) place.segment place.word old new n m')) → TakesAtMost result (list_read g v) (change (form_of c.canonicalize) place.segment place.word old new n m') → Tried result c old new place
 list_copied result c g from v m n m' old new place is here read done refused taken =
     let l : ListElements = elements_read g v in
-    let leads : LeadsToList (reading g from) m n l = list_at g from m n v (where_read g (ExpectedList Void) from (λ p. IsListRead g Void p m n v) read) in
+    let leads : LeadsToList (reading g from) m n l = list_at g from m n v (where_read g (list_expected Void) from (λ p. IsListRead g Void p m n v) read) in
     list_tried result c l n m' old new place is here.root (subst (λ y. LeadsToList (root_of c.source) y n l) here.once (subst (λ r. LeadsToList r m n l) here.reads leads)) done refused taken
 
-unread_as : {A : Type 0} (g : Ghosts A) (c : Copying) (expected : Expected) (from : PointerReader A g) (m m' : Meter) (k : ErrorKind) → ((r : Reading) (i j : Meter) → Withheld expected r i j k → IsWithheld c.wanted r i j k) → IsRootReader g c.source from m →
-    IsRefused g (call g from expected None) m m' k → HasNothingToCopy c k
+unread_as : {A : Type 0} (g : Ghosts A) (c : Copying) (expected : Expectation) (from : PointerReader A g) (m m' : Meter) (k : ErrorKind) → ((r : Reading) (i j : Meter) → Withheld expected r i j k → IsWithheld c.wanted r i j k) → IsRootReader g c.source from m →
+    IsRefused g (record { from = from; expected = expected; default = None }) m m' k → HasNothingToCopy c k
 unread_as g c expected from m m' k wanted here refused =
     let h = wanted (reading g from) m m' (withheld_at g expected from m m' k refused) in
     inr (here.root, (m', subst (λ y. IsWithheld c.wanted (root_of c.source) y m' k) here.once (subst (λ r. IsWithheld c.wanted r m m' k) here.reads h)))
 
-pub struct_unread : {A : Type 0} (g : Ghosts A) (c : Copying) (from : PointerReader A g) (m m' : Meter) (k : ErrorKind) → c.wanted ≡ AStruct → IsRootReader g c.source from m → IsRefused g (call g from ExpectedStruct None) m m' k → HasNothingToCopy c k
-struct_unread g c from m m' k is here refused = unread_as g c ExpectedStruct from m m' k (λ r i j h. subst (λ w. IsWithheld w r i j k) (sym is) h) here refused
+pub struct_unread : {A : Type 0} (g : Ghosts A) (c : Copying) (from : PointerReader A g) (m m' : Meter) (k : ErrorKind) → c.wanted ≡ AStruct → IsRootReader g c.source from m → IsRefused g (record { from = from; expected = struct_expected; default = None }) m m' k → HasNothingToCopy c k
+struct_unread g c from m m' k is here refused = unread_as g c struct_expected from m m' k (λ r i j h. subst (λ w. IsWithheld w r i j k) (sym is) h) here refused
 
-pub list_unread : {A : Type 0} (g : Ghosts A) (c : Copying) (from : PointerReader A g) (m m' : Meter) (k : ErrorKind) → c.wanted ≡ AList → IsRootReader g c.source from m → IsRefused g (call g from (ExpectedList Void) None) m m' k → HasNothingToCopy c k
-list_unread g c from m m' k is here refused = unread_as g c (ExpectedList Void) from m m' k (λ r i j h. subst (λ w. IsWithheld w r i j k) (sym is) h) here refused
+pub list_unread : {A : Type 0} (g : Ghosts A) (c : Copying) (from : PointerReader A g) (m m' : Meter) (k : ErrorKind) → c.wanted ≡ AList → IsRootReader g c.source from m → IsRefused g (record { from = from; expected = list_expected Void; default = None }) m m' k → HasNothingToCopy c k
+list_unread g c from m m' k is here refused = unread_as g c (list_expected Void) from m m' k (λ r i j h. subst (λ w. IsWithheld w r i j k) (sym is) h) here refused
 
-pub struct_found : {A : Type 0} (g : Ghosts A) (c : Copying) (from : PointerReader A g) (m : Meter) (v : View) (id : ℕ) → c.wanted ≡ AStruct → IsRootReader g c.source from m → FitsBehind v id c → IsAnswered g (call g from ExpectedStruct None) m
+pub struct_found : {A : Type 0} (g : Ghosts A) (c : Copying) (from : PointerReader A g) (m : Meter) (v : View) (id : ℕ) → c.wanted ≡ AStruct → IsRootReader g c.source from m → FitsBehind v id c → WhereRead g (record { from = from; expected = struct_expected; default = None }) (λ p. CanBeGiven struct_expected (reading g p) m)
 struct_found g c from m v id is here fits =
     let given = struct_given c (root_of c.source) (once_at_root c.source) (length (segment v.words id)) (v.room id) is fits.fits in
-    answered g ExpectedStruct from m (subst (λ y. CanBeGiven ExpectedStruct (reading g from) y) (sym here.once) (subst (λ r. CanBeGiven ExpectedStruct r (once_at_root c.source)) (sym here.reads) given))
+    answered g struct_expected from m (subst (λ y. CanBeGiven struct_expected (reading g from) y) (sym here.once) (subst (λ r. CanBeGiven struct_expected r (once_at_root c.source)) (sym here.reads) given))
 
-pub list_found : {A : Type 0} (g : Ghosts A) (c : Copying) (from : PointerReader A g) (m : Meter) (v : View) (id : ℕ) → c.wanted ≡ AList → IsRootReader g c.source from m → FitsBehind v id c → IsAnswered g (call g from (ExpectedList Void) None) m
+pub list_found : {A : Type 0} (g : Ghosts A) (c : Copying) (from : PointerReader A g) (m : Meter) (v : View) (id : ℕ) → c.wanted ≡ AList → IsRootReader g c.source from m → FitsBehind v id c → WhereRead g (record { from = from; expected = list_expected Void; default = None }) (λ p. CanBeGiven (list_expected Void) (reading g p) m)
 list_found g c from m v id is here fits =
     let given = list_given c (root_of c.source) (once_at_root c.source) (length (segment v.words id)) (v.room id) is fits.fits in
-    answered g (ExpectedList Void) from m (subst (λ y. CanBeGiven (ExpectedList Void) (reading g from) y) (sym here.once) (subst (λ r. CanBeGiven (ExpectedList Void) r (once_at_root c.source)) (sym here.reads) given))
+    answered g (list_expected Void) from m (subst (λ y. CanBeGiven (list_expected Void) (reading g from) y) (sym here.once) (subst (λ r. CanBeGiven (list_expected Void) r (once_at_root c.source)) (sym here.reads) given))
 
 -- The names by which a source isn't read: none of them is a call's own.
 abbrev is_of_call : ErrorKind → Bool
@@ -273,24 +281,17 @@ other_refused r m m' k refused = other_name k (λ e. not_for_memory (subst (λ y
 other_unfollowed : (r : Reading) (m m' : Meter) (k : ErrorKind) → Unfollowed r m m' k → is_of_call k ≡ false
 other_unfollowed r m m' k h = other_refused r m m' k (stops_here (no_target h))
 
-other_deep : (expected : Expected) (n : ℕ) → IsOther (too_deep expected n)
-other_deep ExpectedStruct zero = refl
-other_deep ExpectedStruct (suc n) = tt
-other_deep (ExpectedList size) zero = refl
-other_deep (ExpectedList size) (suc n) = tt
-other_deep expected n = tt
+other_withheld : (expected : Expectation) (r : Reading) (m m' : Meter) (k : ErrorKind) → ((n : ℕ) → IsOther (expected.too_deep n)) → ((w : ℕ) → IsOther (expected.another_kind w)) → ((S : Segments) (a : Target) → IsOther (expected.misfit S a)) → Withheld expected r m m' k → is_of_call k ≡ false
+other_withheld expected r m m' k levels kinds fits (no_level some deep same) = subst IsOther deep (levels r.levels)
+other_withheld expected r m m' k levels kinds fits (unfollowed level h) = other_unfollowed r m m' k h
+other_withheld expected r m m' k levels kinds fits (of_another_kind a level follows other paid) = subst IsOther other (kinds a.word)
+other_withheld expected r m m' k levels kinds fits (stopped level kind h) = other_refused (one_level r) m m' k (stops_here h)
+other_withheld expected r m m' k levels kinds fits (misfits a level kind o other) = subst IsOther other (fits r.segments a)
 
-other_withheld : (expected : Expected) (r : Reading) (m m' : Meter) (k : ErrorKind) → ((w : ℕ) → IsOther (another_kind expected w)) → ((S : Segments) (a : Target) → IsOther (misfit expected S a)) → Withheld expected r m m' k → is_of_call k ≡ false
-other_withheld expected r m m' k kinds fits (no_level some deep same) = subst IsOther deep (other_deep expected r.levels)
-other_withheld expected r m m' k kinds fits (unfollowed level h) = other_unfollowed r m m' k h
-other_withheld expected r m m' k kinds fits (of_another_kind a level follows other paid) = subst IsOther other (kinds a.word)
-other_withheld expected r m m' k kinds fits (stopped level kind h) = other_refused (one_level r) m m' k (stops_here h)
-other_withheld expected r m m' k kinds fits (misfits a level kind o other) = subst IsOther other (fits r.segments a)
-
-other_kind : (w : ℕ) → IsOther (another_kind ExpectedStruct w)
+other_kind : (w : ℕ) → IsOther (struct_expected.another_kind w)
 other_kind w = other_of (nat_eq (kind w) 0) None (Some MessageContainsNonStructPointerWhereStructPointerWasExpected) tt refl
 
-other_list : (w : ℕ) → IsOther (another_kind (ExpectedList Void) w)
+other_list : (w : ℕ) → IsOther ((list_expected Void).another_kind w)
 other_list w = other_of (nat_eq (kind w) 1) None (Some MessageContainsNonListPointerWhereListPointerWasExpected) tt refl
 
 other_narrow : (n : ℕ) → IsOther (narrow_elements Void n)
@@ -299,15 +300,15 @@ other_narrow n =
 
 other_unwanted : (w : Wanted) (r : Reading) (m m' : Meter) (k : ErrorKind) → IsWithheld w r m m' k → is_of_call k ≡ false
 other_unwanted Value r m m' k h = absurd h
-other_unwanted AStruct r m m' k h = other_withheld ExpectedStruct r m m' k other_kind (λ S a. tt) h
+other_unwanted AStruct r m m' k h = other_withheld struct_expected r m m' k (λ n. other_of (nat_eq n 0) (Some MessageIsTooDeeplyNestedOrContainsCycles) None refl tt) other_kind (λ S a. tt) h
 other_unwanted AList r m m' k h =
-    other_withheld (ExpectedList Void) r m m' k other_list (λ S a. other_of (nat_eq (element_size a.word) 7) None (narrow_elements Void (element_size a.word)) tt (other_narrow (element_size a.word))) h
+    other_withheld (list_expected Void) r m m' k (λ n. other_of (nat_eq n 0) (Some NestingLimitExceeded) None refl tt) other_list (λ S a. other_of (nat_eq (element_size a.word) 7) None (narrow_elements Void (element_size a.word)) tt (other_narrow (element_size a.word))) h
 
 -- what can be copied is neither unread nor unreadable
 wanted_there : (w : Wanted) (c : Copying) (r : Reading) (m m' : Meter) (used room : ℕ) (k : ErrorKind) → c.wanted ≡ w → CanBeCopiedAs c r m used room → IsWithheld w r m m' k → ⊥
 wanted_there Value c r m m' used room k is can h = h
-wanted_there AStruct c r m m' used room k is can h = not_withheld ExpectedStruct r m m' k (struct_given c r m used room is can) h
-wanted_there AList c r m m' used room k is can h = not_withheld (ExpectedList Void) r m m' k (list_given c r m used room is can) h
+wanted_there AStruct c r m m' used room k is can h = not_withheld struct_expected r m m' k (struct_given c r m used room is can) h
+wanted_there AList c r m m' used room k is can h = not_withheld (list_expected Void) r m m' k (list_given c r m used room is can) h
 
 pub copied_or_refused : CopiedOrRefused
 copied_or_refused c u k good (inl (inl rootless)) = rootless.0 good.root
@@ -371,7 +372,7 @@ root_done result old new place c copies counts why taken fits = record {
   done = does (refusal_of result) copies;
   counted = counts;
   named = λ k e. inr (named_refusal result (IsWholeRefused (call_to place old new) c) k why e);
-  fits = λ room k e. named_refusal result (λ j. is_of_place j ≡ true) k (never_refused result (fits room)) e;
+  fits = λ room k e. named_refusal result (λ j. is_of_path j ≡ true) k (never_refused result (fits room)) e;
   nowhere = copy_nowhere result (call_to place old new) c why;
   taken = λ some. taken;
 }

@@ -1,9 +1,10 @@
 -- The copy of the list that a root leads to.
 use Rattle.std.proofs.Common.{◌≡◌, inl, inr, ◌⊎◌, ℕ, zero, suc, pred, ◌+◌, ◌*◌, ◌^◌, ◌<◌, ◌≤◌, Bool, true, false, nat_eq, cond, List, [], length, Some, None, refl, sym, ap, ap₂, ◌∙◌, subst, arith}
+use Rattle.std.proofs.lemmas.Bool.{ne_eqb}
 use lib.IntN.{pos, ◌-ℤ◌}
 use Rattle.capnp_words.specs.Meter.{Meter, Affords}
 use Rattle.capnp_words.specs.declared.error.ErrorKind.{ErrorKind}
-use Rattle.capnp_words.specs.declared.error.ErrorKind.TheVariants.{MessageContainsNonListPointerWhereListPointerWasExpected}
+use Rattle.capnp_words.specs.declared.error.ErrorKind.TheVariants.{MessageContainsNonListPointerWhereListPointerWasExpected, NestingLimitExceeded}
 use Rattle.capnp_words.specs.declared.wire_pointer.ElementSize.{ElementSize}
 use Rattle.capnp_words.specs.declared.wire_pointer.ElementSize.TheVariants.{Void, Bit, Byte, TwoBytes, FourBytes, EightBytes, Pointer, InlineComposite}
 use Rattle.capnp_words.specs.declared.wire_pointer.StructSize.{StructSize}
@@ -17,9 +18,8 @@ use Rattle.capnp_format.specs.Tree.{Tree, Null, Capability, Struct, Flat, Pointe
 use Rattle.capnp_format.specs.Word.{kind, offset_bits, data_words, pointer_count, element_size, list_count}
 use Rattle.capnp_format.proofs.Bounds.{leads_word}
 use Rattle.capnp_format.proofs.Sound.{at_some}
-use Rattle.capnp_objects.specs.declared.object.Expected.TheVariants.{List as ExpectedList}
 use Rattle.capnp_objects.specs.Demands.{tag, own, Meets}
-use Rattle.capnp_objects.specs.Expected.{CanBeGiven, too_deep, misfit, narrow_elements}
+use Rattle.capnp_objects.specs.Expected.{list_expected, CanBeGiven, null_pointer, fitting, narrow_elements}
 use Rattle.capnp_objects.specs.Faults.{LeadsTo, child_at}
 use Rattle.capnp_objects.specs.Outcomes.{Reads, ReadsAll, ReadsElements, Entered, MeansThere}
 use Rattle.capnp_objects.specs.Reading.{Reading, word_of, words_from, sized, tag_size}
@@ -39,9 +39,9 @@ use Rattle.capnp_readers.specs.declared.readers.PointerReader.{PointerReader}
 use Rattle.capnp_readers.specs.declared.readers.list_reader.ListReader.{ListReader}
 use Rattle.capnp_copies.specs.Changes.{RefusesToCopy, change}
 use Rattle.capnp_copies.specs.Forms.{form_of}
-use Rattle.capnp_copies.specs.ListValues.{first_read}
+use Rattle.capnp_copies.proofs.ListValues.{first_read}
 use Rattle.capnp_copies.specs.Originals.{FitsListPointer, list_original}
-use Rattle.capnp_copies.proofs.Originals.{exceeding}
+use Rattle.capnp_copies.proofs.Originals.{exceeding, list_words}
 use Rattle.capnp_edits.specs.declared.edit.copying.Copying.{Copying}
 use Rattle.capnp_edits.specs.declared.edit.copying.Wanted.TheVariants.{List as AList}
 use Rattle.capnp_edits.specs.Edits.{IsOfMemory}
@@ -81,7 +81,7 @@ list_there g p m m' v a o z source nesting EightBytes e no_bits h = plain_there 
 list_there g p m m' v a o z source nesting Pointer e no_bits h = plain_there g p m m' v a o z source nesting Pointer e (omega arith) refl h
 
 pub list_at : {A : Type 0} (g : Ghosts A) (p : PointerReader A g) (m m' : Meter) (v : ListReader A g) → IsListRead g Void p m m' v → LeadsToList (reading g p) m m' (elements_read g v)
-list_at g p m m' v (inl ((null, same), (nothing, void, none, nesting))) = no_list null void none same
+list_at g p m m' v (inl (null, same, nothing, void, none, nesting)) = no_list null void none same
 list_at g p m m' v (inr ((a, o, z, is, source, nesting), wide)) = list_there g p m m' v a o z source nesting v.element_size refl (λ bits. absurd (omega (arith, wide.whole bits))) is
 
 -- reading it, and then what its elements lead to, is reading the value
@@ -151,7 +151,7 @@ record ListMeets (r : Reading) (c : ℕ) : Type 0 where
   target : Target
   leads_to : LeadsTo r target
   is_list : kind target.word ≡ 1
-  wide : misfit (ExpectedList Void) r.segments target ≡ None
+  wide : (list_expected Void).misfit r.segments target ≡ None
   some : 0 < r.levels
   meets : Meets Value r.segments 1 target
   cost : own Value r.segments target ≤ c
@@ -235,34 +235,30 @@ structs_meet r d q es c (a, m, k, some, o, claims, t, fits, all, g) =
       cost = omega (arith, own_structs_there S a m (element_count es) d q o.is_list o.is_size o.counts t, g);
     }
 
-level_there : (n : ℕ) → 0 < n → too_deep (ExpectedList Void) n ≡ None
-level_there zero l = absurd (omega arith)
-level_there (suc n) l = refl
+level_there : (n : ℕ) → 0 < n → (list_expected Void).too_deep n ≡ None
+level_there n l = ap (λ b. cond b (Some NestingLimitExceeded) None) (ne_eqb n 0 (λ e. omega (arith, e, l)))
 
-given_there : (r : Reading) (m : Meter) (c : ℕ) → ListMeets r c → Affords r.charging m c → CanBeGiven (ExpectedList Void) r m
-unfolding CanBeGiven
-given_there r m c x covers = inr (
-  x.target,
-  record {
-    level = level_there r.levels x.some;
-    follows = leads_to r x.target x.leads_to;
-    of_kind = ap (λ i. cond (nat_eq i 1) None (Some MessageContainsNonListPointerWhereListPointerWasExpected)) x.is_list;
-    meets = x.meets;
-    fits = x.wide;
-  },
-  own_covered r.charging m (own Value r.segments x.target) c x.cost covers,
-)
+given_there : (r : Reading) (m : Meter) (c : ℕ) → ListMeets r c → Affords r.charging m c → CanBeGiven (list_expected Void) r m
+given_there r m c x covers =
+    fitting {m' = after r.charging m (own Value r.segments x.target) 1} x.target (level_there r.levels x.some)
+    (ap (λ i. cond (nat_eq i 1) None (Some MessageContainsNonListPointerWhereListPointerWasExpected)) x.is_list)
+    (record {
+      follows = leads_to r x.target x.leads_to;
+      meets = x.meets;
+      covers = own_covered r.charging m (own Value r.segments x.target) c x.cost covers;
+      spent = refl;
+    })
+    x.wide
 
-list_suited : (r : Reading) (m : Meter) (t : Tree) (c : ℕ) (copied : Tree) → MeansThere r t c → Affords r.charging m c → as_wanted AList t ≡ Some copied → CanBeGiven (ExpectedList Void) r m
-unfolding CanBeGiven
-list_suited r m Null c copied means covers e = inl means.0
+list_suited : (r : Reading) (m : Meter) (t : Tree) (c : ℕ) (copied : Tree) → MeansThere r t c → Affords r.charging m c → as_wanted AList t ≡ Some copied → CanBeGiven (list_expected Void) r m
+list_suited r m Null c copied means covers e = null_pointer means.0
 list_suited r m (Capability i) c copied means covers e = absurd (cc)
 list_suited r m (Struct ws ts) c copied means covers e = absurd (cc)
 list_suited r m (Flat size ns) c copied means covers e = given_there r m c (flat_meets r size ns c means (not_bits (nat_eq size 1) (Flat size ns) copied e).0) covers
 list_suited r m (Pointers ts) c copied means covers e = given_there r m c (pointers_meet r ts c means) covers
 list_suited r m (Structs d q es) c copied means covers e = given_there r m c (structs_meet r d q es c means) covers
 
-pub list_given : (c : Copying) (r : Reading) (m : Meter) (used room : ℕ) → c.wanted ≡ AList → CanBeCopiedAs c r m used room → CanBeGiven (ExpectedList Void) r m
+pub list_given : (c : Copying) (r : Reading) (m : Meter) (used room : ℕ) → c.wanted ≡ AList → CanBeCopiedAs c r m used room → CanBeGiven (list_expected Void) r m
 list_given c r m used room is can = list_suited r m can.value can.cost can.copied can.means can.covers (subst (λ w. as_wanted w can.value ≡ Some can.copied) is can.is_wanted)
 
 -- and then what its elements lead to can be read, too
@@ -384,7 +380,7 @@ pub list_fits : (c : Copying) (r : Reading) (m n m' : Meter) (l : ListElements) 
 list_fits c r m n m' l id at old new k is leads small can refuses =
     let x = list_matches (form_of c.canonicalize) r m n l can.value can.cost can.copied leads can.means can.takes can.covers (subst (λ w. as_wanted w can.value ≡ Some can.copied) is can.is_wanted) in
     elim refuses [
-      | inl (i, why, wanted, exceeds) ↦ omega (arith, can.fits, exceeds (form_of c.canonicalize) n x.0 can.copied (as_list_read (form_of c.canonicalize) l l.size n x.0 can.copied refl x.1))
+      | inl (i, why, wanted, exceeds) ↦ omega (arith, can.fits, exceeds (form_of c.canonicalize) n x.0 can.copied (as_list_read (form_of c.canonicalize) l l.size n x.0 can.copied refl x.1), list_words l.size l.sections l.count l.first (form_of c.canonicalize) can.copied)
       | inr (inl refused) ↦ (unreadable (list_stops (form_of c.canonicalize) r m n m' l k leads (list_refused_as (form_of c.canonicalize) l l.size n m' k refl refused))).only can.value can.cost can.means can.takes can.covers
       | inr (inr large) ↦ (exceeding l.size l.sections l.count l.first (form_of c.canonicalize) k large).0 small
     ]

@@ -1,10 +1,11 @@
 -- The copy of the struct that a root leads to.
 use Rattle.std.proofs.Common.{◌≡◌, inl, inr, ◌⊎◌, ℕ, zero, suc, pred, ◌+◌, ◌*◌, ◌/◌, ◌%◌, ◌^◌, ◌<◌, ◌≤◌, Bool, nat_eq, cond, List, [], length, Some, None, refl, sym, ap, ap₂, ◌∙◌, subst, arith}
+use Rattle.std.proofs.lemmas.Bool.{ne_eqb}
 use lib.IntN.{ℤ, pos, negsuc, ◌-ℤ◌}
 use Rattle.std.proofs.lemmas.Int.{ints}
 use Rattle.capnp_words.specs.Meter.{Meter, Affords}
 use Rattle.capnp_words.specs.declared.error.ErrorKind.{ErrorKind}
-use Rattle.capnp_words.specs.declared.error.ErrorKind.TheVariants.{MessageContainsNonStructPointerWhereStructPointerWasExpected}
+use Rattle.capnp_words.specs.declared.error.ErrorKind.TheVariants.{MessageContainsNonStructPointerWhereStructPointerWasExpected, MessageIsTooDeeplyNestedOrContainsCycles}
 use Rattle.capnp_arena.specs.View.{View}
 use Rattle.capnp_arena.specs.declared.arena.reader_arena.ReaderArena.{Ghosts}
 use Rattle.capnp_format.specs.Canonical.{word_count}
@@ -12,9 +13,8 @@ use Rattle.capnp_format.specs.Means.{Leads, Means, Claims}
 use Rattle.capnp_format.specs.Segments.{Segments, Target, segment, words_at}
 use Rattle.capnp_format.specs.Tree.{Tree, Null, Capability, Struct, Flat, Pointers, Structs, Trees, no_trees, tree, count, capabilities}
 use Rattle.capnp_format.specs.Word.{kind, data_words, pointer_count}
-use Rattle.capnp_objects.specs.declared.object.Expected.TheVariants.{Struct as ExpectedStruct}
 use Rattle.capnp_objects.specs.Demands.{claim, own}
-use Rattle.capnp_objects.specs.Expected.{CanBeGiven, IsSuited, too_deep}
+use Rattle.capnp_objects.specs.Expected.{struct_expected, CanBeGiven, null_pointer, fitting}
 use Rattle.capnp_objects.specs.Faults.{child_at, LeadsTo}
 use Rattle.capnp_objects.specs.Outcomes.{Reads, ReadsAll, MeansThere}
 use Rattle.capnp_objects.specs.Reading.{Reading}
@@ -59,7 +59,7 @@ level_less (negsuc n) some = absurd (omega arith)
 -- what a struct reader shows is the struct that the place leads to
 pub struct_at : {A : Type 0} (g : Ghosts A) (p : PointerReader A g) (m m' : Meter) (v : StructReader A g) → length v.content.now ≡ bytes_for v.bits → IsStructRead g p m m' v →
     LeadsToStruct (reading g p) m (record { words = data_of g v; first = pointers_read g v; pointers = v.pointer_count; limiter = m' })
-struct_at g p m m' v long (inl ((null, same), (nothing, no_bits, none, nesting))) = no_struct null (rw no_bits refl) none same
+struct_at g p m m' v long (inl (null, same, nothing, no_bits, none, nesting)) = no_struct null (rw no_bits refl) none same
 struct_at g p m m' v long (inr (a, o, z, shows, source, nesting)) =
     let bits = shows.bits_are in
     let whole : length v.content.now ≡ 8 * data_words a.word = omega (arith, long, bits) in
@@ -76,7 +76,7 @@ whole_words bytes bits long whole =
     (ap (λ b. section_words b bytes) is ∙ whole_section d bytes all, is ∙ ap (λ n. 64 * n) many)
 
 pub whole_bits : {A : Type 0} (g : Ghosts A) (p : PointerReader A g) (m n : Meter) (v : StructReader A g) → IsStructRead g p m n v → v.bits % 64 ≡ 0
-whole_bits g p m n v (inl ((null, same), (nothing, no_bits, none, nesting))) = omega (arith, no_bits)
+whole_bits g p m n v (inl (null, same, nothing, no_bits, none, nesting)) = omega (arith, no_bits)
 whole_bits g p m n v (inr (a, o, z, shows, source, nesting)) = omega (arith, shows.bits_are)
 
 -- reading it, and then its pointers, is reading the value
@@ -115,34 +115,35 @@ struct_meets : (S : Segments) (n s p : ℕ) (ws : List ℕ) (ts : Trees) (c : �
 struct_meets S n s p ws ts c (a, k, some, o, claims, words, all, g) =
     (a, o.leads_to, o.is_struct, some, omega (arith, claims, claim_struct a.word o.is_struct, o.data_of, o.pointers), omega (arith, own_struct S a o.is_struct, o.data_of, o.pointers, g))
 
-level_there : (n : ℕ) → 0 < n → too_deep ExpectedStruct n ≡ None
-level_there zero l = absurd (omega arith)
-level_there (suc n) l = refl
+level_there : (n : ℕ) → 0 < n → struct_expected.too_deep n ≡ None
+level_there n l = ap (λ b. cond b (Some MessageIsTooDeeplyNestedOrContainsCycles) None) (ne_eqb n 0 (λ e. omega (arith, e, l)))
 
 pub own_covered : (charging : Bool) (m : Meter) (n c : ℕ) → n ≤ c → Affords charging m c → Affords charging m n
 own_covered charging m n c le covers = affords_rest {r = 0} n c (record { covers = affords_none charging m; spent = sym (after_none charging m) }) (omega arith) covers
 
-pub struct_suits : (r : Reading) (a : Target) → LeadsTo r a → kind a.word ≡ 0 → 0 < r.levels → Claims r.segments a (claim a.word) → IsSuited ExpectedStruct r a
-struct_suits r a leads z some claims = record {
-  level = level_there r.levels some;
-  follows = leads_to r a leads;
-  of_kind = ap (λ i. cond (nat_eq i 0) None (Some MessageContainsNonStructPointerWhereStructPointerWasExpected)) z;
-  meets = record { levels = omega arith; is_object = omega (arith, z); claims = claims; tagged = λ tagged. absurd (omega (arith, z, tagged.0)) };
-  fits = refl;
-}
+pub struct_suits : (r : Reading) (m : Meter) (a : Target) → LeadsTo r a → kind a.word ≡ 0 → 0 < r.levels → Claims r.segments a (claim a.word) → Affords r.charging m (own Value r.segments a) → CanBeGiven struct_expected r m
+struct_suits r m a leads z some claims covers =
+    fitting {m' = after r.charging m (own Value r.segments a) 1} a (level_there r.levels some)
+    (ap (λ i. cond (nat_eq i 0) None (Some MessageContainsNonStructPointerWhereStructPointerWasExpected)) z)
+    (record {
+      follows = leads_to r a leads;
+      meets = record { levels = omega arith; is_object = omega (arith, z); claims = claims; tagged = λ tagged. absurd (omega (arith, z, tagged.0)) };
+      covers = covers;
+      spent = refl;
+    })
+    refl
 
-struct_suited : (r : Reading) (m : Meter) (t : Tree) (c : ℕ) (copied : Tree) → MeansThere r t c → Affords r.charging m c → as_wanted AStruct t ≡ Some copied → CanBeGiven ExpectedStruct r m
-unfolding CanBeGiven
-struct_suited r m Null c copied means covers e = inl means.0
+struct_suited : (r : Reading) (m : Meter) (t : Tree) (c : ℕ) (copied : Tree) → MeansThere r t c → Affords r.charging m c → as_wanted AStruct t ≡ Some copied → CanBeGiven struct_expected r m
+struct_suited r m Null c copied means covers e = null_pointer means.0
 struct_suited r m (Struct ws ts) c copied means covers e =
     let (a, leads, z, some, claims, paid) = struct_meets r.segments r.levels r.segment r.at ws ts c means in
-    inr (a, struct_suits r a leads z some claims, own_covered r.charging m (own Value r.segments a) c paid covers)
+    struct_suits r m a leads z some claims (own_covered r.charging m (own Value r.segments a) c paid covers)
 struct_suited r m (Capability i) c copied means covers e = absurd (cc)
 struct_suited r m (Flat size ns) c copied means covers e = absurd (cc)
 struct_suited r m (Pointers ts) c copied means covers e = absurd (cc)
 struct_suited r m (Structs d q es) c copied means covers e = absurd (cc)
 
-pub struct_given : (c : Copying) (r : Reading) (m : Meter) (used room : ℕ) → c.wanted ≡ AStruct → CanBeCopiedAs c r m used room → CanBeGiven ExpectedStruct r m
+pub struct_given : (c : Copying) (r : Reading) (m : Meter) (used room : ℕ) → c.wanted ≡ AStruct → CanBeCopiedAs c r m used room → CanBeGiven struct_expected r m
 struct_given c r m used room is can = struct_suited r m can.value can.cost can.copied can.means can.covers (subst (λ w. as_wanted w can.value ≡ Some can.copied) is can.is_wanted)
 
 -- and then its pointers can be read, too

@@ -16,13 +16,12 @@ use Rattle.capnp_making.specs.Existing.{struct_in}
 use Rattle.capnp_making.specs.Path.{Element, update, put_struct, struct_at}
 use Rattle.capnp_making.specs.Stored.{IsStored, IsReplaced}
 use Rattle.capnp_making.proofs.Replaced.{forest_stored, forest_updated, stored_within}
-use Rattle.capnp_objects.specs.declared.object.Expected.TheVariants.{Struct as ExpectedStruct}
 use Rattle.capnp_objects.specs.Outcomes.{ReadsAll}
 use Rattle.capnp_objects.specs.Reading.{Reading, behind}
 use Rattle.capnp_objects.specs.Refusals.{Refused}
 use Rattle.capnp_objects.proofs.Limits.{not_for_place}
 use Rattle.capnp_objects.specs.Demands.{own}
-use Rattle.capnp_objects.specs.Expected.{CanBeGiven}
+use Rattle.capnp_objects.specs.Expected.{struct_expected, CanBeGiven, null_pointer}
 use Rattle.capnp_objects.specs.Faults.{child_at}
 use Rattle.capnp_objects.specs.Spending.{after}
 use Rattle.capnp_objects.specs.Wanted.{plain}
@@ -31,7 +30,7 @@ use Rattle.capnp_objects.proofs.Copies.{read_none, read_stop}
 use Rattle.capnp_objects.proofs.Expecting.{not_withheld}
 use Rattle.capnp_objects.proofs.Faultless.{same_target}
 use Rattle.capnp_objects.proofs.Refusals.{unreadable}
-use Rattle.capnp_readers.specs.Calls.{WhereRead, IsStructRead, call}
+use Rattle.capnp_readers.specs.Calls.{WhereRead, IsStructRead}
 use Rattle.capnp_readers.specs.Readers.{reading}
 use Rattle.capnp_readers.specs.Sections.{bytes_for}
 use Rattle.capnp_readers.specs.Sizes.{pointers_read}
@@ -39,11 +38,12 @@ use Rattle.capnp_readers.specs.declared.readers.PointerPlace.{PointerPlace}
 use Rattle.capnp_readers.specs.declared.readers.PointerReader.{PointerReader}
 use Rattle.capnp_readers.specs.declared.readers.struct_reader.StructPlace.{StructPlace}
 use Rattle.capnp_readers.specs.declared.readers.struct_reader.StructReader.{StructReader}
+use Rattle.capnp_copies.specs.Originals.{children_original}
 use Rattle.capnp_copies.specs.StructValues.{data_of}
 use Rattle.capnp_copies.proofs.Growth.{none_taken, all_taken}
 use Rattle.capnp_builders.specs.Content.{TakesContent, StopsAtContent, ContentFits, TakesForContent as TakesForCopy, pointers_copied}
 use Rattle.capnp_builders.specs.Laws.{up_to}
-use Rattle.capnp_builders.specs.Places.{IsAligned}
+use Rattle.capnp_builders.specs.Places.{IsAligned, struct_place}
 use Rattle.capnp_builders.proofs.ContentTaken.{content_taken, content_stopped}
 use Rattle.capnp_builders.proofs.ElementContent.{element_content_taken, element_content_stopped, element_long}
 use Rattle.capnp_edits.specs.declared.edit.Edit.{Edit}
@@ -56,10 +56,10 @@ use Rattle.capnp_edits.specs.declared.edit.tasks.StructChange.TheVariants.{Bits,
 use Rattle.capnp_edits.specs.Tasks.{task_of}
 use Rattle.capnp_edits.specs.Paths.{path_of, found, IsElementFound, ElementOf}
 use Rattle.capnp_edits.specs.Sources.{copying_from, root_of, once_at_root, HasRoot, IsRootReader, Sections, LeadsToStruct, no_struct, a_struct, ContentRead, ContentFitsBehind, HasNothingToCopy, FilledOrRefused}
-use Rattle.capnp_edits.specs.Edits.{as_it_stands, refusal_of, bits_of, struct_changed, fills, sections, is_of_place, PutsBits, FillsAt, Changes, all_filled, first_filled, none_filled, refusals_after, IsApplied, Takes, leads_to, is_filled, is_half_filled, is_not_filled, DoesAt}
+use Rattle.capnp_edits.specs.Edits.{as_it_stands, refusal_of, bits_of, struct_changed, fills, is_of_path, PutsBits, FillsAt, Changes, all_filled, first_filled, none_filled, refusals_after, IsApplied, Takes, leads_to, is_filled, is_half_filled, is_not_filled, DoesAt}
 use Rattle.capnp_edits.specs.Steps.{IsStructAt, IsContentRefused, TakesForContentFrom, IsDoneAt, IsChanged}
-use Rattle.capnp_edits.proofs.Taken.{bits_lengths, pointers_taken}
-use Rattle.capnp_edits.proofs.Applied.{made, of_allocation, of_no_place, of_place, named_refusal, none_counted, kept_nowhere, refused_there, never_refused, denied_at, no_struct as is_none, written_at, element_struct, element_spot, applied_bits}
+use Rattle.capnp_edits.proofs.Taken.{bits_lengths, copy_taken}
+use Rattle.capnp_edits.proofs.Applied.{made, of_allocation, of_no_place, of_place, named_refusal, none_counted, kept_nowhere, refused_there, never_refused, denied_at, no_struct as is_none, written_at, element_struct, element_end, applied_bits}
 use Rattle.capnp_edits.proofs.Copied.{where_read}
 use Rattle.capnp_edits.proofs.CopiedStruct.{struct_at as source_at, whole_words, whole_bits, struct_suits}
 use Rattle.capnp_edits.proofs.Steps.{same_some, first, struct_of}
@@ -72,9 +72,9 @@ record SourceStruct {A : Type 0} (g : Ghosts A) (source : Source) (v : StructRea
   bits : v.bits ≡ 64 * length (words_of v.content.now)
 
 source_struct : {A : Type 0} (g : Ghosts A) (source : Source) (from : PointerReader A g) (v : StructReader A g) (m n : Meter) → IsRootReader g source from m → length v.content.now ≡ bytes_for v.bits →
-    WhereRead g (call g from ExpectedStruct None) (λ p. IsStructRead g p m n v) → SourceStruct g source v n
+    WhereRead g (record { from = from; expected = struct_expected; default = None }) (λ p. IsStructRead g p m n v) → SourceStruct g source v n
 source_struct g source from v m n opened long read =
-    let there : IsStructRead g from m n v = where_read g ExpectedStruct from (λ p. IsStructRead g p m n v) read in
+    let there : IsStructRead g from m n v = where_read g struct_expected from (λ p. IsStructRead g p m n v) read in
     let all = whole_words v.content.now v.bits long (whole_bits g from m n v there) in
     let leads : LeadsToStruct (reading g from) m (record { words = data_of g v; first = pointers_read g v; pointers = v.pointer_count; limiter = n }) = source_at g from m n v long there in
     let of_words : LeadsToStruct (reading g from) m (record { words = words_of v.content.now; first = pointers_read g v; pointers = v.pointer_count; limiter = n }) =
@@ -100,7 +100,7 @@ content_read g source v n m' ts root s are_read = record {
 
 -- what copying over a struct leaves
 pub fill_done : {A B : Type 0} (result : Result B ErrorKind) (g : Ghosts A) (source : Source) (from : PointerReader A g) (v : StructReader A g) (m n m' : Meter) (old new : View) (place : StructPlace) → IsRootReader g source from m →
-    length v.content.now ≡ bytes_for v.bits → WhereRead g (call g from ExpectedStruct None) (λ p. IsStructRead g p m n v) → IfOk result (λ x. TakesContent g v place (pointers_copied place old new n m')) →
+    length v.content.now ≡ bytes_for v.bits → WhereRead g (record { from = from; expected = struct_expected; default = None }) (λ p. IsStructRead g p m n v) → IfOk result (λ x. TakesContent g v place (pointers_copied place old new n m')) →
     IfErr result (StopsAtContent g v place (pointers_copied place old new n m')) → FillsAt old.words new.words place source (refusal_of result)
 fill_done (Ok x) g source from v m n m' old new place opened long read (mid, taking, copies) refused =
     let s = source_struct g source from v m n opened long read in
@@ -130,7 +130,7 @@ fill_counted (Ok x) g v n m' old new place (mid, taking, copies) refused = ap (�
 fill_counted (Err k) g v n m' old new place copied (mid, taking, stops) = stops.memory.2 ∙ ap (refusals_for k) (ap (λ (y : View). y.refusals) taking.limits)
 
 pub fill_named : {A B : Type 0} (result : Result B ErrorKind) (g : Ghosts A) (source : Source) (from : PointerReader A g) (v : StructReader A g) (m n m' : Meter) (old new : View) (place : StructPlace) → IsRootReader g source from m →
-    length v.content.now ≡ bytes_for v.bits → WhereRead g (call g from ExpectedStruct None) (λ p. IsStructRead g p m n v) → IfErr result (StopsAtContent g v place (pointers_copied place old new n m')) →
+    length v.content.now ≡ bytes_for v.bits → WhereRead g (record { from = from; expected = struct_expected; default = None }) (λ p. IsStructRead g p m n v) → IfErr result (StopsAtContent g v place (pointers_copied place old new n m')) →
     IfErr result (IsContentRefused old new place source)
 fill_named (Ok x) g source from v m n m' old new place opened long read refused = tt
 fill_named (Err k) g source from v m n m' old new place opened long read (mid, taking, stops) =
@@ -146,7 +146,7 @@ fill_named (Err k) g source from v m n m' old new place opened long read (mid, t
     })
 
 pub fill_taken : {A B : Type 0} (result : Result B ErrorKind) (g : Ghosts A) (source : Source) (from : PointerReader A g) (v : StructReader A g) (m n m' : Meter) (old new : View) (place : StructPlace) → IsRootReader g source from m →
-    length v.content.now ≡ bytes_for v.bits → WhereRead g (call g from ExpectedStruct None) (λ p. IsStructRead g p m n v) → TakesForCopy g result v place (pointers_copied place old new n m') →
+    length v.content.now ≡ bytes_for v.bits → WhereRead g (record { from = from; expected = struct_expected; default = None }) (λ p. IsStructRead g p m n v) → TakesForCopy g result v place (pointers_copied place old new n m') →
     TakesForContentFrom old new place source (refusal_of result)
 fill_taken result g source from v m n m' old new place opened long read taken =
     let s = source_struct g source from v m n opened long read in
@@ -154,7 +154,7 @@ fill_taken result g source from v m n m' old new place opened long read taken =
       record { words = words_of v.content.now; first = pointers_read g v; pointers = v.pointer_count; limiter = n },
       m',
       s.leads,
-      pointers_taken result (pointers_read g v) (min place.pointers v.pointer_count) (pointers_copied place old new n m') taken,
+      copy_taken result (children_original (pointers_read g v) (min place.pointers v.pointer_count)) (pointers_copied place old new n m') taken,
     )
 
 -- never for a missing place
@@ -169,14 +169,14 @@ fill_nowhere (Err k) old new place source (inr stops) e =
     ])
 
 -- whole words start at a word
-pub sections_aligned : (e : ExistingStruct) → IsAligned (sections e)
+pub sections_aligned : (e : ExistingStruct) → IsAligned (struct_place e)
 sections_aligned e some =
     let eight : min 8 (64 * e.size.data_words / 8) ≡ 8 = omega (arith, some) in
     (rw eight refl, rw eight (omega arith))
 
 -- a struct of no words takes nothing
 pub fill_nothing : {A : Type 0} (g : Ghosts A) (source : Source) (from : PointerReader A g) (v : StructReader A g) (m n : Meter) (S : Segments) (e : ExistingStruct) → IsRootReader g source from m → length v.content.now ≡ bytes_for v.bits →
-    WhereRead g (call g from ExpectedStruct None) (λ p. IsStructRead g p m n v) → e.size.data_words + e.size.pointers ≡ 0 → FillsAt S S (sections e) source None
+    WhereRead g (record { from = from; expected = struct_expected; default = None }) (λ p. IsStructRead g p m n v) → e.size.data_words + e.size.pointers ≡ 0 → FillsAt S S (struct_place e) source None
 fill_nothing g source from v m n S e opened long read empty =
     let s = source_struct g source from v m n opened long read in
     let no_data : e.size.data_words ≡ 0 = omega (arith, empty) in
@@ -190,7 +190,7 @@ fill_nothing g source from v m n S e opened long read empty =
     }) (omega (arith, no_pointers)) refl refl
 
 pub nothing_taken : {A : Type 0} (g : Ghosts A) (source : Source) (from : PointerReader A g) (v : StructReader A g) (m n : Meter) (old : View) (e : ExistingStruct) → IsRootReader g source from m → length v.content.now ≡ bytes_for v.bits →
-    WhereRead g (call g from ExpectedStruct None) (λ p. IsStructRead g p m n v) → e.size.data_words + e.size.pointers ≡ 0 → TakesForContentFrom old old (sections e) source None
+    WhereRead g (record { from = from; expected = struct_expected; default = None }) (λ p. IsStructRead g p m n v) → e.size.data_words + e.size.pointers ≡ 0 → TakesForContentFrom old old (struct_place e) source None
 nothing_taken g source from v m n old e opened long read empty =
     let s = source_struct g source from v m n opened long read in
     let no_pointers : e.size.pointers ≡ 0 = omega (arith, empty) in
@@ -198,7 +198,7 @@ nothing_taken g source from v m n old e opened long read empty =
       record { words = words_of v.content.now; first = pointers_read g v; pointers = v.pointer_count; limiter = n },
       n,
       s.leads,
-      all_taken (omega (arith, no_pointers)) (none_taken (pointers_read g v) plain (sections e).segment (sections e).pointers_at old n),
+      all_taken (omega (arith, no_pointers)) (none_taken (pointers_read g v) plain (struct_place e).segment old n),
     )
 
 -- how a call changes a struct
@@ -208,29 +208,29 @@ bits_changed result old new e n puts limits named kept = record {
   done = puts;
   counted = none_counted result old.refusals new.refusals (ap (λ (v : View). v.refusals) limits) (of_place result named);
   named = λ k. refused_there result old new (λ j. ⊥) k (of_place result named) kept;
-  fits = λ room k e. named_refusal result (λ j. is_of_place j ≡ true) k (of_place result named) e;
+  fits = λ room k e. named_refusal result (λ j. is_of_path j ≡ true) k (of_place result named) e;
   nowhere = kept_nowhere result old new kept;
   taken = bits_lengths old.words new.words e (bits_of n) (refusal_of result) puts;
 }
 
-pub content_changed : {A : Type 0} (result : Result A ErrorKind) (old new : View) (e : ExistingStruct) (source : Source) → FillsAt old.words new.words (sections e) source (refusal_of result) → new.refusals ≡ refusals_after (refusal_of result) old.refusals →
-    IfErr result (IsContentRefused old new (sections e) source) → TakesForContentFrom old new (sections e) source (refusal_of result) → (ContentFitsBehind old e.segment source e.size.pointers → IsOk result) →
+pub content_changed : {A : Type 0} (result : Result A ErrorKind) (old new : View) (e : ExistingStruct) (source : Source) → FillsAt old.words new.words (struct_place e) source (refusal_of result) → new.refusals ≡ refusals_after (refusal_of result) old.refusals →
+    IfErr result (IsContentRefused old new (struct_place e) source) → TakesForContentFrom old new (struct_place e) source (refusal_of result) → (ContentFitsBehind old e.segment source e.size.pointers → IsOk result) →
     IsChanged old new e (Content source) (refusal_of result)
 content_changed result old new e source filled counted why taken fits = record {
   done = filled;
   counted = counted;
-  named = λ k is. inr (named_refusal result (IsContentRefused old new (sections e) source) k why is);
-  fits = λ room k is. named_refusal result (λ j. is_of_place j ≡ true) k (never_refused result (fits room)) is;
-  nowhere = fill_nowhere result old new (sections e) source why;
+  named = λ k is. inr (named_refusal result (IsContentRefused old new (struct_place e) source) k why is);
+  fits = λ room k is. named_refusal result (λ j. is_of_path j ≡ true) k (never_refused result (fits room)) is;
+  nowhere = fill_nowhere result old new (struct_place e) source why;
   taken = taken;
 }
 
 -- at a struct that a pointer leads to
 filled_struct : (S R : Segments) (place : PointerPlace) (source : Source) (r : Option ErrorKind) (ws : List ℕ) (ts : Trees) → IsStored S place.segment place.word (Struct ws ts) →
-    FillsAt S R (sections (struct_of (target S place.segment place.word).segment (target S place.segment place.word).start (length ws) (count ts))) source r → DoesAt S R place (struct_changed (Content source) (Struct ws ts)) (Struct ws ts) r
+    FillsAt S R (struct_place (struct_of (target S place.segment place.word).segment (target S place.segment place.word).start (length ws) (count ts))) source r → DoesAt S R place (struct_changed (Content source) (Struct ws ts)) (Struct ws ts) r
 filled_struct S R place source r ws ts stored (all_filled f counts same done) =
     let (vs, holds, replaced, leads) =
-    content_taken S f.taken f.filled place.segment place.word ws ts f.content.children _ (64 * length f.content.from.words) f.content.bytes stored (refl, refl, refl, refl, refl) f.takes f.fills_first (omega (arith, counts)) in
+    content_taken S f.taken f.filled place.segment place.word ws ts f.content.children (struct_place (struct_of (target S place.segment place.word).segment (target S place.segment place.word).start (length ws) (count ts))) (64 * length f.content.from.words) f.content.bytes stored refl f.takes f.fills_first (omega (arith, counts)) in
     let u : Tree = Struct vs (up_to (count ts) f.content.children) in
     record {
       left = Some u;
@@ -241,7 +241,7 @@ filled_struct S R place source r ws ts stored (all_filled f counts same done) =
     }
 filled_struct S R place source r ws ts stored (first_filled f k fewer null why named) =
     let (vs, holds, replaced, leads) =
-    content_stopped S f.taken f.filled R place.segment place.word ws ts f.content.children _ (64 * length f.content.from.words) f.content.bytes stored (refl, refl, refl, refl, refl) f.takes f.fills_first (omega (arith, fewer)) null in
+    content_stopped S f.taken f.filled R place.segment place.word ws ts f.content.children (struct_place (struct_of (target S place.segment place.word).segment (target S place.segment place.word).start (length ws) (count ts))) (64 * length f.content.from.words) f.content.bytes stored refl f.takes f.fills_first (omega (arith, fewer)) null in
     let u : Tree = Struct vs (up_to (count ts) f.content.children) in
     record {
       left = Some u;
@@ -253,11 +253,11 @@ filled_struct S R place source r ws ts stored (first_filled f k fewer null why n
 filled_struct S R place source r ws ts stored (none_filled k unread same named) =
     record { left = None; leaves = as_it_stands (is_not_filled source (length ws) (count ts) k refl unread named refl); stands = same }
 
-filled_value : (S R : Segments) (place : PointerPlace) (source : Source) (r : Option ErrorKind) (e : ExistingStruct) (t : Tree) → Some e ≡ struct_in (target S place.segment place.word) t → FillsAt S R (sections e) source r → IsStored S place.segment place.word t →
+filled_value : (S R : Segments) (place : PointerPlace) (source : Source) (r : Option ErrorKind) (e : ExistingStruct) (t : Tree) → Some e ≡ struct_in (target S place.segment place.word) t → FillsAt S R (struct_place e) source r → IsStored S place.segment place.word t →
     DoesAt S R place (struct_changed (Content source) t) t r
 filled_value S R place source r e (Struct ws ts) is_e h stored =
     let a = target S place.segment place.word in
-    filled_struct S R place source r ws ts stored (subst (λ x. FillsAt S R (sections x) source r) (same_some e (struct_of a.segment a.start (length ws) (count ts)) is_e) h)
+    filled_struct S R place source r ws ts stored (subst (λ x. FillsAt S R (struct_place x) source r) (same_some e (struct_of a.segment a.start (length ws) (count ts)) is_e) h)
 filled_value S R place source r e Null is_e h stored = absurd (cc)
 filled_value S R place source r e (Capability j) is_e h stored = absurd (cc)
 filled_value S R place source r e (Flat size ns) is_e h stored = absurd (cc)
@@ -285,15 +285,15 @@ pub nothing_changed : (v : View) (place : PointerPlace) (change : StructChange) 
 nothing_changed v place change none = record {
   done = λ t stored. denied_at NoSuchPlace (is_none (target v.words place.segment place.word) change t (none t stored)) refl refl;
   counted = refl;
-  named = λ k e. inl (ap is_of_place (sym (same_some NoSuchPlace k e)), refl);
-  fits = λ room k e. ap is_of_place (sym (same_some NoSuchPlace k e));
+  named = λ k e. inl (ap is_of_path (sym (same_some NoSuchPlace k e)), refl);
+  fits = λ room k e. ap is_of_path (sym (same_some NoSuchPlace k e));
   nowhere = λ e. refl;
   taken = λ some. absurd (some refl);
 }
 
 -- at an element of a list
 filled_element : (S R : Segments) (e : Edit) (s : ExistingStruct) (source : Source) (r : Option ErrorKind) → task_of e.op ≡ Some (InStruct (Content source)) → ((t : Tree) → IsStored S 0 0 t → IsElementFound S 0 0 t (path_of e.path.now) s) →
-    FillsAt S R (sections s) source r → IsApplied S R e r
+    FillsAt S R (struct_place s) source r → IsApplied (Takes e r) S R
 filled_element S R e s source r is leads h t forest =
     let stored = forest_stored S t forest in
     let f = leads t stored in
@@ -303,52 +303,52 @@ filled_element S R e s source r is leads h t forest =
     let (ws, ts, at) = element_struct f.elements f.index f.counts in
     let there = stored_within S 0 0 t f.front f.list_segment f.list_at list f.leads stored in
     let long = element_long S f.list_segment f.list_at d q f.elements f.index ws ts there f.counts at in
-    let spot = element_spot S e s t f ws ts at in
+    let end_value = element_end S e s t f ws ts at in
     let makes : made (task_of e.op) (ElementOf (Struct ws ts)) ≡ fills source d q = ap (λ o. made o (ElementOf (Struct ws ts))) is ∙ ap₂ (fills source) long.0 long.1 in
-    done_there stored f ws ts at there spot makes h
+    done_there stored f ws ts at there end_value makes h
   where
     done_there : (stored : IsStored S 0 0 t) (f : IsElementFound S 0 0 t (path_of e.path.now) s) (ws : List ℕ) (ts : Trees) → struct_at f.elements f.index ≡ Struct ws ts →
         IsStored S f.list_segment f.list_at (Structs s.size.data_words s.size.pointers f.elements) → found t (path_of e.path.now) ≡ Some (ElementOf (Struct ws ts)) →
-        made (task_of e.op) (ElementOf (Struct ws ts)) ≡ fills source s.size.data_words s.size.pointers → FillsAt S R (sections s) source r → (u : Tree) × IsForest R u × Takes e t r u
-    done_there stored f ws ts at there spot makes (all_filled h counts same done) =
+        made (task_of e.op) (ElementOf (Struct ws ts)) ≡ fills source s.size.data_words s.size.pointers → FillsAt S R (struct_place s) source r → (u : Tree) × IsForest R u × Takes e r t u
+    done_there stored f ws ts at there end_value makes (all_filled h counts same done) =
         let d : ℕ = s.size.data_words in
         let q : ℕ = s.size.pointers in
         let list : Tree = Structs d q f.elements in
         let (vs, holds, replaced) =
-        element_content_taken S h.taken h.filled f.list_segment f.list_at d q f.elements f.index ws ts h.content.children (sections s) (64 * length h.content.from.words) h.content.bytes there f.counts at
-        (f.segment_is, ap (λ x. 8 * x) f.start_is, refl, ap (λ x. x + d) f.start_is, refl) h.takes h.fills_first (omega (arith, counts)) in
+        element_content_taken S h.taken h.filled f.list_segment f.list_at d q f.elements f.index ws ts h.content.children (struct_place s) (64 * length h.content.from.words) h.content.bytes there f.counts at
+        (ap₂ (λ (u b : ℕ). struct_place (record { segment = u; start = b; size = s.size })) f.segment_is f.start_is) h.takes h.fills_first (omega (arith, counts)) in
         let y : Tree = Struct vs (up_to q h.content.children) in
         let now : IsReplaced S R f.list_segment f.list_at list (Structs d q (put_struct f.elements f.index y)) = subst (λ Q. IsReplaced S Q f.list_segment f.list_at list (Structs d q (put_struct f.elements f.index y))) (sym same) replaced in
         let path : update t (path_of e.path.now) y ≡ update t f.front (Structs d q (put_struct f.elements f.index y)) =
-        ap (λ p. update t p y) f.path_is ∙ update-append t f.front (Element f.index ∷ []) list y f.spot in (
+        ap (λ p. update t p y) f.path_is ∙ update-append t f.front (Element f.index ∷ []) list y f.end_value in (
           update t f.front (Structs d q (put_struct f.elements f.index y)),
           forest_updated S R t f.front f.list_segment f.list_at list (Structs d q (put_struct f.elements f.index y)) forest f.leads now,
-          leads_to (ElementOf (Struct ws ts)) (Some y) spot
+          leads_to (ElementOf (Struct ws ts)) (Some y) end_value
               (as_it_stands (is_filled source d q y makes
               (h.content, record { section = vs; holds = holds; is_filled = refl }, counts) done refl)) (sym path),
         )
-    done_there stored f ws ts at there spot makes (first_filled h k fewer null why named) =
+    done_there stored f ws ts at there end_value makes (first_filled h k fewer null why named) =
         let d : ℕ = s.size.data_words in
         let q : ℕ = s.size.pointers in
         let list : Tree = Structs d q f.elements in
         let (vs, holds, replaced) =
-        element_content_stopped S h.taken h.filled R f.list_segment f.list_at d q f.elements f.index ws ts h.content.children (sections s) (64 * length h.content.from.words) h.content.bytes there f.counts at
-        (f.segment_is, ap (λ x. 8 * x) f.start_is, refl, ap (λ x. x + d) f.start_is, refl) h.takes h.fills_first (omega (arith, fewer)) null in
+        element_content_stopped S h.taken h.filled R f.list_segment f.list_at d q f.elements f.index ws ts h.content.children (struct_place s) (64 * length h.content.from.words) h.content.bytes there f.counts at
+        (ap₂ (λ (u b : ℕ). struct_place (record { segment = u; start = b; size = s.size })) f.segment_is f.start_is) h.takes h.fills_first (omega (arith, fewer)) null in
         let y : Tree = Struct vs (up_to q h.content.children) in
         let path : update t (path_of e.path.now) y ≡ update t f.front (Structs d q (put_struct f.elements f.index y)) =
-        ap (λ p. update t p y) f.path_is ∙ update-append t f.front (Element f.index ∷ []) list y f.spot in (
+        ap (λ p. update t p y) f.path_is ∙ update-append t f.front (Element f.index ∷ []) list y f.end_value in (
           update t f.front (Structs d q (put_struct f.elements f.index y)),
           forest_updated S R t f.front f.list_segment f.list_at list (Structs d q (put_struct f.elements f.index y)) forest f.leads replaced,
-          leads_to (ElementOf (Struct ws ts)) (Some y) spot
+          leads_to (ElementOf (Struct ws ts)) (Some y) end_value
               (as_it_stands (is_half_filled source d q k y makes
               (h.content, record { section = vs; holds = holds; is_filled = refl }, fewer, why) named refl)) (sym path),
         )
-    done_there stored f ws ts at there spot makes (none_filled k unread same named) =
-        (t, subst (λ Q. IsForest Q t) (sym same) forest, leads_to (ElementOf (Struct ws ts)) None spot (as_it_stands (is_not_filled source s.size.data_words s.size.pointers k makes unread named refl)) refl)
+    done_there stored f ws ts at there end_value makes (none_filled k unread same named) =
+        (t, subst (λ Q. IsForest Q t) (sym same) forest, leads_to (ElementOf (Struct ws ts)) None end_value (as_it_stands (is_not_filled source s.size.data_words s.size.pointers k makes unread named refl)) refl)
 
 -- a change of an element
 pub element_applied : (S R : Segments) (e : Edit) (s : ExistingStruct) (change : StructChange) (r : Option ErrorKind) → task_of e.op ≡ Some (InStruct change) → ((t : Tree) → IsStored S 0 0 t → IsElementFound S 0 0 t (path_of e.path.now) s) → Changes S R s change r →
-    IsApplied S R e r
+    IsApplied (Takes e r) S R
 element_applied S R e s (Bits n) r is leads h = applied_bits S R e s n r is leads h
 element_applied S R e s (Content source) r is leads h = filled_element S R e s source r is leads h
 
@@ -364,15 +364,14 @@ same_struct {r} {m} (a_struct a o k ws start n) (a_struct b i l us at c) some =
     )
 
 -- and it can be given
-there_given : {r : Reading} {m : Meter} {s : Sections} → LeadsToStruct r m s → CanBeGiven ExpectedStruct r m
-unfolding CanBeGiven
-there_given (no_struct null ws none same) = inl null
-there_given {r} (a_struct a o z ws start n) = inr (a, struct_suits r a (entered_leads o) z o.meets.levels o.meets.claims, o.covers)
+there_given : {r : Reading} {m : Meter} {s : Sections} → LeadsToStruct r m s → CanBeGiven struct_expected r m
+there_given (no_struct null ws none same) = null_pointer null
+there_given {r} {m} (a_struct a o z ws start n) = struct_suits r m a (entered_leads o) z o.meets.levels o.meets.claims o.covers
 
 -- so content whose pointers can be read isn't refused for what is read
 pub filled_or_refused : FilledOrRefused
 filled_or_refused source q k whole counts (inl (inl rootless)) = rootless.0 whole.root
-filled_or_refused source q k whole counts (inl (inr (has, (m, withheld)))) = not_withheld ExpectedStruct (root_of source) (once_at_root source) m k (there_given whole.leads) withheld
+filled_or_refused source q k whole counts (inl (inr (has, (m, withheld)))) = not_withheld struct_expected (root_of source) (once_at_root source) m k (there_given whole.leads) withheld
 filled_or_refused source q k whole counts (inr (part, fewer, (m, refused))) =
     let (place, limiter, pointers) = same_struct part.leads whole.leads (omega (arith, fewer)) in
     let x = whole.are_read in
@@ -385,7 +384,7 @@ pub fill_unread : (v : View) (id : ℕ) (source : Source) (q : ℕ) (k : ErrorKi
 fill_unread v id source q k unread (all, counts, room) = filled_or_refused source q k all counts (inl unread)
 
 pub fill_fits : {A : Type 0} (g : Ghosts A) (source : Source) (from : PointerReader A g) (v : StructReader A g) (m n m' : Meter) (old new : View) (place : StructPlace) → IsRootReader g source from m → length v.content.now ≡ bytes_for v.bits →
-    WhereRead g (call g from ExpectedStruct None) (λ p. IsStructRead g p m n v) → ContentFitsBehind old place.segment source place.pointers → ContentFits g v place (pointers_copied place old new n m')
+    WhereRead g (record { from = from; expected = struct_expected; default = None }) (λ p. IsStructRead g p m n v) → ContentFitsBehind old place.segment source place.pointers → ContentFits g v place (pointers_copied place old new n m')
 fill_fits g source from v m n m' old new place opened long read (all, counts, room) = go all.from.pointers v.pointer_count refl refl
   where
     s : SourceStruct g source v n
@@ -393,17 +392,21 @@ fill_fits g source from v m n m' old new place opened long read (all, counts, ro
 
     given : 0 < all.from.pointers → ContentFits g v place (pointers_copied place old new n m')
     given some =
-        let (first, limiter, pointers) = same_struct all.leads s.leads some in (
-          all.children,
-          all.after,
-          counts ∙ ap (min place.pointers) pointers,
-          subst (λ y. ReadsAll plain (pointers_read g v) y all.after all.children) limiter (subst (λ f. ReadsAll plain f all.from.limiter all.after all.children) first all.are_read),
-          room,
-        )
+        let (first, limiter, pointers) = same_struct all.leads s.leads some in
+        record {
+          small = λ k none. absurd none;
+          value = all.children;
+          after = all.after;
+          is_read = (
+            counts ∙ ap (min place.pointers) pointers,
+            subst (λ y. ReadsAll plain (pointers_read g v) y all.after all.children) limiter (subst (λ f. ReadsAll plain f all.from.limiter all.after all.children) first all.are_read),
+          );
+          room = room;
+        }
 
     go : (i j : ℕ) → all.from.pointers ≡ i → v.pointer_count ≡ j → ContentFits g v place (pointers_copied place old new n m')
     go (suc i) j some is = given (omega (arith, some))
     go zero (suc j) none some =
         let (first, limiter, pointers) = same_struct s.leads all.leads (omega (arith, some)) in
         absurd (omega (arith, none, some, pointers))
-    go zero zero none empty = (no_trees, n, omega (arith, empty), read_none plain (pointers_read g v) n, omega (arith, room))
+    go zero zero none empty = record { small = λ k none. absurd none; value = no_trees; after = n; is_read = (omega (arith, empty), read_none plain (pointers_read g v) n); room = omega (arith, room) }

@@ -27,24 +27,24 @@ use Rattle.capnp_making.proofs.Replaced.{replaced_again}
 use Rattle.capnp_objects.specs.Faults.{HasFault}
 use Rattle.capnp_objects.specs.Wanted.{of_default}
 use Rattle.capnp_objects.proofs.Faultless.{no_fault}
-use Rattle.capnp_copies.specs.Copies.{CanBeCopied}
+use Rattle.capnp_copies.specs.Rooms.{CanBeCopied}
 use Rattle.capnp_copies.specs.Originals.{value_original}
 use Rattle.capnp_readers.specs.declared.readers.PointerPlace.{PointerPlace}
 use Rattle.capnp_readers.specs.declared.readers.list_reader.ListPlace.{ListPlace}
 use Rattle.capnp_readers.specs.declared.readers.struct_reader.StructPlace.{StructPlace}
-use Rattle.capnp_making.specs.Makes.{CallAt}
+use Rattle.capnp_making.specs.Makes.{CallAt, call_at}
 use Rattle.capnp_widening.specs.Opening.{Opens, OpensStruct, struct_opened}
 use Rattle.capnp_widening.specs.RowsRemade.{RefusesWider}
 use Rattle.capnp_widening.specs.Widened.{list_widened, IsNoWider}
 use Rattle.capnp_builders.specs.Defaults.{IsShortDefault, DefaultUse, ignored, denied as is_denied_by, copied as is_copied_from, use_of_words, default_use, default_root, default_copy, RefusesDefault, WithDefault, DefaultFits}
 use Rattle.capnp_builders.specs.Found.{list_given, bytes_given, GivesFoundList, GivesFoundBytes, FindsList, FindsBytes}
 use Rattle.capnp_builders.specs.Opening.{IsStructGiven, IsListGiven, OpensList, FindsStruct, FindsStructs, StructFindFits, StructsFindFits}
-use Rattle.capnp_edits.specs.declared.edit.path.Place.TheVariants.{Pointer as AtPointer}
+use Rattle.capnp_edits.specs.declared.edit.path.PathEnd.TheVariants.{Pointer as AtPointer}
 use Rattle.capnp_edits.specs.declared.edit.tasks.Task.TheVariants.{Search}
 use Rattle.capnp_edits.specs.declared.edit.tasks.Sought.{Sought}
 use Rattle.capnp_edits.specs.declared.edit.tasks.Sought.TheVariants.{Struct as ForStruct, List as ForList, StructList as ForStructs, Text as ForText, Data as ForData}
 use Rattle.capnp_edits.specs.Tasks.{is_small_default, is_in_range}
-use Rattle.capnp_edits.specs.Edits.{refusal_of, Making, allocates, becomes, nowhere, made_of_found, looked_for, with_default, is_of_place, IsOfMemory, Yields, is_done, is_denied, is_allocated, is_not_allocated, as_it_stands, default_put, default_dropped, DoesAt}
+use Rattle.capnp_edits.specs.Edits.{refusal_of, Making, allocates, becomes, nowhere, made_of_found, looked_for, with_default, is_of_path, IsOfMemory, Yields, is_done, is_denied, is_allocated, is_not_allocated, as_it_stands, default_put, default_dropped, DoesAt}
 use Rattle.capnp_edits.specs.Steps.{FitsAt, IsOpeningRefused, IsSearchRefused, FindsSought, IsDoneAt}
 use Rattle.capnp_edits.proofs.Applied.{Does, never_refused, of_allocation, of_no_place, denied_at}
 use Rattle.capnp_edits.proofs.Contents.{list_anywhere, data_anywhere, text_anywhere}
@@ -286,7 +286,7 @@ never_nowhere c default k (as_copy d is spent named) e = absurd (elim (dropped_n
 
 -- what a call leaves that is refused, or isn't
 search_done : {B : Type 0} (result : Result B ErrorKind) (sought : Sought) (default : Option (Bor (List ℕ))) (c : CallAt) → Does c.old.words c.new.words (place_in c) (Search sought default) (refusal_of result) → OnOk result (KeepsMemory c.old c.new) →
-    IfErr result (SpendsMemory c.old c.new) → IfErr result (Why c default) → (FitsAt c.old (Search sought default) (AtPointer (place_in c)) → IfErr result (λ k. is_of_place k ≡ true)) →
+    IfErr result (SpendsMemory c.old c.new) → IfErr result (Why c default) → (FitsAt c.old (Search sought default) (AtPointer (place_in c)) → IfErr result (λ k. is_of_path k ≡ true)) →
     ((t : Tree) → IsStored c.old.words c.segment c.at t → FindsSought sought default (refusal_of result) c t) → IsDoneAt c.old c.new (place_in c) (Search sought default) (refusal_of result)
 search_done (Ok x) sought default c does granted memory why fits finds = record {
   done = does;
@@ -300,7 +300,7 @@ search_done (Err k) sought default c does granted memory why fits finds = record
   done = does;
   counted = memory.2;
   named = λ j e. inr (subst (IsSearchRefused c default) (same_some k j e) (refused_so c default k why));
-  fits = λ room j e. subst (λ x. is_of_place x ≡ true) (same_some k j e) (fits room);
+  fits = λ room j e. subst (λ x. is_of_path x ≡ true) (same_some k j e) (fits room);
   nowhere = λ e. never_nowhere c default k why (same_some k NoSuchPlace e);
   taken = λ some. finds;
 }
@@ -318,7 +318,7 @@ data_name k c t h = unfound_name (data_in (target c.old.words c.segment c.at) t)
 text_name : (k : ErrorKind) → NamedSo (GivesFoundBytes text_in (Err k)) k
 text_name k c t h = unfound_name (text_in (target c.old.words c.segment c.at) t) k (text_unfound (target c.old.words c.segment c.at) t) (bytes_err c.segment (text_in (target c.old.words c.segment c.at) t) k h.0)
 
-unfound_place : (k : ErrorKind) → is_unfound k ≡ true → is_of_place k ≡ true
+unfound_place : (k : ErrorKind) → is_unfound k ≡ true → is_of_path k ≡ true
 unfound_place FoundBitListWhereStructListWasExpected e = refl
 unfound_place MessageContainsNonStructPointerWhereStructPointerWasExpected e = refl
 unfound_place NoSuchPlace e = refl
@@ -332,31 +332,31 @@ never_dropped bytes id at old new k can (inr (m, why, wanted, large)) = let more
 
 abbrev IsDenied : DefaultUse → Type 0
 IsDenied ignored = Unit {0}
-IsDenied (is_denied_by k) = is_of_place k ≡ true
+IsDenied (is_denied_by k) = is_of_path k ≡ true
 IsDenied (is_copied_from bytes) = ⊥
 
 used_fits : (B : Type 0) (k : ErrorKind) (of_null : DefaultUse) (bytes ws : List ℕ) (P : CallAt → Tree → Type 0) (c : CallAt) → IsDenied of_null → NamedSo P k →
-    CanBeCopied (value_original (default_root bytes)) of_default (unused None) c.old c.segment → WithDefault {B = B} (use_of_words of_null bytes ws) c Null P (Err k) → is_of_place k ≡ true
-used_fits B k of_null bytes [] P c plain name room h = ap is_of_place (same_err k MessageContainsOutOfBoundsPointer h.0)
+    CanBeCopied (value_original (default_root bytes)) of_default (unused None) c.old c.segment → WithDefault {B = B} (use_of_words of_null bytes ws) c Null P (Err k) → is_of_path k ≡ true
+used_fits B k of_null bytes [] P c plain name room h = ap is_of_path (same_err k MessageContainsOutOfBoundsPointer h.0)
 used_fits B k of_null bytes (x ∷ xs) P c plain name room h = by_first (nat_eq x 0) of_null plain h
   where
-    by_first : (b : Bool) (used : DefaultUse) → IsDenied used → WithDefault {B = B} (cond b used (is_copied_from bytes)) c Null P (Err k) → is_of_place k ≡ true
+    by_first : (b : Bool) (used : DefaultUse) → IsDenied used → WithDefault {B = B} (cond b used (is_copied_from bytes)) c Null P (Err k) → is_of_path k ≡ true
     by_first true ignored d g = unfound_place k (name c Null g)
-    by_first true (is_denied_by j) d g = ap is_of_place (same_err k j g.0) ∙ d
+    by_first true (is_denied_by j) d g = ap is_of_path (same_err k j g.0) ∙ d
     by_first true (is_copied_from other) d g = absurd d
     by_first false used d (inl on) = unfound_place k (name (record c { old = on.mid }) on.value on.does)
     by_first false used d (inr drops) = absurd (never_dropped bytes c.segment c.at c.old c.new k room drops.named)
 
 found_fits : {B : Type 0} (result : Result B ErrorKind) (of_null : DefaultUse) (default : Option (Bor (List ℕ))) (P : Result B ErrorKind → CallAt → Tree → Type 0) (c : CallAt) → IsPlace c.old.words c.segment c.at → ((bytes : List ℕ) → IsDenied of_null) →
     ((k : ErrorKind) → NamedSo (P (Err k)) k) → ((t : Tree) → IsStored c.old.words c.segment c.at t → WithDefault (default_use of_null default t) c t (P result) result) →
-    ((word_at c.old.words c.segment c.at ≡ 0 → ⊥) → IfErr result (λ k. is_unfound k ≡ true)) → DefaultFits default c.old c.segment → IfErr result (λ k. is_of_place k ≡ true)
+    ((word_at c.old.words c.segment c.at ≡ 0 → ⊥) → IfErr result (λ k. is_unfound k ≡ true)) → DefaultFits default c.old c.segment → IfErr result (λ k. is_of_path k ≡ true)
 found_fits (Ok x) of_null default P c there plain name found set room = tt
 found_fits {B} (Err k) of_null default P c there plain name found set room = elim (cases_lt 0 (word_at c.old.words c.segment c.at)) [
   | inl some ↦ unfound_place k (set (λ null. absurd (omega (arith, some, null))))
   | inr none ↦ at_null default room (found Null (null_stored c.old.words c.segment c.at there (omega (arith, none))))
 ]
   where
-    at_null : (default : Option (Bor (List ℕ))) → DefaultFits default c.old c.segment → WithDefault {B = B} (default_use of_null default Null) c Null (P (Err k)) (Err k) → is_of_place k ≡ true
+    at_null : (default : Option (Bor (List ℕ))) → DefaultFits default c.old c.segment → WithDefault {B = B} (default_use of_null default Null) c Null (P (Err k)) (Err k) → is_of_path k ≡ true
     at_null None fits h = unfound_place k (name k c Null h)
     at_null (Some d) fits h = used_fits B k of_null d.now (words_of d.now) (P (Err k)) c (plain d.now) (name k) fits.1 h
 
@@ -368,7 +368,7 @@ why_if (Ok x) of_null default P c there plain why found set = tt
 why_if {B} (Err k) of_null default P c there plain why found set = why_refused B k of_null default (P (Err k)) c there plain (why k) found set
 
 -- of a place that isn't null
-set_struct : {B : Type 0} (result : Result B ErrorKind) (old new : View) (s p : ℕ) → IfErr result (IsNoWider old new s p) → IfErr result (IsOpeningRefused old new)
+set_struct : {B : Type 0} (result : Result B ErrorKind) (old new : View) (s p : ℕ) → IfErr result (IsNoWider (call_at s p old new)) → IfErr result (IsOpeningRefused old new)
 set_struct (Ok x) old new s p h = tt
 set_struct (Err k) old new s p (inl h) = inl h.1
 set_struct (Err k) old new s p (inr h) = inr h
@@ -384,7 +384,7 @@ set_same (Err k) old new same = inl same
 
 -- the calls
 pub struct_sought : (result : Result StructPlace ErrorKind) (size : StructSize) (default : Option (Bor (List ℕ))) (c : CallAt) → IsPlace c.old.words c.segment c.at →
-    ((t : Tree) → IsStored c.old.words c.segment c.at t → FindsStruct size default result c t) → ((word_at c.old.words c.segment c.at ≡ 0 → ⊥) → IfErr result (IsNoWider c.old c.new c.segment c.at)) →
+    ((t : Tree) → IsStored c.old.words c.segment c.at t → FindsStruct size default result c t) → ((word_at c.old.words c.segment c.at ≡ 0 → ⊥) → IfErr result (IsNoWider c)) →
     OnOk result (KeepsMemory c.old c.new) → IfErr result (SpendsMemory c.old c.new) → (StructFindFits size default c.old c.segment c.at → IsOk result) →
     IsDoneAt c.old c.new (place_in c) (Search (ForStruct size) default) (refusal_of result)
 struct_sought result size default c there found set granted memory fits =

@@ -13,24 +13,24 @@ use Rattle.capnp_making.specs.Path.{Step, Child, Element, tree_at, struct_at, ne
 use Rattle.capnp_making.specs.Stored.{IsStored}
 use Rattle.capnp_edits.specs.declared.edit.Edit.{Edit}
 use Rattle.capnp_edits.specs.declared.edit.tasks.Task.{Task}
-use Rattle.capnp_edits.specs.declared.edit.path.Place.{Place}
-use Rattle.capnp_edits.specs.declared.edit.path.Place.TheVariants.{Pointer as AtPointer, Element as AtElement}
-use Rattle.capnp_edits.specs.Edits.{is_of_place, IsApplied, refusals_after}
+use Rattle.capnp_edits.specs.declared.edit.path.PathEnd.{PathEnd}
+use Rattle.capnp_edits.specs.declared.edit.path.PathEnd.TheVariants.{Pointer as AtPointer, Element as AtElement}
+use Rattle.capnp_edits.specs.Edits.{is_of_path, IsApplied, refusals_after, Takes}
 use Rattle.capnp_edits.specs.Paths.{PointerTo, ElementOf, path_of, found, IsPathFound}
-use Rattle.capnp_edits.specs.Steps.{FitsAt, IsOfPlace, IsRefusedAt, TakesAt, IsStep, AreSteps, StepIsThere}
+use Rattle.capnp_edits.specs.Steps.{FitsAt, IsOfPath, IsRefusedAt, TakesAt, IsStep, AreSteps, StepIsThere}
 use Rattle.capnp_edits.specs.Tasks.{task_of}
 use Rattle.capnp_edits.proofs.Applied.{no_forest}
 use Rattle.capnp_edits.proofs.Steps.{first, same_some}
 use Rattle.capnp_edits.proofs.Walks.{found-append}
 
 -- an edit at its place
-pub step_at : (old new : View) (edit : Edit) (there : Place) (task : Task) (r : Option ErrorKind) → task_of edit.op ≡ Some task → 1 ≤ length (segment old.words 0) → IsApplied old.words new.words edit r → new.refusals ≡ refusals_after r old.refusals →
-    ((t : Tree) → IsStored old.words 0 0 t → IsPathFound old.words 0 0 t (path_of edit.path.now) (Some there)) → ((k : ErrorKind) → r ≡ Some k → IsOfPlace old new k ⊎ IsRefusedAt old new task k there) →
-    (FitsAt old task there → (k : ErrorKind) → r ≡ Some k → is_of_place k ≡ true) → (r ≡ Some NoSuchPlace → new ≡ old) → ((r ≡ Some NoSuchPlace → ⊥) → TakesAt old new task r there) → IsStep old new edit r
+pub step_at : (old new : View) (edit : Edit) (there : PathEnd) (task : Task) (r : Option ErrorKind) → task_of edit.op ≡ Some task → 1 ≤ length (segment old.words 0) → IsApplied (Takes edit r) old.words new.words → new.refusals ≡ refusals_after r old.refusals →
+    ((t : Tree) → IsStored old.words 0 0 t → IsPathFound old.words 0 0 t (path_of edit.path.now) (Some there)) → ((k : ErrorKind) → r ≡ Some k → IsOfPath old new k ⊎ IsRefusedAt old new task k there) →
+    (FitsAt old task there → (k : ErrorKind) → r ≡ Some k → is_of_path k ≡ true) → (r ≡ Some NoSuchPlace → new ≡ old) → ((r ≡ Some NoSuchPlace → ⊥) → TakesAt old new task r there) → IsStep old new edit r
 step_at old new edit there task r is root applied counted leads named fits nowhere taken = record {
   applied = applied;
   counted = counted;
-  place = Some there;
+  path_end = Some there;
   leads = leads;
   missing = λ e. absurd (cc);
   out_of_range = λ e. absurd (no_task task (sym is ∙ e));
@@ -45,14 +45,14 @@ step_at old new edit there task r is root applied counted leads named fits nowhe
     no_task task e = cc
 
 -- an edit without a place
-of_missing : (k : ErrorKind) → Some NoSuchPlace ≡ Some k → is_of_place k ≡ true
-of_missing k e = sym (ap is_of_place (same_some NoSuchPlace k e))
+of_missing : (k : ErrorKind) → Some NoSuchPlace ≡ Some k → is_of_path k ≡ true
+of_missing k e = sym (ap is_of_path (same_some NoSuchPlace k e))
 
-pub nothing_done : (v : View) (edit : Edit) (place : Option Place) → IsApplied v.words v.words edit (Some NoSuchPlace) → ((t : Tree) → IsStored v.words 0 0 t → IsPathFound v.words 0 0 t (path_of edit.path.now) place) → IsStep v v edit (Some NoSuchPlace)
+pub nothing_done : (v : View) (edit : Edit) (place : Option PathEnd) → IsApplied (Takes edit (Some NoSuchPlace)) v.words v.words → ((t : Tree) → IsStored v.words 0 0 t → IsPathFound v.words 0 0 t (path_of edit.path.now) place) → IsStep v v edit (Some NoSuchPlace)
 nothing_done v edit place applied leads = record {
   applied = applied;
   counted = refl;
-  place = place;
+  path_end = place;
   leads = leads;
   missing = λ e. refl;
   out_of_range = λ e. refl;
@@ -95,39 +95,39 @@ same_end S s p (Structs d w es) (Element i ∷ Child j ∷ path) u q x v r y h k
 same_end S s p t (step ∷ path) u q x v r y h k = absurd h
 
 -- to a pointer
-leads_spot : (S : Segments) (s p : ℕ) (t : Tree) (path : List Step) (u q : ℕ) (x : Tree) → PathLeads S s p t path u q x → found t path ≡ Some (PointerTo x)
-leads_spot S s p t [] u q x h = ap (λ y. Some (PointerTo y)) h.2
-leads_spot S s p (Struct ws ts) (Child i ∷ path) u q x h =
-    first i (count ts) _ _ h.0 ∙ leads_spot S (target S s p).segment ((target S s p).start + length ws + i) (tree_at ts i) path u q x h.1
-leads_spot S s p (Pointers ts) (Element i ∷ path) u q x h = first i (count ts) _ _ h.0 ∙ leads_spot S (target S s p).segment ((target S s p).start + i) (tree_at ts i) path u q x h.1
-leads_spot S s p (Structs d w es) (Element i ∷ Child j ∷ path) u q x h =
+leads_value : (S : Segments) (s p : ℕ) (t : Tree) (path : List Step) (u q : ℕ) (x : Tree) → PathLeads S s p t path u q x → found t path ≡ Some (PointerTo x)
+leads_value S s p t [] u q x h = ap (λ y. Some (PointerTo y)) h.2
+leads_value S s p (Struct ws ts) (Child i ∷ path) u q x h =
+    first i (count ts) _ _ h.0 ∙ leads_value S (target S s p).segment ((target S s p).start + length ws + i) (tree_at ts i) path u q x h.1
+leads_value S s p (Pointers ts) (Element i ∷ path) u q x h = first i (count ts) _ _ h.0 ∙ leads_value S (target S s p).segment ((target S s p).start + i) (tree_at ts i) path u q x h.1
+leads_value S s p (Structs d w es) (Element i ∷ Child j ∷ path) u q x h =
     ap₂ (λ a b. cond (a && b) (found (next (struct_at es i) (Child j)) path) None) (lt-ltb i (element_count es) h.0) (lt-ltb j w h.1)
-    ∙ leads_spot S (target S s p).segment ((target S s p).start + 1 + i * (d + w) + d + j) (next (struct_at es i) (Child j)) path u q x h.2
-leads_spot S s p t (step ∷ path) u q x h = absurd h
+    ∙ leads_value S (target S s p).segment ((target S s p).start + 1 + i * (d + w) + d + j) (next (struct_at es i) (Child j)) path u q x h.2
+leads_value S s p t (step ∷ path) u q x h = absurd h
 
-no_spot : (x : Tree) → Some (PointerTo x) ≡ None → ⊥
-no_spot x e = cc
+no_value : (x : Tree) → Some (PointerTo x) ≡ None → ⊥
+no_value x e = cc
 
 no_element : (x y : Tree) → Some (PointerTo x) ≡ Some (ElementOf y) → ⊥
 no_element x y e = cc
 
 -- so a step is done there
 pub step_is_there : StepIsThere
-step_is_there old new edit r t x u q s forest leads = go s.place (s.leads t (forest_stored old.words t forest))
+step_is_there old new edit r t x u q s forest leads = go s.path_end (s.leads t (forest_stored old.words t forest))
   where
     path : List Step
     path = path_of edit.path.now
 
-    spot : found t path ≡ Some (PointerTo x)
-    spot = leads_spot old.words 0 0 t path u q x leads
+    end_value : found t path ≡ Some (PointerTo x)
+    end_value = leads_value old.words 0 0 t path u q x leads
 
-    go : (place : Option Place) → IsPathFound old.words 0 0 t path place → place ≡ Some (AtPointer (record { segment = u; word = q }))
-    go None none = absurd (no_spot x (sym spot ∙ ap (found t) (sym (append-nil path)) ∙ none []))
+    go : (place : Option PathEnd) → IsPathFound old.words 0 0 t path place → place ≡ Some (AtPointer (record { segment = u; word = q }))
+    go None none = absurd (no_value x (sym end_value ∙ ap (found t) (sym (append-nil path)) ∙ none []))
     go (Some (AtPointer place)) f =
         let same = same_end old.words 0 0 t path place.segment place.word f.value u q x f.leads leads in
         ap₂ (λ v w. Some (AtPointer (record { segment = v; word = w }))) same.0 same.1
     go (Some (AtElement e)) f =
         let list = Structs e.size.data_words e.size.pointers f.elements in
         absurd (no_element x (struct_at f.elements f.index) (
-        sym spot ∙ ap (found t) f.path_is ∙ found-append t f.front (Element f.index ∷ []) list f.spot ∙ first f.index (element_count f.elements) _ _ f.counts
+        sym end_value ∙ ap (found t) f.path_is ∙ found-append t f.front (Element f.index ∷ []) list f.end_value ∙ first f.index (element_count f.elements) _ _ f.counts
         ))

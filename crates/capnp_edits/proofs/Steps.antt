@@ -1,5 +1,5 @@
 -- One step more of a path.
-use Rattle.std.proofs.Common.{◌≡◌, inl, inr, ℕ, zero, suc, ◌+◌, ◌*◌, ◌<◌, ◌≤◌, false, ◌&&◌, cond, nat_lt, List, [], ◌∷◌, ◌++◌, length, get_or, take, drop, Option, Some, None, Result, Ok, Err, refl, sym, ap, ◌∙◌, subst, arith, lt-ltb}
+use Rattle.std.proofs.Common.{◌≡◌, inl, inr, ℕ, zero, suc, ◌+◌, ◌*◌, ◌<◌, ◌≤◌, false, ◌&&◌, cond, nat_lt, List, [], ◌∷◌, ◌++◌, length, get_or, take, drop, Option, Some, None, IfSome, Result, Ok, Err, refl, sym, ap, ◌∙◌, subst, arith, lt-ltb}
 use Rattle.std.proofs.lemmas.Bool.{cases_lt}
 use Rattle.std.proofs.lemmas.Bool.Decides.{nat_tests}
 use Rattle.std.proofs.lemmas.List.{append_assoc, take_more, take-append-drop}
@@ -17,9 +17,9 @@ use Rattle.capnp_making.specs.Stored.{IsStored}
 use Rattle.capnp_making.proofs.Extents.{once_held, times-first}
 use Rattle.capnp_making.proofs.Replaced.{stored_within}
 use Rattle.capnp_edits.specs.declared.edit.Step.{Step as EditStep}
-use Rattle.capnp_edits.specs.declared.edit.path.Place.{Place}
-use Rattle.capnp_edits.specs.declared.edit.path.Place.TheVariants.{Pointer as AtPointer, Element as AtElement}
-use Rattle.capnp_edits.specs.Paths.{step_of, path_of, found, IsPointerFound, IsElementFound, IsPathFound, LieThereIf, child_in, element_in, Steps}
+use Rattle.capnp_edits.specs.declared.edit.path.PathEnd.{PathEnd}
+use Rattle.capnp_edits.specs.declared.edit.path.PathEnd.TheVariants.{Pointer as AtPointer, Element as AtElement}
+use Rattle.capnp_edits.specs.Paths.{step_of, path_of, found, IsPointerFound, IsElementFound, IsPathFound, EndLiesIn, child_in, element_in, Steps}
 use Rattle.capnp_edits.proofs.Walks.{leads_further, found-append}
 
 -- a place of a value lies in the message
@@ -46,22 +46,22 @@ same_list x y h = cc
 abbrev pub struct_of : ℕ → ℕ → ℕ → ℕ → ExistingStruct
 struct_of u b d q = record { segment = u; start = b; size = record { data_words = d; pointers = q } }
 
-pub struct_child : (S : Segments) (s p i : ℕ) (t : Tree) (e : ExistingStruct) (r : Option Place) → Some e ≡ struct_in (target S s p) t → IsStored S s p t → (LieThereIf S (child_in e i) → r ≡ child_in e i) → IsPathFound S s p t (Child i ∷ []) r
+pub struct_child : (S : Segments) (s p i : ℕ) (t : Tree) (e : ExistingStruct) (r : Option PathEnd) → Some e ≡ struct_in (target S s p) t → IsStored S s p t → (IfSome (child_in e i) (EndLiesIn S) → r ≡ child_in e i) → IsPathFound S s p t (Child i ∷ []) r
 struct_child S s p i (Struct ws ts) e r is_e stored exactly =
     let a = target S s p in
     let f = struct_of a.segment a.start (length ws) (count ts) in
     let same : e ≡ f = same_some e f is_e in
-    let known : LieThereIf S (child_in f i) → r ≡ child_in f i = subst (λ x. LieThereIf S (child_in x i) → r ≡ child_in x i) same exactly in
+    let known : IfSome (child_in f i) (EndLiesIn S) → r ≡ child_in f i = subst (λ x. IfSome (child_in x i) (EndLiesIn S) → r ≡ child_in x i) same exactly in
     elim (cases_lt i (count ts)) [
       | inl l ↦
           let is_there : child_in f i ≡ Some (AtPointer (record { segment = a.segment; word = a.start + length ws + i })) = first i (count ts) _ _ l in
           let leads : PathLeads S s p (Struct ws ts) (Child i ∷ []) a.segment (a.start + length ws + i) (tree_at ts i) = (l, (refl, refl, refl)) in
           let inside = place_inside S s p (Struct ws ts) (Child i ∷ []) a.segment (a.start + length ws + i) (tree_at ts i) leads stored in
-          subst (IsPathFound S s p (Struct ws ts) (Child i ∷ [])) (sym (known (subst (LieThereIf S) (sym is_there) inside) ∙ is_there))
-          (record { value = tree_at ts i; leads = leads; spot = first i (count ts) _ _ l })
+          subst (IsPathFound S s p (Struct ws ts) (Child i ∷ [])) (sym (known (subst (λ (o : Option PathEnd). IfSome o (EndLiesIn S)) (sym is_there) inside) ∙ is_there))
+          (record { value = tree_at ts i; leads = leads; end_value = first i (count ts) _ _ l })
       | inr l ↦
           let none : child_in f i ≡ None = second i (count ts) _ _ l in
-          subst (IsPathFound S s p (Struct ws ts) (Child i ∷ [])) (sym (known (subst (LieThereIf S) (sym none) tt) ∙ none)) (λ more. second i (count ts) _ _ l)
+          subst (IsPathFound S s p (Struct ws ts) (Child i ∷ [])) (sym (known (subst (λ (o : Option PathEnd). IfSome o (EndLiesIn S)) (sym none) tt) ∙ none)) (λ more. second i (count ts) _ _ l)
     ]
 struct_child S s p i Null e r is_e stored exactly = absurd (cc)
 struct_child S s p i (Capability j) e r is_e stored exactly = absurd (cc)
@@ -100,8 +100,8 @@ row_inside d m n i l h = omega (arith, nonlinear i n d l)
     nonlinear zero (suc n) d l = omega arith
     nonlinear (suc i) (suc n) d l = omega (arith, nonlinear i n d (omega arith))
 
-pub list_element : (S : Segments) (s p i : ℕ) (t : Tree) (l : ExistingList) (r : Option Place) → Ok (Some l) ≡ list_in (target S s p) Void t → IsStored S s p t → i < l.count →
-    (LieThereIf S (element_in l i) → r ≡ element_in l i) → IsPathFound S s p t (Element i ∷ []) r
+pub list_element : (S : Segments) (s p i : ℕ) (t : Tree) (l : ExistingList) (r : Option PathEnd) → Ok (Some l) ≡ list_in (target S s p) Void t → IsStored S s p t → i < l.count →
+    (IfSome (element_in l i) (EndLiesIn S) → r ≡ element_in l i) → IsPathFound S s p t (Element i ∷ []) r
 list_element S s p i Null l r is_l stored few exactly = absurd (cc)
 list_element S s p i (Capability j) l r is_l stored few exactly = absurd (cc)
 list_element S s p i (Struct ws ts) l r is_l stored few exactly = absurd (cc)
@@ -111,19 +111,19 @@ list_element S s p i (Flat size ns) l r is_l stored few exactly =
     let (b, some, small, o, claim, given, costs) = m.2 in
     let same = (chosen (plain_misfit Void (size_of size)) (plain_list a (size_of size) (length ns)) l is_l).1 in
     let none : element_in l i ≡ None = ap (λ k. element_in k i) same ∙ flat_element a.segment a.start size (length ns) i small in
-    subst (IsPathFound S s p (Flat size ns) (Element i ∷ [])) (sym (exactly (subst (LieThereIf S) (sym none) tt) ∙ none)) (λ more. refl)
+    subst (IsPathFound S s p (Flat size ns) (Element i ∷ [])) (sym (exactly (subst (λ (o : Option PathEnd). IfSome o (EndLiesIn S)) (sym none) tt) ∙ none)) (λ more. refl)
 list_element S s p i (Pointers ts) l r is_l stored few exactly =
     let a = target S s p in
     let same = same_list l (plain_list a Pointer (count ts)) is_l in
-    let known : LieThereIf S (element_in (plain_list a Pointer (count ts)) i) → r ≡ element_in (plain_list a Pointer (count ts)) i = subst (λ x. LieThereIf S (element_in x i) → r ≡ element_in x i) same exactly in
+    let known : IfSome (element_in (plain_list a Pointer (count ts)) i) (EndLiesIn S) → r ≡ element_in (plain_list a Pointer (count ts)) i = subst (λ x. IfSome (element_in x i) (EndLiesIn S) → r ≡ element_in x i) same exactly in
     let less : i < count ts = subst (λ x. i < x.count) same few in
     let leads : PathLeads S s p (Pointers ts) (Element i ∷ []) a.segment (a.start + i) (tree_at ts i) = (less, (refl, refl, refl)) in
     let inside = place_inside S s p (Pointers ts) (Element i ∷ []) a.segment (a.start + i) (tree_at ts i) leads stored in
-    subst (IsPathFound S s p (Pointers ts) (Element i ∷ [])) (sym (known inside)) (record { value = tree_at ts i; leads = leads; spot = first i (count ts) _ _ less })
+    subst (IsPathFound S s p (Pointers ts) (Element i ∷ [])) (sym (known inside)) (record { value = tree_at ts i; leads = leads; end_value = first i (count ts) _ _ less })
 list_element S s p i (Structs d q es) l r is_l stored few exactly =
     let a = target S s p in
     let same = same_list l (struct_list a d q (element_count es)) is_l in
-    let known : LieThereIf S (element_in (struct_list a d q (element_count es)) i) → r ≡ element_in (struct_list a d q (element_count es)) i = subst (λ x. LieThereIf S (element_in x i) → r ≡ element_in x i) same exactly in
+    let known : IfSome (element_in (struct_list a d q (element_count es)) i) (EndLiesIn S) → r ≡ element_in (struct_list a d q (element_count es)) i = subst (λ x. IfSome (element_in x i) (EndLiesIn S) → r ≡ element_in x i) same exactly in
     let less : i < element_count es = subst (λ x. i < x.count) same few in
     let means = stored.means in
     let (b, m, k, some, o, claim, tag, fits, all, costs) = means.2 in
@@ -137,7 +137,7 @@ list_element S s p i (Structs d q es) l r is_l stored few exactly =
       list_at = p;
       elements = es;
       leads = (refl, refl, refl);
-      spot = refl;
+      end_value = refl;
       counts = less;
       segment_is = refl;
       start_is = refl;
@@ -182,14 +182,14 @@ no_list S s p i (Pointers ts) k e = absurd (cc)
 no_list S s p i (Structs d q es) k e = absurd (cc)
 
 -- one step more, from a pointer
-pub pointer_further : (S : Segments) (s p : ℕ) (t : Tree) (path : List Step) (u q : ℕ) (step : Step) (r : Option Place) → IsPointerFound S s p t path u q → IsStored S s p t →
+pub pointer_further : (S : Segments) (s p : ℕ) (t : Tree) (path : List Step) (u q : ℕ) (step : Step) (r : Option PathEnd) → IsPointerFound S s p t path u q → IsStored S s p t →
     ((x : Tree) → IsStored S u q x → IsPathFound S u q x (step ∷ []) r) → IsPathFound S s p t (path ++ step ∷ []) r
 pointer_further S s p t path u q step (Some (AtPointer place)) f stored then =
     let g = then f.value (stored_within S s p t path u q f.value f.leads stored) in
     record {
       value = g.value;
       leads = leads_further S s p t path (step ∷ []) u q f.value place.segment place.word g.value f.leads g.leads;
-      spot = found-append t path (step ∷ []) f.value f.spot ∙ g.spot;
+      end_value = found-append t path (step ∷ []) f.value f.end_value ∙ g.end_value;
     }
 pointer_further S s p t path u q step (Some (AtElement e)) f stored then =
     let g = then f.value (stored_within S s p t path u q f.value f.leads stored) in
@@ -201,14 +201,14 @@ pointer_further S s p t path u q step (Some (AtElement e)) f stored then =
       list_at = g.list_at;
       elements = g.elements;
       leads = leads_further S s p t path g.front u q f.value g.list_segment g.list_at (Structs e.size.data_words e.size.pointers g.elements) f.leads g.leads;
-      spot = found-append t path g.front f.value f.spot ∙ g.spot;
+      end_value = found-append t path g.front f.value f.end_value ∙ g.end_value;
       counts = g.counts;
       segment_is = g.segment_is;
       start_is = g.start_is;
     }
 pointer_further S s p t path u q step None f stored then =
     let g = then f.value (stored_within S s p t path u q f.value f.leads stored) in
-    λ more. ap (found t) (append_assoc path (step ∷ []) more) ∙ found-append t path (step ∷ more) f.value f.spot ∙ g more
+    λ more. ap (found t) (append_assoc path (step ∷ []) more) ∙ found-append t path (step ∷ more) f.value f.end_value ∙ g more
 
 -- what a longer path finds behind an element of a list
 behind_element : (d q : ℕ) (es : Elements) (i j : ℕ) (more : List Step) → i < element_count es →
@@ -216,8 +216,8 @@ behind_element : (d q : ℕ) (es : Elements) (i j : ℕ) (more : List Step) → 
 behind_element d q es i j more l = ap (λ b. cond (b && nat_lt j q) (found (next (struct_at es i) (Child j)) more) None) (lt-ltb i (element_count es) l)
 
 -- and from an element
-pub element_child : (S : Segments) (s p : ℕ) (t : Tree) (path : List Step) (e : ExistingStruct) (j : ℕ) (r : Option Place) → IsElementFound S s p t path e → IsStored S s p t →
-    (LieThereIf S (child_in e j) → r ≡ child_in e j) → IsPathFound S s p t (path ++ Child j ∷ []) r
+pub element_child : (S : Segments) (s p : ℕ) (t : Tree) (path : List Step) (e : ExistingStruct) (j : ℕ) (r : Option PathEnd) → IsElementFound S s p t path e → IsStored S s p t →
+    (IfSome (child_in e j) (EndLiesIn S) → r ≡ child_in e j) → IsPathFound S s p t (path ++ Child j ∷ []) r
 element_child S s p t path e j r f stored exactly =
     let d = e.size.data_words in
     let q = e.size.pointers in
@@ -226,7 +226,7 @@ element_child S s p t path e j r f stored exactly =
     let joined : (more : List Step) → path ++ Child j ∷ more ≡ f.front ++ Element f.index ∷ Child j ∷ more =
     (λ more. ap (λ x. x ++ Child j ∷ more) f.path_is ∙ append_assoc f.front (Element f.index ∷ []) (Child j ∷ more)) in
     let all : (more : List Step) → found t (path ++ Child j ∷ more) ≡ cond (nat_lt j q) (found child more) None =
-    (λ more. ap (found t) (joined more) ∙ found-append t f.front (Element f.index ∷ Child j ∷ more) list f.spot ∙ behind_element d q f.elements f.index j more f.counts) in
+    (λ more. ap (found t) (joined more) ∙ found-append t f.front (Element f.index ∷ Child j ∷ more) list f.end_value ∙ behind_element d q f.elements f.index j more f.counts) in
     elim (cases_lt j q) [
       | inl l ↦
           let is_there : child_in e j ≡ Some (AtPointer (record { segment = e.segment; word = e.start + d + j })) = first j q _ _ l in
@@ -235,14 +235,14 @@ element_child S s p t path e j r f stored exactly =
           (f.counts, l, (sym f.segment_is, ap (λ b. b + d + j) (sym f.start_is), refl)) in
           let leads = leads_further S s p t f.front (Element f.index ∷ Child j ∷ []) f.list_segment f.list_at list e.segment (e.start + d + j) child f.leads near in
           let inside = place_inside S s p t (f.front ++ Element f.index ∷ Child j ∷ []) e.segment (e.start + d + j) child leads stored in
-          subst (IsPathFound S s p t (path ++ Child j ∷ [])) (sym (exactly (subst (LieThereIf S) (sym is_there) inside) ∙ is_there)) (record {
+          subst (IsPathFound S s p t (path ++ Child j ∷ [])) (sym (exactly (subst (λ (o : Option PathEnd). IfSome o (EndLiesIn S)) (sym is_there) inside) ∙ is_there)) (record {
             value = child;
             leads = subst (λ x. PathLeads S s p t x e.segment (e.start + d + j) child) (sym (joined [])) leads;
-            spot = all [] ∙ first j q _ _ l;
+            end_value = all [] ∙ first j q _ _ l;
           })
       | inr l ↦
           let none : child_in e j ≡ None = second j q _ _ l in
-          subst (IsPathFound S s p t (path ++ Child j ∷ [])) (sym (exactly (subst (LieThereIf S) (sym none) tt) ∙ none))
+          subst (IsPathFound S s p t (path ++ Child j ∷ [])) (sym (exactly (subst (λ (o : Option PathEnd). IfSome o (EndLiesIn S)) (sym none) tt) ∙ none))
           (λ more. ap (found t) (append_assoc path (Child j ∷ []) more) ∙ all more ∙ second j q _ _ l)
     ]
 
@@ -250,10 +250,10 @@ pub element_element : (S : Segments) (s p : ℕ) (t : Tree) (path : List Step) (
 element_element S s p t path e j f more =
     let list = Structs e.size.data_words e.size.pointers f.elements in
     ap (found t) (append_assoc path (Element j ∷ []) more ∙ ap (λ x. x ++ Element j ∷ more) f.path_is ∙ append_assoc f.front (Element f.index ∷ []) (Element j ∷ more))
-    ∙ found-append t f.front (Element f.index ∷ Element j ∷ more) list f.spot
+    ∙ found-append t f.front (Element f.index ∷ Element j ∷ more) list f.end_value
 
 -- whatever the place
-pub step_further : (S : Segments) (s p : ℕ) (t : Tree) (path : List Step) (here : Place) (step : Step) (r : Option Place) → IsPathFound S s p t path (Some here) → IsStored S s p t → Steps S here step r →
+pub step_further : (S : Segments) (s p : ℕ) (t : Tree) (path : List Step) (here : PathEnd) (step : Step) (r : Option PathEnd) → IsPathFound S s p t path (Some here) → IsStored S s p t → Steps S here step r →
     IsPathFound S s p t (path ++ step ∷ []) r
 step_further S s p t path (AtPointer place) step r f stored h = pointer_further S s p t path place.segment place.word step r f stored h
 step_further S s p t path (AtElement e) (Child j) r f stored h = element_child S s p t path e j r f stored h
@@ -264,14 +264,14 @@ path_of-append [] ys = refl
 path_of-append (x ∷ xs) ys = ap (λ p. step_of x ∷ p) (path_of-append xs ys)
 
 -- step number i of a path is taken
-pub step_taken : (S : Segments) (s p : ℕ) (t : Tree) (i : ℕ) (path : List EditStep) (here next : Place) → i < length path → IsPathFound S s p t (path_of (take i path)) (Some here) → IsStored S s p t → (d : EditStep) →
+pub step_taken : (S : Segments) (s p : ℕ) (t : Tree) (i : ℕ) (path : List EditStep) (here next : PathEnd) → i < length path → IsPathFound S s p t (path_of (take i path)) (Some here) → IsStored S s p t → (d : EditStep) →
     Steps S here (step_of (get_or path i d)) (Some next) → IsPathFound S s p t (path_of (take (i + 1) path)) (Some next)
 step_taken S s p t i path here next l f stored d h =
     let same : path_of (take (i + 1) path) ≡ path_of (take i path) ++ step_of (get_or path i d) ∷ [] = ap path_of (take_more path i d l) ∙ path_of-append (take i path) (get_or path i d ∷ []) in
     subst (λ x. IsPathFound S s p t x (Some next)) (sym same) (step_further S s p t (path_of (take i path)) here (step_of (get_or path i d)) (Some next) f stored h)
 
 -- or leads nowhere, and so does the path
-pub step_nowhere : (S : Segments) (s p : ℕ) (t : Tree) (i : ℕ) (path : List EditStep) (here : Place) → i < length path → IsPathFound S s p t (path_of (take i path)) (Some here) → IsStored S s p t → (d : EditStep) →
+pub step_nowhere : (S : Segments) (s p : ℕ) (t : Tree) (i : ℕ) (path : List EditStep) (here : PathEnd) → i < length path → IsPathFound S s p t (path_of (take i path)) (Some here) → IsStored S s p t → (d : EditStep) →
     Steps S here (step_of (get_or path i d)) None → IsPathFound S s p t (path_of path) None
 step_nowhere S s p t i path here l f stored d h =
     let front = path_of (take i path) in

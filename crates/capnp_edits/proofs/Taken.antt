@@ -9,9 +9,8 @@ use Rattle.capnp_making.specs.Fields.{put_field, with_field}
 use Rattle.capnp_making.specs.declared.existing.ExistingBytes.{ExistingBytes}
 use Rattle.capnp_making.specs.declared.existing.ExistingList.{ExistingList}
 use Rattle.capnp_making.specs.declared.existing.ExistingStruct.{ExistingStruct}
-use Rattle.capnp_objects.specs.Reading.{Reading}
 use Rattle.capnp_copies.specs.Changes.{Change}
-use Rattle.capnp_copies.specs.Growth.{TakesAtMost, TakesForPointers}
+use Rattle.capnp_copies.specs.Growth.{TakesAtMost}
 use Rattle.capnp_copies.specs.Originals.{Original}
 use Rattle.capnp_builders.specs.Places.{Field}
 use Rattle.capnp_edits.specs.Edits.{refusal_of, are_written, are_outside, PutsBits, PutsElement, element_put, element_past, no_list, list_denied, PutsByte, byte_put, byte_past, no_bytes_there, bytes_denied}
@@ -41,10 +40,6 @@ byte_lengths S R looked i v r (no_bytes_there none named same) = same_lengths S 
 byte_lengths S R looked i v r (bytes_denied k is named same) = same_lengths S R same
 
 -- what a call takes, by its outcome
-pub copy_taken : {A : Type 0} (result : Result A ErrorKind) (o : Original) (c : Change) → TakesAtMost result o c → TakesAtMost (result_of (refusal_of result)) o c
+pub copy_taken : {A V : Type 0} (result : Result A ErrorKind) (o : Original V) (c : Change) → TakesAtMost result o c → TakesAtMost (result_of (refusal_of result)) o c
 copy_taken (Ok x) o c taken = taken
 copy_taken (Err k) o c taken = taken
-
-pub pointers_taken : {A : Type 0} (result : Result A ErrorKind) (r : Reading) (i : ℕ) (c : Change) → TakesForPointers result r i c → TakesForPointers (result_of (refusal_of result)) r i c
-pointers_taken (Ok x) r i c taken = taken
-pointers_taken (Err k) r i c taken = taken

@@ -4,7 +4,7 @@ use Rattle.capnp_format.specs.Segments.{Segments}
 use Rattle.capnp_format.specs.Tree.{Tree, Null, Capability, Struct, Flat, Pointers, Structs, count, element_count}
 use Rattle.capnp_format.specs.Forest.{target}
 use Rattle.capnp_making.specs.Path.{Step, Child, Element, tree_at, struct_at, next, put, update, PathLeads}
-use Rattle.capnp_edits.specs.Paths.{Spot, PointerTo, ElementOf, found}
+use Rattle.capnp_edits.specs.Paths.{EndValue, PointerTo, ElementOf, found}
 
 pub leads_further : (S : Segments) (s p : ℕ) (t : Tree) (path more : List Step) (u q : ℕ) (x : Tree) (v r : ℕ) (y : Tree) → PathLeads S s p t path u q x → PathLeads S u q x more v r y → PathLeads S s p t (path ++ more) v r y
 leads_further S s p t [] more u q x v r y h k = rw (h.0, h.1, h.2) k
@@ -16,7 +16,7 @@ leads_further S s p (Structs d w es) (Element i ∷ Child j ∷ path) more u q x
 leads_further S s p t (step ∷ path) more u q x v r y h k = absurd h
 
 -- a choice that is something is the first
-taken : (b : Bool) (o r : Option Spot) (y : Spot) (z : Option Spot) → cond b o None ≡ Some y → (o ≡ Some y → r ≡ z) → cond b r None ≡ z
+taken : (b : Bool) (o r : Option EndValue) (y : EndValue) (z : Option EndValue) → cond b o None ≡ Some y → (o ≡ Some y → r ≡ z) → cond b r None ≡ z
 taken true o r y z h k = k h
 taken false o r y z h k = absurd (cc)
 
@@ -42,7 +42,7 @@ found-append Null (step ∷ path) more x h = absurd (cc)
 found-append (Capability i) (step ∷ path) more x h = absurd (cc)
 found-append (Flat size ns) (step ∷ path) more x h = absurd (cc)
 
-inner : (b : Bool) (o : Option Spot) (y : Spot) → cond b o None ≡ Some y → o ≡ Some y
+inner : (b : Bool) (o : Option EndValue) (y : EndValue) → cond b o None ≡ Some y → o ≡ Some y
 inner true o y h = h
 inner false o y h = absurd (cc)
 

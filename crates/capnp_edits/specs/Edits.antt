@@ -32,8 +32,7 @@ use Rattle.capnp_edits.specs.declared.edit.Source.{Source}
 use Rattle.capnp_readers.specs.Sections.{step_bits, data_bits}
 use Rattle.capnp_readers.specs.declared.readers.PointerPlace.{PointerPlace}
 use Rattle.capnp_builders.specs.declared.builders.PointerBuilder.{PointerBuilder}
-use Rattle.capnp_builders.specs.Found.{found_list_place as list_place}
-use Rattle.capnp_builders.specs.Places.{Field, field}
+use Rattle.capnp_builders.specs.Places.{Field, field, list_place, struct_place}
 use Rattle.capnp_edits.specs.declared.edit.Edit.{Edit}
 use Rattle.capnp_edits.specs.declared.edit.copying.Copying.{Copying}
 use Rattle.capnp_edits.specs.declared.edit.copying.Wanted.TheVariants.{Struct as AStruct}
@@ -50,7 +49,7 @@ use Rattle.capnp_edits.specs.declared.edit.tasks.Sought.{Sought}
 use Rattle.capnp_edits.specs.declared.edit.tasks.Sought.TheVariants.{Struct as ForStruct, List as ForList, StructList as ForStructs, Text as ForText, Data as ForData}
 use Rattle.capnp_edits.specs.Tasks.{task_of}
 use Rattle.capnp_edits.specs.Sources.{copying_from, Copies, ContentRead, Fills, IsNextUnreadable, HasNothingToCopy, IsUnreadable}
-use Rattle.capnp_edits.specs.Paths.{Spot, PointerTo, ElementOf, path_of, found}
+use Rattle.capnp_edits.specs.Paths.{EndValue, PointerTo, ElementOf, path_of, found}
 
 -- The name by which a call is refused, if it is.
 abbrev pub refusal_of : {A : Type 0} → Result A ErrorKind → Option ErrorKind
@@ -92,20 +91,16 @@ with_lowest i w v t = t
 abbrev pub nowhere : Target
 nowhere = record { word = 0; segment = 0; start = 0; pads = 0 }
 
--- How many are in what is found, as elements or bytes: none in a null pointer.
-abbrev pub count_of : {A : Type 0} → (A → ℕ) → Result (Option A) ErrorKind → Result ℕ ErrorKind
-count_of number (Ok (Some x)) = Ok (number x)
-count_of number (Ok None) = Ok 0
-count_of number (Err k) = Err k
-
 -- What is made of what is found; or that is refused.
 abbrev pub made_of_found : {A : Type 0} → (A → Making) → Result A ErrorKind → Making
 made_of_found made_of (Ok x) = made_of x
 made_of_found made_of (Err k) = denied k
 
--- What is made where element number i is written and n are found: u.
-abbrev pub if_reached : ℕ → Tree → ℕ → Making
-if_reached i u n = cond (nat_lt i n) (becomes u) (denied NoSuchPlace)
+-- What is made where element or byte number i of what is found is written: u, if there are so many, of which null has none.
+abbrev pub if_reached : {A : Type 0} → (A → ℕ) → ℕ → Tree → Result (Option A) ErrorKind → Making
+if_reached number i u (Ok (Some x)) = cond (nat_lt i (number x)) (becomes u) (denied NoSuchPlace)
+if_reached number i u (Ok None) = denied NoSuchPlace
+if_reached number i u (Err k) = denied k
 
 -- What is looked for: a struct, or a list of structs, at least as large as asked for, and no list in null; or a list, a text or data, which leaves t.
 abbrev pub looked_for : Sought → Tree → Making
@@ -131,9 +126,9 @@ struct_changed (Content source) t = denied NoSuchPlace
 -- What is made where a part of a list, a text or data is written.
 abbrev pub part_written : Part → Tree → Making
 part_written (ListElement n) t =
-    made_of_found (if_reached n.index (with_lowest n.index (element_bits (size_number n.size)) n.value t)) (count_of (λ l. l.count) (list_in nowhere n.size t))
-part_written (TextByte i b) t = made_of_found (if_reached i (with_lowest i 8 b t)) (count_of (λ x. x.length) (text_in nowhere t))
-part_written (DataByte i b) t = made_of_found (if_reached i (with_lowest i 8 b t)) (count_of (λ x. x.length) (data_in nowhere t))
+    if_reached (λ l. l.count) n.index (with_lowest n.index (element_bits (size_number n.size)) n.value t) (list_in nowhere n.size t)
+part_written (TextByte i b) t = if_reached (λ x. x.length) i (with_lowest i 8 b t) (text_in nowhere t)
+part_written (DataByte i b) t = if_reached (λ x. x.length) i (with_lowest i 8 b t) (data_in nowhere t)
 
 -- The value of an object that is made, and how many words it takes, its landing pad aside.
 abbrev pub value_of : Object → Tree
@@ -153,7 +148,7 @@ words_made (Text bytes) = words_for 2 (length bytes.now + 1)
 words_made (Data bytes) = words_for 2 (length bytes.now)
 
 -- What a task makes where a path leads; or by what name it is refused, and nothing is changed.
-abbrev pub made_at : Task → Spot → Making
+abbrev pub made_at : Task → EndValue → Making
 made_at (InStruct change) (PointerTo t) = struct_changed change t
 made_at (InStruct change) (ElementOf t) = struct_changed change t
 made_at task (ElementOf t) = denied NoSuchPlace
@@ -171,12 +166,12 @@ abbrev pub IsOfMemory : ErrorKind → Type 0
 IsOfMemory k = (k ≡ AllocationFailed) ⊎ ((n : ℕ) × (k ≡ MessageTooLarge n))
 
 -- The names by which an operation is refused for what a path leads to, or doesn't.
-abbrev pub is_of_place : ErrorKind → Bool
-is_of_place FoundBitListWhereStructListWasExpected = true
-is_of_place MessageContainsNonStructPointerWhereStructPointerWasExpected = true
-is_of_place NoSuchPlace = true
-is_of_place UnknownPointerType = true
-is_of_place k = is_unfound k
+abbrev pub is_of_path : ErrorKind → Bool
+is_of_path FoundBitListWhereStructListWasExpected = true
+is_of_path MessageContainsNonStructPointerWhereStructPointerWasExpected = true
+is_of_path NoSuchPlace = true
+is_of_path UnknownPointerType = true
+is_of_path k = is_unfound k
 
 -- How often memory was refused after an outcome: once more for each AllocationFailed.
 abbrev pub refusals_after : Option ErrorKind → ℕ → ℕ
@@ -250,16 +245,6 @@ pub data CopiesRoot (S R : Segments) (place : PointerPlace) (c : Copying) (r : O
   root_not_copied : (k : ErrorKind) → IsOfMemory k ⊎ IsUnreadable c k → r ≡ Some k → Puts S R place.segment place.word Null → CopiesRoot S R place c r
   root_unread : (k : ErrorKind) → HasNothingToCopy c k → r ≡ Some k → R ≡ S → CopiesRoot S R place c r
 
--- Where the sections of a struct are.
-abbrev pub sections : ExistingStruct → StructPlace
-sections e = record {
-  segment = e.segment;
-  byte = 8 * e.start;
-  bits = 64 * e.size.data_words;
-  pointers_at = e.start + e.size.data_words;
-  pointers = e.size.pointers;
-}
-
 -- From S on a struct takes the data of a source's struct, and then the pointers that are read of it are copied to its first ones.
 pub record Filling (S : Segments) (place : StructPlace) (source : Source) : Type 0 where
   pub content : ContentRead source
@@ -284,7 +269,7 @@ pub data FillsAt (S R : Segments) (place : StructPlace) (source : Source) (r : O
 -- What a change leaves of a struct of a message: its bits are written; or content is copied over it.
 abbrev pub Changes : Segments → Segments → ExistingStruct → StructChange → Option ErrorKind → Type 0
 Changes S R e (Bits n) r = PutsBits S R e (bits_of n) r
-Changes S R e (Content source) r = FillsAt S R (sections e) source r
+Changes S R e (Content source) r = FillsAt S R (struct_place e) source r
 
 -- What writing an element leaves, with its outcome, where a list was looked for: its lowest bits are written; or it isn't there, in no list that lies in
 -- the message and is as wide; or there is no list, or the search was refused.
@@ -304,20 +289,16 @@ pub data PutsByte (S R : Segments) (looked : Result (Option ExistingBytes) Error
   bytes_denied : (k : ErrorKind) → looked ≡ Err k → r ≡ Some k → R ≡ S → PutsByte S R looked i v r
 
 -- An edit with its outcome takes the value t of a message to u.
-pub data Takes (e : Edit) (t : Tree) (r : Option ErrorKind) (u : Tree) : Type 0 where
-  leads_to : (spot : Spot) (o : Option Tree) → found t (path_of e.path.now) ≡ Some spot → Leaves (option_map_or (λ task. made_at task spot) (task_of e.op) (denied NoSuchPlace)) r o → u ≡ option_map_or (update t (path_of e.path.now)) o t → Takes e t r u
-  leads_nowhere : found t (path_of e.path.now) ≡ None → r ≡ Some NoSuchPlace → u ≡ t → Takes e t r u
+pub data Takes (e : Edit) (r : Option ErrorKind) (t u : Tree) : Type 0 where
+  leads_to : (end_value : EndValue) (o : Option Tree) → found t (path_of e.path.now) ≡ Some end_value → Leaves (option_map_or (λ task. made_at task end_value) (task_of e.op) (denied NoSuchPlace)) r o → u ≡ option_map_or (update t (path_of e.path.now)) o t → Takes e r t u
+  leads_nowhere : found t (path_of e.path.now) ≡ None → r ≡ Some NoSuchPlace → u ≡ t → Takes e r t u
 
--- From S to R an edit takes a forest to a forest, with its outcome.
-abbrev pub IsApplied : Segments → Segments → Edit → Option ErrorKind → Type 0
-IsApplied S R e r = (t : Tree) → IsForest S t → (u : Tree) × IsForest R u × Takes e t r u
+-- From S to R a forest becomes a forest, and P holds of their values: as an edit takes one to the other, or several do.
+abbrev pub IsApplied : (Tree → Tree → Type 0) → Segments → Segments → Type 0
+IsApplied P S R = (t : Tree) → IsForest S t → (u : Tree) × IsForest R u × P t u
 
 -- Edits in order, each with its outcome, take the value t of a message to u.
 abbrev pub TakesAll : List Edit → List (Option ErrorKind) → Tree → Tree → Type 0
 TakesAll [] [] t u = u ≡ t
-TakesAll (e ∷ es) (r ∷ rs) t u = (v : Tree) × Takes e t r v × TakesAll es rs v u
+TakesAll (e ∷ es) (r ∷ rs) t u = (v : Tree) × Takes e r t v × TakesAll es rs v u
 TakesAll es rs t u = ⊥
-
--- From S to R edits take a forest to a forest, with their outcomes.
-abbrev pub AreApplied : Segments → Segments → List Edit → List (Option ErrorKind) → Type 0
-AreApplied S R es rs = (t : Tree) → IsForest S t → (u : Tree) × IsForest R u × TakesAll es rs t u

@@ -1,5 +1,5 @@
 -- Where the paths of edits lead, in a value and in a message that holds it.
-use Rattle.std.specs.Prelude.{◌≡◌, ⊤, ℕ, ◌+◌, ◌*◌, ◌<◌, cond, nat_eq, nat_lt, ◌&&◌, List, [], ◌∷◌, ◌++◌, Option, Some, None}
+use Rattle.std.specs.Prelude.{◌≡◌, ℕ, ◌+◌, ◌*◌, ◌<◌, cond, nat_eq, nat_lt, ◌&&◌, List, [], ◌∷◌, ◌++◌, Option, Some, None, IfSome}
 use Rattle.capnp_format.specs.Segments.{Segments, IsPlace}
 use Rattle.capnp_words.specs.Sizes.{size_number}
 use Rattle.capnp_format.specs.Tree.{Tree, Struct, Pointers, Structs, Elements, count, element_count}
@@ -11,8 +11,8 @@ use Rattle.capnp_making.specs.declared.existing.ExistingList.{ExistingList}
 use Rattle.capnp_making.specs.declared.existing.ExistingStruct.{ExistingStruct}
 use Rattle.capnp_edits.specs.declared.edit.Step.{Step as EditStep}
 use Rattle.capnp_edits.specs.declared.edit.Step.TheVariants.{Child as ToChild, Element as ToElement}
-use Rattle.capnp_edits.specs.declared.edit.path.Place.{Place}
-use Rattle.capnp_edits.specs.declared.edit.path.Place.TheVariants.{Pointer as AtPointer, Element as AtElement}
+use Rattle.capnp_edits.specs.declared.edit.path.PathEnd.{PathEnd}
+use Rattle.capnp_edits.specs.declared.edit.path.PathEnd.TheVariants.{Pointer as AtPointer, Element as AtElement}
 
 -- The steps of an edit's path.
 abbrev pub step_of : EditStep → Step
@@ -23,13 +23,13 @@ abbrev pub path_of : List EditStep → List Step
 path_of [] = []
 path_of (step ∷ path) = step_of step ∷ path_of path
 
--- What a path leads to: a pointer that means a value, or an element of a list of structs, which is a struct.
-pub data Spot : Type 0 where
-  PointerTo : Tree → Spot
-  ElementOf : Tree → Spot
+-- The value that a path leads to: that of a pointer, or an element of a list of structs, which is a struct.
+pub data EndValue : Type 0 where
+  PointerTo : Tree → EndValue
+  ElementOf : Tree → EndValue
 
 -- What a path leads to from a pointer that means t, if anything.
-abbrev pub found : Tree → List Step → Option Spot
+abbrev pub found : Tree → List Step → Option EndValue
 found t [] = Some (PointerTo t)
 found (Struct ws ts) (Child i ∷ path) = cond (nat_lt i (count ts)) (found (tree_at ts i) path) None
 found (Pointers ts) (Element i ∷ path) = cond (nat_lt i (count ts)) (found (tree_at ts i) path) None
@@ -42,7 +42,7 @@ found t path = None
 pub record IsPointerFound (S : Segments) (s p : ℕ) (t : Tree) (path : List Step) (u q : ℕ) : Type 0 where
   pub value : Tree
   pub leads : PathLeads S s p t path u q value
-  pub spot : found t path ≡ Some (PointerTo value)
+  pub end_value : found t path ≡ Some (PointerTo value)
 
 -- It leads to an element e of the list of structs that the pointer at the end of a path one step shorter means.
 pub record IsElementFound (S : Segments) (s p : ℕ) (t : Tree) (path : List Step) (e : ExistingStruct) : Type 0 where
@@ -53,41 +53,36 @@ pub record IsElementFound (S : Segments) (s p : ℕ) (t : Tree) (path : List Ste
   pub list_at : ℕ
   pub elements : Elements
   pub leads : PathLeads S s p t front list_segment list_at (Structs e.size.data_words e.size.pointers elements)
-  pub spot : found t front ≡ Some (PointerTo (Structs e.size.data_words e.size.pointers elements))
+  pub end_value : found t front ≡ Some (PointerTo (Structs e.size.data_words e.size.pointers elements))
   pub counts : index < element_count elements
   pub segment_is : e.segment ≡ (target S list_segment list_at).segment
   pub start_is : e.start ≡ (target S list_segment list_at).start + 1 + index * (e.size.data_words + e.size.pointers)
 
 -- Where a path leads; if nowhere, then no longer path leads anywhere.
-abbrev pub IsPathFound : Segments → ℕ → ℕ → Tree → List Step → Option Place → Type 0
+abbrev pub IsPathFound : Segments → ℕ → ℕ → Tree → List Step → Option PathEnd → Type 0
 IsPathFound S s p t path (Some (AtPointer place)) = IsPointerFound S s p t path place.segment place.word
 IsPathFound S s p t path (Some (AtElement e)) = IsElementFound S s p t path e
 IsPathFound S s p t path None = (more : List Step) → found t (path ++ more) ≡ None
 
--- A place lies in the message.
-abbrev pub PlaceLiesIn : Segments → Place → Type 0
-PlaceLiesIn S (AtPointer place) = IsPlace S place.segment place.word
-PlaceLiesIn S (AtElement e) = StructLiesIn S e
+-- The end of a path lies in the message.
+abbrev pub EndLiesIn : Segments → PathEnd → Type 0
+EndLiesIn S (AtPointer place) = IsPlace S place.segment place.word
+EndLiesIn S (AtElement e) = StructLiesIn S e
 
 -- The pointer of a struct by its index, if there is one.
-abbrev pub child_in : ExistingStruct → ℕ → Option Place
+abbrev pub child_in : ExistingStruct → ℕ → Option PathEnd
 child_in e i = cond (nat_lt i e.size.pointers) (Some (AtPointer (record { segment = e.segment; word = e.start + e.size.data_words + i }))) None
 
 -- The element of a list by its index, if it is a pointer or a struct.
-abbrev pub element_in : ExistingList → ℕ → Option Place
+abbrev pub element_in : ExistingList → ℕ → Option PathEnd
 element_in l i =
     cond (nat_eq (size_number l.size) 6) (Some (AtPointer (record { segment = l.segment; word = l.start + i })))
     (cond (nat_eq (size_number l.size) 7)
     (Some (AtElement (record { segment = l.segment; start = l.start + i * (l.struct_size.data_words + l.struct_size.pointers); size = l.struct_size })))
     None)
 
--- A place lies in the message, if it is one.
-abbrev pub LieThereIf : Segments → Option Place → Type 0
-LieThereIf S (Some place) = PlaceLiesIn S place
-LieThereIf S None = ⊤
-
--- What a step from a place gives: r.
-abbrev pub Steps : Segments → Place → Step → Option Place → Type 0
+-- What a step from the end of a path gives: r.
+abbrev pub Steps : Segments → PathEnd → Step → Option PathEnd → Type 0
 Steps S (AtPointer place) step r = (t : Tree) → IsStored S place.segment place.word t → IsPathFound S place.segment place.word t (step ∷ []) r
-Steps S (AtElement e) (Child i) r = LieThereIf S (child_in e i) → r ≡ child_in e i
+Steps S (AtElement e) (Child i) r = IfSome (child_in e i) (EndLiesIn S) → r ≡ child_in e i
 Steps S (AtElement e) (Element i) r = r ≡ None

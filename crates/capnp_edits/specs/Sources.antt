@@ -17,9 +17,8 @@ use Rattle.capnp_arena.specs.Limits.{whole}
 use Rattle.capnp_arena.specs.View.{View}
 use Rattle.capnp_arena.specs.declared.arena.reader_arena.ReaderArena.{Ghosts}
 use Rattle.capnp_making.specs.Near.{HasOwnRoom}
-use Rattle.capnp_objects.specs.declared.object.Expected.TheVariants.{Struct as ExpectedStruct, List as ExpectedList}
 use Rattle.capnp_objects.specs.Demands.{IsStructList, tag}
-use Rattle.capnp_objects.specs.Expected.{Withheld}
+use Rattle.capnp_objects.specs.Expected.{struct_expected, list_expected, Withheld}
 use Rattle.capnp_objects.specs.Faults.{child_at}
 use Rattle.capnp_objects.specs.Outcomes.{Reads, ReadsAll, Entered, MeansThere}
 use Rattle.capnp_objects.specs.Reading.{Reading, word_of, behind, tag_size}
@@ -28,9 +27,9 @@ use Rattle.capnp_objects.specs.Source.{levels}
 use Rattle.capnp_objects.specs.Wanted.{AllowsCapabilities, plain}
 use Rattle.capnp_readers.specs.Readers.{reading}
 use Rattle.capnp_readers.specs.declared.readers.PointerReader.{PointerReader}
-use Rattle.capnp_copies.specs.Changes.{Change, RefusesToCopy, change}
+use Rattle.capnp_copies.specs.Changes.{Change, change}
 use Rattle.capnp_copies.specs.Forms.{form_of, kept}
-use Rattle.capnp_copies.specs.Originals.{value_original, sections_original, list_original}
+use Rattle.capnp_copies.specs.Originals.{Original, value_original, sections_original, list_original}
 use Rattle.capnp_making.specs.Makes.{CallAt}
 use Rattle.capnp_builders.specs.Laws.{HoldContent, up_to}
 use Rattle.capnp_edits.specs.declared.edit.Source.{Source}
@@ -84,8 +83,8 @@ pub record IsRootReader {A : Type 0} (g : Ghosts A) (source : Source) (from : Po
 -- What is wanted isn't found at a place, by the name k, as get_struct, or get_list of Void, refuses it.
 abbrev pub IsWithheld : Wanted → Reading → Meter → Meter → ErrorKind → Type 0
 IsWithheld Value r m m' k = ⊥
-IsWithheld AStruct r m m' k = Withheld ExpectedStruct r m m' k
-IsWithheld AList r m m' k = Withheld (ExpectedList Void) r m m' k
+IsWithheld AStruct r m m' k = Withheld struct_expected r m m' k
+IsWithheld AList r m m' k = Withheld (list_expected Void) r m m' k
 
 -- There is nothing to be copied, by the name k: the root isn't reached, or what is wanted isn't found there.
 abbrev pub HasNothingToCopy : Copying → ErrorKind → Type 0
@@ -200,11 +199,11 @@ ContentFitsBehind v id source q =
 abbrev pub IsNextUnreadable : (source : Source) → ContentRead source → ErrorKind → Type 0
 IsNextUnreadable source c k = (m : Meter) × Refused plain (behind c.from.first (count c.children)) c.after m k
 
--- The copy of a whole value that is wanted at a place is refused by the name k.
-abbrev pub RefusesAs : Wanted → Reading → Change → ErrorKind → Type 0
-RefusesAs Value r c k = RefusesToCopy (value_original r) c k
-RefusesAs AStruct r c k = (s : Sections) × LeadsToStruct r c.before s × RefusesToCopy (sections_original s.words s.first s.pointers) (record c { before = s.limiter }) k
-RefusesAs AList r c k = (l : ListElements) × (m : Meter) × LeadsToList r c.before m l × RefusesToCopy (list_original l.size l.sections l.count l.first) (record c { before = m }) k
+-- What the copy of a whole value is made of that is wanted at a place, and the copy, are as Says has it: of a struct or a list, once what leads to it is charged.
+abbrev pub OfWanted : Wanted → Reading → Change → (Original Tree → Change → Type 0) → Type 0
+OfWanted Value r c Says = Says (value_original r) c
+OfWanted AStruct r c Says = (s : Sections) × LeadsToStruct r c.before s × Says (sections_original s.words s.first s.pointers) (record c { before = s.limiter })
+OfWanted AList r c Says = (l : ListElements) × (m : Meter) × LeadsToList r c.before m l × Says (list_original l.size l.sections l.count l.first) (record c { before = m })
 
 -- A copy that a call makes at a place; what is left of its limiter then is m.
 abbrev pub copy_at : CallAt → Copying → Meter → Change

@@ -21,20 +21,20 @@ use Rattle.capnp_objects.specs.Wanted.{plain}
 use Rattle.capnp_readers.specs.declared.readers.PointerPlace.{PointerPlace}
 use Rattle.capnp_readers.specs.declared.readers.list_reader.ListPlace.{ListPlace}
 use Rattle.capnp_readers.specs.declared.readers.struct_reader.StructPlace.{StructPlace}
-use Rattle.capnp_copies.specs.Changes.{Change, LacksRoom, WantsWords, change}
-use Rattle.capnp_copies.specs.Growth.{TakesAtMost, TakesForPointers}
-use Rattle.capnp_copies.specs.Originals.{value_original, sections_original, list_original}
-use Rattle.capnp_copies.specs.Rooms.{AreTooLarge}
+use Rattle.capnp_copies.specs.Changes.{LacksRoom, RefusesToCopy, WantsWords, change}
+use Rattle.capnp_copies.specs.Growth.{TakesAtMost}
+use Rattle.capnp_copies.specs.Originals.{children_original}
+use Rattle.capnp_copies.specs.Rooms.{IsTooLarge}
 use Rattle.capnp_making.specs.Makes.{CallAt, call_at}
 use Rattle.capnp_builders.specs.Defaults.{RefusesDefault, DefaultFits, default_copy}
 use Rattle.capnp_builders.specs.Found.{FindsList, FindsBytes}
 use Rattle.capnp_builders.specs.Laws.{TakesBytes}
 use Rattle.capnp_builders.specs.Opening.{FindsStruct, FindsStructs, StructFindFits, StructsFindFits}
+use Rattle.capnp_builders.specs.Places.{struct_place}
 use Rattle.capnp_edits.specs.declared.edit.Edit.{Edit}
 use Rattle.capnp_edits.specs.declared.edit.Source.{Source}
 use Rattle.capnp_edits.specs.declared.edit.copying.Copying.{Copying}
-use Rattle.capnp_edits.specs.declared.edit.copying.Wanted.{Wanted}
-use Rattle.capnp_edits.specs.declared.edit.copying.Wanted.TheVariants.{Value, Struct as AStruct, List as AList}
+use Rattle.capnp_edits.specs.declared.edit.copying.Wanted.TheVariants.{Struct as AStruct}
 use Rattle.capnp_edits.specs.declared.edit.tasks.Task.{Task}
 use Rattle.capnp_edits.specs.declared.edit.tasks.Task.TheVariants.{Make, InStruct, Search, CopyRoot}
 use Rattle.capnp_edits.specs.declared.edit.tasks.StructChange.{StructChange}
@@ -42,11 +42,11 @@ use Rattle.capnp_edits.specs.declared.edit.tasks.StructChange.TheVariants.{Bits,
 use Rattle.capnp_edits.specs.declared.edit.tasks.Sought.{Sought}
 use Rattle.capnp_edits.specs.declared.edit.tasks.Sought.TheVariants.{Struct as ForStruct, List as ForList, StructList as ForStructs, Text as ForText, Data as ForData}
 use Rattle.capnp_edits.specs.Tasks.{task_of}
-use Rattle.capnp_edits.specs.declared.edit.path.Place.{Place}
-use Rattle.capnp_edits.specs.declared.edit.path.Place.TheVariants.{Pointer as AtPointer, Element as AtElement}
+use Rattle.capnp_edits.specs.declared.edit.path.PathEnd.{PathEnd}
+use Rattle.capnp_edits.specs.declared.edit.path.PathEnd.TheVariants.{Pointer as AtPointer, Element as AtElement}
 use Rattle.capnp_edits.specs.Paths.{PointerTo, path_of, IsPathFound}
-use Rattle.capnp_edits.specs.Sources.{ListElements, copying_from, root_of, once_at_root, Sections, LeadsToStruct, LeadsToList, ContentRead, ContentFitsBehind, HasNothingToCopy, FitsBehind, copy_at, RefusesAs}
-use Rattle.capnp_edits.specs.Edits.{refusal_of, is_of_place, words_made, refusals_after, sections, Changes, DoesAt, made_at, IsApplied}
+use Rattle.capnp_edits.specs.Sources.{copying_from, root_of, once_at_root, Sections, LeadsToStruct, ContentRead, ContentFitsBehind, HasNothingToCopy, FitsBehind, copy_at, OfWanted}
+use Rattle.capnp_edits.specs.Edits.{refusal_of, is_of_path, words_made, refusals_after, Changes, DoesAt, made_at, IsApplied, Takes}
 
 -- A call at the place of a pointer.
 abbrev pub call_to : PointerPlace → View → View → CallAt
@@ -60,9 +60,9 @@ KeepsLengths S R = (v : ℕ) → length (segment R v) ≡ length (segment S v)
 abbrev pub IsStructAt : Segments → PointerPlace → ExistingStruct → Type 0
 IsStructAt S place e = (t : Tree) → IsStored S place.segment place.word t → Some e ≡ struct_in (target S place.segment place.word) t
 
--- There is nothing to be copied, by an outcome that says so, and all is as it was.
-abbrev pub CopiesNothing : Copying → View → View → Option ErrorKind → Type 0
-CopiesNothing c old new r = (k : ErrorKind) × (r ≡ Some k) × HasNothingToCopy c k × (new ≡ old)
+-- There is nothing to be copied, by the name k, and all is as it was.
+abbrev pub CopiesNothing : Copying → View → View → ErrorKind → Type 0
+CopiesNothing c old new k = HasNothingToCopy c k × (new ≡ old)
 
 -- Room.
 
@@ -74,7 +74,7 @@ ChangeFits old e (Content source) = ContentFitsBehind old e.segment source e.siz
 -- What a task makes has room where it is done, as the builder's call asks for it: at a pointer the words of one object; what is kept of a copy; a change of
 -- the struct there; the value of a default, and what becomes of a struct or a list of structs that is opened; at an element of a list, which is a struct, a
 -- change of that. A task that takes no words asks for none.
-abbrev pub FitsAt : View → Task → Place → Type 0
+abbrev pub FitsAt : View → Task → PathEnd → Type 0
 FitsAt old (Make object) (AtPointer place) = HasRoom old place.segment (words_made object)
 FitsAt old (InStruct change) (AtPointer place) = (e : ExistingStruct) → IsStructAt old.words place e → ChangeFits old e change
 FitsAt old (InStruct change) (AtElement e) = ChangeFits old e change
@@ -89,7 +89,7 @@ FitsAt old task there = ⊤
 -- The copy of a whole value is refused by a name: its source isn't read, and all is as it was; or as the copy of what was read is, an object finding no
 -- room or reading being refused.
 abbrev pub IsWholeRefused : CallAt → Copying → ErrorKind → Type 0
-IsWholeRefused call c k = (HasNothingToCopy c k × (call.new ≡ call.old)) ⊎ ((m : Meter) × RefusesAs c.wanted (root_of c.source) (copy_at call c m) k)
+IsWholeRefused call c k = CopiesNothing c call.old call.new k ⊎ ((m : Meter) × OfWanted c.wanted (root_of c.source) (copy_at call c m) (λ o d. RefusesToCopy o d k))
 
 -- A struct takes the data of a source's struct, and then the copy of one of the pointers that both have is refused by the name k: the arena
 -- has no room for an object of what it means; or it can't be read.
@@ -103,13 +103,13 @@ pub record StopsFilling (old new : View) (place : StructPlace) (source : Source)
   pub why :
       LacksRoom (change plain place.segment place.pointers_at taken new content.from.limiter after) k
       (λ n. StopsWithin plain (WantsWords plain n) (behind content.from.first (count content.children)) content.after after)
-      (AreTooLarge plain content.from.first (min place.pointers content.from.pointers))
+      (IsTooLarge plain (children_original content.from.first (min place.pointers content.from.pointers)))
       ⊎ Refused plain (behind content.from.first (count content.children)) content.after after k
 
 -- Content isn't copied over a struct, or not all of it.
 abbrev pub IsContentRefused : View → View → StructPlace → Source → ErrorKind → Type 0
 IsContentRefused old new place source k =
-    (HasNothingToCopy (copying_from source AStruct false) k × (new ≡ old)) ⊎ StopsFilling old new place source k
+    CopiesNothing (copying_from source AStruct false) old new k ⊎ StopsFilling old new place source k
 
 -- What is looked for isn't opened: all is as it was; or memory is refused, and truly.
 abbrev pub IsOpeningRefused : View → View → ErrorKind → Type 0
@@ -125,10 +125,10 @@ IsSearchRefused call (Some default) k =
 -- A change of a struct is refused by the name k, but for a place.
 abbrev pub IsChangeRefused : View → View → ExistingStruct → StructChange → ErrorKind → Type 0
 IsChangeRefused old new e (Bits n) k = ⊥
-IsChangeRefused old new e (Content source) k = IsContentRefused old new (sections e) source k
+IsChangeRefused old new e (Content source) k = IsContentRefused old new (struct_place e) source k
 
 -- The builder's call is refused by a name where a task is done. One that makes an object is so for want of memory or room for its words, and truly.
-abbrev pub IsRefusedAt : View → View → Task → ErrorKind → Place → Type 0
+abbrev pub IsRefusedAt : View → View → Task → ErrorKind → PathEnd → Type 0
 IsRefusedAt old new (Make object) k (AtPointer place) = IsRefusedFor old new (words_made object) k
 IsRefusedAt old new (InStruct change) k (AtPointer place) =
     (e : ExistingStruct) × IsStructAt old.words place e × IsChangeRefused old new e change k
@@ -137,9 +137,9 @@ IsRefusedAt old new (Search sought default) k (AtPointer place) = IsSearchRefuse
 IsRefusedAt old new (CopyRoot c) k (AtPointer place) = IsWholeRefused (call_to place old new) c k
 IsRefusedAt old new task k there = ⊥
 
--- A refusal by a name is for what the place holds, and all is as it was.
-abbrev pub IsOfPlace : View → View → ErrorKind → Type 0
-IsOfPlace old new k = (is_of_place k ≡ true) × (new ≡ old)
+-- A refusal by a name is for what the path leads to, and all is as it was.
+abbrev pub IsOfPath : View → View → ErrorKind → Type 0
+IsOfPath old new k = (is_of_path k ≡ true) × (new ≡ old)
 
 -- Words that are taken.
 
@@ -150,26 +150,17 @@ result_of (Some k) = Err k
 
 -- A copy of what the root leads to takes at most as many words as reading it costs, its own that cost nothing, and the landing pads: in all, or
 -- as far as it was read.
-abbrev pub TakesForWanted : Wanted → Option ErrorKind → Source → Change → Type 0
-TakesForWanted Value r source c = TakesAtMost (result_of r) (value_original (root_of source)) c
-TakesForWanted AStruct r source c =
-    (s : Sections) × LeadsToStruct (root_of source) c.before s
-    × TakesAtMost (result_of r) (sections_original s.words s.first s.pointers) (record c { before = s.limiter })
-TakesForWanted AList r source c =
-    (l : ListElements) × (m : Meter) × LeadsToList (root_of source) c.before m l
-    × TakesAtMost (result_of r) (list_original l.size l.sections l.count l.first) (record c { before = m })
-
 abbrev pub TakesForWhole : CallAt → Copying → Option ErrorKind → Type 0
 TakesForWhole call c r =
-    CopiesNothing c call.old call.new r ⊎ ((m : Meter) × TakesForWanted c.wanted r c.source (copy_at call c m))
+    IsSomeAnd r (CopiesNothing c call.old call.new) ⊎ ((m : Meter) × OfWanted c.wanted (root_of c.source) (copy_at call c m) (TakesAtMost (result_of r)))
 
 -- Over a struct, words are taken for the copies of the pointers that both have alone.
 abbrev pub TakesForContentFrom : View → View → StructPlace → Source → Option ErrorKind → Type 0
 TakesForContentFrom old new place source r =
-    CopiesNothing (copying_from source AStruct false) old new r
+    IsSomeAnd r (CopiesNothing (copying_from source AStruct false) old new)
     ⊎ (
     (s : Sections) × (m : Meter) × LeadsToStruct (root_of source) (once_at_root source) s
-    × TakesForPointers (result_of r) s.first (min place.pointers s.pointers) (change plain place.segment place.pointers_at old new s.limiter m)
+    × TakesAtMost (result_of r) (children_original s.first (min place.pointers s.pointers)) (change plain place.segment place.pointers_at old new s.limiter m)
     )
 
 -- A search of a value that stands does as the builder's call says, which finds something, or is refused by the same name.
@@ -188,10 +179,10 @@ FindsSought ForData default r call t =
 -- The words that a change of a struct takes.
 abbrev pub TakesForChange : View → View → ExistingStruct → StructChange → Option ErrorKind → Type 0
 TakesForChange old new e (Bits n) r = KeepsLengths old.words new.words
-TakesForChange old new e (Content source) r = TakesForContentFrom old new (sections e) source r
+TakesForChange old new e (Content source) r = TakesForContentFrom old new (struct_place e) source r
 
 -- A task takes words as the builder's call says where it is done. An object that is refused takes none.
-abbrev pub TakesAt : View → View → Task → Option ErrorKind → Place → Type 0
+abbrev pub TakesAt : View → View → Task → Option ErrorKind → PathEnd → Type 0
 TakesAt old new (Make object) None (AtPointer place) = TakesWords old new place.segment (words_made object)
 TakesAt old new (Make object) (Some k) (AtPointer place) = IsPruned old.words new.words
 TakesAt old new (InStruct change) r (AtPointer place) =
@@ -209,8 +200,8 @@ TakesAt old new task r there = KeepsLengths old.words new.words
 pub record IsDoneAt (old new : View) (place : PointerPlace) (task : Task) (r : Option ErrorKind) : Type 0 where
   pub done : (t : Tree) → IsStored old.words place.segment place.word t → DoesAt old.words new.words place (made_at task (PointerTo t)) t r
   pub counted : new.refusals ≡ refusals_after r old.refusals
-  pub named : (k : ErrorKind) → r ≡ Some k → IsOfPlace old new k ⊎ IsRefusedAt old new task k (AtPointer place)
-  pub fits : FitsAt old task (AtPointer place) → (k : ErrorKind) → r ≡ Some k → is_of_place k ≡ true
+  pub named : (k : ErrorKind) → r ≡ Some k → IsOfPath old new k ⊎ IsRefusedAt old new task k (AtPointer place)
+  pub fits : FitsAt old task (AtPointer place) → (k : ErrorKind) → r ≡ Some k → is_of_path k ≡ true
   pub nowhere : r ≡ Some NoSuchPlace → new ≡ old
   pub taken : (r ≡ Some NoSuchPlace → ⊥) → TakesAt old new task r (AtPointer place)
 
@@ -218,8 +209,8 @@ pub record IsDoneAt (old new : View) (place : PointerPlace) (task : Task) (r : O
 pub record IsChanged (old new : View) (e : ExistingStruct) (change : StructChange) (r : Option ErrorKind) : Type 0 where
   pub done : Changes old.words new.words e change r
   pub counted : new.refusals ≡ refusals_after r old.refusals
-  pub named : (k : ErrorKind) → r ≡ Some k → IsOfPlace old new k ⊎ IsChangeRefused old new e change k
-  pub fits : ChangeFits old e change → (k : ErrorKind) → r ≡ Some k → is_of_place k ≡ true
+  pub named : (k : ErrorKind) → r ≡ Some k → IsOfPath old new k ⊎ IsChangeRefused old new e change k
+  pub fits : ChangeFits old e change → (k : ErrorKind) → r ≡ Some k → is_of_path k ≡ true
   pub nowhere : r ≡ Some NoSuchPlace → new ≡ old
   pub taken : TakesForChange old new e change r
 
@@ -230,17 +221,17 @@ pub record IsChanged (old new : View) (e : ExistingStruct) (change : StructChang
 -- where the message has no root word, and nothing is changed then. There it is refused only as the builder's call is, and never where that has room, and
 -- takes words as that does.
 pub record IsStep (old new : View) (edit : Edit) (r : Option ErrorKind) : Type 0 where
-  pub applied : IsApplied old.words new.words edit r
+  pub applied : IsApplied (Takes edit r) old.words new.words
   pub counted : new.refusals ≡ refusals_after r old.refusals
-  pub place : Option Place
-  pub leads : (t : Tree) → IsStored old.words 0 0 t → IsPathFound old.words 0 0 t (path_of edit.path.now) place
-  pub missing : place ≡ None → r ≡ Some NoSuchPlace
+  pub path_end : Option PathEnd
+  pub leads : (t : Tree) → IsStored old.words 0 0 t → IsPathFound old.words 0 0 t (path_of edit.path.now) path_end
+  pub missing : path_end ≡ None → r ≡ Some NoSuchPlace
   pub out_of_range : task_of edit.op ≡ None → r ≡ Some NoSuchPlace
   pub rootless : length (segment old.words 0) ≡ 0 → r ≡ Some NoSuchPlace
   pub nowhere : r ≡ Some NoSuchPlace → new ≡ old
-  pub named : (k : ErrorKind) → r ≡ Some k → IsOfPlace old new k ⊎ IsSomeAnd place (λ there. IsSomeAnd (task_of edit.op) (λ task. IsRefusedAt old new task k there))
-  pub fits : IfSome place (λ there. IfSome (task_of edit.op) (λ task. FitsAt old task there)) → (k : ErrorKind) → r ≡ Some k → is_of_place k ≡ true
-  pub taken : (r ≡ Some NoSuchPlace → ⊥) → IfSome place (λ there. IfSome (task_of edit.op) (λ task. TakesAt old new task r there))
+  pub named : (k : ErrorKind) → r ≡ Some k → IsOfPath old new k ⊎ IsSomeAnd path_end (λ there. IsSomeAnd (task_of edit.op) (λ task. IsRefusedAt old new task k there))
+  pub fits : IfSome path_end (λ there. IfSome (task_of edit.op) (λ task. FitsAt old task there)) → (k : ErrorKind) → r ≡ Some k → is_of_path k ≡ true
+  pub taken : (r ≡ Some NoSuchPlace → ⊥) → IfSome path_end (λ there. IfSome (task_of edit.op) (λ task. TakesAt old new task r there))
 
 -- From old to new edits are such steps in order, each with its outcome.
 abbrev pub AreSteps : View → View → List Edit → List (Option ErrorKind) → Type 0
@@ -252,4 +243,4 @@ AreSteps old new es rs = ⊥
 abbrev pub StepIsThere : Type 0
 StepIsThere =
     (old new : View) (edit : Edit) (r : Option ErrorKind) (t x : Tree) (u q : ℕ) (s : IsStep old new edit r) → IsForest old.words t
-    → PathLeads old.words 0 0 t (path_of edit.path.now) u q x → s.place ≡ Some (AtPointer (record { segment = u; word = q }))
+    → PathLeads old.words 0 0 t (path_of edit.path.now) u q x → s.path_end ≡ Some (AtPointer (record { segment = u; word = q }))

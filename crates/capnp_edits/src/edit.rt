@@ -1,7 +1,7 @@
 //! Edits: changes of a message that is built, as data. Each has a path from the root pointer, and an
 //! operation that is done where the path leads.
 ghost use Rattle.std.specs.Prelude.{◌≡◌, length};
-ghost use Rattle.capnp_edits.specs.Edits.{refusal_of, AreApplied};
+ghost use Rattle.capnp_edits.specs.Edits.{refusal_of, IsApplied, TakesAll};
 ghost use Rattle.capnp_edits.specs.Steps.{IsStep, AreSteps};
 
 mod copying;
@@ -14,7 +14,7 @@ mod pointer;
 mod tasks;
 
 use self::filling::change_struct;
-use self::path::{Place, find, has_words};
+use self::path::{PathEnd, find, has_words};
 use self::pointer::edit_pointer;
 use self::tasks::{Task, task_of};
 use capnp_arena::arena::{BuilderArena, ReaderArenaImpl, SegmentArray};
@@ -129,15 +129,15 @@ pub fn apply<A: BuilderArena>(arena: &mut A, edit: &Edit<'_>) -> Result<(), Erro
     if !has_words(&*arena, 0, 1) {
         return Err(ErrorKind::NoSuchPlace);
     }
-    let Some(place) = find(&*arena, edit.path) else {
+    let Some(end) = find(&*arena, edit.path) else {
         return Err(ErrorKind::NoSuchPlace);
     };
     let Some(task) = task_of(edit.op) else {
         return Err(ErrorKind::NoSuchPlace);
     };
-    match place {
-        Place::Pointer(place) => edit_pointer(arena, place, task),
-        Place::Element(parent) => match task {
+    match end {
+        PathEnd::Pointer(place) => edit_pointer(arena, place, task),
+        PathEnd::Element(parent) => match task {
             Task::InStruct(change) => change_struct(arena, parent, change),
             _ => Err(ErrorKind::NoSuchPlace),
         },
@@ -153,8 +153,8 @@ pub fn apply_all<A: BuilderArena>(
 )
     requires { length outcomes.old ≡ length edits.now }
     ensures steps { AreSteps (A.view arena.old) (A.view arena.new) edits.now outcomes.new }
-    ensures applied { AreApplied (A.view arena.old).words
-        (A.view arena.new).words edits.now outcomes.new }
+    ensures applied { IsApplied (TakesAll edits.now outcomes.new) (A.view arena.old).words
+        (A.view arena.new).words }
 {
     for (i, edit) in edits.iter().enumerate() {
         outcomes[i] = match apply(arena, edit) {

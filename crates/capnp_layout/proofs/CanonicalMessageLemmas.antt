@@ -13,7 +13,7 @@ use Rattle.capnp_arena.specs.Checks.{total_words}
 use Rattle.capnp_arena.proofs.MessageLemmas.{length-message}
 use Rattle.capnp_objects.specs.Reading.{Reading}
 use Rattle.capnp_objects.specs.Spending.{Paid}
-use Rattle.capnp_readers.specs.Checking.{IsCanonicalAt, IsFound, TestFails, TestStops, progress}
+use Rattle.capnp_readers.specs.Checking.{IsCanonicalAt, IsFound, TestEnds, IsUnfit, TestStops, progress}
 use Rattle.capnp_readers.proofs.NeverStops.{stops_never}
 use Rattle.capnp_layout.specs.Answers.{CoversRoot, message_root}
 use Rattle.capnp_framing.specs.Frames.{frame}
@@ -111,7 +111,7 @@ found_answers {S} {n} {h} {m} {m'} ends one covers (t, finds) same =
     }
 
 -- where it finds none, the message isn't canonical
-pub none_answers : {S : Segments} {n : ℕ} {m m' : Meter} → CoversRoot S m.left → IsTrue false ↔ IsCanonicalAt (message_root S n) 1 → TestFails (message_root S n) (progress 1 (spent m 1)) m' → IsAnswered S n m m' false
+pub none_answers : {S : Segments} {n : ℕ} {m m' : Meter} → CoversRoot S m.left → IsTrue false ↔ IsCanonicalAt (message_root S n) 1 → TestEnds IsUnfit (message_root S n) (progress 1 (spent m 1)) m' → IsAnswered S n m m' false
 none_answers covers same fails = record {
   exactly = (λ wrong. absurd (let never : false ≡ true = wrong in cc), λ (t, canonical). same.1 (t, canonical_stands canonical));
   paid = λ wrong. absurd (cc);
@@ -147,10 +147,10 @@ moved {S} {n} {m = m} P root held = subst (P (message_root S n)) root.left (subs
 pub read_answers : {S : Segments} {n : ℕ} {old : Meter} {r : Reading} {m m' : Meter} (h : ℕ) (ends : Bool) → IsRootRead S n old r m → length S ≡ 1 → IsFound r (progress 1 m) (progress h m') → IsTrue ends ↔ (h ≡ length (segment S 0)) → IsAnswered S n old m' ends
 read_answers {m' = m'} h ends root one found same = found_answers ends one root.covers (moved (λ r m. IsFound r (progress 1 m) (progress h m')) root found) same
 
-pub read_fails : {S : Segments} {n : ℕ} {old : Meter} {r : Reading} {m m' : Meter} (b : Bool) → b ≡ false → IsRootRead S n old r m → IsTrue b ↔ IsCanonicalAt r 1 → TestFails r (progress 1 m) m' → IsAnswered S n old m' false
+pub read_fails : {S : Segments} {n : ℕ} {old : Meter} {r : Reading} {m m' : Meter} (b : Bool) → b ≡ false → IsRootRead S n old r m → IsTrue b ↔ IsCanonicalAt r 1 → TestEnds IsUnfit r (progress 1 m) m' → IsAnswered S n old m' false
 read_fails {r = r} {m' = m'} b is_no root same fails =
     let none = subst (λ v. IsTrue v ↔ IsCanonicalAt r 1) is_no same in
-    none_answers root.covers (moved (λ r m. IsTrue false ↔ IsCanonicalAt r 1) root none) (moved (λ r m. TestFails r (progress 1 m) m') root fails)
+    none_answers root.covers (moved (λ r m. IsTrue false ↔ IsCanonicalAt r 1) root none) (moved (λ r m. TestEnds IsUnfit r (progress 1 m) m') root fails)
 
 -- the test of a canonical message isn't refused within its limits
 pub never_refused : {S : Segments} {n : ℕ} {old : Meter} {r : Reading} {m m' : Meter} {k : ErrorKind} → IsRootRead S n old r m → TestStops k r (progress 1 m) m' → CanBeTested S n old → ⊥

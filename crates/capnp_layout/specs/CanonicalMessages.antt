@@ -9,7 +9,7 @@ use Rattle.capnp_format.specs.Means.{Means}
 use Rattle.capnp_format.specs.Canonical.{IsEncodable, IsFree, IsTrimmed, charge, encoding, word_count}
 use Rattle.capnp_framing.specs.Frames.{CanBeFramed, frame}
 use Rattle.capnp_objects.specs.Spending.{Paid, pointers_in}
-use Rattle.capnp_readers.specs.Checking.{Finds, TestFails, TestStops, progress}
+use Rattle.capnp_readers.specs.Checking.{Finds, TestEnds, IsUnfit, TestStops, progress}
 use Rattle.capnp_layout.specs.Answers.{CoversRoot, RefusesRoot, message_root}
 
 -- A message is the canonical one of t: one segment, which holds t's canonical words and nothing else.
@@ -43,7 +43,7 @@ RefusesTest S n m m' k =
 abbrev pub MessageTestFails : Segments → ℕ → Meter → Meter → Type 0
 MessageTestFails S n m m' =
     CoversRoot S m.left
-    × (TestFails (message_root S n) (progress 1 (spent m 1)) m'
+    × (TestEnds IsUnfit (message_root S n) (progress 1 (spent m 1)) m'
     ⊎ ((t : Tree) × (h : ℕ) × Finds (message_root S n) (progress 1 (spent m 1)) (progress h m') t × (1 + word_count t < length (segment S 0))))
 
 -- A message is the canonical one of one value at most.

@@ -16,7 +16,7 @@ use Rattle.capnp_objects.specs.declared.object.Place.{Place}
 use Rattle.capnp_objects.specs.declared.source.Found.{Found}
 use Rattle.capnp_objects.specs.Demands.{tag}
 use Rattle.capnp_objects.specs.Entering.{IsUnsuited, another, not_entered, misfits as unsuited_misfits, object_misfit, place_byte}
-use Rattle.capnp_objects.specs.Expected.{too_deep, another_kind, misfit, narrow_elements, narrow_structs, IsSuited, CanBeGiven, Withheld, no_level, unfollowed, of_another_kind, stopped, misfits, IsGiven}
+use Rattle.capnp_objects.specs.Expected.{Expectation, struct_expected, list_expected, text_expected, data_expected, expectation, narrow_elements, narrow_structs, CanBeGiven, null_pointer, fitting, Withheld, no_level, unfollowed, of_another_kind, stopped, misfits, IsGiven}
 use Rattle.capnp_objects.specs.Faults.{LeadsTo}
 use Rattle.capnp_objects.specs.Landings.{found_target, following, IsFollowed, Arrival, IsEntered, IsOpened}
 use Rattle.capnp_objects.specs.Objects.{IsObject}
@@ -27,7 +27,7 @@ use Rattle.capnp_objects.specs.Spending.{Paid}
 use Rattle.capnp_objects.specs.Wanted.{follow_at}
 use Rattle.capnp_objects.specs.declared.object.Purpose.TheVariants.{Value}
 use Rattle.capnp_objects.proofs.Faultless.{same_target}
-use Rattle.capnp_objects.proofs.Followed.{entered_leads, suited_leads}
+use Rattle.capnp_objects.proofs.Followed.{entered_leads}
 use Rattle.capnp_objects.proofs.Landings.{IsCounted, reached, entered, object_refused, arrived}
 use Rattle.capnp_objects.proofs.Refusals.{not_stopped}
 
@@ -45,19 +45,19 @@ both_kinds k j true true e = (refl, refl)
 both_kinds k j true false e = absurd (cc e)
 both_kinds k j false c e = absurd (cc e)
 
-kind_of_struct : (w : ℕ) → another_kind Struct w ≡ None → kind w ≡ 0
+kind_of_struct : (w : ℕ) → struct_expected.another_kind w ≡ None → kind w ≡ 0
 kind_of_struct w e = eqb-true (kind w) 0 (not_another _ (nat_eq (kind w) 0) e)
 
-kind_of_list : (size : ElementSize) (w : ℕ) → another_kind (List size) w ≡ None → kind w ≡ 1
+kind_of_list : (size : ElementSize) (w : ℕ) → (list_expected size).another_kind w ≡ None → kind w ≡ 1
 kind_of_list size w e = eqb-true (kind w) 1 (not_another _ (nat_eq (kind w) 1) e)
 
-kind_of_text : (w : ℕ) → another_kind Text w ≡ None → (kind w ≡ 1) × (element_size w ≡ 2)
+kind_of_text : (w : ℕ) → text_expected.another_kind w ≡ None → (kind w ≡ 1) × (element_size w ≡ 2)
 kind_of_text w e = let both = both_kinds _ _ (nat_eq (kind w) 1) (nat_eq (element_size w) 2) e in (eqb-true (kind w) 1 both.0, eqb-true (element_size w) 2 both.1)
 
-kind_of_data : (w : ℕ) → another_kind Data w ≡ None → (kind w ≡ 1) × (element_size w ≡ 2)
+kind_of_data : (w : ℕ) → data_expected.another_kind w ≡ None → (kind w ≡ 1) × (element_size w ≡ 2)
 kind_of_data w e = let both = both_kinds _ _ (nat_eq (kind w) 1) (nat_eq (element_size w) 2) e in (eqb-true (kind w) 1 both.0, eqb-true (element_size w) 2 both.1)
 
-kind_below_two : (expected : Expected) (w : ℕ) → another_kind expected w ≡ None → kind w < 2
+kind_below_two : (expected : Expected) (w : ℕ) → (expectation expected).another_kind w ≡ None → kind w < 2
 kind_below_two Struct w e = let k = kind_of_struct w e in omega arith
 kind_below_two (List size) w e = let k = kind_of_list size w e in omega arith
 kind_below_two Text w e = let k = (kind_of_text w e).0 in omega arith
@@ -75,10 +75,10 @@ is_byte InlineComposite e = absurd (omega arith)
 
 -- An object of the kind is entered, from m to m'.
 pub record IsEnteredAs (expected : Expected) (o : Arrival) (m m' : Meter) (x : Object) : Type 0 where
-  pub of_kind : another_kind expected o.target.word ≡ None
+  pub of_kind : (expectation expected).another_kind o.target.word ≡ None
   pub opened : IsOpened Value o m m' x
 
-pub is_entered : {expected : Expected} {o : Arrival} {m m' : Meter} {x : Object} → IsOpened Value o m m' x → another_kind expected o.target.word ≡ None → IsEnteredAs expected o m m' x
+pub is_entered : {expected : Expected} {o : Arrival} {m m' : Meter} {x : Object} → IsOpened Value o m m' x → (expectation expected).another_kind o.target.word ≡ None → IsEnteredAs expected o m m' x
 is_entered h e = record { of_kind = e; opened = h }
 
 pub entered_object : {expected : Expected} {o : Arrival} {m m' : Meter} (x : Object) → IsEnteredAs expected o m m' x → IsEntered Value o m m'
@@ -103,7 +103,7 @@ narrow_list size sections (suc (suc (suc (suc (suc zero))))) h = refl
 narrow_list size sections (suc (suc (suc (suc (suc (suc zero)))))) h = refl
 narrow_list size sections (suc (suc (suc (suc (suc (suc (suc i))))))) h = absurd (omega arith)
 
-misfit_of_list : {size : ElementSize} {o : Arrival} {m m' : Meter} (x : Object) → kind o.target.word ≡ 1 → IsEnteredAs (List size) o m m' x → object_misfit (List size) x ≡ misfit (List size) o.segments o.target
+misfit_of_list : {size : ElementSize} {o : Arrival} {m m' : Meter} (x : Object) → kind o.target.word ≡ 1 → IsEnteredAs (List size) o m m' x → object_misfit (List size) x ≡ (list_expected size).misfit o.segments o.target
 misfit_of_list ObjectNull k h = absurd h.opened
 misfit_of_list {o = o} (ObjectCapability i) k h = absurd (let low = h.opened.0 in omega (arith, low, k))
 misfit_of_list (ObjectStruct start size) k h = absurd (let z = h.opened.1 in omega (arith, z, k))
@@ -116,7 +116,7 @@ misfit_of_list {size} {o = o} (ObjectStructs start sections count) k h =
     let seven = h.opened.2 in
     rw (seven, same_sections o.segments o.target sections h.opened.5 h.opened.6) refl
 
-misfit_of_text : {o : Arrival} {m m' : Meter} (x : Object) → (kind o.target.word ≡ 1) × (element_size o.target.word ≡ 2) → IsEnteredAs Text o m m' x → object_misfit Text x ≡ misfit Text o.segments o.target
+misfit_of_text : {o : Arrival} {m m' : Meter} (x : Object) → (kind o.target.word ≡ 1) × (element_size o.target.word ≡ 2) → IsEnteredAs Text o m m' x → object_misfit Text x ≡ text_expected.misfit o.segments o.target
 misfit_of_text ObjectNull k h = absurd h.opened
 misfit_of_text {o = o} (ObjectCapability i) k h = absurd (let low = h.opened.0 in omega (arith, low, k.0))
 misfit_of_text (ObjectStruct start size) k h = absurd (let z = h.opened.1 in omega (arith, z, k.0))
@@ -130,14 +130,14 @@ misfit_of_text {o = o} (ObjectFlat start size count) k h =
 misfit_of_text (ObjectPointers start count) k h = absurd (let six = h.opened.2 in omega (arith, six, k.1))
 misfit_of_text (ObjectStructs start sections count) k h = absurd (let seven = h.opened.2 in omega (arith, seven, k.1))
 
-pub misfit_of : {expected : Expected} {o : Arrival} {m m' : Meter} (x : Object) → IsEnteredAs expected o m m' x → object_misfit expected x ≡ misfit expected o.segments o.target
+pub misfit_of : {expected : Expected} {o : Arrival} {m m' : Meter} (x : Object) → IsEnteredAs expected o m m' x → object_misfit expected x ≡ (expectation expected).misfit o.segments o.target
 misfit_of {expected = Struct} x h = refl
 misfit_of {expected = List size} {o = o} x h = misfit_of_list x (kind_of_list size o.target.word h.of_kind) h
 misfit_of {expected = Text} {o = o} x h = misfit_of_text x (kind_of_text o.target.word h.of_kind) h
 misfit_of {expected = Data} x h = refl
 
 -- the object is as expected
-some_level : (expected : Expected) (k : ErrorKind) (n : ℕ) → too_deep expected zero ≡ Some k → too_deep expected n ≡ None → 0 < n
+some_level : (expected : Expected) (k : ErrorKind) (n : ℕ) → (expectation expected).too_deep zero ≡ Some k → (expectation expected).too_deep n ≡ None → 0 < n
 some_level expected k zero e none = absurd (cc (e, none))
 some_level expected k (suc n) e none = omega arith
 
@@ -184,7 +184,7 @@ given_data : (n : ℕ) (x : Object) → IsBytes x → IsGiven Data n x
 given_data n x (inl e) = rw e tt
 given_data n x (inr (start, count, e)) = rw e refl
 
-pub given : {expected : Expected} {o : Arrival} {m m' : Meter} (x : Object) (n : ℕ) → too_deep expected n ≡ None → object_misfit expected x ≡ None → IsEnteredAs expected o m m' x → IsGiven expected n x
+pub given : {expected : Expected} {o : Arrival} {m m' : Meter} (x : Object) (n : ℕ) → (expectation expected).too_deep n ≡ None → object_misfit expected x ≡ None → IsEnteredAs expected o m m' x → IsGiven expected n x
 given {expected = Struct} {o = o} x n level fits h = given_struct x (some_level Struct _ n refl level) h
 given {expected = List size} {o = o} x n level fits h = given_list x (some_level (List size) _ n refl level) fits h
 given {expected = Text} {o = o} x n level fits h = given_text n x (given_bytes x (kind_of_text o.target.word h.of_kind) h) fits
@@ -198,34 +198,33 @@ level_unfollowed : {r : Reading} {m m' : Meter} {k : ErrorKind} → Unfollowed r
 level_unfollowed (exceeding some short paid named) = exceeding some short paid named
 level_unfollowed (leading_nowhere some h paid) = leading_nowhere some h paid
 
-pub withheld : (expected : Expected) {r : Reading} {m m₁ m₂ m₃ : Meter} {l : Found} {k : ErrorKind} → IsCounted r m m₁ → IsFollowed (following r) m₁ m₂ l → too_deep expected r.levels ≡ None →
+pub withheld : (expected : Expectation) {r : Reading} {m m₁ m₂ m₃ : Meter} {l : Found} {k : ErrorKind} → IsCounted r m m₁ → IsFollowed (following r) m₁ m₂ l → expected.too_deep r.levels ≡ None →
     IsUnsuited expected (arrived (one_level r) (found_target l)) m₂ m₃ k → Withheld expected r m m₃ k
 withheld expected {r} {m} {m₁} {m₂} {m₃} {l} {k} o f level (another e same) =
     let there = reached o f in of_another_kind (found_target l) level there.follows e (subst (λ y. Paid r.charging m y l.pads 1) (sym same) there.paid)
 withheld expected {r} {m} {m₁} {m₂} {m₃} {l} {k} o f level (not_entered e h) =
-    let of_kind : (b : Target) → follow_at r ≡ Ok b → another_kind expected b.word ≡ None = λ b same. (let g = f.leads_to in let b_is : b ≡ found_target l = cc (g, same) in rw b_is e) in
+    let of_kind : (b : Target) → follow_at r ≡ Ok b → expected.another_kind b.word ≡ None = λ b same. (let g = f.leads_to in let b_is : b ≡ found_target l = cc (g, same) in rw b_is e) in
     stopped level of_kind (object_refused {r = one_level r} (level_counted o) f h)
 withheld expected {r} {m} {m₁} {m₂} {m₃} {l} {k} o f level (unsuited_misfits e h fits) =
     misfits (found_target l) level e (entered (reached {r = one_level r} (level_counted o) f) h) fits
 
 -- the place means what the call expects
-pub suited : (expected : Expected) {r : Reading} {m m₁ m₂ m₃ : Meter} {l : Found} (x : Object) → IsCounted r m m₁ → IsFollowed (following r) m₁ m₂ l → too_deep expected r.levels ≡ None →
-    object_misfit expected x ≡ None → IsEnteredAs expected (arrived (one_level r) (found_target l)) m₂ m₃ x → CanBeGiven expected r m
-unfolding CanBeGiven
+pub suited : (expected : Expected) {r : Reading} {m m₁ m₂ m₃ : Meter} {l : Found} (x : Object) → IsCounted r m m₁ → IsFollowed (following r) m₁ m₂ l → (expectation expected).too_deep r.levels ≡ None →
+    object_misfit expected x ≡ None → IsEnteredAs expected (arrived (one_level r) (found_target l)) m₂ m₃ x → CanBeGiven (expectation expected) r m
 suited expected {r} {m} {m₁} {m₂} {m₃} {l} x o f level fits h =
     let all : Entered Value (one_level r) m m₃ (found_target l) = entered (reached {r = one_level r} (level_counted o) f) (entered_object x h) in
-    inr (found_target l, record { level = level; follows = all.follows; of_kind = h.of_kind; meets = all.meets; fits = sym (misfit_of x h) ∙ fits }, all.covers)
+    fitting (found_target l) level h.of_kind all (sym (misfit_of x h) ∙ fits)
 
-can_be_read : (expected : Expected) (r : Reading) (m : Meter) → CanBeGiven expected r m → CanBeRead Value (one_level r) m
-unfolding CanBeGiven CanBeRead
-can_be_read expected r m (inl null) = inl null
-can_be_read expected r m (inr (a, s, covers)) = inr (inr (a, s.follows, s.meets, covers))
+can_be_read : (expected : Expectation) (r : Reading) (m : Meter) → CanBeGiven expected r m → CanBeRead Value (one_level r) m
+unfolding CanBeRead
+can_be_read expected r m (null_pointer null) = inl null
+can_be_read expected r m (fitting a level of_kind o fits) = inr (inr (a, o.follows, o.meets, o.covers))
 
 null_can_be_read : (r : Reading) (m : Meter) → word_of r ≡ 0 → CanBeRead Value r m
 unfolding CanBeRead
 null_can_be_read r m null = inl null
 
-not_withheld_null : {expected : Expected} {r : Reading} {m m' : Meter} {k : ErrorKind} → word_of r ≡ 0 → Withheld expected r m m' k → ⊥
+not_withheld_null : {expected : Expectation} {r : Reading} {m m' : Meter} {k : ErrorKind} → word_of r ≡ 0 → Withheld expected r m m' k → ⊥
 not_withheld_null null (no_level some e same) = some null
 not_withheld_null null (unfollowed level (exceeding some short paid named)) = some null
 not_withheld_null null (unfollowed level (leading_nowhere some h paid)) = some null
@@ -233,32 +232,44 @@ not_withheld_null null (of_another_kind b level f e paid) = f.0 null
 not_withheld_null {r = r} {m} null (stopped level of_kind h) = not_stopped (null_can_be_read (one_level r) m null) h
 not_withheld_null null (misfits b level e o fits) = o.follows.0 null
 
-not_withheld_there : {expected : Expected} {r : Reading} {m m' : Meter} {k : ErrorKind} (a : Target) → IsSuited expected r a → CanBeRead Value (one_level r) m → Withheld expected r m m' k → ⊥
+-- An object of the kind that is entered is as expected.
+record IsAsExpected (expected : Expectation) (r : Reading) (m m' : Meter) (a : Target) : Type 0 where
+  level : expected.too_deep r.levels ≡ None
+  of_kind : expected.another_kind a.word ≡ None
+  entered : Entered Value (one_level r) m m' a
+  fits : expected.misfit r.segments a ≡ None
+
+not_withheld_there : {expected : Expectation} {r : Reading} {m m' n : Meter} {k : ErrorKind} (a : Target) → IsAsExpected expected r m n a → CanBeRead Value (one_level r) m → Withheld expected r m m' k → ⊥
 not_withheld_there a s can (no_level some e same) = absurd (let f = s.level in cc (e, f))
 not_withheld_there a s can (unfollowed level h) = not_stopped can (no_target (level_unfollowed h))
-not_withheld_there {r = r} a s can (of_another_kind b level f e paid) = absurd (let g = s.follows.1 in let h = f.1 in let i = s.of_kind in let same : a ≡ b = cc (g, h) in let j = rw (← same) at e in cc (i, j))
+not_withheld_there {r = r} a s can (of_another_kind b level f e paid) = absurd (let g = s.entered.follows.1 in let h = f.1 in let i = s.of_kind in let same : a ≡ b = cc (g, h) in let j = rw (← same) at e in cc (i, j))
 not_withheld_there a s can (stopped level of_kind h) = not_stopped can h
 not_withheld_there {r = r} a s can (misfits b level e o fits) =
-    absurd (let same : a ≡ b = same_target r.segments r.segment r.at (suited_leads s).1 (entered_leads o).1 in let f = s.fits in let j = rw (← same) at fits in cc (f, j))
+    absurd (let same : a ≡ b = same_target r.segments r.segment r.at (entered_leads s.entered).1 (entered_leads o).1 in let f = s.fits in let j = rw (← same) at fits in cc (f, j))
 
-pub not_withheld : (expected : Expected) (r : Reading) (m m' : Meter) (k : ErrorKind) → CanBeGiven expected r m → Withheld expected r m m' k → ⊥
-unfolding CanBeGiven
-not_withheld expected r m m' k (inl null) h = not_withheld_null null h
-not_withheld expected r m m' k (inr (a, s, covers)) h = not_withheld_there a s (can_be_read expected r m (inr (a, s, covers))) h
+pub not_withheld : (expected : Expectation) (r : Reading) (m m' : Meter) (k : ErrorKind) → CanBeGiven expected r m → Withheld expected r m m' k → ⊥
+not_withheld expected r m m' k (null_pointer null) h = not_withheld_null null h
+not_withheld expected r m m' k (fitting a level of_kind o fits) h =
+    not_withheld_there a (record { level = level; of_kind = of_kind; entered = o; fits = fits }) (can_be_read expected r m (fitting a level of_kind o fits)) h
 
 -- a call is answered exactly where it can be
-pub given_exactly : (expected : Expected) (r : Reading) (m m' : Meter) (result : Result Object ErrorKind) → IfOk result (λ x. CanBeGiven expected r m) → IfErr result (Withheld expected r m m') → IsOk result ↔ CanBeGiven expected r m
+pub given_exactly : (expected : Expectation) (r : Reading) (m m' : Meter) (result : Result Object ErrorKind) → IfOk result (λ x. CanBeGiven expected r m) → IfErr result (Withheld expected r m m') → IsOk result ↔ CanBeGiven expected r m
 given_exactly expected r m m' (Ok x) good bad = ((λ e. good), (λ can. refl))
 given_exactly expected r m m' (Err k) good bad = ((λ e. absurd (cc e)), (λ can. absurd (not_withheld expected r m m' k can bad)))
 
-pub null_given : (expected : Expected) (r : Reading) (m : Meter) → word_of r ≡ 0 → CanBeGiven expected r m
-unfolding CanBeGiven
-null_given expected r m null = inl null
+pub null_given : (expected : Expectation) (r : Reading) (m : Meter) → word_of r ≡ 0 → CanBeGiven expected r m
+null_given expected r m null = null_pointer null
 
 -- what two clauses say of a result
 pub if_both : {A E : Type 0} (r : Result A E) (P Q R : A → Type 0) → ((x : A) → P x → Q x → R x) → IfOk r P → IfOk r Q → IfOk r R
 if_both (Ok x) P Q R f h k = f x h k
 if_both (Err e) P Q R f h k = tt
+
+-- what was entered is of the kind and fits
+pub fits_kind : (expected : Expected) (w : ℕ) (r : Result Object ErrorKind) → (IsOk r → (expectation expected).another_kind w ≡ None) → IfOk r (λ x. object_misfit expected x ≡ None) →
+    IfOk r (λ x. ((expectation expected).another_kind w ≡ None) × (object_misfit expected x ≡ None))
+fits_kind expected w (Ok x) of_kind fits = (of_kind refl, fits)
+fits_kind expected w (Err k) of_kind fits = tt
 
 -- one's own levels, of which there is one
 own_level : {r : Reading} {m m' : Meter} {a : Target} → 0 < r.levels → Entered Value (one_level r) m m' a → Entered Value r m m' a
@@ -328,7 +339,6 @@ no_data n (ObjectPointers start count) given h other = absurd given
 no_data n (ObjectStructs start size count) given h other = absurd given
 
 -- what was given fits
-pub given_fits : (expected : Expected) (r : Reading) (m : Meter) (a : Target) → CanBeGiven expected r m → LeadsTo r a → misfit expected r.segments a ≡ None
-unfolding CanBeGiven
-given_fits expected r m a (inl null) l = absurd (l.0 null)
-given_fits expected r m a (inr (b, s, covers)) l = (let same : b ≡ a = same_target r.segments r.segment r.at (suited_leads s).1 l.1 in rw (← same) s.fits)
+pub given_fits : (expected : Expectation) (r : Reading) (m : Meter) (a : Target) → CanBeGiven expected r m → LeadsTo r a → expected.misfit r.segments a ≡ None
+given_fits expected r m a (null_pointer null) l = absurd (l.0 null)
+given_fits expected r m a (fitting b level of_kind o fits) l = (let same : b ≡ a = same_target r.segments r.segment r.at (entered_leads o).1 l.1 in rw (← same) fits)

@@ -13,12 +13,10 @@ use Rattle.capnp_format.specs.Means.{Leads}
 use Rattle.capnp_objects.specs.Faults.{LeadsTo}
 use Rattle.capnp_objects.specs.Objects.{near_at}
 use Rattle.capnp_objects.specs.Reading.{Reading, word_of}
-use Rattle.capnp_objects.specs.declared.object.Expected.{Expected}
 use Rattle.capnp_objects.specs.declared.object.Purpose.{Purpose}
 use Rattle.capnp_words.specs.Meter.{Meter}
 use Rattle.capnp_objects.specs.Wanted.{follow_at, FollowsTo}
 use Rattle.capnp_objects.specs.Outcomes.{Entered}
-use Rattle.capnp_objects.specs.Expected.{IsSuited}
 
 -- what is not there is refused by a name
 abbrev pub or_named : {A : Type 0} → ErrorKind → Option A → Result A ErrorKind
@@ -170,9 +168,6 @@ leads_there r a (some, f) other = follows_leads r.segments r.segment r.at a (som
 -- so is that of an object that is entered, or that is as a call expects
 pub entered_leads : {purpose : Purpose} {r : Reading} {m m' : Meter} {a : Target} → Entered purpose r m m' a → LeadsTo r a
 entered_leads {r = r} {a = a} o = leads_there r a o.follows (λ f. let i = o.meets.is_object in omega (arith, f, i))
-
-pub suited_leads : {expected : Expected} {r : Reading} {a : Target} → IsSuited expected r a → LeadsTo r a
-suited_leads {r = r} {a = a} s = leads_there r a s.follows (λ f. let i = s.meets.is_object in omega (arith, f, i))
 
 -- a near pointer leads into its own segment
 pub near_landed : (r : Reading) (a : Target) → kind (word_of r) ≢ 2 → follow_at r ≡ Ok a → a ≡ near_at r a.start

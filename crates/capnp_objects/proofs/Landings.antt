@@ -1,6 +1,6 @@
 -- From the steps of a reading to its outcome: pointers that are followed, objects that are entered, and the refusals of both.
 -- `double_absent`, `double_followed` and `default_refused` take eight or nine arguments: each is a fact that the one answer which cites it has at hand.
-use Rattle.std.proofs.Common.{◌≡◌, ◌≢◌, ◌⊎◌, inl, inr, ℕ, ℤ, zero, suc, ◌+◌, ◌^◌, ◌<◌, ◌≤◌, Bool, true, false, ◌&&◌, cond, nat_eq, nat_lt, is_some, Some, None, Result, Ok, Err, IfOk, IfErr, List, [], length, get_or, refl, sym, ap, ap₂, ◌∙◌, subst, arith, lt-ltb, eq-eqb}
+use Rattle.std.proofs.Common.{◌≡◌, ◌≢◌, ◌⊎◌, inl, inr, ℕ, ℤ, zero, suc, ◌+◌, ◌^◌, ◌<◌, ◌≤◌, Bool, true, false, ◌&&◌, cond, nat_eq, nat_lt, is_some, Some, None, Result, Ok, Err, IfOk, IfErr, List, [], ◌∷◌, length, get_or, refl, sym, ap, ap₂, ◌∙◌, subst, arith, lt-ltb, eq-eqb}
 use Rattle.std.proofs.lemmas.Bool.{ne_eqb, false≢true}
 use Rattle.std.proofs.lemmas.List.{get_or_past}
 use Rattle.std.proofs.lemmas.Bool.Decides.{nat_tests}
@@ -23,17 +23,17 @@ use Rattle.capnp_arena.specs.Checks.{IsUnknown}
 use Rattle.capnp_arena.proofs.MessageLemmas.{length-message}
 use Rattle.capnp_objects.proofs.Decided.{within_or_not}
 use Rattle.capnp_objects.specs.Spending.{after, Paid}
-use Rattle.capnp_objects.specs.Source.{default_segments, source_segments}
+use Rattle.capnp_objects.specs.Source.{default_segments}
 use Rattle.capnp_objects.specs.Follow.{◌>=>◌}
 use Rattle.capnp_format.specs.Means.{Claims}
 use Rattle.capnp_objects.specs.Demands.{claim, tag, amplified, own, IsStructList, IsVoidList, LiesThere, Meets}
 use Rattle.capnp_objects.specs.Wanted.{non_struct_tag, BreaksObject, follow_at, FollowsFor, FollowsTo}
-use Rattle.capnp_objects.specs.Objects.{IsObject, IsHeld}
+use Rattle.capnp_objects.specs.Objects.{IsObject, IsHeld, IsWordRead}
 use Rattle.capnp_objects.specs.Outcomes.{Entered}
 use Rattle.capnp_objects.specs.Refusals.{landing_words, granted_before, Unfollowed, exceeding, leading_nowhere, Stopped, no_target, broken as stopped_broken, claim_exceeds as stopped_claim, count_exceeds as stopped_count}
 use Rattle.capnp_objects.specs.Landings.{found_target, Following, following, following_far, IsPad, IsFollowed, NotFollowed, nowhere, pads_exceed, Arrival, IsClaimed, IsEntered, NotEntered, broken, claim_exceeds, elements_exceed, IsOpened}
 use Rattle.capnp_objects.specs.Wanted.{plain}
-use Rattle.capnp_objects.specs.Reading.{Reading, reading_at, word_of}
+use Rattle.capnp_objects.specs.Reading.{Reading, source_start, reading_at, word_of}
 use Rattle.capnp_objects.specs.declared.object.Purpose.{Purpose}
 use Rattle.capnp_objects.specs.declared.object.Purpose.TheVariants.{Value, Size}
 use Rattle.capnp_objects.proofs.Parts.{claim_list, charge_of_size}
@@ -267,7 +267,15 @@ default_far {m} r bytes segments default is_far small =
     let name : (r.of_default && nat_eq (kind x) 2) ≡ true = ap₂ (λ b c. b && c) default (eq-eqb (kind x) 2 is_far) in
     leads_nowhere (followed_at r ∙ ap₂ far_named name (far ∙ out)) (no_pads S x (pad_out S x (is_double x) (omega (arith, z))))
 
-pub default_refused : {A : Type 0} (g : Ghosts A) {source : Source A} (here : Place) (m : Meter) (nesting : ℤ) → ((d : Bor (List ℕ)) × (source ≡ Default d)) ⊎ (source ≡ Nothing) → 0 < length (source_segments g.segments source) →
+-- a word that isn't null stands in some segment
+some_segments : (S : Segments) (s p : ℕ) → word_at S s p ≢ 0 → 0 < length S
+some_segments [] s p some = absurd (some (ap (λ (ws : List ℕ). get_or ws p 0) (get_or_past [] s [] (omega arith)) ∙ get_or_past [] p 0 (omega arith)))
+some_segments (ws ∷ S) s p some = omega arith
+
+pub segments_of_word : {r : Reading} {here : Place} {word : ℕ} → IsWordRead r here word → 0 < length r.segments
+segments_of_word {r} w = some_segments r.segments r.segment r.at (λ e. w.some (w.there ∙ e))
+
+pub default_refused : {A : Type 0} (g : Ghosts A) {source : Source A} (here : Place) (m : Meter) (nesting : ℤ) → ((d : Bor (List ℕ)) × (source ≡ Default d)) ⊎ (source ≡ Nothing) → 0 < length (source_start g source).segments →
     kind (word_of (reading_at g source here nesting)) ≡ 2 → word_of (reading_at g source here nesting) < 2 ^ 64 → NotFollowed (following (reading_at g source here nesting)) m m TriedToReadFromNullArena
 default_refused g {source = Arena a} here m nesting (inl w) some is_far small = absurd (let e = w.1 in cc)
 default_refused g {source = Arena a} here m nesting (inr e) some is_far small = absurd cc

@@ -4,23 +4,32 @@ use Rattle.std.proofs.Common.{◌≡◌, ◌↔◌, inl, inr, ◌+◌, ◌<◌, 
 use Rattle.capnp_words.specs.declared.error.ErrorKind.{ErrorKind}
 use Rattle.capnp_words.specs.Meter.{Meter, Affords}
 use Rattle.capnp_format.specs.Word.{kind}
-use Rattle.capnp_format.specs.Segments.{Target}
+use Rattle.capnp_format.specs.Segments.{Segments, Target}
 use Rattle.capnp_objects.specs.declared.object.Object.{Object}
 use Rattle.capnp_objects.specs.declared.object.Purpose.{Purpose}
-use Rattle.capnp_objects.specs.declared.object.Purpose.TheVariants.{Size}
+use Rattle.capnp_objects.specs.declared.object.Purpose.TheVariants.{Value, Size}
 use Rattle.capnp_objects.specs.declared.source.Found.{Found}
 use Rattle.capnp_objects.specs.Demands.{claim, amplified, own, Meets, IsStructList, IsVoidList}
-use Rattle.capnp_objects.specs.Landings.{found_target, following, IsFollowed, IsClaimed, NotClaimed}
-use Rattle.capnp_objects.specs.Measures.{NotMeasured, no_level, stopped}
+use Rattle.capnp_objects.specs.Landings.{found_target, following, IsFollowed, Arrival, IsClaimed, NotEntered}
+use Rattle.capnp_objects.specs.Measures.{counted_words, NotMeasured, no_level, stopped}
 use Rattle.capnp_objects.specs.Objects.{IsObject, near_at}
 use Rattle.capnp_objects.specs.Outcomes.{Entered}
 use Rattle.capnp_objects.specs.Reading.{Reading, word_of}
 use Rattle.capnp_objects.specs.Refusals.{CanBeRead}
+use Rattle.capnp_objects.specs.Sizing.{Tally, tally}
 use Rattle.capnp_objects.specs.Spending.{after, Paid}
 use Rattle.capnp_objects.proofs.Followed.{near_landed}
 use Rattle.capnp_objects.proofs.Landings.{IsCounted, reached, entered, entered_free, lies, object_refused, arrived}
 use Rattle.capnp_objects.proofs.Parts.{charge_of_size}
 use Rattle.capnp_objects.proofs.Refusals.{could_be_read, not_stopped}
+
+-- the tally with the words that an object counts, once it is measured
+abbrev pub with_object_counted : Tally → Target → Segments → Meter → Tally
+with_object_counted from a S m = tally (from.words + counted_words S a) from.caps m
+
+-- the words that an object claims are not charged, whatever it is read for, a list of void for its value alone
+abbrev NotClaimed : Arrival → Meter → Meter → ErrorKind → Type 0
+NotClaimed o m m' k = (purpose : Purpose) → (IsVoidList o.target.word → purpose ≡ Value) → NotEntered purpose o m m' k
 
 -- the words of an object that is read for its size: its landing pads and what it claims
 pub paid_words : {r : Reading} {m m' : Meter} {a : Target} → Entered Size r m m' a → Paid r.charging m m' (a.pads + claim a.word) 1

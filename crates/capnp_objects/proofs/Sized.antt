@@ -10,8 +10,12 @@ use Rattle.capnp_format.specs.Forest.{target, target_in}
 use Rattle.capnp_objects.specs.Faults.{LeadsTo, child_at}
 use Rattle.capnp_objects.specs.Outcomes.{MeansThere, MeanThere, ElementsMean}
 use Rattle.capnp_objects.specs.Reading.{Reading, behind, sized}
-use Rattle.capnp_objects.specs.Sizing.{SizedAll, SizedElements, SizedThere, SizedAllThere, ElementsSized}
+use Rattle.capnp_objects.specs.Sizing.{SizedAll, SizedElements, SizedThere, SizedAllThere}
 use Rattle.capnp_objects.proofs.Faultless.{same_target}
+
+-- the walk over the pointers of elements of a size, from a place on
+abbrev pub ElementsSized : Reading → StructSize → Elements → ℕ → Type 0
+ElementsSized r size es c = SizedElements r.segments r.levels r.segment r.at size.data_words size.pointers es c
 
 -- which kind of value there is at a place, by its word
 abbrev pub form : Tree → ℕ

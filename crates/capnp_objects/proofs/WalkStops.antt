@@ -19,15 +19,15 @@ use Rattle.capnp_objects.specs.Measures.{counted_words}
 use Rattle.capnp_objects.specs.declared.object.Purpose.TheVariants.{Size}
 use Rattle.capnp_objects.specs.Outcomes.{Entered}
 use Rattle.capnp_objects.specs.Objects.{IsObject}
-use Rattle.capnp_objects.specs.Refusals.{CanBeRead}
+use Rattle.capnp_objects.specs.Refusals.{GoesBefore, in_struct, in_pointers, in_element, CanBeRead}
 use Rattle.capnp_objects.specs.Reading.{Reading, behind, pointers_of, tag_size, sized}
-use Rattle.capnp_objects.specs.Sizing.{Sized, SizedAll, SizedThere, SizedAllThere, ElementsSized, FitSize, Tally, tally, WalksAll, WalksElements, WalksRows, WalksBefore, in_struct, in_pointers, in_element, with_object_counted, SizeStopped, unmeasured, too_large, too_many, SizeStops, here, below, SizesStop, RowsStop}
+use Rattle.capnp_objects.specs.Sizing.{Sized, SizedAll, SizedThere, SizedAllThere, FitSize, Tally, tally, WalksAll, WalksElements, WalksRows, SizeStopped, unmeasured, too_large, too_many, SizeStops, here, below, SizesStop, RowsStop}
 use Rattle.capnp_objects.specs.Spending.{Paid, after}
 use Rattle.capnp_objects.proofs.Budgets.{affords_rest, after_none}
-use Rattle.capnp_objects.proofs.Measures.{can_not, paid_words}
+use Rattle.capnp_objects.proofs.Measures.{with_object_counted, can_not, paid_words}
 use Rattle.capnp_objects.proofs.Parts.{claim_struct, claim_list, claim_flat, charge_of_size}
 use Rattle.capnp_objects.proofs.Refusals.{affords_less}
-use Rattle.capnp_objects.proofs.Sized.{form, form_there, sized_form, one_target, one_sized, one_sized_all, SizedAllAs, ElementsSizedAs, SomeSizedAll, SomeElementsSized}
+use Rattle.capnp_objects.proofs.Sized.{ElementsSized, form, form_there, sized_form, one_target, one_sized, one_sized_all, SizedAllAs, ElementsSizedAs, SomeSizedAll, SomeElementsSized}
 use Rattle.capnp_objects.proofs.Sized.{of_struct as form_struct, of_pointers as form_pointers, of_structs as form_structs}
 use Rattle.capnp_objects.proofs.Walked.{inside, beginning, same_place, same_size, counted_struct, counted_flat, counted_pointers, counted_structs}
 use Rattle.capnp_objects.proofs.Followed.{entered_leads, leads_to, leads_there}
@@ -307,7 +307,7 @@ in_list_of_structs r {a} (Structs d q es) c (b, m, k, some, o, claims, t, fits, 
     )
 in_list_of_structs r {a} t c h l z seven = absurd (let e : form t ≡ 5 = sized_form r t c h ∙ form_there r a l ∙ form_structs a.word z seven in omega arith)
 
-never_below : {r : Reading} (from : Tally) {mid : Tally} {first : Meter} {q : ℕ} {a : Target} → Entered Size r from.meter first a → WalksBefore r a q (with_object_counted from a r.segments first) mid → Never (child_at r a (pred r.levels) q) mid → Never r from
+never_below : {r : Reading} (from : Tally) {mid : Tally} {first : Meter} {q : ℕ} {a : Target} → Entered Size r from.meter first a → GoesBefore WalksAll WalksElements r a q (with_object_counted from a r.segments first) mid → Never (child_at r a (pred r.levels) q) mid → Never r from
 never_below {r} from {mid} {first} {q} {a} o (in_struct ts z fewer e all) child t c h fits covers =
     let x = in_a_struct r {a = a} t c h (entered_leads o) z in
     never_all (pointer_count a.word) all fewer (subst (λ y. Never (child_at r a (pred r.levels) y) mid) e child) x.0 x.1 x.2 x.3 (omega (arith, fits.0, x.4), omega (arith, fits.1, x.5)) (affords_rest x.1 c (paid_words o) x.6 covers)

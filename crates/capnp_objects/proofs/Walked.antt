@@ -19,12 +19,13 @@ use Rattle.capnp_objects.specs.declared.object.Purpose.TheVariants.{Size}
 use Rattle.capnp_objects.specs.Outcomes.{Entered}
 use Rattle.capnp_objects.specs.Objects.{IsObject}
 use Rattle.capnp_objects.specs.Reading.{Reading, behind, segment_read, pointers_of, tag_size, sized}
-use Rattle.capnp_objects.specs.Sizing.{Sized, SizedAll, SizedThere, SizedAllThere, ElementsSized, Tally, tally, Walks, WalksAll, WalksElements, WalksPlace, WalksPointers, WalksRows, with_object_counted}
+use Rattle.capnp_objects.specs.Sizing.{Sized, SizedAll, SizedThere, SizedAllThere, Tally, tally, Walks, WalksAll, WalksElements, WalksPlace, WalksPointers, WalksRows}
 use Rattle.capnp_objects.specs.Spending.{Paid, pointers_in_all}
 use Rattle.capnp_format.proofs.Children.{with_last, count-with_last}
 use Rattle.capnp_format.proofs.Slices.{length_words}
 use Rattle.capnp_format.proofs.Digits.{length-digits}
-use Rattle.capnp_objects.proofs.Measures.{paid_words}
+use Rattle.capnp_objects.proofs.Sized.{ElementsSized}
+use Rattle.capnp_objects.proofs.Measures.{with_object_counted, paid_words}
 use Rattle.capnp_objects.proofs.Budgets.{affords_none, after_none, paid_both}
 use Rattle.capnp_objects.proofs.Copies.{with_last_element, count-with_last_element, capabilities-with_last, pointers_in-with_last, capabilities-with_last_element, pointers_in-with_last_element}
 use Rattle.capnp_objects.proofs.Parts.{claim_struct, claim_list, claim_flat}

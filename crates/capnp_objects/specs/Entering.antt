@@ -5,7 +5,6 @@ use Rattle.capnp_words.specs.declared.error.ErrorKind.TheVariants.{MessageContai
 use Rattle.capnp_words.specs.Meter.{Meter}
 use Rattle.capnp_format.specs.Bytes.{words_of}
 use Rattle.capnp_format.specs.Numbers.{words_for}
-use Rattle.capnp_format.specs.Segments.{Target}
 use Rattle.capnp_words.specs.declared.wire_pointer.ElementSize.TheVariants.{Byte}
 use Rattle.capnp_words.specs.Sizes.{size_number}
 use Rattle.capnp_objects.specs.declared.object.Expected.{Expected}
@@ -14,7 +13,7 @@ use Rattle.capnp_objects.specs.declared.object.Object.{Object}
 use Rattle.capnp_objects.specs.declared.object.Object.TheVariants.{Flat as ObjectFlat, Pointers as ObjectPointers, Structs as ObjectStructs}
 use Rattle.capnp_objects.specs.declared.object.Place.{Place}
 use Rattle.capnp_objects.specs.declared.object.Purpose.TheVariants.{Value}
-use Rattle.capnp_objects.specs.Expected.{another_kind, misfit, narrow_elements, narrow_structs}
+use Rattle.capnp_objects.specs.Expected.{Expectation, narrow_elements, narrow_structs}
 use Rattle.capnp_objects.specs.Landings.{Arrival, IsEntered, NotEntered}
 
 -- The byte at index i from a place.
@@ -35,12 +34,8 @@ abbrev pub IsAtHand : Object → Type 0
 IsAtHand (ObjectFlat start size count) = (size_number size ≤ 5) × (8 * (start.at + words_for (size_number size) count) ≤ length start.bytes.now)
 IsAtHand object = Unit {0}
 
--- An object that was read is one that was expected.
-abbrev pub IsFitting : Expected → Target → Object → Type 0
-IsFitting expected a object = (another_kind expected a.word ≡ None) × (object_misfit expected object ≡ None)
-
 -- An object is refused by the name k, from m to m'.
-pub data IsUnsuited (expected : Expected) (o : Arrival) (m m' : Meter) (k : ErrorKind) : Type 0 where
-  another : another_kind expected o.target.word ≡ Some k → m' ≡ m → IsUnsuited expected o m m' k
-  not_entered : another_kind expected o.target.word ≡ None → NotEntered Value o m m' k → IsUnsuited expected o m m' k
-  misfits : another_kind expected o.target.word ≡ None → IsEntered Value o m m' → misfit expected o.segments o.target ≡ Some k → IsUnsuited expected o m m' k
+pub data IsUnsuited (expected : Expectation) (o : Arrival) (m m' : Meter) (k : ErrorKind) : Type 0 where
+  another : expected.another_kind o.target.word ≡ Some k → m' ≡ m → IsUnsuited expected o m m' k
+  not_entered : expected.another_kind o.target.word ≡ None → NotEntered Value o m m' k → IsUnsuited expected o m m' k
+  misfits : expected.another_kind o.target.word ≡ None → IsEntered Value o m m' → expected.misfit o.segments o.target ≡ Some k → IsUnsuited expected o m m' k

@@ -9,17 +9,15 @@ use Rattle.capnp_words.specs.Meter.{Meter, Affords, charged}
 use Rattle.capnp_words.specs.Sizes.{size_number}
 use Rattle.capnp_objects.specs.declared.object.Place.{Place}
 use Rattle.capnp_objects.specs.Follow.{follow_far}
-use Rattle.capnp_objects.specs.Reading.{Reading, word_of}
+use Rattle.capnp_objects.specs.Reading.{Reading, source_start, word_of}
 use Rattle.capnp_objects.specs.Refusals.{landing_words, granted_before}
 use Rattle.capnp_objects.specs.declared.object.Object.{Object}
 use Rattle.capnp_objects.specs.declared.object.Object.TheVariants.{Null as ObjectNull, Capability as ObjectCapability, Struct as ObjectStruct, Flat as ObjectFlat, Pointers as ObjectPointers, Structs as ObjectStructs}
 use Rattle.capnp_objects.specs.declared.source.Found.{Found}
 use Rattle.capnp_objects.specs.declared.source.landing.Landing.{Landing}
 use Rattle.capnp_arena.specs.declared.arena.reader_arena.ReaderArena.{Ghosts}
-use Rattle.capnp_objects.specs.Source.{source_segments, source_charging}
 use Rattle.capnp_objects.specs.declared.object.Purpose.{Purpose}
-use Rattle.capnp_objects.specs.declared.object.Purpose.TheVariants.{Value}
-use Rattle.capnp_objects.specs.Demands.{claim, tag, amplified, IsVoidList, Meets}
+use Rattle.capnp_objects.specs.Demands.{claim, tag, amplified, Meets}
 use Rattle.capnp_objects.specs.Wanted.{BreaksObject, follow_at}
 use Rattle.capnp_objects.specs.Objects.{IsHeld, StartsAt}
 use Rattle.capnp_objects.specs.Wanted.{plain}
@@ -75,7 +73,7 @@ pub record Arrival : Type 0 where
 
 -- What a landing is at.
 abbrev pub arrival : {A : Type 0} (g : Ghosts A) → Landing A g → Arrival
-arrival g l = record { segments = source_segments g.segments l.source; charging = source_charging g.charging l.source; levels = l.depth; target = found_target l.found }
+arrival g l = record { segments = (source_start g l.source).segments; charging = (source_start g l.source).charging; levels = l.depth; target = found_target l.found }
 
 -- The words that an object claims lie in their segment and are charged, from m to m'.
 pub record IsClaimed (o : Arrival) (m m' : Meter) : Type 0 where
@@ -131,8 +129,3 @@ IsOpened purpose o m m' (ObjectStructs start size count) =
     let t : ℕ = tag o.segments a in
     IsEntered purpose o m m' × (kind a.word ≡ 1) × (element_size a.word ≡ 7) × StartsAt o.segments a 1 start × (count ≡ offset_bits t)
     × (size.data_words ≡ data_words t) × (size.pointers ≡ pointer_count t)
-
--- The words that an object claims are not charged, for the reason k. It is read for its value, or for its size and is no
--- list of void.
-abbrev pub NotClaimed : Arrival → Meter → Meter → ErrorKind → Type 0
-NotClaimed o m m' k = (purpose : Purpose) → (IsVoidList o.target.word → purpose ≡ Value) → NotEntered purpose o m m' k

@@ -1,18 +1,19 @@
 -- What a refusal of a whole value tells, and what its size is, as statements. Each is a clause of a function of the module `laws`, and so is
 -- proved.
-use Rattle.std.specs.Prelude.{◌≡◌, ◌⊎◌, ℕ, ◌+◌, ◌<◌, ◌≤◌, true, Some}
+use Rattle.std.specs.Prelude.{◌≡◌, ◌≢◌, ◌⊎◌, ℕ, ◌+◌, ◌<◌, ◌≤◌, true, Some}
 use Rattle.capnp_words.specs.declared.error.ErrorKind.{ErrorKind}
 use Rattle.capnp_words.specs.declared.error.ErrorKind.TheVariants.{ReadLimitExceeded}
 use Rattle.capnp_words.specs.Meter.{Meter, Affords}
-use Rattle.capnp_format.specs.Segments.{AreWords}
+use Rattle.capnp_format.specs.Segments.{AreWords, Target}
+use Rattle.capnp_format.specs.Word.{kind}
 use Rattle.capnp_format.specs.Tree.{Tree, depth, capabilities}
 use Rattle.capnp_format.specs.Canonical.{word_count, trim}
-use Rattle.capnp_objects.specs.Faults.{Somewhere, Exceeds, HasFault}
+use Rattle.capnp_objects.specs.Faults.{LeadsTo, Somewhere, Exceeds, HasFault}
 use Rattle.capnp_objects.specs.Outcomes.{MeansThere, Reads}
 use Rattle.capnp_objects.specs.Reading.{Reading}
 use Rattle.capnp_objects.specs.Refusals.{Refused, BreaksOff}
 use Rattle.capnp_objects.specs.Sizing.{SizedThere, Totals}
-use Rattle.capnp_objects.specs.Wanted.{Form, AllowsCapabilities}
+use Rattle.capnp_objects.specs.Wanted.{Form, FollowsTo, AllowsCapabilities}
 
 -- The demand that is named is broken at a reached place; or the read limit is named, and a reached place charges more than
 -- is left.
@@ -61,3 +62,8 @@ CanonicalWithinTotal =
 abbrev pub ValuesHaveSizes : Type 0
 ValuesHaveSizes =
     (r : Reading) (n : ℕ) (t : Tree) (c : ℕ) → MeansThere (record r { levels = n }) t c → depth t < r.levels → (k : ℕ) × (k ≤ c) × SizedThere r t k
+
+-- A pointer that is followed to what a near or a capability's word describes leads there, as its meaning has it: so does one whose
+-- object is entered.
+abbrev pub FollowedLeads : Type 0
+FollowedLeads = (r : Reading) (a : Target) → FollowsTo r a → kind a.word ≢ 2 → LeadsTo r a

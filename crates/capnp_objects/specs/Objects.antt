@@ -1,5 +1,5 @@
 -- What a reading of one object gives.
-use Rattle.std.specs.Prelude.{◌≡◌, ℕ, ◌+◌, ◌*◌, ◌%◌, ◌^◌, ◌<◌, ◌≤◌, length}
+use Rattle.std.specs.Prelude.{◌≡◌, ◌≢◌, ℕ, ◌+◌, ◌*◌, ◌%◌, ◌^◌, ◌<◌, ◌≤◌, length}
 use Rattle.capnp_format.specs.Word.{kind, offset_bits, data_words, pointer_count, element_size, list_count, upper_half}
 use Rattle.capnp_format.specs.Segments.{Segments, segment, Target}
 use Rattle.capnp_words.specs.Meter.{Meter, Affords}
@@ -19,6 +19,13 @@ use Rattle.capnp_objects.specs.Wanted.{FollowsFor}
 abbrev pub IsHeld : Segments → Place → Type 0
 IsHeld S here =
     (words_of here.bytes.now ≡ segment S here.segment) × (length here.bytes.now ≡ 8 * length (segment S here.segment)) × (length here.bytes.now < 8 * 2 ^ 32)
+
+-- The word at a place that is read isn't null, and its segment's bytes are at hand.
+pub record IsWordRead (r : Reading) (here : Place) (word : ℕ) : Type 0 where
+  pub held : IsHeld r.segments here
+  pub there : word ≡ word_of r
+  pub some : word ≢ 0
+  pub small : word < 2 ^ 64
 
 -- An object of the target a starts so many words behind it.
 abbrev pub StartsAt : Segments → Target → ℕ → Place → Type 0

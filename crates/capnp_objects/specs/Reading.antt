@@ -1,12 +1,14 @@
 -- A place that is read, and the place that a source is read at.
-use Rattle.std.specs.Prelude.{ℕ, ℤ, Bool, List, ◌+◌, ◌*◌}
+use Rattle.std.specs.Prelude.{ℕ, ℤ, Bool, true, false, List, [], ◌+◌, ◌*◌}
+use Rattle.capnp_format.specs.Bytes.{message}
 use Rattle.capnp_format.specs.Segments.{Segments, Target, segment, word_at, words_at}
 use Rattle.capnp_format.specs.Word.{data_words, pointer_count}
 use Rattle.capnp_arena.specs.declared.arena.reader_arena.ReaderArena.{Ghosts}
 use Rattle.capnp_words.specs.declared.wire_pointer.StructSize.{StructSize}
 use Rattle.capnp_objects.specs.declared.object.Place.{Place}
 use Rattle.capnp_objects.specs.declared.source.Source.{Source}
-use Rattle.capnp_objects.specs.Source.{source_segments, source_charging, is_default, levels}
+use Rattle.capnp_objects.specs.declared.source.Source.TheVariants.{Arena, Default, Nothing}
+use Rattle.capnp_objects.specs.Source.{default_segment, default_segments, levels}
 
 -- A place that is read: its message, whether reading there is charged, whether it is a default's, how many levels of
 -- structs and lists may be entered from it, and its segment and word position.
@@ -18,16 +20,15 @@ pub record Reading : Type 0 where
   pub segment : ℕ
   pub at : ℕ
 
+-- The first word of a source, and no level: of a message, of a default, which is free of charge, or of nothing.
+abbrev pub source_start : {A : Type 0} (g : Ghosts A) → Source A → Reading
+source_start g (Arena a) = record { segments = message (g.segments a.now); charging = g.charging a.now; of_default = false; levels = 0; segment = 0; at = 0 }
+source_start g (Default d) = record { segments = default_segments d.now; charging = false; of_default = true; levels = 0; segment = default_segment; at = 0 }
+source_start g Nothing = record { segments = []; charging = false; of_default = false; levels = 0; segment = 0; at = 0 }
+
 -- The place of a source that is read within a nesting limit.
 abbrev pub reading_at : {A : Type 0} (g : Ghosts A) → Source A → Place → ℤ → Reading
-reading_at g source place nesting = record {
-  segments = source_segments g.segments source;
-  charging = source_charging g.charging source;
-  of_default = is_default source;
-  levels = levels nesting;
-  segment = place.segment;
-  at = place.at;
-}
+reading_at g source place nesting = record (source_start g source) { levels = levels nesting; segment = place.segment; at = place.at }
 
 -- The word there.
 abbrev pub word_of : Reading → ℕ

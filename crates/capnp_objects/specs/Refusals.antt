@@ -68,32 +68,37 @@ CanBeRead purpose r m =
     ⊎ ((a : Target) × FollowsFor purpose r a × (a.word % 2 ^ 32 ≡ 3) × Affords r.charging m a.pads)
     ⊎ ((a : Target) × FollowsTo r a × Meets purpose r.segments r.levels a × Affords r.charging m (own purpose r.segments a))
 
--- The pointers of an object a before its pointer at position q are read, from m to m'.
-pub data ReadsBefore (form : Form) (r : Reading) (a : Target) (q : ℕ) (m m' : Meter) : Type 0 where
+-- The pointers of an object a before its pointer at position q are gone over, from one state to another. Run says that of
+-- pointers one behind the other, from a place on, and Rows of the pointers of elements of a size.
+pub data GoesBefore {X : Type 0} (Run : Reading → X → X → Trees → Type 0) (Rows : Reading → StructSize → X → X → Elements → Type 0) (r : Reading) (a : Target) (q : ℕ) (from to : X) : Type 0 where
   in_struct :
       (ts : Trees) →
       kind a.word ≡ 0 →
       count ts < pointer_count a.word →
       q ≡ a.start + data_words a.word + count ts →
-      ReadsAll form (child_at r a (pred r.levels) (a.start + data_words a.word)) m m' ts →
-      ReadsBefore form r a q m m'
+      Run (child_at r a (pred r.levels) (a.start + data_words a.word)) from to ts →
+      GoesBefore Run Rows r a q from to
   in_pointers :
       (ts : Trees) →
       kind a.word ≡ 1 →
       element_size a.word ≡ 6 →
       count ts < list_count a.word →
       q ≡ a.start + count ts →
-      ReadsAll form (child_at r a (pred r.levels) a.start) m m' ts →
-      ReadsBefore form r a q m m'
+      Run (child_at r a (pred r.levels) a.start) from to ts →
+      GoesBefore Run Rows r a q from to
   in_element :
-      (es : Elements) (ts : Trees) (mid : Meter) →
+      (es : Elements) (ts : Trees) (mid : X) →
       IsStructList a.word →
       element_count es < offset_bits (tag r.segments a) →
       count ts < pointer_count (tag r.segments a) →
       q ≡ (pointers_of (child_at r a (pred r.levels) (a.start + 1)) (tag_size r.segments a) (element_count es)).at + count ts →
-      ReadsElements form (child_at r a (pred r.levels) (a.start + 1)) (tag_size r.segments a) m mid es →
-      ReadsAll form (pointers_of (child_at r a (pred r.levels) (a.start + 1)) (tag_size r.segments a) (element_count es)) mid m' ts →
-      ReadsBefore form r a q m m'
+      Rows (child_at r a (pred r.levels) (a.start + 1)) (tag_size r.segments a) from mid es →
+      Run (pointers_of (child_at r a (pred r.levels) (a.start + 1)) (tag_size r.segments a) (element_count es)) mid to ts →
+      GoesBefore Run Rows r a q from to
+
+-- They are read, from m to m'.
+abbrev pub ReadsBefore : Form → Reading → Target → ℕ → Meter → Meter → Type 0
+ReadsBefore form r a q m m' = GoesBefore (ReadsAll form) (ReadsElements form) r a q m m'
 
 -- The reading of a whole value stops, from m to m', where P says so of one object: at its own object, or at that of one of
 -- its pointers, when the object and the pointers before that one were read.

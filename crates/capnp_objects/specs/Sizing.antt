@@ -5,18 +5,18 @@ use Rattle.capnp_words.specs.declared.error.ErrorKind.{ErrorKind}
 use Rattle.capnp_words.specs.declared.error.ErrorKind.TheVariants.{MessageTooLarge}
 use Rattle.capnp_words.specs.declared.wire_pointer.StructSize.{StructSize}
 use Rattle.capnp_words.specs.Meter.{Meter, Affords}
-use Rattle.capnp_format.specs.Word.{kind, offset_bits, data_words, pointer_count, element_size, list_count, capability_word}
+use Rattle.capnp_format.specs.Word.{capability_word}
 use Rattle.capnp_format.specs.Numbers.{words_for, unpacked}
 use Rattle.capnp_format.specs.Segments.{Segments, word_at, words_at, HasWords, Target}
 use Rattle.capnp_format.specs.Tree.{Tree, Null, Capability, Struct, Flat, Pointers, Structs, Trees, no_trees, tree, Elements, no_elements, element, count, element_count, capabilities, capabilities_all, capabilities_elements}
 use Rattle.capnp_format.specs.Means.{Leads, Claims, StructAt, ListAt, IsTag}
 use Rattle.capnp_format.specs.Canonical.{word_count, word_count_all, word_count_elements}
 use Rattle.capnp_objects.specs.declared.object.Purpose.TheVariants.{Size}
-use Rattle.capnp_objects.specs.Demands.{tag, IsStructList}
 use Rattle.capnp_objects.specs.Faults.{LeadsTo, child_at}
 use Rattle.capnp_objects.specs.Measures.{counted_words, NotMeasured}
 use Rattle.capnp_objects.specs.Outcomes.{Entered}
-use Rattle.capnp_objects.specs.Reading.{Reading, pointers_of, tag_size}
+use Rattle.capnp_objects.specs.Reading.{Reading, pointers_of}
+use Rattle.capnp_objects.specs.Refusals.{GoesBefore}
 use Rattle.capnp_objects.specs.Spending.{Paid, pointers_in, pointers_in_all, pointers_in_elements}
 
 -- The walk from a place goes over the value t within n levels, and charges c words. It is `Means` but for three things:
@@ -55,15 +55,12 @@ abbrev mutual
       (k : ℕ) × (l : ℕ) × (length words ≡ d) × (count children ≡ q) × HasWords S s p words
       × SizedAll S n s (p + d) children k × SizedElements S n s (p + d + q) d q es l × (c ≡ k + l)
 
--- The walk from the place goes over t, and charges c words; over pointers one behind the other; over elements of a size.
+-- The walk from the place goes over t, and charges c words; over pointers one behind the other.
 abbrev pub SizedThere : Reading → Tree → ℕ → Type 0
 SizedThere r t c = Sized r.segments r.levels r.segment r.at t c
 
 abbrev pub SizedAllThere : Reading → Trees → ℕ → Type 0
 SizedAllThere r ts c = SizedAll r.segments r.levels r.segment r.at ts c
-
-abbrev pub ElementsSized : Reading → StructSize → Elements → ℕ → Type 0
-ElementsSized r size es c = SizedElements r.segments r.levels r.segment r.at size.data_words size.pointers es c
 
 -- So many words and capabilities fit the numbers that a size has.
 abbrev pub FitSize : ℕ → ℕ → Type 0
@@ -105,7 +102,7 @@ pub record WalksAll (r : Reading) (from to : Tally) (ts : Trees) : Type 0 where
 -- Over those of the pointers of elements of a size.
 pub record WalksElements (r : Reading) (size : StructSize) (from to : Tally) (es : Elements) : Type 0 where
   pub cost : ℕ
-  pub is_sized : ElementsSized r size es cost
+  pub is_sized : SizedElements r.segments r.levels r.segment r.at size.data_words size.pointers es cost
   pub paid : Paid r.charging from.meter to.meter cost (pointers_in_elements es)
   pub words_are : to.words ≡ from.words + word_count_elements es
   pub caps_are : to.caps ≡ from.caps + capabilities_elements es
@@ -125,37 +122,6 @@ WalksRows r size i from to = (es : Elements) × (element_count es ≡ i) × Walk
 abbrev pub HaveSizes : Reading → ℕ → Tally → Type 0
 HaveSizes r i from =
     (ts : Trees) × (c : ℕ) × (count ts ≡ i) × SizedAllThere r ts c × FitSize (from.words + word_count_all ts) (from.caps + capabilities_all ts) × Affords r.charging from.meter c
-
--- The pointers of an object a before its pointer at position q are walked over.
-pub data WalksBefore (r : Reading) (a : Target) (q : ℕ) (from to : Tally) : Type 0 where
-  in_struct :
-      (ts : Trees) →
-      kind a.word ≡ 0 →
-      count ts < pointer_count a.word →
-      q ≡ a.start + data_words a.word + count ts →
-      WalksAll (child_at r a (pred r.levels) (a.start + data_words a.word)) from to ts →
-      WalksBefore r a q from to
-  in_pointers :
-      (ts : Trees) →
-      kind a.word ≡ 1 →
-      element_size a.word ≡ 6 →
-      count ts < list_count a.word →
-      q ≡ a.start + count ts →
-      WalksAll (child_at r a (pred r.levels) a.start) from to ts →
-      WalksBefore r a q from to
-  in_element :
-      (es : Elements) (ts : Trees) (mid : Tally) →
-      IsStructList a.word →
-      element_count es < offset_bits (tag r.segments a) →
-      count ts < pointer_count (tag r.segments a) →
-      q ≡ (pointers_of (child_at r a (pred r.levels) (a.start + 1)) (tag_size r.segments a) (element_count es)).at + count ts →
-      WalksElements (child_at r a (pred r.levels) (a.start + 1)) (tag_size r.segments a) from mid es →
-      WalksAll (pointers_of (child_at r a (pred r.levels) (a.start + 1)) (tag_size r.segments a) (element_count es)) mid to ts →
-      WalksBefore r a q from to
-
--- The tally with the words that an object counts, once it is measured.
-abbrev pub with_object_counted : Tally → Target → Segments → Meter → Tally
-with_object_counted from a S m = record { words = from.words + counted_words S a; caps = from.caps; meter = m }
 
 -- The walk stops at one object, with the limiter m', by the name k. The sums before it fit. The object can't be measured; or
 -- it is measured, and with its own words, or with it as a capability, the sums are too much.
@@ -179,7 +145,7 @@ pub data SizeStops (k : ErrorKind) : Reading → Tally → Meter → Type 0 wher
   below :
       {r : Reading} {from mid : Tally} {first m' : Meter} (a : Target) (q : ℕ) →
       Entered Size r from.meter first a →
-      WalksBefore r a q (with_object_counted from a r.segments first) mid →
+      GoesBefore WalksAll WalksElements r a q (tally (from.words + counted_words r.segments a) from.caps first) mid →
       SizeStops k (child_at r a (pred r.levels) q) mid m' →
       SizeStops k r from m'
 

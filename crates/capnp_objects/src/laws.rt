@@ -1,7 +1,7 @@
 //! What a refusal tells, and what a size is of. Each function does nothing: its contract is the law, proved for all messages and limits. How a
 //! refusal is stated in contracts is in `specs/Refusals.antt`, and docs/FORMAT.md has it in plain words.
 
-ghost use Rattle.capnp_objects.specs.Laws.{RefusedTruly, LimitOfCharges, RefusedRightly, RefusedUnlimited, ValueOrFault, FewFollowed, SizeOfValue, ValuesHaveSizes, CanonicalWithinTotal};
+ghost use Rattle.capnp_objects.specs.Laws.{RefusedTruly, LimitOfCharges, RefusedRightly, RefusedUnlimited, ValueOrFault, FewFollowed, SizeOfValue, ValuesHaveSizes, CanonicalWithinTotal, FollowedLeads};
 
 /// A refusal names a demand that a reached place breaks, or the read limit, where a reached place charges more than is
 /// left; and the read limit is named for nothing else.
@@ -40,4 +40,10 @@ pub fn size_of_value()
 /// greater cost.
 pub fn values_have_sizes()
     ensures { ValuesHaveSizes }
+{}
+
+/// A pointer that is followed to what a word describes that is no far pointer leads there, as the meaning of a message has
+/// it: so does a pointer whose object is entered.
+pub fn followed_leads()
+    ensures { FollowedLeads }
 {}

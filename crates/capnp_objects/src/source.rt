@@ -1,17 +1,16 @@
 //! Where readers read: an arena, a default, or nothing. A pointer is read in two steps: it is
 //! followed to where it leads, and the object there is entered, each with its checks and charges.
-ghost use Rattle.std.specs.Prelude.{◌≡◌, ◌≢◌, ◌<◌, ◌≤◌, ◌^◌, ◌↔◌, IfOk, IsOk, OnOk, OnErr, IfErr, length};
+ghost use Rattle.std.specs.Prelude.{◌≡◌, ◌<◌, ◌≤◌, ◌↔◌, IfOk, IsOk, OnOk, OnErr, IfErr, length};
 ghost use Rattle.capnp_format.specs.Word.{kind, element_size};
-ghost use Rattle.capnp_format.specs.Segments.{word_at};
 ghost use Rattle.capnp_words.specs.Meter.{Affords, charged, counted_once};
 ghost use Rattle.capnp_words.specs.declared.error.ErrorKind.TheVariants.{ReadLimitExceeded};
-ghost use Rattle.capnp_objects.specs.Source.{source_segments, source_charging, levels};
+ghost use Rattle.capnp_objects.specs.Source.{levels};
 ghost use Rattle.capnp_format.specs.Bytes.{message};
 ghost use Rattle.capnp_objects.specs.declared.object.Purpose.TheVariants.{Value, Size};
 ghost use Rattle.capnp_objects.specs.Demands.{claim, count_charge};
-ghost use Rattle.capnp_objects.specs.Reading.{reading_at, word_of};
+ghost use Rattle.capnp_objects.specs.Reading.{source_start, reading_at};
 ghost use Rattle.capnp_objects.specs.Wanted.{plain};
-ghost use Rattle.capnp_objects.specs.Objects.{near_at, IsObject, IsHeld, IsFew};
+ghost use Rattle.capnp_objects.specs.Objects.{near_at, IsObject, IsHeld, IsWordRead, IsFew};
 ghost use Rattle.capnp_objects.specs.Outcomes.{Entered};
 ghost use Rattle.capnp_objects.specs.Refusals.{Stopped, CanBeRead};
 ghost use Rattle.capnp_objects.specs.Landings.{following, following_far, IsPad, IsFollowed, NotFollowed};
@@ -76,7 +75,7 @@ impl<'a, A: ReaderArena> Source<'a, A> {
         nesting_limit: i32,
         lim: &mut ReadLimiter,
     ) -> Result<Object<'a>, ErrorKind>
-        requires held { IsHeld (source_segments A.segments self) place }
+        requires held { IsHeld (source_start A.ReaderArena self).segments place }
         ensures object { IfOk result (IsObject Value
             (reading_at A.ReaderArena self.entry place.entry nesting_limit) lim.old lim.new) }
         ensures few { IfOk result IsFew }
@@ -104,10 +103,8 @@ impl<'a, A: ReaderArena> Source<'a, A> {
         nesting_limit: i32,
         lim: &mut ReadLimiter,
     ) -> Result<Object<'a>, ErrorKind>
-        requires held { IsHeld (source_segments A.segments self) place }
-        requires there { word.0 ≡ word_of (reading_at A.ReaderArena self place nesting_limit) }
-        requires small { word.0 < 2 ^ 64 }
-        requires some { word.0 ≢ 0 }
+        requires word { IsWordRead (reading_at A.ReaderArena self place nesting_limit)
+            place word.0 }
         requires level { purpose ≡ Size → 0 < levels nesting_limit }
         ensures object { IfOk result (IsObject purpose
             (reading_at A.ReaderArena self.entry place.entry nesting_limit) lim.old lim.new) }
@@ -139,10 +136,8 @@ impl<'a, A: ReaderArena> Source<'a, A> {
         nesting_limit: i32,
         lim: &mut ReadLimiter,
     ) -> Result<u32, ErrorKind>
-        requires held { IsHeld (source_segments A.segments self) place }
-        requires there { word.0 ≡ word_of (reading_at A.ReaderArena self place nesting_limit) }
-        requires small { word.0 < 2 ^ 64 }
-        requires some { word.0 ≢ 0 }
+        requires word { IsWordRead (reading_at A.ReaderArena self place nesting_limit)
+            place word.0 }
         requires is_struct { kind word.0 ≡ 0 }
         ensures object { IfOk result (λ at. Entered Value
             (reading_at A.ReaderArena self.entry place.entry nesting_limit) lim.old lim.new
@@ -178,10 +173,8 @@ impl<'a, A: ReaderArena> Source<'a, A> {
         nesting_limit: i32,
         lim: &mut ReadLimiter,
     ) -> Result<u32, ErrorKind>
-        requires held { IsHeld (source_segments A.segments self) place }
-        requires there { word.0 ≡ word_of (reading_at A.ReaderArena self place nesting_limit) }
-        requires small { word.0 < 2 ^ 64 }
-        requires some { word.0 ≢ 0 }
+        requires word { IsWordRead (reading_at A.ReaderArena self place nesting_limit)
+            place word.0 }
         requires is_list { kind word.0 ≡ 1 }
         requires of_bits { (0 < element_size word.0) × (element_size word.0 ≤ 5) }
         requires claimed { words ≡ claim word.0 }
@@ -210,7 +203,7 @@ impl<'a, A: ReaderArena> Source<'a, A> {
 
     // Counts a pointer as followed, which only an arena that charges does.
     fn count(self, lim: &mut ReadLimiter)
-        ensures { lim.new ≡ counted_once (source_charging A.charging self.entry) lim.old }
+        ensures { lim.new ≡ counted_once (source_start A.ReaderArena self.entry).charging lim.old }
     {
         match self {
             Source::Arena(arena) => {
@@ -224,10 +217,10 @@ impl<'a, A: ReaderArena> Source<'a, A> {
 
     // Charges words, which only an arena does.
     fn charge(self, words: u64, lim: &mut ReadLimiter) -> Result<(), ErrorKind>
-        ensures exactly { IsOk result ↔ Affords (source_charging A.charging self.entry)
+        ensures exactly { IsOk result ↔ Affords (source_start A.ReaderArena self.entry).charging
             lim.old words }
         ensures granted { OnOk result (lim.new ≡ charged
-            (source_charging A.charging self.entry) lim.old words) }
+            (source_start A.ReaderArena self.entry).charging lim.old words) }
         ensures refused { OnErr result (lim.new ≡ lim.old) }
         ensures named { IfErr result (λ k. k ≡ ReadLimitExceeded) }
     {
@@ -245,10 +238,11 @@ impl<'a, A: ReaderArena> Source<'a, A> {
         count: u32,
         lim: &mut ReadLimiter,
     ) -> Result<(), ErrorKind>
-        ensures exactly { IsOk result ↔ Affords (source_charging A.charging self.entry) lim.old
-            (count_charge purpose width count) }
+        ensures exactly { IsOk result ↔ Affords (source_start A.ReaderArena self.entry).charging
+            lim.old (count_charge purpose width count) }
         ensures granted { OnOk result (lim.new ≡ charged
-            (source_charging A.charging self.entry) lim.old (count_charge purpose width count)) }
+            (source_start A.ReaderArena self.entry).charging lim.old
+            (count_charge purpose width count)) }
         ensures refused { OnErr result (lim.new ≡ lim.old) }
         ensures named { IfErr result (λ k. k ≡ ReadLimitExceeded) }
     {
@@ -271,10 +265,7 @@ impl<'a, A: ReaderArena> Source<'a, A> {
         nesting_limit: i32,
         lim: &mut ReadLimiter,
     ) -> Result<Found<'a>, ErrorKind>
-        requires some { 0 < length (source_segments A.segments self) }
-        requires held { IsHeld (source_segments A.segments self) place }
-        requires there { word.0 ≡ word_at (source_segments A.segments self) place.segment place.at }
-        requires small { word.0 < 2 ^ 64 }
+        requires { IsWordRead (reading_at A.ReaderArena self place nesting_limit) place word.0 }
         ensures followed { IfOk result (IsFollowed
             (following (reading_at A.ReaderArena self.entry place.entry nesting_limit))
             lim.old lim.new) }

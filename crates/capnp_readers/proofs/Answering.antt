@@ -1,24 +1,23 @@
 -- Where a call reads, and that it is one place: the pointer's own, or a default's.
-use Rattle.std.proofs.Common.{◌≡◌, ◌≢◌, ◌↔◌, inl, inr, ℕ, zero, suc, ◌<◌, ◌≤◌, Bool, true, false, not, ◌&&◌, ◌||◌, cond, nat_eq, nat_lt, eqb-true, eq-eqb, lt-ltb, List, Option, Some, None, refl, sym, ap, ap₂, ◌∙◌, subst, arith}
+use Rattle.std.proofs.Common.{◌≡◌, ◌↔◌, inl, inr, ℕ, zero, suc, ◌<◌, ◌≤◌, Bool, true, false, not, ◌&&◌, ◌||◌, cond, nat_eq, nat_lt, eqb-true, eq-eqb, lt-ltb, List, Option, Some, None, Result, Ok, Err, ℤ, refl, sym, ap, ap₂, ◌∙◌, subst, arith}
 use Rattle.std.specs.Borrow.{Bor}
 use Rattle.capnp_words.specs.declared.error.ErrorKind.{ErrorKind}
 use Rattle.capnp_words.specs.Meter.{Meter}
 use Rattle.capnp_arena.specs.declared.arena.reader_arena.ReaderArena.{Ghosts}
-use Rattle.capnp_objects.specs.declared.object.Expected.{Expected}
 use Rattle.capnp_objects.specs.declared.object.Expected.TheVariants.{Struct as ExpectsStruct, List as ExpectsList}
 use Rattle.capnp_objects.specs.declared.object.Object.{Object}
+use Rattle.capnp_objects.specs.declared.source.Source.TheVariants.{Default}
 use Rattle.capnp_words.specs.declared.wire_pointer.StructSize.{StructSize}
 use Rattle.capnp_words.specs.Sizes.{size_number}
 use Rattle.capnp_objects.proofs.Decided.{within_or_not}
 use Rattle.capnp_words.specs.declared.wire_pointer.ElementSize.{ElementSize}
 use Rattle.capnp_words.specs.declared.wire_pointer.ElementSize.TheVariants.{Void, Bit, Byte, TwoBytes, FourBytes, EightBytes, Pointer, InlineComposite}
-use Rattle.capnp_objects.specs.Expected.{CanBeGiven, IsGiven, misfit, narrow_elements, narrow_structs}
+use Rattle.capnp_objects.specs.Expected.{Expectation, list_expected, CanBeGiven, IsGiven, narrow_elements, narrow_structs}
 use Rattle.capnp_format.specs.Numbers.{element_bits}
-use Rattle.capnp_format.specs.Segments.{word_at}
-use Rattle.capnp_objects.specs.Reading.{word_of, tag_size}
-use Rattle.capnp_objects.specs.Source.{default_segment, default_segments}
-use Rattle.capnp_readers.specs.Readers.{reading, IsTargetList, IsTarget, IsNullUncharged}
-use Rattle.capnp_readers.specs.Calls.{IsRead, without_default, not_null, of_default, IsUnread, short_default, of_null_default, call, IsAnswered}
+use Rattle.capnp_objects.specs.Reading.{Reading, source_start, word_of, tag_size}
+use Rattle.capnp_objects.specs.Source.{default_segment, levels}
+use Rattle.capnp_readers.specs.Readers.{reading, IsTargetList, IsTarget}
+use Rattle.capnp_readers.specs.Calls.{Call, IsRead, of_pointer, of_default, short_default, of_null_default, WhereRead}
 use Rattle.capnp_readers.specs.Sections.{IsWide}
 use Rattle.capnp_readers.specs.declared.readers.PointerReader.{PointerReader}
 use Rattle.capnp_readers.specs.declared.readers.list_reader.ListReader.{ListReader}
@@ -73,40 +72,61 @@ wide_structs Pointer sections e = record { bits = omega arith; pointers = λ six
 wide_structs InlineComposite sections e = record { bits = omega arith; pointers = λ six. absurd (omega (arith, six)); whole = λ one. absurd (omega (arith, one)) }
 
 module _ {A : Type 0} (g : Ghosts A) where
-  pub read_own : {expected : Expected} {from : PointerReader A g} {default : Option (Bor (List ℕ))} → default ≡ None → IsRead g expected from from default
-  read_own {expected} {from} e = subst (IsRead g expected from from) (sym e) (without_default refl)
+  -- the call's own default
+  pub read_default : {from : PointerReader A g} {expected : Expectation} {default : Option (Bor (List ℕ))} (bytes : Bor (List ℕ)) {x : Result (PointerReader A g) ErrorKind} → default ≡ Some bytes →
+      IsRead g (record { from = from; expected = expected; default = Some bytes }) x → IsRead g (record { from = from; expected = expected; default = default }) x
+  read_default {from} {expected} bytes {x} e h = subst (λ (d : Option (Bor (List ℕ))). IsRead g (record { from = from; expected = expected; default = d }) x) (sym e) h
 
-  pub read_some : {expected : Expected} {from : PointerReader A g} {default : Option (Bor (List ℕ))} (bytes : Bor (List ℕ)) → default ≡ Some bytes → word_of (reading g from) ≢ 0 → IsRead g expected from from default
-  read_some {expected} {from} bytes e some = subst (IsRead g expected from from) (sym e) (not_null some refl)
+  -- the pointer of a default, as it is read
+  default_read : (p : PointerReader A g) (bytes : Bor (List ℕ)) (n : ℤ) → p.source ≡ Default bytes → p.place.segment ≡ default_segment → p.place.at ≡ 0 → p.nesting_limit ≡ n →
+      reading g p ≡ record (source_start g (Default bytes)) { levels = levels n }
+  default_read p bytes n source segment first nesting = rw (source, segment, first, nesting) refl
 
   -- a call reads at one place
-  pub one_read : {expected : Expected} {from p q : PointerReader A g} {default : Option (Bor (List ℕ))} → IsRead g expected from p default → IsRead g expected from q default → reading g p ≡ reading g q
-  one_read (without_default e) (without_default f) = ap (reading g) (e ∙ sym f)
-  one_read (not_null some e) (not_null there f) = ap (reading g) (e ∙ sym f)
-  one_read (not_null some e) (of_default null whole source segment first nesting may) = absurd (some null)
-  one_read (of_default null whole source segment first nesting may) (not_null some e) = absurd (some null)
-  one_read (of_default null whole a b c d may) (of_default same long e f h i might) = rw (a, b, c, d, e, f, h, i) refl
+  pub one_read : {c : Call g} {p q : PointerReader A g} → IsRead g c (Ok p) → IsRead g c (Ok q) → reading g p ≡ reading g q
+  one_read {c} {p} {q} (of_pointer w e) (of_pointer v f) = let same : p ≡ c.from = cc in let too : q ≡ c.from = cc in ap (reading g) (same ∙ sym too)
+  one_read (of_pointer (inl none) e) (of_default null has whole source segment first nesting may f) = absurd (cc (none, has))
+  one_read (of_pointer (inr some) e) (of_default null has whole source segment first nesting may f) = absurd (some null)
+  one_read (of_default null has whole source segment first nesting may f) (of_pointer (inl none) e) = absurd (cc (none, has))
+  one_read (of_default null has whole source segment first nesting may f) (of_pointer (inr some) e) = absurd (some null)
+  one_read {c} {p} {q} (of_default {bytes = bytes} {p = x} null has whole source segment first nesting may e) (of_default {bytes = again} {p = y} unset given long origin part start depth might f) =
+      let same : p ≡ x = cc (e) in
+      let too : q ≡ y = cc (f) in
+      let bytes_are : bytes ≡ again = cc (has, given) in
+      ap (reading g) same ∙ default_read x bytes c.from.nesting_limit source segment first nesting
+      ∙ ap (λ (b : Bor (List ℕ)). let start : Reading = source_start g (Default b) in record start { levels = levels c.from.nesting_limit }) bytes_are
+      ∙ sym (default_read y again c.from.nesting_limit origin part start depth) ∙ ap (reading g) (sym too)
+  one_read (of_pointer w e) (short_default null has less f) = absurd (cc (f))
+  one_read (of_pointer w e) (of_null_default null has whole none named f) = absurd (cc (f))
+  one_read (of_default null has whole source segment first nesting may e) (short_default unset given less f) = absurd (cc (f))
+  one_read (of_default null has whole source segment first nesting may e) (of_null_default unset given long none named f) = absurd (cc (f))
+  one_read (short_default null has less e) h = absurd (cc (e))
+  one_read (of_null_default null has whole none named e) h = absurd (cc (e))
 
-  pub not_unread : {expected : Expected} {from p : PointerReader A g} {k : ErrorKind} {default : Option (Bor (List ℕ))} → IsRead g expected from p default → IsUnread g expected from k default → ⊥
-  not_unread (without_default e) u = elim u [ ]
-  not_unread (not_null some e) (short_default null less named) = some null
-  not_unread (of_default none whole source segment first nesting may) (short_default null less named) = omega (arith, whole, less)
-  not_unread (not_null some e) (of_null_default null whole none named) = some null
-  not_unread {p = p} (of_default unset long source segment first nesting may) (of_null_default null whole none named) = elim may [
-    | inl same ↦ absurd (cc (same, named))
-    | inr some ↦ some (let word : word_of (reading g p) ≡ word_at (default_segments _) default_segment 0 = rw (source, segment, first) refl in word ∙ none)
-  ]
+  pub not_unread : {c : Call g} {p : PointerReader A g} {k : ErrorKind} → IsRead g c (Ok p) → IsRead g c (Err k) → ⊥
+  not_unread h (of_pointer w f) = absurd (cc (f))
+  not_unread h (of_default null has whole source segment first nesting may f) = absurd (cc (f))
+  not_unread (of_pointer (inl none) e) (short_default null has less f) = absurd (cc (none, has))
+  not_unread (of_pointer (inr some) e) (short_default null has less f) = some null
+  not_unread (of_default {bytes = bytes} null has whole source segment first nesting may e) (short_default {bytes = again} unset given less f) =
+      let same : bytes ≡ again = cc (has, given) in omega (arith, whole, rw (← same) at less)
+  not_unread (of_pointer (inl none) e) (of_null_default null has whole unset named f) = absurd (cc (none, has))
+  not_unread (of_pointer (inr some) e) (of_null_default null has whole unset named f) = some null
+  not_unread (of_default null has whole source segment first nesting (inl same) e) (of_null_default unset given long none named f) = absurd (cc (same, named))
+  not_unread {c} (of_default {bytes = bytes} {p = x} null has whole source segment first nesting (inr some) e) (of_null_default {bytes = again} unset given long none named f) =
+      let same : bytes ≡ again = cc (has, given) in
+      some (ap word_of (default_read x bytes c.from.nesting_limit source segment first nesting) ∙ rw same none)
+  not_unread (short_default null has less e) h = absurd (cc (e))
+  not_unread (of_null_default null has whole none named e) h = absurd (cc (e))
 
   -- so it is answered exactly where it can be answered there
-  pub answered : {expected : Expected} {from p : PointerReader A g} {default : Option (Bor (List ℕ))} (m : Meter) {B : Type 0} → IsRead g expected from p default → (B ↔ CanBeGiven expected (reading g p) m) →
-      B ↔ IsAnswered g (call g from expected default) m
-  answered {expected} {p = p} m there same =
-      ((λ b. (p, there, same.0 b)), (λ (q, here, can). same.1 (subst (λ r. CanBeGiven expected r m) (one_read here there) can)))
+  pub answered : {c : Call g} {p : PointerReader A g} (m : Meter) {B : Type 0} → IsRead g c (Ok p) → (B ↔ CanBeGiven c.expected (reading g p) m) → B ↔ WhereRead g c (λ q. CanBeGiven c.expected (reading g q) m)
+  answered {c} {p = p} m there same =
+      ((λ b. (p, there, same.0 b)), (λ (q, here, can). same.1 (subst (λ r. CanBeGiven c.expected r m) (one_read here there) can)))
 
   -- what can be given at the pointer that is read
-  pub given_there : {expected : Expected} {from p : PointerReader A g} {default : Option (Bor (List ℕ))} (m : Meter) → IsRead g expected from p default → IsAnswered g (call g from expected default) m →
-      CanBeGiven expected (reading g p) m
-  given_there {expected} m there (q, here, can) = subst (λ r. CanBeGiven expected r m) (one_read here there) can
+  pub given_there : {c : Call g} {p : PointerReader A g} (m : Meter) → IsRead g c (Ok p) → WhereRead g c (λ q. CanBeGiven c.expected (reading g q) m) → CanBeGiven c.expected (reading g p) m
+  given_there {c} m there (q, here, can) = subst (λ r. CanBeGiven c.expected r m) (one_read here there) can
 
   -- An object was read of a pointer, from m to m', and is shown as a target.
   pub record IsShown (p : PointerReader A g) (m m' : Meter) (x : Object) (t : ReadTarget A g) : Type 0 where
@@ -114,7 +134,7 @@ module _ {A : Type 0} (g : Ghosts A) where
     pub target : IsTarget g p m m' t
 
   -- a target of another kind than the object that was read is null
-  pub no_struct : {p : PointerReader A g} {m m' : Meter} {x : Object} (t : ReadTarget A g) → IsGiven ExpectsStruct (reading g p).levels x → IsShown p m m' x t → ((r : StructReader A g) → t ≡ StructTarget r → ⊥) → IsNullUncharged g p m m'
+  pub no_struct : {p : PointerReader A g} {m m' : Meter} {x : Object} (t : ReadTarget A g) → IsGiven ExpectsStruct (reading g p).levels x → IsShown p m m' x t → ((r : StructReader A g) → t ≡ StructTarget r → ⊥) → (word_of (reading g p) ≡ 0) × (m' ≡ m)
   no_struct NullTarget given h other = h.target
   no_struct {p} {x = x} (CapTarget i) given h other = elim (struct_or_null x given h.read) [
     | inl null ↦ null
@@ -126,7 +146,7 @@ module _ {A : Type 0} (g : Ghosts A) where
     | inr (b, there, z) ↦ absurd (let same : h.target.0 ≡ b = same_target (reading g p).segments (reading g p).segment (reading g p).at (entered_leads h.target.1).1 there.1 in let k = rw (← same) at z in let one = h.target.2 in omega (arith, k, one))
   ]
 
-  pub no_list : (size : ElementSize) {p : PointerReader A g} {m m' : Meter} {x : Object} (t : ReadTarget A g) → IsGiven (ExpectsList size) (reading g p).levels x → IsShown p m m' x t → ((r : ListReader A g) → t ≡ ListTarget r → ⊥) → IsNullUncharged g p m m'
+  pub no_list : (size : ElementSize) {p : PointerReader A g} {m m' : Meter} {x : Object} (t : ReadTarget A g) → IsGiven (ExpectsList size) (reading g p).levels x → IsShown p m m' x t → ((r : ListReader A g) → t ≡ ListTarget r → ⊥) → (word_of (reading g p) ≡ 0) × (m' ≡ m)
   no_list size NullTarget given h other = h.target
   no_list size {p} {x = x} (CapTarget i) given h other = elim (list_or_null size x given h.read) [
     | inl null ↦ null
@@ -139,7 +159,7 @@ module _ {A : Type 0} (g : Ghosts A) where
   no_list size (ListTarget r) given h other = absurd (other r refl)
 
   -- the elements of a list that fits are wide enough
-  wide_list : (size : ElementSize) {p : PointerReader A g} {m m' : Meter} {x : Object} {r : ListReader A g} (h : IsShown p m m' x (ListTarget r)) (found : ElementSize) → misfit (ExpectsList size) (reading g p).segments h.target.0 ≡ None →
+  wide_list : (size : ElementSize) {p : PointerReader A g} {m m' : Meter} {x : Object} {r : ListReader A g} (h : IsShown p m m' x (ListTarget r)) (found : ElementSize) → (list_expected size).misfit (reading g p).segments h.target.0 ≡ None →
       IsTargetList g found (reading g p).segments r h.target.0 → IsWide size found r.struct_size
   wide_list size {p} {r = r} h InlineComposite fits list =
       (let sections : r.struct_size ≡ tag_size (reading g p).segments h.target.0 = ap₂ (λ i j. record { data_words = i; pointers = j }) list.1.data_of list.1.pointers_of in wide_structs size r.struct_size (rw sections (rw list.0 at fits)))
@@ -151,5 +171,5 @@ module _ {A : Type 0} (g : Ghosts A) where
   wide_list size h EightBytes fits list = let wide = wide_elements size 5 (rw list.0 at fits) in record { bits = wide.0; pointers = λ six. absurd (omega (arith, wide.1 six)); whole = wide.2 }
   wide_list size h Pointer fits list = let wide = wide_elements size 6 (rw list.0 at fits) in record { bits = wide.0; pointers = λ six. tt; whole = wide.2 }
 
-  pub wide_target : (size : ElementSize) {p : PointerReader A g} {m m' : Meter} {x : Object} {r : ListReader A g} → CanBeGiven (ExpectsList size) (reading g p) m → IsShown p m m' x (ListTarget r) → IsWide size r.element_size r.struct_size
-  wide_target size {p} {m} {r = r} can h = wide_list size h r.element_size (given_fits (ExpectsList size) (reading g p) m h.target.0 can (entered_leads h.target.1)) h.target.3
+  pub wide_target : (size : ElementSize) {p : PointerReader A g} {m m' : Meter} {x : Object} {r : ListReader A g} → CanBeGiven (list_expected size) (reading g p) m → IsShown p m m' x (ListTarget r) → IsWide size r.element_size r.struct_size
+  wide_target size {p} {m} {r = r} can h = wide_list size h r.element_size (given_fits (list_expected size) (reading g p) m h.target.0 can (entered_leads h.target.1)) h.target.3

@@ -1,31 +1,31 @@
 -- What a test for canonical form has charged that ends in a no or a refusal.
-use Rattle.std.proofs.Common.{◌≡◌, ℕ, sym, ap, subst}
+use Rattle.std.proofs.Common.{ℕ, sym, subst}
 use Rattle.capnp_words.specs.Meter.{Meter}
 use Rattle.capnp_words.specs.declared.error.ErrorKind.{ErrorKind}
 use Rattle.capnp_format.specs.Segments.{Target}
 use Rattle.capnp_objects.specs.Reading.{Reading}
 use Rattle.capnp_objects.specs.Refusals.{exceeding, leading_nowhere, Stopped, no_target, broken, claim_exceeds, count_exceeds}
-use Rattle.capnp_objects.specs.Spending.{Paid}
 use Rattle.capnp_objects.specs.Wanted.{plain}
 use Rattle.capnp_objects.specs.declared.object.Purpose.TheVariants.{Value}
 use Rattle.capnp_objects.proofs.Budgets.{paid_both, paid_own}
 use Rattle.capnp_objects.proofs.Walked.{paid_none}
-use Rattle.capnp_readers.specs.Checking.{Progress, FindsBefore, in_struct, in_pointers, in_element, TestEnds, here, below, TestsEnd, Unread, IsUnfit, no_near_pointer, empty_elsewhere, elsewhere, not_padded, other_claim, wide_sections, wide_elements}
+use Rattle.capnp_objects.specs.Refusals.{GoesBefore, in_struct, in_pointers, in_element}
+use Rattle.capnp_readers.specs.Checking.{Progress, FindsAll, FindsElements, TestEnds, here, below, TestsEnd, Unread, IsUnfit, no_near_pointer, empty_elsewhere, elsewhere, not_padded, other_claim, wide_sections, wide_elements}
 use Rattle.capnp_readers.specs.Laws.{IsCharged}
 
--- The pointers before one of an object's are charged, and that one is charged as the object is.
-before_charged : {r : Reading} {a : Target} {child : Reading} {from to : Progress} → FindsBefore r a child from to → (child.charging ≡ r.charging) × IsCharged r from.meter to.meter
-before_charged (in_struct ts z less e all) = (ap (λ x. x.charging) e, (_, _, all.paid))
-before_charged (in_pointers ts z six less e all) = (ap (λ x. x.charging) e, (_, _, all.paid))
-before_charged (in_element es ts between list exact fewer less e rows all) = (ap (λ x. x.charging) e, (_, _, paid_both rows.paid all.paid))
+-- The pointers before one of an object's are charged.
+before_charged : {r : Reading} {a : Target} {q : ℕ} {from to : Progress} → GoesBefore FindsAll FindsElements r a q from to → IsCharged r from.meter to.meter
+before_charged (in_struct ts z less e all) = (_, _, all.paid)
+before_charged (in_pointers ts z six less e all) = (_, _, all.paid)
+before_charged (in_element es ts between list fewer less e rows all) = (_, _, paid_both rows.paid all.paid)
 
 -- If what P says of a place is charged, so is a test that ends there.
 pub ends_charged : {P : Reading → Progress → Meter → Type 0} {r : Reading} {from : Progress} {m' : Meter} → ((s : Reading) (at : Progress) (m : Meter) → P s at m → IsCharged s at.meter m) → TestEnds P r from m' → IsCharged r from.meter m'
 ends_charged {r = r} {from = from} {m' = m'} f (here p) = f r from m' p
-ends_charged {m' = m'} f (below {mid = mid} a near o start before ends) =
-    let (same, (g, i, first)) = before_charged before in
+ends_charged f (below a q near o start exact before ends) =
+    let (g, i, first) = before_charged before in
     let (h, j, rest) = ends_charged f ends in
-    (_, _, paid_both (paid_both (paid_own o) first) (subst (λ c. Paid c mid.meter m' h j) same rest))
+    (_, _, paid_both (paid_both (paid_own o) first) rest)
 
 pub pointers_charged : {P : Reading → Progress → Meter → Type 0} {r : Reading} {i : ℕ} {from : Progress} {m' : Meter} → ((s : Reading) (at : Progress) (m : Meter) → P s at m → IsCharged s at.meter m) → TestsEnd P r i from m' → IsCharged r from.meter m'
 pointers_charged f h =

@@ -36,7 +36,8 @@ use Rattle.capnp_words.specs.declared.wire_pointer.ElementSize.{ElementSize}
 use Rattle.capnp_words.specs.Sizes.{size_number}
 use Rattle.capnp_objects.specs.declared.object.Purpose.TheVariants.{Value}
 use Rattle.capnp_readers.specs.Standing.{AllStand, ElementsStand, ElementsAccept, EndsUsed, IsPadded}
-use Rattle.capnp_readers.specs.Checking.{Progress, progress, Finds, FindsAll, FindsElements, IsFound, AreFound, AreFoundRows, IsCanonicalAt, AreCanonicalAt, TestEnds, below, in_struct, in_pointers, in_element, TestsEnd, RowTestsEnd, IsTested, StartsRight, Tells, TellsAll, TellsFlat, TellsStruct, TellsClaimed}
+use Rattle.capnp_objects.specs.Refusals.{in_struct, in_pointers, in_element}
+use Rattle.capnp_readers.specs.Checking.{Progress, progress, Finds, FindsAll, FindsElements, IsFound, AreFound, AreFoundRows, IsCanonicalAt, AreCanonicalAt, TestEnds, below, TestsEnd, RowTestsEnd, IsTested, StartsRight, Tells, TellsAll, TellsFlat, TellsStruct, TellsClaimed}
 use Rattle.capnp_readers.proofs.Accepts.{IsNear, near_to, null_stands, empty_stands, struct_stands, pointers_stand, flat_stands, structs_stand, used_where_standing, blanks_stand, data_width-blank, pointer_width-blank, words-blank}
 use Rattle.capnp_readers.proofs.Found.{struct_found, pointers_found, flat_found, structs_found, empty_found}
 use Rattle.capnp_readers.proofs.Exactly.{structs_of_tag, element_fails, widths_fail, widths_within, reached}
@@ -584,20 +585,20 @@ struct_ends_at : {P : Reading → Progress → Meter → Type 0} {r : Reading} {
     TestsEnd P (struct_pointers r a) (pointer_count a.word) (progress (a.start + data_words a.word + pointer_count a.word) m') m'' → TestEnds P r from m''
 struct_ends_at {P} {r} {from} {m'} {a = a} near o z start h =
     let goes : a.start + data_words a.word + pointer_count a.word ≡ a.start + claim a.word = omega (arith, claim_struct a.word z) in
-    below a near o start (in_struct h.first z h.fewer refl (subst (λ p. FindsAll (struct_pointers r a) (progress p m') h.mid h.first) goes h.are_found)) h.ends
+    below a (a.start + data_words a.word + count h.first) near o start (λ list. absurd (omega (arith, z, list.0))) (in_struct h.first z h.fewer refl (subst (λ p. FindsAll (struct_pointers r a) (progress p m') h.mid h.first) goes h.are_found)) h.ends
 
 pointers_end_at : {P : Reading → Progress → Meter → Type 0} {r : Reading} {from : Progress} {m' m'' : Meter} {a : Target} → kind (word_of r) < 2 → Entered Value r from.meter m' a → kind a.word ≡ 1 → element_size a.word ≡ 6 → a.start ≡ from.head →
     TestsEnd P (list_pointers r a) (list_count a.word) (progress (a.start + list_count a.word) m') m'' → TestEnds P r from m''
 pointers_end_at {P} {r} {from} {m'} {a = a} near o z six start h =
     let goes : a.start + list_count a.word ≡ a.start + claim a.word = ap (λ n. a.start + n) (sym (claim_list a.word 6 z six)) in
-    below a near o start (in_pointers h.first z six h.fewer refl (subst (λ p. FindsAll (list_pointers r a) (progress p m') h.mid h.first) goes h.are_found)) h.ends
+    below a (a.start + count h.first) near o start (λ list. absurd (omega (arith, six, list.1))) (in_pointers h.first z six h.fewer refl (subst (λ p. FindsAll (list_pointers r a) (progress p m') h.mid h.first) goes h.are_found)) h.ends
 
 structs_end_at : {P : Reading → Progress → Meter → Type 0} {r : Reading} {from : Progress} {m' m'' : Meter} {a : Target} → kind (word_of r) < 2 → Entered Value r from.meter m' a → kind a.word ≡ 1 → element_size a.word ≡ 7 → a.start ≡ from.head →
     element_words (tag r.segments a) ≡ list_count a.word → RowTestsEnd P (list_elements r a) (tag_size r.segments a) (offset_bits (tag r.segments a)) (progress (a.start + 1 + list_count a.word) m') m'' → TestEnds P r from m''
 structs_end_at {P} {r} {from} {m'} {a = a} near o z seven start exact h =
     let goes : a.start + 1 + list_count a.word ≡ a.start + claim a.word = omega (arith, claim_list a.word 7 z seven) in
-    below a near o start
-    (in_element h.first h.ends.first h.mid (z, seven) exact h.fewer h.ends.fewer refl
+    below a ((pointers_of (child_at r a (pred r.levels) (a.start + 1)) (tag_size r.segments a) (element_count h.first)).at + count h.ends.first) near o start (λ list. exact)
+    (in_element h.first h.ends.first h.mid (z, seven) h.fewer h.ends.fewer refl
     (subst (λ p. FindsElements (list_elements r a) (tag_size r.segments a) (progress p m') h.mid h.first) goes h.are_found) h.ends.are_found) h.ends.ends
 
 pub struct_ends : {P : Reading → Progress → Meter → Type 0} {r : Reading} {from : Progress} {m' m'' : Meter} (start : Place) (size : StructSize) → IsTested r → IsObject Value r from.meter m' (ObjectStruct start size) → 0 < size.data_words + size.pointers →

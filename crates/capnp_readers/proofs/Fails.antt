@@ -18,7 +18,7 @@ use Rattle.capnp_objects.specs.declared.object.Purpose.TheVariants.{Value}
 use Rattle.capnp_objects.proofs.Parts.{claim_struct, claim_list}
 use Rattle.capnp_objects.proofs.Walked.{beginning, same_place, same_size}
 use Rattle.capnp_readers.specs.Standing.{IsPadded}
-use Rattle.capnp_readers.specs.Checking.{Progress, progress, AreFound, AreFoundTooWide, IsTested, StartsRight, TellsFlat, RowTestsEnd, here, IsUnfit, empty_elsewhere, elsewhere, not_padded, other_claim, wide_sections, wide_elements, TestFails, SectionsFail, ClaimedFails}
+use Rattle.capnp_readers.specs.Checking.{Progress, progress, AreFound, AreFoundTooWide, IsTested, StartsRight, TellsFlat, RowTestsEnd, here, IsUnfit, empty_elsewhere, elsewhere, not_padded, other_claim, wide_sections, wide_elements, TestEnds, SectionsFail, ClaimedFails}
 use Rattle.capnp_readers.proofs.Checks.{near_object, struct_pointers, list_elements, used_at, padded_at, some_starts, first_element, same_elements, lists_alone, AreSeen, struct_ends, structs_end}
 use Rattle.capnp_objects.proofs.Followed.{entered_leads}
 
@@ -28,16 +28,16 @@ none_so None x f = f x
 none_so (Some a) x f = tt
 
 -- A struct without words that stands elsewhere than at its pointer; one with words, elsewhere than at the head.
-pub empty_fails : {r : Reading} {from : Progress} {m' : Meter} (start : Place) (size : StructSize) → IsTested r → IsObject Value r from.meter m' (ObjectStruct start size) → size.data_words + size.pointers ≡ 0 → start.at ≢ r.at → TestFails r from m'
+pub empty_fails : {r : Reading} {from : Progress} {m' : Meter} (start : Place) (size : StructSize) → IsTested r → IsObject Value r from.meter m' (ObjectStruct start size) → size.data_words + size.pointers ≡ 0 → start.at ≢ r.at → TestEnds IsUnfit r from m'
 empty_fails start size ready (a, o, z, (held, seg, at), wide, many) none other =
     here (empty_elsewhere a ready.near o (z, omega (arith, none, wide, many)) (λ e. other (omega (arith, e, at))))
 
-pub struct_fails : {r : Reading} {from : Progress} {m' : Meter} (start : Place) (size : StructSize) → IsTested r → IsObject Value r from.meter m' (ObjectStruct start size) → 0 < size.data_words + size.pointers → start.at ≢ from.head → TestFails r from m'
+pub struct_fails : {r : Reading} {from : Progress} {m' : Meter} (start : Place) (size : StructSize) → IsTested r → IsObject Value r from.meter m' (ObjectStruct start size) → 0 < size.data_words + size.pointers → start.at ≢ from.head → TestEnds IsUnfit r from m'
 struct_fails start size ready (a, o, z, (held, seg, at), wide, many) some other =
     here (elsewhere a ready.near o (λ none. let e = none.1 in omega (arith, e, some, wide, many)) (λ e. other (omega (arith, e, at))))
 
 -- A list that stands elsewhere than in canonical form.
-pub unplaced_fails : {r : Reading} {from : Progress} {m' : Meter} (x : Object) → IsTested r → kind (word_of r) ≡ 1 → IsObject Value r from.meter m' x → (StartsRight x r.at from.head → ⊥) → TestFails r from m'
+pub unplaced_fails : {r : Reading} {from : Progress} {m' : Meter} (x : Object) → IsTested r → kind (word_of r) ≡ 1 → IsObject Value r from.meter m' x → (StartsRight x r.at from.head → ⊥) → TestEnds IsUnfit r from m'
 unplaced_fails ObjectNull ready list object other = absurd (other tt)
 unplaced_fails {r} {from} {m'} (ObjectCapability i) ready list object other = absurd (lists_alone {r = r} from.meter m' (ObjectCapability i) ready list object)
 unplaced_fails {r} {from} {m'} (ObjectStruct start size) ready list object other = absurd (lists_alone {r = r} from.meter m' (ObjectStruct start size) ready list object)
@@ -50,7 +50,7 @@ unplaced_fails (ObjectStructs start size n) ready list (a, o, z, seven, (held, s
 
 -- A list of numbers with other bits than zeros behind them.
 pub flat_fails : {r : Reading} {from : Progress} {m' : Meter} (start : Place) (size : ElementSize) (n : ℕ) (o : Option ℕ) → IsTested r → IsObject Value r from.meter m' (ObjectFlat start size n) →
-    StartsRight (ObjectFlat start size n) r.at from.head → TellsFlat (words_of start.bytes.now) start.at size n o → IfNone o (TestFails r from m')
+    StartsRight (ObjectFlat start size n) r.at from.head → TellsFlat (words_of start.bytes.now) start.at size n o → IfNone o (TestEnds IsUnfit r from m')
 flat_fails start size n (Some e) ready object right told = tt
 flat_fails {r} {from} {m'} start size n None ready (a, o, z, small, (held, seg, at), width, len) right fails =
     here (not_padded a ready.near o (omega (arith, right, at)) z small (λ padded. fails
@@ -58,7 +58,7 @@ flat_fails {r} {from} {m'} start size n None ready (a, o, z, small, (held, seg, 
 
 -- A struct of which a pointer fails, or smaller sections would do.
 pub sections_fail : {r : Reading} {from : Progress} {m' m'' : Meter} (start : Place) (size : StructSize) → IsTested r → IsObject Value r from.meter m' (ObjectStruct start size) → 0 < size.data_words + size.pointers →
-    StartsRight (ObjectStruct start size) r.at from.head → SectionsFail (beginning r start) size m' m'' → TestFails r from m''
+    StartsRight (ObjectStruct start size) r.at from.head → SectionsFail (beginning r start) size m' m'' → TestEnds IsUnfit r from m''
 sections_fail {r} {from} {m'} {m''} start size ready object some right (inl ends) = struct_ends {r = r} {from = from} {m' = m'} {m'' = m''} start size ready object some right ends
 sections_fail {r} {from} {m'} {m''} start size ready (a, o, z, (held, seg, at), wide, many) some right (inr (e, found, unused)) =
     let begins : start.at ≡ from.head = some_starts (size.data_words + size.pointers) r.at from.head start.at some right in
@@ -72,13 +72,13 @@ sections_fail {r} {from} {m'} {m''} start size ready (a, o, z, (held, seg, at), 
 
 -- A list of structs whose elements take other words than it claims, or of which a pointer fails, or smaller elements would do.
 pub claimed_fails : {r : Reading} {from : Progress} {m' m'' : Meter} (start : Place) (size : StructSize) (n : ℕ) → IsTested r → IsObject Value r from.meter m' (ObjectStructs start size n) →
-    StartsRight (ObjectStructs start size n) r.at from.head → ClaimedFails (first_element r start) size n (list_count (word_of r)) m' m'' → TestFails r from m''
+    StartsRight (ObjectStructs start size n) r.at from.head → ClaimedFails (first_element r start) size n (list_count (word_of r)) m' m'' → TestEnds IsUnfit r from m''
 claimed_fails {r} {from} {m'} {m''} start size n ready (a, o, z, seven, (held, seg, at), many, wide, pointers) right (inl (other, same)) =
     let S : Segments = r.segments in
     let claimed : list_count (word_of r) ≡ list_count a.word = ap list_count (sym (near_object r ready.near (entered_leads o)).same_word) in
     let of_size : size ≡ tag_size S a = same_size S a wide pointers in
     let words : n * (size.data_words + size.pointers) ≡ element_words (tag S a) = ap₂ (λ i j. i * (j.data_words + j.pointers)) many of_size in
-    subst (λ m. TestFails r from m) (sym same) (here (other_claim a ready.near o (omega (arith, right, at)) (z, seven) (λ e. other (words ∙ e ∙ sym claimed))))
+    subst (λ m. TestEnds IsUnfit r from m) (sym same) (here (other_claim a ready.near o (omega (arith, right, at)) (z, seven) (λ e. other (words ∙ e ∙ sym claimed))))
 claimed_fails {r} {from} {m'} {m''} start size n ready object right (inr (exact, inl ends)) =
     structs_end {r = r} {from = from} {m' = m'} {m'' = m''} start size n ready object right exact (subst (λ w. RowTestsEnd IsUnfit (first_element r start) size n (progress (start.at + w) m') m'') exact ends)
 claimed_fails {r} {from} {m'} {m''} start size n ready (a, o, z, seven, (held, seg, at), many, wide, pointers) right (inr (exact, inr (e, found))) =

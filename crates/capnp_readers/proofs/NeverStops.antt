@@ -10,7 +10,8 @@ use Rattle.capnp_words.specs.declared.error.ErrorKind.{ErrorKind}
 use Rattle.capnp_objects.specs.Demands.{claim, tag, own}
 use Rattle.capnp_objects.specs.Outcomes.{Entered}
 use Rattle.capnp_objects.specs.Reading.{Reading, word_of, segment_read, behind, pointers_of, tag_size}
-use Rattle.capnp_objects.specs.Refusals.{here as stopped_here}
+use Rattle.capnp_objects.specs.Faults.{child_at}
+use Rattle.capnp_objects.specs.Refusals.{in_struct, in_pointers, in_element, here as stopped_here}
 use Rattle.capnp_objects.specs.Spending.{Paid}
 use Rattle.capnp_objects.specs.declared.object.Purpose.TheVariants.{Value}
 use Rattle.capnp_format.proofs.Slices.{length_words}
@@ -21,7 +22,7 @@ use Rattle.capnp_objects.proofs.Parts.{claim_struct, claim_list}
 use Rattle.capnp_objects.proofs.Refusals.{unreadable}
 use Rattle.capnp_objects.proofs.Walked.{paid_none}
 use Rattle.capnp_readers.specs.Standing.{AllStand, ElementsStand}
-use Rattle.capnp_readers.specs.Checking.{Progress, FindsAll, FindsElements, CanBeFound, CanAllBeFound, behind_object, in_struct, in_pointers, in_element, TestStops, here, below, TestsStop}
+use Rattle.capnp_readers.specs.Checking.{Progress, FindsAll, FindsElements, CanBeFound, CanAllBeFound, behind_object, TestStops, here, below, TestsStop}
 use Rattle.capnp_readers.proofs.Chains.{all_within, elements_within}
 use Rattle.capnp_readers.proofs.Checks.{near_object, all_at, struct_at, list_at, struct_pointers, list_pointers, list_elements}
 use Rattle.capnp_readers.proofs.Found.{struct_found, pointers_found, structs_found}
@@ -160,10 +161,12 @@ structs_next {r} {from = from} {between = between} {mid = mid} {first = first} {
 pub stops_never : {k : ErrorKind} {r : Reading} {from : Progress} {m' : Meter} → TestStops k r from m' → CanBeFound r from → ⊥
 stops_never {r = r} {from = from} (here u) (t, stands, inside, levels, covers) =
     (unreadable (stopped_here u.stopped)).only t (charge t) (stands_means_at r.segments r.levels r.segment r.at from.head t levels inside stands) (λ none. absurd none) covers
-stops_never {r = r} {from = from} (below {mid = mid} a near o start (in_struct ts z less e all) stops) can = stops_never stops (subst (λ x. CanBeFound x mid) (sym e) (struct_next ts near o z less all can))
-stops_never {r = r} {from = from} (below {mid = mid} a near o start (in_pointers ts z six less e all) stops) can = stops_never stops (subst (λ x. CanBeFound x mid) (sym e) (pointers_next ts near o z six less all can))
-stops_never {r = r} {from = from} (below {mid = mid} a near o start (in_element es ts between list exact fewer less e rows all) stops) can =
-    stops_never stops (subst (λ x. CanBeFound x mid) (sym e) (structs_next es ts near o list fewer less rows all can))
+stops_never {r = r} {from = from} (below {mid = mid} a q near o start exact (in_struct ts z less e all) stops) can =
+    stops_never stops (subst (λ y. CanBeFound (child_at r a (pred r.levels) y) mid) (sym e) (struct_next ts near o z less all can))
+stops_never {r = r} {from = from} (below {mid = mid} a q near o start exact (in_pointers ts z six less e all) stops) can =
+    stops_never stops (subst (λ y. CanBeFound (child_at r a (pred r.levels) y) mid) (sym e) (pointers_next ts near o z six less all can))
+stops_never {r = r} {from = from} (below {mid = mid} a q near o start exact (in_element es ts between list fewer less e rows all) stops) can =
+    stops_never stops (subst (λ y. CanBeFound (child_at r a (pred r.levels) y) mid) (sym e) (structs_next es ts near o list fewer less rows all can))
 
 pub row_stops_never : {k : ErrorKind} {r : Reading} {i : ℕ} {from : Progress} {m' : Meter} → TestsStop r i from m' k → from.head ≤ length (segment_read r) → CanAllBeFound r i from → ⊥
 row_stops_never {r = r} {from = from} h inside (us, len, stand, levels, covers) =

@@ -17,12 +17,11 @@ use Rattle.capnp_objects.specs.declared.object.Object.TheVariants.{Null as Objec
 use Rattle.capnp_objects.specs.Demands.{claim, tag, element_words, IsStructList}
 use Rattle.capnp_objects.specs.Faults.{child_at}
 use Rattle.capnp_objects.specs.Outcomes.{Entered}
-use Rattle.capnp_objects.specs.Reading.{Reading, word_of, segment_read, behind, pointers_of, sized, tag_size}
-use Rattle.capnp_objects.specs.Refusals.{Stopped}
+use Rattle.capnp_objects.specs.Reading.{Reading, source_start, word_of, segment_read, behind, pointers_of, sized, tag_size}
+use Rattle.capnp_objects.specs.Refusals.{Stopped, GoesBefore}
 use Rattle.capnp_objects.specs.Spending.{Paid, pointers_in, pointers_in_all, pointers_in_elements}
 use Rattle.capnp_objects.specs.Wanted.{plain}
 use Rattle.capnp_arena.specs.declared.arena.reader_arena.ReaderArena.{Ghosts}
-use Rattle.capnp_objects.specs.Source.{source_segments}
 use Rattle.capnp_objects.specs.declared.source.Source.TheVariants.{Nothing}
 use Rattle.capnp_objects.specs.declared.object.Purpose.TheVariants.{Value}
 use Rattle.capnp_readers.specs.Sizes.{own_words, pointers_read}
@@ -154,45 +153,18 @@ pub record Unread (r : Reading) (m m' : Meter) (k : ErrorKind) : Type 0 where
 abbrev pub behind_object : Target → Meter → Progress
 behind_object a m = progress (a.start + claim a.word) m
 
--- The pointers of an object a before one of its pointers, which is read as the place `child`, are canonical.
-pub data FindsBefore (r : Reading) (a : Target) (child : Reading) (from to : Progress) : Type 0 where
-  in_struct :
-      (ts : Trees) →
-      kind a.word ≡ 0 →
-      count ts < pointer_count a.word →
-      child ≡ child_at r a (pred r.levels) (a.start + data_words a.word + count ts) →
-      FindsAll (child_at r a (pred r.levels) (a.start + data_words a.word)) from to ts →
-      FindsBefore r a child from to
-  in_pointers :
-      (ts : Trees) →
-      kind a.word ≡ 1 →
-      element_size a.word ≡ 6 →
-      count ts < list_count a.word →
-      child ≡ child_at r a (pred r.levels) (a.start + count ts) →
-      FindsAll (child_at r a (pred r.levels) a.start) from to ts →
-      FindsBefore r a child from to
-  in_element :
-      (es : Elements) (ts : Trees) (mid : Progress) →
-      IsStructList a.word →
-      element_words (tag r.segments a) ≡ list_count a.word →
-      element_count es < offset_bits (tag r.segments a) →
-      count ts < pointer_count (tag r.segments a) →
-      child ≡ behind (pointers_of (child_at r a (pred r.levels) (a.start + 1)) (tag_size r.segments a) (element_count es)) (count ts) →
-      FindsElements (child_at r a (pred r.levels) (a.start + 1)) (tag_size r.segments a) from mid es →
-      FindsAll (pointers_of (child_at r a (pred r.levels) (a.start + 1)) (tag_size r.segments a) (element_count es)) mid to ts →
-      FindsBefore r a child from to
-
--- The test of a place ends where P says so: at the place itself; or its object is read and starts at the head, and the test of
--- one of its pointers ends, those before that one being canonical.
+-- The test of a place ends where P says so: at the place itself; or its object is read, starts at the head and claims what its
+-- elements take, and the test of one of its pointers ends, those before that one being canonical.
 pub data TestEnds (P : Reading → Progress → Meter → Type 0) : Reading → Progress → Meter → Type 0 where
   here : {r : Reading} {from : Progress} {m' : Meter} → P r from m' → TestEnds P r from m'
   below :
-      {r child : Reading} {from mid : Progress} {first m' : Meter} (a : Target) →
+      {r : Reading} {from mid : Progress} {first m' : Meter} (a : Target) (q : ℕ) →
       kind (word_of r) < 2 →
       Entered Value r from.meter first a →
       a.start ≡ from.head →
-      FindsBefore r a child (behind_object a first) mid →
-      TestEnds P child mid m' →
+      (IsStructList a.word → element_words (tag r.segments a) ≡ list_count a.word) →
+      GoesBefore FindsAll FindsElements r a q (behind_object a first) mid →
+      TestEnds P (child_at r a (pred r.levels) q) mid m' →
       TestEnds P r from m'
 
 -- The test of i pointers from a place on ends at one of them, those before it being canonical.
@@ -279,20 +251,12 @@ pub data IsUnfit (r : Reading) (from : Progress) (m' : Meter) : Type 0 where
       AreFoundTooWide (child_at r a (pred r.levels) (a.start + 1)) (tag_size r.segments a) (offset_bits (tag r.segments a)) (behind_object a first) (progress e m') →
       IsUnfit r from m'
 
--- The test of a place fails, which is a no: a place is unfit, those before it being canonical. So does that of one of i
--- pointers from a place on.
-abbrev pub TestFails : Reading → Progress → Meter → Type 0
-TestFails r from m' = TestEnds IsUnfit r from m'
-
-abbrev pub TestsFail : Reading → ℕ → Progress → Meter → Type 0
-TestsFail r i from m' = TestsEnd IsUnfit r i from m'
-
 -- The test of a struct of this size that starts at a place fails: that of its pointers does, or smaller sections would do.
 abbrev pub SectionsFail : Reading → StructSize → Meter → Meter → Type 0
 SectionsFail r size m m' =
     let pointers = behind r size.data_words in
     let from = progress (r.at + size.data_words + size.pointers) m in
-    TestsFail pointers size.pointers from m'
+    TestsEnd IsUnfit pointers size.pointers from m'
     ⊎ ((e : ℕ) × AreFound pointers size.pointers from (progress e m') × (AreUsed r size → ⊥))
 
 -- The test of n elements, the first object behind them, fails: that of their pointers does, or a smaller size would do.
@@ -316,25 +280,18 @@ module _ {A : Type 0} (g : Ghosts A) where
   abbrev pub IsCanonicalStruct : StructReader A g → ℕ → ℕ → Type 0
   IsCanonicalStruct r h bodies = StartsWhole r h × AreCanonicalAt (pointers_read g r) r.pointer_count bodies
 
-  -- A struct's pointers are canonical, from one progress to another; or the test of one of them stops by the name k.
-  abbrev pub ArePointersFound : StructReader A g → Progress → Progress → Type 0
-  ArePointersFound r from to = AreFound (pointers_read g r) r.pointer_count from to
-
-  abbrev pub PointerTestsStop : StructReader A g → Progress → Meter → ErrorKind → Type 0
-  PointerTestsStop r from m' k = TestsStop (pointers_read g r) r.pointer_count from m' k
-
   -- The test of a struct at a head fails: the struct doesn't start there, and nothing is counted or charged; or that of one of
   -- its pointers fails.
   abbrev pub StructTestFails : StructReader A g → ℕ → Progress → Meter → Type 0
   StructTestFails r h from m' =
-      ((StartsWhole r h → ⊥) × (m' ≡ from.meter)) ⊎ (StartsWhole r h × TestsFail (pointers_read g r) r.pointer_count from m')
+      ((StartsWhole r h → ⊥) × (m' ≡ from.meter)) ⊎ (StartsWhole r h × TestsEnd IsUnfit (pointers_read g r) r.pointer_count from m')
 
   -- The data section is empty or ends in a word that is not zero; so does the pointer section.
   abbrev pub IsDataUsed : StructReader A g → Type 0
-  IsDataUsed r = EndsUsed (source_segments g.segments r.source) r.pointers.segment (r.byte / 8) (r.bits / 64)
+  IsDataUsed r = EndsUsed (source_start g r.source).segments r.pointers.segment (r.byte / 8) (r.bits / 64)
 
   abbrev pub ArePointersUsed : StructReader A g → Type 0
-  ArePointersUsed r = EndsUsed (source_segments g.segments r.source) r.pointers.segment r.pointers.at r.pointer_count
+  ArePointersUsed r = EndsUsed (source_start g r.source).segments r.pointers.segment r.pointers.at r.pointer_count
 
   -- The head behind a struct's own words; the greatest head stays what it is.
   abbrev pub head_behind : StructReader A g → ℕ → ℕ

@@ -9,7 +9,7 @@ use Rattle.capnp_objects.specs.Outcomes.{MeansThere, Reads}
 use Rattle.capnp_objects.specs.Spending.{Paid}
 use Rattle.capnp_objects.specs.Reading.{Reading, word_of, segment_read}
 use Rattle.capnp_objects.specs.Wanted.{canonical}
-use Rattle.capnp_readers.specs.Checking.{Progress, progress, Finds, CanBeFound, CanAllBeFound, TestStops, TestsStop, TestFails, TestsFail}
+use Rattle.capnp_readers.specs.Checking.{Progress, progress, Finds, CanBeFound, CanAllBeFound, TestStops, TestsStop, TestEnds, IsUnfit, TestsEnd}
 
 -- The test of a place is not refused where canonical words stand that the limits cover; nor is that of i pointers, the head of
 -- which lies in the segment.
@@ -52,8 +52,8 @@ IsCharged r m m' = (g : ℕ) × (i : ℕ) × Paid r.charging m m' g i
 
 -- A test that fails or stops has charged as reading does; so has that of i pointers.
 abbrev pub EndIsCharged : Type 0
-EndIsCharged = (r : Reading) (from : Progress) (m' : Meter) → (TestFails r from m' → IsCharged r from.meter m') × ((k : ErrorKind) → TestStops k r from m' → IsCharged r from.meter m')
+EndIsCharged = (r : Reading) (from : Progress) (m' : Meter) → (TestEnds IsUnfit r from m' → IsCharged r from.meter m') × ((k : ErrorKind) → TestStops k r from m' → IsCharged r from.meter m')
 
 abbrev pub PointersEndIsCharged : Type 0
 PointersEndIsCharged =
-    (r : Reading) (i : ℕ) (from : Progress) (m' : Meter) → (TestsFail r i from m' → IsCharged r from.meter m') × ((k : ErrorKind) → TestsStop r i from m' k → IsCharged r from.meter m')
+    (r : Reading) (i : ℕ) (from : Progress) (m' : Meter) → (TestsEnd IsUnfit r i from m' → IsCharged r from.meter m') × ((k : ErrorKind) → TestsStop r i from m' k → IsCharged r from.meter m')

@@ -10,10 +10,9 @@ use Rattle.capnp_words.specs.declared.wire_pointer.ElementSize.{ElementSize}
 use Rattle.capnp_words.specs.declared.wire_pointer.ElementSize.TheVariants.{Pointer, InlineComposite}
 use Rattle.capnp_arena.specs.declared.arena.reader_arena.ReaderArena.{Ghosts}
 use Rattle.capnp_objects.specs.Demands.{tag}
-use Rattle.capnp_objects.specs.Reading.{Reading, reading_at, word_of}
+use Rattle.capnp_objects.specs.Reading.{Reading, source_start, reading_at, word_of}
 use Rattle.capnp_objects.specs.Outcomes.{Entered}
 use Rattle.capnp_readers.specs.Sections.{bytes_for, elements_words, step_bits}
-use Rattle.capnp_objects.specs.Source.{source_segments}
 use Rattle.capnp_objects.specs.Spending.{after}
 use Rattle.capnp_objects.specs.declared.object.Purpose.TheVariants.{Value}
 use Rattle.capnp_readers.specs.declared.readers.PointerReader.{PointerReader}
@@ -62,8 +61,8 @@ module _ {A : Type 0} (g : Ghosts A) where
   ShowsElement InlineComposite list i r =
       let d = list.struct_size.data_words in
       let q = list.struct_size.pointers in
-      ShowsStruct (source_segments g.segments list.source) r list.start.segment (list.start.at + i * (d + q)) d q
-  ShowsElement Pointer list i r = ShowsStruct (source_segments g.segments list.source) r list.start.segment (list.start.at + i) 0 1
+      ShowsStruct (source_start g list.source).segments r list.start.segment (list.start.at + i * (d + q)) d q
+  ShowsElement Pointer list i r = ShowsStruct (source_start g list.source).segments r list.start.segment (list.start.at + i) 0 1
   ShowsElement size list i r =
       (r.bits ≡ element_bits (size_number size)) × (r.byte ≡ 8 * list.start.at + i * (r.bits / 8))
       × (r.content.now ≡ slice_range list.content.now (i * (r.bits / 8)) (i * (r.bits / 8) + r.bits / 8)) × (r.pointer_count ≡ 0)
@@ -82,10 +81,6 @@ module _ {A : Type 0} (g : Ghosts A) where
   abbrev pub reading : PointerReader A g → Reading
   reading r = reading_at g r.source r.place r.nesting_limit
 
-  -- The pointer is null, and nothing is counted or charged.
-  abbrev pub IsNullUncharged : PointerReader A g → Meter → Meter → Type 0
-  IsNullUncharged from m m' = (word_of (reading from) ≡ 0) × (m' ≡ m)
-
   -- The pointer of a reader leads to the struct that another shows, whose words are checked and charged, from m to m'. That one
   -- reads the same source, with one level less.
   abbrev pub IsStructThere : PointerReader A g → Meter → Meter → StructReader A g → Type 0
@@ -102,7 +97,7 @@ module _ {A : Type 0} (g : Ghosts A) where
 
   -- What the pointer of a reader leads to: its words are checked and charged, from m to m'.
   abbrev pub IsTarget : PointerReader A g → Meter → Meter → ReadTarget A g → Type 0
-  IsTarget from m m' Null = IsNullUncharged from m m'
+  IsTarget from m m' Null = (word_of (reading from) ≡ 0) × (m' ≡ m)
   IsTarget from m m' (Cap i) =
       (a : Target) × FollowsTo (reading from) a × (a.word % 2 ^ 32 ≡ 3) × (i ≡ upper_half a.word)
       × Affords (reading from).charging m a.pads × (m' ≡ after (reading from).charging m a.pads 1)

@@ -1,16 +1,16 @@
 //! Readers: pointers, structs and lists of a message, in place.
-ghost use Rattle.std.specs.Prelude.{◌≡◌, Some, ◌<◌, ◌≤◌, ◌+◌, ◌*◌, ◌/◌, ◌^◌, ◌↔◌, ℕ, pos, false, ⊤, IsTrue, IfOk, IsOk, OnOk, OnErr, IfErr, IfSome, length, take, drop};
+ghost use Rattle.std.specs.Prelude.{◌≡◌, Some, Ok, ◌<◌, ◌≤◌, ◌+◌, ◌*◌, ◌/◌, ◌^◌, ◌↔◌, ℕ, pos, false, ⊤, IsTrue, IfOk, IsOk, OnOk, OnErr, IfErr, IfSome, length, take, drop};
 ghost use Rattle.capnp_format.specs.Bytes.{message};
 ghost use Rattle.capnp_words.specs.Meter.{Meter, Affords, charged};
 ghost use Rattle.capnp_format.specs.Segments.{word_at, segment, IsPlace};
 ghost use Rattle.capnp_words.specs.declared.error.ErrorKind.TheVariants.{MessageContainsOutOfBoundsPointer, ReadLimitExceeded};
 ghost use Rattle.capnp_arena.specs.Checks.{Holds, misplaced};
-ghost use Rattle.capnp_objects.specs.Source.{source_segments, source_charging, default_segment, levels};
+ghost use Rattle.capnp_objects.specs.Source.{default_segment, levels};
 ghost use Rattle.capnp_objects.specs.Refusals.{Stopped, CanBeRead};
 ghost use Rattle.capnp_objects.specs.Objects.{IsHeld};
-ghost use Rattle.capnp_objects.specs.Reading.{reading_at, word_of};
+ghost use Rattle.capnp_objects.specs.Reading.{source_start, reading_at, word_of};
 ghost use Rattle.capnp_objects.specs.Objects.{IsFew, IsObject};
-ghost use Rattle.capnp_objects.specs.Expected.{null_default, IsGiven};
+ghost use Rattle.capnp_objects.specs.Expected.{expectation, struct_expected, list_expected, text_expected, data_expected, CanBeGiven, IsGiven};
 ghost use Rattle.capnp_objects.specs.Types.{IsNoCapability, IsOfType, HasType, HasNoType};
 ghost use Rattle.capnp_format.specs.Word.{lower_half, upper_half};
 ghost use Rattle.capnp_objects.specs.Wanted.{plain};
@@ -62,7 +62,7 @@ pub struct PointerReader<'a, A: ReaderArena> {
     pub place: Place<'a>,
     /// How many levels of structs and lists may be entered from here, none below 1.
     pub nesting_limit: i32,
-    ghost held: { IsHeld (source_segments A.segments source) place },
+    ghost held: { IsHeld (source_start A.ReaderArena source).segments place },
 }
 
 impl<'a, A: ReaderArena> Clone for PointerReader<'a, A> {
@@ -79,7 +79,7 @@ impl<'a, A: ReaderArena> Copy for PointerReader<'a, A> {}
 
 impl<'a, A: ReaderArena> PointerReader<'a, A> {
     ghost use Rattle.capnp_readers.specs.Readers.{IsTarget, reading};
-    ghost use Rattle.capnp_readers.specs.Calls.{call, IsRead, IsUnread, IsAnswered, IsRefused, WhereRead, IsListRead, IsStructRead, AreBytesRead};
+    ghost use Rattle.capnp_readers.specs.Calls.{IsRead, IsRefused, WhereRead, IsListRead, IsStructRead, AreBytesRead};
 
     /// The pointer from nothing, which is null. Its nesting limit is `i32::MAX`.
     pub fn new_default() -> Self
@@ -194,10 +194,9 @@ impl<'a, A: ReaderArena> PointerReader<'a, A> {
     fn default_of(self, expected: Expected, bytes: &'a [u8]) -> Result<Self, ErrorKind>
         requires null { word_of (reading A.ReaderArena self) ≡ 0 }
         requires small { length bytes.now / 8 < 2 ^ 32 }
-        ensures read { IfOk result (λ p. IsRead A.ReaderArena expected self.entry p
-            (Some bytes.entry)) }
-        ensures unread { IfErr result
-            (λ k. IsUnread A.ReaderArena expected self.entry k (Some bytes.entry)) }
+        ensures { let default = Some bytes.entry in IsRead A.ReaderArena
+            (record { from = self.entry; expected = expectation expected; default = default })
+            result }
     {
         let default = match Self::from_default(bytes) {
             Ok(default) => default,
@@ -221,9 +220,9 @@ impl<'a, A: ReaderArena> PointerReader<'a, A> {
     #[inline(always)]
     fn or_default(self, expected: Expected, default: Option<&'a [u8]>) -> Result<Self, ErrorKind>
         requires small { IfSome default (λ bytes. length bytes.now / 8 < 2 ^ 32) }
-        ensures read { IfOk result (λ p. IsRead A.ReaderArena expected self.entry p default.entry) }
-        ensures unread { IfErr result
-            (λ k. IsUnread A.ReaderArena expected self.entry k default.entry) }
+        ensures { IsRead A.ReaderArena
+            (record { from = self.entry; expected = expectation expected; default = default.entry })
+            result }
     {
         match default {
             None => Ok(self),
@@ -246,17 +245,19 @@ impl<'a, A: ReaderArena> PointerReader<'a, A> {
         default: Option<&'a [u8]>,
     ) -> Result<(Self, Object<'a>), ErrorKind>
         requires small { IfSome default (λ bytes. length bytes.now / 8 < 2 ^ 32) }
-        ensures read { IfOk result (λ x.
-            IsRead A.ReaderArena expected self.entry x.0 default.entry) }
+        ensures read { IfOk result (λ x. IsRead A.ReaderArena
+            (record { from = self.entry; expected = expectation expected; default = default.entry })
+            (Ok x.0)) }
         ensures object { IfOk result (λ x.
             IsObject Value (reading_at A.ReaderArena x.0.source x.0.place (pos 1))
             lim.old lim.new x.1) }
         ensures given { IfOk result (λ x. IsGiven expected (reading A.ReaderArena x.0).levels x.1) }
         ensures few { IfOk result (λ x. IsFew x.1) }
-        ensures exactly { IsOk result ↔ IsAnswered A.ReaderArena
-            (call A.ReaderArena self.entry expected default.entry) lim.old }
-        ensures refused { IfErr result
-            (IsRefused A.ReaderArena (call A.ReaderArena self.entry expected default.entry)
+        ensures exactly { IsOk result ↔ WhereRead A.ReaderArena
+            (record { from = self.entry; expected = expectation expected; default = default.entry })
+            (λ p. CanBeGiven (expectation expected) (reading A.ReaderArena p) lim.old) }
+        ensures refused { IfErr result (IsRefused A.ReaderArena
+            (record { from = self.entry; expected = expectation expected; default = default.entry })
             lim.old lim.new) }
     {
         let from = match self.or_default(expected, default) {
@@ -292,12 +293,13 @@ impl<'a, A: ReaderArena> PointerReader<'a, A> {
     ) -> Result<StructReader<'a, A>, ErrorKind>
         requires small { IfSome default (λ bytes. length bytes.now / 8 < 2 ^ 32) }
         ensures read { IfOk result (λ r. WhereRead A.ReaderArena
-            (call A.ReaderArena self.entry Expected.Struct default.entry)
+            (record { from = self.entry; expected = struct_expected; default = default.entry })
             (λ p. IsStructRead A.ReaderArena p lim.old lim.new r)) }
-        ensures exactly { IsOk result ↔ IsAnswered A.ReaderArena
-            (call A.ReaderArena self.entry Expected.Struct default.entry) lim.old }
-        ensures refused { IfErr result
-            (IsRefused A.ReaderArena (call A.ReaderArena self.entry Expected.Struct default.entry)
+        ensures exactly { IsOk result ↔ WhereRead A.ReaderArena
+            (record { from = self.entry; expected = struct_expected; default = default.entry })
+            (λ p. CanBeGiven struct_expected (reading A.ReaderArena p) lim.old) }
+        ensures refused { IfErr result (IsRefused A.ReaderArena
+            (record { from = self.entry; expected = struct_expected; default = default.entry })
             lim.old lim.new) }
     {
         let (from, object) = match self.expect(Expected::Struct, lim, default) {
@@ -332,15 +334,14 @@ impl<'a, A: ReaderArena> PointerReader<'a, A> {
         default: Option<&'a [u8]>,
     ) -> Result<ListReader<'a, A>, ErrorKind>
         requires small { IfSome default (λ bytes. length bytes.now / 8 < 2 ^ 32) }
-        ensures read { IfOk result (λ r. WhereRead A.ReaderArena
-            (call A.ReaderArena self.entry (Expected.List expected_element_size) default.entry)
-            (λ p. IsListRead A.ReaderArena expected_element_size p lim.old lim.new r)) }
-        ensures exactly { IsOk result ↔ IsAnswered A.ReaderArena
-            (call A.ReaderArena self.entry (Expected.List expected_element_size) default.entry)
-            lim.old }
-        ensures refused { IfErr result
-            (IsRefused A.ReaderArena
-            (call A.ReaderArena self.entry (Expected.List expected_element_size) default.entry)
+        ensures read { let size = expected_element_size in IfOk result (λ r. WhereRead A.ReaderArena
+            (record { from = self.entry; expected = list_expected size; default = default.entry })
+            (λ p. IsListRead A.ReaderArena size p lim.old lim.new r)) }
+        ensures exactly { let size = expected_element_size in IsOk result ↔ WhereRead A.ReaderArena
+            (record { from = self.entry; expected = list_expected size; default = default.entry })
+            (λ p. CanBeGiven (list_expected size) (reading A.ReaderArena p) lim.old) }
+        ensures refused { let size = expected_element_size in IfErr result (IsRefused A.ReaderArena
+            (record { from = self.entry; expected = list_expected size; default = default.entry })
             lim.old lim.new) }
     {
         let expected = Expected::List(expected_element_size);
@@ -372,12 +373,13 @@ impl<'a, A: ReaderArena> PointerReader<'a, A> {
     ) -> Result<&'a [u8], ErrorKind>
         requires small { IfSome default (λ bytes. length bytes.now / 8 < 2 ^ 32) }
         ensures read { IfOk result (λ bytes. WhereRead A.ReaderArena
-            (call A.ReaderArena self.entry Expected.Text default.entry)
+            (record { from = self.entry; expected = text_expected; default = default.entry })
             (λ p. AreBytesRead A.ReaderArena 1 p lim.old lim.new bytes.now)) }
-        ensures exactly { IsOk result ↔ IsAnswered A.ReaderArena
-            (call A.ReaderArena self.entry Expected.Text default.entry) lim.old }
-        ensures refused { IfErr result
-            (IsRefused A.ReaderArena (call A.ReaderArena self.entry Expected.Text default.entry)
+        ensures exactly { IsOk result ↔ WhereRead A.ReaderArena
+            (record { from = self.entry; expected = text_expected; default = default.entry })
+            (λ p. CanBeGiven text_expected (reading A.ReaderArena p) lim.old) }
+        ensures refused { IfErr result (IsRefused A.ReaderArena
+            (record { from = self.entry; expected = text_expected; default = default.entry })
             lim.old lim.new) }
     {
         let (_, object) = match self.expect(Expected::Text, lim, default) {
@@ -403,12 +405,13 @@ impl<'a, A: ReaderArena> PointerReader<'a, A> {
     ) -> Result<&'a [u8], ErrorKind>
         requires small { IfSome default (λ bytes. length bytes.now / 8 < 2 ^ 32) }
         ensures read { IfOk result (λ bytes. WhereRead A.ReaderArena
-            (call A.ReaderArena self.now Expected.Data default.entry)
+            (record { from = self.now; expected = data_expected; default = default.entry })
             (λ p. AreBytesRead A.ReaderArena 0 p lim.old lim.new bytes.now)) }
-        ensures exactly { IsOk result ↔ IsAnswered A.ReaderArena
-            (call A.ReaderArena self.now Expected.Data default.entry) lim.old }
-        ensures refused { IfErr result
-            (IsRefused A.ReaderArena (call A.ReaderArena self.now Expected.Data default.entry)
+        ensures exactly { IsOk result ↔ WhereRead A.ReaderArena
+            (record { from = self.now; expected = data_expected; default = default.entry })
+            (λ p. CanBeGiven data_expected (reading A.ReaderArena p) lim.old) }
+        ensures refused { IfErr result (IsRefused A.ReaderArena
+            (record { from = self.now; expected = data_expected; default = default.entry })
             lim.old lim.new) }
     {
         let (_, object) = match self.expect(Expected::Data, lim, default) {
@@ -536,7 +539,7 @@ fn bytes_at<'a>(start: Place<'a>, count: u32) -> &'a [u8]
 
 // How a default is refused whose pointer is null: to a struct and a list it is as none.
 fn name_of_null_default(expected: Expected) -> Option<ErrorKind>
-    ensures { result ≡ null_default expected }
+    ensures { result ≡ (expectation expected).null_default }
 {
     match expected {
         Expected::Struct | Expected::List(_) => None,

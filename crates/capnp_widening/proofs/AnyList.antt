@@ -13,7 +13,7 @@ use Rattle.capnp_making.specs.Existing.{list_in, plain_list, struct_list, size_o
 use Rattle.capnp_making.specs.Stored.{IsStored}
 use Rattle.capnp_making.proofs.Filling.{unchanged}
 use Rattle.capnp_widening.specs.RowsRemade.{ListLiesIn, BecomesList, IsList, WidensTo, WidensList, LeadsToWiderList}
-use Rattle.capnp_widening.specs.Widened.{list_widened}
+use Rattle.capnp_widening.specs.Widened.{list_widened, rewriting}
 use Rattle.capnp_widening.proofs.ListSteps.{structs_stored}
 use Rattle.capnp_widening.proofs.Listed.{same_list, no_list, not_a_list, flat_found, void_fits}
 use Rattle.capnp_widening.proofs.PlainLists.{are_numbers}
@@ -46,7 +46,7 @@ unfound_refused a (Flat w ns) d q k e = let f = sym (ap (λ o. unless o (plain_l
 unfound_refused a (Pointers ts) d q k e = cc
 unfound_refused a (Structs w v es) d q k e = cc
 
-pub null_stays : (S : Segments) (s p : ℕ) (size : StructSize) → ((t : Tree) → IsStored S s p t → Ok None ≡ list_in (target S s p) Void t) → WidensList S S s p size
+pub null_stays : (S : Segments) (s p : ℕ) (size : StructSize) → ((t : Tree) → IsStored S s p t → Ok None ≡ list_in (target S s p) Void t) → WidensList size (rewriting s p S S)
 null_stays S s p size found = λ t x.
     (let null : t ≡ Null = none_is_null (target S s p) t (sym (found t x)) in
     (t, ap (list_widened size.data_words size.pointers) null ∙ ap (λ u. Ok u) (sym null), unchanged S s p t x))
@@ -54,7 +54,7 @@ null_stays S s p size found = λ t x.
 same_tree : (x y : Tree) → ◌≡◌ {A = Result Tree ErrorKind} (Ok x) (Ok y) → x ≡ y
 same_tree x y e = cc
 
-pub null_leads : (S : Segments) (s p : ℕ) (size : StructSize) → ((t : Tree) → IsStored S s p t → Ok None ≡ list_in (target S s p) Void t) → LeadsToWiderList S S s p size None
+pub null_leads : (S : Segments) (s p : ℕ) (size : StructSize) → ((t : Tree) → IsStored S s p t → Ok None ≡ list_in (target S s p) Void t) → LeadsToWiderList size (rewriting s p S S) None
 null_leads S s p size found = λ t u x e.
     (let null : t ≡ Null = none_is_null (target S s p) t (sym (found t x)) in
     let same : u ≡ Null = sym (same_tree Null u (ap (list_widened size.data_words size.pointers) (sym null) ∙ e)) in
@@ -70,14 +70,14 @@ list_inside R s p (Flat w ns) m x e = subst (ListLiesIn R) (flat_found (target R
 list_inside R s p (Pointers ts) m x e = subst (ListLiesIn R) (same_list (plain_list (target R s p) Pointer (count ts)) m e) (omega (arith, (pointers_stored R s p ts x).fits))
 list_inside R s p (Structs d q es) m x e = subst (ListLiesIn R) (same_list (struct_list (target R s p) d q (element_count es)) m e) (omega (arith, (structs_stored R s p d q es x).fits))
 
-pub list_widens : (S R : Segments) (s p : ℕ) (size : StructSize) (l m : ExistingList) → ((t : Tree) → IsStored S s p t → Ok (Some l) ≡ list_in (target S s p) Void t) → WidensTo S R s p l size m → WidensList S R s p size
+pub list_widens : (S R : Segments) (s p : ℕ) (size : StructSize) (l m : ExistingList) → ((t : Tree) → IsStored S s p t → Ok (Some l) ≡ list_in (target S s p) Void t) → WidensTo l size (rewriting s p S R) m → WidensList size (rewriting s p S R)
 list_widens S R s p size l m found w = λ t x.
     (let (u, e, b) = w t (x, sym (found t x)) in
     (u, e, b.replaced))
 
-pub list_leads : (S R : Segments) (s p : ℕ) (size : StructSize) (l m : ExistingList) → ((t : Tree) → IsStored S s p t → Ok (Some l) ≡ list_in (target S s p) Void t) → WidensTo S R s p l size m → LeadsToWiderList S R s p size (Some m)
+pub list_leads : (S R : Segments) (s p : ℕ) (size : StructSize) (l m : ExistingList) → ((t : Tree) → IsStored S s p t → Ok (Some l) ≡ list_in (target S s p) Void t) → WidensTo l size (rewriting s p S R) m → LeadsToWiderList size (rewriting s p S R) (Some m)
 list_leads S R s p size l m found w = λ t u x e.
     (let (v, f, b) = w t (x, sym (found t x)) in
     let same : v ≡ u = same_tree v u (sym f ∙ e) in
-    let there : BecomesList S R s p t u m = subst (λ z. BecomesList S R s p t z m) same b in
+    let there : BecomesList (rewriting s p S R) m t u = subst (λ z. BecomesList (rewriting s p S R) m t z) same b in
     (there.found, list_inside R s p u m there.replaced.stored there.found))

@@ -8,7 +8,7 @@ use Rattle.capnp_making.specs.Stored.{IsStored}
 use Rattle.capnp_widening.specs.declared.remaking.ElementRows.{ElementRows}
 use Rattle.capnp_widening.specs.declared.widening.Room.{Room}
 use Rattle.capnp_widening.specs.RowsRemade.{RowsInside, rows_in, as_structs, StoresRows, BecomesList, RemakesList}
-use Rattle.capnp_widening.specs.Widened.{GrowsByZeros, LeavesAll}
+use Rattle.capnp_widening.specs.Widened.{GrowsByZeros, LeavesAll, rewriting}
 use Rattle.capnp_widening.proofs.ListSteps.{ListSteps, ListUndone, list_at, same_size, struct_rows, structs_stored, structs_become, structs_left}
 use Rattle.capnp_widening.proofs.PointerSteps.{pointer_rows, pointers_stored, pointers_become, pointers_left, void_rows, void_stored, void_become, void_left}
 
@@ -18,13 +18,13 @@ same_rows x y e = cc
 pub no_rows : (x : ElementRows) → None ≡ Some x → ⊥
 no_rows x e = cc
 
-pub rows_remade : (S T B D P R Z Q : Segments) (id at : ℕ) (old : ElementRows) (size : StructSize) (h : Room) → ListSteps S T B D P R Z Q id at old size h → RemakesList (StoresRows S id at old) S Q id at size (list_at h size old.count)
+pub rows_remade : (S T B D P R Z Q : Segments) (id at : ℕ) (old : ElementRows) (size : StructSize) (h : Room) → ListSteps S T B D P R Z Q id at old size h → RemakesList (StoresRows S id at old) size (rewriting id at S Q) (list_at h size old.count)
 rows_remade S T B D P R Z Q id at old size h s = λ t i. go t i.0 i.1
   where
-    go : (t : Tree) → IsStored S id at t → rows_in (target S id at) t ≡ Some old → BecomesList S Q id at t (as_structs size t) (list_at h size old.count)
+    go : (t : Tree) → IsStored S id at t → rows_in (target S id at) t ≡ Some old → BecomesList (rewriting id at S Q) (list_at h size old.count) t (as_structs size t)
     go (Structs d k es) x e =
         let same = same_rows (struct_rows S id at d k es) old e in
-        subst (λ o. BecomesList S Q id at (Structs d k es) (as_structs size (Structs d k es)) (list_at h size o.count)) same
+        subst (λ o. BecomesList (rewriting id at S Q) (list_at h size o.count) (Structs d k es) (as_structs size (Structs d k es))) same
         (structs_become S T B D P R Z Q id at d k es size h x (subst (λ o. ListSteps S T B D P R Z Q id at o size h) (sym same) s))
     go Null x e = absurd (no_rows old e)
     go (Capability i) x e = absurd (no_rows old e)
@@ -32,11 +32,11 @@ rows_remade S T B D P R Z Q id at old size h s = λ t i. go t i.0 i.1
     go (Flat (suc w) ns) x e = absurd (no_rows old e)
     go (Flat zero ns) x e =
         let same = same_rows (void_rows S id at ns) old e in
-        subst (λ o. BecomesList S Q id at (Flat 0 ns) (as_structs size (Flat 0 ns)) (list_at h size o.count)) same
+        subst (λ o. BecomesList (rewriting id at S Q) (list_at h size o.count) (Flat 0 ns) (as_structs size (Flat 0 ns))) same
         (void_become S T B D P R Z Q id at ns size h x (subst (λ o. ListSteps S T B D P R Z Q id at o size h) (sym same) s))
     go (Pointers ts) x e =
         let same = same_rows (pointer_rows S id at ts) old e in
-        subst (λ o. BecomesList S Q id at (Pointers ts) (as_structs size (Pointers ts)) (list_at h size o.count)) same
+        subst (λ o. BecomesList (rewriting id at S Q) (list_at h size o.count) (Pointers ts) (as_structs size (Pointers ts))) same
         (pointers_become S T B D P R Z Q id at ts size h x (subst (λ o. ListSteps S T B D P R Z Q id at o size h) (sym same) s))
 
 pub rows_left : (S T B D P U Z : Segments) (id at : ℕ) (old : ElementRows) (size : StructSize) (h : Room) → ListUndone S T B D P U Z id old size h → LeavesAll (StoresRows S id at old) S Z

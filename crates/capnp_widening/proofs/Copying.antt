@@ -13,7 +13,7 @@ use Rattle.capnp_widening.specs.Housed.{AreWordsCopied}
 word_in_part : (S : Segments) (s p n i : ℕ) → i < n → get_or (words_at S s p n) i 0 ≡ word_at S s (p + i)
 word_in_part S s p n i l = get_or-take n (drop p (segment S s)) i 0 l ∙ get_or-drop p (segment S s) i 0
 
-pub copied_at_once : (S R : Segments) (s p v r n : ℕ) → p + n ≤ length (segment S s) → r + n ≤ length (segment S v) → R ≡ with_words S v r (words_at S s p n) → AreWordsCopied S R s p v r n
+pub copied_at_once : (S R : Segments) (s p v r n : ℕ) → p + n ≤ length (segment S s) → r + n ≤ length (segment S v) → R ≡ with_words S v r (words_at S s p n) → AreWordsCopied S R (record { segment = s; at = p }) (record { segment = v; at = r }) n
 copied_at_once S R s p v r n there inside e =
     let ws = words_at S s p n in
     let long : length ws ≡ n = length_words S s p n there in
@@ -27,10 +27,10 @@ copied_at_once S R s p v r n there inside e =
     }
 
 -- one word by itself
-pub word_copied : (S R : Segments) (s p v r x n : ℕ) → n ≡ 1 → r + n ≤ length (segment S v) → x ≡ word_at S s p → R ≡ with_word S v r x → AreWordsCopied S R s p v r n
+pub word_copied : (S R : Segments) (s p v r x n : ℕ) → n ≡ 1 → r + n ≤ length (segment S v) → x ≡ word_at S s p → R ≡ with_word S v r x → AreWordsCopied S R (record { segment = s; at = p }) (record { segment = v; at = r }) n
 word_copied S R s p v r x n one inside read e =
     let put = word_put S R v r x (omega (arith, one, inside)) e in
-    subst (λ m. AreWordsCopied S R s p v r m) (sym one) (record {
+    subst (λ m. AreWordsCopied S R (record { segment = s; at = p }) (record { segment = v; at = r }) m) (sym one) (record {
       segments = put.segments;
       words = put.words;
       here = λ i l.

@@ -23,7 +23,7 @@ use Rattle.capnp_widening.specs.declared.widening.Room.{Room}
 use Rattle.capnp_widening.specs.Housed.{IsRoom, IsSettled, Settles}
 use Rattle.capnp_widening.specs.Moved.{Move, Moves, MovesSome, Unmoves}
 use Rattle.capnp_widening.specs.RowsRemade.{IsTagWritten, CopiesData, element_moves, as_structs, BecomesList}
-use Rattle.capnp_widening.specs.Widened.{fill_elements, GrowsByZeros}
+use Rattle.capnp_widening.specs.Widened.{fill_elements, GrowsByZeros, rewriting}
 use Rattle.capnp_widening.proofs.ListRemade.{structs_begun, structs_remade}
 use Rattle.capnp_widening.proofs.Remade.{IsBegun, IsRemade, longer, leads_last, undone}
 use Rattle.capnp_widening.proofs.RowsCopied.{data_copied, tag_copied, list_written}
@@ -39,10 +39,10 @@ list_at h size n = record { segment = h.segment; start = h.at + h.pads + 1; size
 pub record ListSteps (S T B D P R Z Q : Segments) (id at : ℕ) (old : ElementRows) (size : StructSize) (h : Room) : Type 0 where
   pub place : IsPlace S id at
   pub room : IsRoom S T id (1 + old.count * (size.data_words + size.pointers)) h
-  pub tagged : IsTagWritten T B h.segment (h.at + h.pads) old.count size
+  pub tagged : IsTagWritten (rewriting h.segment (h.at + h.pads) T B) old.count size
   pub copied : CopiesData B D old (first_of h) size
   pub moves : Moves D P (element_moves old (first_of h) size)
-  pub settled : Settles P R id at h (ListShape InlineComposite (old.count * (size.data_words + size.pointers)))
+  pub settled : Settles (rewriting id at P R) h (ListShape InlineComposite (old.count * (size.data_words + size.pointers)))
   pub object_zeroed : old.at + (old.tag + old.count * (old.size.data_words + old.size.pointers)) ≤ length (segment R old.segment) →
       IsZeroed R Z (row old.segment old.at (old.tag + old.count * (old.size.data_words + old.size.pointers)) ∷ [])
   pub pads_zeroed : PadsInside Z (word_at S id at) → IsZeroed Z Q (pads_of (word_at S id at))
@@ -109,7 +109,7 @@ structs_stored S id at d k es x =
 
 wider_structs : (S T B D P R Z Q : Segments) (id at d k : ℕ) (es : Elements) (e f : ℕ) (h : Room) → IsStored S id at (Structs d k es) →
     ListSteps S T B D P R Z Q id at (struct_rows S id at d k es) (record { data_words = max d e; pointers = max k f }) h →
-    BecomesList S Q id at (Structs d k es) (Structs (max d e) (max k f) (fill_elements e f es)) (list_at h (record { data_words = max d e; pointers = max k f }) (element_count es))
+    BecomesList (rewriting id at S Q) (list_at h (record { data_words = max d e; pointers = max k f }) (element_count es)) (Structs d k es) (Structs (max d e) (max k f) (fill_elements e f es))
 wider_structs S T B D P R Z Q id at d k es e f h x s =
     let a = target S id at in
     let n = element_count es in
@@ -140,18 +140,18 @@ same_size d k size l m =
 
 -- the same where the size is known to be as large
 pub structs_become : (S T B D P R Z Q : Segments) (id at d k : ℕ) (es : Elements) (size : StructSize) (h : Room) → IsStored S id at (Structs d k es) →
-    ListSteps S T B D P R Z Q id at (struct_rows S id at d k es) size h → BecomesList S Q id at (Structs d k es) (as_structs size (Structs d k es)) (list_at h size (element_count es))
+    ListSteps S T B D P R Z Q id at (struct_rows S id at d k es) size h → BecomesList (rewriting id at S Q) (list_at h size (element_count es)) (Structs d k es) (as_structs size (Structs d k es))
 structs_become S T B D P R Z Q id at d k es size h x s =
     let wd = size.data_words in
     let wk = size.pointers in
     let same = same_size d k size s.wider.0 s.wider.1 in
-    subst (λ z. BecomesList S Q id at (Structs d k es) (Structs z.data_words z.pointers (fill_elements wd wk es)) (list_at h z (element_count es))) same
+    subst (λ z. BecomesList (rewriting id at S Q) (list_at h z (element_count es)) (Structs d k es) (Structs z.data_words z.pointers (fill_elements wd wk es))) same
     (wider_structs S T B D P R Z Q id at d k es wd wk h x (subst (λ z. ListSteps S T B D P R Z Q id at (struct_rows S id at d k es) z h) (sym same) s))
 
 -- a growth is refused on the way
 pub record ListUndone (S T B D P U Z : Segments) (id : ℕ) (old : ElementRows) (size : StructSize) (h : Room) : Type 0 where
   pub room : IsRoom S T id (1 + old.count * (size.data_words + size.pointers)) h
-  pub tagged : IsTagWritten T B h.segment (h.at + h.pads) old.count size
+  pub tagged : IsTagWritten (rewriting h.segment (h.at + h.pads) T B) old.count size
   pub copied : CopiesData B D old (first_of h) size
   pub some : MovesSome D P (element_moves old (first_of h) size)
   pub unmoves : Unmoves P U (element_moves old (first_of h) size)

@@ -18,7 +18,7 @@ use Rattle.capnp_making.specs.Makes.{call_at, CallAt}
 use Rattle.capnp_widening.specs.Opening.{Opens, OpensExistingList, HasSections, LeadsToAll, refusal_of_words, refusal_of_elements}
 use Rattle.capnp_widening.specs.Rooms.{GrowsForList}
 use Rattle.capnp_widening.specs.RowsRemade.{WidensList, LeadsToWiderList, RefusesWider}
-use Rattle.capnp_widening.specs.Widened.{fill_elements, LeavesAll, limited, list_widened}
+use Rattle.capnp_widening.specs.Widened.{fill_elements, LeavesAll, limited, list_widened, rewriting}
 use Rattle.capnp_widening.proofs.Listed.{same_list, no_list, not_a_list, structs_widen}
 use Rattle.capnp_widening.proofs.PlainLists.{are_numbers, are_pointers}
 use Rattle.capnp_widening.proofs.StructLists.{are_structs}
@@ -105,8 +105,8 @@ same_result k u e = cc
 
 -- What the call that makes it so says.
 pub record Widens (a b : View) (s p : ℕ) (size : StructSize) (r : Result (Option ExistingList) ErrorKind) : Type 0 where
-  pub widened : OnOk r (WidensList a.words b.words s p size)
-  pub leads : IfOk r (LeadsToWiderList a.words b.words s p size)
+  pub widened : OnOk r (WidensList size (rewriting s p a.words b.words))
+  pub leads : IfOk r (LeadsToWiderList size (rewriting s p a.words b.words))
   pub granted : OnOk r (KeepsMemory a b)
   pub refused : OnErr r (LeavesAll (IsStored a.words s p) a.words b.words)
   pub named : IfErr r (RefusesWider (IsStored a.words s p) size a b)

@@ -15,7 +15,7 @@ use Rattle.capnp_making.specs.Zeroed.{row, IsZeroed, PadsInside}
 use Rattle.capnp_widening.specs.declared.widening.Room.{Room}
 use Rattle.capnp_widening.specs.Housed.{IsRoom, Settles}
 use Rattle.capnp_widening.specs.RowsRemade.{IsTagWritten, AreNumbersCopied, BecomesList, RemakesList, as_structs, IsList, NumbersInside}
-use Rattle.capnp_widening.specs.Widened.{struct_for_each}
+use Rattle.capnp_widening.specs.Widened.{struct_for_each, rewriting}
 use Rattle.capnp_widening.proofs.ListSteps.{list_at}
 use Rattle.capnp_widening.proofs.NumberSteps.{NumberSteps, numbers_become}
 use Rattle.capnp_widening.proofs.PointerSteps.{flat_stored}
@@ -24,14 +24,14 @@ use Rattle.capnp_widening.proofs.PlainLists.{are_numbers, numbers_as_structs}
 pub record NumbersMade (S T B D R Z Q : Segments) (id at : ℕ) (old : ExistingList) (size : StructSize) (h : Room) : Type 0 where
   pub place : IsPlace S id at
   pub room : IsRoom S T id (1 + old.count * (size.data_words + size.pointers)) h
-  pub tagged : IsTagWritten T B h.segment (h.at + h.pads) old.count size
+  pub tagged : IsTagWritten (rewriting h.segment (h.at + h.pads) T B) old.count size
   pub copied : AreNumbersCopied B D old.segment old.start (element_bits (size_number old.size)) h.segment (h.at + h.pads + 1) (size.data_words + size.pointers) old.count
-  pub settled : Settles D R id at h (ListShape InlineComposite (old.count * (size.data_words + size.pointers)))
+  pub settled : Settles (rewriting id at D R) h (ListShape InlineComposite (old.count * (size.data_words + size.pointers)))
   pub object_zeroed : old.start + words_for (size_number old.size) old.count ≤ length (segment R old.segment) → IsZeroed R Z (row old.segment old.start (words_for (size_number old.size) old.count) ∷ [])
   pub pads_zeroed : PadsInside Z (word_at S id at) → IsZeroed Z Q (pads_of (word_at S id at))
 
 pub numbers_made : (S T B D R Z Q : Segments) (id at : ℕ) (old : ExistingList) (size : StructSize) (h : Room) → 2 ≤ size_number old.size → size_number old.size ≤ 5 → 0 < size.data_words → NumbersMade S T B D R Z Q id at old size h →
-    RemakesList (IsList S id at old) S Q id at size (list_at h size old.count)
+    RemakesList (IsList S id at old) size (rewriting id at S Q) (list_at h size old.count)
 numbers_made S T B D R Z Q id at old size h two five some s = λ t i.
     (let k = are_numbers S id at t old five i in
     let w = size_number old.size in
@@ -51,11 +51,11 @@ numbers_made S T B D R Z Q id at old size h two five some s = λ t i.
       pads_zeroed = steps.pads_zeroed;
     } in
     let made = numbers_become S T B D R Z Q id at w ns size.data_words size.pointers h (subst (IsStored S id at) k.tree_of i.0) two five (subst (λ z. NumberSteps S T B D R Z Q id at w (length ns) z h) (sym one) plain) in
-    let there : BecomesList S Q id at (Flat w ns) (Structs size.data_words size.pointers (struct_for_each size.data_words size.pointers ns)) (list_at h size (length ns)) =
-    subst (λ z. BecomesList S Q id at (Flat w ns) (Structs z.data_words z.pointers (struct_for_each size.data_words size.pointers ns)) (list_at h z (length ns))) one made in
-    let counted : BecomesList S Q id at (Flat w ns) (as_structs size (Flat w ns)) (list_at h size old.count) =
-    subst (λ u. BecomesList S Q id at (Flat w ns) u (list_at h size old.count)) (sym (numbers_as_structs size w ns two)) (subst (λ n. BecomesList S Q id at (Flat w ns) (Structs size.data_words size.pointers (struct_for_each size.data_words size.pointers ns)) (list_at h size n)) (sym (ap (λ (o : ExistingList). o.count) k.list)) there) in
-    subst (λ u. BecomesList S Q id at u (as_structs size u) (list_at h size old.count)) (sym k.tree_of) counted)
+    let there : BecomesList (rewriting id at S Q) (list_at h size (length ns)) (Flat w ns) (Structs size.data_words size.pointers (struct_for_each size.data_words size.pointers ns)) =
+    subst (λ z. BecomesList (rewriting id at S Q) (list_at h z (length ns)) (Flat w ns) (Structs z.data_words z.pointers (struct_for_each size.data_words size.pointers ns))) one made in
+    let counted : BecomesList (rewriting id at S Q) (list_at h size old.count) (Flat w ns) (as_structs size (Flat w ns)) =
+    subst (λ u. BecomesList (rewriting id at S Q) (list_at h size old.count) (Flat w ns) u) (sym (numbers_as_structs size w ns two)) (subst (λ n. BecomesList (rewriting id at S Q) (list_at h size n) (Flat w ns) (Structs size.data_words size.pointers (struct_for_each size.data_words size.pointers ns))) (sym (ap (λ (o : ExistingList). o.count) k.list)) there) in
+    subst (λ u. BecomesList (rewriting id at S Q) (list_at h size old.count) u (as_structs size u)) (sym k.tree_of) counted)
 
 -- its words lie in their segment
 pub numbers_inside : (S : Segments) (id at : ℕ) (t : Tree) (l : ExistingList) → size_number l.size ≤ 5 → IsList S id at l t → NumbersInside S l

@@ -22,7 +22,7 @@ use Rattle.capnp_widening.specs.declared.widening.Room.{Room}
 use Rattle.capnp_widening.specs.Housed.{IsRoom, Settles}
 use Rattle.capnp_widening.specs.Moved.{rows_of_moves, fresh_pads, Moves}
 use Rattle.capnp_widening.specs.RowsRemade.{IsTagWritten, BecomesList, AreNumbersCopied}
-use Rattle.capnp_widening.specs.Widened.{fill_words, struct_for_each}
+use Rattle.capnp_widening.specs.Widened.{fill_words, struct_for_each, rewriting}
 use Rattle.capnp_widening.proofs.ListSteps.{object_remade, found_there, list_at}
 use Rattle.capnp_widening.proofs.ListsWidened.{numbers_widened, count-struct_for_each}
 use Rattle.capnp_widening.proofs.Movings.{none_moved}
@@ -67,9 +67,9 @@ numbers_copied_next S M R s p width v r z i x b apart some place e f =
 pub record NumberSteps (S T B D R Z Q : Segments) (id at width n : ℕ) (size : StructSize) (h : Room) : Type 0 where
   pub place : IsPlace S id at
   pub room : IsRoom S T id (1 + n * (size.data_words + size.pointers)) h
-  pub tagged : IsTagWritten T B h.segment (h.at + h.pads) n size
+  pub tagged : IsTagWritten (rewriting h.segment (h.at + h.pads) T B) n size
   pub copied : AreNumbersCopied B D (target S id at).segment (target S id at).start (element_bits width) h.segment (h.at + h.pads + 1) (size.data_words + size.pointers) n
-  pub settled : Settles D R id at h (ListShape InlineComposite (n * (size.data_words + size.pointers)))
+  pub settled : Settles (rewriting id at D R) h (ListShape InlineComposite (n * (size.data_words + size.pointers)))
   pub object_zeroed : (target S id at).start + words_for width n ≤ length (segment R (target S id at).segment) → IsZeroed R Z (row (target S id at).segment (target S id at).start (words_for width n) ∷ [])
   pub pads_zeroed : PadsInside Z (word_at S id at) → IsZeroed Z Q (pads_of (word_at S id at))
 
@@ -79,7 +79,7 @@ record NumbersStand (S D : Segments) (ns : List ℕ) (v r wd wk : ℕ) : Type 0 
   zero : (i j : ℕ) → i < length ns → 0 < j → j < wd + wk → word_at D v (r + i * (wd + wk) + j) ≡ 0
 
 numbers_stand : (S T B D : Segments) (id at width : ℕ) (ns : List ℕ) (v p pads : ℕ) (size : StructSize) → IsStored S id at (Flat width ns) → 2 ≤ width → width ≤ 5 → IsGrown S T v p (pads + (1 + length ns * (size.data_words + size.pointers))) →
-    IsTagWritten T B v (p + pads) (length ns) size →
+    IsTagWritten (rewriting v (p + pads) T B) (length ns) size →
     AreNumbersCopied B D (target S id at).segment (target S id at).start (element_bits width) v (p + pads + 1) (size.data_words + size.pointers) (length ns) → NumbersStand S D ns v (p + pads + 1) size.data_words size.pointers
 numbers_stand S T B D id at width ns v p pads size x two five g t c =
     let a = target S id at in
@@ -97,7 +97,7 @@ numbers_stand S T B D id at width ns v p pads size x two five g t c =
 
 pub numbers_become : (S T B D R Z Q : Segments) (id at width : ℕ) (ns : List ℕ) (d k : ℕ) (h : Room) → IsStored S id at (Flat width ns) → 2 ≤ width → width ≤ 5 →
     NumberSteps S T B D R Z Q id at width (length ns) (record { data_words = max 1 d; pointers = k }) h →
-    BecomesList S Q id at (Flat width ns) (Structs (max 1 d) k (struct_for_each d k ns)) (list_at h (record { data_words = max 1 d; pointers = k }) (length ns))
+    BecomesList (rewriting id at S Q) (list_at h (record { data_words = max 1 d; pointers = k }) (length ns)) (Flat width ns) (Structs (max 1 d) k (struct_for_each d k ns))
 numbers_become S T B D R Z Q id at width ns d k h x two five s =
     let a = target S id at in
     let n = length ns in

@@ -14,7 +14,7 @@ use Rattle.capnp_making.specs.Made.{words_of_zero, nulls, zero_elements}
 use Rattle.capnp_making.specs.Stored.{IsStored}
 use Rattle.capnp_widening.specs.declared.remaking.ElementRows.{ElementRows}
 use Rattle.capnp_widening.specs.RowsRemade.{rows_in, as_structs, StoresRows, BecomesList, RemakesList, IsList, WidensTo}
-use Rattle.capnp_widening.specs.Widened.{struct_for_each, struct_for_each_tree, limited, list_widened, LeavesAll}
+use Rattle.capnp_widening.specs.Widened.{struct_for_each, struct_for_each_tree, limited, list_widened, LeavesAll, rewriting}
 use Rattle.capnp_widening.proofs.Described.{counted}
 use Rattle.capnp_widening.proofs.Filled.{greater_words, greater_trees}
 use Rattle.capnp_widening.proofs.Listed.{same_list, flat_width, flat_found, number_of_size, listed_size, tree_size, few_enough, refused_for_any}
@@ -52,7 +52,7 @@ first_pointers d k (tree t ts) =
     ap₂ (λ us es. element (words_of_zero d) us es) (greater_trees k (tree t no_trees)) (first_pointers d k ts)
 
 pub pointers_widened_to : (S R : Segments) (s p : ℕ) (l m : ExistingList) (size wide : StructSize) → size_number l.size ≡ 6 → wide.data_words ≡ size.data_words → wide.pointers ≡ max 1 size.pointers →
-    l.count * (wide.data_words + wide.pointers) < 2 ^ 29 → RemakesList (StoresRows S s p (pointers_of l)) S R s p wide m → WidensTo S R s p l size m
+    l.count * (wide.data_words + wide.pointers) < 2 ^ 29 → RemakesList (StoresRows S s p (pointers_of l)) wide (rewriting s p S R) m → WidensTo l size (rewriting s p S R) m
 pointers_widened_to S R s p l m size wide is wd wp few made = λ t i.
     (let k = are_pointers S s p t l is i in
     let d = size.data_words in
@@ -64,7 +64,7 @@ pointers_widened_to S R s p l m size wide is wd wp few made = λ t i.
     let small : count k.children * (d + max 1 q) < 2 ^ 29 = rw (n, wd, wp) at few in (
       u,
       ap (list_widened d q) k.tree_of ∙ few_enough _ u small,
-      subst (λ z. BecomesList S R s p t z m) same (made t (has_pointers S s p t l k i.0)),
+      subst (λ z. BecomesList (rewriting s p S R) m t z) same (made t (has_pointers S s p t l k i.0)),
     ))
 
 pub pointers_left_as : (S R : Segments) (s p : ℕ) (l : ExistingList) → size_number l.size ≡ 6 → LeavesAll (StoresRows S s p (pointers_of l)) S R → LeavesAll (IsList S s p l) S R
@@ -127,7 +127,7 @@ are_void S s p n t l is count i =
     }
 
 pub void_widened_to : (S R : Segments) (s p n : ℕ) (l m : ExistingList) (size : StructSize) → size_number l.size ≡ 0 → ((a : Target) → leads S s p ≡ Some a → n ≡ list_count a.word) →
-    n * (size.data_words + size.pointers) < 2 ^ 29 → RemakesList (StoresRows S s p (void_of l n)) S R s p size m → WidensTo S R s p l size m
+    n * (size.data_words + size.pointers) < 2 ^ 29 → RemakesList (StoresRows S s p (void_of l n)) size (rewriting s p S R) m → WidensTo l size (rewriting s p S R) m
 void_widened_to S R s p n l m size is count few made = λ t i.
     (let k = are_void S s p n t l is count i in
     let d = size.data_words in
@@ -135,7 +135,7 @@ void_widened_to S R s p n l m size is count few made = λ t i.
     let u = Structs d q (zero_elements d q (length k.numbers)) in (
       u,
       ap (list_widened d q) k.tree_of ∙ few_enough _ u (subst (λ j. j * (d + q) < 2 ^ 29) k.counts few),
-      subst (λ z. BecomesList S R s p t z m) (ap (as_structs size) k.tree_of) (made t k.has),
+      subst (λ z. BecomesList (rewriting s p S R) m t z) (ap (as_structs size) k.tree_of) (made t k.has),
     ))
 
 pub void_left_as : (S R : Segments) (s p n : ℕ) (l : ExistingList) → size_number l.size ≡ 0 → ((a : Target) → leads S s p ≡ Some a → n ≡ list_count a.word) → LeavesAll (StoresRows S s p (void_of l n)) S R → LeavesAll (IsList S s p l) S R
@@ -163,7 +163,7 @@ numbers_as_structs size zero ns l = absurd (omega arith)
 numbers_as_structs size (suc w) ns l = refl
 
 pub numbers_widened_to : (S R : Segments) (s p : ℕ) (l m : ExistingList) (size wide : StructSize) → 2 ≤ size_number l.size → size_number l.size ≤ 5 → wide.data_words ≡ max 1 size.data_words → wide.pointers ≡ size.pointers →
-    l.count * (wide.data_words + wide.pointers) < 2 ^ 29 → RemakesList (IsList S s p l) S R s p wide m → WidensTo S R s p l size m
+    l.count * (wide.data_words + wide.pointers) < 2 ^ 29 → RemakesList (IsList S s p l) wide (rewriting s p S R) m → WidensTo l size (rewriting s p S R) m
 numbers_widened_to S R s p l m size wide two five wd wp few made = λ t i.
     (let k = are_numbers S s p t l five i in
     let w = size_number l.size in
@@ -176,7 +176,7 @@ numbers_widened_to S R s p l m size wide two five wd wp few made = λ t i.
     let small : length k.numbers * (max 1 d + q) < 2 ^ 29 = rw (n, wd, wp) at few in (
       u,
       ap (list_widened d q) k.tree_of ∙ numbers_limited d q w k.numbers two ∙ few_enough _ u small,
-      subst (λ z. BecomesList S R s p t z m) same (made t i),
+      subst (λ z. BecomesList (rewriting s p S R) m t z) same (made t i),
     ))
 
 -- so many words are too many

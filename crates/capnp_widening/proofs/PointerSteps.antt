@@ -16,7 +16,7 @@ use Rattle.capnp_widening.specs.declared.remaking.ElementRows.{ElementRows}
 use Rattle.capnp_widening.specs.declared.widening.Room.{Room}
 use Rattle.capnp_widening.specs.Moved.{rows_of_moves, fresh_pads, IsMoved, HaveValuesInside, Moves, MovesSome, Unmoves}
 use Rattle.capnp_widening.specs.RowsRemade.{AreRowsCopied, BecomesList, as_structs}
-use Rattle.capnp_widening.specs.Widened.{struct_for_each_tree, GrowsByZeros}
+use Rattle.capnp_widening.specs.Widened.{struct_for_each_tree, GrowsByZeros, rewriting}
 use Rattle.capnp_widening.proofs.ListSteps.{ListSteps, ListUndone, ObjectStored, object_remade, found_there, list_at}
 use Rattle.capnp_widening.proofs.ListsWidened.{pointers_widened, void_widened, count-struct_for_each_tree, count-zero_elements}
 use Rattle.capnp_widening.proofs.Movings.{children_stand}
@@ -51,7 +51,7 @@ pointers_stored S id at ts x = at_level x.means.0 x.means.1 x.means.2
 
 wider_pointers : (S T B D P R Z Q : Segments) (id at : ℕ) (ts : Trees) (d k : ℕ) (h : Room) → IsStored S id at (Pointers ts) →
     ListSteps S T B D P R Z Q id at (pointer_rows S id at ts) (record { data_words = d; pointers = max 1 k }) h →
-    BecomesList S Q id at (Pointers ts) (Structs d (max 1 k) (struct_for_each_tree d k ts)) (list_at h (record { data_words = d; pointers = max 1 k }) (count ts))
+    BecomesList (rewriting id at S Q) (list_at h (record { data_words = d; pointers = max 1 k }) (count ts)) (Pointers ts) (Structs d (max 1 k) (struct_for_each_tree d k ts))
 wider_pointers S T B D P R Z Q id at ts d k h x s =
     let a = target S id at in
     let n = count ts in
@@ -98,11 +98,11 @@ wider_pointers S T B D P R Z Q id at ts d k h x s =
     }
 
 pub pointers_become : (S T B D P R Z Q : Segments) (id at : ℕ) (ts : Trees) (size : StructSize) (h : Room) → IsStored S id at (Pointers ts) →
-    ListSteps S T B D P R Z Q id at (pointer_rows S id at ts) size h → BecomesList S Q id at (Pointers ts) (as_structs size (Pointers ts)) (list_at h size (count ts))
+    ListSteps S T B D P R Z Q id at (pointer_rows S id at ts) size h → BecomesList (rewriting id at S Q) (list_at h size (count ts)) (Pointers ts) (as_structs size (Pointers ts))
 pointers_become S T B D P R Z Q id at ts size h x s =
     let one : ◌≡◌ {A = StructSize} (record { data_words = size.data_words; pointers = max 1 size.pointers }) size =
     ap (λ (y : ℕ). record size { pointers = y }) (let e : max 1 size.pointers ≡ size.pointers = omega (arith, s.wider.1) in e) in
-    subst (λ z. BecomesList S Q id at (Pointers ts) (Structs z.data_words z.pointers (struct_for_each_tree size.data_words size.pointers ts)) (list_at h z (count ts))) one
+    subst (λ z. BecomesList (rewriting id at S Q) (list_at h z (count ts)) (Pointers ts) (Structs z.data_words z.pointers (struct_for_each_tree size.data_words size.pointers ts))) one
     (wider_pointers S T B D P R Z Q id at ts size.data_words size.pointers h x (subst (λ z. ListSteps S T B D P R Z Q id at (pointer_rows S id at ts) z h) (sym one) s))
 
 pub pointers_left : (S T B D P U Z : Segments) (id at : ℕ) (ts : Trees) (size : StructSize) (h : Room) → IsStored S id at (Pointers ts) → ListUndone S T B D P U Z id (pointer_rows S id at ts) size h → GrowsByZeros S Z
@@ -142,7 +142,7 @@ pub void_stored : (S : Segments) (id at : ℕ) (ns : List ℕ) → IsStored S id
 void_stored S id at ns x = subst (λ m. ObjectStored S id at (Flat 0 ns) m []) (let e : words_for 0 (length ns) ≡ 0 = omega arith in e) (flat_stored S id at 0 ns x)
 
 pub void_become : (S T B D P R Z Q : Segments) (id at : ℕ) (ns : List ℕ) (size : StructSize) (h : Room) → IsStored S id at (Flat 0 ns) →
-    ListSteps S T B D P R Z Q id at (void_rows S id at ns) size h → BecomesList S Q id at (Flat 0 ns) (as_structs size (Flat 0 ns)) (list_at h size (length ns))
+    ListSteps S T B D P R Z Q id at (void_rows S id at ns) size h → BecomesList (rewriting id at S Q) (list_at h size (length ns)) (Flat 0 ns) (as_structs size (Flat 0 ns))
 void_become S T B D P R Z Q id at ns size h x s =
     let a = target S id at in
     let n = length ns in

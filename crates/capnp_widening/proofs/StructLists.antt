@@ -13,7 +13,7 @@ use Rattle.capnp_making.specs.Stored.{IsStored}
 use Rattle.capnp_making.proofs.Filling.{unchanged}
 use Rattle.capnp_widening.specs.declared.remaking.ElementRows.{ElementRows}
 use Rattle.capnp_widening.specs.RowsRemade.{rows_in, as_structs, StoresRows, BecomesList, IsList, WidensTo, RemakesList}
-use Rattle.capnp_widening.specs.Widened.{fill_elements, limited, list_widened, LeavesAll}
+use Rattle.capnp_widening.specs.Widened.{fill_elements, limited, list_widened, LeavesAll, rewriting}
 use Rattle.capnp_widening.proofs.Listed.{same_list, flat_width, listed_size, tree_size, few_enough, refused_for_any, filled_to_greater, structs_stay, structs_widen}
 
 -- what a list of structs is, by what is found
@@ -39,7 +39,7 @@ are_structs S s p t l is (x, e) = go t x e
     go (Struct ws ts) y f = other (Struct ws ts) y f (λ g. omega (arith, g))
 
 -- it is wide enough
-pub structs_kept : (S : Segments) (s p : ℕ) (l : ExistingList) (size : StructSize) → size_number l.size ≡ 7 → size.data_words ≤ l.struct_size.data_words → size.pointers ≤ l.struct_size.pointers → WidensTo S S s p l size l
+pub structs_kept : (S : Segments) (s p : ℕ) (l : ExistingList) (size : StructSize) → size_number l.size ≡ 7 → size.data_words ≤ l.struct_size.data_words → size.pointers ≤ l.struct_size.pointers → WidensTo l size (rewriting s p S S) l
 structs_kept S s p l size is wide many = λ t i.
     (let k = are_structs S s p t l is i in
     (t, ap (list_widened size.data_words size.pointers) k.tree ∙ structs_stay size.data_words size.pointers l.struct_size.data_words l.struct_size.pointers k.elements wide many ∙ ap Ok (sym k.tree), record { replaced = unchanged S s p t i.0; found = i.1 }))
@@ -58,7 +58,7 @@ has_rows S s p t l k x =
 
 -- it is made anew in the greater of both sizes
 pub structs_widened_to : (S R : Segments) (s p : ℕ) (l m : ExistingList) (size wide : StructSize) → size_number l.size ≡ 7 → (size.data_words ≤ l.struct_size.data_words → size.pointers ≤ l.struct_size.pointers → ⊥) →
-    wide.data_words ≡ max l.struct_size.data_words size.data_words → wide.pointers ≡ max l.struct_size.pointers size.pointers → l.count * (wide.data_words + wide.pointers) < 2 ^ 29 → RemakesList (StoresRows S s p (rows_of l)) S R s p wide m → WidensTo S R s p l size m
+    wide.data_words ≡ max l.struct_size.data_words size.data_words → wide.pointers ≡ max l.struct_size.pointers size.pointers → l.count * (wide.data_words + wide.pointers) < 2 ^ 29 → RemakesList (StoresRows S s p (rows_of l)) wide (rewriting s p S R) m → WidensTo l size (rewriting s p S R) m
 structs_widened_to S R s p l m size wide is narrow wd wp few made = λ t i.
     (let k = are_structs S s p t l is i in
     let e = l.struct_size.data_words in
@@ -72,7 +72,7 @@ structs_widened_to S R s p l m size wide is narrow wd wp few made = λ t i.
     let small : element_count k.elements * (max e size.data_words + max q size.pointers) < 2 ^ 29 = rw (n, wd, wp) at few in (
       u,
       ap (list_widened size.data_words size.pointers) k.tree ∙ structs_widen size.data_words size.pointers e q k.elements narrow ∙ few_enough _ u small,
-      subst (λ z. BecomesList S R s p t z m) same b,
+      subst (λ z. BecomesList (rewriting s p S R) m t z) same b,
     ))
 
 pub structs_left_as : (S R : Segments) (s p : ℕ) (l : ExistingList) → size_number l.size ≡ 7 → LeavesAll (StoresRows S s p (rows_of l)) S R → LeavesAll (IsList S s p l) S R

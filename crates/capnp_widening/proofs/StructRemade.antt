@@ -81,7 +81,7 @@ struct_parts S u q ws ts x = at_level x.means.0 x.means.1 x.means.2
 
 -- words are taken, and the data section is copied into them
 pub struct_begun : (S T D : Segments) (u q : ℕ) (ws : List ℕ) (ts : Trees) (d k v at pads : ℕ) → IsStored S u q (Struct ws ts) → length ws ≤ d → count ts ≤ k → IsGrown S T v at (pads + (d + k)) →
-    AreWordsCopied T D (target S u q).segment (target S u q).start v (at + pads) (length ws) →
+    AreWordsCopied T D (record { segment = (target S u q).segment; at = (target S u q).start }) (record { segment = v; at = (at + pads) }) (length ws) →
     IsBegun S T D v at pads (d + k) (row_of_moves (target S u q).segment ((target S u q).start + length ws) v (at + pads + d) (count ts))
 struct_begun S T D u q ws ts d k v at pads x ld lk g c =
     let a = target S u q in
@@ -128,7 +128,7 @@ struct_begun S T D u q ws ts d k v at pads x ld lk g c =
 
 -- and then its place means it filled up
 pub struct_remade : (S T D P R Q : Segments) (u q : ℕ) (ws : List ℕ) (ts : Trees) (d k : ℕ) (b : Target) (v at pads : ℕ) → IsStored S u q (Struct ws ts) → length ws ≤ d → count ts ≤ k →
-    AreWordsCopied T D (target S u q).segment (target S u q).start v (at + pads) (length ws) →
+    AreWordsCopied T D (record { segment = (target S u q).segment; at = (target S u q).start }) (record { segment = v; at = (at + pads) }) (length ws) →
     IsRemade S T D P R Q u q (target S u q) (length ws + count ts) b v at pads (d + k) (row_of_moves (target S u q).segment ((target S u q).start + length ws) v (at + pads + d) (count ts)) →
     kind b.word ≡ 0 → data_words b.word ≡ d → pointer_count b.word ≡ k → IsReplaced S Q u q (Struct ws ts) (Struct (fill_words d ws) (fill_trees k ts))
 struct_remade S T D P R Q u q ws ts d k b v at pads x ld lk c h is_struct is_d is_k =

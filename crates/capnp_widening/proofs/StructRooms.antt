@@ -3,8 +3,9 @@ use Rattle.std.proofs.Common.{◌≡◌, ℕ, ◌+◌, max, List, length, Some, 
 use Rattle.capnp_format.specs.Tree.{Trees, count}
 use Rattle.capnp_words.specs.declared.wire_pointer.StructSize.{StructSize}
 use Rattle.capnp_making.specs.declared.existing.ExistingStruct.{ExistingStruct}
-use Rattle.capnp_widening.specs.Rooms.{widened_words, widened}
+use Rattle.capnp_widening.specs.Rooms.{widened_words}
 use Rattle.capnp_widening.proofs.Widenings.{length-fill_words, count-fill_trees}
+use Rattle.capnp_widening.specs.Widened.{widened}
 
 pub wider_words : (size : StructSize) (ws : List ℕ) (ts : Trees) (d k : ℕ) → d ≡ max (length ws) size.data_words → k ≡ max (count ts) size.pointers → widened_words (widened size ws ts) ≡ d + k
 wider_words size ws ts d k e f = omega (arith, length-fill_words size.data_words ws, count-fill_trees size.pointers ts, e, f)

@@ -19,16 +19,16 @@ use Rattle.capnp_making.proofs.Zeros.{zeroed_again}
 use Rattle.capnp_widening.specs.declared.widening.Room.{Room}
 use Rattle.capnp_widening.specs.Moved.{Moves, MovesSome, Unmoves, row_of_moves}
 use Rattle.capnp_widening.specs.Housed.{IsRoom, AreWordsCopied, Settles}
-use Rattle.capnp_widening.specs.Widened.{fill_words, fill_trees, GrowsByZeros, IsStruct, LeadsToWiderStruct, LeavesAll, WidensStruct}
+use Rattle.capnp_widening.specs.Widened.{fill_words, fill_trees, GrowsByZeros, IsStruct, LeadsToWiderStruct, LeavesAll, WidensStruct, rewriting}
 use Rattle.capnp_widening.proofs.Remade.{IsRemade, leads_last, undone}
 use Rattle.capnp_widening.proofs.StructRemade.{struct_parts, struct_begun, struct_remade}
 
 pub record StructSteps (S T D P R Z Q : Segments) (id at : ℕ) (old : ExistingStruct) (size : StructSize) (h : Room) : Type 0 where
   pub place : IsPlace S id at
   pub room : IsRoom S T id (size.data_words + size.pointers) h
-  pub copied : AreWordsCopied T D old.segment old.start h.segment (h.at + h.pads) old.size.data_words
+  pub copied : AreWordsCopied T D (record { segment = old.segment; at = old.start }) (record { segment = h.segment; at = (h.at + h.pads) }) old.size.data_words
   pub moves : Moves D P (row_of_moves old.segment (old.start + old.size.data_words) h.segment (h.at + h.pads + size.data_words) old.size.pointers)
-  pub settled : Settles P R id at h (StructShape size)
+  pub settled : Settles (rewriting id at P R) h (StructShape size)
   pub object_zeroed : old.start + (old.size.data_words + old.size.pointers) ≤ length (segment R old.segment) → IsZeroed R Z (row old.segment old.start (old.size.data_words + old.size.pointers) ∷ [])
   pub pads_zeroed : PadsInside Z (word_at S id at) → IsZeroed Z Q (pads_of (word_at S id at))
   pub wider : (old.size.data_words ≤ size.data_words) × (old.size.pointers ≤ size.pointers)
@@ -88,7 +88,7 @@ is_widened S T D P R Z Q id at size h ws ts x s =
       claim = omega (arith, grown.room, s.copied.words h.segment, moved.grows.words h.segment, settled.words h.segment, z.words h.segment, zz.words h.segment);
     }
 
-pub struct_rehoused : (S T D P R Z Q : Segments) (id at : ℕ) (old : ExistingStruct) (size : StructSize) (h : Room) → StructSteps S T D P R Z Q id at old size h → WidensStruct (IsStruct S id at old) S Q id at size
+pub struct_rehoused : (S T D P R Z Q : Segments) (id at : ℕ) (old : ExistingStruct) (size : StructSize) (h : Room) → StructSteps S T D P R Z Q id at old size h → WidensStruct (IsStruct S id at old) size (rewriting id at S Q)
 struct_rehoused S T D P R Z Q id at old size h s = λ ws ts i.
     (is_widened S T D P R Z Q id at size h ws ts i.0 (subst (λ o. StructSteps S T D P R Z Q id at o size h) (sym (same_struct (the_struct S id at ws ts) old i.1)) s)).replaced
 
@@ -101,7 +101,7 @@ struct_leads S T D P R Z Q id at old size h s = λ ws ts i.
 -- a growth is refused on the way
 pub record StructUndone (S T D P U Z : Segments) (id : ℕ) (old : ExistingStruct) (size : StructSize) (h : Room) : Type 0 where
   pub room : IsRoom S T id (size.data_words + size.pointers) h
-  pub copied : AreWordsCopied T D old.segment old.start h.segment (h.at + h.pads) old.size.data_words
+  pub copied : AreWordsCopied T D (record { segment = old.segment; at = old.start }) (record { segment = h.segment; at = (h.at + h.pads) }) old.size.data_words
   pub some : MovesSome D P (row_of_moves old.segment (old.start + old.size.data_words) h.segment (h.at + h.pads + size.data_words) old.size.pointers)
   pub unmoves : Unmoves P U (row_of_moves old.segment (old.start + old.size.data_words) h.segment (h.at + h.pads + size.data_words) old.size.pointers)
   pub zeroed : h.at + h.pads + (size.data_words + size.pointers) ≤ length (segment U h.segment) → IsZeroed U Z (row h.segment (h.at + h.pads) (size.data_words + size.pointers) ∷ [])

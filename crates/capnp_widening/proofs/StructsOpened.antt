@@ -22,7 +22,7 @@ use Rattle.capnp_making.proofs.Replaced.{grown}
 use Rattle.capnp_making.specs.Makes.{call_at}
 use Rattle.capnp_widening.specs.Opening.{LeadsToOne, OpensStruct}
 use Rattle.capnp_widening.specs.Rooms.{all_words, GrowsByAtMost, GrowsForStruct}
-use Rattle.capnp_widening.specs.Widened.{fill_words, fill_trees, GrowsByZeros, WidensStruct, LeavesAll, LeadsToWiderStruct, IsNoWider}
+use Rattle.capnp_widening.specs.Widened.{fill_words, fill_trees, GrowsByZeros, WidensStruct, LeavesAll, LeadsToWiderStruct, IsNoWider, rewriting}
 use Rattle.capnp_widening.proofs.Filled.{already_wide, wide_words, wide_trees}
 use Rattle.capnp_widening.proofs.StructSteps.{the_struct, same_struct}
 use Rattle.capnp_widening.proofs.Widenings.{length-fill_words, count-fill_trees}
@@ -85,7 +85,7 @@ same_place s p d q t r e k a b c f = ap₂ (λ x y. struct_at x y d q) a b ∙ a
 
 -- one that is made wider
 pub record Wider (a b : View) (s p : ℕ) (e f : ExistingStruct) (size : StructSize) : Type 0 where
-  pub widened : WidensStruct (IsStored a.words s p) a.words b.words s p size
+  pub widened : WidensStruct (IsStored a.words s p) size (rewriting s p a.words b.words)
   pub leads : LeadsToWiderStruct (IsStored a.words s p) b.words s p f
   pub memory : KeepsMemory a b
   pub taken : GrowsForStruct a.words b.words s p size
@@ -125,7 +125,7 @@ struct_wider a b s p (Structs d q es) e f size greater stored found w l m = absu
 
 -- or for which there is no memory
 pub struct_kept : (a b : View) (s p : ℕ) (t : Tree) (e : ExistingStruct) (size : StructSize) (k : ErrorKind) → IsStored a.words s p t → struct_in (target a.words s p) t ≡ Some e →
-    (size.data_words ≤ e.size.data_words → size.pointers ≤ e.size.pointers → ⊥) → LeavesAll (IsStored a.words s p) a.words b.words → IsNoWider a b s p k → GrowsForStruct a.words b.words s p size → OpensStruct LeadsToOne size (Err k) (call_at s p a b) t
+    (size.data_words ≤ e.size.data_words → size.pointers ≤ e.size.pointers → ⊥) → LeavesAll (IsStored a.words s p) a.words b.words → IsNoWider (call_at s p a b) k → GrowsForStruct a.words b.words s p size → OpensStruct LeadsToOne size (Err k) (call_at s p a b) t
 struct_kept a b s p Null e size k stored found narrow leaves named few = absurd (no_struct e found)
 struct_kept a b s p (Capability i) e size k stored found narrow leaves named few = absurd (no_struct e found)
 struct_kept a b s p (Struct ws ts) e size k stored found narrow leaves named few =

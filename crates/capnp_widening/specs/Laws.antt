@@ -9,7 +9,7 @@ use Rattle.capnp_words.specs.declared.wire_pointer.StructSize.{StructSize}
 use Rattle.capnp_making.specs.Path.{Step, PathLeads}
 use Rattle.capnp_making.specs.Stored.{IsStored, IsReplaced}
 use Rattle.capnp_widening.specs.RowsRemade.{WidensList}
-use Rattle.capnp_widening.specs.Widened.{fill_words, fill_trees, list_widened, WidensStruct}
+use Rattle.capnp_widening.specs.Widened.{fill_words, fill_trees, list_widened, WidensStruct, rewriting}
 
 -- Two values have one canonical form, and so the same canonical words.
 abbrev pub SameCanonicalForm : Tree → Tree → Type 0
@@ -32,22 +32,22 @@ WiderList = (d q e k : ℕ) (es : Elements) (u : Tree) → HaveSize e k es → l
 abbrev pub StructWithin : Type 0
 StructWithin =
     (S R : Segments) (s p : ℕ) (t : Tree) (path : List Step) (u q : ℕ) (ws : List ℕ) (ts : Trees) (size : StructSize)
-    → IsStored S s p t → PathLeads S s p t path u q (Struct ws ts) → WidensStruct (IsStored S u q) S R u q size → (w : Tree) × IsReplaced S R s p t w × SameCanonicalForm t w
+    → IsStored S s p t → PathLeads S s p t path u q (Struct ws ts) → WidensStruct (IsStored S u q) size (rewriting u q S R) → (w : Tree) × IsReplaced S R s p t w × SameCanonicalForm t w
 
 -- A list of structs that is reached by a path from a place is made wider, from S to R: the place stores a value of the same
 -- canonical words.
 abbrev pub ListWithin : Type 0
 ListWithin =
     (S R : Segments) (s p : ℕ) (t : Tree) (path : List Step) (u q d k : ℕ) (es : Elements) (size : StructSize)
-    → IsStored S s p t → PathLeads S s p t path u q (Structs d k es) → WidensList S R u q size → (w : Tree) × IsReplaced S R s p t w × SameCanonicalForm t w
+    → IsStored S s p t → PathLeads S s p t path u q (Structs d k es) → WidensList size (rewriting u q S R) → (w : Tree) × IsReplaced S R s p t w × SameCanonicalForm t w
 
 -- The place is the root: the words of the whole arena hold a value of the same canonical words.
 abbrev pub StructOfMessage : Type 0
 StructOfMessage =
     (S R : Segments) (t : Tree) (path : List Step) (u q : ℕ) (ws : List ℕ) (ts : Trees) (size : StructSize)
-    → IsForest S t → PathLeads S 0 0 t path u q (Struct ws ts) → WidensStruct (IsStored S u q) S R u q size → (w : Tree) × IsForest R w × SameCanonicalForm t w
+    → IsForest S t → PathLeads S 0 0 t path u q (Struct ws ts) → WidensStruct (IsStored S u q) size (rewriting u q S R) → (w : Tree) × IsForest R w × SameCanonicalForm t w
 
 abbrev pub ListOfMessage : Type 0
 ListOfMessage =
     (S R : Segments) (t : Tree) (path : List Step) (u q d k : ℕ) (es : Elements) (size : StructSize)
-    → IsForest S t → PathLeads S 0 0 t path u q (Structs d k es) → WidensList S R u q size → (w : Tree) × IsForest R w × SameCanonicalForm t w
+    → IsForest S t → PathLeads S 0 0 t path u q (Structs d k es) → WidensList size (rewriting u q S R) → (w : Tree) × IsForest R w × SameCanonicalForm t w

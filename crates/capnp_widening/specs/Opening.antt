@@ -18,7 +18,7 @@ use Rattle.capnp_making.specs.Memory.{KeepsMemory, SpendsMemory, RefusesGrowth}
 use Rattle.capnp_making.specs.Stored.{IsReplaced}
 use Rattle.capnp_widening.specs.Rooms.{GrowsByAtMost, widened_words, direct_pointers}
 use Rattle.capnp_widening.specs.RowsRemade.{ListLiesIn}
-use Rattle.capnp_widening.specs.Widened.{fill_words, fill_trees, list_widened}
+use Rattle.capnp_widening.specs.Widened.{widened, list_widened}
 
 -- The struct whose sections start at a place.
 abbrev pub existing_struct : Start → StructSize → ExistingStruct
@@ -27,7 +27,7 @@ existing_struct start size = record { segment = start.segment; start = start.at;
 -- What a value becomes where a struct of at least a size is opened, or by what name that is refused. Null becomes a new one.
 abbrev pub struct_opened : StructSize → Tree → Result Tree ErrorKind
 struct_opened size Null = Ok (zero_struct size)
-struct_opened size (Struct ws ts) = Ok (Struct (fill_words size.data_words ws) (fill_trees size.pointers ts))
+struct_opened size (Struct ws ts) = Ok (widened size ws ts)
 struct_opened size t = Err MessageContainsNonStructPointerWhereStructPointerWasExpected
 
 -- A struct, or each struct of a list, has sections of at least a size. Null is a list of none, which needs none.

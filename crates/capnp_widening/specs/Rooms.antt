@@ -10,7 +10,7 @@ use Rattle.capnp_making.specs.Memory.{HasRoom}
 use Rattle.capnp_making.specs.Near.{HasOwnRoom}
 use Rattle.capnp_making.specs.Stored.{IsStored}
 use Rattle.capnp_widening.specs.declared.remaking.ElementRows.{ElementRows}
-use Rattle.capnp_widening.specs.Widened.{fill_words, fill_trees, list_widened}
+use Rattle.capnp_widening.specs.Widened.{widened, list_widened}
 
 -- How many words the segments have together.
 abbrev pub all_words : Segments → ℕ
@@ -41,10 +41,6 @@ direct_pointers t = 0
 -- room for u.
 abbrev pub HasRoomFor : View → ℕ → ℕ → Tree → Tree → Type 0
 HasRoomFor v s p t u = HasRoom v s (widened_words u + 2 * direct_pointers t) ⊎ (((target v.words s p).segment ≡ s) × HasOwnRoom v s (widened_words u))
-
--- The struct that a struct becomes where sections of a size are wanted.
-abbrev pub widened : StructSize → List ℕ → Trees → Tree
-widened size ws ts = Struct (fill_words size.data_words ws) (fill_trees size.pointers ts)
 
 -- The place stores a struct, and there is room for what it becomes.
 abbrev pub WiderStructFits : View → ℕ → ℕ → StructSize → Type 0

@@ -15,13 +15,14 @@ use Rattle.capnp_making.specs.declared.making.Start.{Start}
 use Rattle.capnp_making.specs.Existing.{list_in}
 use Rattle.capnp_making.specs.Fields.{field_in}
 use Rattle.capnp_making.specs.Made.{zero_elements}
+use Rattle.capnp_making.specs.Makes.{CallAt}
 use Rattle.capnp_making.specs.Memory.{SpendsMemory, RefusesGrowth}
 use Rattle.capnp_making.specs.Path.{word_interval}
 use Rattle.capnp_making.specs.Stored.{IsStored, IsReplaced}
 use Rattle.capnp_making.specs.Zeroed.{row}
 use Rattle.capnp_widening.specs.declared.remaking.ElementRows.{ElementRows}
 use Rattle.capnp_widening.specs.Moved.{Move, rows_of_moves}
-use Rattle.capnp_widening.specs.Widened.{fill_elements, struct_for_each, struct_for_each_tree, limited, list_widened}
+use Rattle.capnp_widening.specs.Widened.{Rewriting, fill_elements, struct_for_each, struct_for_each_tree, limited, list_widened}
 
 -- From S to R the first d words of each of n rows are copied over those of other rows, and nothing else is written. The old rows start every w words
 -- from (s, p) on, and the new ones, of z words each, from (v, r) on.
@@ -32,12 +33,12 @@ pub record AreRowsCopied (S R : Segments) (s p w v r z d n : ℕ) : Type 0 where
   pub behind : (i j : ℕ) → i < n → d ≤ j → j < z → word_at R v (r + i * z + j) ≡ word_at S v (r + i * z + j)
   pub kept : (x y : ℕ) → times (row v r (n * z) ∷ []) x y ≡ 0 → word_at R x y ≡ word_at S x y
 
--- From S to R the tag of a list of n structs is written at a place, and nothing else.
-pub record IsTagWritten (S R : Segments) (s p n : ℕ) (size : StructSize) : Type 0 where
-  pub segments : length R ≡ length S
-  pub words : (x : ℕ) → length (segment R x) ≡ length (segment S x)
-  pub tag : IsTag (word_at R s p) n size.data_words size.pointers
-  pub kept : (x y : ℕ) → times (word_interval s p ∷ []) x y ≡ 0 → word_at R x y ≡ word_at S x y
+-- The tag of a list of n structs is written at the place, and nothing else.
+pub record IsTagWritten (c : Rewriting) (n : ℕ) (size : StructSize) : Type 0 where
+  pub segments : length c.new ≡ length c.old
+  pub words : (x : ℕ) → length (segment c.new x) ≡ length (segment c.old x)
+  pub tag : IsTag (word_at c.new c.segment c.at) n size.data_words size.pointers
+  pub kept : (x y : ℕ) → times (word_interval c.segment c.at ∷ []) x y ≡ 0 → word_at c.new x y ≡ word_at c.old x y
 
 -- The words of a list lie in their segment, its tag included.
 abbrev pub RowsInside : Segments → ElementRows → Type 0
@@ -90,37 +91,39 @@ StoresRows S s p rows t = IsStored S s p t × (rows_in (target S s p) t ≡ Some
 abbrev pub ListLiesIn : Segments → ExistingList → Type 0
 ListLiesIn S l = l.start + l.count * (l.struct_size.data_words + l.struct_size.pointers) ≤ length (segment S l.segment)
 
--- From S to R the place gets the list u in place of t, and the pointer leads to l.
-pub record BecomesList (S R : Segments) (s p : ℕ) (t u : Tree) (l : ExistingList) : Type 0 where
-  pub replaced : IsReplaced S R s p t u
-  pub found : list_in (target R s p) Void u ≡ Ok (Some l)
+-- The place gets the list u in place of t, and the pointer leads to l.
+pub record BecomesList (c : Rewriting) (l : ExistingList) (t u : Tree) : Type 0 where
+  pub replaced : IsReplaced c.old c.new c.segment c.at t u
+  pub found : list_in (target c.new c.segment c.at) Void u ≡ Ok (Some l)
 
--- From S to R the place gets, in place of a list that stands there, structs of a size made of its elements, which are l.
-abbrev pub RemakesList : (Tree → Type 0) → Segments → Segments → ℕ → ℕ → StructSize → ExistingList → Type 0
-RemakesList Stands S R s p size l = (t : Tree) → Stands t → BecomesList S R s p t (as_structs size t) l
+-- The place gets, in place of a list that stands there, structs of a size made of its elements, which are l.
+abbrev pub RemakesList : (Tree → Type 0) → StructSize → Rewriting → ExistingList → Type 0
+RemakesList Stands size c l = (t : Tree) → Stands t → BecomesList c l t (as_structs size t)
 
 -- A call is refused by the name k: the elements would take too many words, and nothing is changed; or a growth is refused.
-abbrev pub RefusesRows : View → View → ℕ → ℕ → ElementRows → StructSize → ErrorKind → Type 0
-RefusesRows old new s p rows size k =
-    ((new ≡ old) × ((t : Tree) → StoresRows old.words s p rows t → limited (rows.count * (size.data_words + size.pointers)) (as_structs size t) ≡ Err k))
-    ⊎ (SpendsMemory old new k × RefusesGrowth old new k)
+abbrev pub RefusesRows : ElementRows → StructSize → CallAt → ErrorKind → Type 0
+RefusesRows rows size c k =
+    ((c.new ≡ c.old) × ((t : Tree) → StoresRows c.old.words c.segment c.at rows t → limited (rows.count * (size.data_words + size.pointers)) (as_structs size t) ≡ Err k))
+    ⊎ (SpendsMemory c.old c.new k × RefusesGrowth c.old c.new k)
 
 -- The place stores t in S, which is the list l.
 abbrev pub IsList : Segments → ℕ → ℕ → ExistingList → Tree → Type 0
 IsList S s p l t = IsStored S s p t × (list_in (target S s p) Void t ≡ Ok (Some l))
 
--- From S to R the place gets, in place of the list l, what it becomes where structs of a size are wanted, which is m.
-abbrev pub WidensTo : Segments → Segments → ℕ → ℕ → ExistingList → StructSize → ExistingList → Type 0
-WidensTo S R s p l size m = (t : Tree) → IsList S s p l t → (u : Tree) × (list_widened size.data_words size.pointers t ≡ Ok u) × BecomesList S R s p t u m
+-- The place gets, in place of the list l, what it becomes where structs of a size are wanted, which is m.
+abbrev pub WidensTo : ExistingList → StructSize → Rewriting → ExistingList → Type 0
+WidensTo l size c m = (t : Tree) → IsList c.old c.segment c.at l t → (u : Tree) × (list_widened size.data_words size.pointers t ≡ Ok u) × BecomesList c m t u
 
--- From S to R the place gets, in place of the value that it stores, the list that this becomes where structs of a size are wanted; null stays.
-abbrev pub WidensList : Segments → Segments → ℕ → ℕ → StructSize → Type 0
-WidensList S R s p size = (t : Tree) → IsStored S s p t → (u : Tree) × (list_widened size.data_words size.pointers t ≡ Ok u) × IsReplaced S R s p t u
+-- The place gets, in place of the value that it stores, the list that this becomes where structs of a size are wanted; null stays.
+abbrev pub WidensList : StructSize → Rewriting → Type 0
+WidensList size c =
+    (t : Tree) → IsStored c.old c.segment c.at t → (u : Tree) × (list_widened size.data_words size.pointers t ≡ Ok u) × IsReplaced c.old c.new c.segment c.at t u
 
--- That list is l in R, and all its structs lie there.
-abbrev pub LeadsToWiderList : Segments → Segments → ℕ → ℕ → StructSize → Option ExistingList → Type 0
-LeadsToWiderList S R s p size l =
-    (t u : Tree) → IsStored S s p t → list_widened size.data_words size.pointers t ≡ Ok u → (list_in (target R s p) Void u ≡ Ok l) × IfSome l (ListLiesIn R)
+-- That list is l, and all its structs lie in the new message.
+abbrev pub LeadsToWiderList : StructSize → Rewriting → Option ExistingList → Type 0
+LeadsToWiderList size c l =
+    (t u : Tree) → IsStored c.old c.segment c.at t → list_widened size.data_words size.pointers t ≡ Ok u
+    → (list_in (target c.new c.segment c.at) Void u ≡ Ok l) × IfSome l (ListLiesIn c.new)
 
 -- A call is refused by the name k: by what stands there and what is wanted, and nothing is changed; or a growth is refused.
 abbrev pub RefusesWider : (Tree → Type 0) → StructSize → View → View → ErrorKind → Type 0

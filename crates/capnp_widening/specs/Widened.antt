@@ -8,8 +8,8 @@ use Rattle.capnp_making.specs.Made.{words_of_zero, nulls, zero_elements}
 use Rattle.capnp_format.specs.Forest.{target}
 use Rattle.capnp_words.specs.declared.error.ErrorKind.{ErrorKind}
 use Rattle.capnp_words.specs.declared.error.ErrorKind.TheVariants.{ExistingPointerIsNotAList, FoundBitListWhereStructListWasExpected, MessageTooLarge, MessageContainsNonStructPointerWhereStructPointerWasExpected}
-use Rattle.capnp_arena.specs.View.{View}
 use Rattle.capnp_making.specs.Existing.{struct_in, StructLiesIn}
+use Rattle.capnp_making.specs.Makes.{CallAt}
 use Rattle.capnp_making.specs.Memory.{SpendsMemory, RefusesGrowth}
 use Rattle.capnp_making.specs.Stored.{IsStored, IsReplaced}
 
@@ -45,11 +45,26 @@ pub record GrowsByZeros (S R : Segments) : Type 0 where
 abbrev pub IsStruct : Segments → ℕ → ℕ → ExistingStruct → Tree → Type 0
 IsStruct S s p e t = IsStored S s p t × (struct_in (target S s p) t ≡ Some e)
 
--- From S to R the place gets, in place of a struct that stands there, the same with both sections filled up to a size, never cut. What stands there is
--- said by Stands, here and below: as that it is stored.
-abbrev pub WidensStruct : (Tree → Type 0) → Segments → Segments → ℕ → ℕ → StructSize → Type 0
-WidensStruct Stands S R s p size =
-    (ws : List ℕ) (ts : Trees) → Stands (Struct ws ts) → IsReplaced S R s p (Struct ws ts) (Struct (fill_words size.data_words ws) (fill_trees size.pointers ts))
+-- The struct that a struct becomes where sections of a size are wanted: each is filled up, and never cut.
+abbrev pub widened : StructSize → List ℕ → Trees → Tree
+widened size ws ts = Struct (fill_words size.data_words ws) (fill_trees size.pointers ts)
+
+-- A place, and the segments of its message before what it stores is rewritten and after that.
+pub record Rewriting : Type 0 where
+  pub segment : ℕ
+  pub at : ℕ
+  pub old : Segments
+  pub new : Segments
+
+abbrev pub rewriting : ℕ → ℕ → Segments → Segments → Rewriting
+rewriting s p S R = record { segment = s; at = p; old = S; new = R }
+
+-- The place gets, in place of a struct that stands there, what it becomes where sections of a size are wanted. What stands there is said by Stands, here
+-- and below: as that it is stored.
+abbrev pub WidensStruct : (Tree → Type 0) → StructSize → Rewriting → Type 0
+WidensStruct Stands size c =
+    (ws : List ℕ) (ts : Trees) → Stands (Struct ws ts)
+    → IsReplaced c.old c.new c.segment c.at (Struct ws ts) (widened size ws ts)
 
 -- Whatever value stands there, R has nothing but zeros more than S.
 abbrev pub LeavesAll : (Tree → Type 0) → Segments → Segments → Type 0
@@ -65,10 +80,11 @@ abbrev pub IsAtLeast : StructSize → ExistingStruct → Type 0
 IsAtLeast size e = (size.data_words ≤ e.size.data_words) × (size.pointers ≤ e.size.pointers)
 
 -- A call is refused by the name k: the place stores no struct, and nothing is changed; or a growth is refused.
-abbrev pub IsNoWider : View → View → ℕ → ℕ → ErrorKind → Type 0
-IsNoWider old new s p k =
-    ((k ≡ MessageContainsNonStructPointerWhereStructPointerWasExpected) × (new ≡ old) × ((t : Tree) → IsStored old.words s p t → struct_in (target old.words s p) t ≡ None))
-    ⊎ (SpendsMemory old new k × RefusesGrowth old new k)
+abbrev pub IsNoWider : CallAt → ErrorKind → Type 0
+IsNoWider c k =
+    ((k ≡ MessageContainsNonStructPointerWhereStructPointerWasExpected) × (c.new ≡ c.old)
+    × ((t : Tree) → IsStored c.old.words c.segment c.at t → struct_in (target c.old.words c.segment c.at) t ≡ None))
+    ⊎ (SpendsMemory c.old c.new k × RefusesGrowth c.old c.new k)
 
 -- A list of structs that take so many words, where these are fewer than 2^29.
 abbrev pub limited : ℕ → Tree → Result Tree ErrorKind

@@ -7,7 +7,7 @@ ghost use Rattle.capnp_making.specs.Memory.{KeepsMemory, SpendsMemory};
 ghost use Rattle.capnp_making.specs.Stored.{IsStored};
 ghost use Rattle.capnp_widening.specs.Rooms.{WiderListFits, GrowsForList};
 ghost use Rattle.capnp_widening.specs.RowsRemade.{IsList, WidensList, LeadsToWiderList, RefusesWider, WidensTo};
-ghost use Rattle.capnp_widening.specs.Widened.{LeavesAll};
+ghost use Rattle.capnp_widening.specs.Widened.{LeavesAll, rewriting};
 
 use crate::numbers::widen_numbers;
 use crate::remaking::{ElementRows, widen_rows};
@@ -34,10 +34,10 @@ pub fn get_struct_list<A: BuilderArena>(
     size: StructSize,
 ) -> Result<Option<ExistingList>, ErrorKind>
     requires place { IsPlace (A.view arena.old).words id at }
-    ensures widened { OnOk result (WidensList (A.view arena.old).words
-        (A.view arena.new).words id at size) }
-    ensures leads { IfOk result (LeadsToWiderList (A.view arena.old).words
-        (A.view arena.new).words id at size) }
+    ensures widened { OnOk result (WidensList size
+        (rewriting id at (A.view arena.old).words (A.view arena.new).words)) }
+    ensures leads { IfOk result (LeadsToWiderList size
+        (rewriting id at (A.view arena.old).words (A.view arena.new).words)) }
     ensures granted { OnOk result (KeepsMemory (A.view arena.old) (A.view arena.new)) }
     ensures memory { IfErr result (SpendsMemory (A.view arena.old) (A.view arena.new)) }
     ensures refused { OnErr result
@@ -74,8 +74,8 @@ fn widen_list<A: BuilderArena>(
     size: StructSize,
 ) -> Result<ExistingList, ErrorKind>
     requires place { IsPlace (A.view arena.old).words id at }
-    ensures widened { IfOk result (WidensTo (A.view arena.old).words
-        (A.view arena.new).words id at old size) }
+    ensures widened { IfOk result (WidensTo old size
+        (rewriting id at (A.view arena.old).words (A.view arena.new).words)) }
     ensures granted { OnOk result (KeepsMemory (A.view arena.old) (A.view arena.new)) }
     ensures memory { IfErr result (SpendsMemory (A.view arena.old) (A.view arena.new)) }
     ensures refused { OnErr result
@@ -119,8 +119,8 @@ fn widen_structs<A: BuilderArena>(
 ) -> Result<ExistingList, ErrorKind>
     requires place { IsPlace (A.view arena.old).words id at }
     requires kind { size_number old.size ≡ 7 }
-    ensures widened { IfOk result (WidensTo (A.view arena.old).words
-        (A.view arena.new).words id at old size) }
+    ensures widened { IfOk result (WidensTo old size
+        (rewriting id at (A.view arena.old).words (A.view arena.new).words)) }
     ensures granted { OnOk result (KeepsMemory (A.view arena.old) (A.view arena.new)) }
     ensures memory { IfErr result (SpendsMemory (A.view arena.old) (A.view arena.new)) }
     ensures refused { OnErr result
@@ -166,8 +166,8 @@ fn widen_pointers<A: BuilderArena>(
 ) -> Result<ExistingList, ErrorKind>
     requires place { IsPlace (A.view arena.old).words id at }
     requires kind { size_number old.size ≡ 6 }
-    ensures widened { IfOk result (WidensTo (A.view arena.old).words
-        (A.view arena.new).words id at old size) }
+    ensures widened { IfOk result (WidensTo old size
+        (rewriting id at (A.view arena.old).words (A.view arena.new).words)) }
     ensures granted { OnOk result (KeepsMemory (A.view arena.old) (A.view arena.new)) }
     ensures memory { IfErr result (SpendsMemory (A.view arena.old) (A.view arena.new)) }
     ensures refused { OnErr result
@@ -209,8 +209,8 @@ fn widen_void<A: BuilderArena>(
 ) -> Result<ExistingList, ErrorKind>
     requires place { IsPlace (A.view arena.old).words id at }
     requires kind { size_number old.size ≡ 0 }
-    ensures widened { IfOk result (WidensTo (A.view arena.old).words
-        (A.view arena.new).words id at old size) }
+    ensures widened { IfOk result (WidensTo old size
+        (rewriting id at (A.view arena.old).words (A.view arena.new).words)) }
     ensures granted { OnOk result (KeepsMemory (A.view arena.old) (A.view arena.new)) }
     ensures memory { IfErr result (SpendsMemory (A.view arena.old) (A.view arena.new)) }
     ensures refused { OnErr result

@@ -9,7 +9,7 @@ ghost use Rattle.capnp_making.specs.Fields.{field_in};
 ghost use Rattle.capnp_making.specs.Memory.{HasRoom, KeepsMemory, SpendsMemory, RefusesGrowth};
 ghost use Rattle.capnp_widening.specs.Rooms.{GrowsByAtMost, WiderListFits, GrowsForList};
 ghost use Rattle.capnp_widening.specs.RowsRemade.{AreNumbersCopied, IsList, NumbersInside, RemakesList, WidensTo, RefusesWider};
-ghost use Rattle.capnp_widening.specs.Widened.{LeavesAll};
+ghost use Rattle.capnp_widening.specs.Widened.{LeavesAll, rewriting};
 
 use crate::remaking::begin_list;
 use crate::widening::{greater, settle};
@@ -32,8 +32,8 @@ pub(crate) fn widen_numbers<A: BuilderArena>(
 ) -> Result<ExistingList, ErrorKind>
     requires place { IsPlace (A.view arena.old).words id at }
     requires kind { (2 ≤ size_number old.size) × (size_number old.size ≤ 5) }
-    ensures widened { IfOk result (WidensTo (A.view arena.old).words
-        (A.view arena.new).words id at old size) }
+    ensures widened { IfOk result (WidensTo old size
+        (rewriting id at (A.view arena.old).words (A.view arena.new).words)) }
     ensures granted { OnOk result (KeepsMemory (A.view arena.old) (A.view arena.new)) }
     ensures memory { IfErr result (SpendsMemory (A.view arena.old) (A.view arena.new)) }
     ensures refused { OnErr result
@@ -91,7 +91,7 @@ fn remake_numbers<A: BuilderArena>(
     requires data { 0 < size.data_words }
     requires small { old.count * (size.data_words + size.pointers) < 2 ^ 29 }
     ensures remade { IfOk result (RemakesList (IsList (A.view arena.old).words id at old)
-        (A.view arena.old).words (A.view arena.new).words id at size) }
+        size (rewriting id at (A.view arena.old).words (A.view arena.new).words)) }
     ensures granted { OnOk result (KeepsMemory (A.view arena.old) (A.view arena.new)) }
     ensures refused { OnErr result ((A.view arena.new).words ≡ (A.view arena.old).words) }
     ensures memory { IfErr result (SpendsMemory (A.view arena.old) (A.view arena.new)) }

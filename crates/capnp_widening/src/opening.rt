@@ -44,7 +44,7 @@ pub fn open_struct<A: BuilderArena>(
     ensures granted { OnOk result (KeepsMemory (A.view arena.old) (A.view arena.new)) }
     ensures memory { IfErr result (SpendsMemory (A.view arena.old) (A.view arena.new)) }
     ensures named { (word_at (A.view arena.old).words id at ≡ 0 → ⊥)
-        → IfErr result (IsNoWider (A.view arena.old) (A.view arena.new) id at) }
+        → IfErr result (IsNoWider (call_at id at (A.view arena.old) (A.view arena.new))) }
     ensures fits { OpeningFits (A.view arena.old) id at size → IsOk result }
     ensures taken { word_at (A.view arena.old).words id at ≡ 0
         → OnOk result
@@ -125,7 +125,7 @@ fn widen_struct<A: BuilderArena>(
     ensures wide { IfOk result (IsAtLeast size) }
     ensures granted { OnOk result (KeepsMemory (A.view arena.old) (A.view arena.new)) }
     ensures memory { IfErr result (SpendsMemory (A.view arena.old) (A.view arena.new)) }
-    ensures named { IfErr result (IsNoWider (A.view arena.old) (A.view arena.new) id at) }
+    ensures named { IfErr result (IsNoWider (call_at id at (A.view arena.old) (A.view arena.new))) }
     ensures fits { WiderStructFits (A.view arena.old) id at size → IsOk result }
 {
     let old = ExistingStruct {

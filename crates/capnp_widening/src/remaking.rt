@@ -10,7 +10,8 @@ ghost use Rattle.capnp_widening.specs.Rooms.{GrowsByAtMost, HasSomeRoom, RemadeR
 ghost use Rattle.capnp_widening.specs.Housed.{IsRoom};
 ghost use Rattle.capnp_widening.specs.Moved.{Moves, MovesSome, Unmoves};
 ghost use Rattle.capnp_widening.specs.RowsRemade.{AreRowsCopied, CopiesData, IsTagWritten, RowsInside, RemakesList, RefusesRows, StoresRows, element_moves};
-ghost use Rattle.capnp_widening.specs.Widened.{LeavesAll};
+ghost use Rattle.capnp_widening.specs.Widened.{LeavesAll, rewriting};
+ghost use Rattle.capnp_making.specs.Makes.{call_at};
 
 use crate::moving::{Rows, move_rows, unmove_rows};
 use crate::widening::{Room, copy_words, settle, take};
@@ -81,7 +82,8 @@ pub(crate) fn begin_list<A: BuilderArena>(
     requires small { count * (size.data_words + size.pointers) < 2 ^ 29 }
     ensures begun { IfOk result (λ room. (T : Segments)
         × IsRoom (A.view arena.old).words T id (structs_words count size) room
-        × IsTagWritten T (A.view arena.new).words room.segment (room.at + room.pads) count size) }
+        × IsTagWritten (rewriting room.segment (room.at + room.pads) T
+        (A.view arena.new).words) count size) }
     ensures granted { OnOk result (KeepsMemory (A.view arena.old) (A.view arena.new)) }
     ensures memory { IfErr result (SpendsMemory (A.view arena.old) (A.view arena.new)) }
     ensures full { IfErr result (RefusesGrowth (A.view arena.old) (A.view arena.new)) }
@@ -194,7 +196,7 @@ pub(crate) fn widen_rows<A: BuilderArena>(
     requires data { old.size.data_words ≤ size.data_words }
     requires pointers { old.size.pointers ≤ size.pointers }
     ensures remade { IfOk result (RemakesList (StoresRows (A.view arena.old).words id at old)
-        (A.view arena.old).words (A.view arena.new).words id at size) }
+        size (rewriting id at (A.view arena.old).words (A.view arena.new).words)) }
     ensures small { OnOk result (old.count * (size.data_words + size.pointers) < 2 ^ 29) }
     ensures granted { OnOk result (KeepsMemory (A.view arena.old) (A.view arena.new)) }
     ensures memory { IfErr result (SpendsMemory (A.view arena.old) (A.view arena.new)) }
@@ -202,7 +204,7 @@ pub(crate) fn widen_rows<A: BuilderArena>(
         (LeavesAll (StoresRows (A.view arena.old).words id at old)
         (A.view arena.old).words (A.view arena.new).words) }
     ensures named { IfErr result
-        (RefusesRows (A.view arena.old) (A.view arena.new) id at old size) }
+        (RefusesRows old size (call_at id at (A.view arena.old) (A.view arena.new))) }
     ensures few { GrowsByAtMost (A.view arena.old).words (A.view arena.new).words
         (structs_words old.count size + 1 + 2 * (old.count * old.size.pointers)) }
     ensures fits { RowsInside (A.view arena.old).words old
@@ -243,7 +245,7 @@ fn remake_rows<A: BuilderArena>(
     requires data { old.size.data_words ≤ size.data_words }
     requires pointers { old.size.pointers ≤ size.pointers }
     ensures remade { IfOk result (RemakesList (StoresRows (A.view arena.old).words id at old)
-        (A.view arena.old).words (A.view arena.new).words id at size) }
+        size (rewriting id at (A.view arena.old).words (A.view arena.new).words)) }
     ensures granted { OnOk result (KeepsMemory (A.view arena.old) (A.view arena.new)) }
     ensures refused { OnErr result
         (LeavesAll (StoresRows (A.view arena.old).words id at old)

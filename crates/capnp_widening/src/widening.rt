@@ -14,7 +14,8 @@ ghost use Rattle.capnp_making.specs.Stored.{IsStored};
 ghost use Rattle.capnp_making.specs.Zeroed.{IsPruned};
 ghost use Rattle.capnp_widening.specs.Housed.{IsRoom, AreWordsCopied, Settles};
 ghost use Rattle.capnp_widening.specs.Rooms.{GrowsByAtMost, HasSomeRoom, WiderStructFits, GrowsForStruct};
-ghost use Rattle.capnp_widening.specs.Widened.{IsAtLeast, IsNoWider, IsStruct, LeadsToWiderStruct, LeavesAll, WidensStruct};
+ghost use Rattle.capnp_widening.specs.Widened.{IsAtLeast, IsNoWider, IsStruct, LeadsToWiderStruct, LeavesAll, WidensStruct, rewriting};
+ghost use Rattle.capnp_making.specs.Makes.{call_at};
 
 use crate::moving::{move_row, unmove_row};
 use capnp_arena::arena::BuilderArena;
@@ -78,8 +79,8 @@ pub(crate) fn copy_words<A: BuilderArena>(arena: &mut A, from: Start, to: Start,
     requires from { from.at + count ≤ length (segment (A.view arena.old).words from.segment) }
     requires to { to.at + count ≤ length (segment (A.view arena.old).words to.segment) }
     requires apart { from.segment ≡ to.segment → from.at + count ≤ to.at }
-    ensures copied { AreWordsCopied (A.view arena.old).words
-        (A.view arena.new).words from.segment from.at to.segment to.at count }
+    ensures copied { AreWordsCopied (A.view arena.old).words (A.view arena.new).words
+        from to count }
     ensures limits { KeepsLimits (A.view arena.old) (A.view arena.new) }
 {
     if count == 1 {
@@ -95,8 +96,8 @@ pub(crate) fn copy_words<A: BuilderArena>(arena: &mut A, from: Start, to: Start,
 fn copy_many<A: BuilderArena>(arena: &mut A, from: Start, to: Start, count: u32)
     requires from { from.at + count ≤ length (segment (A.view arena.old).words from.segment) }
     requires to { to.at + count ≤ length (segment (A.view arena.old).words to.segment) }
-    ensures copied { AreWordsCopied (A.view arena.old).words
-        (A.view arena.new).words from.segment from.at to.segment to.at count }
+    ensures copied { AreWordsCopied (A.view arena.old).words (A.view arena.new).words
+        from to count }
     ensures limits { KeepsLimits (A.view arena.old) (A.view arena.new) }
 {
     arena.move_words(from.segment, from.at, to.segment, to.at, count);
@@ -111,7 +112,8 @@ pub(crate) fn settle<A: BuilderArena>(arena: &mut A, id: u32, at: u32, room: Roo
     requires near { (room.pads ≡ 0 → room.segment ≡ id) × (room.pads ≤ 1) }
     requires few { CountFits shape }
     requires some { AsksWords shape }
-    ensures settled { Settles (A.view arena.old).words (A.view arena.new).words id at room shape }
+    ensures settled { Settles
+        (rewriting id at (A.view arena.old).words (A.view arena.new).words) room shape }
     ensures limits { KeepsLimits (A.view arena.old) (A.view arena.new) }
 {
     if room.pads == 0 {
@@ -138,8 +140,8 @@ pub fn get_struct<A: BuilderArena>(
     size: StructSize,
 ) -> Result<ExistingStruct, ErrorKind>
     requires place { IsPlace (A.view arena.old).words id at }
-    ensures widened { OnOk result (WidensStruct (IsStored (A.view arena.old).words id at)
-        (A.view arena.old).words (A.view arena.new).words id at size) }
+    ensures widened { OnOk result (WidensStruct (IsStored (A.view arena.old).words id at) size
+        (rewriting id at (A.view arena.old).words (A.view arena.new).words)) }
     ensures leads { IfOk result (LeadsToWiderStruct
         (IsStored (A.view arena.old).words id at) (A.view arena.new).words id at) }
     ensures wide { IfOk result (IsAtLeast size) }
@@ -147,7 +149,7 @@ pub fn get_struct<A: BuilderArena>(
     ensures refused { OnErr result
         (LeavesAll (IsStored (A.view arena.old).words id at)
         (A.view arena.old).words (A.view arena.new).words) }
-    ensures named { IfErr result (IsNoWider (A.view arena.old) (A.view arena.new) id at) }
+    ensures named { IfErr result (IsNoWider (call_at id at (A.view arena.old) (A.view arena.new))) }
     ensures stays { (ws : List ℕ) (ts : Trees)
         → IsStored (A.view arena.old).words id at (Struct ws ts)
         → size.data_words ≤ length ws → size.pointers ≤ count ts
@@ -185,15 +187,15 @@ pub(crate) fn widen_known<A: BuilderArena>(
         → struct_in (target (A.view arena.old).words id at) t ≡ Some old }
     requires narrow { size.data_words ≤ old.size.data_words
         → size.pointers ≤ old.size.pointers → ⊥ }
-    ensures widened { OnOk result (WidensStruct (IsStored (A.view arena.old).words id at)
-        (A.view arena.old).words (A.view arena.new).words id at size) }
+    ensures widened { OnOk result (WidensStruct (IsStored (A.view arena.old).words id at) size
+        (rewriting id at (A.view arena.old).words (A.view arena.new).words)) }
     ensures leads { IfOk result (LeadsToWiderStruct
         (IsStored (A.view arena.old).words id at) (A.view arena.new).words id at) }
     ensures granted { OnOk result (KeepsMemory (A.view arena.old) (A.view arena.new)) }
     ensures refused { OnErr result
         (LeavesAll (IsStored (A.view arena.old).words id at)
         (A.view arena.old).words (A.view arena.new).words) }
-    ensures named { IfErr result (IsNoWider (A.view arena.old) (A.view arena.new) id at) }
+    ensures named { IfErr result (IsNoWider (call_at id at (A.view arena.old) (A.view arena.new))) }
     ensures fits { WiderStructFits (A.view arena.old) id at size → IsOk result }
     ensures few { GrowsForStruct (A.view arena.old).words (A.view arena.new).words id at size }
 {
@@ -211,6 +213,29 @@ pub(crate) fn greater(a: u16, b: u16) -> u16
     if a < b { b } else { a }
 }
 
+/// Where the data section of a struct starts.
+#[inline(always)]
+fn data_of(e: ExistingStruct) -> Start
+    ensures { result ≡ record { segment = e.segment; at = e.start } }
+{
+    Start {
+        segment: e.segment,
+        at: e.start,
+    }
+}
+
+/// Where the pointers of a struct start.
+#[inline(always)]
+fn pointers_of(e: ExistingStruct) -> Start
+    requires { e.start + e.size.data_words < 2 ^ 32 }
+    ensures { result ≡ record { segment = e.segment; at = e.start + e.size.data_words } }
+{
+    Start {
+        segment: e.segment,
+        at: e.start + u32::from(e.size.data_words),
+    }
+}
+
 /// Makes a struct anew in a larger size, where the pointer at a place leads to it.
 fn widen_struct<A: BuilderArena>(
     arena: &mut A,
@@ -224,8 +249,8 @@ fn widen_struct<A: BuilderArena>(
     requires data { old.size.data_words ≤ size.data_words }
     requires pointers { old.size.pointers ≤ size.pointers }
     requires some { 0 < size.data_words + size.pointers }
-    ensures widened { OnOk result (WidensStruct (IsStruct (A.view arena.old).words id at old)
-        (A.view arena.old).words (A.view arena.new).words id at size) }
+    ensures widened { OnOk result (WidensStruct (IsStruct (A.view arena.old).words id at old) size
+        (rewriting id at (A.view arena.old).words (A.view arena.new).words)) }
     ensures leads { IfOk result (LeadsToWiderStruct
         (IsStruct (A.view arena.old).words id at old) (A.view arena.new).words id at) }
     ensures size { IfOk result (λ e. e.size ≡ size) }
@@ -245,39 +270,30 @@ fn widen_struct<A: BuilderArena>(
     let pointer = word_of(arena, id, at);
     match take(arena, id, size.total()) {
         Ok(room) => {
-            let start = room.at + room.pads;
-            let words = Start {
-                segment: old.segment,
-                at: old.start,
-            };
-            let object = Start {
+            let made = ExistingStruct {
                 segment: room.segment,
-                at: start,
+                start: room.at + room.pads,
+                size,
             };
-            copy_words(arena, words, object, u32::from(old.size.data_words));
-            let from = Start {
-                segment: old.segment,
-                at: old.start + u32::from(old.size.data_words),
-            };
-            let to = Start {
-                segment: room.segment,
-                at: start + u32::from(size.data_words),
-            };
+            copy_words(
+                arena,
+                data_of(old),
+                data_of(made),
+                u32::from(old.size.data_words),
+            );
+            let from = pointers_of(old);
+            let to = pointers_of(made);
             let count = u32::from(old.size.pointers);
             match move_row(arena, from, to, count) {
                 Ok(()) => {
                     settle(arena, id, at, room, Shape::Struct(size));
                     zero_part(arena, old.segment, old.start, u64::from(old.size.total()));
                     zero_pads(arena, pointer);
-                    Ok(ExistingStruct {
-                        segment: room.segment,
-                        start,
-                        size,
-                    })
+                    Ok(made)
                 }
                 Err(k) => {
                     unmove_row(arena, from, to, count);
-                    zero_part(arena, room.segment, start, u64::from(size.total()));
+                    zero_part(arena, made.segment, made.start, u64::from(size.total()));
                     Err(k)
                 }
             }

@@ -1,13 +1,11 @@
 //! Defaults, which are copied in place of null pointers ("Default Values").
-ghost use Rattle.std.specs.Prelude.{◌≡◌, ◌↔◌, ◌/◌, ◌^◌, ◌<◌, ◌≤◌, length, IsTrue, IsNone, IsOk, IfErr, OnOk, OnErr};
+ghost use Rattle.std.specs.Prelude.{◌≡◌, ◌↔◌, ◌/◌, ◌^◌, ◌<◌, ◌≤◌, length, IsTrue, IsNone, IsOk, IfErr, OnOk};
 ghost use Rattle.capnp_format.specs.Segments.{word_at, Grows, IsPlace};
-ghost use Rattle.capnp_format.specs.Tree.{Tree, Null};
-ghost use Rattle.capnp_making.specs.Stored.{IsStored, IsReplaced};
-ghost use Rattle.capnp_copies.specs.Growth.{TakesAtMost};
-ghost use Rattle.capnp_copies.specs.Originals.{value_original};
+ghost use Rattle.capnp_format.specs.Tree.{Tree};
+ghost use Rattle.capnp_making.specs.Stored.{IsStored};
 ghost use Rattle.capnp_making.specs.Makes.{call_at};
 ghost use Rattle.capnp_builders.specs.Building.{ChangesWords};
-ghost use Rattle.capnp_builders.specs.Defaults.{default_root, default_copy, StandsForNull, RefusesDefault, IsShortDefault, IsNullDefault, object_default, blob_default, PutsDefaultOver, DefaultCopyFits, DefaultFits};
+ghost use Rattle.capnp_builders.specs.Defaults.{DropsDefault, PutsDefault, IsShortDefault, IsNullDefault, object_default, blob_default, PutsDefaultOver, DefaultCopyFits, DefaultFits};
 
 use capnp_arena::arena::BuilderArena;
 use capnp_copies::copy;
@@ -36,15 +34,11 @@ pub fn copy_default<A: BuilderArena>(
     requires null { word_at (A.view arena.old).words id at ≡ 0 }
     requires some { 8 ≤ length default.now }
     requires few { length default.now / 8 < 2 ^ 32 }
-    ensures copied { OnOk result
-        (StandsForNull default.now (A.view arena.old) (A.view arena.new) id at) }
+    ensures copied { OnOk result ((value : Tree) × PutsDefault default.now
+        (call_at id at (A.view arena.old) (A.view arena.new)) value) }
     ensures fits { DefaultCopyFits default.now (A.view arena.old) id → IsOk result }
-    ensures refused { OnErr result
-        (IsReplaced (A.view arena.old).words (A.view arena.new).words id at Null Null) }
-    ensures named { IfErr result
-        (RefusesDefault default.now (default_copy id at (A.view arena.old) (A.view arena.new))) }
-    ensures taken { TakesAtMost result (value_original (default_root default.now))
-        (default_copy id at (A.view arena.old) (A.view arena.new)) }
+    ensures dropped { IfErr result (DropsDefault default.now
+        (call_at id at (A.view arena.old) (A.view arena.new))) }
     ensures memory { ChangesWords result (A.view arena.old) (A.view arena.new) }
 {
     let from: PointerReader<'_, A> = match PointerReader::from_default(default) {

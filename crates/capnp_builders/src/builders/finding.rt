@@ -13,15 +13,16 @@ ghost use Rattle.capnp_words.specs.declared.error.ErrorKind.{ErrorKind};
 ghost use Rattle.capnp_builders.specs.Defaults.{IsShortDefault, DefaultFits, IsIgnoredDefault, object_default, PutsDefaultOver};
 ghost use Rattle.capnp_builders.specs.Found.{FindsList, FindsBytes, IsLent};
 ghost use Rattle.capnp_builders.specs.Opening.{FindsStruct, FindsStructs, StructFindFits, StructsFindFits};
-ghost use Rattle.capnp_builders.specs.Places.{StructStartsAt, IsAligned};
+ghost use Rattle.capnp_builders.specs.Places.{IsAligned};
 
 use super::PointerBuilder;
 use super::defaults::{put_blob_default, put_default};
 use super::found::{found_list, look_for_data, look_for_list, look_for_text};
 use super::list_builder::ListBuilder;
+use super::places::struct_place;
 use super::struct_builder::StructBuilder;
 use capnp_arena::arena::BuilderArena;
-use capnp_making::existing::{ExistingBytes, ExistingStruct};
+use capnp_making::existing::ExistingBytes;
 use capnp_making::lent;
 use capnp_readers::readers::{ListPlace, StructPlace};
 use capnp_widening::opening::{open_struct, open_struct_list};
@@ -82,9 +83,7 @@ impl<'a, A: BuilderArena> PointerBuilder<'a, A> {
             (64 * size.data_words ≤ place.bits) × (size.pointers ≤ place.pointers)) }
         ensures aligned { IfOk result IsAligned }
         ensures set { (IsNull (built A.view self.old) → ⊥)
-            → IfErr result
-            (IsNoWider (A.view self.old.arena.now)
-            (A.view self.new.arena.now) self.old.segment self.old.at) }
+            → IfErr result (IsNoWider (calling A.view self.old self.new)) }
         ensures memory { ChangesWords result (A.view self.old.arena.now)
             (A.view self.new.arena.now) }
         ensures there { OfStored (built A.view self.old) (λ t. IsThere (built A.view self.new)) }
@@ -367,24 +366,5 @@ impl<'a, A: BuilderArena> PointerBuilder<'a, A> {
             }
             Err(k) => Err(k),
         }
-    }
-}
-
-/// The place of a struct that was opened.
-fn struct_place(opened: ExistingStruct) -> StructPlace
-    ensures starts { opened.start + opened.size.data_words < 2 ^ 32
-        → StructStartsAt result opened.segment opened.start opened.size.data_words
-        opened.size.pointers }
-    ensures bits { result.bits ≡ 64 * opened.size.data_words }
-    ensures pointers { result.pointers ≡ opened.size.pointers }
-    ensures aligned { IsAligned result }
-{
-    let data_words = u32::from(opened.size.data_words);
-    StructPlace {
-        segment: opened.segment,
-        byte: 8 * u64::from(opened.start),
-        bits: 64 * data_words,
-        pointers_at: opened.start.saturating_add(data_words),
-        pointers: opened.size.pointers,
     }
 }

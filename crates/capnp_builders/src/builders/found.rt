@@ -10,6 +10,7 @@ ghost use Rattle.capnp_readers.specs.Readers.{IsListPlace};
 ghost use Rattle.capnp_builders.specs.Found.{list_given, bytes_given, no_bytes};
 
 use super::NO_SECTIONS;
+use super::places::list_place;
 use capnp_arena::arena::BuilderArena;
 use capnp_making::existing::{self, ExistingBytes, ExistingList, are_inside};
 use capnp_readers::readers::ListPlace;
@@ -21,13 +22,7 @@ pub(crate) fn found_list(segment: u32, found: Option<ExistingList>) -> ListPlace
     ensures { list_given segment (Ok found) ≡ Ok result }
 {
     match found {
-        Some(list) => ListPlace {
-            segment: list.segment,
-            byte: 8 * u64::from(list.start),
-            size: list.size,
-            struct_size: list.struct_size,
-            count: list.count,
-        },
+        Some(list) => list_place(list),
         None => ListPlace {
             segment,
             byte: 0,

@@ -5,7 +5,7 @@ ghost use Rattle.capnp_words.specs.Sizes.{size_number};
 ghost use Rattle.capnp_readers.specs.Readers.{IsStructPlace, IsListPlace};
 ghost use Rattle.capnp_format.specs.Segments.{IsPlace};
 ghost use Rattle.capnp_readers.specs.Sections.{HoldsPointer, pointers_behind, elements_words, step_bits, data_bits};
-ghost use Rattle.capnp_builders.specs.Places.{HasField, IsAligned, IsElement, WritesField};
+ghost use Rattle.capnp_builders.specs.Places.{HasField, IsAligned, WritesField, element_place};
 ghost use Rattle.capnp_builders.specs.Elements.{lowest_bits};
 ghost use Rattle.capnp_builders.specs.Reads.{IsArenaOf, IsListReadAt};
 
@@ -34,7 +34,7 @@ fn element_place(list: ListPlace, index: u32) -> StructPlace
     requires inside { list.byte / 8 + elements_words list.size list.count
         (list.struct_size.data_words + list.struct_size.pointers) < 2 ^ 29 }
     requires aligned { list.byte % 8 ≡ 0 }
-    ensures place { IsElement list.size list index result }
+    ensures place { result ≡ element_place list.size list index }
     ensures aligned { IsAligned result }
 {
     let start = (list.byte / 8) as u32;
@@ -168,7 +168,7 @@ impl<'a, A: BuilderArena> ListBuilder<'a, A> {
         requires whole { size_number self.place.size ≢ 1 }
         ensures same { result.arena.ghost_name ≡ self.entry.arena.ghost_name }
         ensures now { result.arena.now ≡ self.entry.arena.now }
-        ensures place { IsElement self.entry.place.size self.entry.place index result.place }
+        ensures place { result.place ≡ element_place self.entry.place.size self.entry.place index }
         ensures inside { IsStructPlace (A.view result.arena.now).words result.place }
     {
         let ListBuilder { arena, place } = self;

@@ -5,10 +5,10 @@ ghost use Rattle.capnp_format.specs.Word.{kind, element_size};
 ghost use Rattle.capnp_objects.specs.Reading.{segment_read, word_of};
 ghost use Rattle.capnp_objects.specs.Wanted.{Form};
 ghost use Rattle.capnp_readers.specs.Readers.{reading};
-ghost use Rattle.capnp_copies.specs.Growth.{TakesAtMost, TakesForPointers};
+ghost use Rattle.capnp_copies.specs.Growth.{TakesAtMost};
 ghost use Rattle.capnp_copies.specs.Changes.{change, MakesCopy, StopsHalfway, CopiesChildren, StopsAtChildren};
 ghost use Rattle.capnp_copies.specs.Forms.{form_in};
-ghost use Rattle.capnp_copies.specs.Originals.{value_original};
+ghost use Rattle.capnp_copies.specs.Originals.{value_original, children_original};
 
 use super::flat::{copy_flat, flat_words};
 use super::structs::copy_struct;
@@ -42,7 +42,7 @@ pub(crate) fn copy_children<A: BuilderArena, B: ReaderArena>(
     ensures refused { IfErr result
         (StopsAtChildren (reading B.ReaderArena from.entry) count
         (change (form_in form) id at (A.view arena.old) (A.view arena.new) lim.old lim.new)) }
-    ensures taken { TakesForPointers result (reading B.ReaderArena from.entry) count
+    ensures taken { TakesAtMost result (children_original (reading B.ReaderArena from.entry) count)
         (change (form_in form) id at (A.view arena.old) (A.view arena.new) lim.old lim.new) }
 {
     if count == 0 {
@@ -71,7 +71,7 @@ fn copy_row<A: BuilderArena, B: ReaderArena>(
     ensures refused { IfErr result
         (StopsAtChildren (reading B.ReaderArena from.entry) count
         (change (form_in form) id at (A.view arena.old) (A.view arena.new) lim.old lim.new)) }
-    ensures taken { TakesForPointers result (reading B.ReaderArena from.entry) count
+    ensures taken { TakesAtMost result (children_original (reading B.ReaderArena from.entry) count)
         (change (form_in form) id at (A.view arena.old) (A.view arena.new) lim.old lim.new) }
 {
     copy_in_line(arena, id, at, from, count, lim, form)
@@ -98,7 +98,7 @@ pub(crate) fn copy_in_line<A: BuilderArena, B: ReaderArena>(
     ensures refused { IfErr result
         (StopsAtChildren (reading B.ReaderArena from.entry) count
         (change (form_in form) id at (A.view arena.old) (A.view arena.new) lim.old lim.new)) }
-    ensures taken { TakesForPointers result (reading B.ReaderArena from.entry) count
+    ensures taken { TakesAtMost result (children_original (reading B.ReaderArena from.entry) count)
         (change (form_in form) id at (A.view arena.old) (A.view arena.new) lim.old lim.new) }
 {
     for i in 0..count {

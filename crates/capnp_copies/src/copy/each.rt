@@ -4,9 +4,10 @@ ghost use Rattle.capnp_format.specs.Segments.{segment, word_at};
 ghost use Rattle.capnp_objects.specs.Reading.{segment_read};
 ghost use Rattle.capnp_objects.specs.Wanted.{plain};
 ghost use Rattle.capnp_readers.specs.Readers.{reading};
-ghost use Rattle.capnp_copies.specs.Growth.{TakesForPointers};
-ghost use Rattle.capnp_copies.specs.Changes.{change, CopiesChildren};
-ghost use Rattle.capnp_copies.specs.StructValues.{CopiesFirst, PointersFit};
+ghost use Rattle.capnp_copies.specs.Growth.{TakesAtMost};
+ghost use Rattle.capnp_copies.specs.Changes.{change, CopiesChildren, CopiesFirst};
+ghost use Rattle.capnp_copies.specs.Rooms.{CanBeCopied};
+ghost use Rattle.capnp_copies.specs.Originals.{children_original};
 
 use super::copy_value;
 use capnp_arena::arena::{BuilderArena, ReaderArena};
@@ -34,12 +35,12 @@ pub fn copy_each<A: BuilderArena, B: ReaderArena>(
     requires inside { from.place.at + count ≤ length (segment_read (reading B.ReaderArena from)) }
     ensures copied { IfOk result (λ _. CopiesChildren (reading B.ReaderArena from.entry) count
         (change plain id at (A.view arena.old) (A.view arena.new) lim.old lim.new)) }
-    ensures fits { PointersFit (reading B.ReaderArena from.entry) count
-        (change plain id at (A.view arena.old) (A.view arena.new) lim.old lim.new) → IsOk result }
+    ensures fits { CanBeCopied (children_original (reading B.ReaderArena from.entry) count)
+        plain lim.old (A.view arena.old) id → IsOk result }
     ensures refused { IfErr result
         (CopiesFirst (reading B.ReaderArena from.entry) count
         (change plain id at (A.view arena.old) (A.view arena.new) lim.old lim.new)) }
-    ensures taken { TakesForPointers result (reading B.ReaderArena from.entry) count
+    ensures taken { TakesAtMost result (children_original (reading B.ReaderArena from.entry) count)
         (change plain id at (A.view arena.old) (A.view arena.new) lim.old lim.new) }
 {
     for i in 0..count {

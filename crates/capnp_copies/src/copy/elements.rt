@@ -5,9 +5,10 @@ ghost use Rattle.capnp_format.specs.Segments.{segment, word_at};
 ghost use Rattle.capnp_arena.specs.Written.{with_words};
 ghost use Rattle.capnp_objects.specs.Reading.{behind, segment_read};
 ghost use Rattle.capnp_readers.specs.Readers.{reading};
-ghost use Rattle.capnp_copies.specs.Growth.{TakesNone, TakesForPointers, TakesForRows};
-ghost use Rattle.capnp_copies.specs.Changes.{change, CopiesElement, StopsAtElement, CopiesElements, StopsAtElements};
+ghost use Rattle.capnp_copies.specs.Growth.{TakesNone, TakesAtMost};
+ghost use Rattle.capnp_copies.specs.Changes.{change, CopiesElement, StopsAtElement, CopiesRows, StopsAtElements};
 ghost use Rattle.capnp_copies.specs.Forms.{form_in};
+ghost use Rattle.capnp_copies.specs.Originals.{children_original, elements_original};
 ghost use Rattle.capnp_copies.specs.Widths.{KeepsPointers};
 
 use super::children::copy_in_line;
@@ -43,14 +44,15 @@ pub(crate) fn copy_elements<A: BuilderArena, B: ReaderArena>(
     requires less_data { sizes.kept.data_words ≤ sizes.source.data_words }
     requires less_pointers { sizes.kept.pointers ≤ sizes.source.pointers }
     requires pointers { KeepsPointers (form_in form) (reading B.ReaderArena from) sizes count }
-    ensures copied { IfOk result (λ _. CopiesElements (reading B.ReaderArena from.entry) sizes count
+    ensures copied { IfOk result (λ _. CopiesRows (reading B.ReaderArena from.entry) sizes count 0
         (change (form_in form) to.segment to.at (A.view arena.old)
         (A.view arena.new) lim.old lim.new)) }
     ensures refused { IfErr result
         (StopsAtElements (reading B.ReaderArena from.entry) sizes count
         (change (form_in form) to.segment to.at (A.view arena.old)
         (A.view arena.new) lim.old lim.new)) }
-    ensures taken { TakesForRows result (reading B.ReaderArena from.entry) sizes.source count
+    ensures taken { TakesAtMost result
+        (elements_original (reading B.ReaderArena from.entry) sizes count)
         (change (form_in form) to.segment to.at (A.view arena.old)
         (A.view arena.new) lim.old lim.new) }
 {
@@ -107,8 +109,8 @@ fn copy_element<A: BuilderArena, B: ReaderArena>(
         (StopsAtElement (reading B.ReaderArena from.entry) sizes
         (change (form_in form) to.segment to.at (A.view arena.old)
         (A.view arena.new) lim.old lim.new)) }
-    ensures taken { TakesForPointers result
-        (behind (reading B.ReaderArena from.entry) sizes.source.data_words) sizes.kept.pointers
+    ensures taken { TakesAtMost result (children_original
+        (behind (reading B.ReaderArena from.entry) sizes.source.data_words) sizes.kept.pointers)
         (change (form_in form) to.segment to.at (A.view arena.old)
         (A.view arena.new) lim.old lim.new) }
 {

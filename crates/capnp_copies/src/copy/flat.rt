@@ -1,10 +1,10 @@
 //! The copy of a list of numbers: its words, with padding of zero ("Lists", "Canonicalization").
-ghost use Rattle.std.specs.Prelude.{◌≡◌, ◌+◌, ◌*◌, ◌/◌, ◌<◌, ◌≤◌, ◌^◌, length, IsOk, OnOk, OnErr, IfErr};
+ghost use Rattle.std.specs.Prelude.{◌≡◌, ◌+◌, ◌*◌, ◌/◌, ◌<◌, ◌≤◌, ◌^◌, length, IsOk, OnOk, OnErr, IfErr, MatchResult};
 ghost use Rattle.capnp_format.specs.Bytes.{words_of};
 ghost use Rattle.capnp_format.specs.Numbers.{words_for, unpacked};
 ghost use Rattle.capnp_format.specs.Segments.{segment, IsPlace};
 ghost use Rattle.capnp_arena.specs.Written.{with_words};
-ghost use Rattle.capnp_copies.specs.Growth.{TakesForNumbers};
+ghost use Rattle.capnp_copies.specs.Growth.{MakesAtMost, TakesNone};
 ghost use Rattle.capnp_copies.specs.Copied.{low_bits};
 ghost use Rattle.capnp_format.specs.Tree.{Null, Flat};
 ghost use Rattle.capnp_making.specs.Memory.{KeepsMemory, SpendsMemory, RefusesWords};
@@ -42,8 +42,10 @@ pub(crate) fn copy_flat<A: BuilderArena>(
         (Flat (size_number size) (unpacked (size_number size) count (words_of elements.now)))) }
     ensures fits { HasOwnRoom (A.view arena.old) id (words_for (size_number size) count)
         → IsOk result }
-    ensures taken { TakesForNumbers result id (words_for (size_number size) count)
-        (A.view arena.old) (A.view arena.new) }
+    ensures taken { MatchResult result
+        (λ _. MakesAtMost id (A.view arena.old) (A.view arena.new)
+        (words_for (size_number size) count) 1)
+        (λ _. TakesNone (A.view arena.old) (A.view arena.new)) }
     ensures granted { OnOk result (KeepsMemory (A.view arena.old) (A.view arena.new)) }
     ensures refused { IfErr result
         (RefusesWords (A.view arena.old) (A.view arena.new) (words_for (size_number size) count)) }

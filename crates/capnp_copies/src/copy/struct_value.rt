@@ -6,7 +6,7 @@ ghost use Rattle.capnp_format.specs.Tree.{Null};
 ghost use Rattle.capnp_objects.specs.Reading.{words_from};
 ghost use Rattle.capnp_readers.specs.Sizes.{pointers_read};
 ghost use Rattle.capnp_copies.specs.Changes.{change, MakesCopy, StopsCopy, StopsHalfway};
-ghost use Rattle.capnp_copies.specs.Copies.{CanBeCopied};
+ghost use Rattle.capnp_copies.specs.Rooms.{CanBeCopied};
 ghost use Rattle.capnp_copies.specs.Forms.{form_of};
 ghost use Rattle.capnp_copies.specs.Growth.{TakesAtMost};
 ghost use Rattle.capnp_copies.specs.Originals.{IsTooWide, kept_count};

@@ -1,13 +1,13 @@
 //! The copy of a struct ("Structs", "Canonicalization").
 ghost use Rattle.std.specs.Prelude.{◌≡◌, ◌+◌, ◌≤◌, length, IfOk, IfErr};
+ghost use Rattle.capnp_format.specs.Canonical.{used_words};
 ghost use Rattle.capnp_format.specs.Segments.{word_at, IsPlace};
 ghost use Rattle.capnp_objects.specs.Reading.{segment_read, behind, words_from};
 ghost use Rattle.capnp_readers.specs.Readers.{reading};
 ghost use Rattle.capnp_copies.specs.Growth.{TakesAtMost};
 ghost use Rattle.capnp_copies.specs.Changes.{change, MakesCopy, StopsHalfway};
 ghost use Rattle.capnp_copies.specs.Forms.{form_in};
-ghost use Rattle.capnp_copies.specs.Originals.{sections_original};
-ghost use Rattle.capnp_copies.specs.Widths.{Uses, KeepsSections};
+ghost use Rattle.capnp_copies.specs.Originals.{sections_original, kept_count};
 
 use super::children::copy_children;
 use super::elements::put_words;
@@ -84,7 +84,10 @@ fn kept_sections<B: ReaderArena>(
 ) -> StructSize
     requires inside { from.place.at + (size.data_words + size.pointers)
         ≤ length (segment_read (reading B.ReaderArena from)) }
-    ensures kept { KeepsSections (form_in form) (reading B.ReaderArena from.entry) size result }
+    ensures data { result.data_words ≡ kept_count (form_in form)
+        (words_from (reading B.ReaderArena from.entry) size.data_words) }
+    ensures pointers { result.pointers ≡ kept_count (form_in form)
+        (words_from (behind (reading B.ReaderArena from.entry) size.data_words) size.pointers) }
     ensures less_data { result.data_words ≤ size.data_words }
     ensures less_pointers { result.pointers ≤ size.pointers }
 {
@@ -100,7 +103,12 @@ fn kept_sections<B: ReaderArena>(
 fn used_sections<B: ReaderArena>(from: PointerReader<'_, B>, size: StructSize) -> StructSize
     requires inside { from.place.at + (size.data_words + size.pointers)
         ≤ length (segment_read (reading B.ReaderArena from)) }
-    ensures { Uses (reading B.ReaderArena from.entry) size result }
+    ensures data { result.data_words
+        ≡ used_words (words_from (reading B.ReaderArena from.entry) size.data_words) }
+    ensures pointers { result.pointers ≡ used_words
+        (words_from (behind (reading B.ReaderArena from.entry) size.data_words) size.pointers) }
+    ensures less_data { result.data_words ≤ size.data_words }
+    ensures less_pointers { result.pointers ≤ size.pointers }
 {
     let bytes = from.place.bytes;
     let data = from.place.at as usize;

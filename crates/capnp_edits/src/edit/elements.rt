@@ -8,16 +8,16 @@ ghost use Rattle.capnp_words.specs.Sizes.{size_number};
 ghost use Rattle.capnp_readers.specs.Readers.{IsListPlace};
 ghost use Rattle.capnp_readers.specs.Sections.{data_bits, elements_words};
 ghost use Rattle.capnp_builders.specs.Elements.{lowest_bits};
-ghost use Rattle.capnp_builders.specs.Places.{WritesField};
-ghost use Rattle.capnp_builders.specs.Found.{found_list_place as list_place};
+ghost use Rattle.capnp_builders.specs.Places.{WritesField, list_place};
 ghost use Rattle.capnp_edits.specs.declared.edit.tasks.Task.TheVariants.{Write};
 ghost use Rattle.capnp_edits.specs.Tasks.{is_in_range, is_number};
-ghost use Rattle.capnp_edits.specs.Edits.{refusal_of, is_of_place, PutsElement, PutsByte};
+ghost use Rattle.capnp_edits.specs.Edits.{refusal_of, is_of_path, PutsElement, PutsByte};
 ghost use Rattle.capnp_edits.specs.Steps.{IsDoneAt};
 
 use crate::edit::path::has_words;
 use crate::edit::tasks::Part;
 use capnp_arena::arena::BuilderArena;
+use capnp_builders::builders::places::list_place;
 use capnp_builders::builders::{ListBuilder, PrimitiveElement};
 use capnp_making::existing;
 use capnp_making::existing::{ExistingBytes, ExistingList};
@@ -25,19 +25,6 @@ use capnp_making::numbers::set_number;
 use capnp_readers::readers::{ListPlace, PointerPlace};
 use capnp_words::error::ErrorKind;
 use capnp_words::wire_pointer::{ElementSize, data_bits_per_element};
-
-/// Where a list is, for its builder.
-fn place_of(list: ExistingList) -> ListPlace
-    ensures { result ≡ list_place list }
-{
-    ListPlace {
-        segment: list.segment,
-        byte: 8 * u64::from(list.start),
-        size: list.size,
-        struct_size: list.struct_size,
-        count: list.count,
-    }
-}
 
 /// How many words the elements of a list take, its tag aside.
 fn words_of(list: ExistingList) -> u64
@@ -140,12 +127,12 @@ fn set_element<A: BuilderArena>(
     ensures put { PutsElement (A.view arena.old).words
         (A.view arena.new).words found size index value (refusal_of result) }
     ensures limits { KeepsLimits (A.view arena.old) (A.view arena.new) }
-    ensures named { IfErr result (λ k. is_of_place k ≡ true) }
+    ensures named { IfErr result (λ k. is_of_path k ≡ true) }
     ensures kept { OnErr result (A.view arena.new ≡ A.view arena.old) }
 {
     match found {
         Ok(Some(list)) if has_element(&*arena, list, size, index) => {
-            put_element_at(arena, place_of(list), size, index, value);
+            put_element_at(arena, list_place(list), size, index, value);
             Ok(())
         }
         Ok(_) => Err(ErrorKind::NoSuchPlace),
@@ -165,7 +152,7 @@ fn write_byte<A: BuilderArena>(
     ensures put { PutsByte (A.view arena.old).words (A.view arena.new).words found index value
         (refusal_of result) }
     ensures limits { KeepsLimits (A.view arena.old) (A.view arena.new) }
-    ensures named { IfErr result (λ k. is_of_place k ≡ true) }
+    ensures named { IfErr result (λ k. is_of_path k ≡ true) }
     ensures kept { OnErr result (A.view arena.new ≡ A.view arena.old) }
 {
     match found {

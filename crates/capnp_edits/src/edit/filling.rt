@@ -3,12 +3,12 @@ ghost use Rattle.std.specs.Prelude.{◌≡◌, ◌+◌, None, true, IsOk, IfOk, 
 ghost use Rattle.capnp_arena.specs.View.{View};
 ghost use Rattle.capnp_making.specs.Existing.{StructLiesIn};
 ghost use Rattle.capnp_readers.specs.Readers.{IsStructPlace};
-ghost use Rattle.capnp_builders.specs.Places.{IsAligned};
+ghost use Rattle.capnp_builders.specs.Places.{IsAligned, struct_place};
 ghost use Rattle.capnp_builders.specs.Content.{TakesContent, StopsAtContent, ContentFits, TakesForContent as TakesForCopy, pointers_copied};
 ghost use Rattle.capnp_edits.specs.declared.edit.tasks.Task.TheVariants.{InStruct};
 ghost use Rattle.capnp_edits.specs.Sources.{ContentFitsBehind};
 ghost use Rattle.capnp_edits.specs.Tasks.{is_in_range};
-ghost use Rattle.capnp_edits.specs.Edits.{refusal_of, sections, FillsAt, refusals_after};
+ghost use Rattle.capnp_edits.specs.Edits.{refusal_of, FillsAt, refusals_after};
 ghost use Rattle.capnp_edits.specs.Steps.{IsChanged, IsContentRefused, TakesForContentFrom};
 
 use crate::edit::Source;
@@ -18,29 +18,24 @@ use crate::edit::path::has_words;
 use crate::edit::tasks::StructChange;
 use capnp_arena::arena::{BuilderArena, ReaderArena};
 use capnp_builders::builders::StructBuilder;
+use capnp_builders::builders::places::struct_place;
 use capnp_making::existing::ExistingStruct;
 use capnp_readers::readers::{StructPlace, StructReader};
 use capnp_words::error::ErrorKind;
 use capnp_words::read_limiter::ReadLimiter;
 
-/// Where the sections of a struct are that lies in the message, if it has a word.
-fn sections_of<A: BuilderArena>(arena: &A, parent: ExistingStruct) -> Option<StructPlace>
+/// The place of a struct that lies in the message, if it has a word.
+fn place_in<A: BuilderArena>(arena: &A, parent: ExistingStruct) -> Option<StructPlace>
     requires { StructLiesIn (A.view arena.now).words parent }
     ensures empty { result ≡ None → parent.size.data_words + parent.size.pointers ≡ 0 }
-    ensures place { IfSome result (λ place. place ≡ sections parent) }
+    ensures place { IfSome result (λ place. place ≡ struct_place parent) }
     ensures inside { IfSome result (IsStructPlace (A.view arena.now).words) }
 {
     let end = u64::from(parent.start) + u64::from(parent.size.total());
     if parent.size.total() == 0 || !has_words(arena, parent.segment, end) {
         return None;
     }
-    Some(StructPlace {
-        segment: parent.segment,
-        byte: 8 * u64::from(parent.start),
-        bits: 64 * u32::from(parent.size.data_words),
-        pointers_at: parent.start + u32::from(parent.size.data_words),
-        pointers: parent.size.pointers,
-    })
+    Some(struct_place(parent))
 }
 
 /// Makes the content of a struct of the message that of another one.
@@ -75,13 +70,13 @@ pub(crate) fn fill<A: BuilderArena>(
 ) -> Result<(), ErrorKind>
     requires { StructLiesIn (A.view arena.old).words parent }
     ensures filled { FillsAt (A.view arena.old).words (A.view arena.new).words
-        (sections parent) source.entry (refusal_of result) }
+        (struct_place parent) source.entry (refusal_of result) }
     ensures counted { (A.view arena.new).refusals ≡ refusals_after (refusal_of result)
         (A.view arena.old).refusals }
-    ensures named { IfErr result
-        (IsContentRefused (A.view arena.old) (A.view arena.new) (sections parent) source.entry) }
+    ensures named { IfErr result (IsContentRefused (A.view arena.old) (A.view arena.new)
+        (struct_place parent) source.entry) }
     ensures taken { TakesForContentFrom (A.view arena.old) (A.view arena.new)
-        (sections parent) source.entry (refusal_of result) }
+        (struct_place parent) source.entry (refusal_of result) }
     ensures fits { ContentFitsBehind (A.view arena.old) parent.segment source.entry
         parent.size.pointers → IsOk result }
 {
@@ -93,7 +88,7 @@ pub(crate) fn fill<A: BuilderArena>(
         Ok(value) => value,
         Err(k) => return Err(k),
     };
-    match sections_of(&*arena, parent) {
+    match place_in(&*arena, parent) {
         Some(place) => copy_over(arena, place, &value, &mut lim),
         None => Ok(()),
     }

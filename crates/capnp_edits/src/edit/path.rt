@@ -3,7 +3,7 @@ ghost use Rattle.std.specs.Prelude.{◌≡◌, ◌↔◌, ◌≤◌, ◌<◌, �
 ghost use Rattle.capnp_format.specs.Segments.{segment, IsPlace};
 ghost use Rattle.capnp_format.specs.Tree.{Tree};
 ghost use Rattle.capnp_making.specs.Stored.{IsStored};
-ghost use Rattle.capnp_edits.specs.Paths.{step_of, path_of, IsPathFound, PlaceLiesIn, LieThereIf, Steps, child_in, element_in};
+ghost use Rattle.capnp_edits.specs.Paths.{step_of, path_of, IsPathFound, EndLiesIn, Steps, child_in, element_in};
 
 use crate::edit::Step;
 use capnp_arena::arena::BuilderArena;
@@ -14,7 +14,7 @@ use capnp_words::wire_pointer::ElementSize;
 
 /// Where a path leads.
 #[derive(Clone, Copy)]
-pub(crate) enum Place {
+pub(crate) enum PathEnd {
     /// To a pointer.
     Pointer(PointerPlace),
     /// To an element of a list of structs.
@@ -33,14 +33,14 @@ pub(crate) fn has_words<A: BuilderArena>(arena: &A, id: u32, words: u64) -> bool
 }
 
 /// Where a pointer of a struct is, by its index.
-fn child_of<A: BuilderArena>(arena: &A, parent: ExistingStruct, i: u16) -> Option<Place>
-    ensures exactly { LieThereIf (A.view arena.now).words (child_in parent i)
+fn child_of<A: BuilderArena>(arena: &A, parent: ExistingStruct, i: u16) -> Option<PathEnd>
+    ensures exactly { IfSome (child_in parent i) (EndLiesIn (A.view arena.now).words)
         → result ≡ child_in parent i }
-    ensures inside { IfSome result (PlaceLiesIn (A.view arena.now).words) }
+    ensures inside { IfSome result (EndLiesIn (A.view arena.now).words) }
 {
     let at = u64::from(parent.start) + u64::from(parent.size.data_words) + u64::from(i);
     if i < parent.size.pointers && has_words(arena, parent.segment, at + 1) {
-        Some(Place::Pointer(PointerPlace {
+        Some(PathEnd::Pointer(PointerPlace {
             segment: parent.segment,
             word: at as u32,
         }))
@@ -50,16 +50,16 @@ fn child_of<A: BuilderArena>(arena: &A, parent: ExistingStruct, i: u16) -> Optio
 }
 
 /// Where an element of a list is, by its index, if it is a pointer or a struct.
-fn element_of<A: BuilderArena>(arena: &A, list: ExistingList, i: u32) -> Option<Place>
-    ensures exactly { LieThereIf (A.view arena.now).words (element_in list i)
+fn element_of<A: BuilderArena>(arena: &A, list: ExistingList, i: u32) -> Option<PathEnd>
+    ensures exactly { IfSome (element_in list i) (EndLiesIn (A.view arena.now).words)
         → result ≡ element_in list i }
-    ensures inside { IfSome result (PlaceLiesIn (A.view arena.now).words) }
+    ensures inside { IfSome result (EndLiesIn (A.view arena.now).words) }
 {
     match list.size {
         ElementSize::Pointer => {
             let at = u64::from(list.start) + u64::from(i);
             if has_words(arena, list.segment, at + 1) {
-                Some(Place::Pointer(PointerPlace {
+                Some(PathEnd::Pointer(PointerPlace {
                     segment: list.segment,
                     word: at as u32,
                 }))
@@ -71,7 +71,7 @@ fn element_of<A: BuilderArena>(arena: &A, list: ExistingList, i: u32) -> Option<
             let words = u64::from(list.struct_size.total());
             let start = u64::from(list.start) + u64::from(i) * words;
             if has_words(arena, list.segment, start + words) {
-                Some(Place::Element(ExistingStruct {
+                Some(PathEnd::Element(ExistingStruct {
                     segment: list.segment,
                     start: start as u32,
                     size: list.struct_size,
@@ -85,36 +85,36 @@ fn element_of<A: BuilderArena>(arena: &A, list: ExistingList, i: u32) -> Option<
 }
 
 /// Where a step leads from a place, if anywhere.
-fn step_from<A: BuilderArena>(arena: &A, here: Place, step: Step) -> Option<Place>
+fn step_from<A: BuilderArena>(arena: &A, here: PathEnd, step: Step) -> Option<PathEnd>
     ensures steps { Steps (A.view arena.now).words here (step_of step) result }
-    ensures inside { IfSome result (PlaceLiesIn (A.view arena.now).words) }
+    ensures inside { IfSome result (EndLiesIn (A.view arena.now).words) }
 {
     match (here, step) {
-        (Place::Pointer(place), Step::Child(i)) => {
+        (PathEnd::Pointer(place), Step::Child(i)) => {
             match existing::get_struct(arena, place.segment, place.word) {
                 Some(parent) => child_of(arena, parent, i),
                 None => None,
             }
         }
-        (Place::Pointer(place), Step::Element(i)) => {
+        (PathEnd::Pointer(place), Step::Element(i)) => {
             match existing::get_list(arena, place.segment, place.word, ElementSize::Void) {
                 Ok(Some(list)) if i < list.count => element_of(arena, list, i),
                 _ => None,
             }
         }
-        (Place::Element(parent), Step::Child(i)) => child_of(arena, parent, i),
-        (Place::Element(_), Step::Element(_)) => None,
+        (PathEnd::Element(parent), Step::Child(i)) => child_of(arena, parent, i),
+        (PathEnd::Element(_), Step::Element(_)) => None,
     }
 }
 
 /// Where a path leads from the root, if anywhere.
-pub(crate) fn find<A: BuilderArena>(arena: &A, path: &[Step]) -> Option<Place>
+pub(crate) fn find<A: BuilderArena>(arena: &A, path: &[Step]) -> Option<PathEnd>
     requires { IsPlace (A.view arena.now).words 0 0 }
     ensures found { (t : Tree) → IsStored (A.view arena.now).words 0 0 t
         → IsPathFound (A.view arena.now).words 0 0 t (path_of path.now) result }
-    ensures inside { IfSome result (PlaceLiesIn (A.view arena.now).words) }
+    ensures inside { IfSome result (EndLiesIn (A.view arena.now).words) }
 {
-    let mut here = Place::Pointer(PointerPlace {
+    let mut here = PathEnd::Pointer(PointerPlace {
         segment: 0,
         word: 0,
     });

@@ -1,14 +1,13 @@
 //! One object that a call expects to be of a kind: a struct, a list of elements that are wide enough, a text, or data.
-ghost use Rattle.std.specs.Prelude.{◌≡◌, ◌<◌, ◌≤◌, ◌+◌, ◌-◌, ◌*◌, ◌^◌, ◌↔◌, ℕ, pos, IsTrue, IsOk, IfOk, IfErr, length};
+ghost use Rattle.std.specs.Prelude.{◌≡◌, None, ◌<◌, ◌≤◌, ◌+◌, ◌-◌, ◌*◌, ◌↔◌, pos, IsTrue, IsOk, IfOk, IfErr, length};
 ghost use Rattle.capnp_format.specs.Numbers.{words_for};
 ghost use Rattle.capnp_words.specs.Sizes.{size_number};
 ghost use Rattle.capnp_objects.specs.declared.object.Purpose.TheVariants.{Value};
-ghost use Rattle.capnp_objects.specs.Source.{source_segments};
-ghost use Rattle.capnp_objects.specs.Reading.{reading_at};
+ghost use Rattle.capnp_objects.specs.Reading.{source_start, reading_at};
 ghost use Rattle.capnp_objects.specs.Objects.{IsObject, IsHeld, IsFew};
-ghost use Rattle.capnp_objects.specs.Landings.{arrival, found_target, IsOpened};
-ghost use Rattle.capnp_objects.specs.Expected.{too_deep, another_kind, narrow_elements, narrow_structs, CanBeGiven, IsGiven, Withheld};
-ghost use Rattle.capnp_objects.specs.Entering.{object_misfit, place_byte, IsAtHand, IsFitting, IsUnsuited};
+ghost use Rattle.capnp_objects.specs.Landings.{arrival, IsOpened};
+ghost use Rattle.capnp_objects.specs.Expected.{expectation, narrow_elements, narrow_structs, CanBeGiven, IsGiven, Withheld};
+ghost use Rattle.capnp_objects.specs.Entering.{object_misfit, place_byte, IsAtHand, IsUnsuited};
 
 use super::landing::Landing;
 use super::{Source, depth_of};
@@ -39,18 +38,18 @@ impl<'a, A: ReaderArena> Source<'a, A> {
         nesting_limit: i32,
         lim: &mut ReadLimiter,
     ) -> Result<Object<'a>, ErrorKind>
-        requires held { IsHeld (source_segments A.segments self) place }
+        requires held { IsHeld (source_start A.ReaderArena self).segments place }
         ensures object { IfOk result (IsObject Value
             (reading_at A.ReaderArena self.entry place.entry (pos 1))
             lim.old lim.new) }
         ensures given { IfOk result (IsGiven expected
             (reading_at A.ReaderArena self.entry place.entry nesting_limit).levels) }
         ensures few { IfOk result IsFew }
-        ensures exactly { IsOk result ↔ CanBeGiven expected
+        ensures exactly { IsOk result ↔ CanBeGiven (expectation expected)
             (reading_at A.ReaderArena self.entry place.entry nesting_limit) lim.old }
         ensures refused { IfErr result
-            (Withheld expected (reading_at A.ReaderArena self.entry place.entry nesting_limit)
-            lim.old lim.new) }
+            (Withheld (expectation expected)
+            (reading_at A.ReaderArena self.entry place.entry nesting_limit) lim.old lim.new) }
     {
         let word = place.word();
         if word.is_null() {
@@ -85,9 +84,12 @@ impl<'a, A: ReaderArena> Landing<'a, A> {
     ) -> Result<Object<'a>, ErrorKind>
         ensures object { IfOk result (IsOpened Value (arrival A.ReaderArena self.entry)
             lim.old lim.new) }
-        ensures fits { IfOk result (IsFitting expected (found_target self.entry.found)) }
+        ensures of_kind { IsOk result
+            → (expectation expected).another_kind self.entry.found.word.0 ≡ None }
+        ensures fits { IfOk result (λ object. object_misfit expected object ≡ None) }
         ensures few { IfOk result IsFew }
-        ensures refused { IfErr result (IsUnsuited expected (arrival A.ReaderArena self.entry)
+        ensures refused { IfErr result
+            (IsUnsuited (expectation expected) (arrival A.ReaderArena self.entry)
             lim.old lim.new) }
     {
         match name_of_kind(expected, self.found.word) {
@@ -107,7 +109,7 @@ impl<'a, A: ReaderArena> Landing<'a, A> {
 
 // How it is refused that so many levels are left.
 fn name_of_depth(expected: Expected, depth: u32) -> Option<ErrorKind>
-    ensures { result ≡ too_deep expected depth }
+    ensures { result ≡ (expectation expected).too_deep depth }
 {
     match expected {
         Expected::Struct if depth == 0 => Some(ErrorKind::MessageIsTooDeeplyNestedOrContainsCycles),
@@ -118,7 +120,7 @@ fn name_of_depth(expected: Expected, depth: u32) -> Option<ErrorKind>
 
 // How it is refused that this word describes an object of another kind.
 fn name_of_kind(expected: Expected, word: WirePointer) -> Option<ErrorKind>
-    ensures { result ≡ another_kind expected word.0 }
+    ensures { result ≡ (expectation expected).another_kind word.0 }
 {
     let is_list = word.kind() == WirePointerKind::List;
     let is_bytes = word.list_element_size() == ElementSize::Byte;

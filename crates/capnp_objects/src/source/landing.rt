@@ -2,7 +2,7 @@
 ghost use Rattle.std.specs.Prelude.{◌≡◌, ⊤};
 ghost use Rattle.capnp_objects.specs.Wanted.{non_struct_tag};
 ghost use Rattle.capnp_objects.specs.Objects.{IsHeld};
-ghost use Rattle.capnp_objects.specs.Source.{source_segments};
+ghost use Rattle.capnp_objects.specs.Reading.{source_start};
 
 use super::{Found, Source};
 use crate::object::{Object, Place, Purpose};
@@ -20,7 +20,7 @@ pub(crate) struct Landing<'a, A: ReaderArena> {
     pub(crate) found: Found<'a>,
     // How many levels are left, of which a struct and a list take one.
     pub(crate) depth: u32,
-    ghost held: { IsHeld (source_segments A.segments source) found.start },
+    ghost held: { IsHeld (source_start A.ReaderArena source).segments found.start },
 }
 
 impl<'a, A: ReaderArena> Clone for Landing<'a, A> {
@@ -39,10 +39,11 @@ impl<'a, A: ReaderArena> Landing<'a, A> {
     ghost use Rattle.std.specs.Prelude.{◌<◌, ◌≤◌, IfOk, OnOk, IfErr};
     ghost use Rattle.capnp_format.specs.Word.{kind, element_size};
     ghost use Rattle.capnp_words.specs.Sizes.{size_number};
-    ghost use Rattle.capnp_objects.specs.declared.object.Purpose.TheVariants.{Size};
-    ghost use Rattle.capnp_objects.specs.Demands.{claim};
+    ghost use Rattle.capnp_objects.specs.declared.object.Purpose.{Purpose};
+    ghost use Rattle.capnp_objects.specs.declared.object.Purpose.TheVariants.{Value, Size};
+    ghost use Rattle.capnp_objects.specs.Demands.{claim, IsVoidList};
     ghost use Rattle.capnp_objects.specs.Objects.{IsFew};
-    ghost use Rattle.capnp_objects.specs.Landings.{arrival, IsClaimed, NotClaimed, NotEntered, IsOpened};
+    ghost use Rattle.capnp_objects.specs.Landings.{arrival, IsClaimed, NotEntered, IsOpened};
 
     // Enters the object that a pointer leads to, which takes one of the levels. For its size one
     // has to be left.
@@ -80,8 +81,9 @@ impl<'a, A: ReaderArena> Landing<'a, A> {
         requires claimed { words ≡ claim self.found.word.0 }
         ensures claimed { OnOk result (IsClaimed (arrival A.ReaderArena self.entry)
             lim.old lim.new) }
-        ensures refused { IfErr result (NotClaimed (arrival A.ReaderArena self.entry)
-            lim.old lim.new) }
+        ensures refused { IfErr result (λ k. (purpose : Purpose)
+            → (IsVoidList self.entry.found.word.0 → purpose ≡ Value)
+            → NotEntered purpose (arrival A.ReaderArena self.entry) lim.old lim.new k) }
     {
         if self.depth == 0 {
             return Err(ErrorKind::MessageIsTooDeeplyNestedOrContainsCycles);

@@ -1,11 +1,10 @@
 //! One object of a message, read for its size alone.
-ghost use Rattle.std.specs.Prelude.{◌≡◌, ◌≢◌, ◌<◌, ◌^◌, ◌↔◌, IfOk, IsOk, IfErr};
+ghost use Rattle.std.specs.Prelude.{◌≡◌, ◌<◌, ◌↔◌, IfOk, IsOk, IfErr};
 ghost use Rattle.capnp_format.specs.Word.{kind};
-ghost use Rattle.capnp_objects.specs.Source.{source_segments};
 ghost use Rattle.capnp_objects.specs.declared.object.Purpose.TheVariants.{Size};
 ghost use Rattle.capnp_objects.specs.Demands.{claim, IsStructList, IsVoidList};
-ghost use Rattle.capnp_objects.specs.Reading.{reading_at, word_of};
-ghost use Rattle.capnp_objects.specs.Objects.{IsObject, IsHeld, IsFew, near_at};
+ghost use Rattle.capnp_objects.specs.Reading.{source_start, reading_at};
+ghost use Rattle.capnp_objects.specs.Objects.{IsObject, IsHeld, IsWordRead, IsFew, near_at};
 ghost use Rattle.capnp_objects.specs.Outcomes.{Entered};
 ghost use Rattle.capnp_objects.specs.Refusals.{CanBeRead};
 ghost use Rattle.capnp_objects.specs.Measures.{NotMeasured};
@@ -42,7 +41,7 @@ impl<'a, A: ReaderArena> Source<'a, A> {
         nesting_limit: i32,
         lim: &mut ReadLimiter,
     ) -> Result<Object<'a>, ErrorKind>
-        requires held { IsHeld (source_segments A.segments self) place }
+        requires held { IsHeld (source_start A.ReaderArena self).segments place }
         ensures object { IfOk result (IsObject Size
             (reading_at A.ReaderArena self.entry place.entry nesting_limit) lim.old lim.new) }
         ensures few { IfOk result IsFew }
@@ -74,10 +73,8 @@ impl<'a, A: ReaderArena> Source<'a, A> {
         nesting_limit: i32,
         lim: &mut ReadLimiter,
     ) -> Result<u32, ErrorKind>
-        requires held { IsHeld (source_segments A.segments self) place }
-        requires there { word.0 ≡ word_of (reading_at A.ReaderArena self place nesting_limit) }
-        requires small { word.0 < 2 ^ 64 }
-        requires some { word.0 ≢ 0 }
+        requires word { IsWordRead (reading_at A.ReaderArena self place nesting_limit)
+            place word.0 }
         requires near { kind word.0 < 2 }
         requires of_bits { IsVoidList word.0 → ⊥ }
         requires untagged { IsStructList word.0 → ⊥ }

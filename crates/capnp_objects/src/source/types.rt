@@ -1,7 +1,6 @@
 //! Of which kind the object is that a pointer leads to.
 ghost use Rattle.std.specs.Prelude.{◌≡◌, ◌↔◌, IsOk, IfOk, IfErr};
-ghost use Rattle.capnp_objects.specs.Source.{source_segments};
-ghost use Rattle.capnp_objects.specs.Reading.{reading_at};
+ghost use Rattle.capnp_objects.specs.Reading.{source_start, reading_at};
 ghost use Rattle.capnp_objects.specs.Objects.{IsHeld};
 ghost use Rattle.capnp_objects.specs.Types.{type_of, IsOfType, HasType, HasNoType};
 
@@ -26,7 +25,7 @@ impl<'a, A: ReaderArena> Source<'a, A> {
         nesting_limit: i32,
         lim: &mut ReadLimiter,
     ) -> Result<PointerType, ErrorKind>
-        requires held { IsHeld (source_segments A.segments self) place }
+        requires held { IsHeld (source_start A.ReaderArena self).segments place }
         ensures of_type { IfOk result (IsOfType
             (reading_at A.ReaderArena self.entry place.entry nesting_limit) lim.old lim.new) }
         ensures exactly { IsOk result ↔ HasType

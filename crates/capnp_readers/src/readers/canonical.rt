@@ -7,8 +7,8 @@ ghost use Rattle.capnp_words.specs.Sizes.{size_number};
 ghost use Rattle.capnp_objects.specs.Reading.{segment_read, word_of};
 ghost use Rattle.capnp_objects.specs.Source.{levels};
 ghost use Rattle.capnp_readers.specs.Readers.{reading};
-ghost use Rattle.capnp_readers.specs.Sizes.{reading_on};
-ghost use Rattle.capnp_readers.specs.Checking.{progress, level_refusal_name, IsFound, ArePointersFound, IsCanonicalAt, IsTested, StartsRight, Tells, TellsAll, TellsFlat, TellsStruct, TellsRows, TellsClaimed, TestStops, TestsStop, StructTestStops, RowTestsStop, PointerTestsStop, TestFails, TestsFail, SectionsFail, RowsFail, ClaimedFails, StructTestFails, StartsWhole, IsCanonicalStruct, IsDataUsed, ArePointersUsed, head_behind};
+ghost use Rattle.capnp_readers.specs.Sizes.{pointers_read, reading_on};
+ghost use Rattle.capnp_readers.specs.Checking.{progress, level_refusal_name, IsFound, AreFound, IsCanonicalAt, IsTested, StartsRight, Tells, TellsAll, TellsFlat, TellsStruct, TellsRows, TellsClaimed, TestStops, TestsStop, StructTestStops, RowTestsStop, TestEnds, IsUnfit, TestsEnd, SectionsFail, RowsFail, ClaimedFails, StructTestFails, StartsWhole, IsCanonicalStruct, IsDataUsed, ArePointersUsed, head_behind};
 
 use crate::readers::{PointerReader, StructReader};
 use capnp_arena::arena::ReaderArena;
@@ -53,7 +53,8 @@ impl<'a, A: ReaderArena> PointerReader<'a, A> {
             (λ k. TestStops k (reading A.ReaderArena self.now)
             (progress head.old lim.old) lim.new) }
         ensures failed { result ≡ Ok false
-            → TestFails (reading A.ReaderArena self.now) (progress head.old lim.old) lim.new }
+            → TestEnds IsUnfit (reading A.ReaderArena self.now) (progress head.old lim.old)
+            lim.new }
         ensures kept { (result ≡ Ok true → ⊥) → head.new ≡ head.old }
     {
         match test_place(self, self.place.at, self.nesting_limit, *head, lim) {
@@ -90,8 +91,8 @@ impl<'a, A: ReaderArena> StructReader<'a, A> {
         ensures exactly { IfOk result (λ b. IsTrue b
             ↔ IsCanonicalStruct A.ReaderArena self.now read_head.old ptr_head.old) }
         ensures found { IfOk result (λ b. IsTrue b
-            → ArePointersFound A.ReaderArena self.now (progress ptr_head.old lim.old)
-            (progress ptr_head.new lim.new)) }
+            → AreFound (pointers_read A.ReaderArena self.now) self.now.pointer_count
+            (progress ptr_head.old lim.old) (progress ptr_head.new lim.new)) }
         ensures behind { IfOk result (λ b. IsTrue b → read_head.new
             ≡ head_behind A.ReaderArena self.now read_head.old) }
         ensures data { IfOk result (λ b. IsTrue b → IsTrue data_trunc.new
@@ -100,7 +101,8 @@ impl<'a, A: ReaderArena> StructReader<'a, A> {
             ↔ ArePointersUsed A.ReaderArena self.now) }
         ensures started { IfErr result (λ k. StartsWhole A.ReaderArena self.now read_head.old) }
         ensures refused { IfErr result
-            (PointerTestsStop A.ReaderArena self.now (progress ptr_head.old lim.old) lim.new) }
+            (TestsStop (pointers_read A.ReaderArena self.now) self.now.pointer_count
+            (progress ptr_head.old lim.old) lim.new) }
         ensures failed { result ≡ Ok false
             → StructTestFails A.ReaderArena self.now read_head.old
             (progress ptr_head.old lim.old) lim.new }
@@ -154,7 +156,7 @@ impl<'a, A: ReaderArena> StructReader<'a, A> {
             ↔ IsCanonicalStruct A.ReaderArena self.now head.old
             (head_behind A.ReaderArena self.now head.old)) }
         ensures found { IfOk result (λ b. IsTrue b
-            → ArePointersFound A.ReaderArena self.now
+            → AreFound (pointers_read A.ReaderArena self.now) self.now.pointer_count
             (progress (head_behind A.ReaderArena self.now head.old) lim.old)
             (progress head.new lim.new)) }
         ensures data { IfOk result (λ b. IsTrue b → IsTrue data_trunc.new
@@ -163,7 +165,7 @@ impl<'a, A: ReaderArena> StructReader<'a, A> {
             ↔ ArePointersUsed A.ReaderArena self.now) }
         ensures started { IfErr result (λ k. StartsWhole A.ReaderArena self.now head.old) }
         ensures refused { IfErr result
-            (PointerTestsStop A.ReaderArena self.now
+            (TestsStop (pointers_read A.ReaderArena self.now) self.now.pointer_count
             (progress (head_behind A.ReaderArena self.now head.old) lim.old) lim.new) }
         ensures failed { result ≡ Ok false
             → StructTestFails A.ReaderArena self.now head.old
@@ -215,7 +217,7 @@ fn test_place<A: ReaderArena>(
         (λ k. TestStops k (reading_on A.ReaderArena from.now at nesting_limit)
         (progress head lim.old) lim.new) }
     ensures failed { IfOk result (λ o.
-        IfNone o (TestFails (reading_on A.ReaderArena from.now at nesting_limit)
+        IfNone o (TestEnds IsUnfit (reading_on A.ReaderArena from.now at nesting_limit)
         (progress head lim.old) lim.new)) }
 {
     let word = Place { at, ..from.place }.word();
@@ -252,7 +254,7 @@ fn test_children<A: ReaderArena>(
         (TestsStop (reading_on A.ReaderArena from.now at nesting_limit) count
         (progress first lim.old) lim.new) }
     ensures failed { IfOk result (λ o.
-        IfNone o (TestsFail (reading_on A.ReaderArena from.now at nesting_limit) count
+        IfNone o (TestsEnd IsUnfit (reading_on A.ReaderArena from.now at nesting_limit) count
         (progress first lim.old) lim.new)) }
 {
     let mut head = first;
@@ -287,7 +289,7 @@ fn test_struct<A: ReaderArena>(
         (λ k. TestStops k (reading_on A.ReaderArena from.now at nesting_limit)
         (progress head lim.old) lim.new) }
     ensures failed { IfOk result (λ o.
-        IfNone o (TestFails (reading_on A.ReaderArena from.now at nesting_limit)
+        IfNone o (TestEnds IsUnfit (reading_on A.ReaderArena from.now at nesting_limit)
         (progress head lim.old) lim.new)) }
 {
     let place = Place { at, ..from.place };
@@ -363,7 +365,7 @@ fn test_list<A: ReaderArena>(
         (λ k. TestStops k (reading_on A.ReaderArena from.now at nesting_limit)
         (progress head lim.old) lim.new) }
     ensures failed { IfOk result (λ o.
-        IfNone o (TestFails (reading_on A.ReaderArena from.now at nesting_limit)
+        IfNone o (TestEnds IsUnfit (reading_on A.ReaderArena from.now at nesting_limit)
         (progress head lim.old) lim.new)) }
 {
     let place = Place { at, ..from.place };
@@ -485,7 +487,7 @@ fn test_row<A: ReaderArena>(
         (TestsStop (reading_on A.ReaderArena from.now at nesting_limit) count
         (progress first lim.old) lim.new) }
     ensures failed { IfOk result (λ o.
-        IfNone o (TestsFail (reading_on A.ReaderArena from.now at nesting_limit) count
+        IfNone o (TestsEnd IsUnfit (reading_on A.ReaderArena from.now at nesting_limit) count
         (progress first lim.old) lim.new)) }
 {
     if count == 0 {

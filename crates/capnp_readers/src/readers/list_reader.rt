@@ -5,7 +5,7 @@ ghost use Rattle.capnp_format.specs.Segments.{word_at, segment};
 ghost use Rattle.capnp_words.specs.declared.wire_pointer.ElementSize.TheVariants.{Void, InlineComposite};
 ghost use Rattle.capnp_format.specs.Numbers.{element_bits, from_digits};
 ghost use Rattle.capnp_words.specs.Sizes.{size_number};
-ghost use Rattle.capnp_objects.specs.Source.{source_segments};
+ghost use Rattle.capnp_objects.specs.Reading.{source_start};
 ghost use Rattle.capnp_objects.specs.Objects.{IsHeld};
 ghost use Rattle.capnp_readers.specs.Sections.{IsPart, HasWordsFrom, IsSized, HoldsPointer, elements_words, pointers_behind, bit_at, step_bits, data_bits, low_data};
 
@@ -50,9 +50,10 @@ pub struct ListReader<'a, A: ReaderArena> {
     pub count: u32,
     /// How many levels of structs and lists may be entered from its pointers, none below 1.
     pub nesting_limit: i32,
-    ghost held: { IsHeld (source_segments A.segments source) start },
+    ghost held: { IsHeld (source_start A.ReaderArena source).segments start },
     ghost content_is: { IsPart start (8 * start.at) (64 * elements_words element_size count (struct_size.data_words + struct_size.pointers)) content.now },
-    ghost inside: { HasWordsFrom (source_segments A.segments source) start (elements_words element_size count (struct_size.data_words + struct_size.pointers)) },
+    ghost inside: { HasWordsFrom (source_start A.ReaderArena source).segments start
+        (elements_words element_size count (struct_size.data_words + struct_size.pointers)) },
     ghost sized: { IsSized element_size struct_size },
 }
 
@@ -154,14 +155,15 @@ impl<'a, A: ReaderArena> ListReader<'a, A> {
         count: u32,
         nesting_limit: i32,
     ) -> Self
-        requires held { IsHeld (source_segments A.segments source) start }
-        requires room { HasWordsFrom (source_segments A.segments source) start
+        requires held { IsHeld (source_start A.ReaderArena source).segments start }
+        requires room { HasWordsFrom (source_start A.ReaderArena source).segments start
             (elements_words element_size count (struct_size.data_words + struct_size.pointers)) }
         requires sized { IsSized element_size struct_size }
         ensures source { result.source ≡ source.entry }
         ensures size { result.element_size ≡ element_size }
-        ensures shows { ShowsList A.ReaderArena (source_segments A.segments source.entry) result
-            start.entry.segment start.entry.at count struct_size.data_words struct_size.pointers }
+        ensures shows { ShowsList A.ReaderArena (source_start A.ReaderArena source.entry).segments
+            result start.entry.segment start.entry.at count struct_size.data_words
+            struct_size.pointers }
         ensures nesting { result.nesting_limit ≡ nesting_limit }
     {
         let first = 8 * start.at as usize;

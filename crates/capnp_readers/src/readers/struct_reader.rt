@@ -2,7 +2,7 @@
 ghost use Rattle.std.specs.Prelude.{◌≡◌, ◌<◌, ◌≤◌, ◌+◌, ◌*◌, ◌/◌, ◌^◌, ◌↔◌, ℕ, pos, [], true, false, ⊤, IsTrue, length, take, drop, slice_range};
 ghost use Rattle.capnp_format.specs.Bytes.{message};
 ghost use Rattle.capnp_format.specs.Segments.{word_at, segment};
-ghost use Rattle.capnp_objects.specs.Source.{source_segments};
+ghost use Rattle.capnp_objects.specs.Reading.{source_start};
 ghost use Rattle.capnp_objects.specs.Objects.{IsHeld};
 ghost use Rattle.capnp_readers.specs.Sections.{IsPart, IsInside, HasWordsFrom, bit_at, bytes_for};
 
@@ -48,9 +48,10 @@ pub struct StructReader<'a, A: ReaderArena> {
     pub pointer_count: u16,
     /// How many levels of structs and lists may be entered from its pointers, none below 1.
     pub nesting_limit: i32,
-    ghost held: { IsHeld (source_segments A.segments source) pointers },
+    ghost held: { IsHeld (source_start A.ReaderArena source).segments pointers },
     ghost content_is: { IsPart pointers byte bits content.now },
-    ghost inside: { HasWordsFrom (source_segments A.segments source) pointers pointer_count },
+    ghost inside: { HasWordsFrom (source_start A.ReaderArena source).segments pointers
+        pointer_count },
 }
 
 impl<'a, A: ReaderArena> Clone for StructReader<'a, A> {
@@ -126,12 +127,12 @@ impl<'a, A: ReaderArena> StructReader<'a, A> {
         size: StructSize,
         nesting_limit: i32,
     ) -> Self
-        requires held { IsHeld (source_segments A.segments source) start }
-        requires room { HasWordsFrom (source_segments A.segments source) start
+        requires held { IsHeld (source_start A.ReaderArena source).segments start }
+        requires room { HasWordsFrom (source_start A.ReaderArena source).segments start
             (size.data_words + size.pointers) }
         ensures source { result.source ≡ source.entry }
-        ensures shows { ShowsStruct A.ReaderArena (source_segments A.segments source.entry) result
-            start.entry.segment start.entry.at size.data_words size.pointers }
+        ensures shows { ShowsStruct A.ReaderArena (source_start A.ReaderArena source.entry).segments
+            result start.entry.segment start.entry.at size.data_words size.pointers }
         ensures nesting { result.nesting_limit ≡ nesting_limit }
     {
         let first = 8 * start.at as usize;
@@ -194,8 +195,9 @@ impl<'a, A: ReaderArena> StructReader<'a, A> {
     pub fn get_pointer_section_as_list(&self) -> ListReader<'a, A>
         ensures source { result.source ≡ self.now.source }
         ensures size { result.element_size ≡ ElementSize.Pointer }
-        ensures shows { ShowsList A.ReaderArena (source_segments A.segments self.now.source) result
-            self.now.pointers.segment self.now.pointers.at self.now.pointer_count 0 0 }
+        ensures shows { ShowsList A.ReaderArena
+            (source_start A.ReaderArena self.now.source).segments
+            result self.now.pointers.segment self.now.pointers.at self.now.pointer_count 0 0 }
         ensures nesting { result.nesting_limit ≡ self.now.nesting_limit }
     {
         ListReader::of_words(
@@ -212,8 +214,8 @@ impl<'a, A: ReaderArena> StructReader<'a, A> {
     pub fn is_pointer_field_null(&self, index: usize) -> bool
         ensures { IsTrue result
             ↔ (index < self.now.pointer_count
-            → word_at (source_segments A.segments self.now.source) self.now.pointers.segment
-            (self.now.pointers.at + index) ≡ 0) }
+            → word_at (source_start A.ReaderArena self.now.source).segments
+            self.now.pointers.segment (self.now.pointers.at + index) ≡ 0) }
     {
         self.get_pointer_field(index).is_null()
     }

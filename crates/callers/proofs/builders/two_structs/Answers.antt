@@ -8,10 +8,10 @@ returns-in-Err-clause-nothing g c = let (t, forest) = c.requires.forest in λ e.
 pub returns-in-Ok-field_struct-clause-both : goal.returns-in-Ok-field_struct-clause-both
 returns-in-Ok-field_struct-clause-both g c =
     let (t, forest) = c.requires.forest in
-    λ e. field_put _ _ _ t _ c.args.outer c.in-Ok.place forest c.in-Ok.ensures.made c.in-Ok.ensures.leads c.requires.some c.in-Ok-field_struct.ensures.made
+    λ e. field_put _ _ _ t _ c.args.outer c.in-Ok.place forest c.in-Ok.ensures.made c.in-Ok.ensures.leads.is c.requires.some c.in-Ok-field_struct.ensures.made
 
 -- The second one is refused.
 pub returns-in-Err-field_struct-clause-root : goal.returns-in-Err-field_struct-clause-root
 returns-in-Err-field_struct-clause-root g c =
     let (t, forest) = c.requires.forest in
-    λ e. field_put _ _ _ t _ c.args.outer c.in-Ok.place forest c.in-Ok.ensures.made c.in-Ok.ensures.leads c.requires.some c.in-Err-field_struct.ensures.refused
+    λ e. field_put _ _ _ t _ c.args.outer c.in-Ok.place forest c.in-Ok.ensures.made c.in-Ok.ensures.leads.is c.requires.some c.in-Err-field_struct.ensures.refused

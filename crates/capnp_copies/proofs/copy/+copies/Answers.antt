@@ -26,10 +26,10 @@ use Rattle.capnp_copies.proofs.FlatRead.{ok_so, err_so, one_level_in, flat_words
 use Rattle.capnp_copies.proofs.FilledChildren.{no_child, children_grow, child_ahead, child_copied, child_stops}
 use Rattle.capnp_copies.proofs.FilledElements.{DataWritten, element_copied, element_stops, no_row, no_width, AtRow, row_end, next_room, next_null, next_inside, row_copied, row_stops}
 use Rattle.capnp_copies.proofs.FilledObjects.{nothing_made, StructBegun, struct_fits, struct_null, struct_copied, struct_stops, ObjectBegun, pointers_copied, pointers_stop, widths_keep, structs_copied, structs_stop}
-use Rattle.capnp_copies.proofs.FilledValues.{read_stops, null_copied, capability_copied, capability_stops, default_stops, struct_value, struct_value_stops, pointers_value, pointers_value_stops, structs_value, structs_value_stops, FlatOutcome, flat_value, flat_stops}
+use Rattle.capnp_copies.proofs.FilledValues.{read_stops, null_copied, CapabilityCopied, capability_value, capability_value_stops, struct_value, struct_value_stops, pointers_value, pointers_value_stops, structs_value, structs_value_stops, FlatOutcome, flat_value, flat_stops}
 use Rattle.capnp_copies.proofs.Copying.{there}
-use Rattle.capnp_copies.proofs.Growth.{none_itself, none_word, none_refused, Begins, struct_begins, taken_so, none_taken, one_taken, stop_taken, all_taken, no_row_taken, blank_taken, row_taken, row_stop_taken, rows_taken, all_within, among_within, no_wider, read_stop_taken, null_takes, capability_takes, capability_stop_takes, default_stop_takes, struct_takes, struct_stop_takes, flat_takes, flat_stop_takes, pointers_take, pointers_stop_take, structs_take, structs_stop_take, made_none, pointers_behind, pointers_stop_behind, structs_behind, structs_stop_behind, sections_behind, sections_stop_behind}
-use Rattle.capnp_copies.proofs.KeptForms.{SourceKept, sections_cut}
+use Rattle.capnp_copies.proofs.Growth.{none_itself, none_refused, Begins, struct_begins, taken_so, none_taken, one_taken, stop_taken, all_taken, no_row_taken, blank_taken, row_taken, row_stop_taken, rows_taken, all_within, among_within, no_wider, read_stop_taken, null_takes, capability_value_takes, struct_takes, struct_stop_takes, flat_takes, flat_stop_takes, pointers_take, pointers_stop_take, structs_take, structs_stop_take, made_none, pointers_behind, pointers_stop_behind, structs_behind, structs_stop_behind, sections_behind, sections_stop_behind}
+use Rattle.capnp_copies.proofs.KeptForms.{keeps_sections, SourceKept, sections_cut}
 use Rattle.capnp_copies.proofs.Originals.{halfway, sections_large, pointers_large, structs_large}
 use Rattle.capnp_copies.proofs.TightElements.{all_rows}
 use Rattle.capnp_copies.proofs.TooLarge.{no_struct_room, no_pointers_room, no_structs_room}
@@ -39,7 +39,7 @@ use Rattle.capnp_copies.proofs.copy.+copies.Goals as goal
 
 pub children::copy_in_line-loop-i-init : goal.children::copy_in_line-loop-i-init
 children::copy_in_line-loop-i-init g t c =
-    (no_child (reading g.B.ReaderArena c.args.from) (form_in c.args.form) c.args.id c.args.at (g.A.BuilderArena.view c.args.arena.now) c.args.lim.now, none_taken (reading g.B.ReaderArena c.args.from) (form_in c.args.form) c.args.id c.args.at (g.A.BuilderArena.view c.args.arena.now) c.args.lim.now)
+    (no_child (reading g.B.ReaderArena c.args.from) (form_in c.args.form) c.args.id c.args.at (g.A.BuilderArena.view c.args.arena.now) c.args.lim.now, none_taken (reading g.B.ReaderArena c.args.from) (form_in c.args.form) c.args.id (g.A.BuilderArena.view c.args.arena.now) c.args.lim.now)
 
 pub children::copy_in_line-copy_child-requires : goal.children::copy_in_line-copy_child-requires
 children::copy_in_line-copy_child-requires g t c κs within =
@@ -76,7 +76,7 @@ children::copy_children-returns-then-count-eq0-clause-copied g t c =
 
 pub children::copy_children-returns-then-count-eq0-clause-taken : goal.children::copy_children-returns-then-count-eq0-clause-taken
 children::copy_children-returns-then-count-eq0-clause-taken g t c =
-    all_taken {i = 0} (omega (arith, c.if-count-eq0.true)) (none_taken (reading g.B.ReaderArena c.args.from) (form_in c.args.form) c.args.id c.args.at (g.A.BuilderArena.view c.args.arena.now) c.args.lim.now)
+    all_taken {i = 0} (omega (arith, c.if-count-eq0.true)) (none_taken (reading g.B.ReaderArena c.args.from) (form_in c.args.form) c.args.id (g.A.BuilderArena.view c.args.arena.now) c.args.lim.now)
 
 -- What a pointer means, told by its word.
 
@@ -165,26 +165,6 @@ copy_object-returns-in-Err-clause-taken g t c =
     let nl = to_z-of_z w32 c.args.from.nesting_limit (search rules) in
     read_stop_taken (rw nl at c.in-Err.ensures.refused)
 
-pub copy_object-returns-in-Canonical-clause-refused : goal.copy_object-returns-in-Canonical-clause-refused
-copy_object-returns-in-Canonical-clause-refused g t c =
-    let object = rw c.in-Capability.is at c.in-Ok.ensures.object in
-    rw c.in-Canonical.is (capability_stops object c.requires.place c.requires.null)
-
-pub copy_object-returns-in-Canonical-clause-taken : goal.copy_object-returns-in-Canonical-clause-taken
-copy_object-returns-in-Canonical-clause-taken g t c =
-    let object = rw c.in-Capability.is at c.in-Ok.ensures.object in
-    rw c.in-Canonical.is (capability_stop_takes object)
-
-pub copy_object-returns-in-OfDefault-clause-refused : goal.copy_object-returns-in-OfDefault-clause-refused
-copy_object-returns-in-OfDefault-clause-refused g t c =
-    let object = rw c.in-Capability.is at c.in-Ok.ensures.object in
-    rw c.in-OfDefault.is (default_stops object c.requires.place c.requires.null)
-
-pub copy_object-returns-in-OfDefault-clause-taken : goal.copy_object-returns-in-OfDefault-clause-taken
-copy_object-returns-in-OfDefault-clause-taken g t c =
-    let object = rw c.in-Capability.is at c.in-Ok.ensures.object in
-    rw c.in-OfDefault.is (default_stop_takes object)
-
 pub copy_object-copy_pointers-requires : goal.copy_object-copy_pointers-requires
 copy_object-copy_pointers-requires g t c κs within =
     let FEW : c.in-Pointers.count < 2 ^ 29 = rw c.in-Pointers.is at c.in-Ok.ensures.few in
@@ -204,16 +184,26 @@ copy_object-returns-in-Null-clause-copied g t c =
 pub copy_object-returns-in-Null-clause-taken : goal.copy_object-returns-in-Null-clause-taken
 copy_object-returns-in-Null-clause-taken g t c = null_takes (rw c.in-Null.is at c.in-Ok.ensures.object)
 
-pub copy_object-returns-in-Plain-clause-copied : goal.copy_object-returns-in-Plain-clause-copied
-copy_object-returns-in-Plain-clause-copied g t c =
+pub copy_object-returns-in-Capability-clause-copied : goal.copy_object-returns-in-Capability-clause-copied
+copy_object-returns-in-Capability-clause-copied g t c =
     let object = rw c.in-Capability.is at c.in-Ok.ensures.object in
-    rw c.in-Plain.is (capability_copied object c.requires.place (rw c.new_capability.ensures.word at c.set_word.ensures))
+    let outcome : CapabilityCopied c.copy_capability.result (form_in c.args.form) c.args.id c.args.at c.in-Capability.index (g.A.BuilderArena.view c.args.arena.now) (g.A.BuilderArena.view c.copy_capability.new.arena) =
+    record { as_it_stands = c.copy_capability.ensures.as_it_stands; copied = c.copy_capability.ensures.copied; refused = c.copy_capability.ensures.refused; unchanged = c.copy_capability.ensures.unchanged } in
+    capability_value (reading g.B.ReaderArena c.args.from) _ _ c.copy_capability.result object c.requires.place outcome
 
-pub copy_object-returns-in-Plain-clause-taken : goal.copy_object-returns-in-Plain-clause-taken
-copy_object-returns-in-Plain-clause-taken g t c =
-    let none = none_word (g.A.BuilderArena.view c.args.arena.now) (g.A.BuilderArena.view c.set_word.new.self) c.args.id c.args.at c.new_capability.result.0 c.set_word.ensures in
+pub copy_object-returns-in-Capability-clause-refused : goal.copy_object-returns-in-Capability-clause-refused
+copy_object-returns-in-Capability-clause-refused g t c =
     let object = rw c.in-Capability.is at c.in-Ok.ensures.object in
-    rw c.in-Plain.is (capability_takes object none)
+    let outcome : CapabilityCopied c.copy_capability.result (form_in c.args.form) c.args.id c.args.at c.in-Capability.index (g.A.BuilderArena.view c.args.arena.now) (g.A.BuilderArena.view c.copy_capability.new.arena) =
+    record { as_it_stands = c.copy_capability.ensures.as_it_stands; copied = c.copy_capability.ensures.copied; refused = c.copy_capability.ensures.refused; unchanged = c.copy_capability.ensures.unchanged } in
+    capability_value_stops (reading g.B.ReaderArena c.args.from) _ _ c.copy_capability.result object c.requires.place c.requires.null outcome
+
+pub copy_object-returns-in-Capability-clause-taken : goal.copy_object-returns-in-Capability-clause-taken
+copy_object-returns-in-Capability-clause-taken g t c =
+    let object = rw c.in-Capability.is at c.in-Ok.ensures.object in
+    let outcome : CapabilityCopied c.copy_capability.result (form_in c.args.form) c.args.id c.args.at c.in-Capability.index (g.A.BuilderArena.view c.args.arena.now) (g.A.BuilderArena.view c.copy_capability.new.arena) =
+    record { as_it_stands = c.copy_capability.ensures.as_it_stands; copied = c.copy_capability.ensures.copied; refused = c.copy_capability.ensures.refused; unchanged = c.copy_capability.ensures.unchanged } in
+    capability_value_takes (reading g.B.ReaderArena c.args.from) _ _ c.copy_capability.result object outcome
 
 pub copy_object-returns-in-Struct-clause-copied : goal.copy_object-returns-in-Struct-clause-copied
 copy_object-returns-in-Struct-clause-copied g t c =
@@ -327,7 +317,7 @@ elements::copy_element-returns-clause-taken g t c =
     let nl = to_z-of_z w32 c.args.from.nesting_limit (search rules) in
     let none = c.put_words.ensures.taken in
     let last = none_itself (g.A.BuilderArena.view c.copy_in_line.new.arena) in
-    taken_so c.copy_in_line.result _ _ _ _ (λ x. all_within none last x) (λ x. among_within (omega arith) none last x) (rw (c.from.ensures, c.from-2.ensures, c.from-pointers.ensures, nl) at c.copy_in_line.ensures.taken)
+    taken_so c.copy_in_line.result _ _ _ _ (λ x. all_within none last x) (λ x. among_within (omega arith) none last x) (rw (c.from.ensures, c.from-pointers.ensures, nl) at c.copy_in_line.ensures.taken)
 
 pub elements::copy_elements-returns-then-kept_words-eq0-clause-copied : goal.elements::copy_elements-returns-then-kept_words-eq0-clause-copied
 elements::copy_elements-returns-then-kept_words-eq0-clause-copied g t c =
@@ -339,11 +329,11 @@ pub elements::copy_elements-returns-then-kept_words-eq0-clause-taken : goal.elem
 elements::copy_elements-returns-then-kept_words-eq0-clause-taken g t c =
     let from : Reading = reading g.B.ReaderArena c.args.from in
     let fits : SourceKept (form_in c.args.form) from c.args.sizes c.args.count = record { inside = c.requires.inside; less_data = c.requires.less_data; less_pointers = c.requires.less_pointers; used = c.requires.pointers } in
-    blank_taken from c.args.sizes c.args.count (form_in c.args.form) c.args.to.segment c.args.to.at (g.A.BuilderArena.view c.args.arena.now) c.args.lim.now fits (omega (arith, c.total-kept_words.ensures, c.if-kept_words-eq0.true))
+    blank_taken from c.args.sizes c.args.count (form_in c.args.form) c.args.to.segment (g.A.BuilderArena.view c.args.arena.now) c.args.lim.now fits (omega (arith, c.total-kept_words.ensures, c.if-kept_words-eq0.true))
 
 pub elements::copy_elements-loop-i-init : goal.elements::copy_elements-loop-i-init
 elements::copy_elements-loop-i-init g t c =
-    (no_row (reading g.B.ReaderArena c.args.from) c.args.sizes _ (form_in c.args.form) c.args.to.segment c.args.to.at (g.A.BuilderArena.view c.args.arena.now) c.args.lim.now, no_row_taken (reading g.B.ReaderArena c.args.from) c.args.sizes.source (form_in c.args.form) c.args.to.segment c.args.to.at (g.A.BuilderArena.view c.args.arena.now) c.args.lim.now)
+    (no_row (reading g.B.ReaderArena c.args.from) c.args.sizes _ (form_in c.args.form) c.args.to.segment c.args.to.at (g.A.BuilderArena.view c.args.arena.now) c.args.lim.now, no_row_taken (reading g.B.ReaderArena c.args.from) c.args.sizes (form_in c.args.form) c.args.to.segment (g.A.BuilderArena.view c.args.arena.now) c.args.lim.now)
 
 pub elements::copy_elements-overflow_mul-element : goal.elements::copy_elements-overflow_mul-element
 elements::copy_elements-overflow_mul-element g t c =
@@ -400,7 +390,7 @@ elements::copy_elements-loop-i-preserved g t c =
       rows = c.loop-i.invariant.0;
     } in (
       row_copied here (rw (c.total-source_words.ensures, c.total-kept_words.ensures, nl) at c.in-Ok.ensures.copied),
-      row_taken here.fits c.loop-i-test.true c.loop-i.invariant.1 (rw (c.total-source_words.ensures, c.total-kept_words.ensures, nl) at c.in-Ok.ensures.taken),
+      row_taken here.fits c.loop-i-test.true c.loop-i.invariant.1 (rw (c.total-source_words.ensures, nl) at c.in-Ok.ensures.taken),
     )
 
 pub elements::copy_elements-returns-in-Err-clause-taken : goal.elements::copy_elements-returns-in-Err-clause-taken
@@ -408,13 +398,13 @@ elements::copy_elements-returns-in-Err-clause-taken g t c =
     let nl = to_z-of_z w32 c.args.from.nesting_limit (search rules) in
     let from : Reading = reading g.B.ReaderArena c.args.from in
     let fits : SourceKept (form_in c.args.form) from c.args.sizes c.args.count = record { inside = c.requires.inside; less_data = c.requires.less_data; less_pointers = c.requires.less_pointers; used = c.requires.pointers } in
-    row_stop_taken fits c.loop-i-test.true c.loop-i.invariant.1 (rw (c.total-source_words.ensures, c.total-kept_words.ensures, nl) at c.in-Err.ensures.taken)
+    row_stop_taken fits c.loop-i-test.true c.loop-i.invariant.1 (rw (c.total-source_words.ensures, nl) at c.in-Err.ensures.taken)
 
 pub elements::copy_elements-returns-clause-copied : goal.elements::copy_elements-returns-clause-copied
 elements::copy_elements-returns-clause-copied g t c = all_rows (omega arith) (omega arith) c.loop-i.invariant.0
 
 pub elements::copy_elements-returns-clause-taken : goal.elements::copy_elements-returns-clause-taken
-elements::copy_elements-returns-clause-taken g t c = rows_taken (omega arith) c.loop-i.invariant.1
+elements::copy_elements-returns-clause-taken g t c = rows_taken c.args.sizes (omega arith) c.loop-i.invariant.1
 
 pub elements::copy_elements-overflow_add-element : goal.elements::copy_elements-overflow_add-element
 elements::copy_elements-overflow_add-element g t c =
@@ -449,7 +439,7 @@ pub lists::copy_pointers-returns-in-Ok-clause-taken : goal.lists::copy_pointers-
 lists::copy_pointers-returns-in-Ok-clause-taken g t c =
     let begun : Begins c.args.id c.in-Ok.start.segment c.args.count (g.A.BuilderArena.view c.args.arena.now) (g.A.BuilderArena.view c.make_list.new.arena) =
     record { there = there (g.A.BuilderArena.view c.args.arena.now).words c.args.id c.args.at c.requires.place; taken = c.in-Ok.ensures.memory.taken; memory = c.in-Ok.ensures.memory.granted; near = λ room. (c.in-Ok.ensures.at_end room).0; far = λ full. (c.in-Ok.ensures.start.behind.far full).0 } in
-    taken_so c.copy_in_line.result _ _ _ _ (λ x. pointers_behind _ _ _ _ _ _ _ _ _ _ _ begun x) (λ x. pointers_stop_behind _ _ _ _ _ _ _ _ _ _ _ begun x) c.copy_in_line.ensures.taken
+    taken_so c.copy_in_line.result _ _ _ _ (λ x. pointers_behind _ _ _ _ _ _ _ _ _ _ begun x) (λ x. pointers_stop_behind _ _ _ _ _ _ _ _ _ _ begun x) c.copy_in_line.ensures.taken
 
 pub lists::copy_pointers-returns-in-Err-clause-refused : goal.lists::copy_pointers-returns-in-Err-clause-refused
 lists::copy_pointers-returns-in-Err-clause-refused g t c =
@@ -496,7 +486,7 @@ lists::copy_structs-returns-in-Ok-clause-taken g t c =
     let less = no_wider c.args.count least.data_words least.pointers c.args.size.data_words c.args.size.pointers c.kept_widths-kept.ensures.less_data c.kept_widths-kept.ensures.less_pointers in
     let begun : Begins c.args.id c.in-Ok.list.segment (1 + c.args.count * (least.data_words + least.pointers)) (g.A.BuilderArena.view c.args.arena.now) (g.A.BuilderArena.view c.make_struct_list.new.arena) =
     record { there = there (g.A.BuilderArena.view c.args.arena.now).words c.args.id c.args.at c.requires.place; taken = c.in-Ok.ensures.memory.taken; memory = c.in-Ok.ensures.memory.granted; near = λ room. (c.in-Ok.ensures.start.behind.near (omega arith) room).0; far = λ full. (c.in-Ok.ensures.start.behind.far full).0 } in
-    taken_so c.copy_elements.result _ _ _ _ (λ x. structs_behind _ _ _ _ _ _ _ _ _ _ _ _ _ begun (omega (arith, less)) x) (λ x. structs_stop_behind _ _ _ _ _ _ _ _ _ _ _ _ _ begun (omega (arith, less)) x) c.copy_elements.ensures.taken
+    taken_so c.copy_elements.result _ _ _ _ (λ x. structs_behind _ (record { source = c.args.size; kept = c.kept_widths-kept.result }) _ _ _ _ _ _ _ _ _ _ begun (omega (arith, less)) x) (λ x. structs_stop_behind _ (record { source = c.args.size; kept = c.kept_widths-kept.result }) _ _ _ _ _ _ _ _ _ _ begun (omega (arith, less)) x) c.copy_elements.ensures.taken
 
 pub lists::copy_structs-returns-in-Err-clause-refused : goal.lists::copy_structs-returns-in-Err-clause-refused
 lists::copy_structs-returns-in-Err-clause-refused g t c =
@@ -520,9 +510,9 @@ structs::copy_struct-returns-in-Err-clause-refused g t c =
     let full : HasRoom (g.A.BuilderArena.view c.args.arena.now) c.args.id (least.data_words + least.pointers) → ⊥ = λ room. absurd (false≢true (c.in-Err.ensures.memory.fits room)) in
     let none = nothing_made (form_in c.args.form) c.args.id c.args.at (least.data_words + least.pointers) (g.A.BuilderArena.view c.args.arena.now) (g.A.BuilderArena.view c.make_struct.new.arena) c.args.lim.now c.args.lim.now c.in-Err.k c.requires.place c.requires.null
     c.in-Err.ensures.memory.named c.in-Err.ensures.refused full in
-    let cut = sections_cut (form_in c.args.form) (reading g.B.ReaderArena c.args.from) c.args.size least c.requires.inside c.kept_sections-kept.ensures.kept in
+    let cut = sections_cut (form_in c.args.form) (reading g.B.ReaderArena c.args.from) c.args.size least c.requires.inside (keeps_sections (form_in c.args.form) (reading g.B.ReaderArena c.args.from) c.args.size c.kept_sections-kept.result c.requires.inside c.kept_sections-kept.ensures.data c.kept_sections-kept.ensures.pointers c.kept_sections-kept.ensures.less_data c.kept_sections-kept.ensures.less_pointers) in
     let makes = ap₂ (λ i j. i + j) cut.of_data cut.of_pointers in
-    halfway (inl (least.data_words + least.pointers, none.0, inl (refl, makes), sections_large (form_in c.args.form) (words_from (reading g.B.ReaderArena c.args.from) c.args.size.data_words) (behind (reading g.B.ReaderArena c.args.from) c.args.size.data_words) c.args.size.pointers (length (segment (g.A.BuilderArena.view c.args.arena.now).words c.args.id)) ((g.A.BuilderArena.view c.args.arena.now).room c.args.id) (no_struct_room (reading g.B.ReaderArena c.args.from) c.args.size least c.args.id (g.A.BuilderArena.view c.args.arena.now) (form_in c.args.form) c.requires.inside c.kept_sections-kept.ensures.kept full)))
+    halfway (inl (least.data_words + least.pointers, none.0, inl (refl, makes), sections_large (form_in c.args.form) (words_from (reading g.B.ReaderArena c.args.from) c.args.size.data_words) (behind (reading g.B.ReaderArena c.args.from) c.args.size.data_words) c.args.size.pointers (length (segment (g.A.BuilderArena.view c.args.arena.now).words c.args.id)) ((g.A.BuilderArena.view c.args.arena.now).room c.args.id) (no_struct_room (reading g.B.ReaderArena c.args.from) c.args.size least c.args.id (g.A.BuilderArena.view c.args.arena.now) (form_in c.args.form) c.requires.inside (keeps_sections (form_in c.args.form) (reading g.B.ReaderArena c.args.from) c.args.size c.kept_sections-kept.result c.requires.inside c.kept_sections-kept.ensures.data c.kept_sections-kept.ensures.pointers c.kept_sections-kept.ensures.less_data c.kept_sections-kept.ensures.less_pointers) full)))
     none.1
 
 pub structs::copy_struct-returns-in-Err-clause-taken : goal.structs::copy_struct-returns-in-Err-clause-taken
@@ -538,7 +528,7 @@ structs::copy_struct-returns-clause-copied g t c =
     let section : words_of c.part-data.result.now ≡ words_from from c.kept_sections-kept.result.data_words = rw (c.from-data_words.ensures, held) at c.part-data.ensures.words in
     let begun : StructBegun (form_in c.args.form) from c.args.size c.kept_sections-kept.result c.args.id c.args.at (g.A.BuilderArena.view c.args.arena.now) (g.A.BuilderArena.view c.make_struct.new.arena) (g.A.BuilderArena.view c.put_words.new.arena) c.in-Ok.start = record {
       inside = c.requires.inside;
-      sections = c.kept_sections-kept.ensures.kept;
+      sections = (keeps_sections (form_in c.args.form) (reading g.B.ReaderArena c.args.from) c.args.size c.kept_sections-kept.result c.requires.inside c.kept_sections-kept.ensures.data c.kept_sections-kept.ensures.pointers c.kept_sections-kept.ensures.less_data c.kept_sections-kept.ensures.less_pointers);
       less_data = c.kept_sections-kept.ensures.less_data;
       less_pointers = c.kept_sections-kept.ensures.less_pointers;
       begun = record { made = c.in-Ok.ensures.made; start = c.in-Ok.ensures.start.leads; inside = c.in-Ok.ensures.start.inside };
@@ -561,7 +551,7 @@ structs::copy_struct-returns-clause-refused g t c =
     let section : words_of c.part-data.result.now ≡ words_from from c.kept_sections-kept.result.data_words = rw (c.from-data_words.ensures, held) at c.part-data.ensures.words in
     let begun : StructBegun (form_in c.args.form) from c.args.size c.kept_sections-kept.result c.args.id c.args.at (g.A.BuilderArena.view c.args.arena.now) (g.A.BuilderArena.view c.make_struct.new.arena) (g.A.BuilderArena.view c.put_words.new.arena) c.in-Ok.start = record {
       inside = c.requires.inside;
-      sections = c.kept_sections-kept.ensures.kept;
+      sections = (keeps_sections (form_in c.args.form) (reading g.B.ReaderArena c.args.from) c.args.size c.kept_sections-kept.result c.requires.inside c.kept_sections-kept.ensures.data c.kept_sections-kept.ensures.pointers c.kept_sections-kept.ensures.less_data c.kept_sections-kept.ensures.less_pointers);
       less_data = c.kept_sections-kept.ensures.less_data;
       less_pointers = c.kept_sections-kept.ensures.less_pointers;
       begun = record { made = c.in-Ok.ensures.made; start = c.in-Ok.ensures.start.leads; inside = c.in-Ok.ensures.start.inside };
@@ -587,10 +577,10 @@ structs::copy_struct-returns-clause-taken g t c =
     let r : Reading = reading g.B.ReaderArena c.args.from in
     let long = length_words r.segments r.segment r.at c.args.size.data_words (omega (arith, c.requires.inside)) in
     let less : least.data_words + least.pointers ≤ length (words_from r c.args.size.data_words) + c.args.size.pointers = omega (arith, c.kept_sections-kept.ensures.less_data, fewer, long) in
-    let cut = sections_cut (form_in c.args.form) r c.args.size least c.requires.inside c.kept_sections-kept.ensures.kept in
-    taken_so c.copy_children.result _ _ _ _ (λ x. sections_behind (words_from r c.args.size.data_words) (behind r c.args.size.data_words) c.args.size.pointers least.pointers (least.data_words + least.pointers) _ _ _ 0 _ _ _ _ _ cut.inside cut.of_pointers made less (all_within put last x))
-    (λ x. sections_stop_behind (words_from r c.args.size.data_words) (behind r c.args.size.data_words) c.args.size.pointers least.pointers (least.data_words + least.pointers) _ _ _ 0 _ _ _ _ _ fewer made less (among_within (omega arith) put last x))
-    (rw (c.from.ensures, c.from-2.ensures, c.from-pointers.ensures, nl) at c.copy_children.ensures.taken)
+    let cut = sections_cut (form_in c.args.form) r c.args.size least c.requires.inside (keeps_sections (form_in c.args.form) (reading g.B.ReaderArena c.args.from) c.args.size c.kept_sections-kept.result c.requires.inside c.kept_sections-kept.ensures.data c.kept_sections-kept.ensures.pointers c.kept_sections-kept.ensures.less_data c.kept_sections-kept.ensures.less_pointers) in
+    taken_so c.copy_children.result _ _ _ _ (λ x. sections_behind (words_from r c.args.size.data_words) (behind r c.args.size.data_words) c.args.size.pointers least.pointers (least.data_words + least.pointers) _ _ _ _ _ _ _ _ cut.inside cut.of_pointers made less (all_within put last x))
+    (λ x. sections_stop_behind (words_from r c.args.size.data_words) (behind r c.args.size.data_words) c.args.size.pointers least.pointers (least.data_words + least.pointers) _ _ _ _ _ _ _ _ fewer made less (among_within (omega arith) put last x))
+    (rw (c.from.ensures, c.from-pointers.ensures, nl) at c.copy_children.ensures.taken)
 
 pub structs::copy_struct-copy_children-requires : goal.structs::copy_struct-copy_children-requires
 structs::copy_struct-copy_children-requires g t c κs within =
@@ -601,7 +591,7 @@ structs::copy_struct-copy_children-requires g t c κs within =
     let section : words_of c.part-data.result.now ≡ words_from from c.kept_sections-kept.result.data_words = rw (c.from-data_words.ensures, held) at c.part-data.ensures.words in
     let begun : StructBegun (form_in c.args.form) from c.args.size c.kept_sections-kept.result c.args.id c.args.at (g.A.BuilderArena.view c.args.arena.now) (g.A.BuilderArena.view c.make_struct.new.arena) (g.A.BuilderArena.view c.put_words.new.arena) c.in-Ok.start = record {
       inside = c.requires.inside;
-      sections = c.kept_sections-kept.ensures.kept;
+      sections = (keeps_sections (form_in c.args.form) (reading g.B.ReaderArena c.args.from) c.args.size c.kept_sections-kept.result c.requires.inside c.kept_sections-kept.ensures.data c.kept_sections-kept.ensures.pointers c.kept_sections-kept.ensures.less_data c.kept_sections-kept.ensures.less_pointers);
       less_data = c.kept_sections-kept.ensures.less_data;
       less_pointers = c.kept_sections-kept.ensures.less_pointers;
       begun = record { made = c.in-Ok.ensures.made; start = c.in-Ok.ensures.start.leads; inside = c.in-Ok.ensures.start.inside };

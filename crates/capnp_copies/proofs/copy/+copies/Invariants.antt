@@ -3,7 +3,8 @@ use Rattle.capnp_objects.specs.Source.{levels}
 use Rattle.capnp_readers.specs.Readers.{reading}
 use Rattle.capnp_copies.specs.Changes.{change, CopiesChildren, CopiesRows}
 use Rattle.capnp_copies.specs.Forms.{form_in}
-use Rattle.capnp_copies.specs.Growth.{TakesForAll, TakesForElements}
+use Rattle.capnp_copies.specs.Originals.{children_original, elements_original}
+use Rattle.capnp_copies.proofs.Growth.{TakesForCopy}
 use Rattle.capnp_copies.proofs.copy.+copies.Given as goal
 
 abbrev pub decreases-copy_object : goal.decreases-copy_object
@@ -42,9 +43,9 @@ decreases-structs::copy_struct g l = 8 * levels l.from.nesting_limit + 5
 abbrev pub invariant-children::copy_in_line-loop-i : goal.invariant-children::copy_in_line-loop-i
 invariant-children::copy_in_line-loop-i g l =
     CopiesChildren (reading g.B.ReaderArena l.from) l.i (change (form_in l.form) l.id l.at (g.A.BuilderArena.view l.fn.arena) (g.A.BuilderArena.view l.arena) l.fn.lim l.lim)
-    × TakesForAll (reading g.B.ReaderArena l.from) l.i (change (form_in l.form) l.id l.at (g.A.BuilderArena.view l.fn.arena) (g.A.BuilderArena.view l.arena) l.fn.lim l.lim)
+    × TakesForCopy (children_original (reading g.B.ReaderArena l.from) l.i) (change (form_in l.form) l.id l.at (g.A.BuilderArena.view l.fn.arena) (g.A.BuilderArena.view l.arena) l.fn.lim l.lim)
 
 abbrev pub invariant-elements::copy_elements-loop-i : goal.invariant-elements::copy_elements-loop-i
 invariant-elements::copy_elements-loop-i g l =
     CopiesRows (reading g.B.ReaderArena l.from) l.sizes l.i (l.count - l.i) (change (form_in l.form) l.to.segment l.to.at (g.A.BuilderArena.view l.fn.arena) (g.A.BuilderArena.view l.arena) l.fn.lim l.lim)
-    × TakesForElements (reading g.B.ReaderArena l.from) l.sizes.source l.i (change (form_in l.form) l.to.segment l.to.at (g.A.BuilderArena.view l.fn.arena) (g.A.BuilderArena.view l.arena) l.fn.lim l.lim)
+    × TakesForCopy (elements_original (reading g.B.ReaderArena l.from) l.sizes l.i) (change (form_in l.form) l.to.segment l.to.at (g.A.BuilderArena.view l.fn.arena) (g.A.BuilderArena.view l.arena) l.fn.lim l.lim)

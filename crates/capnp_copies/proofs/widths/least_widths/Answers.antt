@@ -1,8 +1,7 @@
 use Rattle.std.proofs.Common.{◌≡◌, suc, ◌+◌, ◌-◌, max, take, drop, sym, ap, ap₂, ◌∙◌, arith}
 use Rattle.capnp_format.specs.Bytes.{words_of}
 use Rattle.capnp_format.specs.Canonical.{used_words}
-use Rattle.capnp_copies.specs.Widths.{data_used, pointers_used}
-use Rattle.capnp_copies.proofs.Scanning.{no_data, no_pointers, one_left, data_more, pointers_more}
+use Rattle.capnp_copies.proofs.Scanning.{data_used, pointers_used, no_data, no_pointers, one_left, data_more, pointers_more}
 use Rattle.capnp_copies.proofs.widths.least_widths.Goals as goal
 
 pub loop-i-preserved : goal.loop-i-preserved

@@ -1,6 +1,6 @@
 use Rattle.std.proofs.Common.{◌≡◌, ◌+◌, ◌*◌, ◌-◌, ◌≤◌, max}
 use Rattle.capnp_format.specs.Bytes.{words_of}
-use Rattle.capnp_copies.specs.Widths.{data_used, pointers_used}
+use Rattle.capnp_copies.proofs.Scanning.{data_used, pointers_used}
 use Rattle.capnp_copies.proofs.widths.least_widths.Given as goal
 
 abbrev pub invariant-loop-i : goal.invariant-loop-i

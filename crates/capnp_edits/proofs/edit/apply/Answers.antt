@@ -2,7 +2,7 @@ use Rattle.std.proofs.Common.{◌≡◌, true, Some, None, sym, ap, ◌∙◌, s
 use Rattle.std.proofs.lemmas.Bool.{false≢true}
 use Rattle.capnp_format.specs.Tree.{Tree}
 use Rattle.capnp_making.specs.Stored.{IsStored}
-use Rattle.capnp_edits.specs.declared.edit.path.Place.TheVariants.{Pointer as AtPointer, Element as AtElement}
+use Rattle.capnp_edits.specs.declared.edit.path.PathEnd.TheVariants.{Pointer as AtPointer, Element as AtElement}
 use Rattle.capnp_edits.specs.declared.edit.tasks.Task.TheVariants.{InStruct}
 use Rattle.capnp_edits.specs.Edits.{refusal_of}
 use Rattle.capnp_edits.specs.Paths.{path_of, IsPathFound}
@@ -23,7 +23,7 @@ returns-in_default g c = nothing_done (g.A.BuilderArena.view c.args.arena.now) c
 pub returns-in_default-task_of : goal.returns-in_default-task_of
 returns-in_default-task_of g c =
     let v = g.A.BuilderArena.view c.args.arena.now in
-    nothing_done v c.args.edit.now (Some c.in-Some.place) (out_applied v.words c.args.edit.now (sym c.in_default-task_of.ensures)) c.in-Some.ensures.found
+    nothing_done v c.args.edit.now (Some c.in-Some.end) (out_applied v.words c.args.edit.now (sym c.in_default-task_of.ensures)) c.in-Some.ensures.found
 
 pub returns-in-Pointer : goal.returns-in-Pointer
 returns-in-Pointer g c =

@@ -6,12 +6,13 @@ use Rattle.capnp_format.specs.Tree.{count}
 use Rattle.capnp_making.specs.Memory.{HasRoom}
 use Rattle.capnp_making.specs.Near.{HasOwnRoom}
 use Rattle.capnp_making.proofs.Outcomes.{on_made_so, if_ok_so}
-use Rattle.capnp_widening.specs.Rooms.{widened_words, widened}
+use Rattle.capnp_widening.specs.Rooms.{widened_words}
 use Rattle.capnp_widening.proofs.Filled.{already_wide, greater_size}
 use Rattle.capnp_widening.proofs.StructRooms.{wider_words, no_struct}
 use Rattle.capnp_widening.proofs.StructSteps.{the_struct, same_struct}
 use Rattle.capnp_widening.proofs.widening.get_struct.Goals.{else-size-old-via-then-size-old+else-size-old-2, else-size-old-via-else-size-old}
 use Rattle.capnp_widening.proofs.widening.get_struct.Goals as goal
+use Rattle.capnp_widening.specs.Widened.{widened}
 
 -- Both sections are large enough.
 pub returns-then-size-old-2-clause-widened : goal.returns-then-size-old-2-clause-widened

@@ -5,11 +5,12 @@ use Rattle.capnp_arena.specs.View.{View}
 use Rattle.capnp_making.specs.Memory.{HasRoom}
 use Rattle.capnp_making.specs.Near.{HasOwnRoom}
 use Rattle.capnp_making.proofs.Outcomes.{on_made_so, if_ok_so}
-use Rattle.capnp_widening.specs.Rooms.{widened_words, widened}
+use Rattle.capnp_widening.specs.Rooms.{widened_words}
 use Rattle.capnp_widening.proofs.Filled.{greater_size}
 use Rattle.capnp_widening.proofs.StructRooms.{wider_words}
 use Rattle.capnp_widening.proofs.StructSteps.{the_struct, same_struct}
 use Rattle.capnp_widening.proofs.widening.widen_known.Goals as goal
+use Rattle.capnp_widening.specs.Widened.{widened}
 
 pub returns-clause-widened : goal.returns-clause-widened
 returns-clause-widened g c =

@@ -1,6 +1,7 @@
-use Rattle.std.proofs.Common.{◌+◌, ◌*◌, ℕ, sym, subst, ◌∙◌, arith}
+use Rattle.std.proofs.Common.{◌+◌, ◌*◌, ℕ, sym, ap, subst, ◌∙◌, arith}
 use Rattle.capnp_arena.specs.View.{View}
 use Rattle.capnp_format.specs.Segments.{Segments}
+use Rattle.capnp_making.specs.declared.making.Start.{Start}
 use Rattle.capnp_making.specs.Memory.{HasRoom, RefusesGrowth}
 use Rattle.capnp_making.specs.Near.{HasOwnRoom}
 use Rattle.capnp_making.proofs.Memory.{keeps_both, keeps_written, words_refused_after, refused_before}
@@ -21,8 +22,8 @@ returns-in-Ok-move_row-clause-widened g c =
     let steps : StructSteps S T D P R Z Q c.args.id c.args.at c.args.old c.args.size c.in-Ok.room = record {
       place = c.requires.place;
       room = rw c.total.ensures at c.in-Ok.ensures.taken;
-      copied = rw c.from.ensures at c.copy_words.ensures.copied;
-      moves = rw (c.from-in-Ok.ensures, c.from-in-Ok-2.ensures, c.from-count.ensures) at c.in-Ok-move_row.ensures.moved;
+      copied = rw (c.data_of.ensures, c.data_of-in-Ok.ensures, c.from.ensures) at c.copy_words.ensures.copied;
+      moves = rw (c.pointers_of-from.ensures, c.pointers_of-to.ensures, c.from-count.ensures) at c.in-Ok-move_row.ensures.moved;
       settled = c.settle.ensures.settled;
       object_zeroed = rw (c.from-in-Ok-move_row.ensures ∙ c.total-in-Ok-move_row.ensures) at c.zero_part.ensures.zeroed;
       pads_zeroed = rw c.word_of-pointer.ensures at c.zero_pads.ensures.zeroed;
@@ -42,8 +43,8 @@ returns-in-Ok-move_row-clause-leads g c =
     let steps : StructSteps S T D P R Z Q c.args.id c.args.at c.args.old c.args.size c.in-Ok.room = record {
       place = c.requires.place;
       room = rw c.total.ensures at c.in-Ok.ensures.taken;
-      copied = rw c.from.ensures at c.copy_words.ensures.copied;
-      moves = rw (c.from-in-Ok.ensures, c.from-in-Ok-2.ensures, c.from-count.ensures) at c.in-Ok-move_row.ensures.moved;
+      copied = rw (c.data_of.ensures, c.data_of-in-Ok.ensures, c.from.ensures) at c.copy_words.ensures.copied;
+      moves = rw (c.pointers_of-from.ensures, c.pointers_of-to.ensures, c.from-count.ensures) at c.in-Ok-move_row.ensures.moved;
       settled = c.settle.ensures.settled;
       object_zeroed = rw (c.from-in-Ok-move_row.ensures ∙ c.total-in-Ok-move_row.ensures) at c.zero_part.ensures.zeroed;
       pads_zeroed = rw c.word_of-pointer.ensures at c.zero_pads.ensures.zeroed;
@@ -61,9 +62,9 @@ returns-in-Err-move_row-clause-refused g c =
     let Z : Segments = (g.A.BuilderArena.view c.zero_part-in-Err-move_row.new.arena).words in
     let steps : StructUndone S T D P U Z c.args.id c.args.old c.args.size c.in-Ok.room = record {
       room = rw c.total.ensures at c.in-Ok.ensures.taken;
-      copied = rw c.from.ensures at c.copy_words.ensures.copied;
-      some = rw (c.from-in-Ok.ensures, c.from-in-Ok-2.ensures, c.from-count.ensures) at c.in-Err-move_row.ensures.some;
-      unmoves = rw (c.from-in-Ok.ensures, c.from-in-Ok-2.ensures, c.from-count.ensures) at c.unmove_row.ensures.zeroed;
+      copied = rw (c.data_of.ensures, c.data_of-in-Ok.ensures, c.from.ensures) at c.copy_words.ensures.copied;
+      some = rw (c.pointers_of-from.ensures, c.pointers_of-to.ensures, c.from-count.ensures) at c.in-Err-move_row.ensures.some;
+      unmoves = rw (c.pointers_of-from.ensures, c.pointers_of-to.ensures, c.from-count.ensures) at c.unmove_row.ensures.zeroed;
       zeroed = rw (c.from-in-Err-move_row.ensures ∙ c.total-in-Err-move_row.ensures) at c.zero_part-in-Err-move_row.ensures.zeroed;
       wider = (c.requires.data, c.requires.pointers);
     } in
@@ -145,4 +146,6 @@ returns-in-Err-clause-near g c = λ here h. (c.in-Err.ensures.near (subst (λ m.
 pub returns-in-Err-move_row-clause-near : goal.returns-in-Err-move_row-clause-near
 returns-in-Err-move_row-clause-near g c = λ here h.
     (let there = (c.in-Ok.ensures.near (subst (λ m. HasOwnRoom (g.A.BuilderArena.view c.args.arena.now) c.args.id m) (sym c.total.ensures) h)).1 in
-    c.in-Err-move_row.ensures.near (here ∙ sym there))
+    let from = ap (λ (x : Start). x.segment) c.pointers_of-from.ensures in
+    let to = ap (λ (x : Start). x.segment) c.pointers_of-to.ensures in
+    c.in-Err-move_row.ensures.near (from ∙ (here ∙ (sym there ∙ sym to))))

@@ -15,6 +15,7 @@ use Rattle.capnp_builders.proofs.DefaultRooms.{null_left, then_fits, refused_def
 use Rattle.capnp_builders.proofs.DefaultUses.{then_does, stands_then}
 use Rattle.capnp_builders.proofs.Openings.{struct_opens, struct_refused, opens_longer, still_there}
 use Rattle.capnp_builders.proofs.builders.PointerBuilder.find_struct.Goals as goal
+use Rattle.capnp_making.specs.Makes.{call_at}
 
 -- What stands once the default is put is opened.
 pub returns-in-Ok-open_struct-clause-found : goal.returns-in-Ok-open_struct-clause-found
@@ -29,7 +30,7 @@ returns-in-Ok-open_struct-clause-found g c = λ t stored.
     then_does (object_default c.args.default t) s p a m b t c.in-Ok.field-0 (Ok c.struct_place.result) (OpensStruct IsStructGiven c.args.size (Ok c.struct_place.result)) stored (c.in-Ok.ensures.put t stored)
     (λ u stands. (let o = c.in-Ok-open_struct.ensures.opened u stands in
     struct_opens m b s p u c.args.size e c.struct_place.result
-    (record { there = there b.words s p (still_there a m b s p c.requires.there c.in-Ok.ensures.longer (opens_longer c.args.size LeadsToOne m b s p u (struct_opened c.args.size u) (Ok e) o)); small = small; starts = c.struct_place.ensures.starts }) o)))
+    (record { there = there b.words s p (still_there a m b s p c.requires.there c.in-Ok.ensures.longer (opens_longer c.args.size LeadsToOne m b s p u (struct_opened c.args.size u) (Ok e) o)); small = small; placed = c.struct_place.ensures.place }) o)))
 
 pub returns-in-Err-open_struct-clause-found : goal.returns-in-Err-open_struct-clause-found
 returns-in-Err-open_struct-clause-found g c = λ t stored.
@@ -78,7 +79,7 @@ returns-in-Err-open_struct-clause-set g c = λ some.
     let s = c.args.self.now.segment in
     let p = c.args.self.now.at in
     let same = (c.in-Ok.ensures.stays some).1 in
-    subst (λ (v : View). IsNoWider v b s p c.in-Err-open_struct.k) same (c.in-Err-open_struct.ensures.named (λ null. some (subst (λ (v : View). word_at v.words s p ≡ 0) same null))))
+    subst (λ (v : View). IsNoWider (call_at s p v b) c.in-Err-open_struct.k) same (c.in-Err-open_struct.ensures.named (λ null. some (subst (λ (v : View). word_at v.words s p ≡ 0) same null))))
 
 -- Where null is left by the default, a new struct is made in the message as it was.
 pub returns-in-Ok-open_struct-clause-taken : goal.returns-in-Ok-open_struct-clause-taken

@@ -9,8 +9,8 @@ use Rattle.capnp_copies.specs.Growth.{TakesAtMost}
 use Rattle.capnp_copies.specs.Originals.{value_original}
 use Rattle.capnp_copies.proofs.FlatRead.{err_so}
 use Rattle.capnp_builders.specs.Defaults.{default_root, default_copy}
-use Rattle.capnp_builders.proofs.CopiesHeld.{on_ok, on_err}
-use Rattle.capnp_builders.proofs.DefaultCopies.{nothing_spent, stands_for_null, refuses_default}
+use Rattle.capnp_builders.proofs.CopiesHeld.{on_ok}
+use Rattle.capnp_builders.proofs.DefaultCopies.{nothing_spent, puts_default, drops_default}
 use Rattle.capnp_builders.proofs.builders.defaults.copy_default.Goals as goal
 
 -- A default with a first word has a pointer there.
@@ -31,11 +31,9 @@ returns g c =
     let refused : IfErr c.copy_in_form.result (StopsCopy (value_original (default_root bytes)) (default_copy c.args.id c.args.at old new) Null) =
     rw (from.source, from.place.0, from.place.1, from.nesting, c.new-lim.ensures, same) at c.copy_in_form.ensures.refused in
     record {
-      copied = stands_for_null c.copy_in_form.result bytes c.args.id c.args.at old new (unused None) c.copy_in_form.new.lim copied;
+      copied = puts_default c.copy_in_form.result bytes c.args.id c.args.at old new (rw same at copied) (rw same at taken);
       fits = rw (from.source, from.place.0, from.place.1, from.nesting, c.new-lim.ensures) at c.copy_in_form.ensures.fits;
-      refused = on_err c.copy_in_form.result _ _ refused (λ k stop. stop.left);
-      named = refuses_default c.copy_in_form.result bytes c.args.id c.args.at old new refused;
-      taken = rw same at taken;
+      dropped = drops_default c.copy_in_form.result bytes c.args.id c.args.at old new refused (rw same at taken);
       memory = record {
         granted = on_ok c.copy_in_form.result _ _ copied (λ made. made.memory);
         refused = err_so c.copy_in_form.result _ _ refused (λ k stop. stop.memory);

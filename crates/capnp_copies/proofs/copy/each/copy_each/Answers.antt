@@ -10,7 +10,7 @@ use Rattle.capnp_copies.proofs.EachCopied.{each_stops, each_refused_rightly}
 use Rattle.capnp_copies.proofs.copy.each.copy_each.Goals as goal
 
 pub loop-i-init : goal.loop-i-init
-loop-i-init g c = (no_child (reading g.B.ReaderArena c.args.from) plain c.args.id c.args.at (g.A.BuilderArena.view c.args.arena.now) c.args.lim.now, none_taken (reading g.B.ReaderArena c.args.from) plain c.args.id c.args.at (g.A.BuilderArena.view c.args.arena.now) c.args.lim.now)
+loop-i-init g c = (no_child (reading g.B.ReaderArena c.args.from) plain c.args.id c.args.at (g.A.BuilderArena.view c.args.arena.now) c.args.lim.now, none_taken (reading g.B.ReaderArena c.args.from) plain c.args.id (g.A.BuilderArena.view c.args.arena.now) c.args.lim.now)
 
 pub copy_value-requires : goal.copy_value-requires
 copy_value-requires g c =
@@ -22,7 +22,7 @@ copy_value-requires g c =
 pub returns-in-Err-clause-refused : goal.returns-in-Err-clause-refused
 returns-in-Err-clause-refused g c =
     let nl = to_z-of_z w32 c.args.from.nesting_limit (search rules) in
-    each_stops (omega (arith, c.requires.room, c.loop-i-test.true)) c.loop-i-test.true c.loop-i.invariant.0 (rw nl at c.in-Err.ensures.refused) (rw nl at c.in-Err.ensures.taken).0
+    each_stops (omega (arith, c.requires.room, c.loop-i-test.true)) c.loop-i-test.true c.loop-i.invariant.0 (rw nl at c.in-Err.ensures.refused)
 
 pub loop-i-preserved : goal.loop-i-preserved
 loop-i-preserved g c =
@@ -44,4 +44,4 @@ returns-clause-taken g c = all_taken (omega arith) c.loop-i.invariant.1
 pub returns-in-Err-clause-fits : goal.returns-in-Err-clause-fits
 returns-in-Err-clause-fits g c =
     let nl = to_z-of_z w32 c.args.from.nesting_limit (search rules) in
-    λ fits. absurd (each_refused_rightly (each_stops (omega (arith, c.requires.room, c.loop-i-test.true)) c.loop-i-test.true c.loop-i.invariant.0 (rw nl at c.in-Err.ensures.refused) (rw nl at c.in-Err.ensures.taken).0) fits)
+    λ fits. absurd (each_refused_rightly (each_stops (omega (arith, c.requires.room, c.loop-i-test.true)) c.loop-i-test.true c.loop-i.invariant.0 (rw nl at c.in-Err.ensures.refused)) fits)

@@ -4,17 +4,16 @@ use mir.Syntax.{w32}
 use Rattle.capnp_format.specs.Bytes.{words_of}
 use Rattle.capnp_format.specs.Numbers.{words_for, unpacked}
 use Rattle.capnp_format.specs.Tree.{Flat}
-use Rattle.capnp_objects.specs.Source.{source_segments}
+use Rattle.capnp_objects.specs.Reading.{source_start}
 use Rattle.capnp_words.specs.Sizes.{size_number}
 use Rattle.capnp_copies.specs.Changes.{Change, change, MakesCopy, StopsHalfway}
 use Rattle.capnp_copies.specs.Forms.{form_of}
 use Rattle.capnp_copies.specs.Growth.{MakesAtMost, TakesAtMost}
 use Rattle.capnp_copies.specs.Originals.{FitsListPointer}
-use Rattle.capnp_copies.specs.ListValues.{first_read}
 use Rattle.capnp_copies.proofs.FilledValues.{FlatOutcome}
 use Rattle.capnp_copies.proofs.FlatRead.{ok_so, err_so, flat_words}
 use Rattle.capnp_copies.proofs.Growth.{none_itself, made_none, nothing_for_list, numbers_take}
-use Rattle.capnp_copies.proofs.ListValues.{too_long, number_size, few_numbers, numbers_held, numbers_copied, numbers_stop}
+use Rattle.capnp_copies.proofs.ListValues.{first_read, too_long, number_size, few_numbers, numbers_held, numbers_copied, numbers_stop}
 use Rattle.capnp_copies.proofs.Originals.{pointers_listed, structs_listed, pointers_list_copied, structs_list_copied, pointers_list_stops, structs_list_stops, numbers_listed, exceeding}
 use Rattle.capnp_copies.proofs.copy.list_value.copy_elements_read.Goals as goal
 
@@ -31,7 +30,7 @@ copy_flat-requires g c =
     let width : ℕ = value.struct_size.data_words + value.struct_size.pointers in
     let flat : size_number value.element_size ≤ 5 = number_size value.element_size c.in_default.not-Pointer c.in_default.not-InlineComposite in
     let fits : FitsListPointer value.element_size value.count width = c.fits_list_pointer.ensures.0 (search rules) in
-    let held = numbers_held (source_segments g.B.ReaderArena.segments value.source) value.start value.element_size value.count width value.content.now flat value.held value.content_is value.inside in
+    let held = numbers_held (source_start g.B.ReaderArena value.source).segments value.start value.element_size value.count width value.content.now flat value.held value.content_is value.inside in
     record { place = c.requires.place; flat = flat; few = few_numbers value.element_size value.count width flat fits; whole = held.whole; all = held.counts }
 
 pub returns-in_default : goal.returns-in_default
@@ -40,7 +39,7 @@ returns-in_default g c =
     let size : ℕ = size_number value.element_size in
     let width : ℕ = value.struct_size.data_words + value.struct_size.pointers in
     let flat : size ≤ 5 = number_size value.element_size c.in_default.not-Pointer c.in_default.not-InlineComposite in
-    let held = numbers_held (source_segments g.B.ReaderArena.segments value.source) value.start value.element_size value.count width value.content.now flat value.held value.content_is value.inside in
+    let held = numbers_held (source_start g.B.ReaderArena value.source).segments value.start value.element_size value.count width value.content.now flat value.held value.content_is value.inside in
     let outcome : FlatOutcome c.copy_flat.result c.args.id c.args.at (words_for size value.count) (g.A.BuilderArena.view c.args.arena.now) (g.A.BuilderArena.view c.copy_flat.new.arena) (Flat size (unpacked size value.count (words_of value.content.now))) =
     record { copied = c.copy_flat.ensures.copied; granted = c.copy_flat.ensures.granted; refused = c.copy_flat.ensures.refused; kept = c.copy_flat.ensures.kept; memory = c.copy_flat.ensures.memory; stands = c.copy_flat.ensures.stands; fits = λ room. c.copy_flat.ensures.fits (omega (arith, room, flat_words size value.count (words_of value.content.now))) } in
     let call : Change = change (form_of c.args.canonicalize) c.args.id c.args.at (g.A.BuilderArena.view c.args.arena.now) (g.A.BuilderArena.view c.copy_flat.new.arena) c.args.lim.now c.args.lim.now in
@@ -85,7 +84,7 @@ returns-in-Pointer-clause-refused g c =
 
 pub returns-then-not-fits_list_pointer-clause-taken : goal.returns-then-not-fits_list_pointer-clause-taken
 returns-then-not-fits_list_pointer-clause-taken g c =
-    nothing_for_list c.args.value.element_size c.args.value.struct_size c.args.value.count (first_read g.B.ReaderArena c.args.value) (form_of c.args.canonicalize) c.args.lim.now (λ n p. MakesAtMost c.args.id n p (g.A.BuilderArena.view c.args.arena.now) (g.A.BuilderArena.view c.args.arena.now)) (made_none (none_itself (g.A.BuilderArena.view c.args.arena.now)))
+    nothing_for_list c.args.value.element_size c.args.value.struct_size c.args.value.count (first_read g.B.ReaderArena c.args.value) (form_of c.args.canonicalize) c.args.lim.now (MakesAtMost c.args.id (g.A.BuilderArena.view c.args.arena.now) (g.A.BuilderArena.view c.args.arena.now)) (made_none (none_itself (g.A.BuilderArena.view c.args.arena.now)))
 
 pub returns-in-Pointer-clause-taken : goal.returns-in-Pointer-clause-taken
 returns-in-Pointer-clause-taken g c =

@@ -1,7 +1,7 @@
 use Rattle.std.proofs.Common.{refl}
 use Rattle.capnp_copies.specs.Changes.{change}
 use Rattle.capnp_copies.specs.Forms.{form_of}
-use Rattle.capnp_copies.specs.ListValues.{first_read}
+use Rattle.capnp_copies.proofs.ListValues.{first_read}
 use Rattle.capnp_copies.proofs.Cleared.{cleared}
 use Rattle.capnp_copies.proofs.Growth.{none_itself, none_pruned, list_until_within}
 use Rattle.capnp_copies.proofs.OneReading.{list_refused_rightly}

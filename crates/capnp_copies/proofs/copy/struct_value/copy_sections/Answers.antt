@@ -123,5 +123,5 @@ returns g c =
     record {
       copied = ok_so c.copy_children.result _ _ c.copy_children.ensures.copied (λ x made. sections_copied begun (rw (c.from.ensures, c.from-pointers.ensures, nl, c.of-form.ensures) at made));
       refused = err_so c.copy_children.result _ _ c.copy_children.ensures.refused (λ k stop. sections_stop begun (rw (c.from.ensures, c.from-pointers.ensures, nl, c.of-form.ensures) at stop));
-      taken = taken_so c.copy_children.result _ _ _ _ (λ x. sections_behind ws r value.pointer_count size.pointers (size.data_words + size.pointers) _ _ _ 0 _ _ _ _ _ value.inside c.in-Ok.ensures.pointers begins less (all_within over last x)) (λ x. sections_stop_behind ws r value.pointer_count size.pointers (size.data_words + size.pointers) _ _ _ 0 _ _ _ _ _ pointers_kept begins less (among_within (omega arith) over last x)) (rw (c.from.ensures, c.from-pointers.ensures, nl, c.of-form.ensures) at c.copy_children.ensures.taken);
+      taken = taken_so c.copy_children.result _ _ _ _ (λ x. sections_behind ws r value.pointer_count size.pointers (size.data_words + size.pointers) _ _ _ _ _ _ _ _ value.inside c.in-Ok.ensures.pointers begins less (all_within over last x)) (λ x. sections_stop_behind ws r value.pointer_count size.pointers (size.data_words + size.pointers) _ _ _ _ _ _ _ _ pointers_kept begins less (among_within (omega arith) over last x)) (rw (c.of-form.ensures, nl, c.from-pointers.ensures) at c.copy_children.ensures.taken);
     }

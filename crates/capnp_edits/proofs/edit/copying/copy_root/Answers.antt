@@ -14,7 +14,7 @@ pub returns-in-Err-clause-done : goal.returns-in-Err-clause-done
 returns-in-Err-clause-done g c = root_unread c.in-Err.k (rootless g c) refl refl
 
 pub returns-in-Err-clause-taken : goal.returns-in-Err-clause-taken
-returns-in-Err-clause-taken g c = inl (c.in-Err.k, refl, rootless g c, refl)
+returns-in-Err-clause-taken g c = inl (rootless g c, refl)
 
 pub returns-in-Err-clause-named : goal.returns-in-Err-clause-named
 returns-in-Err-clause-named g c = inl (rootless g c, refl)
@@ -74,7 +74,7 @@ pub returns-in-Err-get_struct-clause-named : goal.returns-in-Err-get_struct-clau
 returns-in-Err-get_struct-clause-named g c = inl (struct_missing g c, refl)
 
 pub returns-in-Err-get_struct-clause-taken : goal.returns-in-Err-get_struct-clause-taken
-returns-in-Err-get_struct-clause-taken g c = inl (c.in-Err-get_struct.k, refl, struct_missing g c, refl)
+returns-in-Err-get_struct-clause-taken g c = inl (struct_missing g c, refl)
 
 pub returns-in-Err-get_struct-clause-fits : goal.returns-in-Err-get_struct-clause-fits
 returns-in-Err-get_struct-clause-fits g c = λ fits.
@@ -115,7 +115,7 @@ pub returns-in-Err-get_list-clause-named : goal.returns-in-Err-get_list-clause-n
 returns-in-Err-get_list-clause-named g c = inl (list_missing g c, refl)
 
 pub returns-in-Err-get_list-clause-taken : goal.returns-in-Err-get_list-clause-taken
-returns-in-Err-get_list-clause-taken g c = inl (c.in-Err-get_list.k, refl, list_missing g c, refl)
+returns-in-Err-get_list-clause-taken g c = inl (list_missing g c, refl)
 
 pub returns-in-Err-get_list-clause-fits : goal.returns-in-Err-get_list-clause-fits
 returns-in-Err-get_list-clause-fits g c = λ fits.

@@ -8,7 +8,7 @@ use Rattle.capnp_edits.proofs.edit.elements.set_element.Goals as goal
 pub returns-in-Ok-Some-clause-put : goal.returns-in-Ok-Some-clause-put
 returns-in-Ok-Some-clause-put g c =
     element_put c.in-Ok-Some.list (is_found c.args.found c.in-Ok-Some.field-0 c.in-Ok-Some.list c.in-Ok-Some.is (rw c.in-Ok-Some.is at c.in-Ok-Some.field-0-is)) (c.has_element.ensures.there c.if-has_element.true) refl
-    (rw c.place_of.ensures at (ap (λ (v : View). v.words) c.put_element_at.ensures))
+    (rw c.list_place.ensures at (ap (λ (v : View). v.words) c.put_element_at.ensures))
 
 -- A list of a value lies in the message, and is as wide.
 pub returns-in-Ok-clause-put : goal.returns-in-Ok-clause-put

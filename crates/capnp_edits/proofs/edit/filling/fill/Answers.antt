@@ -23,7 +23,7 @@ pub returns-in-Err-clause-named : goal.returns-in-Err-clause-named
 returns-in-Err-clause-named g c = inl (rootless g c, refl)
 
 pub returns-in-Err-clause-taken : goal.returns-in-Err-clause-taken
-returns-in-Err-clause-taken g c = inl (c.in-Err.k, refl, rootless g c, refl)
+returns-in-Err-clause-taken g c = inl (rootless g c, refl)
 
 pub returns-in-Err-clause-fits : goal.returns-in-Err-clause-fits
 returns-in-Err-clause-fits g c = λ fits. absurd (fill_unread (g.A.BuilderArena.view c.args.arena.now) c.args.parent.segment c.args.source c.args.parent.size.pointers c.in-Err.k (rootless g c) fits)
@@ -85,7 +85,7 @@ pub copy_over-requires-clause-aligned : goal.copy_over-requires-clause-aligned
 copy_over-requires-clause-aligned g c = subst IsAligned (sym c.in-Some.ensures.place) (sections_aligned c.args.parent)
 
 pub returns-in-Err-get_struct-clause-taken : goal.returns-in-Err-get_struct-clause-taken
-returns-in-Err-get_struct-clause-taken g c = inl (c.in-Err-get_struct.k, refl, missing g c, refl)
+returns-in-Err-get_struct-clause-taken g c = inl (missing g c, refl)
 
 pub returns-in-Err-get_struct-clause-fits : goal.returns-in-Err-get_struct-clause-fits
 returns-in-Err-get_struct-clause-fits g c = λ fits. absurd (fill_unread (g.A.BuilderArena.view c.args.arena.now) c.args.parent.segment c.args.source c.args.parent.size.pointers c.in-Err-get_struct.k (missing g c) fits)

@@ -2,7 +2,7 @@ use Rattle.std.proofs.Common.{◌≡◌, ◌≢◌, length, ap, ◌∙◌, sym, 
 use Rattle.capnp_format.specs.Word.{kind}
 use Rattle.capnp_format.specs.Segments.{segment}
 use Rattle.capnp_objects.specs.Reading.{Reading, reading_at}
-use Rattle.capnp_objects.proofs.Landings.{near_nowhere, default_refused}
+use Rattle.capnp_objects.proofs.Landings.{near_nowhere, segments_of_word, default_refused}
 use Rattle.capnp_objects.proofs.source.Source.follow.Goals as goal
 
 pub returns-in-None-clause-refused : goal.returns-in-None-clause-refused
@@ -15,4 +15,7 @@ returns-in-None-clause-refused g c =
 pub returns-in-Default : goal.returns-in-Default
 returns-in-Default g c =
     let is_far : kind c.args.word.0 ≡ 2 = search rules in
-    record { followed = tt; refused = default_refused g.A.ReaderArena c.args.place c.args.lim.now c.args.nesting_limit c.in-Default.is c.requires.some (rw c.requires.there at is_far) (rw c.requires.there at c.requires.small) }
+    record { followed = tt; refused = default_refused g.A.ReaderArena c.args.place c.args.lim.now c.args.nesting_limit c.in-Default.is (segments_of_word c.requires) (rw c.requires.there at is_far) (rw c.requires.there at c.requires.small) }
+
+pub follow_far-requires-clause-some : goal.follow_far-requires-clause-some
+follow_far-requires-clause-some g c = rw c.in-Arena.is at (segments_of_word c.requires)

@@ -5,12 +5,12 @@ use Rattle.capnp_words.specs.Meter.{Meter}
 use Rattle.capnp_objects.specs.Source.{levels}
 use Rattle.capnp_objects.specs.Objects.{IsObject}
 use Rattle.capnp_objects.specs.Landings.{found_target, IsOpened}
-use Rattle.capnp_objects.specs.Expected.{too_deep, CanBeGiven, IsGiven, Withheld, no_level, unfollowed}
-use Rattle.capnp_objects.specs.Entering.{IsFitting, IsUnsuited}
+use Rattle.capnp_objects.specs.Expected.{expectation, CanBeGiven, IsGiven, Withheld, no_level, unfollowed}
+use Rattle.capnp_objects.specs.Entering.{object_misfit, IsUnsuited}
 use Rattle.capnp_objects.specs.Reading.{Reading, reading_at, word_of}
 use Rattle.capnp_objects.specs.declared.object.Purpose.TheVariants.{Value}
 use Rattle.capnp_objects.proofs.Landings.{IsCounted, if_err, object_opened, unfollowed as not_followed, arrived}
-use Rattle.capnp_objects.proofs.Expecting.{one_level, is_entered, given, given_exactly, suited, withheld, level_counted, null_given, not_withheld, if_both}
+use Rattle.capnp_objects.proofs.Expecting.{one_level, is_entered, given, given_exactly, suited, withheld, level_counted, null_given, not_withheld, fits_kind, if_both}
 use Rattle.capnp_objects.proofs.source.Source.read_expected.Goals as goal
 
 pub returns-then-is_null-clause-exactly : goal.returns-then-is_null-clause-exactly
@@ -18,7 +18,7 @@ returns-then-is_null-clause-exactly g c =
     let r : Reading = reading_at g.A.ReaderArena c.args.self c.args.place c.args.nesting_limit in
     let word : c.word-word.result.0 ≡ word_of r = c.word-word.ensures.value ∙ ap (λ ws. get_or ws c.args.place.at 0) c.requires.held.0 in
     let null : word_of r ≡ 0 = sym word ∙ c.if-is_null.ensures.0 refl in
-    ((λ _. null_given c.args.expected r c.args.lim.now null), (λ _. refl))
+    ((λ _. null_given (expectation c.args.expected) r c.args.lim.now null), (λ _. refl))
 
 pub returns-in-Some-clause-exactly : goal.returns-in-Some-clause-exactly
 returns-in-Some-clause-exactly g c =
@@ -26,9 +26,9 @@ returns-in-Some-clause-exactly g c =
     let word : c.word-word.result.0 ≡ word_of r = c.word-word.ensures.value ∙ ap (λ ws. get_or ws c.args.place.at 0) c.requires.held.0 in
     let some : c.word-word.result.0 ≢ 0 = λ e. false≢true (c.if-is_null.ensures.1 e) in
     let depth : c.depth_of.result ≡ r.levels = c.depth_of.ensures ∙ ap levels (to_z-of_z w32 c.args.nesting_limit c.ranges.nesting_limit) in
-    let named : too_deep c.args.expected r.levels ≡ Some c.in-Some.kind = rw depth at (sym c.in-Some.ensures) in
+    let named : (expectation c.args.expected).too_deep r.levels ≡ Some c.in-Some.kind = rw depth at (sym c.in-Some.ensures) in
     let m : Meter = c.args.lim.now in
-    ((λ e. absurd (false≢true e)), (λ can. absurd (not_withheld c.args.expected r m m c.in-Some.kind can (no_level (rw word at some) named refl))))
+    ((λ e. absurd (false≢true e)), (λ can. absurd (not_withheld (expectation c.args.expected) r m m c.in-Some.kind can (no_level (rw word at some) named refl))))
 
 pub returns-in-Ok-clause-object : goal.returns-in-Ok-clause-object
 returns-in-Ok-clause-object g c =
@@ -38,15 +38,15 @@ returns-in-Ok-clause-object g c =
     let counted : IsCounted r c.args.lim.now c.count.new.lim = record { some = rw word at some; by_one = c.count.ensures } in
     let m : Meter = c.enter_expected.new.lim in
     if_both c.enter_expected.result _ _ (IsObject Value (one_level r) c.args.lim.now m)
-    (λ x opened fits. object_opened Value {r = one_level r} m x (λ _. lit< tt) (level_counted counted) c.in-Ok.ensures.followed opened) c.enter_expected.ensures.object c.enter_expected.ensures.fits
+    (λ x opened fits. object_opened Value {r = one_level r} m x (λ _. lit< tt) (level_counted counted) c.in-Ok.ensures.followed opened) c.enter_expected.ensures.object (fits_kind c.args.expected c.in-Ok.found.word.0 c.enter_expected.result c.enter_expected.ensures.of_kind c.enter_expected.ensures.fits)
 
 pub returns-in-Ok-clause-given : goal.returns-in-Ok-clause-given
 returns-in-Ok-clause-given g c =
     let r : Reading = reading_at g.A.ReaderArena c.args.self c.args.place c.args.nesting_limit in
     let depth : c.depth_of.result ≡ r.levels = c.depth_of.ensures ∙ ap levels (to_z-of_z w32 c.args.nesting_limit c.ranges.nesting_limit) in
-    let level : too_deep c.args.expected r.levels ≡ None = rw depth at (sym c.name_of_depth.ensures ∙ c.in-None.is) in
-    if_both c.enter_expected.result (IsOpened Value (arrived (one_level r) (found_target c.in-Ok.found)) c.follow.new.lim c.enter_expected.new.lim) (IsFitting c.args.expected (found_target c.in-Ok.found)) (IsGiven c.args.expected r.levels)
-    (λ x opened fits. given x r.levels level fits.1 (is_entered opened fits.0)) c.enter_expected.ensures.object c.enter_expected.ensures.fits
+    let level : (expectation c.args.expected).too_deep r.levels ≡ None = rw depth at (sym c.name_of_depth.ensures ∙ c.in-None.is) in
+    if_both c.enter_expected.result (IsOpened Value (arrived (one_level r) (found_target c.in-Ok.found)) c.follow.new.lim c.enter_expected.new.lim) (λ x. ((expectation c.args.expected).another_kind c.in-Ok.found.word.0 ≡ None) × (object_misfit c.args.expected x ≡ None)) (IsGiven c.args.expected r.levels)
+    (λ x opened fits. given x r.levels level fits.1 (is_entered opened fits.0)) c.enter_expected.ensures.object (fits_kind c.args.expected c.in-Ok.found.word.0 c.enter_expected.result c.enter_expected.ensures.of_kind c.enter_expected.ensures.fits)
 
 pub returns-in-Ok-clause-refused : goal.returns-in-Ok-clause-refused
 returns-in-Ok-clause-refused g c =
@@ -55,9 +55,9 @@ returns-in-Ok-clause-refused g c =
     let some : c.word-word.result.0 ≢ 0 = λ e. false≢true (c.if-is_null.ensures.1 e) in
     let counted : IsCounted r c.args.lim.now c.count.new.lim = record { some = rw word at some; by_one = c.count.ensures } in
     let depth : c.depth_of.result ≡ r.levels = c.depth_of.ensures ∙ ap levels (to_z-of_z w32 c.args.nesting_limit c.ranges.nesting_limit) in
-    let level : too_deep c.args.expected r.levels ≡ None = rw depth at (sym c.name_of_depth.ensures ∙ c.in-None.is) in
-    if_err c.enter_expected.result (IsUnsuited c.args.expected (arrived (one_level r) (found_target c.in-Ok.found)) c.follow.new.lim c.enter_expected.new.lim)
-    (Withheld c.args.expected r c.args.lim.now c.enter_expected.new.lim) (λ k h. withheld c.args.expected counted c.in-Ok.ensures.followed level h) c.enter_expected.ensures.refused
+    let level : (expectation c.args.expected).too_deep r.levels ≡ None = rw depth at (sym c.name_of_depth.ensures ∙ c.in-None.is) in
+    if_err c.enter_expected.result (IsUnsuited (expectation c.args.expected) (arrived (one_level r) (found_target c.in-Ok.found)) c.follow.new.lim c.enter_expected.new.lim)
+    (Withheld (expectation c.args.expected) r c.args.lim.now c.enter_expected.new.lim) (λ k h. withheld (expectation c.args.expected) counted c.in-Ok.ensures.followed level h) c.enter_expected.ensures.refused
 
 pub returns-in-Ok-clause-exactly : goal.returns-in-Ok-clause-exactly
 returns-in-Ok-clause-exactly g c =
@@ -66,10 +66,10 @@ returns-in-Ok-clause-exactly g c =
     let some : c.word-word.result.0 ≢ 0 = λ e. false≢true (c.if-is_null.ensures.1 e) in
     let counted : IsCounted r c.args.lim.now c.count.new.lim = record { some = rw word at some; by_one = c.count.ensures } in
     let depth : c.depth_of.result ≡ r.levels = c.depth_of.ensures ∙ ap levels (to_z-of_z w32 c.args.nesting_limit c.ranges.nesting_limit) in
-    let level : too_deep c.args.expected r.levels ≡ None = rw depth at (sym c.name_of_depth.ensures ∙ c.in-None.is) in
-    given_exactly c.args.expected r c.args.lim.now c.enter_expected.new.lim c.enter_expected.result
-    (if_both c.enter_expected.result (IsOpened Value (arrived (one_level r) (found_target c.in-Ok.found)) c.follow.new.lim c.enter_expected.new.lim) (IsFitting c.args.expected (found_target c.in-Ok.found)) (λ x. CanBeGiven c.args.expected r c.args.lim.now)
-    (λ x opened fits. suited c.args.expected x counted c.in-Ok.ensures.followed level fits.1 (is_entered opened fits.0)) c.enter_expected.ensures.object c.enter_expected.ensures.fits)
+    let level : (expectation c.args.expected).too_deep r.levels ≡ None = rw depth at (sym c.name_of_depth.ensures ∙ c.in-None.is) in
+    given_exactly (expectation c.args.expected) r c.args.lim.now c.enter_expected.new.lim c.enter_expected.result
+    (if_both c.enter_expected.result (IsOpened Value (arrived (one_level r) (found_target c.in-Ok.found)) c.follow.new.lim c.enter_expected.new.lim) (λ x. ((expectation c.args.expected).another_kind c.in-Ok.found.word.0 ≡ None) × (object_misfit c.args.expected x ≡ None)) (λ x. CanBeGiven (expectation c.args.expected) r c.args.lim.now)
+    (λ x opened fits. suited c.args.expected x counted c.in-Ok.ensures.followed level fits.1 (is_entered opened fits.0)) c.enter_expected.ensures.object (fits_kind c.args.expected c.in-Ok.found.word.0 c.enter_expected.result c.enter_expected.ensures.of_kind c.enter_expected.ensures.fits))
     (returns-in-Ok-clause-refused g c)
 
 pub returns-in-Err-clause-refused : goal.returns-in-Err-clause-refused
@@ -79,10 +79,10 @@ returns-in-Err-clause-refused g c =
     let some : c.word-word.result.0 ≢ 0 = λ e. false≢true (c.if-is_null.ensures.1 e) in
     let counted : IsCounted r c.args.lim.now c.count.new.lim = record { some = rw word at some; by_one = c.count.ensures } in
     let depth : c.depth_of.result ≡ r.levels = c.depth_of.ensures ∙ ap levels (to_z-of_z w32 c.args.nesting_limit c.ranges.nesting_limit) in
-    let level : too_deep c.args.expected r.levels ≡ None = rw depth at (sym c.name_of_depth.ensures ∙ c.in-None.is) in
+    let level : (expectation c.args.expected).too_deep r.levels ≡ None = rw depth at (sym c.name_of_depth.ensures ∙ c.in-None.is) in
     unfollowed level (not_followed counted c.in-Err.ensures.refused)
 
 pub returns-in-Err-clause-exactly : goal.returns-in-Err-clause-exactly
 returns-in-Err-clause-exactly g c =
     let r : Reading = reading_at g.A.ReaderArena c.args.self c.args.place c.args.nesting_limit in
-    ((λ e. absurd (false≢true e)), (λ can. absurd (not_withheld c.args.expected r c.args.lim.now c.follow.new.lim c.in-Err.kind can (returns-in-Err-clause-refused g c))))
+    ((λ e. absurd (false≢true e)), (λ can. absurd (not_withheld (expectation c.args.expected) r c.args.lim.now c.follow.new.lim c.in-Err.kind can (returns-in-Err-clause-refused g c))))

@@ -7,11 +7,13 @@ use Rattle.capnp_objects.specs.Reading.{Reading, reading_at, word_of}
 use Rattle.capnp_objects.proofs.Refusals.{read_exactly, could_be_read}
 use Rattle.capnp_objects.proofs.source.Source.read_object.Goals as goal
 
-pub read_pointer-requires-clause-there : goal.read_pointer-requires-clause-there
-read_pointer-requires-clause-there g c = c.word-word.ensures.value ∙ ap (λ ws. get_or ws c.args.place.at 0) c.requires.held.0
-
-pub read_pointer-requires-clause-some : goal.read_pointer-requires-clause-some
-read_pointer-requires-clause-some g c = λ e. false≢true (c.if-is_null.ensures.1 e)
+pub read_pointer-requires-clause-word : goal.read_pointer-requires-clause-word
+read_pointer-requires-clause-word g c = record {
+  held = c.requires.held;
+  there = c.word-word.ensures.value ∙ ap (λ ws. get_or ws c.args.place.at 0) c.requires.held.0;
+  some = λ e. false≢true (c.if-is_null.ensures.1 e);
+  small = c.word-word.ensures.small;
+}
 
 pub returns-clause-exactly : goal.returns-clause-exactly
 returns-clause-exactly g c = read_exactly Value (reading_at g.A.ReaderArena c.args.self c.args.place c.args.nesting_limit) c.args.lim.now c.read_pointer.new.lim c.read_pointer.result (rw (to_z-of_z w32 c.args.nesting_limit c.ranges.nesting_limit) at c.read_pointer.ensures.object) (rw (to_z-of_z w32 c.args.nesting_limit c.ranges.nesting_limit) at c.read_pointer.ensures.refused)

@@ -12,20 +12,20 @@ use Rattle.capnp_objects.proofs.source.Source.read_pointer.Goals as goal
 pub returns-in-Err-clause-refused : goal.returns-in-Err-clause-refused
 returns-in-Err-clause-refused g c =
     let r : Reading = reading_at g.A.ReaderArena c.args.self c.args.place c.args.nesting_limit in
-    let counted : IsCounted r c.args.lim.now c.count.new.lim = record { some = rw c.requires.there at c.requires.some; by_one = c.count.ensures } in
+    let counted : IsCounted r c.args.lim.now c.count.new.lim = record { some = rw c.requires.word.there at c.requires.word.some; by_one = c.count.ensures } in
     stops_following counted c.in-Err.ensures.refused
 
 pub returns-clause-object : goal.returns-clause-object
 returns-clause-object g c =
     let r : Reading = reading_at g.A.ReaderArena c.args.self c.args.place c.args.nesting_limit in
-    let counted : IsCounted r c.args.lim.now c.count.new.lim = record { some = rw c.requires.there at c.requires.some; by_one = c.count.ensures } in
+    let counted : IsCounted r c.args.lim.now c.count.new.lim = record { some = rw c.requires.word.there at c.requires.word.some; by_one = c.count.ensures } in
     let depth : c.depth_of.result ≡ r.levels = c.depth_of.ensures ∙ ap levels (to_z-of_z w32 c.args.nesting_limit c.ranges.nesting_limit) in
     if_ok c.enter.result _ (IsObject c.args.purpose r c.args.lim.now c.enter.new.lim) (λ x h. object_opened c.args.purpose c.enter.new.lim x c.requires.level counted c.in-Ok.ensures.followed (rw depth at h)) c.enter.ensures.object
 
 pub returns-clause-refused : goal.returns-clause-refused
 returns-clause-refused g c =
     let r : Reading = reading_at g.A.ReaderArena c.args.self c.args.place c.args.nesting_limit in
-    let counted : IsCounted r c.args.lim.now c.count.new.lim = record { some = rw c.requires.there at c.requires.some; by_one = c.count.ensures } in
+    let counted : IsCounted r c.args.lim.now c.count.new.lim = record { some = rw c.requires.word.there at c.requires.word.some; by_one = c.count.ensures } in
     let depth : c.depth_of.result ≡ r.levels = c.depth_of.ensures ∙ ap levels (to_z-of_z w32 c.args.nesting_limit c.ranges.nesting_limit) in
     if_err c.enter.result (NotEntered c.args.purpose (arrived (record r { levels = c.depth_of.result }) (found_target c.in-Ok.found)) c.follow.new.lim c.enter.new.lim)
     (Stopped c.args.purpose plain r c.args.lim.now c.enter.new.lim) (λ k h. object_refused counted c.in-Ok.ensures.followed (rw depth at h)) c.enter.ensures.refused

@@ -31,4 +31,4 @@ returns-in_default-clause-read g c =
     let shown : IsShown g.A.ReaderArena c.in-Ok.found.0 m m' c.in-Ok.found.1 c.target_of.result = record { read = read; target = target } in
     let null = no_list g.A.ReaderArena c.args.expected_element_size c.target_of.result c.in-Ok.ensures.given shown c.in_default.not-List in
     let made = c.new_default.ensures in
-    (c.in-Ok.found.0, c.in-Ok.ensures.read, inl (null, (made.source, made.elements.0, made.elements.1, made.nesting)))
+    (c.in-Ok.found.0, c.in-Ok.ensures.read, inl (null.0, null.1, made.source, made.elements.0, made.elements.1, made.nesting))

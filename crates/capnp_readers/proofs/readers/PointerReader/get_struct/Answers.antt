@@ -27,4 +27,4 @@ returns-in_default-clause-read g c =
     let shown : IsShown g.A.ReaderArena c.in-Ok.found.0 m m' c.in-Ok.found.1 c.target_of.result = record { read = read; target = target } in
     let null = no_struct g.A.ReaderArena c.target_of.result c.in-Ok.ensures.given shown c.in_default.not-Struct in
     let made = c.new_default.ensures in
-    (c.in-Ok.found.0, c.in-Ok.ensures.read, inl (null, (made.source, made.sections.0, made.sections.1, made.nesting)))
+    (c.in-Ok.found.0, c.in-Ok.ensures.read, inl (null.0, null.1, made.source, made.sections.0, made.sections.1, made.nesting))

@@ -16,4 +16,5 @@ pub returns-in_default-clause-read : goal.returns-in_default-clause-read
 returns-in_default-clause-read g c =
     let r = reading g.A.ReaderArena c.in-Ok.found.0 in
     let read : IsReadAt r c.args.lim.now c.expect.new.lim c.in-Ok.found.1 = record { object = c.in-Ok.ensures.object } in
-    (c.in-Ok.found.0, c.in-Ok.ensures.read, inl (no_text r.levels c.in-Ok.found.1 c.in-Ok.ensures.given read c.in_default.not-Flat, refl))
+    let null = no_text r.levels c.in-Ok.found.1 c.in-Ok.ensures.given read c.in_default.not-Flat in
+    (c.in-Ok.found.0, c.in-Ok.ensures.read, inl (null.0, null.1, refl))

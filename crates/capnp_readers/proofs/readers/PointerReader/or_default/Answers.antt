@@ -1,9 +1,14 @@
+use Rattle.std.proofs.Common.{inl, inr, refl}
 use Rattle.std.proofs.lemmas.Bool.{false≢true}
-use Rattle.capnp_readers.proofs.Answering.{read_own, read_some}
+use Rattle.capnp_readers.specs.Calls.{of_pointer}
+use Rattle.capnp_readers.proofs.Answering.{read_default}
 use Rattle.capnp_readers.proofs.readers.PointerReader.or_default.Goals as goal
 
-pub returns-in-None-clause-read : goal.returns-in-None-clause-read
-returns-in-None-clause-read g c = read_own g.A.ReaderArena c.in-None.is
+pub returns-in-None : goal.returns-in-None
+returns-in-None g c = of_pointer (inl c.in-None.is) refl
 
-pub returns-else-is_null-clause-read : goal.returns-else-is_null-clause-read
-returns-else-is_null-clause-read g c = read_some g.A.ReaderArena c.in-Some.bytes c.in-Some.is (λ e. false≢true (c.if-is_null.ensures.1 e))
+pub returns-else-is_null : goal.returns-else-is_null
+returns-else-is_null g c = of_pointer (inr (λ e. false≢true (c.if-is_null.ensures.1 e))) refl
+
+pub returns-then-is_null : goal.returns-then-is_null
+returns-then-is_null g c = read_default g.A.ReaderArena c.in-Some.bytes c.in-Some.is c.default_of.ensures

@@ -12,7 +12,7 @@ use Rattle.capnp_objects.specs.Reading.{Reading, segment_read, behind, word_of}
 use Rattle.capnp_objects.specs.declared.object.Purpose.TheVariants.{Value}
 use Rattle.capnp_objects.proofs.Walked.{row_within}
 use Rattle.capnp_readers.specs.Sizes.{reading_on}
-use Rattle.capnp_readers.specs.Checking.{IsTested, Progress, progress, StartsRight, TellsStruct, TellsAll, TellsClaimed, TestsStop, RowTestsStop, TestsFail, SectionsFail, ClaimedFails, AreFoundRows, here, no_near_pointer}
+use Rattle.capnp_readers.specs.Checking.{IsTested, Progress, progress, StartsRight, TellsStruct, TellsAll, TellsClaimed, TestsStop, RowTestsStop, TestsEnd, IsUnfit, SectionsFail, ClaimedFails, AreFoundRows, here, no_near_pointer}
 use Rattle.capnp_readers.proofs.Walking.{ok_so, err_so, err_with}
 use Rattle.capnp_readers.proofs.Checks.{tested, finds_none, pointer_found, pointer_never, unplaced_never, null_found_at, empty_tells, flat_tells, struct_tells, pointers_tell, structs_tell, pointer_ends, row_ends, struct_ends, pointers_end, structs_end, pointers_room, structs_room, some_right, level_falls, place_begins, elements_begin, pointers_here, structs_here, struct_object, none_seen, row_seen, row_never, rows_unused, empties_found, still_seen, seen_now, RowDataUsed, RowPointersUsed}
 use Rattle.capnp_readers.proofs.Fails.{none_so, empty_fails, struct_fails, unplaced_fails, flat_fails, sections_fail, claimed_fails, rows_too_wide}
@@ -324,7 +324,7 @@ test_list-returns-in-Pointers-clause-failed g t c =
     let nm = to_z-of_z w32 c.less.result (search rules) in
     let there = place_begins r c.in-Pointers.start (rw nl at c.less.ensures) (pointers_here {r = r} c.in-Pointers.start c.in-Pointers.count ready object) in
     ok_so c.test_children.result c.test_children.ensures.failed (λ o h. none_so o h (λ fails. pointers_end {r = r} {from = progress c.args.head c.args.lim.now} c.in-Pointers.start c.in-Pointers.count ready object right
-    (subst (λ x. TestsFail x c.in-Pointers.count (progress (c.in-Pointers.start.at + c.in-Pointers.count) c.read_object.new.lim) c.test_children.new.lim) there (rw nm at fails))))
+    (subst (λ x. TestsEnd IsUnfit x c.in-Pointers.count (progress (c.in-Pointers.start.at + c.in-Pointers.count) c.read_object.new.lim) c.test_children.new.lim) there (rw nm at fails))))
 
 pub test_list-returns-in-Structs-clause-failed : goal.test_list-returns-in-Structs-clause-failed
 test_list-returns-in-Structs-clause-failed g t c =

@@ -77,10 +77,10 @@ returns-clause-fits g c = λ fits.
     let put : View = g.A.BuilderArena.view c.write_content.new.arena in
     let mid : View = g.A.BuilderArena.view c.clear_pointers.new.arena in
     let place : StructPlace = c.args.self.now.place in
-    let n : ℕ = word_count_all fits.0 in
+    let n : ℕ = word_count_all fits.value in
     let same : put.words ≡ with_content old.words place c.args.value.now.bits c.args.value.now.content.now = ap (λ (v : View). v.words) c.write_content.ensures in
     let long : length (segment put.words place.segment) ≡ length (segment old.words place.segment) = ap (λ (T : Segments). length (segment T place.segment)) same ∙ content_long old.words place c.args.value.now.bits c.args.value.now.content.now place.segment in
     let room : put.room place.segment ≡ old.room place.segment = ap (λ (v : View). v.room place.segment) c.write_content.ensures in
-    let written : HasOwnRoom put place.segment n = omega (arith, long, room, fits.4) in
+    let written : HasOwnRoom put place.segment n = omega (arith, long, room, fits.room) in
     let copied = rw (nl, c.from-count.ensures, c.min.ensures) at c.copy_each.ensures.fits in
-    copied (fits.0, fits.1, fits.2, fits.3, room_later n put mid place.segment c.clear_pointers.ensures.limits c.clear_pointers.ensures.only written))
+    copied (record { small = fits.small; value = fits.value; after = fits.after; is_read = fits.is_read; room = room_later n put mid place.segment c.clear_pointers.ensures.limits c.clear_pointers.ensures.only written }))

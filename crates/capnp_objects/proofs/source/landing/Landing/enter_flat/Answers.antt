@@ -3,7 +3,7 @@ use Rattle.capnp_format.specs.Segments.{Segments, Target}
 use Rattle.capnp_format.specs.Word.{element_size, list_count}
 use Rattle.capnp_objects.specs.Demands.{amplified, Meets}
 use Rattle.capnp_objects.specs.Landings.{found_target}
-use Rattle.capnp_objects.specs.Source.{source_segments}
+use Rattle.capnp_objects.specs.Reading.{source_start}
 use Rattle.capnp_objects.proofs.Landings.{entered_free, lies}
 use Rattle.capnp_objects.proofs.Parts.{extra_list, extra_flat, charge_some}
 use Rattle.capnp_objects.proofs.source.landing.Landing.enter_flat.Goals as goal
@@ -13,7 +13,7 @@ returns-in-Err-clause-refused g c = c.in-Err.ensures.refused c.args.purpose (λ 
 
 pub returns-in-Ok-clause-object : goal.returns-in-Ok-clause-object
 returns-in-Ok-clause-object g c =
-    let S : Segments = source_segments g.A.ReaderArena.segments c.args.self.source in
+    let S : Segments = (source_start g.A.ReaderArena c.args.self.source).segments in
     let a : Target = found_target c.args.self.found in
     let size : ℕ = element_size a.word in
     let some : 0 < size = omega (arith, c.requires.is_size, c.requires.some) in

@@ -2,7 +2,7 @@ use Rattle.std.proofs.Common.{◌≡◌, ◌≢◌, ◌<◌, get_or, ap, ◌∙�
 use Rattle.capnp_format.specs.Word.{kind, list_count}
 use Rattle.capnp_format.specs.Segments.{Segments, Target}
 use Rattle.capnp_objects.specs.Demands.{tag, element_words}
-use Rattle.capnp_objects.specs.Source.{source_segments}
+use Rattle.capnp_objects.specs.Reading.{source_start}
 use Rattle.capnp_objects.specs.Landings.{found_target, broken}
 use Rattle.capnp_objects.proofs.Landings.{untagged}
 use Rattle.capnp_objects.proofs.source.landing.Landing.enter_structs.Goals as goal
@@ -12,7 +12,7 @@ returns-in-Err-clause-refused g c = c.in-Err.ensures.refused c.args.purpose (λ 
 
 pub returns-then-ne-clause-refused : goal.returns-then-ne-clause-refused
 returns-then-ne-clause-refused g c =
-    let S : Segments = source_segments g.A.ReaderArena.segments c.args.self.source in
+    let S : Segments = (source_start g.A.ReaderArena c.args.self.source).segments in
     let a : Target = found_target c.args.self.found in
     let word : c.word-tag.result.0 ≡ tag S a = c.word-tag.ensures.value ∙ ap (λ ws. get_or ws c.args.self.found.start.at 0) c.args.self.held.0 in
     let other : kind c.word-tag.result.0 ≢ 0 = search rules in
@@ -21,7 +21,7 @@ returns-then-ne-clause-refused g c =
 
 pub returns-then-from-clause-refused : goal.returns-then-from-clause-refused
 returns-then-from-clause-refused g c =
-    let S : Segments = source_segments g.A.ReaderArena.segments c.args.self.source in
+    let S : Segments = (source_start g.A.ReaderArena c.args.self.source).segments in
     let a : Target = found_target c.args.self.found in
     let word : c.word-tag.result.0 ≡ tag S a = c.word-tag.ensures.value ∙ ap (λ ws. get_or ws c.args.self.found.start.at 0) c.args.self.held.0 in
     let is_tag : kind c.word-tag.result.0 ≡ 0 = search rules in

@@ -1,0 +1,41 @@
+//! Places of builders, of what stands in a message ("Structs", "Lists").
+ghost use Rattle.std.specs.Prelude.{◌≡◌, ◌+◌, ◌*◌, ◌^◌, ◌<◌};
+ghost use Rattle.capnp_builders.specs.Places.{IsAligned, list_place, struct_place};
+
+use capnp_making::existing::{ExistingList, ExistingStruct};
+use capnp_readers::readers::{ListPlace, StructPlace};
+
+/// The place of a struct that stands in a message: `StructBuilder` has it.
+///
+/// Pointers that would stand at word 2^32 or behind it, as those of no struct do, are at the last
+/// word before that.
+#[inline(always)]
+pub fn struct_place(found: ExistingStruct) -> StructPlace
+    ensures place { found.start + found.size.data_words < 2 ^ 32 → result ≡ struct_place found }
+    ensures bits { result.bits ≡ 64 * found.size.data_words }
+    ensures pointers { result.pointers ≡ found.size.pointers }
+    ensures aligned { IsAligned result }
+{
+    let data_words = u32::from(found.size.data_words);
+    StructPlace {
+        segment: found.segment,
+        byte: 8 * u64::from(found.start),
+        bits: 64 * data_words,
+        pointers_at: found.start.saturating_add(data_words),
+        pointers: found.size.pointers,
+    }
+}
+
+/// The place of a list that stands in a message: `ListBuilder` has it.
+#[inline(always)]
+pub fn list_place(found: ExistingList) -> ListPlace
+    ensures { result ≡ list_place found }
+{
+    ListPlace {
+        segment: found.segment,
+        byte: 8 * u64::from(found.start),
+        size: found.size,
+        struct_size: found.struct_size,
+        count: found.count,
+    }
+}
