@@ -9,7 +9,6 @@ pub mod ElementsLaid
 pub mod FlatRead
 pub mod LeastWidths
 pub mod ListSteps
-pub mod NearRead
 pub mod ObjectsRead
 pub mod Originals
 pub mod Padding

@@ -31,7 +31,7 @@ use Rattle.capnp_objects.proofs.Walked.{paid_none, beginning, same_place, same_s
 use Rattle.capnp_objects.specs.declared.object.Object.{Object}
 use Rattle.capnp_objects.specs.declared.object.Object.TheVariants.{Null as ObjectNull, Capability as ObjectCapability, Struct as ObjectStruct, Flat as ObjectFlat, Pointers as ObjectPointers, Structs as ObjectStructs}
 use Rattle.capnp_objects.specs.declared.object.Place.{Place}
-use Rattle.capnp_objects.specs.Objects.{near_at, IsObject, IsHeld}
+use Rattle.capnp_objects.specs.Objects.{IsObject}
 use Rattle.capnp_words.specs.declared.wire_pointer.ElementSize.{ElementSize}
 use Rattle.capnp_words.specs.Sizes.{size_number}
 use Rattle.capnp_objects.specs.declared.object.Purpose.TheVariants.{Value}
@@ -660,11 +660,6 @@ pointers_here {r} start n ready (a, o, z, six, (held, seg, at), many) = sym (seg
 
 pub structs_here : {r : Reading} {m m' : Meter} (start : Place) (size : StructSize) (n : ℕ) → IsTested r → IsObject Value r m m' (ObjectStructs start size n) → r.segment ≡ start.segment
 structs_here {r} start size n ready (a, o, z, seven, (held, seg, at), many, wide, pointers) = sym (seg ∙ (near_object r ready.near (entered_leads o)).same_segment)
-
--- A struct that is entered by the word of its pointer.
-pub struct_object : {r : Reading} {m m' : Meter} (start : Place) (size : StructSize) → kind (word_of r) ≡ 0 → IsHeld r.segments start → start.segment ≡ r.segment → Entered Value r m m' (near_at r start.at) →
-    size.data_words ≡ data_words (word_of r) → size.pointers ≡ pointer_count (word_of r) → IsObject Value r m m' (ObjectStruct start size)
-struct_object {r} start size is_struct held there o wide many = (near_at r start.at, o, is_struct, (held, there, omega arith), wide, many)
 
 -- What a word of kind list leads to is a list.
 pub lists_alone : {r : Reading} (m m' : Meter) (x : Object) → IsTested r → kind (word_of r) ≡ 1 → IsObject Value r m m' x → IsList x

@@ -11,6 +11,7 @@ pub mod Accepts
 pub mod Found
 pub mod Exactly
 pub mod Takes
+pub mod NearRead
 pub mod Checks
 pub mod Fails
 pub mod Charged

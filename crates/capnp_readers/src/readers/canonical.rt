@@ -1,7 +1,7 @@
 //! The test for canonical form, in place.
 ghost use Rattle.std.specs.Prelude.{ℕ, ◌≡◌, ◌≢◌, ◌<◌, ◌≤◌, ◌+◌, ◌*◌, ◌/◌, ◌-◌, ◌⊎◌, ◌↔◌, pred, ◌^◌, None, IsTrue, Ok, true, false, IfOk, IfErr, IfNone, OnErr, length, slice_index};
 ghost use Rattle.capnp_format.specs.Bytes.{words_of};
-ghost use Rattle.capnp_format.specs.Word.{kind};
+ghost use Rattle.capnp_format.specs.Word.{kind, element_size};
 ghost use Rattle.capnp_format.specs.Numbers.{words_for};
 ghost use Rattle.capnp_words.specs.Sizes.{size_number};
 ghost use Rattle.capnp_objects.specs.Reading.{segment_read, word_of};
@@ -10,6 +10,7 @@ ghost use Rattle.capnp_readers.specs.Readers.{reading};
 ghost use Rattle.capnp_readers.specs.Sizes.{pointers_read, reading_on};
 ghost use Rattle.capnp_readers.specs.Checking.{progress, level_refusal_name, IsFound, AreFound, IsCanonicalAt, IsTested, StartsRight, Tells, TellsAll, TellsFlat, TellsStruct, TellsRows, TellsClaimed, TestStops, TestsStop, StructTestStops, RowTestsStop, TestEnds, IsUnfit, TestsEnd, SectionsFail, RowsFail, ClaimedFails, StructTestFails, StartsWhole, IsCanonicalStruct, IsDataUsed, ArePointersUsed, head_behind};
 
+use crate::readers::sizes::{flat_words, is_of_bits};
 use crate::readers::{PointerReader, StructReader};
 use capnp_arena::arena::ReaderArena;
 use capnp_objects::object::{Object, Place};
@@ -230,10 +231,10 @@ fn test_place<A: ReaderArena>(
     if word.is_null() {
         return Ok(Some(head));
     }
-    if word.kind() == WirePointerKind::Struct {
-        test_struct(from, at, word, nesting_limit, head, lim)
-    } else {
-        test_list(from, at, word, nesting_limit, head, lim)
+    match word.kind() {
+        WirePointerKind::Struct => test_struct(from, at, word, nesting_limit, head, lim),
+        _ if is_of_bits(word) => test_near_flat(from, at, word, nesting_limit, head, lim),
+        _ => test_list(from, at, word, nesting_limit, head, lim),
     }
 }
 
@@ -334,7 +335,7 @@ fn test_sections<A: ReaderArena>(
     let data_words = u32::from(size.data_words);
     let pointers = u32::from(size.pointers);
     let first = start + data_words;
-    match test_children(from, first, pointers, nesting_limit, first + pointers, lim) {
+    match test_row(from, first, pointers, nesting_limit, first + pointers, lim) {
         Ok(Some(end)) => {
             let is_used = ends_used(from.place, start, data_words)
                 && ends_used(from.place, first, pointers);
@@ -343,6 +344,47 @@ fn test_sections<A: ReaderArena>(
         Ok(None) => Ok(None),
         Err(kind) => Err(kind),
     }
+}
+
+/// Tests the list of bits or bytes that the word at a position describes, as `test_list` does.
+#[inline(always)]
+fn test_near_flat<A: ReaderArena>(
+    from: &PointerReader<'_, A>,
+    at: u32,
+    word: WirePointer,
+    nesting_limit: i32,
+    head: u32,
+    lim: &mut ReadLimiter,
+) -> Result<Option<u32>, ErrorKind>
+    requires tested { IsTested (reading_on A.ReaderArena from.now at nesting_limit) }
+    requires there { word.0 ≡ word_of (reading_on A.ReaderArena from.now at nesting_limit) }
+    requires small { word.0 < 2 ^ 64 }
+    requires is_list { kind word.0 ≡ 1 }
+    requires of_bits { (0 < element_size word.0) × (element_size word.0 ≤ 5) }
+    ensures tells { IfOk result (Tells (reading_on A.ReaderArena from.now at nesting_limit)
+        (progress head lim.old) lim.new) }
+    ensures refused { IfErr result
+        (λ k. TestStops k (reading_on A.ReaderArena from.now at nesting_limit)
+        (progress head lim.old) lim.new) }
+    ensures failed { IfOk result (λ o.
+        IfNone o (TestEnds IsUnfit (reading_on A.ReaderArena from.now at nesting_limit)
+        (progress head lim.old) lim.new)) }
+{
+    let size = word.list_element_size();
+    let count = word.list_element_count();
+    let place = Place { at, ..from.place };
+    let words = flat_words(size, count);
+    let start = match from
+        .source
+        .read_near_flat(place, word, words, nesting_limit, lim)
+    {
+        Ok(start) => start,
+        Err(kind) => return Err(name_of_refusal(word, kind)),
+    };
+    if start != head {
+        return Ok(None);
+    }
+    Ok(test_flat(from.place.bytes, start, size, count))
 }
 
 /// Tests the list that the word at a position describes.
@@ -468,7 +510,7 @@ fn test_rows<A: ReaderArena>(
     })
 }
 
-/// Tests so many pointers of an element, one behind the other from a position on. Where there are none
+/// Tests so many pointers of a struct, one behind the other from a position on. Where there are none
 /// nothing is called.
 #[cycle(tests)]
 #[inline(always)]

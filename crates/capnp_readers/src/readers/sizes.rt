@@ -474,7 +474,7 @@ fn rows_of_object(object: Object) -> Option<Rows>
 }
 
 // Whether the elements of a list are of bits or bytes: no pointers, no structs, and not void.
-fn is_of_bits(word: WirePointer) -> bool
+pub(crate) fn is_of_bits(word: WirePointer) -> bool
     ensures { IsTrue result ↔ (0 < element_size word.0) × (element_size word.0 ≤ 5) }
 {
     !matches!(
@@ -484,7 +484,7 @@ fn is_of_bits(word: WirePointer) -> bool
 }
 
 // How many words so many elements take.
-fn flat_words(size: ElementSize, count: u32) -> u32
+pub(crate) fn flat_words(size: ElementSize, count: u32) -> u32
     requires { count < 2 ^ 29 }
     ensures { result ≡ words_for (size_number size) count }
 {

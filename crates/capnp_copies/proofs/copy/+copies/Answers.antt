@@ -19,7 +19,7 @@ use Rattle.capnp_objects.specs.Reading.{Reading, behind, segment_read, word_of, 
 use Rattle.capnp_objects.specs.declared.object.Purpose.TheVariants.{Value}
 use Rattle.capnp_readers.specs.Readers.{reading}
 use Rattle.capnp_readers.proofs.Checks.{struct_room}
-use Rattle.capnp_copies.proofs.NearRead.{struct_by_word}
+use Rattle.capnp_readers.proofs.NearRead.{struct_by_word}
 use Rattle.capnp_copies.specs.Widths.{KeepsPointers}
 use Rattle.capnp_copies.specs.Forms.{form_in}
 use Rattle.capnp_copies.proofs.FlatRead.{ok_so, err_so, one_level_in, flat_words}

@@ -16,7 +16,7 @@ use Rattle.capnp_readers.specs.Readers.{reading}
 use Rattle.capnp_copies.proofs.FlatRead.{flat_words}
 use Rattle.capnp_copies.proofs.FilledValues.{read_stops, FlatOutcome, flat_value, flat_stops}
 use Rattle.capnp_copies.proofs.Growth.{taken_so, read_stop_taken, flat_takes, flat_stop_takes}
-use Rattle.capnp_copies.proofs.NearRead.{flat_by_word}
+use Rattle.capnp_readers.proofs.NearRead.{flat_by_word}
 use Rattle.capnp_copies.proofs.copy.children.copy_near_flat.Goals as goal
 
 pub returns-in-Err-clause-refused : goal.returns-in-Err-clause-refused

@@ -14,7 +14,8 @@ use Rattle.capnp_objects.proofs.Walked.{row_within}
 use Rattle.capnp_readers.specs.Sizes.{reading_on}
 use Rattle.capnp_readers.specs.Checking.{IsTested, Progress, progress, StartsRight, TellsStruct, TellsAll, TellsClaimed, TestsStop, RowTestsStop, TestsEnd, IsUnfit, SectionsFail, ClaimedFails, AreFoundRows, here, no_near_pointer}
 use Rattle.capnp_readers.proofs.Walking.{ok_so, err_so, err_with}
-use Rattle.capnp_readers.proofs.Checks.{tested, finds_none, pointer_found, pointer_never, unplaced_never, null_found_at, empty_tells, flat_tells, struct_tells, pointers_tell, structs_tell, pointer_ends, row_ends, struct_ends, pointers_end, structs_end, pointers_room, structs_room, some_right, level_falls, place_begins, elements_begin, pointers_here, structs_here, struct_object, none_seen, row_seen, row_never, rows_unused, empties_found, still_seen, seen_now, RowDataUsed, RowPointersUsed}
+use Rattle.capnp_readers.proofs.Checks.{tested, finds_none, pointer_found, pointer_never, unplaced_never, null_found_at, empty_tells, flat_tells, struct_tells, pointers_tell, structs_tell, pointer_ends, row_ends, struct_ends, pointers_end, structs_end, pointers_room, structs_room, some_right, level_falls, place_begins, elements_begin, pointers_here, structs_here, none_seen, row_seen, row_never, rows_unused, empties_found, still_seen, seen_now, RowDataUsed, RowPointersUsed}
+use Rattle.capnp_readers.proofs.NearRead.{struct_by_word}
 use Rattle.capnp_readers.proofs.Fails.{none_so, empty_fails, struct_fails, unplaced_fails, flat_fails, sections_fail, claimed_fails, rows_too_wide}
 use Rattle.capnp_readers.proofs.readers.canonical.+tests.Goals.{test_rows-then-is_data_used, test_rows-else-is_data_used, test_rows-then-are_pointers_used, test_rows-else-are_pointers_used, test_rows-else-is_data_used-2-via-then-is_data_used-2+else-are_pointers_used-2, test_rows-else-is_data_used-2-via-else-is_data_used-2}
 use Rattle.capnp_readers.proofs.readers.canonical.+tests.Goals as goal
@@ -181,7 +182,7 @@ test_struct-returns-then-start-at-clause-tells g t c =
     let start = record c.args.from.now.place { at = c.in-Ok.start } in
     let size = c.struct_size-size.result in
     let object : IsObject Value r c.args.lim.now c.read_near_struct.new.lim (ObjectStruct start size) =
-    struct_object {r = r} start size (rw c.requires.there at c.requires.is_struct) c.args.from.now.held refl (rw nl at c.in-Ok.ensures.object) (c.struct_size-size.ensures.data_of ∙ ap data_words c.requires.there) (c.struct_size-size.ensures.pointers_of ∙ ap pointer_count c.requires.there) in
+    struct_by_word {r = r} start size (rw c.requires.there at c.requires.is_struct) c.args.from.now.held refl (rw nl at c.in-Ok.ensures.object) (c.struct_size-size.ensures.data_of ∙ ap data_words c.requires.there) (c.struct_size-size.ensures.pointers_of ∙ ap pointer_count c.requires.there) in
     let none : size.data_words + size.pointers ≡ 0 = sym c.total.ensures ∙ c.if-total-eq0.true in
     empty_tells {r = r} (progress c.args.head c.args.lim.now) start size ready object none (c.if-start-at.true ∙ sym (ap (λ n. cond (nat_eq n 0) c.args.at c.args.head) none))
 
@@ -193,7 +194,7 @@ test_struct-returns-clause-tells g t c =
     let start = record c.args.from.now.place { at = c.in-Ok.start } in
     let size = c.struct_size-size.result in
     let object : IsObject Value r c.args.lim.now c.read_near_struct.new.lim (ObjectStruct start size) =
-    struct_object {r = r} start size (rw c.requires.there at c.requires.is_struct) c.args.from.now.held refl (rw nl at c.in-Ok.ensures.object) (c.struct_size-size.ensures.data_of ∙ ap data_words c.requires.there) (c.struct_size-size.ensures.pointers_of ∙ ap pointer_count c.requires.there) in
+    struct_by_word {r = r} start size (rw c.requires.there at c.requires.is_struct) c.args.from.now.held refl (rw nl at c.in-Ok.ensures.object) (c.struct_size-size.ensures.data_of ∙ ap data_words c.requires.there) (c.struct_size-size.ensures.pointers_of ∙ ap pointer_count c.requires.there) in
     let some : 0 < size.data_words + size.pointers = omega (arith, c.total.ensures, c.if-total-eq0.false) in
     let nm = to_z-of_z w32 c.less.result (search rules) in
     let there = place_begins r start (rw nl at c.less.ensures) refl in
@@ -208,7 +209,7 @@ test_struct-returns-clause-refused g t c =
     let start = record c.args.from.now.place { at = c.in-Ok.start } in
     let size = c.struct_size-size.result in
     let object : IsObject Value r c.args.lim.now c.read_near_struct.new.lim (ObjectStruct start size) =
-    struct_object {r = r} start size (rw c.requires.there at c.requires.is_struct) c.args.from.now.held refl (rw nl at c.in-Ok.ensures.object) (c.struct_size-size.ensures.data_of ∙ ap data_words c.requires.there) (c.struct_size-size.ensures.pointers_of ∙ ap pointer_count c.requires.there) in
+    struct_by_word {r = r} start size (rw c.requires.there at c.requires.is_struct) c.args.from.now.held refl (rw nl at c.in-Ok.ensures.object) (c.struct_size-size.ensures.data_of ∙ ap data_words c.requires.there) (c.struct_size-size.ensures.pointers_of ∙ ap pointer_count c.requires.there) in
     let some : 0 < size.data_words + size.pointers = omega (arith, c.total.ensures, c.if-total-eq0.false) in
     let nm = to_z-of_z w32 c.less.result (search rules) in
     let there = place_begins r start (rw nl at c.less.ensures) refl in
@@ -250,7 +251,7 @@ test_struct-returns-else-start-at-clause-failed g t c =
     let start = record c.args.from.now.place { at = c.in-Ok.start } in
     let size = c.struct_size-size.result in
     let object : IsObject Value r c.args.lim.now c.read_near_struct.new.lim (ObjectStruct start size) =
-    struct_object {r = r} start size (rw c.requires.there at c.requires.is_struct) c.args.from.now.held refl (rw nl at c.in-Ok.ensures.object) (c.struct_size-size.ensures.data_of ∙ ap data_words c.requires.there) (c.struct_size-size.ensures.pointers_of ∙ ap pointer_count c.requires.there) in
+    struct_by_word {r = r} start size (rw c.requires.there at c.requires.is_struct) c.args.from.now.held refl (rw nl at c.in-Ok.ensures.object) (c.struct_size-size.ensures.data_of ∙ ap data_words c.requires.there) (c.struct_size-size.ensures.pointers_of ∙ ap pointer_count c.requires.there) in
     let none : size.data_words + size.pointers ≡ 0 = sym c.total.ensures ∙ c.if-total-eq0.true in
     empty_fails {r = r} {from = progress c.args.head c.args.lim.now} start size ready object none c.if-start-at.false
 
@@ -266,7 +267,7 @@ test_struct-returns-then-start-head-clause-tells g t c =
     let start = record c.args.from.now.place { at = c.in-Ok.start } in
     let size = c.struct_size-size.result in
     let object : IsObject Value r c.args.lim.now c.read_near_struct.new.lim (ObjectStruct start size) =
-    struct_object {r = r} start size (rw c.requires.there at c.requires.is_struct) c.args.from.now.held refl (rw nl at c.in-Ok.ensures.object) (c.struct_size-size.ensures.data_of ∙ ap data_words c.requires.there) (c.struct_size-size.ensures.pointers_of ∙ ap pointer_count c.requires.there) in
+    struct_by_word {r = r} start size (rw c.requires.there at c.requires.is_struct) c.args.from.now.held refl (rw nl at c.in-Ok.ensures.object) (c.struct_size-size.ensures.data_of ∙ ap data_words c.requires.there) (c.struct_size-size.ensures.pointers_of ∙ ap pointer_count c.requires.there) in
     let some : 0 < size.data_words + size.pointers = omega (arith, c.total.ensures, c.if-total-eq0.false) in
     unplaced_never r c.args.lim.now c.read_near_struct.new.lim c.args.head (ObjectStruct start size) ready object (λ right. c.if-start-head.true (head_right c.args.at some right))
 
@@ -278,7 +279,7 @@ test_struct-returns-then-start-head-clause-failed g t c =
     let start = record c.args.from.now.place { at = c.in-Ok.start } in
     let size = c.struct_size-size.result in
     let object : IsObject Value r c.args.lim.now c.read_near_struct.new.lim (ObjectStruct start size) =
-    struct_object {r = r} start size (rw c.requires.there at c.requires.is_struct) c.args.from.now.held refl (rw nl at c.in-Ok.ensures.object) (c.struct_size-size.ensures.data_of ∙ ap data_words c.requires.there) (c.struct_size-size.ensures.pointers_of ∙ ap pointer_count c.requires.there) in
+    struct_by_word {r = r} start size (rw c.requires.there at c.requires.is_struct) c.args.from.now.held refl (rw nl at c.in-Ok.ensures.object) (c.struct_size-size.ensures.data_of ∙ ap data_words c.requires.there) (c.struct_size-size.ensures.pointers_of ∙ ap pointer_count c.requires.there) in
     let some : 0 < size.data_words + size.pointers = omega (arith, c.total.ensures, c.if-total-eq0.false) in
     struct_fails {r = r} {from = progress c.args.head c.args.lim.now} start size ready object some c.if-start-head.true
 
@@ -290,7 +291,7 @@ test_struct-returns-clause-failed g t c =
     let start = record c.args.from.now.place { at = c.in-Ok.start } in
     let size = c.struct_size-size.result in
     let object : IsObject Value r c.args.lim.now c.read_near_struct.new.lim (ObjectStruct start size) =
-    struct_object {r = r} start size (rw c.requires.there at c.requires.is_struct) c.args.from.now.held refl (rw nl at c.in-Ok.ensures.object) (c.struct_size-size.ensures.data_of ∙ ap data_words c.requires.there) (c.struct_size-size.ensures.pointers_of ∙ ap pointer_count c.requires.there) in
+    struct_by_word {r = r} start size (rw c.requires.there at c.requires.is_struct) c.args.from.now.held refl (rw nl at c.in-Ok.ensures.object) (c.struct_size-size.ensures.data_of ∙ ap data_words c.requires.there) (c.struct_size-size.ensures.pointers_of ∙ ap pointer_count c.requires.there) in
     let some : 0 < size.data_words + size.pointers = omega (arith, c.total.ensures, c.if-total-eq0.false) in
     let nm = to_z-of_z w32 c.less.result (search rules) in
     let there = place_begins r start (rw nl at c.less.ensures) refl in

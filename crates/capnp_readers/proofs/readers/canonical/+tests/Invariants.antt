@@ -18,7 +18,7 @@ abbrev pub decreases-test_children : goal.decreases-test_children
 decreases-test_children g l = 6 * levels l.nesting_limit + 2
 
 abbrev pub decreases-test_sections : goal.decreases-test_sections
-decreases-test_sections g l = 6 * levels l.nesting_limit + 3
+decreases-test_sections g l = 6 * levels l.nesting_limit + 4
 
 abbrev pub decreases-test_row : goal.decreases-test_row
 decreases-test_row g l = 6 * levels l.nesting_limit + 3
