@@ -10,6 +10,13 @@ from trees import segments_of, value
 WORDS = 1, 2, 3, 7
 SEGMENTS = range(1, 8)
 REFUSED = 'AllocationFailed'
+STRUCT = '0000000001000100070000000000000001000000120000006100000000000000'
+# What is built in a scratch space alone: a text, a struct and its own, and a canonical copy of these.
+ALONE = {
+    '-:st,48656c6c6f2c20576f726c6421': 'ok 010000007200000048656c6c6f2c20576f726c6421000000',
+    '-:is,1,1;-:sf,2,0,7;c0:st,61': f'ok;ok;ok {STRUCT}',
+    f'-:cf,{STRUCT},64,8,1': f'ok {STRUCT}',
+}
 # Edits that leave null where they are refused memory; the others leave what was there.
 MAKING = {'is', 'il', 'isl', 'it', 'id', 'st', 'sd', 'cf', 'ss', 'sl'}
 
@@ -151,6 +158,13 @@ def in_scratch(program, edits, builds, counts):
     """Lists of edits and of builder calls, with segments refused, and the first one on the heap and in scratch space."""
     lent(program, 'edits', lists(edits), counts)
     lent(program, 'builds', builder_calls(builds), counts)
+
+
+def alone(program, counts):
+    """Whether a scratch space of 1,024 words is enough for a small message where every other segment is refused."""
+    lines = [f'0/1024 1 {edits}' for edits in ALONE]
+    for line, wanted, got in zip(lines, ALONE.values(), answers([*program, 'edits'], lines)):
+        counts.told(got == wanted, 'not built in scratch space alone', line, wanted, got)
 
 
 def built(program, paths, counts):

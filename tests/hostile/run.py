@@ -36,6 +36,7 @@ def main():
         ('devices and memory that fail', lambda: altered.failing([options.runs], vectors, total)),
         ('edits with segments refused', lambda: growth.edited([options.rows], edits, total)),
         ('edits and builder calls in scratch space', lambda: growth.in_scratch([options.rows], edits, builds, total)),
+        ('edits in scratch space alone', lambda: growth.alone([options.rows], total)),
         ('levels', lambda: growth.deep([options.rows], total)),
         ('builder calls with segments refused', lambda: growth.built([options.rows], builds, total)),
         ('segments asked for with little memory', lambda: scarce.output([options.runs], [options.rows], total)),

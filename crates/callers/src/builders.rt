@@ -1,27 +1,30 @@
 //! Callers of builders that know their contracts alone, generic over the arena: they show that a
 //! message's value can be followed from call to call, whether a call is granted or refused.
-ghost use Rattle.std.specs.Prelude.{◌≡◌, ◌<◌, length, IfOk, OnOk, OnErr};
+ghost use Rattle.std.specs.Prelude.{◌≡◌, ◌<◌, ◌≤◌, ◌+◌, ◌^◌, ◌∷◌, [], length, IsOk, IsOkAnd, IfOk, OnOk, OnErr};
 ghost use Rattle.capnp_making.specs.Makes.{call_at};
 ghost use Rattle.capnp_builders.specs.Places.{IsStructOf};
 ghost use Rattle.capnp_making.specs.Stored.{Puts};
 ghost use Rattle.capnp_readers.specs.Readers.{IsStructPlace};
 ghost use Rattle.capnp_format.specs.Bytes.{message};
 ghost use Rattle.capnp_format.specs.Forest.{IsForest};
-ghost use Rattle.capnp_format.specs.Segments.{IsPlace};
+ghost use Rattle.capnp_format.specs.Numbers.{words_for};
+ghost use Rattle.capnp_format.specs.Segments.{segment, IsPlace};
 ghost use Rattle.capnp_format.specs.Tree.{Tree, Null, Struct};
 ghost use Rattle.capnp_making.specs.Made.{words_of_zero, nulls, zero_struct};
 ghost use Rattle.capnp_making.specs.Path.{put_tree};
 ghost use Rattle.callers.specs.Meaning.{MeansTheSame, AreReadBack};
+ghost use Rattle.callers.specs.Room.{IsMadeFirst};
 
 use capnp_arena::arena::{
     Allocator, BuilderArena, BuilderArenaImpl, OutputSegments, ReaderArena, ReaderArenaImpl,
-    ReaderOptions,
+    ReaderOptions, ScratchSpaceHeapAllocator,
 };
-use capnp_builders::builders::PointerBuilder;
+use capnp_builders::builders::{PointerBuilder, StructBuilder};
 use capnp_edits::edit::{Edit, apply_all};
 use capnp_readers::readers::StructPlace;
 use capnp_words::error::ErrorKind;
 use capnp_words::wire_pointer::StructSize;
+use std::alloc::Global;
 
 /// How far `two_structs` came.
 #[derive(Clone, Copy, Debug, PartialEq, Eq)]
@@ -124,4 +127,90 @@ pub fn edited<'a, L: Allocator>(
 {
     apply_all(&mut *built, edits, outcomes);
     read_back(built)
+}
+
+/// Makes the root a struct, of at least one word.
+fn root_with_room<A: BuilderArena>(
+    arena: &mut A,
+    size: StructSize,
+) -> Result<StructPlace, ErrorKind>
+    requires place { IsPlace (A.view arena.old).words 0 0 }
+    requires some { 0 < size.data_words + size.pointers }
+    ensures leads { IfOk result
+        (IsStructOf (call_at 0 0 (A.view arena.old) (A.view arena.new)) size) }
+    ensures fits { length (segment (A.view arena.old).words 0)
+        + (size.data_words + size.pointers) ≤ (A.view arena.old).room 0
+        → IsOkAnd result (IsMadeFirst (A.view arena.old) (A.view arena.new)
+        (size.data_words + size.pointers)) }
+{
+    let mut root = PointerBuilder::get_root(arena);
+    root.put_struct(size)
+}
+
+/// Makes the first pointer of a struct a text.
+fn text_with_room<A: BuilderArena>(
+    arena: &mut A,
+    place: StructPlace,
+    text: &[u8],
+) -> Result<(), ErrorKind>
+    requires inside { IsStructPlace (A.view arena.old).words place }
+    requires some { 0 < place.pointers }
+    requires few { length text.now + 1 < 2 ^ 29 }
+    ensures fits { length (segment (A.view arena.old).words place.segment)
+        + words_for 2 (length text.now + 1) ≤ (A.view arena.old).room place.segment
+        → IsOk result }
+    ensures inside { OnOk result (IsStructPlace (A.view arena.new).words place) }
+{
+    let mut field = PointerBuilder {
+        arena,
+        segment: place.segment,
+        at: place.pointers_at,
+    };
+    field.set_text(text)
+}
+
+/// Makes the root a struct of a text and a number. It isn't refused where segment 0 has room for
+/// the words of all.
+pub fn text_and_number<A: BuilderArena>(
+    arena: &mut A,
+    text: &[u8],
+    number: u64,
+) -> Result<(), ErrorKind>
+    requires place { IsPlace (A.view arena.old).words 0 0 }
+    requires few { length text.now + 1 < 2 ^ 29 }
+    ensures { length (segment (A.view arena.old).words 0) + (2 + words_for 2 (length text.now + 1))
+        ≤ (A.view arena.old).room 0 → IsOk result }
+{
+    let size = StructSize {
+        data_words: 1,
+        pointers: 1,
+    };
+    let place = root_with_room(arena, size)?;
+    text_with_room(arena, place, text)?;
+    let mut builder = StructBuilder { arena, place };
+    builder.set_data_field::<u64>(0, number);
+    Ok(())
+}
+
+/// Takes the word of the root in an empty segment, which has room for it.
+fn root_word<A: BuilderArena>(arena: &mut A)
+    requires empty { (A.view arena.old).words ≡ [] ∷ [] }
+    requires room { 1 ≤ (A.view arena.old).room 0 }
+    ensures words { (A.view arena.new).words ≡ (0 ∷ []) ∷ [] }
+    ensures room { (A.view arena.new).room 0 ≡ (A.view arena.old).room 0 }
+{
+    let _root = arena.allocate(0, 1);
+}
+
+/// The same in an array of four words on the stack, which is lent as scratch space. It takes no
+/// memory, so it is never refused for want of it.
+pub fn built_on_the_stack(alloc: Global, number: u64) -> Result<(), ErrorKind>
+    ensures { IsOk result }
+{
+    let mut scratch = [0u8; 32];
+    let allocator = ScratchSpaceHeapAllocator::new(alloc, &mut scratch, 0);
+    let mut arena = BuilderArenaImpl::new(alloc, allocator);
+    arena.allocate_segment(4)?;
+    root_word(&mut arena);
+    text_and_number(&mut arena, b"Hello", number)
 }

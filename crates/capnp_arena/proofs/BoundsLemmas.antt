@@ -39,6 +39,17 @@ module _ {S : Type 0} (g : Ghosts S) where
   pub bounded_taken : (rows : List (Row S g)) (i amount : ℕ) (old new : Row S g) → old ≡ get_or rows i old → capacity g new ≡ capacity g old → new.used ≡ old.used + amount → new.bound ≡ old.bound → HasBounds g rows → HasBounds g (set rows i new)
   bounded_taken rows i amount old new e size used same h = bounded_set rows i old new e (omega (arith, size, used)) same h
 
+  -- the same of a row that is named by its number
+  pub bounded_over : (rows : List (Row S g)) (i : ℕ) (old new : Row S g) → old ≡ get_or rows i old → capacity g new ≡ capacity g (get_or rows i old) → new.used ≡ (get_or rows i old).used → new.bound ≡ (get_or rows i old).bound →
+      HasBounds g rows → HasBounds g (set rows i new)
+  bounded_over rows i old new e size used same h =
+      bounded_same rows i old new e (size ∙ ap (capacity g) (sym e)) (used ∙ ap (λ (q : Row S g). q.used) (sym e)) (same ∙ ap (λ (q : Row S g). q.bound) (sym e)) h
+
+  pub bounded_grown : (rows : List (Row S g)) (i amount : ℕ) (old new : Row S g) → old ≡ get_or rows i old → capacity g new ≡ capacity g (get_or rows i old) → new.used ≡ (get_or rows i old).used + amount →
+      new.bound ≡ (get_or rows i old).bound → HasBounds g rows → HasBounds g (set rows i new)
+  bounded_grown rows i amount old new e size used same h =
+      bounded_taken rows i amount old new e (size ∙ ap (capacity g) (sym e)) (used ∙ ap (λ (q : Row S g). q.used + amount) (sym e)) (same ∙ ap (λ (q : Row S g). q.bound) (sym e)) h
+
   -- a row behind the others
   rooms_small : (rows : List (Row S g)) (k : ℕ) → get_or (rooms g rows) k 0 ≤ max_segment_words
   rooms_small [] k = omega arith

@@ -1,5 +1,5 @@
 -- The rows of a builder arena: one read, one changed, one more.
-use Rattle.std.proofs.Common.{◌≡◌, ℕ, ◌+◌, ◌/◌, ◌<◌, ◌≤◌, List, [], ◌∷◌, zero, suc, ◌++◌, length, get_or, set, take, refl, sym, ap, ◌∙◌, arith, slice_get, Some, ◌^◌}
+use Rattle.std.proofs.Common.{◌≡◌, ℕ, ◌+◌, ◌*◌, ◌/◌, ◌<◌, ◌≤◌, List, [], ◌∷◌, zero, suc, ◌++◌, length, get_or, set, take, refl, sym, ap, ◌∙◌, arith, slice_get, Some, ◌^◌}
 use Rattle.capnp_format.specs.Bytes.{words_of, message}
 use Rattle.capnp_format.specs.Segments.{segment}
 use Rattle.capnp_format.proofs.WordsOf.{words}
@@ -94,6 +94,12 @@ module _ {S : Type 0} (g : Ghosts S) where
       go [] k s e = cc
       go (r ∷ rows) zero s e = let same : allocated g r ≡ s = cc in omega (arith, ap length same, allocated_whole g r, row_small r)
       go (r ∷ rows) (suc k) s e = go rows k s e
+
+  -- what a segment that is read has, by its number
+  pub shown_whole : (rows : List (Row S g)) (id : ℕ) (s : List ℕ) → slice_get (shown g rows) id ≡ Some s → length s ≡ 8 * length (segment (message (shown g rows)) id)
+  shown_whole [] id s e = cc
+  shown_whole (r ∷ rows) zero s e = let same : allocated g r ≡ s = cc in omega (arith, ap length same, allocated_whole g r, row_words r)
+  shown_whole (r ∷ rows) (suc id) s e = shown_whole rows id s e
 
 pub ruleset reading = (segment_row, allocated_whole, row_words, length_shown)
 

@@ -34,7 +34,7 @@ module _ {S : Type 0} (g : Ghosts S) where
   content_over : (r : Row S g) (ws : List ℕ) → g.content (with_allocated g r ws).segment ≡ with_front (8 * r.used) (g.content r.segment) ws
   content_over r ws = g.holds r.segment (with_front (8 * r.used) (g.content r.segment) ws) (length-with_front (8 * r.used) (g.content r.segment) ws r.clear.0)
 
-  over : (r : Row S g) (ws : List ℕ) → length ws ≡ length (allocated g r) → allocated g (with_allocated g r ws) ≡ ws
+  pub over : (r : Row S g) (ws : List ℕ) → length ws ≡ length (allocated g r) → allocated g (with_allocated g r ws) ≡ ws
   over r ws l = ap (take (8 * r.used)) (content_over r ws) ∙ front_taken (8 * r.used) (g.content r.segment) ws (l ∙ allocated_whole r)
 
   pub same_capacity : (r : Row S g) (ws : List ℕ) → capacity g (with_allocated g r ws) ≡ capacity g r

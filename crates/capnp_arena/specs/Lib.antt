@@ -2,11 +2,14 @@ pub mod Allocations
 pub mod Bounds
 pub mod Checks
 pub mod Heap
+pub mod Kept
 pub mod Lent
 pub mod Limits
+pub mod Listed
 pub mod Output
 pub mod Room
 pub mod Row
+pub mod Rows
 pub mod Scratch
 pub mod Taking
 pub mod View

@@ -1,5 +1,5 @@
 -- The segments of a builder arena, by their rows. The lemmas stand here since a law of a trait may cite nothing else.
-use Rattle.std.specs.Prelude.{ℕ, List, ◌*◌, ◌/◌, ◌≡◌, ◌<◌, ◌≤◌, ◌-◌, ◌++◌, ◌∷◌, [], length, take, drop, map, replicate, slice_index_or, slice_get, Option, Some, None}
+use Rattle.std.specs.Prelude.{ℕ, Bool, true, false, List, ◌*◌, ◌/◌, ◌≡◌, ◌<◌, ◌≤◌, ◌-◌, ◌++◌, ◌∷◌, [], length, take, drop, map, replicate, slice_index_or, slice_get, Option, Some, None}
 use Rattle.std.specs.Vec.{with_item}
 use Rattle.std.specs.Global.{Vec}
 use Rattle.std.proofs.Common.{arith, refl, sym, ap, ◌∙◌, subst, length-take, length-set}
@@ -22,6 +22,11 @@ front_row used bytes ws row =
     let l = length-with_front (8 * used) bytes ws row.0 in
     (omega (arith, row.0, l), omega (arith, row.1, l), drop-with_front (8 * used) bytes ws ∙ row.2 ∙ ap (λ n. replicate (n - 8 * used) 0) (sym l))
 
+-- how many rows there can be beside the first: none, where that isn't there
+abbrev pub most_others : Bool → ℕ
+most_others false = 0
+most_others true = max_segments - 1
+
 module _ {S : Type 0} (g : Ghosts S) where
   -- the allocated words of a row, as bytes
   abbrev pub allocated : Row S g → List ℕ
@@ -30,6 +35,11 @@ module _ {S : Type 0} (g : Ghosts S) where
   -- how many words a row can hold
   abbrev pub capacity : Row S g → ℕ
   capacity r = length (g.content r.segment) / 8
+
+  -- the first row, where it is there, and the others
+  abbrev pub with_first : Bool → Row S g → List (Row S g) → List (Row S g)
+  with_first false first others = []
+  with_first true first others = first ∷ others
 
   -- the allocated words of each segment
   abbrev pub shown : List (Row S g) → List (List ℕ)
@@ -63,9 +73,9 @@ module _ {S : Type 0} (g : Ghosts S) where
   abbrev pub with_row : Vec (Row S g) → ℕ → List ℕ → Vec (Row S g)
   with_row v id ws = with_found v id ws (slice_get v.items id)
 
-  pub few_with_row : (v : Vec (Row S g)) (id : ℕ) (ws : List ℕ) → length v.items ≤ max_segments → length (with_row v id ws).items ≤ max_segments
-  few_with_row v id ws few = go (slice_get v.items id)
+  pub few_with_row : (v : Vec (Row S g)) (id : ℕ) (ws : List ℕ) (most : ℕ) → length v.items ≤ most → length (with_row v id ws).items ≤ most
+  few_with_row v id ws most few = go (slice_get v.items id)
     where
-      go : (r : Option (Row S g)) → length (with_found v id ws r).items ≤ max_segments
+      go : (r : Option (Row S g)) → length (with_found v id ws r).items ≤ most
       go (Some q) = omega (arith, few, length-set v.items id (with_allocated q ws))
       go None = few

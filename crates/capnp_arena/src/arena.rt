@@ -5,6 +5,7 @@ mod bounds;
 mod builder_arena;
 mod builder_arena_impl;
 mod heap_allocator;
+mod listed;
 mod null_allocator;
 mod null_arena;
 mod output_segments;
@@ -12,6 +13,7 @@ mod reader_arena;
 mod reader_arena_impl;
 mod reader_segments;
 mod row;
+mod rows;
 mod scratch_allocator;
 
 pub use allocator::{Allocator, Segment};

@@ -1,5 +1,5 @@
 //! The memory of a message that is built, and its words once it is built.
-ghost use Rattle.std.specs.Prelude.{◌≤◌};
+ghost use Rattle.std.specs.Prelude.{◌≡◌, ◌≤◌, true};
 ghost use Rattle.capnp_arena.specs.Allocations.{max_segment_words};
 
 use crate::output::Output;
@@ -79,6 +79,14 @@ pub struct LimitedScratch<'a> {
 
 impl<'a> Allocator for LimitedScratch<'a> {
     type Segment = ScratchSegment<&'a mut [u8]>;
+
+    ghost first_in_arena = { true };
+
+    fn keeps_first_in_arena() -> bool
+        ensures { result ≡ true }
+    {
+        true
+    }
 
     ghost refusals = { λ a. a.refused };
 

@@ -1,5 +1,5 @@
 //! An allocator that refuses memory where a test wants it.
-ghost use Rattle.std.specs.Prelude.{◌≡◌};
+ghost use Rattle.std.specs.Prelude.{◌≡◌, false};
 
 use capnp_arena::arena::{Allocator, HeapAllocator, HeapSegment, MAX_SEGMENT_WORDS, Segment};
 use capnp_words::error::ErrorKind;
@@ -74,6 +74,12 @@ impl<'a> TestAllocator<'a> {
 
 impl Allocator for TestAllocator<'_> {
     type Segment = HeapSegment;
+
+    fn keeps_first_in_arena() -> bool
+        ensures { result ≡ false }
+    {
+        false
+    }
 
     ghost refusals = { λ a. a.refused };
 

@@ -51,6 +51,10 @@ impl NotingAllocator {
 impl Allocator for NotingAllocator {
     type Segment = HeapSegment;
 
+    fn keeps_first_in_arena() -> bool {
+        false
+    }
+
     ghost refusals = { λ a. a.refused };
 
     ghost offers = { λ a. ⟦<HeapAllocator as Allocator>⟧.offers a.heap };

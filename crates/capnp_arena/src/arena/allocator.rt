@@ -5,6 +5,7 @@ ghost use Rattle.capnp_arena.specs.Allocations.{IsFresh, IsClearFrom, one_more, 
 ghost use Rattle.capnp_words.specs.declared.error.ErrorKind.TheVariants.{AllocationFailed, MessageTooLarge};
 
 use capnp_words::error::ErrorKind;
+use std::alloc::Global;
 
 /// The bytes of a segment, which never change their number.
 pub trait Segment {
@@ -13,6 +14,10 @@ pub trait Segment {
     ghost with_content: { Self → List ℕ → Self };
 
     ghost holds: { (s : Self) (w : List ℕ) → length w ≡ length (content s) → content (with_content s w) ≡ w };
+
+    /// A segment of no bytes, for which no memory is taken.
+    fn empty(alloc: Global) -> Self
+        ensures { content result ≡ [] };
 
     /// All its bytes.
     fn bytes(&self) -> &[u8]
@@ -29,6 +34,16 @@ pub trait Segment {
 pub trait Allocator: Drop {
     /// Goes back by `deallocate_segment`. It may be dropped where its allocator isn't at hand.
     type Segment: Segment + Drop;
+
+    // Whether an arena keeps the row of its first segment in itself. Where an allocator doesn't say,
+    // it doesn't.
+    ghost first_in_arena: { Bool } = { false };
+
+    /// Whether an arena keeps the row of its first segment, what it knows of it, in itself, and not in
+    /// a list with the others. Then that segment takes memory only where the allocator does, and each
+    /// access asks whether it is the first. Always the same for an allocator.
+    fn keeps_first_in_arena() -> bool
+        ensures { result ≡ first_in_arena };
 
     // How often memory was refused, up to the greatest u64.
     ghost refusals: { Self → ℕ };

@@ -77,7 +77,7 @@ fn lower<S: Segment>(rows: &mut [Row<S>], at: usize)
 
 /// The first row that has room for so many words more, by the bounds.
 #[inline(never)]
-fn first_by_bounds<S: Segment>(rows: &mut [Row<S>], amount: u32) -> Option<u32>
+pub(crate) fn first_by_bounds<S: Segment>(rows: &mut [Row<S>], amount: u32) -> Option<u32>
     requires few { length rows.old ≤ max_segments }
     requires bounded { HasBounds S.Segment rows.old }
     ensures fit { IfSome result (λ k. IsFirstFit (view_of_rows S.Segment rows.old) amount k) }

@@ -1,25 +1,28 @@
 //! The arena of a message that is built.
 ghost use Rattle.std.below.core.specs.declared.int.i32.TheConstants.{MAX};
-ghost use Rattle.std.specs.Prelude.{◌≡◌, ◌≢◌, ◌⊎◌, ◌<◌, ◌≤◌, ◌+◌, ◌*◌, ◌/◌, ◌^◌, ◌↔◌, ◌++◌, ◌∷◌, [], ℕ, ℤ, pos, false, refl, length, map, replicate, Some, None, IsTrue, IsSome, IsNone, IfSome, IsOk, IfOk, OnOk, OnErr, IfErr, slice_get};
+ghost use Rattle.std.specs.Prelude.{◌≡◌, ◌⊎◌, ◌<◌, ◌≤◌, ◌+◌, ◌*◌, ◌/◌, ◌^◌, ◌↔◌, ◌++◌, ◌∷◌, [], ℕ, ℤ, pos, false, refl, length, map, replicate, Some, None, IsTrue, IsSome, IsNone, IfSome, IsOk, IfOk, OnOk, OnErr, IfErr, slice_get};
 ghost use Rattle.capnp_format.specs.Bytes.{message};
-ghost use Rattle.capnp_format.specs.Segments.{segment, words_at};
+ghost use Rattle.capnp_format.specs.Segments.{segment};
 ghost use Rattle.capnp_words.specs.declared.error.ErrorKind.TheVariants.{AllocationFailed, InvalidSegmentId, MessageTooLarge};
 ghost use Rattle.capnp_arena.specs.Allocations.{IsFresh, max_segments, max_segment_words, one_more};
-ghost use Rattle.capnp_arena.specs.Bounds.{HasBounds, bounded_with_row};
 ghost use Rattle.capnp_arena.specs.View.{view_of, same_room};
 ghost use Rattle.capnp_arena.specs.Limits.{IsSmall};
 ghost use Rattle.capnp_arena.specs.Output.{output_bytes, is_single};
 ghost use Rattle.capnp_arena.specs.Room.{rows_within, rows_small};
-ghost use Rattle.capnp_arena.specs.Row.{GainsRow, shown, capacity_at, with_row, few_with_row};
-ghost use Rattle.capnp_arena.specs.Lent.{with_row_shown, with_row_capacity};
+ghost use Rattle.capnp_arena.specs.Row.{GainsRow, shown, capacity_at};
+ghost use Rattle.capnp_arena.specs.Kept.{arena_rows, listed_with_bytes, apart_with_bytes, kept_shown, kept_capacity};
+ghost use Rattle.capnp_arena.specs.Rows.{all};
+ghost use Rattle.capnp_arena.specs.Checks.{total_words};
 ghost use Rattle.capnp_arena.specs.Taking.{IsFull, IsFirstFit, IsAllocationRefusal, SameRoomBelow, with_another};
-ghost use Rattle.capnp_arena.specs.Written.{with_more, with_words};
+ghost use Rattle.capnp_arena.specs.Written.{with_more};
 
 use crate::arena::builder_arena::sealed::Closed;
+use crate::arena::listed::Listed;
 use crate::arena::row::Row;
+use crate::arena::rows::{Place, Rows};
 use crate::arena::{
     Allocator, BuilderArena, MAX_SEGMENTS, NullAllocator, OutputSegments, ReaderArena, Segment,
-    SegmentId, bounds,
+    SegmentId,
 };
 use capnp_words::error::ErrorKind;
 use std::alloc::Global;
@@ -30,9 +33,10 @@ use std::alloc::Global;
 pub struct BuilderArenaImpl<A: Allocator> {
     alloc: Global,
     allocator: A,
-    rows: Vec<Row<A::Segment>>,
-    ghost few: { length rows.items ≤ max_segments },
-    ghost bounded: { HasBounds A.Segment.Segment rows.items },
+    /// All rows, where the allocator doesn't say that the first stands in the arena.
+    listed: Listed<A::Segment>,
+    /// All rows, where it does.
+    apart: Rows<A::Segment>,
 }
 
 /// Gives the segment of a row back to the allocator.
@@ -48,38 +52,96 @@ fn deallocate<A: Allocator>(allocator: &mut A, row: Row<A::Segment>)
     allocator.deallocate_segment(segment, used);
 }
 
-/// Gives each segment back to the allocator once, in order of number.
-fn give_back<A: Allocator>(allocator: &mut A, mut rows: Vec<Row<A::Segment>>)
+/// Gives the segment of each row of a list back to the allocator once, in order of number.
+#[inline(always)]
+fn give_back_list<A: Allocator>(allocator: &mut A, mut rows: Vec<Row<A::Segment>>)
     ensures refusals { A.refusals allocator.new ≡ A.refusals allocator.old }
     ensures offers { A.offers allocator.new ≡ A.offers allocator.old }
 {
-    rows.reverse();
+    if rows.len() > 1 {
+        rows.reverse();
+    }
     while let Some(row) = rows.pop() {
         deallocate(allocator, row);
     }
     rows.destroy_empty();
 }
 
+/// The same for the rows behind a first one that stands apart, of which most messages have none.
+#[inline(never)]
+fn give_back_others<A: Allocator>(allocator: &mut A, rows: Vec<Row<A::Segment>>)
+    ensures refusals { A.refusals allocator.new ≡ A.refusals allocator.old }
+    ensures offers { A.offers allocator.new ≡ A.offers allocator.old }
+{
+    if rows.is_empty() {
+        rows.destroy_empty();
+    } else {
+        give_back_list(allocator, rows);
+    }
+}
+
+/// The same for all rows where the first stands apart.
+#[inline(always)]
+fn give_back_apart<A: Allocator>(allocator: &mut A, rows: Rows<A::Segment>)
+    ensures refusals { A.refusals allocator.new ≡ A.refusals allocator.old }
+    ensures offers { A.offers allocator.new ≡ A.offers allocator.old }
+{
+    let Rows {
+        first,
+        there,
+        others,
+    } = rows;
+    if there {
+        deallocate(allocator, first);
+        give_back_others(allocator, others);
+    } else {
+        let Row {
+            segment,
+            used: _,
+            bound: _,
+        } = first;
+        drop(segment);
+        others.destroy_empty();
+    }
+}
+
+/// Gives each segment back to the allocator once, in order of number. Of one of the two kinds
+/// there are none.
+fn give_back<A: Allocator>(allocator: &mut A, listed: Listed<A::Segment>, apart: Rows<A::Segment>)
+    ensures refusals { A.refusals allocator.new ≡ A.refusals allocator.old }
+    ensures offers { A.offers allocator.new ≡ A.offers allocator.old }
+{
+    give_back_apart(allocator, apart);
+    let Listed { rows } = listed;
+    give_back_list(allocator, rows);
+}
+
 /// Puts a segment behind the others, with none of its words allocated. Where there is no memory for
-/// its row, it goes back to the allocator.
+/// its row, it goes back to the allocator; the first needs none.
 #[tactic(auto, using(crate::proofs::TakingLemmas::pushed, crate::proofs::BoundsLemmas::bounded_pushed))]
 fn put_behind<A: Allocator>(
     allocator: &mut A,
-    rows: &mut Vec<Row<A::Segment>>,
+    rows: &mut Rows<A::Segment>,
     segment: A::Segment,
 ) -> Result<(), ErrorKind>
+    requires few { length (all A.Segment.Segment rows.old) < max_segments }
     requires fresh { IsFresh 0 (A.Segment.content segment) }
-    ensures put { OnOk result (GainsRow A.Segment.Segment rows.old.items rows.new.items segment) }
+    ensures put { OnOk result (GainsRow A.Segment.Segment (all A.Segment.Segment rows.old)
+        (all A.Segment.Segment rows.new) segment) }
+    ensures first { length (all A.Segment.Segment rows.old) ≡ 0 → IsOk result }
     ensures granted { OnOk result (A.refusals allocator.new ≡ A.refusals allocator.old) }
     ensures named { IfErr result (λ e. e ≡ AllocationFailed) }
-    ensures refused { OnErr result (rows.new.items ≡ rows.old.items) }
+    ensures refused { OnErr result
+        (all A.Segment.Segment rows.new ≡ all A.Segment.Segment rows.old) }
     ensures counted { OnErr result
         (A.refusals allocator.new ≡ one_more (A.refusals allocator.old)) }
     ensures offers { A.offers allocator.new ≡ A.offers allocator.old }
-    ensures bounded { HasBounds A.Segment.Segment rows.old.items
-        → HasBounds A.Segment.Segment rows.new.items }
 {
-    match allocator.keep(rows, Row::new(segment)) {
+    if !rows.there {
+        rows.put_first(segment);
+        return Ok(());
+    }
+    match allocator.keep(&mut rows.others, Row::new(segment)) {
         None => Ok(()),
         Some(row) => {
             deallocate(allocator, row);
@@ -88,51 +150,146 @@ fn put_behind<A: Allocator>(
     }
 }
 
-/// A row, and a position in it.
-#[derive(Clone, Copy)]
-struct Place {
-    row: usize,
-    at: u32,
-}
-
-/// Copies `n` words of one row over those of another.
-fn copy_across<S: Segment>(rows: &mut [Row<S>], from: Place, to: Place, n: u32)
-    requires rows { (from.row < length rows.old) × (to.row < length rows.old) }
-    requires apart { from.row ≢ to.row }
-    requires there { from.at + n ≤ length (segment (message (shown S.Segment rows.old)) from.row) }
-    requires inside { to.at + n ≤ length (segment (message (shown S.Segment rows.old)) to.row) }
-    ensures words { message (shown S.Segment rows.new)
-        ≡ with_words (message (shown S.Segment rows.old)) to.row to.at
-        (words_at (message (shown S.Segment rows.old)) from.row from.at n) }
-    ensures room { capacity_at S.Segment rows.new ≡ capacity_at S.Segment rows.old }
-    ensures bounded { HasBounds S.Segment rows.old → HasBounds S.Segment rows.new }
+/// The same for rows in a list.
+#[tactic(auto, using(crate::proofs::TakingLemmas::pushed, crate::proofs::BoundsLemmas::bounded_pushed))]
+fn put_in_list<A: Allocator>(
+    allocator: &mut A,
+    list: &mut Listed<A::Segment>,
+    segment: A::Segment,
+) -> Result<(), ErrorKind>
+    requires few { length list.old.rows.items < max_segments }
+    requires fresh { IsFresh 0 (A.Segment.content segment) }
+    ensures put { OnOk result (GainsRow A.Segment.Segment list.old.rows.items
+        list.new.rows.items segment) }
+    ensures granted { OnOk result (A.refusals allocator.new ≡ A.refusals allocator.old) }
+    ensures named { IfErr result (λ e. e ≡ AllocationFailed) }
+    ensures refused { OnErr result (list.new.rows.items ≡ list.old.rows.items) }
+    ensures counted { OnErr result
+        (A.refusals allocator.new ≡ one_more (A.refusals allocator.old)) }
+    ensures offers { A.offers allocator.new ≡ A.offers allocator.old }
 {
-    if from.row < to.row {
-        let (front, back) = rows.split_at_mut(to.row);
-        let row = &mut back[0];
-        row.copy_from(to.at, &front[from.row], from.at, n);
-    } else {
-        let (front, back) = rows.split_at_mut(from.row);
-        let row = &mut front[to.row];
-        row.copy_from(to.at, &back[0], from.at, n);
+    match allocator.keep(&mut list.rows, Row::new(segment)) {
+        None => Ok(()),
+        Some(row) => {
+            deallocate(allocator, row);
+            Err(ErrorKind::AllocationFailed)
+        }
     }
 }
 
+/// Puts the allocated words of each row behind what is there, in order. Want of memory is
+/// `AllocationFailed`.
+fn put_allocated<'a, S: Segment>(
+    segments: &mut Vec<&'a [u8]>,
+    rows: &'a [Row<S>],
+) -> Result<(), ErrorKind>
+    ensures bytes { OnOk result (map (λ s. s.now) segments.new.items
+        ≡ map (λ s. s.now) segments.old.items ++ shown S.Segment rows.now) }
+    ensures named { IfErr result (λ e. e ≡ AllocationFailed) }
+{
+    for row in rows {
+        if segments.push(row.allocated()).is_err() {
+            return Err(ErrorKind::AllocationFailed);
+        }
+    }
+    Ok(())
+}
+
 /// The allocated words of each row, in order. Want of memory is `AllocationFailed`.
-fn allocated_of_each<S: Segment>(alloc: Global, rows: &[Row<S>]) -> Result<Vec<&[u8]>, ErrorKind>
-    ensures bytes { IfOk result (λ v. map (λ s. s.now) v.items ≡ shown S.Segment rows.now) }
+fn allocated_of_each<S: Segment>(alloc: Global, rows: &Rows<S>) -> Result<Vec<&[u8]>, ErrorKind>
+    ensures bytes { IfOk result
+        (λ v. map (λ s. s.now) v.items ≡ shown S.Segment (all S.Segment rows.now)) }
     ensures named { IfErr result (λ e. e ≡ AllocationFailed) }
 {
     let mut segments = match Vec::with_capacity(alloc, rows.len()) {
         Ok(segments) => segments,
         Err(_) => return Err(ErrorKind::AllocationFailed),
     };
-    for row in rows {
-        if segments.push(row.allocated()).is_err() {
+    if rows.there {
+        if segments.push(rows.first.allocated()).is_err() {
             return Err(ErrorKind::AllocationFailed);
         }
+        put_allocated(&mut segments, &rows.others)?;
     }
     Ok(segments)
+}
+
+/// The same for rows in a list.
+fn allocated_of_list<S: Segment>(alloc: Global, list: &Listed<S>) -> Result<Vec<&[u8]>, ErrorKind>
+    ensures bytes { IfOk result
+        (λ v. map (λ s. s.now) v.items ≡ shown S.Segment list.now.rows.items) }
+    ensures named { IfErr result (λ e. e ≡ AllocationFailed) }
+{
+    let mut segments = match Vec::with_capacity(alloc, list.len()) {
+        Ok(segments) => segments,
+        Err(_) => return Err(ErrorKind::AllocationFailed),
+    };
+    put_allocated(&mut segments, &list.rows)?;
+    Ok(segments)
+}
+
+/// What goes out of rows of which the first stands apart.
+fn output_apart<S: Segment>(alloc: Global, rows: &Rows<S>) -> Result<OutputSegments<'_>, ErrorKind>
+    ensures bytes { IfOk result
+        (λ o. output_bytes o ≡ shown S.Segment (all S.Segment rows.now)) }
+    ensures small { IfOk result (λ o. IsSmall (output_bytes o)) }
+    ensures single { IfOk result
+        (λ o. IsTrue (is_single o) ↔ (length (all S.Segment rows.now) ≡ 1)) }
+    ensures one { length (all S.Segment rows.now) ≡ 1 → IsOk result }
+    ensures named { IfErr result (λ e. e ≡ AllocationFailed) }
+{
+    if rows.len() == 1 {
+        return Ok(OutputSegments::SingleSegment(rows.first.allocated()));
+    }
+    match allocated_of_each(alloc, rows) {
+        Ok(segments) => Ok(OutputSegments::MultiSegment(segments)),
+        Err(k) => Err(k),
+    }
+}
+
+/// What goes out of rows in a list.
+fn output_of_list<S: Segment>(
+    alloc: Global,
+    list: &Listed<S>,
+) -> Result<OutputSegments<'_>, ErrorKind>
+    ensures bytes { IfOk result (λ o. output_bytes o ≡ shown S.Segment list.now.rows.items) }
+    ensures small { IfOk result (λ o. IsSmall (output_bytes o)) }
+    ensures single { IfOk result
+        (λ o. IsTrue (is_single o) ↔ (length list.now.rows.items ≡ 1)) }
+    ensures one { length list.now.rows.items ≡ 1 → IsOk result }
+    ensures named { IfErr result (λ e. e ≡ AllocationFailed) }
+{
+    if list.rows.len() == 1 {
+        return Ok(OutputSegments::SingleSegment(list.rows[0].allocated()));
+    }
+    match allocated_of_list(alloc, list) {
+        Ok(segments) => Ok(OutputSegments::MultiSegment(segments)),
+        Err(k) => Err(k),
+    }
+}
+
+/// How many words of rows are allocated.
+fn used_in<S: Segment>(rows: &[Row<S>]) -> usize
+    requires { length rows.now ≤ max_segments }
+    ensures words { result ≡ total_words (shown S.Segment rows.now) }
+    ensures bounded { result ≤ max_segment_words * length rows.now }
+{
+    let mut words = 0;
+    for row in rows {
+        words += row.used as usize;
+    }
+    words
+}
+
+/// The same for rows of which the first stands apart.
+fn used_apart<S: Segment>(rows: &Rows<S>) -> usize
+    ensures { result ≡ total_words (shown S.Segment (all S.Segment rows.now)) }
+{
+    if rows.there {
+        rows.first.used as usize + used_in(&rows.others)
+    } else {
+        0
+    }
 }
 
 impl<A: Allocator> Drop for BuilderArenaImpl<A> {
@@ -140,40 +297,49 @@ impl<A: Allocator> Drop for BuilderArenaImpl<A> {
         let BuilderArenaImpl {
             alloc: _,
             mut allocator,
-            rows,
+            listed,
+            apart,
         } = self;
-        give_back(&mut allocator, rows);
+        give_back(&mut allocator, listed, apart);
     }
 }
 
 impl<A: Allocator> BuilderArenaImpl<A> {
     /// An arena with no segment.
+    #[tactic(auto, using(crate::proofs::KeptLemmas::keeping))]
     pub fn new(alloc: Global, allocator: A) -> Self
         ensures segments { ⟦<Self as ReaderArena>⟧.segments result ≡ [] }
         ensures refusals { (⟦<Self as BuilderArena>⟧.view result).refusals ≡ A.refusals allocator }
         ensures offers { (⟦<Self as BuilderArena>⟧.view result).offers ≡ A.offers allocator }
         ensures allocator { result.allocator ≡ allocator }
     {
-        let rows = Vec::new(alloc);
+        let listed = Listed::new(alloc);
+        let apart = Rows::new(alloc);
         BuilderArenaImpl {
             alloc,
             allocator,
-            rows,
+            listed,
+            apart,
         }
     }
 
     /// How many segments there are.
+    #[tactic(auto, using(crate::proofs::KeptLemmas::keeping))]
     pub fn len(&self) -> usize
         ensures { result ≡ length (⟦<Self as ReaderArena>⟧.segments self.now) }
     {
-        self.rows.len()
+        if A::keeps_first_in_arena() {
+            self.apart.len()
+        } else {
+            self.listed.len()
+        }
     }
 
     /// Whether there is no segment.
     pub fn is_empty(&self) -> bool
         ensures { IsTrue result ↔ (length (⟦<Self as ReaderArena>⟧.segments self.now) ≡ 0) }
     {
-        self.rows.is_empty()
+        self.len() == 0
     }
 
     /// Gives each segment back to the allocator once, in order of number, and then the allocator itself.
@@ -184,9 +350,10 @@ impl<A: Allocator> BuilderArenaImpl<A> {
         let BuilderArenaImpl {
             alloc: _,
             mut allocator,
-            rows,
+            listed,
+            apart,
         } = self;
-        give_back(&mut allocator, rows);
+        give_back(&mut allocator, listed, apart);
         allocator
     }
 
@@ -207,20 +374,25 @@ impl<A: Allocator> BuilderArenaImpl<A> {
         let BuilderArenaImpl {
             alloc,
             allocator,
-            rows,
+            listed,
+            apart,
         } = self;
         let segments = BuilderArenaImpl {
             alloc,
             allocator: NullAllocator::new(),
-            rows,
+            listed,
+            apart,
         };
         (segments, allocator)
     }
 
     /// Puts a segment of at least `min` words behind the others, with none of its words allocated.
     ///
-    /// `MessageTooLarge(usize::MAX)` says that there are 4,294,967,295 segments, else `MessageTooLarge(min)` that `min` is above 536,870,911; `AllocationFailed` is want of memory. A refusal changes nothing but `refused`.
-    #[tactic(auto, using(crate::proofs::RowsLemmas::counting))]
+    /// `MessageTooLarge(usize::MAX)` says that there are 4,294,967,295 segments, else
+    /// `MessageTooLarge(min)` that `min` is above 536,870,911; `AllocationFailed` is want of memory,
+    /// which the first segment takes only where the allocator does if its row is kept in the arena
+    /// (`keeps_first_in_arena`). A refusal changes nothing but `refused`.
+    #[tactic(auto, using(crate::proofs::KeptLemmas::keeping))]
     pub fn allocate_segment(&mut self, min: u32) -> Result<(), ErrorKind>
         ensures made { OnOk result (⟦<Self as ReaderArena>⟧.segments self.new
             ≡ ⟦<Self as ReaderArena>⟧.segments self.old ++ [] ∷ []) }
@@ -239,6 +411,8 @@ impl<A: Allocator> BuilderArenaImpl<A> {
             → result ≡ Err (MessageTooLarge usize.MAX) }
         ensures large { length (⟦<Self as ReaderArena>⟧.segments self.old) < max_segments
             → max_segment_words < min → result ≡ Err (MessageTooLarge min) }
+        ensures first { length (⟦<Self as ReaderArena>⟧.segments self.old) ≡ 0
+            → IsTrue A.first_in_arena → IsTrue (A.grants self.old.allocator min) → IsOk result }
         ensures named { IfErr result
             (IsAllocationRefusal (⟦<Self as BuilderArena>⟧.view self.old)
             (⟦<Self as BuilderArena>⟧.view self.new)
@@ -252,14 +426,19 @@ impl<A: Allocator> BuilderArenaImpl<A> {
         ensures offers { (⟦<Self as BuilderArena>⟧.view self.new).offers
             ≡ (⟦<Self as BuilderArena>⟧.view self.old).offers }
     {
-        if self.rows.len() >= MAX_SEGMENTS {
+        if self.len() >= MAX_SEGMENTS {
             return Err(ErrorKind::MessageTooLarge(usize::MAX));
         }
         let segment = self.allocator.allocate_segment(min)?;
-        put_behind(&mut self.allocator, &mut self.rows, segment)
+        if A::keeps_first_in_arena() {
+            put_behind(&mut self.allocator, &mut self.apart, segment)
+        } else {
+            put_in_list(&mut self.allocator, &mut self.listed, segment)
+        }
     }
 
     /// The allocated words of each segment, within the limits of a reader. It takes memory where there is not exactly one segment, and want of it is `AllocationFailed`.
+    #[tactic(auto, using(crate::proofs::KeptLemmas::keeping))]
     pub fn get_segments_for_output(&self) -> Result<OutputSegments<'_>, ErrorKind>
         ensures bytes { IfOk result (λ o. output_bytes o
             ≡ ⟦<Self as ReaderArena>⟧.segments self.now) }
@@ -269,28 +448,31 @@ impl<A: Allocator> BuilderArenaImpl<A> {
         ensures one { length (⟦<Self as ReaderArena>⟧.segments self.now) ≡ 1 → IsOk result }
         ensures named { IfErr result (λ e. e ≡ AllocationFailed) }
     {
-        if self.rows.len() == 1 {
-            return Ok(OutputSegments::SingleSegment(self.rows[0].allocated()));
-        }
-        match allocated_of_each(self.alloc, &self.rows) {
-            Ok(segments) => Ok(OutputSegments::MultiSegment(segments)),
-            Err(k) => Err(k),
+        if A::keeps_first_in_arena() {
+            output_apart(self.alloc, &self.apart)
+        } else {
+            output_of_list(self.alloc, &self.listed)
         }
     }
 
-    /// Whether a segment has room for so many words more.
-    fn has_room(&self, id: u32, amount: u32) -> bool
-        requires { id < length (⟦<Self as ReaderArena>⟧.segments self.now) }
-        ensures room { IsTrue result
-            ↔ (length (segment (⟦<Self as BuilderArena>⟧.view self.now).words id) + amount
-            ≤ (⟦<Self as BuilderArena>⟧.view self.now).room id) }
-        ensures small { length (segment (⟦<Self as BuilderArena>⟧.view self.now).words id)
-            < 2 ^ 29 }
+    /// The allocated words of a segment; `None` where there is no such segment.
+    #[inline(always)]
+    #[tactic(auto, using(crate::proofs::KeptLemmas::keeping))]
+    fn allocated(&self, id: u32) -> Option<&[u8]>
+        ensures there { IsSome result
+            ↔ (id < length (⟦<Self as ReaderArena>⟧.segments self.now)) }
+        ensures bytes { IfSome result
+            (λ s. slice_get (⟦<Self as ReaderArena>⟧.segments self.now) id ≡ Some s.now) }
     {
-        self.rows[id as usize].has_room(amount)
+        if A::keeps_first_in_arena() {
+            self.apart.allocated(id)
+        } else {
+            self.listed.allocated(id)
+        }
     }
 
     /// The first segment that has room for so many words more.
+    #[tactic(auto, using(crate::proofs::KeptLemmas::keeping))]
     fn first_fit(&mut self, amount: u32) -> Option<u32>
         ensures fit { IfSome result
             (λ k. IsFirstFit (⟦<Self as BuilderArena>⟧.view self.old) amount k) }
@@ -300,11 +482,15 @@ impl<A: Allocator> BuilderArenaImpl<A> {
         ensures same { ⟦<Self as BuilderArena>⟧.view self.new
             ≡ ⟦<Self as BuilderArena>⟧.view self.old }
     {
-        bounds::first_fit(&mut self.rows, amount)
+        if A::keeps_first_in_arena() {
+            self.apart.first_fit(amount)
+        } else {
+            self.listed.first_fit(amount)
+        }
     }
 
     /// Takes words at the end of a segment that has room for them.
-    #[tactic(auto, using(crate::proofs::RowsLemmas::rows_written))]
+    #[tactic(auto, using(crate::proofs::KeptLemmas::keeping))]
     fn take(&mut self, id: u32, amount: u32) -> u32
         requires there { id < length (⟦<Self as ReaderArena>⟧.segments self.old) }
         requires fits { length (segment (⟦<Self as BuilderArena>⟧.view self.old).words id) + amount
@@ -314,8 +500,11 @@ impl<A: Allocator> BuilderArenaImpl<A> {
             ≡ with_more (⟦<Self as BuilderArena>⟧.view self.old) id (replicate amount 0) }
         ensures small { result + amount < 2 ^ 29 }
     {
-        let row = &mut self.rows[id as usize];
-        row.take(amount)
+        if A::keeps_first_in_arena() {
+            self.apart.take(id, amount)
+        } else {
+            self.listed.take(id, amount)
+        }
     }
 
     /// Takes words in a new segment behind the others, and gives its number.
@@ -351,7 +540,7 @@ impl<A: Allocator> BuilderArenaImpl<A> {
         ensures offers { (⟦<Self as BuilderArena>⟧.view self.new).offers
             ≡ (⟦<Self as BuilderArena>⟧.view self.old).offers }
     {
-        let id = self.rows.len();
+        let id = self.len();
         self.allocate_segment(amount)?;
         let id = id as u32;
         let _at = self.take(id, amount);
@@ -374,18 +563,20 @@ impl<A: Allocator> BuilderArenaImpl<NullAllocator<A>> {
         let BuilderArenaImpl {
             alloc,
             allocator: _,
-            rows,
+            listed,
+            apart,
         } = self;
         BuilderArenaImpl {
             alloc,
             allocator,
-            rows,
+            listed,
+            apart,
         }
     }
 }
 
 impl<A: Allocator> ReaderArena for BuilderArenaImpl<A> {
-    ghost segments = { λ b. shown A.Segment.Segment b.rows.items };
+    ghost segments = { λ b. shown A.Segment.Segment (arena_rows A.Segment.Segment A.first_in_arena b.listed b.apart) };
 
     ghost nesting = { λ _. MAX };
 
@@ -397,10 +588,9 @@ impl<A: Allocator> ReaderArena for BuilderArenaImpl<A> {
 
     ghost absent_named = { λ _ _. inl refl };
 
-    #[tactic(auto, using(crate::proofs::RowsLemmas::reading))]
     fn get_segment(&self, id: u32) -> Result<&[u8], ErrorKind> {
-        match self.rows.get(id as usize) {
-            Some(row) => Ok(row.allocated()),
+        match self.allocated(id) {
+            Some(words) => Ok(words),
             None => Err(ErrorKind::InvalidSegmentId(id)),
         }
     }
@@ -413,99 +603,122 @@ impl<A: Allocator> ReaderArena for BuilderArenaImpl<A> {
         false
     }
 
+    #[tactic(auto, using(crate::proofs::KeptLemmas::keeping))]
     fn size_in_words(&self) -> usize {
-        let mut words = 0;
-        for row in self.rows.iter() {
-            words += row.used as usize;
+        if A::keeps_first_in_arena() {
+            used_apart(&self.apart)
+        } else {
+            used_in(&self.listed.rows)
         }
-        words
     }
 }
 
 impl<A: Allocator> Closed for BuilderArenaImpl<A> {}
 
 impl<A: Allocator> BuilderArena for BuilderArenaImpl<A> {
-    ghost view = { λ b. view_of (message (shown A.Segment.Segment b.rows.items)) (capacity_at A.Segment.Segment b.rows.items) (A.refusals b.allocator) (A.offers b.allocator) };
+    ghost view = { λ b. view_of (message (shown A.Segment.Segment (arena_rows A.Segment.Segment A.first_in_arena b.listed b.apart))) (capacity_at A.Segment.Segment (arena_rows A.Segment.Segment A.first_in_arena b.listed b.apart)) (A.refusals b.allocator) (A.offers b.allocator) };
 
     ghost known = { λ _ _. refl };
 
     ghost read = { λ _. refl };
 
-    ghost within = { λ b. rows_within A.Segment.Segment b.rows.items };
+    ghost within = { λ b. rows_within A.Segment.Segment (arena_rows A.Segment.Segment A.first_in_arena b.listed b.apart) };
 
-    ghost small = { λ b. rows_small A.Segment.Segment b.rows.items };
+    ghost small = { λ b. rows_small A.Segment.Segment (arena_rows A.Segment.Segment A.first_in_arena b.listed b.apart) };
 
-    ghost with_bytes = { λ b id ws. record b { rows = with_row A.Segment.Segment b.rows id ws; few = few_with_row A.Segment.Segment b.rows id ws b.few; bounded = bounded_with_row A.Segment.Segment b.rows id ws b.bounded } };
+    ghost with_bytes = { λ b id ws. record b { listed = listed_with_bytes A.Segment.Segment A.first_in_arena b.listed id ws; apart = apart_with_bytes A.Segment.Segment A.first_in_arena b.apart id ws } };
 
-    ghost with_bytes_segments = { λ b. with_row_shown A.Segment.Segment b.rows };
+    ghost with_bytes_segments = { λ b. kept_shown A.Segment.Segment A.first_in_arena b.listed b.apart };
 
-    ghost with_bytes_view = { λ b id ws. same_room _ _ _ (A.refusals b.allocator) (A.offers b.allocator) (with_row_capacity A.Segment.Segment b.rows id ws) };
+    ghost with_bytes_view = { λ b id ws. same_room _ _ _ (A.refusals b.allocator) (A.offers b.allocator) (kept_capacity A.Segment.Segment A.first_in_arena b.listed b.apart id ws) };
 
+    #[tactic(auto, using(crate::proofs::KeptLemmas::keeping))]
     fn segment_mut(&mut self, id: u32) -> &mut [u8] {
-        let row = &mut self.rows[id as usize];
-        row.allocated_mut()
+        if A::keeps_first_in_arena() {
+            self.apart.allocated_mut(id)
+        } else {
+            self.listed.allocated_mut(id)
+        }
     }
 
     fn allocated_mut(&mut self, id: u32) -> Option<&mut [u8]> {
-        if (id as usize) < self.rows.len() {
+        if (id as usize) < self.len() {
             return Some(self.segment_mut(id));
         }
         None
     }
 
+    #[tactic(auto, using(crate::proofs::KeptLemmas::keeping))]
     fn get_word(&self, id: u32, at: u32) -> u64 {
-        self.rows[id as usize].word(at)
-    }
-
-    #[tactic(auto, using(crate::proofs::RowsLemmas::rows_written))]
-    fn set_word(&mut self, id: u32, at: u32, word: u64) {
-        let row = &mut self.rows[id as usize];
-        row.set_word(at, word);
-    }
-
-    #[tactic(auto, using(crate::proofs::RowsLemmas::rows_written))]
-    fn copy_words(&mut self, id: u32, at: u32, from: &[u8]) {
-        if !from.is_empty() {
-            let row = &mut self.rows[id as usize];
-            row.copy_words(at, from);
+        if A::keeps_first_in_arena() {
+            self.apart.word(id, at)
+        } else {
+            self.listed.word(id, at)
         }
     }
 
-    #[tactic(auto, using(crate::proofs::RowsLemmas::rows_written))]
+    #[tactic(auto, using(crate::proofs::KeptLemmas::keeping))]
+    fn set_word(&mut self, id: u32, at: u32, word: u64) {
+        if A::keeps_first_in_arena() {
+            self.apart.set_word(id, at, word);
+        } else {
+            self.listed.set_word(id, at, word);
+        }
+    }
+
+    #[tactic(auto, using(crate::proofs::KeptLemmas::keeping))]
+    fn copy_words(&mut self, id: u32, at: u32, from: &[u8]) {
+        if !from.is_empty() {
+            if A::keeps_first_in_arena() {
+                self.apart.copy_words(id, at, from);
+            } else {
+                self.listed.copy_words(id, at, from);
+            }
+        }
+    }
+
+    #[tactic(auto, using(crate::proofs::KeptLemmas::keeping))]
     fn move_words(&mut self, from: u32, from_at: u32, to: u32, to_at: u32, n: u32) {
         if n == 0 {
             return;
         }
         if from == to {
-            let row = &mut self.rows[to as usize];
-            row.move_words(from_at, to_at, n);
+            if A::keeps_first_in_arena() {
+                self.apart.move_words(to, from_at, to_at, n);
+            } else {
+                self.listed.move_words(to, from_at, to_at, n);
+            }
         } else {
             let old = Place {
-                row: from as usize,
+                row: from,
                 at: from_at,
             };
-            let new = Place {
-                row: to as usize,
-                at: to_at,
-            };
-            copy_across(&mut self.rows, old, new, n);
+            let new = Place { row: to, at: to_at };
+            if A::keeps_first_in_arena() {
+                self.apart.copy_across(old, new, n);
+            } else {
+                self.listed.copy_across(old, new, n);
+            }
         }
     }
 
-    #[tactic(auto, using(crate::proofs::RowsLemmas::rows_written))]
+    #[tactic(auto, using(crate::proofs::KeptLemmas::keeping))]
     fn zero_words(&mut self, id: u32, at: u32, n: u32) {
         if n > 0 {
-            let row = &mut self.rows[id as usize];
-            row.zero_words(at, n);
+            if A::keeps_first_in_arena() {
+                self.apart.zero_words(id, at, n);
+            } else {
+                self.listed.zero_words(id, at, n);
+            }
         }
     }
 
-    #[tactic(auto, using(crate::proofs::RowsLemmas::counting))]
+    #[tactic(auto, using(crate::proofs::KeptLemmas::keeping))]
     fn allocate(&mut self, id: u32, amount: u32) -> Option<u32> {
-        if self.has_room(id, amount) {
-            Some(self.take(id, amount))
+        if A::keeps_first_in_arena() {
+            self.apart.allocate(id, amount)
         } else {
-            None
+            self.listed.allocate(id, amount)
         }
     }
 

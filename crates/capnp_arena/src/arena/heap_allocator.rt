@@ -21,6 +21,12 @@ impl Segment for HeapSegment {
 
     ghost holds = { with_bytes-holds };
 
+    fn empty(alloc: Global) -> Self {
+        HeapSegment {
+            bytes: Vec::new(alloc),
+        }
+    }
+
     fn bytes(&self) -> &[u8] {
         self.bytes.as_slice()
     }
@@ -56,6 +62,11 @@ impl HeapAllocator {
 
 impl Allocator for HeapAllocator {
     type Segment = HeapSegment;
+
+    #[inline(always)]
+    fn keeps_first_in_arena() -> bool {
+        false
+    }
 
     ghost refusals = { λ a. a.refused };
 

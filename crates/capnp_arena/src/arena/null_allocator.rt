@@ -31,6 +31,13 @@ impl<A: Allocator> NullAllocator<A> {
 impl<A: Allocator> Allocator for NullAllocator<A> {
     type Segment = A::Segment;
 
+    ghost first_in_arena = { A.first_in_arena };
+
+    #[inline(always)]
+    fn keeps_first_in_arena() -> bool {
+        A::keeps_first_in_arena()
+    }
+
     ghost refusals = { λ a. a.refused };
 
     ghost offers = { λ _ _ _. false };

@@ -1,5 +1,5 @@
 //! Segments of which the first is in memory that the caller lends.
-ghost use Rattle.std.specs.Prelude.{◌≡◌, ◌≤◌, ◌<◌, ◌+◌, ◌*◌, ◌/◌, ◌==◌, ℕ, List, length, min, max, refl, false, IsTrue, IsFalse, IsSome, IsNone, IfSome, ◌↔◌, IsOk, IfOk, IsOkAnd, OnOk, IfErr, Err};
+ghost use Rattle.std.specs.Prelude.{◌≡◌, ◌≤◌, ◌<◌, ◌+◌, ◌*◌, ◌/◌, ◌==◌, ℕ, List, length, min, max, refl, true, false, IsTrue, IsFalse, IsSome, IsNone, IfSome, ◌↔◌, IsOk, IfOk, IsOkAnd, OnOk, IfErr, Err};
 ghost use Rattle.capnp_arena.specs.Allocations.{IsClearFrom, IsFresh, max_segment_words, one_more, zeros};
 ghost use Rattle.capnp_words.specs.declared.error.ErrorKind.TheVariants.{AllocationFailed, MessageTooLarge};
 
@@ -15,6 +15,10 @@ impl Segment for &mut [u8] {
     ghost with_content = { λ s w. record s { now = w } };
 
     ghost holds = { λ _ _ _. refl };
+
+    fn empty(_alloc: Global) -> Self {
+        &mut []
+    }
 
     fn bytes(&self) -> &[u8] {
         &**self
@@ -42,6 +46,10 @@ impl<B: Segment + Drop> Segment for ScratchSegment<B> {
     ghost with_content = { with_content_of B.Segment };
 
     ghost holds = { with_content_of-holds B.Segment };
+
+    fn empty(alloc: Global) -> Self {
+        ScratchSegment::Owned(HeapSegment::empty(alloc))
+    }
 
     fn bytes(&self) -> &[u8] {
         match self {
@@ -114,8 +122,12 @@ impl<'a> ZeroWords<'a> {
 
 /// Makes segments as `HeapAllocator` does, but for one: the scratch space, which is memory that the caller lends.
 ///
-/// Its whole words, at most 536,870,911, are a segment. A request that it can hold is met by it while it isn't out, takes no memory and
-/// is never refused. Given back, it can be handed out again. A scratch space without a whole word is never handed out.
+/// Its whole words, at most 536,870,911, are a segment. A request that it can hold is met by it while
+/// it isn't out, takes no memory and is never refused. Given back, it can be handed out again. A
+/// scratch space without a whole word is never handed out.
+///
+/// An arena over it keeps the row of its first segment in itself. So a message that fits in the
+/// scratch space takes no memory at all.
 #[derive(Drop)]
 pub struct ScratchSpaceHeapAllocator<'a> {
     scratch: Option<ZeroWords<'a>>,
@@ -195,6 +207,15 @@ impl<'a> Allocator for ScratchSpaceHeapAllocator<'a> {
     ghost use Rattle.capnp_arena.specs.Scratch.{IsBorrowed, IsOwned, bytes_of, lends, offered};
 
     type Segment = ScratchSegment<&'a mut [u8]>;
+
+    ghost first_in_arena = { true };
+
+    #[inline(always)]
+    fn keeps_first_in_arena() -> bool
+        ensures { result ≡ true }
+    {
+        true
+    }
 
     ghost refusals = { λ a. a.heap.refused };
 

@@ -37,6 +37,10 @@ impl LimitedAllocator {
 impl Allocator for LimitedAllocator {
     type Segment = HeapSegment;
 
+    fn keeps_first_in_arena() -> bool {
+        false
+    }
+
     ghost refusals = { λ a. a.refused };
 
     ghost offers = { λ a. ⟦<HeapAllocator as Allocator>⟧.offers a.heap };

@@ -1,15 +1,24 @@
-use Rattle.std.proofs.Common.{◌<◌, length, arith}
-use Rattle.capnp_arena.proofs.RowsLemmas.{length_shown, row_old, room_is}
-use Rattle.capnp_arena.proofs.BoundsLemmas.{bounded_taken}
+use Rattle.std.proofs.Common.{length, sym, ap, ◌∙◌, arith}
+use Rattle.capnp_format.specs.Bytes.{message}
+use Rattle.capnp_format.specs.Segments.{segment}
+use Rattle.capnp_arena.specs.Kept.{arena_rows}
+use Rattle.capnp_arena.specs.Row.{shown}
+use Rattle.capnp_arena.specs.Room.{rows_small}
+use Rattle.capnp_arena.proofs.KeptLemmas.{kept_apart, kept_listed}
 use Rattle.capnp_arena.proofs.arena.builder_arena_impl.BuilderArenaImpl.take.Goals as goal
 
-pub take-requires : goal.take-requires
-take-requires g c =
-    let rows = c.args.self.now.rows.items in
-    let row = c.index_mut-row.result.now in
-    let there : c.args.id < length rows = omega (arith, length_shown g.A.Segment.Segment rows, c.requires.there) in
-    omega (arith, row_old g.A.Segment.Segment rows c.args.id row there c.index_mut-row.ensures.value, room_is g.A.Segment.Segment rows c.args.id row there c.index_mut-row.ensures.value, c.requires.fits)
+pub returns-then-keeps_first_in_arena-clause-small : goal.returns-then-keeps_first_in_arena-clause-small
+returns-then-keeps_first_in_arena-clause-small g c =
+    let seg = g.A.Segment.Segment in
+    let b = c.args.self.now in
+    let f = g.A.Allocator.first_in_arena in
+    let same = ap (λ rows. length (segment (message (shown seg rows)) c.args.id)) (kept_apart seg f b.listed b.apart (sym c.keeps_first_in_arena.ensures ∙ c.if-keeps_first_in_arena.true)) in
+    omega (arith, same, c.take.ensures.at, c.requires.fits, rows_small seg (arena_rows seg f b.listed b.apart) c.args.id)
 
-pub invariant_of-self-clause-bounded : goal.invariant_of-self-clause-bounded
-invariant_of-self-clause-bounded g c =
-    bounded_taken g.A.Segment.Segment c.args.self.now.rows.items c.args.id c.args.amount c.index_mut-row.result.now c.take.new.self c.index_mut-row.ensures.value c.take.ensures.capacity c.take.ensures.used c.take.ensures.bound c.args.self.now.bounded
+pub returns-else-keeps_first_in_arena-clause-small : goal.returns-else-keeps_first_in_arena-clause-small
+returns-else-keeps_first_in_arena-clause-small g c =
+    let seg = g.A.Segment.Segment in
+    let b = c.args.self.now in
+    let f = g.A.Allocator.first_in_arena in
+    let same = ap (λ rows. length (segment (message (shown seg rows)) c.args.id)) (kept_listed seg f b.listed b.apart (sym c.keeps_first_in_arena.ensures ∙ c.if-keeps_first_in_arena.false)) in
+    omega (arith, same, c.take-else-keeps_first_in_arena.ensures.at, c.requires.fits, rows_small seg (arena_rows seg f b.listed b.apart) c.args.id)

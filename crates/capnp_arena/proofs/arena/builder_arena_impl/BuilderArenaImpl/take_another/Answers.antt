@@ -1,4 +1,5 @@
 use Rattle.std.proofs.Common.{◌≡◌, ℕ, ◌∙◌, sym, subst, IsTrue, ap, arith, ◌≤◌, length}
+use Rattle.capnp_arena.specs.Kept.{arena_rows}
 use Rattle.capnp_arena.specs.Row.{shown, capacity_at}
 use Rattle.capnp_format.specs.Segments.{Segments}
 use Rattle.capnp_arena.specs.View.{View}
@@ -9,21 +10,21 @@ use Rattle.capnp_arena.proofs.arena.builder_arena_impl.BuilderArenaImpl.take_ano
 
 pub returns-clause-least : goal.returns-clause-least
 returns-clause-least g c =
-    let new = capacity_at g.A.Segment.Segment c.take-at.new.self.rows.items in
-    let mid = capacity_at g.A.Segment.Segment c.allocate_segment.new.self.rows.items in
-    let B = shown g.A.Segment.Segment c.args.self.now.rows.items in
+    let new = capacity_at g.A.Segment.Segment (arena_rows g.A.Segment.Segment g.A.Allocator.first_in_arena c.take-at.new.self.listed c.take-at.new.self.apart) in
+    let mid = capacity_at g.A.Segment.Segment (arena_rows g.A.Segment.Segment g.A.Allocator.first_in_arena c.allocate_segment.new.self.listed c.allocate_segment.new.self.apart) in
+    let B = shown g.A.Segment.Segment (arena_rows g.A.Segment.Segment g.A.Allocator.first_in_arena c.args.self.now.listed c.args.self.now.apart) in
     let room : View → ℕ → ℕ = λ v. v.room in
-    let n : c.len-id.result ≡ length B = omega (arith, length_shown g.A.Segment.Segment c.args.self.now.rows.items, c.len-id.ensures) in
+    let n : c.len-id.result ≡ length B = omega (arith, length_shown g.A.Segment.Segment (arena_rows g.A.Segment.Segment g.A.Allocator.first_in_arena c.args.self.now.listed c.args.self.now.apart), c.len-id.ensures) in
     let P : ℕ → Type 0 = λ m. c.args.amount ≤ m in
     subst P (sym (same_at new mid c.len-id.result (length B) (ap room c.take-at.ensures.taken) n)) c.in_ok-allocate_segment.ensures.least
 
 pub returns-clause-size : goal.returns-clause-size
 returns-clause-size g c =
-    let new = capacity_at g.A.Segment.Segment c.take-at.new.self.rows.items in
-    let mid = capacity_at g.A.Segment.Segment c.allocate_segment.new.self.rows.items in
-    let B = shown g.A.Segment.Segment c.args.self.now.rows.items in
+    let new = capacity_at g.A.Segment.Segment (arena_rows g.A.Segment.Segment g.A.Allocator.first_in_arena c.take-at.new.self.listed c.take-at.new.self.apart) in
+    let mid = capacity_at g.A.Segment.Segment (arena_rows g.A.Segment.Segment g.A.Allocator.first_in_arena c.allocate_segment.new.self.listed c.allocate_segment.new.self.apart) in
+    let B = shown g.A.Segment.Segment (arena_rows g.A.Segment.Segment g.A.Allocator.first_in_arena c.args.self.now.listed c.args.self.now.apart) in
     let room : View → ℕ → ℕ = λ v. v.room in
-    let n : c.len-id.result ≡ length B = omega (arith, length_shown g.A.Segment.Segment c.args.self.now.rows.items, c.len-id.ensures) in
+    let n : c.len-id.result ≡ length B = omega (arith, length_shown g.A.Segment.Segment (arena_rows g.A.Segment.Segment g.A.Allocator.first_in_arena c.args.self.now.listed c.args.self.now.apart), c.len-id.ensures) in
     let P : ℕ → Type 0 = λ m. IsTrue (g.A.Allocator.offers c.args.self.now.allocator c.args.amount m) in
     subst P (sym (same_at new mid c.len-id.result (length B) (ap room c.take-at.ensures.taken) n)) c.in_ok-allocate_segment.ensures.size
 
@@ -34,7 +35,7 @@ returns-clause-room g c k below =
 
 pub returns-clause-taken : goal.returns-clause-taken
 returns-clause-taken g c =
-    let B = shown g.A.Segment.Segment c.args.self.now.rows.items in
-    let n : c.len-id.result ≡ length B = omega (arith, length_shown g.A.Segment.Segment c.args.self.now.rows.items, c.len-id.ensures) in
+    let B = shown g.A.Segment.Segment (arena_rows g.A.Segment.Segment g.A.Allocator.first_in_arena c.args.self.now.listed c.args.self.now.apart) in
+    let n : c.len-id.result ≡ length B = omega (arith, length_shown g.A.Segment.Segment (arena_rows g.A.Segment.Segment g.A.Allocator.first_in_arena c.args.self.now.listed c.args.self.now.apart), c.len-id.ensures) in
     let words : View → Segments = λ v. v.words in
     taken_another B _ c.args.amount c.in_ok-allocate_segment.ensures.made n (ap words c.take-at.ensures.taken)

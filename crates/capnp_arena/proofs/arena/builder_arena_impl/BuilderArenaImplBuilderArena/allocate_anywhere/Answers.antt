@@ -1,5 +1,6 @@
 use Rattle.std.proofs.Common.{◌≤◌, ◌+◌, ℕ, length, ap, sym, subst, ◌∙◌, arith}
 use Rattle.capnp_format.specs.Segments.{segment}
+use Rattle.capnp_arena.specs.Kept.{arena_rows}
 use Rattle.capnp_arena.specs.Row.{shown}
 use Rattle.capnp_arena.specs.View.{View}
 use Rattle.capnp_arena.proofs.MessageLemmas.{length-message}
@@ -19,11 +20,11 @@ returns-in-Some-clause-room g c k below =
 pub returns-in_err-id-in-None-clause-room : goal.returns-in_err-id-in-None-clause-room
 returns-in_err-id-in-None-clause-room g c k below =
     let at : View → ℕ = λ v. v.room k in
-    let old = shown g.A.Segment.Segment c.args.self.now.rows.items in
+    let old = shown g.A.Segment.Segment (arena_rows g.A.Segment.Segment g.A.Allocator.first_in_arena c.args.self.now.listed c.args.self.now.apart) in
     c.take_another.ensures.room k (omega (arith, below, length-message old, ap length c.first_fit.ensures.segments)) ∙ ap at c.first_fit.ensures.same
 
 pub returns-in_ok-id-in-None-clause-room : goal.returns-in_ok-id-in-None-clause-room
 returns-in_ok-id-in-None-clause-room g c k below =
     let at : View → ℕ = λ v. v.room k in
-    let old = shown g.A.Segment.Segment c.args.self.now.rows.items in
+    let old = shown g.A.Segment.Segment (arena_rows g.A.Segment.Segment g.A.Allocator.first_in_arena c.args.self.now.listed c.args.self.now.apart) in
     c.take_another.ensures.room k (omega (arith, below, length-message old, ap length c.first_fit.ensures.segments)) ∙ ap at c.first_fit.ensures.same

@@ -1,0 +1,7 @@
+use Rattle.std.proofs.Common.{sym, subst}
+use Rattle.capnp_arena.specs.Limits.{IsSmall}
+use Rattle.capnp_arena.proofs.RowsLemmas.{shown_small}
+use Rattle.capnp_arena.proofs.arena.builder_arena_impl.output_of_list.Goals as goal
+
+pub returns-in-Ok-clause-small : goal.returns-in-Ok-clause-small
+returns-in-Ok-clause-small g c = subst IsSmall (sym c.in-Ok.ensures.bytes) (shown_small g.S.Segment c.args.list.now.rows.items c.args.list.now.few)

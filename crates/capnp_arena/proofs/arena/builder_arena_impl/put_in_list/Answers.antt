@@ -1,0 +1,8 @@
+use Rattle.capnp_arena.proofs.ListPushed.{list_pushed}
+use Rattle.capnp_arena.proofs.arena.builder_arena_impl.put_in_list.Goals as goal
+
+pub invariant_of-list : goal.invariant_of-list
+invariant_of-list g c =
+    let b = c.args.list.now in
+    let h = list_pushed g.A.Segment.Segment c.new.result b.rows.items c.keep.new.list.items c.keep.result _ c.requires.few c.keep.ensures.kept c.keep.ensures.given_back c.new.ensures.bound b.bounded in
+    record { few = h.0; bounded = h.1 }

@@ -1,0 +1,15 @@
+use Rattle.std.proofs.Common.{arith}
+use Rattle.capnp_arena.proofs.RowsLemmas.{row_old, room_is}
+use Rattle.capnp_arena.proofs.BoundsLemmas.{bounded_taken}
+use Rattle.capnp_arena.proofs.arena.listed.Listed.take.Goals as goal
+
+pub take-requires : goal.take-requires
+take-requires g c =
+    let rows = c.args.self.now.rows.items in
+    let row = c.index_mut-row.result.now in
+    let e = c.index_mut-row.ensures.value in
+    omega (arith, row_old g.S.Segment rows c.args.id row c.requires.there e, room_is g.S.Segment rows c.args.id row c.requires.there e, c.requires.fits)
+
+pub invariant_of-self-clause-bounded : goal.invariant_of-self-clause-bounded
+invariant_of-self-clause-bounded g c =
+    bounded_taken g.S.Segment c.args.self.now.rows.items c.args.id c.args.amount c.index_mut-row.result.now c.take.new.self c.index_mut-row.ensures.value c.take.ensures.capacity c.take.ensures.used c.take.ensures.bound c.args.self.now.bounded

@@ -1,0 +1,16 @@
+use Rattle.std.proofs.Common.{ap, arith}
+use Rattle.capnp_arena.specs.Row.{capacity}
+use Rattle.capnp_arena.proofs.RowsLemmas.{row_old, room_is}
+use Rattle.capnp_arena.proofs.BoundsLemmas.{bounded_grown}
+use Rattle.capnp_arena.proofs.arena.rows.take_in.Goals as goal
+
+pub take-requires : goal.take-requires
+take-requires g c =
+    let seg = g.S.Segment in
+    let rows = c.args.rows.now in
+    let row = c.index-rows-id.result in
+    omega (arith, ap (λ q. q.used) c.index-rows-id.is, ap (capacity seg) c.index-rows-id.is, row_old seg rows c.args.id row c.requires.there c.index-rows-id.is, room_is seg rows c.args.id row c.requires.there c.index-rows-id.is, c.requires.fits)
+
+pub returns-clause-bounded : goal.returns-clause-bounded
+returns-clause-bounded g c =
+    bounded_grown g.S.Segment c.args.rows.now c.args.id c.args.amount c.index-rows-id.result c.take.new.self c.index-rows-id.is c.take.ensures.capacity c.take.ensures.used c.take.ensures.bound

@@ -1,0 +1,15 @@
+use Rattle.std.proofs.Common.{ap, arith}
+use Rattle.capnp_arena.proofs.RowsLemmas.{row_old}
+use Rattle.capnp_arena.proofs.BoundsLemmas.{bounded_over}
+use Rattle.capnp_arena.proofs.arena.rows.zero_words_in.Goals as goal
+
+pub zero_words-requires : goal.zero_words-requires
+zero_words-requires g c =
+    let seg = g.S.Segment in
+    let rows = c.args.rows.now in
+    let row = c.index-rows-id.result in
+    omega (arith, ap (λ q. q.used) c.index-rows-id.is, row_old seg rows c.args.id row c.requires.there c.index-rows-id.is, c.requires.inside)
+
+pub returns-clause-bounded : goal.returns-clause-bounded
+returns-clause-bounded g c =
+    bounded_over g.S.Segment c.args.rows.now c.args.id c.index-rows-id.result c.zero_words.new.self c.index-rows-id.is c.zero_words.ensures.capacity c.zero_words.ensures.used c.zero_words.ensures.bound

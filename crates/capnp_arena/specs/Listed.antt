@@ -1,0 +1,12 @@
+-- The rows of a builder arena that all stand in a list.
+use Rattle.std.specs.Prelude.{ℕ, List}
+use Rattle.capnp_arena.specs.Allocations.{max_segments}
+use Rattle.capnp_arena.specs.Bounds.{bounded_with_row}
+use Rattle.capnp_arena.specs.Row.{few_with_row, with_row}
+use Rattle.capnp_arena.specs.declared.arena.listed.Listed.{Listed}
+use Rattle.capnp_arena.specs.declared.arena.allocator.Segment.{Ghosts}
+
+module _ {S : Type 0} (g : Ghosts S) where
+  -- the rows where that at id, if there is one, has ws over its allocated words, as bytes
+  abbrev pub with_bytes_listed : Listed S g → ℕ → List ℕ → Listed S g
+  with_bytes_listed v id ws = record v { rows = with_row g v.rows id ws; few = few_with_row g v.rows id ws max_segments v.few; bounded = bounded_with_row g v.rows id ws v.bounded }

@@ -1,0 +1,240 @@
+//! The rows of a builder arena, all in one list.
+ghost use Rattle.std.specs.Prelude.{◌≡◌, ◌≢◌, ◌<◌, ◌≤◌, ◌+◌, ◌*◌, ◌/◌, ◌↔◌, [], length, replicate, slice_get, Some, IsTrue, IsSome, IsNone, IfSome};
+ghost use Rattle.std.specs.Borrow.{sem, Lends, Array, u8 as byte};
+ghost use Rattle.capnp_format.specs.Bytes.{words_of, message};
+ghost use Rattle.capnp_format.specs.Segments.{segment, word_at, words_at, IsPlace};
+ghost use Rattle.capnp_arena.specs.Allocations.{max_segments};
+ghost use Rattle.capnp_arena.specs.Bounds.{HasBounds, view_of_rows};
+ghost use Rattle.capnp_arena.specs.Row.{shown, capacity_at};
+ghost use Rattle.capnp_arena.specs.Taking.{IsFirstFit, IsFull};
+ghost use Rattle.capnp_arena.specs.Written.{extended, with_word, with_words};
+
+use crate::arena::row::Row;
+use crate::arena::rows::{At, Place, allocated_in, copy_across_in};
+use crate::arena::{Segment, bounds};
+use std::alloc::Global;
+
+/// Rows that all stand in a list.
+pub(crate) struct Listed<S: Segment> {
+    pub(crate) rows: Vec<Row<S>>,
+    ghost few: { length rows.items ≤ max_segments },
+    ghost bounded: { HasBounds S.Segment rows.items },
+}
+
+impl<S: Segment> Listed<S> {
+    ghost use Rattle.capnp_arena.specs.Listed.{with_bytes_listed};
+    ghost use Rattle.capnp_arena.specs.contracts.arena.listed.Listed.{the_row};
+
+    /// No row.
+    #[inline(always)]
+    pub(crate) fn new(alloc: Global) -> Self
+        ensures { result.rows.items ≡ [] }
+    {
+        Listed {
+            rows: Vec::new(alloc),
+        }
+    }
+
+    /// How many rows there are.
+    #[inline(always)]
+    pub(crate) fn len(&self) -> usize
+        ensures { result ≡ length self.now.rows.items }
+    {
+        self.rows.len()
+    }
+
+    /// Whether a row has room for so many words more.
+    #[inline(always)]
+    fn has_room(&self, id: u32, amount: u32) -> bool
+        requires { id < length self.now.rows.items }
+        ensures { IsTrue result
+            ↔ (length (segment (message (shown S.Segment self.now.rows.items)) id) + amount
+            ≤ capacity_at S.Segment self.now.rows.items id) }
+    {
+        self.rows[id as usize].has_room(amount)
+    }
+
+    /// Takes words at the end of a row that has room for them.
+    #[inline(always)]
+    #[tactic(auto, using(crate::proofs::RowsLemmas::rows_written))]
+    pub(crate) fn take(&mut self, id: u32, amount: u32) -> u32
+        requires there { id < length self.old.rows.items }
+        requires fits { length (segment (message (shown S.Segment self.old.rows.items)) id)
+            + amount ≤ capacity_at S.Segment self.old.rows.items id }
+        ensures at { result
+            ≡ length (segment (message (shown S.Segment self.old.rows.items)) id) }
+        ensures taken { message (shown S.Segment self.new.rows.items)
+            ≡ extended (message (shown S.Segment self.old.rows.items)) id
+            (replicate amount 0) }
+        ensures room { capacity_at S.Segment self.new.rows.items
+            ≡ capacity_at S.Segment self.old.rows.items }
+    {
+        let row = &mut self.rows[id as usize];
+        row.take(amount)
+    }
+
+    /// Takes words at the end of a row; `None` where it has no room for them.
+    #[inline(always)]
+    pub(crate) fn allocate(&mut self, id: u32, amount: u32) -> Option<u32>
+        requires { id < length self.old.rows.items }
+        ensures exactly { IsSome result
+            ↔ (length (segment (message (shown S.Segment self.old.rows.items)) id) + amount
+            ≤ capacity_at S.Segment self.old.rows.items id) }
+        ensures taken { IfSome result (λ at. (at
+            ≡ length (segment (message (shown S.Segment self.old.rows.items)) id))
+            × (message (shown S.Segment self.new.rows.items)
+            ≡ extended (message (shown S.Segment self.old.rows.items)) id
+            (replicate amount 0))) }
+        ensures none { IsNone result → message (shown S.Segment self.new.rows.items)
+            ≡ message (shown S.Segment self.old.rows.items) }
+        ensures room { capacity_at S.Segment self.new.rows.items
+            ≡ capacity_at S.Segment self.old.rows.items }
+    {
+        if self.has_room(id, amount) {
+            Some(self.take(id, amount))
+        } else {
+            None
+        }
+    }
+
+    /// Reads a word.
+    #[inline(always)]
+    pub(crate) fn word(&self, id: u32, at: u32) -> u64
+        requires { IsPlace (message (shown S.Segment self.now.rows.items)) id at }
+        ensures { result ≡ word_at (message (shown S.Segment self.now.rows.items)) id at }
+    {
+        self.rows[id as usize].word(at)
+    }
+
+    /// Writes a word.
+    #[inline(always)]
+    #[tactic(auto, using(crate::proofs::RowsLemmas::rows_written))]
+    pub(crate) fn set_word(&mut self, id: u32, at: u32, word: u64)
+        requires { IsPlace (message (shown S.Segment self.old.rows.items)) id at }
+        ensures words { message (shown S.Segment self.new.rows.items)
+            ≡ with_word (message (shown S.Segment self.old.rows.items)) id at word }
+        ensures room { capacity_at S.Segment self.new.rows.items
+            ≡ capacity_at S.Segment self.old.rows.items }
+    {
+        let row = &mut self.rows[id as usize];
+        row.set_word(at, word);
+    }
+
+    /// Writes words over others.
+    #[inline(always)]
+    #[tactic(auto, using(crate::proofs::RowsLemmas::rows_written))]
+    pub(crate) fn copy_words(&mut self, id: u32, at: u32, from: &[u8])
+        requires there { id < length self.old.rows.items }
+        requires whole { length from.now ≡ 8 * length (words_of from.now) }
+        requires inside { at + length (words_of from.now)
+            ≤ length (segment (message (shown S.Segment self.old.rows.items)) id) }
+        ensures words { message (shown S.Segment self.new.rows.items)
+            ≡ with_words (message (shown S.Segment self.old.rows.items)) id at
+            (words_of from.now) }
+        ensures room { capacity_at S.Segment self.new.rows.items
+            ≡ capacity_at S.Segment self.old.rows.items }
+    {
+        let row = &mut self.rows[id as usize];
+        row.copy_words(at, from);
+    }
+
+    /// Writes `n` words of zero over others.
+    #[inline(always)]
+    #[tactic(auto, using(crate::proofs::RowsLemmas::rows_written))]
+    pub(crate) fn zero_words(&mut self, id: u32, at: u32, n: u32)
+        requires there { id < length self.old.rows.items }
+        requires inside { at + n
+            ≤ length (segment (message (shown S.Segment self.old.rows.items)) id) }
+        ensures words { message (shown S.Segment self.new.rows.items)
+            ≡ with_words (message (shown S.Segment self.old.rows.items)) id at
+            (replicate n 0) }
+        ensures room { capacity_at S.Segment self.new.rows.items
+            ≡ capacity_at S.Segment self.old.rows.items }
+    {
+        let row = &mut self.rows[id as usize];
+        row.zero_words(at, n);
+    }
+
+    /// Copies `n` words of a row over others of it, as they were before.
+    #[inline(always)]
+    #[tactic(auto, using(crate::proofs::RowsLemmas::rows_written))]
+    pub(crate) fn move_words(&mut self, id: u32, from: u32, to: u32, n: u32)
+        requires row { id < length self.old.rows.items }
+        requires there { from + n
+            ≤ length (segment (message (shown S.Segment self.old.rows.items)) id) }
+        requires inside { to + n
+            ≤ length (segment (message (shown S.Segment self.old.rows.items)) id) }
+        ensures words { message (shown S.Segment self.new.rows.items)
+            ≡ with_words (message (shown S.Segment self.old.rows.items)) id to
+            (words_at (message (shown S.Segment self.old.rows.items)) id from n) }
+        ensures room { capacity_at S.Segment self.new.rows.items
+            ≡ capacity_at S.Segment self.old.rows.items }
+    {
+        let row = &mut self.rows[id as usize];
+        row.move_words(from, to, n);
+    }
+
+    /// Copies `n` words of one row over those of another.
+    #[inline(always)]
+    pub(crate) fn copy_across(&mut self, from: Place, to: Place, n: u32)
+        requires rows { (from.row < length self.old.rows.items)
+            × (to.row < length self.old.rows.items) }
+        requires apart { from.row ≢ to.row }
+        requires there { from.at + n
+            ≤ length (segment (message (shown S.Segment self.old.rows.items)) from.row) }
+        requires inside { to.at + n
+            ≤ length (segment (message (shown S.Segment self.old.rows.items)) to.row) }
+        ensures words { message (shown S.Segment self.new.rows.items)
+            ≡ with_words (message (shown S.Segment self.old.rows.items)) to.row to.at
+            (words_at (message (shown S.Segment self.old.rows.items)) from.row from.at n) }
+        ensures room { capacity_at S.Segment self.new.rows.items
+            ≡ capacity_at S.Segment self.old.rows.items }
+    {
+        let old = At {
+            row: from.row as usize,
+            at: from.at,
+        };
+        let new = At {
+            row: to.row as usize,
+            at: to.at,
+        };
+        copy_across_in(&mut self.rows, old, new, n);
+    }
+
+    /// The allocated words of a row; `None` where there is no such row.
+    #[inline(always)]
+    pub(crate) fn allocated(&self, id: u32) -> Option<&[u8]>
+        ensures there { IsSome result ↔ (id < length self.now.rows.items) }
+        ensures bytes { IfSome result (λ s. slice_get (shown S.Segment self.now.rows.items) id
+            ≡ Some s.now) }
+    {
+        allocated_in(&self.rows, id as usize)
+    }
+
+    /// Lends the allocated words of a row, to be written.
+    #[inline(always)]
+    pub(crate) fn allocated_mut(&mut self, id: u32) -> &mut [u8]
+        requires { id < length self.old.rows.items }
+        ensures* lends { sem 𝓛 (Lends (the_row S.row S.Segment) (Array byte 0) self.entry result
+            (with_bytes_listed S.Segment self.old id)) }
+        ensures now { slice_get (shown S.Segment self.old.rows.items) id ≡ Some result.now }
+    {
+        let row = &mut self.rows[id as usize];
+        row.allocated_mut()
+    }
+
+    /// The first row that has room for so many words more.
+    #[inline(always)]
+    pub(crate) fn first_fit(&mut self, amount: u32) -> Option<u32>
+        ensures fit { IfSome result
+            (λ k. IsFirstFit (view_of_rows S.Segment self.old.rows.items) amount k) }
+        ensures full { IsNone result
+            → IsFull (view_of_rows S.Segment self.old.rows.items) amount }
+        ensures segments { shown S.Segment self.new.rows.items
+            ≡ shown S.Segment self.old.rows.items }
+        ensures capacity { capacity_at S.Segment self.new.rows.items
+            ≡ capacity_at S.Segment self.old.rows.items }
+    {
+        bounds::first_fit(&mut self.rows, amount)
+    }
+}

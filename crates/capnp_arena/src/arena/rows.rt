@@ -1,0 +1,539 @@
+//! The rows of a builder arena. The first stands in the struct itself, so that no memory is taken
+//! for it, and the others in a list.
+//!
+//! Most messages have one segment, and most words are written in it. So what is asked of row 0 is
+//! answered in place, and what is asked of another by a function that is called.
+ghost use Rattle.std.specs.Prelude.{◌≡◌, ◌≢◌, ◌<◌, ◌≤◌, ◌+◌, ◌-◌, ◌*◌, ◌/◌, ◌↔◌, ◌∷◌, [], length, replicate, slice_get, Some, IsSome, IsNone, IfSome};
+ghost use Rattle.std.specs.Borrow.{sem, Lends, Array, u8 as byte};
+ghost use Rattle.capnp_format.specs.Bytes.{words_of, message};
+ghost use Rattle.capnp_format.specs.Segments.{segment, word_at, words_at, IsPlace};
+ghost use Rattle.capnp_arena.specs.Allocations.{IsFresh};
+ghost use Rattle.capnp_arena.specs.Bounds.{HasBounds, view_of_rows};
+ghost use Rattle.capnp_arena.specs.Row.{GainsRow, most_others, shown, capacity_at};
+ghost use Rattle.capnp_arena.specs.Taking.{IsFirstFit, IsFull};
+ghost use Rattle.capnp_arena.specs.Written.{extended, with_word, with_words};
+
+use crate::arena::row::Row;
+use crate::arena::{Segment, bounds};
+use std::alloc::Global;
+use std::mem::replace;
+
+/// Takes words at the end of a row that has room for them.
+#[cold]
+#[inline(never)]
+#[tactic(auto, using(crate::proofs::RowsLemmas::rows_written))]
+fn take_in<S: Segment>(rows: &mut [Row<S>], id: usize, amount: u32) -> u32
+    requires there { id < length rows.old }
+    requires fits { length (segment (message (shown S.Segment rows.old)) id) + amount
+        ≤ capacity_at S.Segment rows.old id }
+    ensures at { result ≡ length (segment (message (shown S.Segment rows.old)) id) }
+    ensures taken { message (shown S.Segment rows.new)
+        ≡ extended (message (shown S.Segment rows.old)) id (replicate amount 0) }
+    ensures room { capacity_at S.Segment rows.new ≡ capacity_at S.Segment rows.old }
+    ensures many { length rows.new ≡ length rows.old }
+    ensures bounded { HasBounds S.Segment rows.old → HasBounds S.Segment rows.new }
+{
+    let row = &mut rows[id];
+    row.take(amount)
+}
+
+/// Takes words at the end of a row; `None` where it has no room for them.
+#[cold]
+#[inline(never)]
+fn allocate_in<S: Segment>(rows: &mut [Row<S>], id: usize, amount: u32) -> Option<u32>
+    requires { id < length rows.old }
+    ensures exactly { IsSome result
+        ↔ (length (segment (message (shown S.Segment rows.old)) id) + amount
+        ≤ capacity_at S.Segment rows.old id) }
+    ensures taken { IfSome result
+        (λ at. (at ≡ length (segment (message (shown S.Segment rows.old)) id))
+        × (message (shown S.Segment rows.new)
+        ≡ extended (message (shown S.Segment rows.old)) id (replicate amount 0))) }
+    ensures none { IsNone result
+        → message (shown S.Segment rows.new) ≡ message (shown S.Segment rows.old) }
+    ensures room { capacity_at S.Segment rows.new ≡ capacity_at S.Segment rows.old }
+    ensures many { length rows.new ≡ length rows.old }
+    ensures bounded { HasBounds S.Segment rows.old → HasBounds S.Segment rows.new }
+{
+    if rows[id].has_room(amount) {
+        Some(take_in(rows, id, amount))
+    } else {
+        None
+    }
+}
+
+/// Reads a word of a row.
+#[cold]
+#[inline(never)]
+fn word_in<S: Segment>(rows: &[Row<S>], id: usize, at: u32) -> u64
+    requires { IsPlace (message (shown S.Segment rows.now)) id at }
+    ensures { result ≡ word_at (message (shown S.Segment rows.now)) id at }
+{
+    rows[id].word(at)
+}
+
+/// Writes a word of a row.
+#[cold]
+#[inline(never)]
+#[tactic(auto, using(crate::proofs::RowsLemmas::rows_written))]
+fn set_word_in<S: Segment>(rows: &mut [Row<S>], id: usize, at: u32, word: u64)
+    requires { IsPlace (message (shown S.Segment rows.old)) id at }
+    ensures words { message (shown S.Segment rows.new)
+        ≡ with_word (message (shown S.Segment rows.old)) id at word }
+    ensures room { capacity_at S.Segment rows.new ≡ capacity_at S.Segment rows.old }
+    ensures many { length rows.new ≡ length rows.old }
+    ensures bounded { HasBounds S.Segment rows.old → HasBounds S.Segment rows.new }
+{
+    let row = &mut rows[id];
+    row.set_word(at, word);
+}
+
+/// Writes words over others of a row.
+#[cold]
+#[inline(never)]
+#[tactic(auto, using(crate::proofs::RowsLemmas::rows_written))]
+fn copy_words_in<S: Segment>(rows: &mut [Row<S>], id: usize, at: u32, from: &[u8])
+    requires there { id < length rows.old }
+    requires whole { length from.now ≡ 8 * length (words_of from.now) }
+    requires inside { at + length (words_of from.now)
+        ≤ length (segment (message (shown S.Segment rows.old)) id) }
+    ensures words { message (shown S.Segment rows.new)
+        ≡ with_words (message (shown S.Segment rows.old)) id at (words_of from.now) }
+    ensures room { capacity_at S.Segment rows.new ≡ capacity_at S.Segment rows.old }
+    ensures many { length rows.new ≡ length rows.old }
+    ensures bounded { HasBounds S.Segment rows.old → HasBounds S.Segment rows.new }
+{
+    let row = &mut rows[id];
+    row.copy_words(at, from);
+}
+
+/// Writes `n` words of zero over others of a row.
+#[cold]
+#[inline(never)]
+#[tactic(auto, using(crate::proofs::RowsLemmas::rows_written))]
+fn zero_words_in<S: Segment>(rows: &mut [Row<S>], id: usize, at: u32, n: u32)
+    requires there { id < length rows.old }
+    requires inside { at + n ≤ length (segment (message (shown S.Segment rows.old)) id) }
+    ensures words { message (shown S.Segment rows.new)
+        ≡ with_words (message (shown S.Segment rows.old)) id at (replicate n 0) }
+    ensures room { capacity_at S.Segment rows.new ≡ capacity_at S.Segment rows.old }
+    ensures many { length rows.new ≡ length rows.old }
+    ensures bounded { HasBounds S.Segment rows.old → HasBounds S.Segment rows.new }
+{
+    let row = &mut rows[id];
+    row.zero_words(at, n);
+}
+
+/// Copies `n` words of a row over others of it, as they were before.
+#[cold]
+#[inline(never)]
+#[tactic(auto, using(crate::proofs::RowsLemmas::rows_written))]
+fn move_words_in<S: Segment>(rows: &mut [Row<S>], id: usize, from: u32, to: u32, n: u32)
+    requires room { id < length rows.old }
+    requires there { from + n ≤ length (segment (message (shown S.Segment rows.old)) id) }
+    requires inside { to + n ≤ length (segment (message (shown S.Segment rows.old)) id) }
+    ensures words { message (shown S.Segment rows.new)
+        ≡ with_words (message (shown S.Segment rows.old)) id to
+        (words_at (message (shown S.Segment rows.old)) id from n) }
+    ensures room { capacity_at S.Segment rows.new ≡ capacity_at S.Segment rows.old }
+    ensures many { length rows.new ≡ length rows.old }
+    ensures bounded { HasBounds S.Segment rows.old → HasBounds S.Segment rows.new }
+{
+    let row = &mut rows[id];
+    row.move_words(from, to, n);
+}
+
+/// Copies `n` words of another row over those of one.
+#[inline(never)]
+#[tactic(auto, using(crate::proofs::RowsLemmas::rows_written))]
+fn copy_in<S: Segment>(rows: &mut [Row<S>], id: usize, to: u32, row: &Row<S>, from: u32, n: u32)
+    requires room { id < length rows.old }
+    requires there { from + n ≤ row.now.used }
+    requires inside { to + n ≤ length (segment (message (shown S.Segment rows.old)) id) }
+    ensures words { message (shown S.Segment rows.new)
+        ≡ with_words (message (shown S.Segment rows.old)) id to
+        (words_at (message (shown S.Segment (row.now ∷ []))) 0 from n) }
+    ensures room { capacity_at S.Segment rows.new ≡ capacity_at S.Segment rows.old }
+    ensures many { length rows.new ≡ length rows.old }
+    ensures bounded { HasBounds S.Segment rows.old → HasBounds S.Segment rows.new }
+{
+    let written = &mut rows[id];
+    written.copy_from(to, row, from, n);
+}
+
+/// A row of those behind the first, and a position in it.
+#[derive(Clone, Copy)]
+pub(crate) struct At {
+    pub(crate) row: usize,
+    pub(crate) at: u32,
+}
+
+/// Copies `n` words of one row over those of another.
+pub(crate) fn copy_across_in<S: Segment>(rows: &mut [Row<S>], from: At, to: At, n: u32)
+    requires rows { (from.row < length rows.old) × (to.row < length rows.old) }
+    requires apart { from.row ≢ to.row }
+    requires there { from.at + n
+        ≤ length (segment (message (shown S.Segment rows.old)) from.row) }
+    requires inside { to.at + n ≤ length (segment (message (shown S.Segment rows.old)) to.row) }
+    ensures words { message (shown S.Segment rows.new)
+        ≡ with_words (message (shown S.Segment rows.old)) to.row to.at
+        (words_at (message (shown S.Segment rows.old)) from.row from.at n) }
+    ensures room { capacity_at S.Segment rows.new ≡ capacity_at S.Segment rows.old }
+    ensures many { length rows.new ≡ length rows.old }
+    ensures bounded { HasBounds S.Segment rows.old → HasBounds S.Segment rows.new }
+{
+    if from.row < to.row {
+        let (front, back) = rows.split_at_mut(to.row);
+        let row = &mut back[0];
+        row.copy_from(to.at, &front[from.row], from.at, n);
+    } else {
+        let (front, back) = rows.split_at_mut(from.row);
+        let row = &mut front[to.row];
+        row.copy_from(to.at, &back[0], from.at, n);
+    }
+}
+
+/// The allocated words of a row; `None` where there is no such row.
+#[inline(always)]
+#[tactic(auto, using(crate::proofs::RowsLemmas::reading))]
+pub(crate) fn allocated_in<S: Segment>(rows: &[Row<S>], id: usize) -> Option<&[u8]>
+    ensures there { IsSome result ↔ (id < length rows.now) }
+    ensures bytes { IfSome result (λ s. slice_get (shown S.Segment rows.now) id ≡ Some s.now) }
+{
+    match rows.get(id) {
+        Some(row) => Some(row.allocated()),
+        None => None,
+    }
+}
+
+/// A row, and a position in it.
+#[derive(Clone, Copy)]
+pub(crate) struct Place {
+    pub(crate) row: u32,
+    pub(crate) at: u32,
+}
+
+/// Rows of which the first stands apart.
+pub(crate) struct Rows<S: Segment> {
+    pub(crate) first: Row<S>,
+    /// Whether there is a first row; else it is one of no words, and there are no others.
+    pub(crate) there: bool,
+    pub(crate) others: Vec<Row<S>>,
+    ghost few: { length others.items ≤ most_others there },
+    ghost bounded: { HasBounds S.Segment others.items },
+}
+
+impl<S: Segment> Rows<S> {
+    ghost use Rattle.capnp_arena.specs.Row.{allocated};
+    ghost use Rattle.capnp_arena.specs.Rows.{all, with_bytes_apart};
+    ghost use Rattle.capnp_arena.specs.contracts.arena.rows.Rows.{the_row};
+
+    /// No row.
+    pub(crate) fn new(alloc: Global) -> Self
+        ensures { all S.Segment result ≡ [] }
+    {
+        Rows {
+            first: Row {
+                segment: S::empty(alloc),
+                used: 0,
+                bound: 0,
+            },
+            there: false,
+            others: Vec::new(alloc),
+        }
+    }
+
+    /// How many rows there are.
+    pub(crate) fn len(&self) -> usize
+        ensures { result ≡ length (all S.Segment self.now) }
+    {
+        if self.there { self.others.len() + 1 } else { 0 }
+    }
+
+    /// Takes words at the end of a row that has room for them.
+    #[inline(always)]
+    #[tactic(auto, using(crate::proofs::ListedLemmas::listing))]
+    pub(crate) fn take(&mut self, id: u32, amount: u32) -> u32
+        requires there { id < length (all S.Segment self.old) }
+        requires fits { length (segment (message (shown S.Segment (all S.Segment self.old))) id)
+            + amount ≤ capacity_at S.Segment (all S.Segment self.old) id }
+        ensures at { result
+            ≡ length (segment (message (shown S.Segment (all S.Segment self.old))) id) }
+        ensures taken { message (shown S.Segment (all S.Segment self.new))
+            ≡ extended (message (shown S.Segment (all S.Segment self.old))) id
+            (replicate amount 0) }
+        ensures room { capacity_at S.Segment (all S.Segment self.new)
+            ≡ capacity_at S.Segment (all S.Segment self.old) }
+    {
+        if id == 0 {
+            self.first.take(amount)
+        } else {
+            take_in(&mut self.others, id as usize - 1, amount)
+        }
+    }
+
+    /// Takes words at the end of a row; `None` where it has no room for them.
+    #[inline(always)]
+    #[tactic(auto, using(crate::proofs::ListedLemmas::listing))]
+    pub(crate) fn allocate(&mut self, id: u32, amount: u32) -> Option<u32>
+        requires { id < length (all S.Segment self.old) }
+        ensures exactly { IsSome result
+            ↔ (length (segment (message (shown S.Segment (all S.Segment self.old))) id) + amount
+            ≤ capacity_at S.Segment (all S.Segment self.old) id) }
+        ensures taken { IfSome result (λ at. (at
+            ≡ length (segment (message (shown S.Segment (all S.Segment self.old))) id))
+            × (message (shown S.Segment (all S.Segment self.new))
+            ≡ extended (message (shown S.Segment (all S.Segment self.old))) id
+            (replicate amount 0))) }
+        ensures none { IsNone result → message (shown S.Segment (all S.Segment self.new))
+            ≡ message (shown S.Segment (all S.Segment self.old)) }
+        ensures room { capacity_at S.Segment (all S.Segment self.new)
+            ≡ capacity_at S.Segment (all S.Segment self.old) }
+    {
+        if id == 0 {
+            if self.first.has_room(amount) {
+                Some(self.first.take(amount))
+            } else {
+                None
+            }
+        } else {
+            allocate_in(&mut self.others, id as usize - 1, amount)
+        }
+    }
+
+    /// Reads a word.
+    #[inline(always)]
+    #[tactic(auto, using(crate::proofs::ListedLemmas::listing))]
+    pub(crate) fn word(&self, id: u32, at: u32) -> u64
+        requires { IsPlace (message (shown S.Segment (all S.Segment self.now))) id at }
+        ensures { result ≡ word_at (message (shown S.Segment (all S.Segment self.now))) id at }
+    {
+        if id == 0 {
+            self.first.word(at)
+        } else {
+            word_in(&self.others, id as usize - 1, at)
+        }
+    }
+
+    /// Writes a word.
+    #[inline(always)]
+    #[tactic(auto, using(crate::proofs::ListedLemmas::listing))]
+    pub(crate) fn set_word(&mut self, id: u32, at: u32, word: u64)
+        requires { IsPlace (message (shown S.Segment (all S.Segment self.old))) id at }
+        ensures words { message (shown S.Segment (all S.Segment self.new))
+            ≡ with_word (message (shown S.Segment (all S.Segment self.old))) id at word }
+        ensures room { capacity_at S.Segment (all S.Segment self.new)
+            ≡ capacity_at S.Segment (all S.Segment self.old) }
+    {
+        if id == 0 {
+            self.first.set_word(at, word)
+        } else {
+            set_word_in(&mut self.others, id as usize - 1, at, word);
+        }
+    }
+
+    /// Writes words over others.
+    #[inline(always)]
+    #[tactic(auto, using(crate::proofs::ListedLemmas::listing))]
+    pub(crate) fn copy_words(&mut self, id: u32, at: u32, from: &[u8])
+        requires there { id < length (all S.Segment self.old) }
+        requires whole { length from.now ≡ 8 * length (words_of from.now) }
+        requires inside { at + length (words_of from.now)
+            ≤ length (segment (message (shown S.Segment (all S.Segment self.old))) id) }
+        ensures words { message (shown S.Segment (all S.Segment self.new))
+            ≡ with_words (message (shown S.Segment (all S.Segment self.old))) id at
+            (words_of from.now) }
+        ensures room { capacity_at S.Segment (all S.Segment self.new)
+            ≡ capacity_at S.Segment (all S.Segment self.old) }
+    {
+        if id == 0 {
+            self.first.copy_words(at, from)
+        } else {
+            copy_words_in(&mut self.others, id as usize - 1, at, from);
+        }
+    }
+
+    /// Writes `n` words of zero over others.
+    #[inline(always)]
+    #[tactic(auto, using(crate::proofs::ListedLemmas::listing))]
+    pub(crate) fn zero_words(&mut self, id: u32, at: u32, n: u32)
+        requires there { id < length (all S.Segment self.old) }
+        requires inside { at + n
+            ≤ length (segment (message (shown S.Segment (all S.Segment self.old))) id) }
+        ensures words { message (shown S.Segment (all S.Segment self.new))
+            ≡ with_words (message (shown S.Segment (all S.Segment self.old))) id at
+            (replicate n 0) }
+        ensures room { capacity_at S.Segment (all S.Segment self.new)
+            ≡ capacity_at S.Segment (all S.Segment self.old) }
+    {
+        if id == 0 {
+            self.first.zero_words(at, n)
+        } else {
+            zero_words_in(&mut self.others, id as usize - 1, at, n);
+        }
+    }
+
+    /// Copies `n` words of a row over others of it, as they were before.
+    #[tactic(auto, using(crate::proofs::ListedLemmas::listing))]
+    pub(crate) fn move_words(&mut self, id: u32, from: u32, to: u32, n: u32)
+        requires row { id < length (all S.Segment self.old) }
+        requires there { from + n
+            ≤ length (segment (message (shown S.Segment (all S.Segment self.old))) id) }
+        requires inside { to + n
+            ≤ length (segment (message (shown S.Segment (all S.Segment self.old))) id) }
+        ensures words { message (shown S.Segment (all S.Segment self.new))
+            ≡ with_words (message (shown S.Segment (all S.Segment self.old))) id to
+            (words_at (message (shown S.Segment (all S.Segment self.old))) id from n) }
+        ensures room { capacity_at S.Segment (all S.Segment self.new)
+            ≡ capacity_at S.Segment (all S.Segment self.old) }
+    {
+        if id == 0 {
+            self.first.move_words(from, to, n)
+        } else {
+            move_words_in(&mut self.others, id as usize - 1, from, to, n);
+        }
+    }
+
+    /// Copies `n` words of one row over those of another.
+    #[tactic(auto, using(crate::proofs::ListedLemmas::listing))]
+    pub(crate) fn copy_across(&mut self, from: Place, to: Place, n: u32)
+        requires rows { (from.row < length (all S.Segment self.old))
+            × (to.row < length (all S.Segment self.old)) }
+        requires apart { from.row ≢ to.row }
+        requires there { from.at + n
+            ≤ length (segment (message (shown S.Segment (all S.Segment self.old))) from.row) }
+        requires inside { to.at + n
+            ≤ length (segment (message (shown S.Segment (all S.Segment self.old))) to.row) }
+        ensures words { message (shown S.Segment (all S.Segment self.new))
+            ≡ with_words (message (shown S.Segment (all S.Segment self.old))) to.row to.at
+            (words_at (message (shown S.Segment (all S.Segment self.old))) from.row from.at n) }
+        ensures room { capacity_at S.Segment (all S.Segment self.new)
+            ≡ capacity_at S.Segment (all S.Segment self.old) }
+    {
+        if from.row == 0 {
+            copy_in(
+                &mut self.others,
+                to.row as usize - 1,
+                to.at,
+                &self.first,
+                from.at,
+                n,
+            );
+        } else if to.row == 0 {
+            self.first
+                .copy_from(to.at, &self.others[from.row as usize - 1], from.at, n);
+        } else {
+            let old = At {
+                row: from.row as usize - 1,
+                at: from.at,
+            };
+            let new = At {
+                row: to.row as usize - 1,
+                at: to.at,
+            };
+            copy_across_in(&mut self.others, old, new, n);
+        }
+    }
+
+    /// The allocated words of a row; `None` where there is no such row.
+    #[inline(always)]
+    pub(crate) fn allocated(&self, id: u32) -> Option<&[u8]>
+        ensures there { IsSome result ↔ (id < length (all S.Segment self.now)) }
+        ensures bytes { IfSome result (λ s. slice_get (shown S.Segment (all S.Segment self.now)) id
+            ≡ Some s.now) }
+    {
+        if id > 0 {
+            return allocated_in(&self.others, id as usize - 1);
+        }
+        if self.there {
+            Some(self.first.allocated())
+        } else {
+            None
+        }
+    }
+
+    /// Lends the allocated words of the first row.
+    #[inline(always)]
+    fn first_mut(&mut self) -> &mut [u8]
+        ensures* lends { sem 𝓛 (Lends (the_row S.row S.Segment) (Array byte 0) self.entry result
+            (with_bytes_apart S.Segment self.old 0)) }
+        ensures now { result.now ≡ allocated S.Segment self.old.first }
+    {
+        self.first.allocated_mut()
+    }
+
+    /// Lends the allocated words of another row.
+    #[cold]
+    #[inline(never)]
+    fn other_mut(&mut self, id: u32) -> &mut [u8]
+        requires some { 0 < id }
+        requires there { id < length (all S.Segment self.old) }
+        ensures* lends { sem 𝓛 (Lends (the_row S.row S.Segment) (Array byte 0) self.entry result
+            (with_bytes_apart S.Segment self.old id)) }
+        ensures now { slice_get (shown S.Segment (all S.Segment self.old)) id ≡ Some result.now }
+    {
+        let row = &mut self.others[id as usize - 1];
+        row.allocated_mut()
+    }
+
+    /// Lends the allocated words of a row, to be written.
+    #[inline(always)]
+    pub(crate) fn allocated_mut(&mut self, id: u32) -> &mut [u8]
+        requires { id < length (all S.Segment self.old) }
+        ensures* lends { sem 𝓛 (Lends (the_row S.row S.Segment) (Array byte 0) self.entry result
+            (with_bytes_apart S.Segment self.old id)) }
+        ensures now { slice_get (shown S.Segment (all S.Segment self.old)) id ≡ Some result.now }
+    {
+        if id == 0 {
+            self.first_mut()
+        } else {
+            self.other_mut(id)
+        }
+    }
+
+    /// The first row that has room for so many words more. Where it is row 0, as in most messages,
+    /// no bound is looked at.
+    #[inline(always)]
+    pub(crate) fn first_fit(&mut self, amount: u32) -> Option<u32>
+        ensures fit { IfSome result
+            (λ k. IsFirstFit (view_of_rows S.Segment (all S.Segment self.old)) amount k) }
+        ensures full { IsNone result
+            → IsFull (view_of_rows S.Segment (all S.Segment self.old)) amount }
+        ensures segments { shown S.Segment (all S.Segment self.new)
+            ≡ shown S.Segment (all S.Segment self.old) }
+        ensures capacity { capacity_at S.Segment (all S.Segment self.new)
+            ≡ capacity_at S.Segment (all S.Segment self.old) }
+    {
+        if self.there {
+            if self.first.has_room(amount) {
+                return Some(0);
+            }
+            match bounds::first_by_bounds(&mut self.others, amount) {
+                Some(k) => Some(k + 1),
+                None => None,
+            }
+        } else {
+            None
+        }
+    }
+}
+
+impl<S: Segment + Drop> Rows<S> {
+    ghost use Rattle.capnp_arena.specs.Rows.{all};
+
+    /// The first row, of a segment with none of its words allocated.
+    pub(crate) fn put_first(&mut self, segment: S)
+        requires none { length (all S.Segment self.old) ≡ 0 }
+        requires fresh { IsFresh 0 (S.Segment.content segment) }
+        ensures { GainsRow S.Segment (all S.Segment self.old) (all S.Segment self.new) segment }
+    {
+        let empty = replace(&mut self.first, Row::new(segment));
+        self.there = true;
+        let Row {
+            segment,
+            used: _,
+            bound: _,
+        } = empty;
+        drop(segment);
+    }
+}
