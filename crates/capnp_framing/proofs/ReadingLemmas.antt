@@ -57,6 +57,12 @@ read_on a b c n k xs part l f h =
 pub read_over : (a b c : Option (List ℕ)) (n k m : ℕ) (xs part : List ℕ) → n ≤ length xs → k ≤ length part → Consumes a b (take n xs) → Consumes b c (take k part) → Consumes a c (take (n + k) (put_mid n m xs part))
 read_over a b c n k m xs part l h f g = read_on a b c n k xs (part ++ drop m (drop n xs)) l f (subst (Consumes b c) (sym (take-append-le k part (drop m (drop n xs)) h)) g)
 
+-- bytes behind the first n are read, which stay
+pub read_more : (a b c : Option (List ℕ)) (n end : ℕ) (xs ys : List ℕ) → n ≤ end → take n ys ≡ take n xs → Consumes a b (take n xs) → Consumes b c (take (end - n) (drop n ys)) → Consumes a c (take end ys)
+read_more a b c n end xs ys l same f g =
+    subst (Consumes a c) (sym (ap (λ k. take k ys) (let e : end ≡ n + (end - n) = omega arith in e) ∙ take-add n (end - n) ys))
+    (consumes_both a b c (take n ys) (take (end - n) (drop n ys)) (subst (Consumes a b) (sym same) f) g)
+
 pub told_fewer : (i n : ℕ) (bs : List ℕ) → i ≤ n → words_told i bs ≤ words_told n bs
 told_fewer zero n bs h = omega arith
 told_fewer (suc i) zero bs h = absurd (omega arith)

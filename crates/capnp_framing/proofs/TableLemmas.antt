@@ -1,8 +1,8 @@
 -- A table is written number by number, and the words segment by segment.
-use Rattle.std.proofs.Common.{◌≡◌, ℕ, zero, suc, ◌+◌, ◌-◌, ◌*◌, ◌/◌, ◌^◌, ◌<◌, ◌≤◌, List, [], ◌∷◌, ◌++◌, length, get_or, take, drop, replicate, refl, sym, ap, ap₂, ◌∙◌, arith, length-append, length-take, append-nil, append_assoc, take-add, take_at, drop_at, Some}
+use Rattle.std.proofs.Common.{◌≡◌, ℕ, zero, suc, ◌+◌, ◌-◌, ◌*◌, ◌/◌, ◌%◌, ◌^◌, ◌<◌, ◌≤◌, List, [], ◌∷◌, ◌++◌, length, get_or, take, drop, replicate, refl, sym, ap, ap₂, ◌∙◌, arith, length-append, append-nil, append_assoc, take_at, drop_at, Some}
 use Rattle.std.specs.List.{All, slice_get}
 use Rattle.std.specs.Int.{to_le_bytes, w32}
-use Rattle.std.proofs.lemmas.List.{length-map, take_more, drop_more, drop_all, take-replicate, drop-replicate}
+use Rattle.std.proofs.lemmas.List.{length-map, drop_more, drop_all, drop-replicate}
 use Rattle.std.proofs.lemmas.Nat.{le_bytes_8}
 use Rattle.capnp_format.specs.Bytes.{message, words_of}
 use Rattle.capnp_format.specs.Segments.{Segments, segment}
@@ -15,49 +15,49 @@ pub length-lengths : (S : Segments) → length (lengths S) ≡ 4 * length S
 length-lengths [] = refl
 length-lengths (ws ∷ S) = omega (arith, length-lengths S, length-append (to_le_bytes w32 (length ws)) (lengths S))
 
-lengths-append : (S R : Segments) → lengths (S ++ R) ≡ lengths S ++ lengths R
-lengths-append [] R = refl
-lengths-append (ws ∷ S) R = ap (λ (xs : List ℕ). to_le_bytes w32 (length ws) ++ xs) (lengths-append S R) ∙ sym (append_assoc (to_le_bytes w32 (length ws)) (lengths S) (lengths R))
-
-lengths-more : (S : Segments) (i : ℕ) → i < length S → lengths (take (i + 1) S) ≡ lengths (take i S) ++ to_le_bytes w32 (length (segment S i))
-lengths-more S i h =
-    ap lengths (take_more S i [] h) ∙ lengths-append (take i S) (segment S i ∷ []) ∙ ap (λ (xs : List ℕ). lengths (take i S) ++ xs) (append-nil (to_le_bytes w32 (length (segment S i))))
-
 -- zeros behind a front, the first of which are written over
 put_front : (front ys : List ℕ) (n k m : ℕ) → length front ≡ n → k ≤ m → put_mid n k (front ++ replicate m 0) ys ≡ front ++ (ys ++ replicate (m - k) 0)
 put_front front ys n k m e l =
     ap₂ (λ (xs zs : List ℕ). xs ++ (ys ++ zs)) (take_at front (replicate m 0) n e) (ap (drop k) (drop_at front (replicate m 0) n e) ∙ drop-replicate k m 0)
 
--- the number of segments
-pub count_put : (number : ℕ) (S : Segments) (to : List ℕ) → to ≡ replicate 2056 0 → put_mid 0 4 to (to_le_bytes w32 number) ≡ to_le_bytes w32 number ++ (lengths (take 0 S) ++ replicate (2052 - 4 * 0) 0)
-count_put number S to e = ap (λ xs. put_mid 0 4 xs (to_le_bytes w32 number)) e ∙ put_front [] (to_le_bytes w32 number) 0 4 2056 refl (omega arith)
+-- two numbers
+pub two_put : (first second : ℕ) (to : List ℕ) → to ≡ replicate 8 0 → put_mid 4 4 (put_mid 0 4 to (to_le_bytes w32 first)) (to_le_bytes w32 second) ≡ to_le_bytes w32 first ++ to_le_bytes w32 second
+two_put first second to e =
+    ap (λ xs. put_mid 4 4 (put_mid 0 4 xs (to_le_bytes w32 first)) (to_le_bytes w32 second)) e
+    ∙ ap (λ xs. put_mid 4 4 xs (to_le_bytes w32 second)) (put_front [] (to_le_bytes w32 first) 0 4 8 refl (omega arith))
+    ∙ put_front (to_le_bytes w32 first) (to_le_bytes w32 second) 4 4 4 refl (omega arith)
+    ∙ ap (λ (xs : List ℕ). to_le_bytes w32 first ++ xs) (append-nil (to_le_bytes w32 second))
 
--- the length of one segment more
-pub length_put : (four : List ℕ) (S : Segments) (i at n : ℕ) (to : List ℕ) → length four ≡ 4 → i < length S → length S ≤ 512 → at ≡ 4 + 4 * i → n ≡ length (segment S i) → to ≡ four ++ (lengths (take i S) ++ replicate (2052 - 4 * i) 0) →
-    put_mid at 4 to (to_le_bytes w32 n) ≡ four ++ (lengths (take (i + 1) S) ++ replicate (2052 - 4 * (i + 1)) 0)
-length_put four S i at n to long inside few place same e =
-    let front : List ℕ = four ++ lengths (take i S) in
-    let bytes : List ℕ = to_le_bytes w32 (length (segment S i)) in
-    let m : ℕ = 2052 - 4 * i in
-    let size : length front ≡ 4 + 4 * i = omega (arith, length-append four (lengths (take i S)), length-lengths (take i S), length-take i S, long) in
-    rw (place, same)
-    (ap (λ xs. put_mid (4 + 4 * i) 4 xs bytes) (e ∙ sym (append_assoc four (lengths (take i S)) (replicate m 0)))
-    ∙ put_front front bytes (4 + 4 * i) 4 m size (omega arith)
-    ∙ append_assoc four (lengths (take i S)) (bytes ++ replicate (m - 4) 0)
-    ∙ ap (λ (xs : List ℕ). four ++ xs) (sym (append_assoc (lengths (take i S)) bytes (replicate (m - 4) 0)))
-    ∙ ap₂ (λ (xs : List ℕ) k. four ++ (xs ++ replicate k 0)) (sym (lengths-more S i inside)) (let k : m - 4 ≡ 2052 - 4 * (i + 1) = omega arith in k))
+-- The lengths of the last segments of a message of which an odd number is written, and the padding.
+abbrev pub lengths_left : Segments → List ℕ
+lengths_left S = lengths S ++ replicate (4 * (length S % 2)) 0
 
--- the table with its padding
-pub table_cut : (four : List ℕ) (S : Segments) (n : ℕ) → length four ≡ 4 → n ≡ length S → n ≤ 512 → take (8 * (n / 2 + 1)) (four ++ (lengths S ++ replicate (2052 - 4 * n) 0)) ≡ four ++ (lengths S ++ replicate (padding_size n) 0)
-table_cut four S n long counts few =
-    let front : List ℕ = four ++ lengths S in
-    let zeros : List ℕ = replicate (2052 - 4 * n) 0 in
-    let size : length front ≡ 4 + 4 * n = omega (arith, length-append four (lengths S), length-lengths S, long, counts) in
-    ap₂ take (let k : 8 * (n / 2 + 1) ≡ 4 + 4 * n + padding_size n = omega arith in k) (sym (append_assoc four (lengths S) zeros))
-    ∙ take-add (4 + 4 * n) (padding_size n) (front ++ zeros)
-    ∙ ap₂ (λ (xs ys : List ℕ). xs ++ take (padding_size n) ys) (take_at front zeros (4 + 4 * n) size) (drop_at front zeros (4 + 4 * n) size)
-    ∙ ap (λ (xs : List ℕ). front ++ xs) (take-replicate (padding_size n) (2052 - 4 * n) 0 (omega arith))
-    ∙ append_assoc four (lengths S) (replicate (padding_size n) 0)
+-- the number of segments and the length of the first
+pub table_first : (S : Segments) (n : ℕ) → n ≡ length S → 1 ≤ n →
+    to_le_bytes w32 (n - 1) ++ (lengths S ++ replicate (padding_size n) 0) ≡ (to_le_bytes w32 (n - 1) ++ to_le_bytes w32 (length (segment S 0))) ++ lengths_left (drop 1 S)
+table_first [] n e h = absurd (omega arith)
+table_first (ws ∷ S) n e h =
+    let four : List ℕ = to_le_bytes w32 (n - 1) in
+    let first : List ℕ = to_le_bytes w32 (length ws) in
+    ap (λ (xs : List ℕ). four ++ xs) (append_assoc first (lengths S) (replicate (padding_size n) 0))
+    ∙ sym (append_assoc four first (lengths S ++ replicate (padding_size n) 0))
+    ∙ ap (λ k. (four ++ first) ++ (lengths S ++ replicate k 0)) (let k : padding_size n ≡ 4 * (length S % 2) = omega (arith, e) in k)
+
+-- two lengths more, or one and the padding
+pub table_next : (S : Segments) (i : ℕ) → i < length S →
+    lengths_left (drop i S) ≡ (to_le_bytes w32 (length (segment S i)) ++ to_le_bytes w32 (length (segment S (suc i)))) ++ lengths_left (drop (suc (suc i)) S)
+table_next [] i h = absurd (omega arith)
+table_next (ws ∷ []) zero h = refl
+table_next (ws ∷ vs ∷ S) zero h =
+    let a : List ℕ = to_le_bytes w32 (length ws) in
+    let b : List ℕ = to_le_bytes w32 (length vs) in
+    ap₂ (λ (xs : List ℕ) k. xs ++ replicate k 0) (sym (append_assoc a b (lengths S))) (let k : 4 * (length (ws ∷ vs ∷ S) % 2) ≡ 4 * (length S % 2) = omega arith in k)
+    ∙ append_assoc (a ++ b) (lengths S) (replicate (4 * (length S % 2)) 0)
+table_next (ws ∷ S) (suc i) h = table_next S i (omega arith)
+
+-- all are written
+pub table_end : (S : Segments) (i : ℕ) → length S ≤ i → lengths_left (drop i S) ≡ []
+table_end S i h = ap lengths_left (drop_all i S h)
 
 -- the words of a segment
 

@@ -1,5 +1,5 @@
 -- Bytes are written one after the other.
-use Rattle.std.proofs.Common.{◌≡◌, ℕ, List, [], ◌++◌, Option, Some, None, refl, arith}
+use Rattle.std.proofs.Common.{◌≡◌, ℕ, List, [], ◌++◌, Option, Some, None, refl, sym, ap, ◌∙◌, append-nil, arith}
 use Rattle.std.specs.Io.KnownBytes.{Appends}
 use Rattle.std.proofs.lemmas.Grind.{common_steps}
 
@@ -27,6 +27,11 @@ left_over_none {a = None} w e = tt
 left_over_none {a = Some x} {b = None} w e = absurd w.left_over
 left_over_none {a = Some x} {b = Some y} {c = None} w e = absurd w.appended
 left_over_none {a = Some x} {b = Some y} {c = Some z} w e = grind (arith, common_steps)
+
+pub left_over_end : (a b : Option (List ℕ)) (all rest : List ℕ) → IsLeftOver a b all rest → rest ≡ [] → Appends a b all
+left_over_end None b all rest left e = tt
+left_over_end (Some x) None all rest left e = absurd left
+left_over_end (Some x) (Some y) all rest left e = sym (append-nil y) ∙ ap (λ (xs : List ℕ). y ++ xs) (sym e) ∙ left
 
 -- nothing is written yet
 pub left_over_all : (a : Option (List ℕ)) (all : List ℕ) → IsLeftOver a a all all

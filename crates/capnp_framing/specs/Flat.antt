@@ -1,5 +1,5 @@
 -- Frames that stand in memory as a whole.
-use Rattle.std.specs.Prelude.{◌≡◌, ℕ, ◌*◌, ◌<◌, ◌≤◌, List, [], ◌∷◌, ◌++◌, take, drop, slice_index, zero, suc}
+use Rattle.std.specs.Prelude.{◌≡◌, ℕ, ◌+◌, ◌*◌, ◌<◌, ◌≤◌, List, [], ◌∷◌, ◌++◌, length, take, drop, slice_index, zero, suc}
 use Rattle.std.specs.Int.{from_le_bytes, w32}
 use Rattle.capnp_format.specs.Segments.{Segments}
 use Rattle.capnp_framing.specs.Frames.{IsFrameOf}
@@ -23,6 +23,10 @@ abbrev pub AreStarts : ℕ → List ℕ → List ℕ → Type 0
 AreStarts n table starts =
     (k : ℕ) → 32 * k < n →
     (slice_index starts k ≡ words_told (32 * k) table) × (slice_index starts k ≤ max_length * (32 * k))
+
+-- Each of n segments of which a table tells the lengths ends behind so many words.
+abbrev pub AreEnds : ℕ → List ℕ → List ℕ → Type 0
+AreEnds n table ends = (n ≤ length ends) × ((k : ℕ) → k < n → slice_index ends k ≡ words_told (k + 1) table)
 
 -- Bytes begin with a frame of a message of at most so many words.
 pub record BeginsWithFrame (bytes : List ℕ) (most : ℕ) (S : Segments) : Type 0 where

@@ -4,3 +4,4 @@ pub mod Laws
 pub mod Names
 pub mod Reading
 pub mod Writing
+pub mod Wholeness

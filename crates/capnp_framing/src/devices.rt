@@ -1,6 +1,7 @@
 //! Where bytes come from and go to. A device that fails once says so from then on.
 ghost use Rattle.std.specs.Prelude.{◌≡◌, ◌<◌, ◌≤◌, ◌+◌, ◌++◌, ℕ, List, [], Bool, true, false, Option, Some, length, take, IfOk, OnOk, OnErr};
 ghost use Rattle.std.specs.Io.KnownBytes.{ReadConsumes, WriteAppends, Keeps, Appends};
+ghost use Rattle.capnp_framing.specs.Wholeness.{KeepsWhole};
 
 use std::alloc::Global;
 use std::io::{Read, Write};
@@ -17,11 +18,16 @@ pub trait Input {
     // Whether a read has failed.
     ghost has_failed: { Self → Bool };
 
+    // Whether the bytes end where they may, as those of a packed input do that isn't cut short; `None` where that
+    // isn't known.
+    ghost ends_whole: { Self → Option Bool };
+
     /// Reads at most `to.len()` bytes to the front of `to`, and gives their number. Where `to` has
     /// room, none are given only at the end of the input. A read that fails takes no bytes.
     fn read(&mut self, to: &mut [u8]) -> Result<usize, DeviceFault>
         ensures bound { IfOk result (λ n. n ≤ length to.new) }
         ensures bytes { ReadConsumes (remaining self.old) (remaining self.new) result to.new }
+        ensures whole { KeepsWhole (ends_whole self.old) (ends_whole self.new) }
         ensures works { OnOk result (has_failed self.new ≡ has_failed self.old) }
         ensures fails { OnErr result (has_failed self.new ≡ true) };
 
@@ -71,6 +77,8 @@ impl Input for MemoryInput<'_> {
     ghost remaining = { λ m. Some m.bytes.now };
 
     ghost has_failed = { λ _. false };
+
+    ghost ends_whole = { λ _. Some true };
 
     fn read(&mut self, to: &mut [u8]) -> Result<usize, DeviceFault> {
         let n = to.len().min(self.bytes.len());
@@ -169,6 +177,8 @@ impl<R: Read> Input for ReaderInput<R> {
     ghost remaining = { λ r. R.remaining r.reader };
 
     ghost has_failed = { λ r. r.failed };
+
+    ghost ends_whole = { λ _. Some true };
 
     fn read(&mut self, to: &mut [u8]) -> Result<usize, DeviceFault> {
         match self.reader.read(to) {

@@ -18,6 +18,12 @@ frame_written r words {before = before} {now = now} (Ok x) P same settled (t, re
     (t, subst (λ (l : Option ℕ). IsReadWithin r l now t) same there, subst (λ (S : Segments). P (frame S)) is_made printed)
 frame_written r words (Err k) P same settled copied printed = tt
 
+-- a copy leaves of the limit what it left of the same limit
+pub copy_settled : (r : Reading) (words : Segments) {before left after now : Option ℕ} → before ≡ left → now ≡ after → (t : Tree) × IsReadWithin r before after t × (words ≡ encoding (trim t) ∷ []) → (t : Tree) × IsReadWithin r left now t × (words ≡ encoding (trim t) ∷ [])
+copy_settled r words {before = before} {now = now} same settled (t, read, is_made) =
+    let there = subst (λ (a : Option ℕ). IsReadWithin r before a t) (sym settled) read in
+    (t, subst (λ (l : Option ℕ). IsReadWithin r l now t) same there, is_made)
+
 -- a copy that is refused is refused for want of memory, or as the copy within the limit is
 pub why_layout : (r : Reading) {before left : Option ℕ} {kind k : ErrorKind} {old new : ℕ} → before ≡ left → kind ≡ k → LacksMemoryOr old new kind (RefusesCopy r before max_segment_words kind) → (k ≡ AllocationFailed) ⊎ RefusesCopy r left max_segment_words k
 why_layout r same named (inl (memory, risen)) = inl (sym named ∙ memory)

@@ -1,5 +1,6 @@
 -- What the test at the root of a message of one segment says of the whole message.
-use Rattle.std.proofs.Common.{◌≡◌, ◌↔◌, inl, inr, ℕ, ◌+◌, ◌-◌, ◌<◌, ◌≤◌, List, [], ◌∷◌, take, drop, get_or, length, Bool, true, false, nat_eq, IsTrue, Option, Some, None, refl, ap, sym, ◌∙◌, subst, arith, eq-eqb, eqb-true, length-drop, length-take}
+use Rattle.std.proofs.Common.{◌≡◌, ◌↔◌, inl, inr, ℕ, ◌+◌, ◌-◌, ◌<◌, ◌≤◌, List, [], ◌∷◌, take, drop, get_or, length, Bool, true, false, Option, Some, None, refl, ap, sym, ◌∙◌, subst, arith, length-drop, length-take}
+use Rattle.std.specs.Prelude.{IsNone, IfNone, IfSome, is_some, not}
 use Rattle.std.proofs.lemmas.List.{take_all}
 use Rattle.capnp_words.specs.declared.error.ErrorKind.{ErrorKind}
 use Rattle.capnp_words.specs.Meter.{Meter, FitsIn, less, raised, spent}
@@ -13,13 +14,17 @@ use Rattle.capnp_arena.specs.Checks.{total_words}
 use Rattle.capnp_arena.proofs.MessageLemmas.{length-message}
 use Rattle.capnp_objects.specs.Reading.{Reading}
 use Rattle.capnp_objects.specs.Spending.{Paid}
-use Rattle.capnp_readers.specs.Checking.{IsCanonicalAt, IsFound, TestEnds, IsUnfit, TestStops, progress}
+use Rattle.capnp_readers.specs.declared.readers.canonical_fault.CanonicalFault.{CanonicalFault}
+use Rattle.capnp_readers.specs.declared.readers.canonical_fault.CanonicalFaultReason.TheVariants.{WordsBehind}
+use Rattle.capnp_readers.specs.Faults.{FaultIs}
+use Rattle.capnp_readers.specs.Checking.{IsCanonicalAt, IsFound, TestStops, progress}
+use Rattle.capnp_readers.proofs.Fails.{ends_so, fault_unfit}
 use Rattle.capnp_readers.proofs.NeverStops.{stops_never}
 use Rattle.capnp_layout.specs.Answers.{CoversRoot, message_root}
 use Rattle.capnp_framing.specs.Frames.{frame}
 use Rattle.capnp_framing.specs.Reading.{total}
 use Rattle.capnp_framing.proofs.FrameLemmas.{same_frames}
-use Rattle.capnp_layout.specs.CanonicalMessages.{CanBeTested, IsCanonicalMessage, IsCanonicalOf, IsPaid, MeansItsValue, MessageTestFails, OneCanonicalValue, SameCanonicalFrames}
+use Rattle.capnp_layout.specs.CanonicalMessages.{CanBeTested, IsCanonicalMessage, IsCanonicalOf, IsMessageFault, IsPaid, IsRootFault, MeansItsValue, MessageTestFails, OneCanonicalValue, SameCanonicalFrames}
 use Rattle.capnp_layout.proofs.CanonLemmas.{covers_root}
 use Rattle.capnp_layout.proofs.RunLemmas.{covers_rest}
 use Rattle.capnp_layout.proofs.TryLemmas.{total-message}
@@ -74,49 +79,23 @@ paid_both {m} {c = c} {i = i} one paid = record {
   spent = paid.spent ∙ ap (λ (left : Option ℕ). let now : Meter = record { left = left; followed = raised m.followed i } in now) (both_less m.left c);
 }
 
--- What the answer of the test of a message is: whether it is canonical, what is paid for it, and where it fails.
-pub record IsAnswered (S : Segments) (n : ℕ) (m m' : Meter) (yes : Bool) : Type 0 where
-  pub exactly : IsTrue yes ↔ IsCanonicalMessage S
-  pub paid : yes ≡ true → IsPaid S m m'
-  pub failed : yes ≡ false → MessageTestFails S n m m'
+-- where the test finds a value whose words end with the segment, the message is canonical
+pub found_whole : {S : Segments} {n h : ℕ} {m m' : Meter} → length S ≡ 1 → CoversRoot S m.left → IsFound (message_root S n) (progress 1 (spent m 1)) (progress h m') → h ≡ length (segment S 0) → IsPaid S m m'
+found_whole one covers (t, finds) full = (t, stands_alone one finds.stands (sym finds.head_is ∙ full), paid_both covers.covered finds.paid)
 
--- where the test finds a value, the message is canonical exactly where the words end there
-pub found_answers : {S : Segments} {n h : ℕ} {m m' : Meter} (ends : Bool) → length S ≡ 1 → CoversRoot S m.left → IsFound (message_root S n) (progress 1 (spent m 1)) (progress h m') → IsTrue ends ↔ (h ≡ length (segment S 0)) → IsAnswered S n m m' ends
-found_answers {S} {n} {h} {m} {m'} ends one covers (t, finds) same =
-    let full = λ (is : h ≡ length (segment S 0)). stands_alone one finds.stands (sym finds.head_is ∙ is) in
-    record {
-      exactly = (
-        λ yes. (t, full (same.0 yes)),
-        λ (u, canonical). (
-            let there : 1 ≤ length (segment S 0) = omega (arith, finds.stands.0) in
-            let value : t ≡ u = one_stands {S = S} {s = 0} {h = 1} there (record { stands = finds.stands }) (record { stands = canonical_stands canonical }) in
-            same.1 (finds.head_is ∙ ap (λ v. 1 + word_count v) value ∙ sym (canonical_length canonical))
-            ),
-      );
-      paid = λ yes. (t, full (same.0 yes), paid_both covers.covered finds.paid);
-      failed = λ no. (
-        covers,
-        inr (
-          t,
-          h,
-          finds,
-          (
-              let in_segment = within S t finds.stands in
-              let other : h ≡ length (segment S 0) → ⊥ = λ is. (let wrong : IsTrue false = subst IsTrue no (same.1 is) in cc) in
-              let head = finds.head_is in
-              omega arith
-              ),
-        ),
-      );
-    }
+-- where there are words behind these, it isn't
+pub found_more : {S : Segments} {n h : ℕ} {m' : Meter} {from : Meter} → IsFound (message_root S n) (progress 1 from) (progress h m') → (h ≡ length (segment S 0) → ⊥) → IsCanonicalMessage S → ⊥
+found_more {S} (t, finds) more (u, canonical) =
+    let there : 1 ≤ length (segment S 0) = omega (arith, finds.stands.0) in
+    let value : t ≡ u = one_stands {S = S} {s = 0} {h = 1} there (record { stands = finds.stands }) (record { stands = canonical_stands canonical }) in
+    more (finds.head_is ∙ ap (λ v. 1 + word_count v) value ∙ sym (canonical_length canonical))
 
--- where it finds none, the message isn't canonical
-pub none_answers : {S : Segments} {n : ℕ} {m m' : Meter} → CoversRoot S m.left → IsTrue false ↔ IsCanonicalAt (message_root S n) 1 → TestEnds IsUnfit (message_root S n) (progress 1 (spent m 1)) m' → IsAnswered S n m m' false
-none_answers covers same fails = record {
-  exactly = (λ wrong. absurd (let never : false ≡ true = wrong in cc), λ (t, canonical). same.1 (t, canonical_stands canonical));
-  paid = λ wrong. absurd (cc);
-  failed = λ no. (covers, inl fails);
-}
+pub more_fault : {S : Segments} {n h : ℕ} {m m' : Meter} {f : CanonicalFault} → CoversRoot S m.left → IsFound (message_root S n) (progress 1 (spent m 1)) (progress h m') → (h ≡ length (segment S 0) → ⊥) → FaultIs f WordsBehind 0 h → IsRootFault f S n m m'
+more_fault {S} {h = h} covers (t, finds) more fault =
+    let in_segment = within S t finds.stands in
+    let head = finds.head_is in
+    let fewer : 1 + word_count t < length (segment S 0) = omega (arith, in_segment, head, more) in
+    (covers, inr (t, h, finds, fewer, fault))
 
 -- a canonical message has a word for its root
 has_root : {S : Segments} {t : Tree} → IsCanonicalOf S t → 1 ≤ length (segment S 0)
@@ -141,16 +120,42 @@ pub record IsRootRead (S : Segments) (n : ℕ) (old : Meter) (r : Reading) (m : 
   pub covers : CoversRoot S old.left
 
 -- what holds where the root is read holds at the root
-moved : {S : Segments} {n : ℕ} {old : Meter} {r : Reading} {m : Meter} (P : Reading → Meter → Type 0) → IsRootRead S n old r m → P r m → P (message_root S n) (spent old 1)
+pub moved : {S : Segments} {n : ℕ} {old : Meter} {r : Reading} {m : Meter} (P : Reading → Meter → Type 0) → IsRootRead S n old r m → P r m → P (message_root S n) (spent old 1)
 moved {S} {n} {m = m} P root held = subst (P (message_root S n)) root.left (subst (λ (x : Reading). P x m) root.place held)
 
-pub read_answers : {S : Segments} {n : ℕ} {old : Meter} {r : Reading} {m m' : Meter} (h : ℕ) (ends : Bool) → IsRootRead S n old r m → length S ≡ 1 → IsFound r (progress 1 m) (progress h m') → IsTrue ends ↔ (h ≡ length (segment S 0)) → IsAnswered S n old m' ends
-read_answers {m' = m'} h ends root one found same = found_answers ends one root.covers (moved (λ r m. IsFound r (progress 1 m) (progress h m')) root found) same
+-- where the root's test finds a fault, the message isn't canonical
+pub some_exactly : {S : Segments} {n : ℕ} {old : Meter} {r : Reading} {m : Meter} {f : CanonicalFault} (o : Option CanonicalFault) → IsRootRead S n old r m → o ≡ Some f → IsNone o ↔ IsCanonicalAt r 1 → IsNone (Some f) ↔ IsCanonicalMessage S
+some_exactly {S} {n} {r = r} {f = f} o root is same =
+    let at_root : IsNone (Some f) ↔ IsCanonicalAt (message_root S n) 1 = moved (λ r m. IsNone (Some f) ↔ IsCanonicalAt r 1) root (subst (λ x. IsNone x ↔ IsCanonicalAt r 1) is same) in
+    (λ wrong. absurd (let never : true ≡ false = wrong in cc), λ (t, canonical). at_root.1 (t, canonical_stands canonical))
 
-pub read_fails : {S : Segments} {n : ℕ} {old : Meter} {r : Reading} {m m' : Meter} (b : Bool) → b ≡ false → IsRootRead S n old r m → IsTrue b ↔ IsCanonicalAt r 1 → TestEnds IsUnfit r (progress 1 m) m' → IsAnswered S n old m' false
-read_fails {r = r} {m' = m'} b is_no root same fails =
-    let none = subst (λ v. IsTrue v ↔ IsCanonicalAt r 1) is_no same in
-    none_answers root.covers (moved (λ r m. IsTrue false ↔ IsCanonicalAt r 1) root none) (moved (λ r m. TestEnds IsUnfit r (progress 1 m) m') root fails)
+-- where it finds a value whose words end with the segment, the message is canonical and paid
+pub whole_paid : {S : Segments} {n h : ℕ} {old : Meter} {r : Reading} {m m' : Meter} (o : Option CanonicalFault) → IsRootRead S n old r m → length S ≡ 1 → o ≡ None → IfNone o (IsFound r (progress 1 m) (progress h m')) → h ≡ length (segment S 0) → IsPaid S old m'
+whole_paid {h = h} {r = r} {m = m} {m' = m'} o root one is found full =
+    let finds : IsFound r (progress 1 m) (progress h m') = subst (λ (x : Option CanonicalFault). IfNone x (IsFound r (progress 1 m) (progress h m'))) is found in
+    found_whole one root.covers (moved (λ r m. IsFound r (progress 1 m) (progress h m')) root finds) full
+
+-- where there are words behind these, it isn't, and the fault is the first of them
+pub more_never : {S : Segments} {n h : ℕ} {old : Meter} {r : Reading} {m : Meter} (m' : Meter) (o : Option CanonicalFault) → IsRootRead S n old r m → o ≡ None → IfNone o (IsFound r (progress 1 m) (progress h m')) → (h ≡ length (segment S 0) → ⊥) → IsCanonicalMessage S → ⊥
+more_never {h = h} {r = r} {m = m} m' o root is found more =
+    let finds : IsFound r (progress 1 m) (progress h m') = subst (λ (x : Option CanonicalFault). IfNone x (IsFound r (progress 1 m) (progress h m'))) is found in
+    found_more (moved (λ r m. IsFound r (progress 1 m) (progress h m')) root finds) more
+
+pub more_is_fault : {S : Segments} {n h : ℕ} {old : Meter} {r : Reading} {m m' : Meter} {f : CanonicalFault} (o : Option CanonicalFault) → IsRootRead S n old r m → o ≡ None → IfNone o (IsFound r (progress 1 m) (progress h m')) → (h ≡ length (segment S 0) → ⊥) → FaultIs f WordsBehind 0 h → IsRootFault f S n old m'
+more_is_fault {h = h} {r = r} {m = m} {m' = m'} o root is found more fault =
+    let finds : IsFound r (progress 1 m) (progress h m') = subst (λ (x : Option CanonicalFault). IfNone x (IsFound r (progress 1 m) (progress h m'))) is found in
+    more_fault root.covers (moved (λ r m. IsFound r (progress 1 m) (progress h m')) root finds) more fault
+
+-- A fault of a message of one segment is a no of its test.
+pub root_fault_fails : {f : CanonicalFault} {S : Segments} {n : ℕ} {m m' : Meter} → IsRootFault f S n m m' → MessageTestFails S n m m'
+root_fault_fails {f} (covers, inl ends) = (covers, inl (ends_so (fault_unfit f) ends))
+root_fault_fails (covers, inr (t, h, finds, fewer, fault)) = (covers, inr (t, h, finds, fewer))
+
+-- A fault of a message of one segment is a no of its test, and so of what is said of the message.
+pub message_fault_fails : {S : Segments} {n : ℕ} {m m' : Meter} (o : Option CanonicalFault) (b : Bool) → is_some o ≡ not b → b ≡ false → IfSome o (λ f. IsMessageFault f S n m m') → length S ≡ 1 → MessageTestFails S n m m'
+message_fault_fails None b is fails fault one = absurd (let wrong : false ≡ true = is ∙ ap not fails in cc)
+message_fault_fails (Some f) b is fails (inl (other, fault, same)) one = absurd (other one)
+message_fault_fails (Some f) b is fails (inr (same, root)) one = root_fault_fails root
 
 -- the test of a canonical message isn't refused within its limits
 pub never_refused : {S : Segments} {n : ℕ} {old : Meter} {r : Reading} {m m' : Meter} {k : ErrorKind} → IsRootRead S n old r m → TestStops k r (progress 1 m) m' → CanBeTested S n old → ⊥
@@ -164,8 +169,12 @@ only_total [] one = absurd (omega arith)
 only_total (ws ∷ []) one = omega arith
 only_total (ws ∷ vs ∷ S) one = absurd (omega arith)
 
--- whether a head is behind the last word of all segments, of which there is one
-pub ends_there : (B : List (List ℕ)) (h n : ℕ) → length B ≡ 1 → n ≡ total_words B → IsTrue (nat_eq h n) ↔ (h ≡ length (segment (message B) 0))
-ends_there B h n one all =
-    let there : n ≡ length (segment (message B) 0) = all ∙ total-message B ∙ only_total (message B) (length-message B ∙ one) in
-    (λ yes. eqb-true h n yes ∙ there, λ is. eq-eqb h n (is ∙ sym there))
+-- a head is behind the last word of all segments, of which there is one, or elsewhere
+only_words : (B : List (List ℕ)) (n : ℕ) → length B ≡ 1 → n ≡ total_words B → n ≡ length (segment (message B) 0)
+only_words B n one all = all ∙ total-message B ∙ only_total (message B) (length-message B ∙ one)
+
+pub head_ends : (B : List (List ℕ)) (h n : ℕ) → length B ≡ 1 → n ≡ total_words B → h ≡ n → h ≡ length (segment (message B) 0)
+head_ends B h n one all same = same ∙ only_words B n one all
+
+pub head_stays : (B : List (List ℕ)) (h n : ℕ) → length B ≡ 1 → n ≡ total_words B → (h ≡ n → ⊥) → h ≡ length (segment (message B) 0) → ⊥
+head_stays B h n one all other is = other (is ∙ sym (only_words B n one all))

@@ -1,5 +1,5 @@
 -- Messages in canonical form as a whole, and the test for it ("Canonicalization").
-use Rattle.std.specs.Prelude.{◌≡◌, ◌⊎◌, ◌↔◌, ℕ, ◌+◌, ◌<◌, ◌≤◌, [], ◌∷◌, true, length}
+use Rattle.std.specs.Prelude.{◌≡◌, ◌≢◌, ◌⊎◌, ◌↔◌, ℕ, ◌+◌, ◌<◌, ◌≤◌, min, [], ◌∷◌, true, length}
 use Rattle.capnp_words.specs.declared.error.ErrorKind.{ErrorKind}
 use Rattle.capnp_words.specs.Meter.{Meter, FitsIn, spent}
 use Rattle.capnp_format.specs.Segments.{Segments, segment}
@@ -9,7 +9,10 @@ use Rattle.capnp_format.specs.Means.{Means}
 use Rattle.capnp_format.specs.Canonical.{IsEncodable, IsFree, IsTrimmed, charge, encoding, word_count}
 use Rattle.capnp_framing.specs.Frames.{CanBeFramed, frame}
 use Rattle.capnp_objects.specs.Spending.{Paid, pointers_in}
-use Rattle.capnp_readers.specs.Checking.{Finds, TestEnds, IsUnfit, TestStops, progress}
+use Rattle.capnp_readers.specs.declared.readers.canonical_fault.CanonicalFault.{CanonicalFault}
+use Rattle.capnp_readers.specs.declared.readers.canonical_fault.CanonicalFaultReason.TheVariants.{SegmentCount, WordsBehind}
+use Rattle.capnp_readers.specs.Faults.{FaultIs}
+use Rattle.capnp_readers.specs.Checking.{Finds, TestEnds, IsFault, IsUnfit, TestStops, progress}
 use Rattle.capnp_layout.specs.Answers.{CoversRoot, RefusesRoot, message_root}
 
 -- A message is the canonical one of t: one segment, which holds t's canonical words and nothing else.
@@ -37,6 +40,19 @@ CanBeTested S n m = (t : Tree) × IsCanonicalOf S t × (depth t ≤ n) × FitsIn
 abbrev pub RefusesTest : Segments → ℕ → Meter → Meter → ErrorKind → Type 0
 RefusesTest S n m m' k =
     (RefusesRoot S m.left k × (m' ≡ m)) ⊎ (CoversRoot S m.left × TestStops k (message_root S n) (progress 1 (spent m 1)) m')
+
+-- The test of a message of one segment finds the fault f, and leaves the limiter as m': a word is charged for the root pointer, and
+-- the test of what it leads to ends at f, or it finds the canonical words of some value, and f names the word behind them.
+abbrev pub IsRootFault : CanonicalFault → Segments → ℕ → Meter → Meter → Type 0
+IsRootFault f S n m m' =
+    CoversRoot S m.left
+    × (TestEnds (IsFault f) (message_root S n) (progress 1 (spent m 1)) m'
+    ⊎ ((t : Tree) × (h : ℕ) × Finds (message_root S n) (progress 1 (spent m 1)) (progress h m') t × (1 + word_count t < length (segment S 0)) × FaultIs f WordsBehind 0 h))
+
+-- The test of a message finds the fault f: there isn't exactly one segment, and nothing is charged; or that of its only segment.
+abbrev pub IsMessageFault : CanonicalFault → Segments → ℕ → Meter → Meter → Type 0
+IsMessageFault f S n m m' =
+    ((length S ≢ 1) × FaultIs f SegmentCount (min 1 (length S)) 0 × (m' ≡ m)) ⊎ ((length S ≡ 1) × IsRootFault f S n m m')
 
 -- The test of a message of one segment says no, and leaves the limiter as m': a word is charged for the root pointer, and the test
 -- of what it leads to fails, or it finds the canonical words of some value, with more words behind them.

@@ -8,3 +8,4 @@ pub mod Runs
 pub mod CanonicalMessages
 pub mod CanonicalErrors
 pub mod Commands
+pub mod CopyMemory

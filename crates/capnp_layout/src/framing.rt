@@ -3,10 +3,18 @@
 
 mod canonical_error;
 mod canonical_message;
+mod copy_memory;
 pub mod laws;
+mod message_fault;
 mod writing;
 
 pub use canonical_error::CanonicalError;
 pub use canonical_message::is_canonical_message;
-pub use capnp_framing::framing::{FrameError, MAX_SEGMENTS, OwnedSegments, read, write};
-pub use writing::write_canonical;
+pub use capnp_framing::framing::{FrameError, MAX_SEGMENTS, OwnedSegments, read, read_into, write};
+pub use capnp_readers::readers::{CanonicalFault, CanonicalFaultReason};
+pub use copy_memory::CopyMemory;
+pub use message_fault::canonical_fault;
+pub use writing::{
+    CanonicalCopy, canonical_bytes, copy_canonical, copy_canonical_with, write_canonical,
+    write_copy,
+};

@@ -10,7 +10,8 @@ use Rattle.capnp_objects.specs.declared.object.Purpose.TheVariants.{Value}
 use Rattle.capnp_objects.proofs.Budgets.{paid_both, paid_own}
 use Rattle.capnp_objects.proofs.Walked.{paid_none}
 use Rattle.capnp_objects.specs.Refusals.{GoesBefore, in_struct, in_pointers, in_element}
-use Rattle.capnp_readers.specs.Checking.{Progress, FindsAll, FindsElements, TestEnds, here, below, TestsEnd, Unread, IsUnfit, no_near_pointer, empty_elsewhere, elsewhere, not_padded, other_claim, wide_sections, wide_elements}
+use Rattle.capnp_readers.specs.Checking.{Progress, FindsAll, FindsElements, TestEnds, here, below, TestsEnd, Unread, IsFault, IsUnfit, no_pointer, other_pointer, empty_elsewhere, elsewhere, not_padded, other_claim, wide_sections, wide_elements}
+use Rattle.capnp_readers.specs.declared.readers.canonical_fault.CanonicalFault.{CanonicalFault}
 use Rattle.capnp_readers.specs.Laws.{IsCharged}
 
 -- The pointers before one of an object's are charged.
@@ -33,14 +34,18 @@ pointers_charged f h =
     (_, _, paid_both h.are_found.paid rest)
 
 -- A place that isn't canonical by itself is charged.
+fault_charged : (f : CanonicalFault) (r : Reading) (from : Progress) (m' : Meter) → IsFault f r from m' → IsCharged r from.meter m'
+fault_charged f r from m' (no_pointer fault none same) = subst (λ m. IsCharged r from.meter m) (sym same) (0, 0, paid_none r from.meter)
+fault_charged f r from m' (other_pointer fault there other same) = subst (λ m. IsCharged r from.meter m) (sym same) (0, 0, paid_none r from.meter)
+fault_charged f r from m' (empty_elsewhere a fault near o empty other) = (_, _, paid_own o)
+fault_charged f r from m' (elsewhere a fault near o some other) = (_, _, paid_own o)
+fault_charged f r from m' (not_padded a fault near o start list small other) = (_, _, paid_own o)
+fault_charged f r from m' (other_claim a fault near o start list other) = (_, _, paid_own o)
+fault_charged f r from m' (wide_sections a e near o start z (ts, len, all) unused) = (_, _, paid_both (paid_own o) all.paid)
+fault_charged f r from m' (wide_elements a e near o start list exact (es, len, all, unused)) = (_, _, paid_both (paid_own o) all.paid)
+
 pub unfit_charged : (r : Reading) (from : Progress) (m' : Meter) → IsUnfit r from m' → IsCharged r from.meter m'
-unfit_charged r from m' (no_near_pointer none same) = subst (λ m. IsCharged r from.meter m) (sym same) (0, 0, paid_none r from.meter)
-unfit_charged r from m' (empty_elsewhere a near o empty other) = (_, _, paid_own o)
-unfit_charged r from m' (elsewhere a near o some other) = (_, _, paid_own o)
-unfit_charged r from m' (not_padded a near o start list small other) = (_, _, paid_own o)
-unfit_charged r from m' (other_claim a near o start list other) = (_, _, paid_own o)
-unfit_charged r from m' (wide_sections a e near o start z (ts, len, all) unused) = (_, _, paid_both (paid_own o) all.paid)
-unfit_charged r from m' (wide_elements a e near o start list exact (es, len, all, unused)) = (_, _, paid_both (paid_own o) all.paid)
+unfit_charged r from m' (f, fails) = fault_charged f r from m' fails
 
 -- So is an object that can't be read.
 stopped_charged : (r : Reading) (m m' : Meter) (k : ErrorKind) → Stopped Value plain r m m' k → IsCharged r m m'

@@ -9,7 +9,7 @@ use Rattle.capnp_words.specs.declared.wire_pointer.ElementSize.{ElementSize}
 use Rattle.capnp_words.specs.Sizes.{size_number}
 use Rattle.capnp_format.specs.Numbers.{words_for}
 use Rattle.capnp_format.specs.Word.{kind, offset_bits, data_words, pointer_count, element_size, list_count}
-use Rattle.capnp_format.specs.Segments.{Target, word_at, IsPlace}
+use Rattle.capnp_format.specs.Segments.{Segments, Target, word_at, IsPlace}
 use Rattle.capnp_format.specs.Tree.{Tree, Trees, Elements, count, element_count, depth, depth_all, depth_elements}
 use Rattle.capnp_format.specs.Canonical.{Stands, ForOffset, word_count, word_count_all, word_count_elements, charge, charge_all, charge_elements, data_width, pointer_width}
 use Rattle.capnp_objects.specs.declared.object.Object.{Object}
@@ -26,6 +26,9 @@ use Rattle.capnp_objects.specs.declared.source.Source.TheVariants.{Nothing}
 use Rattle.capnp_objects.specs.declared.object.Purpose.TheVariants.{Value}
 use Rattle.capnp_readers.specs.Sizes.{own_words, pointers_read}
 use Rattle.capnp_readers.specs.declared.readers.struct_reader.StructReader.{StructReader}
+use Rattle.capnp_readers.specs.Faults.{FaultIs, other_reason}
+use Rattle.capnp_readers.specs.declared.readers.canonical_fault.CanonicalFault.{CanonicalFault}
+use Rattle.capnp_readers.specs.declared.readers.canonical_fault.CanonicalFaultReason.TheVariants.{NoPointer, EmptyStructPlace, ObjectPlace, Padding, DataSection, PointerSection, ElementWords, ElementData, ElementPointers}
 use Rattle.capnp_readers.specs.Standing.{AllStand, ElementsStand, ElementsAccept, EndsUsed, IsPadded}
 
 -- How far a test has come: the word at which the next object has to start, and its limiter.
@@ -202,36 +205,55 @@ StructTestStops r size m m' k = TestsStop (behind r size.data_words) size.pointe
 abbrev pub IsEmptyStruct : Target → Type 0
 IsEmptyStruct a = (kind a.word ≡ 0) × (data_words a.word + pointer_count a.word ≡ 0)
 
--- The pointers of n elements of a size are canonical, and a smaller size of elements would do.
-abbrev pub AreFoundTooWide : Reading → StructSize → ℕ → Progress → Progress → Type 0
-AreFoundTooWide r size n from to =
-    (es : Elements) × (element_count es ≡ n) × FindsElements r size from to es × ((data_width es ≡ size.data_words) × (pointer_width es ≡ size.pointers) → ⊥)
+-- Of n words from position p on the last is zero.
+abbrev pub EndsUnused : Segments → ℕ → ℕ → ℕ → Type 0
+EndsUnused S s p n = (0 < n) × (word_at S s (p + n - 1) ≡ 0)
 
--- A place isn't canonical by itself, and the limiter is left as m'. No near pointer is there, and nothing is counted or charged;
--- or its object is read and charged, and starts elsewhere than in canonical form, or has other bits than zeros behind its
--- numbers, or claims other words than its elements take; or all its pointers are canonical and charged as well, and smaller
--- sections or elements would do.
-pub data IsUnfit (r : Reading) (from : Progress) (m' : Meter) : Type 0 where
-  no_near_pointer : (IsPlace r.segments r.segment r.at × (kind (word_of r) < 2) → ⊥) → m' ≡ from.meter → IsUnfit r from m'
-  empty_elsewhere : (a : Target) → kind (word_of r) < 2 → Entered Value r from.meter m' a → IsEmptyStruct a → a.start ≢ r.at → IsUnfit r from m'
-  elsewhere : (a : Target) → kind (word_of r) < 2 → Entered Value r from.meter m' a → (IsEmptyStruct a → ⊥) → a.start ≢ from.head → IsUnfit r from m'
+-- A section of the struct that starts at a place ends in a zero word, which the fault names.
+abbrev pub HasWideSection : CanonicalFault → Reading → StructSize → Type 0
+HasWideSection f r size =
+    let first = r.at + size.data_words in
+    (FaultIs f DataSection r.segment (first - 1) × EndsUnused r.segments r.segment r.at size.data_words)
+    ⊎ (FaultIs f PointerSection r.segment (first + size.pointers - 1) × EndsUnused r.segments r.segment first size.pointers)
+
+-- The pointers of n elements of a size are canonical, and none of the elements uses its last word of data, or its last pointer; the
+-- fault names the tag before the first element, at the place.
+abbrev pub AreFoundTooWide : CanonicalFault → Reading → StructSize → ℕ → Progress → Progress → Type 0
+AreFoundTooWide f r size n from to =
+    (es : Elements) × (element_count es ≡ n) × FindsElements r size from to es
+    × ((FaultIs f ElementData r.segment (r.at - 1) × (data_width es ≢ size.data_words))
+    ⊎ (FaultIs f ElementPointers r.segment (r.at - 1) × (pointer_width es ≢ size.pointers)))
+
+-- A place isn't canonical by itself, for the reason and with the word that the fault f names, and the limiter is left as m'. No near
+-- pointer is there, and nothing is counted or charged; or its object is read and charged, and starts elsewhere than in canonical
+-- form, or has other bits than zeros behind its numbers, or claims other words than its elements take; or all its pointers are
+-- canonical and charged as well, and smaller sections or elements would do.
+pub data IsFault (f : CanonicalFault) (r : Reading) (from : Progress) (m' : Meter) : Type 0 where
+  no_pointer : FaultIs f NoPointer r.segment r.at → (IsPlace r.segments r.segment r.at → ⊥) → m' ≡ from.meter → IsFault f r from m'
+  other_pointer : FaultIs f (other_reason (word_of r)) r.segment r.at → IsPlace r.segments r.segment r.at → 2 ≤ kind (word_of r) → m' ≡ from.meter → IsFault f r from m'
+  empty_elsewhere :
+      (a : Target) → FaultIs f EmptyStructPlace r.segment r.at → kind (word_of r) < 2 → Entered Value r from.meter m' a → IsEmptyStruct a → a.start ≢ r.at → IsFault f r from m'
+  elsewhere :
+      (a : Target) → FaultIs f ObjectPlace r.segment r.at → kind (word_of r) < 2 → Entered Value r from.meter m' a → (IsEmptyStruct a → ⊥) → a.start ≢ from.head → IsFault f r from m'
   not_padded :
       (a : Target) →
+      FaultIs f Padding a.segment (a.start + words_for (element_size a.word) (list_count a.word) - 1) →
       kind (word_of r) < 2 →
       Entered Value r from.meter m' a →
       a.start ≡ from.head →
       kind a.word ≡ 1 →
       element_size a.word ≤ 5 →
       (IsPadded r.segments a.segment a.start (element_size a.word) (list_count a.word) → ⊥) →
-      IsUnfit r from m'
+      IsFault f r from m'
   other_claim :
       (a : Target) →
+      FaultIs f ElementWords a.segment a.start →
       kind (word_of r) < 2 →
       Entered Value r from.meter m' a →
       a.start ≡ from.head →
       IsStructList a.word →
       element_words (tag r.segments a) ≢ list_count a.word →
-      IsUnfit r from m'
+      IsFault f r from m'
   wide_sections :
       {first : Meter} (a : Target) (e : ℕ) →
       kind (word_of r) < 2 →
@@ -239,8 +261,8 @@ pub data IsUnfit (r : Reading) (from : Progress) (m' : Meter) : Type 0 where
       a.start ≡ from.head →
       kind a.word ≡ 0 →
       AreFound (child_at r a (pred r.levels) (a.start + data_words a.word)) (pointer_count a.word) (behind_object a first) (progress e m') →
-      (AreUsed (child_at r a (pred r.levels) a.start) (sized (data_words a.word) (pointer_count a.word)) → ⊥) →
-      IsUnfit r from m'
+      HasWideSection f (child_at r a (pred r.levels) a.start) (sized (data_words a.word) (pointer_count a.word)) →
+      IsFault f r from m'
   wide_elements :
       {first : Meter} (a : Target) (e : ℕ) →
       kind (word_of r) < 2 →
@@ -248,28 +270,32 @@ pub data IsUnfit (r : Reading) (from : Progress) (m' : Meter) : Type 0 where
       a.start ≡ from.head →
       IsStructList a.word →
       element_words (tag r.segments a) ≡ list_count a.word →
-      AreFoundTooWide (child_at r a (pred r.levels) (a.start + 1)) (tag_size r.segments a) (offset_bits (tag r.segments a)) (behind_object a first) (progress e m') →
-      IsUnfit r from m'
+      AreFoundTooWide f (child_at r a (pred r.levels) (a.start + 1)) (tag_size r.segments a) (offset_bits (tag r.segments a)) (behind_object a first) (progress e m') →
+      IsFault f r from m'
+
+-- A place isn't canonical by itself, for some reason.
+abbrev pub IsUnfit : Reading → Progress → Meter → Type 0
+IsUnfit r from m' = (f : CanonicalFault) × IsFault f r from m'
 
 -- The test of a struct of this size that starts at a place fails: that of its pointers does, or smaller sections would do.
-abbrev pub SectionsFail : Reading → StructSize → Meter → Meter → Type 0
-SectionsFail r size m m' =
+abbrev pub SectionsFail : CanonicalFault → Reading → StructSize → Meter → Meter → Type 0
+SectionsFail f r size m m' =
     let pointers = behind r size.data_words in
     let from = progress (r.at + size.data_words + size.pointers) m in
-    TestsEnd IsUnfit pointers size.pointers from m'
-    ⊎ ((e : ℕ) × AreFound pointers size.pointers from (progress e m') × (AreUsed r size → ⊥))
+    TestsEnd (IsFault f) pointers size.pointers from m'
+    ⊎ ((e : ℕ) × AreFound pointers size.pointers from (progress e m') × HasWideSection f r size)
 
 -- The test of n elements, the first object behind them, fails: that of their pointers does, or a smaller size would do.
-abbrev pub RowsFail : Reading → StructSize → ℕ → Meter → Meter → Type 0
-RowsFail r size n m m' =
+abbrev pub RowsFail : CanonicalFault → Reading → StructSize → ℕ → Meter → Meter → Type 0
+RowsFail f r size n m m' =
     let from = progress (r.at + n * (size.data_words + size.pointers)) m in
-    RowTestsEnd IsUnfit r size n from m' ⊎ ((e : ℕ) × AreFoundTooWide r size n from (progress e m'))
+    RowTestsEnd (IsFault f) r size n from m' ⊎ ((e : ℕ) × AreFoundTooWide f r size n from (progress e m'))
 
 -- The test of a list that claims so many words fails: its elements take others, and nothing more is charged; or their test fails.
-abbrev pub ClaimedFails : Reading → StructSize → ℕ → ℕ → Meter → Meter → Type 0
-ClaimedFails r size n claimed m m' =
-    ((n * (size.data_words + size.pointers) ≢ claimed) × (m' ≡ m))
-    ⊎ ((n * (size.data_words + size.pointers) ≡ claimed) × RowsFail r size n m m')
+abbrev pub ClaimedFails : CanonicalFault → Reading → StructSize → ℕ → ℕ → Meter → Meter → Type 0
+ClaimedFails f r size n claimed m m' =
+    (FaultIs f ElementWords r.segment (r.at - 1) × (n * (size.data_words + size.pointers) ≢ claimed) × (m' ≡ m))
+    ⊎ ((n * (size.data_words + size.pointers) ≡ claimed) × RowsFail f r size n m m')
 
 module _ {A : Type 0} (g : Ghosts A) where
   -- A struct has whole words of data, and starts at the head. That from nothing starts nowhere.

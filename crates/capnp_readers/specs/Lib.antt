@@ -3,5 +3,6 @@ pub mod Readers
 pub mod Sizes
 pub mod Calls
 pub mod Standing
+pub mod Faults
 pub mod Checking
 pub mod Laws

@@ -17,12 +17,14 @@ ghost use Rattle.capnp_objects.specs.Wanted.{plain};
 ghost use Rattle.capnp_objects.specs.declared.object.Purpose.TheVariants.{Value};
 
 mod canonical;
+mod canonical_fault;
 mod list_reader;
 mod primitive_element;
 mod sizes;
 mod struct_reader;
 mod target;
 
+pub use canonical_fault::{CanonicalFault, CanonicalFaultReason};
 use capnp_arena::arena::ReaderArena;
 use capnp_objects::object::{Expected, Object, Place};
 use capnp_objects::source::Source;

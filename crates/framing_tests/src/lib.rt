@@ -2,6 +2,8 @@
 #![tactic(auto)]
 
 #[cfg(test)]
+mod reused;
+#[cfg(test)]
 mod unframed;
 #[cfg(test)]
 mod written;

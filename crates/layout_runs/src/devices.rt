@@ -1,5 +1,5 @@
 //! Devices that move one byte at a time, and fail behind so many.
-ghost use Rattle.std.specs.Prelude.{◌≡◌, Some};
+ghost use Rattle.std.specs.Prelude.{◌≡◌, Some, true};
 
 use capnp_layout::devices::{DeviceFault, Input, Output};
 
@@ -15,6 +15,8 @@ impl Input for Dripping<'_> {
     ghost remaining = { λ d. Some d.bytes.now };
 
     ghost has_failed = { λ d. d.failed };
+
+    ghost ends_whole = { λ _. Some true };
 
     fn read(&mut self, to: &mut [u8]) -> Result<usize, DeviceFault> {
         if self.reads == 0 {

@@ -1,38 +1,101 @@
 //! The segments of a message that was read.
-ghost use Rattle.std.specs.Prelude.{◌≡◌, map, vec_items};
+ghost use Rattle.std.specs.Prelude.{◌≡◌, ◌<◌, ◌≤◌, ◌+◌, ◌*◌, [], length};
+ghost use Rattle.capnp_framing.specs.Flat.{AreEnds, part_at, parts};
+ghost use Rattle.capnp_framing.specs.Reading.{words_told};
 
 use capnp_arena::arena::ReaderSegments;
+use std::alloc::Global;
 
-/// The segments of a message that was read, each of whole words.
+/// The segments of a message that was read, each of whole words, in memory that the next one can be read into.
 #[derive(Drop)]
 pub struct OwnedSegments {
-    segments: Vec<Vec<u8>>,
+    pub(super) count: usize,
+    // The lengths of the segments in words, four bytes each, and what stands behind them.
+    pub(super) table: Vec<u8>,
+    // Before which word each segment ends.
+    pub(super) ends: Vec<usize>,
+    // The words of the segments, one behind the other, and what stands behind them.
+    pub(super) words: Vec<u8>,
+    ghost few: { count ≤ 512 },
+    ghost told: { 4 * count ≤ length table.items },
+    ghost whole: { 8 * words_told count table.items ≤ length words.items },
+    ghost kept: { AreEnds count table.items ends.items },
 }
 
 impl OwnedSegments {
-    /// The segments in this order.
-    pub(crate) fn new(segments: Vec<Vec<u8>>) -> Self
-        ensures { result.segments ≡ segments }
+    /// No segments. It takes no memory.
+    pub fn new(alloc: Global) -> Self
+        ensures none { ⟦<Self as ReaderSegments>⟧.segments result ≡ [] }
     {
-        OwnedSegments { segments }
+        OwnedSegments {
+            count: 0,
+            table: Vec::new(alloc),
+            ends: Vec::new(alloc),
+            words: Vec::new(alloc),
+        }
+    }
+
+    /// Before which word a segment ends.
+    fn end_of(&self, id: usize) -> usize
+        requires { id < self.now.count }
+        ensures { result ≡ words_told (id + 1) self.now.table.items }
+    {
+        self.ends.as_slice()[id]
+    }
+
+    /// How many words stand before a segment.
+    fn words_before(&self, id: usize) -> usize
+        requires { id < self.now.count }
+        ensures { result ≡ words_told id self.now.table.items }
+    {
+        if id == 0 { 0 } else { self.end_of(id - 1) }
+    }
+
+    /// The segment with this number.
+    fn segment(&self, id: usize) -> &[u8]
+        requires { id < self.now.count }
+        ensures { result.now ≡ part_at id self.now.table.items self.now.words.items }
+    {
+        let start = self.words_before(id);
+        let end = self.end_of(id);
+        &self.words.as_slice()[8 * start..8 * end]
     }
 }
 
 impl ReaderSegments for OwnedSegments {
-    ghost segments = { λ m. map vec_items m.segments.items };
+    ghost segments = { λ m. parts m.count m.table.items m.words.items };
 
     fn get_segment(&self, id: u32) -> Option<&[u8]> {
-        match self.segments.get(id as usize) {
-            Some(segment) => Some(segment.as_slice()),
-            None => None,
+        let id = id as usize;
+        if id < self.count {
+            Some(self.segment(id))
+        } else {
+            None
         }
     }
 
     fn len(&self) -> usize {
-        self.segments.len()
+        self.count
     }
 
     fn is_empty(&self) -> bool {
-        self.segments.is_empty()
+        self.count == 0
+    }
+}
+
+/// Those that are lent.
+impl ReaderSegments for &OwnedSegments {
+    ghost segments = { λ m. ⟦<OwnedSegments as ReaderSegments>⟧.segments m.now };
+
+    fn get_segment(&self, id: u32) -> Option<&[u8]> {
+        (**self).get_segment(id)
+    }
+
+    fn len(&self) -> usize {
+        (**self).len()
+    }
+
+    fn is_empty(&self) -> bool {
+        (**self).is_empty()
     }
 }

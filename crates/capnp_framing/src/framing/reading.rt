@@ -1,11 +1,12 @@
 //! A message read from a stream of bytes ("Serialization Over a Stream").
-ghost use Rattle.std.specs.Prelude.{◌≡◌, ◌⊎◌, ℕ, ◌<◌, ◌≤◌, ◌+◌, ◌-◌, ◌*◌, ◌%◌, ◌^◌, All, List, false, true, length, take, drop, map, vec_items, slice_index, Ok, Err, None, IfSome, IfOk, IfErr, OnOk, OnErr};
+ghost use Rattle.std.specs.Prelude.{◌≡◌, ◌⊎◌, ℕ, ◌<◌, ◌≤◌, ◌+◌, ◌-◌, ◌*◌, false, true, length, take, drop, slice_index, Ok, None, IfSome, IfOk, IfErr, OnOk, OnErr};
 ghost use Rattle.std.specs.Int.{from_le_bytes, w32};
 ghost use Rattle.std.specs.Io.KnownBytes.{Consumes, IsAtEnd};
-ghost use Rattle.capnp_format.specs.Bytes.{message, words_of};
+ghost use Rattle.capnp_format.specs.Bytes.{message};
 ghost use Rattle.capnp_arena.specs.Limits.{IsSmall};
-ghost use Rattle.capnp_framing.specs.Frames.{AreSegmentWords, bytes_of_words, contents, lengths};
+ghost use Rattle.capnp_framing.specs.Flat.{AreEnds};
 ghost use Rattle.capnp_framing.specs.Reading.{IsFrameRead, NoFrame, WhyUnread, max_length, total, words_told};
+ghost use Rattle.capnp_framing.specs.Wholeness.{KeepsWhole};
 ghost use Rattle.capnp_framing.specs.declared.framing.frame_error.FrameError.TheVariants.{AllocationFailed, ReadFailed, Truncated};
 
 use super::MAX_SEGMENTS;
@@ -13,14 +14,11 @@ use super::frame_error::FrameError;
 use super::owned_segments::OwnedSegments;
 use crate::devices::{DeviceFault, Input};
 use capnp_arena::arena::ReaderSegments;
-use std::alloc::Global;
+use std::alloc::{AllocError, Global};
 
-/// By how many bytes the memory for a segment grows at first. From there on it grows by as many as
-/// came: what a table only announces is believed no further.
-const FIRST_BYTES: usize = 1 << 20;
-
-/// The bytes of 512 lengths and their padding.
-const TABLE_BYTES: usize = 2052;
+/// By how many bytes at most memory is made longer, before bytes come for it: what a table only announces is
+/// believed no further.
+const PIECE: usize = 1 << 18;
 
 /// Reads until there is no more room or no more input: how many bytes came.
 fn read_up_to<R: Input>(input: &mut R, to: &mut [u8]) -> Result<usize, DeviceFault>
@@ -30,6 +28,7 @@ fn read_up_to<R: Input>(input: &mut R, to: &mut [u8]) -> Result<usize, DeviceFau
         (take n to.new)) }
     ensures end { IfOk result (λ n. n < length to.new → IsAtEnd (R.remaining input.new)) }
     ensures long { length to.new ≡ length to.old }
+    ensures whole { OnOk result (KeepsWhole (R.ends_whole input.old) (R.ends_whole input.new)) }
     ensures works { OnOk result (R.has_failed input.new ≡ false) }
     ensures fails { OnErr result (R.has_failed input.new ≡ true) }
 {
@@ -49,6 +48,7 @@ fn fill<R: Input>(input: &mut R, to: &mut [u8]) -> Result<(), FrameError>
     requires { R.has_failed input.old ≡ false }
     ensures bytes { OnOk result (Consumes (R.remaining input.old) (R.remaining input.new) to.new) }
     ensures long { length to.new ≡ length to.old }
+    ensures whole { OnOk result (KeepsWhole (R.ends_whole input.old) (R.ends_whole input.new)) }
     ensures works { OnOk result (R.has_failed input.new ≡ false) }
     ensures refused { IfErr result (WhyUnread R.Input input.old input.new (length to.old)) }
     ensures failed { IfErr result (λ e. R.has_failed input.new ≡ true → e ≡ ReadFailed) }
@@ -60,30 +60,71 @@ fn fill<R: Input>(input: &mut R, to: &mut [u8]) -> Result<(), FrameError>
     }
 }
 
-/// Reads so many bytes.
-fn read_segment<R: Input>(alloc: Global, input: &mut R, size: usize) -> Result<Vec<u8>, FrameError>
+/// Makes room for some bytes more behind the first n, where there is none.
+fn make_room(to: &mut Vec<u8>, n: usize, more: usize) -> Result<(), FrameError>
+    requires within { n ≤ length to.old.items }
+    requires some { 0 < more }
+    ensures front { take n to.new.items ≡ take n to.old.items }
+    ensures long { length to.old.items ≤ length to.new.items }
+    ensures room { OnOk result (n < length to.new.items) }
+    ensures refused { IfErr result (λ e. e ≡ AllocationFailed) }
+{
+    if n < to.len() {
+        return Ok(());
+    }
+    match to.resize(n + more.min(PIECE), 0) {
+        Ok(()) => Ok(()),
+        Err(AllocError) => Err(FrameError::AllocationFailed),
+    }
+}
+
+/// Reads bytes over those from one position on, before another one.
+fn fill_between<R: Input>(
+    input: &mut R,
+    to: &mut [u8],
+    start: usize,
+    end: usize,
+) -> Result<(), FrameError>
+    requires works { R.has_failed input.old ≡ false }
+    requires order { start ≤ end }
+    requires inside { end ≤ length to.old }
+    ensures bytes { OnOk result (Consumes (R.remaining input.old) (R.remaining input.new)
+        (take (end - start) (drop start to.new))) }
+    ensures front { take start to.new ≡ take start to.old }
+    ensures long { length to.new ≡ length to.old }
+    ensures whole { OnOk result (KeepsWhole (R.ends_whole input.old) (R.ends_whole input.new)) }
+    ensures works { OnOk result (R.has_failed input.new ≡ false) }
+    ensures refused { IfErr result (WhyUnread R.Input input.old input.new (end - start)) }
+    ensures failed { IfErr result (λ e. R.has_failed input.new ≡ true → e ≡ ReadFailed) }
+{
+    fill(input, &mut to[start..end])
+}
+
+/// Reads so many bytes to the front of memory, which is made longer where it has to be.
+fn read_front<R: Input>(input: &mut R, to: &mut Vec<u8>, size: usize) -> Result<(), FrameError>
     requires { R.has_failed input.old ≡ false }
-    ensures bytes { IfOk result (λ v. Consumes (R.remaining input.old)
-        (R.remaining input.new) v.items) }
-    ensures long { IfOk result (λ v. length v.items ≡ size) }
+    ensures bytes { OnOk result (Consumes (R.remaining input.old) (R.remaining input.new)
+        (take size to.new.items)) }
+    ensures long { OnOk result (size ≤ length to.new.items) }
+    ensures whole { OnOk result (KeepsWhole (R.ends_whole input.old) (R.ends_whole input.new)) }
     ensures works { OnOk result (R.has_failed input.new ≡ false) }
     ensures refused { IfErr result (λ e. (e ≡ AllocationFailed)
         ⊎ WhyUnread R.Input input.old input.new size e) }
     ensures failed { IfErr result (λ e. R.has_failed input.new ≡ true → e ≡ ReadFailed) }
 {
-    let mut bytes = Vec::new(alloc);
-    while bytes.len() < size {
-        let have = bytes.len();
-        let more = (size - have).min(have.max(FIRST_BYTES));
-        if bytes.resize(have + more, 0).is_err() {
-            return Err(FrameError::AllocationFailed);
-        }
-        match fill(input, &mut bytes.as_mut_slice()[have..]) {
+    let mut n = 0;
+    while n < size {
+        match make_room(to, n, size - n) {
             Ok(()) => {}
             Err(e) => return Err(e),
         }
+        let end = size.min(to.len());
+        match fill_between(input, to.as_mut_slice(), n, end) {
+            Ok(()) => n = end,
+            Err(e) => return Err(e),
+        }
     }
-    Ok(bytes)
+    Ok(())
 }
 
 /// The number in the four bytes from a position on.
@@ -109,13 +150,24 @@ pub(super) fn words_between(table: &[u8], first: usize, end: usize) -> u64
     words
 }
 
-/// The sum of so many lengths.
-fn sum_of(table: &[u8], count: usize) -> u64
+/// Before which word each segment ends of which a table tells the length, and how many words there are.
+fn ends_of(table: &[u8], count: usize, ends: &mut Vec<usize>) -> Result<usize, FrameError>
     requires inside { 4 * count ≤ length table.now }
     requires few { count ≤ 512 }
-    ensures { result ≡ words_told count table.now }
+    ensures ends { OnOk result (AreEnds count table.now ends.new.items) }
+    ensures sum { IfOk result (λ words. words ≡ words_told count table.now) }
+    ensures small { IfOk result (λ words. words ≤ max_length * count) }
+    ensures refused { IfErr result (λ e. e ≡ AllocationFailed) }
 {
-    words_between(table, 0, count)
+    ends.clear();
+    let mut sum = 0;
+    for i in 0..count {
+        sum += number_at(table, 4 * i) as usize;
+        if ends.push(sum).is_err() {
+            return Err(FrameError::AllocationFailed);
+        }
+    }
+    Ok(sum)
 }
 
 /// Each byte is below 256. It does nothing; its contract says so.
@@ -123,89 +175,40 @@ fn are_bytes(bytes: &[u8])
     ensures { (i : ℕ) → slice_index bytes.now i < 256 }
 {}
 
-/// Bytes are those of their words. It does nothing; its contract says so.
-fn are_words(bytes: &[u8])
-    requires { length bytes.now % 8 ≡ 0 }
-    ensures bytes { bytes_of_words (words_of bytes.now) ≡ bytes.now }
-    ensures words { AreSegmentWords (words_of bytes.now) }
-    ensures count { 8 * length (words_of bytes.now) ≡ length bytes.now }
-{}
-
-/// Reads segments of these lengths, one behind the other.
-fn read_segments<R: Input>(
-    alloc: Global,
-    input: &mut R,
-    table: &[u8],
-    count: usize,
-) -> Result<Vec<Vec<u8>>, FrameError>
-    requires works { R.has_failed input.old ≡ false }
-    requires inside { 4 * count ≤ length table.now }
-    requires few { count ≤ 512 }
-    ensures bytes { IfOk result (λ v. Consumes (R.remaining input.old) (R.remaining input.new)
-        (contents (message (map vec_items v.items)))) }
-    ensures lengths { IfOk result (λ v. lengths (message (map vec_items v.items))
-        ≡ take (4 * count) table.now) }
-    ensures count { IfOk result (λ v. length (message (map vec_items v.items)) ≡ count) }
-    ensures words { IfOk result (λ v. All AreSegmentWords (message (map vec_items v.items))) }
-    ensures short { IfOk result (λ v. All (λ ws. length ws < 2 ^ 32)
-        (message (map vec_items v.items))) }
-    ensures total { IfOk result (λ v. total (message (map vec_items v.items))
-        ≡ words_told count table.now) }
-    ensures works { OnOk result (R.has_failed input.new ≡ false) }
-    ensures refused { IfErr result (λ e. (e ≡ AllocationFailed)
-        ⊎ WhyUnread R.Input input.old input.new (8 * words_told count table.now) e) }
-    ensures failed { IfErr result (λ e. R.has_failed input.new ≡ true → e ≡ ReadFailed) }
-{
-    let mut segments = Vec::new(alloc);
-    for i in 0..count {
-        let words = number_at(table, 4 * i);
-        match read_segment(alloc, input, 8 * words as usize) {
-            Ok(bytes) => {
-                are_words(bytes.as_slice());
-                if segments.push(bytes).is_err() {
-                    return Err(FrameError::AllocationFailed);
-                }
-            }
-            Err(e) => return Err(e),
-        }
-    }
-    Ok(segments)
-}
-
-/// Reads a message from the front of an input, and leaves what stands behind it. `None` is an input that
-/// is at its end at once.
+/// Reads a message from the front of an input into segments that are used again, and leaves what stands behind it.
+/// `false` is an input that is at its end at once.
 ///
 /// Fewer than four bytes are `Truncated`; more than 512 segments `TooManySegments`, with their number; a
 /// table that is cut short, its padding included, `Truncated`; more than `max_words` words together
 /// `MessageTooLong`, with their number; words that are cut short `Truncated`, in this order. `ReadFailed`
 /// is the input's, and where the input has failed there is no other refusal; `AllocationFailed` is want of
-/// memory. What a refusal leaves unread isn't said.
+/// memory. What a refusal leaves unread isn't said, nor which segments there are then.
 ///
 /// The memory that is taken grows with the bytes that came, and not with those that the table announces.
-pub fn read<R: Input>(
-    alloc: Global,
+/// None is taken for a message that has no more segments and words than one that was read before.
+pub fn read_into<R: Input>(
     input: &mut R,
     max_words: u64,
-) -> Result<Option<OwnedSegments>, FrameError>
+    into: &mut OwnedSegments,
+) -> Result<bool, FrameError>
     requires { R.has_failed input.old ≡ false }
-    ensures end { result ≡ Ok None → IsAtEnd (R.remaining input.old) }
-    ensures read { IfOk result (λ m.
-        IfSome m (λ owned. IsFrameRead R.Input input.old input.new
-        (message (⟦<OwnedSegments as ReaderSegments>⟧.segments owned)))) }
-    ensures most { IfOk result (λ m.
-        IfSome m (λ owned. total (message (⟦<OwnedSegments as ReaderSegments>⟧.segments owned))
-        ≤ max_words)) }
-    ensures small { IfOk result (λ m.
-        IfSome m (λ owned. IsSmall (⟦<OwnedSegments as ReaderSegments>⟧.segments owned))) }
+    ensures end { result ≡ Ok false → IsAtEnd (R.remaining input.old) × IsAtEnd (R.remaining input.new) }
+    ensures read { result ≡ Ok true → IsFrameRead R.Input input.old input.new
+        (message (⟦<OwnedSegments as ReaderSegments>⟧.segments into.new)) }
+    ensures most { result ≡ Ok true →
+        total (message (⟦<OwnedSegments as ReaderSegments>⟧.segments into.new)) ≤ max_words }
+    ensures small { IsSmall (⟦<OwnedSegments as ReaderSegments>⟧.segments into.new) }
+    ensures whole { OnOk result (KeepsWhole (R.ends_whole input.old) (R.ends_whole input.new)) }
     ensures works { OnOk result (R.has_failed input.new ≡ false) }
     ensures refused { IfErr result (λ e. (e ≡ AllocationFailed)
         ⊎ ((e ≡ ReadFailed) × (R.has_failed input.new ≡ true))
         ⊎ IfSome (R.remaining input.old) (λ bytes. NoFrame bytes max_words e)) }
     ensures failed { IfErr result (λ e. R.has_failed input.new ≡ true → e ≡ ReadFailed) }
 {
+    into.count = 0;
     let mut first = [0u8; 4];
     match read_up_to(input, &mut first) {
-        Ok(0) => return Ok(None),
+        Ok(0) => return Ok(false),
         Ok(4) => {}
         Ok(_) => return Err(FrameError::Truncated),
         Err(DeviceFault) => return Err(FrameError::ReadFailed),
@@ -216,18 +219,58 @@ pub fn read<R: Input>(
         return Err(FrameError::TooManySegments(told));
     }
     let count = told as usize;
-    let mut table = [0u8; TABLE_BYTES];
     let size = 4 * count + 4 * ((count + 1) % 2);
-    match fill(input, &mut table[..size]) {
+    match read_front(input, &mut into.table, size) {
         Ok(()) => {}
         Err(e) => return Err(e),
     }
-    let words = sum_of(&table, count);
-    if words > max_words {
-        return Err(FrameError::MessageTooLong(words));
+    let words = match ends_of(into.table.as_slice(), count, &mut into.ends) {
+        Ok(words) => words,
+        Err(e) => return Err(e),
+    };
+    if words as u64 > max_words {
+        return Err(FrameError::MessageTooLong(words as u64));
     }
-    match read_segments(alloc, input, &table, count) {
-        Ok(segments) => Ok(Some(OwnedSegments::new(segments))),
+    match read_front(input, &mut into.words, 8 * words) {
+        Ok(()) => {}
+        Err(e) => return Err(e),
+    }
+    are_bytes(into.table.as_slice());
+    are_bytes(into.words.as_slice());
+    into.count = count;
+    Ok(true)
+}
+
+/// Reads a message from the front of an input, and leaves what stands behind it. `None` is an input that
+/// is at its end at once.
+///
+/// It refuses what `read_into` refuses. What a refusal leaves unread isn't said.
+pub fn read<R: Input>(
+    alloc: Global,
+    input: &mut R,
+    max_words: u64,
+) -> Result<Option<OwnedSegments>, FrameError>
+    requires { R.has_failed input.old ≡ false }
+    ensures end { result ≡ Ok None → IsAtEnd (R.remaining input.old) × IsAtEnd (R.remaining input.new) }
+    ensures read { IfOk result (λ m.
+        IfSome m (λ owned. IsFrameRead R.Input input.old input.new
+        (message (⟦<OwnedSegments as ReaderSegments>⟧.segments owned)))) }
+    ensures most { IfOk result (λ m.
+        IfSome m (λ owned. total (message (⟦<OwnedSegments as ReaderSegments>⟧.segments owned))
+        ≤ max_words)) }
+    ensures small { IfOk result (λ m.
+        IfSome m (λ owned. IsSmall (⟦<OwnedSegments as ReaderSegments>⟧.segments owned))) }
+    ensures whole { OnOk result (KeepsWhole (R.ends_whole input.old) (R.ends_whole input.new)) }
+    ensures works { OnOk result (R.has_failed input.new ≡ false) }
+    ensures refused { IfErr result (λ e. (e ≡ AllocationFailed)
+        ⊎ ((e ≡ ReadFailed) × (R.has_failed input.new ≡ true))
+        ⊎ IfSome (R.remaining input.old) (λ bytes. NoFrame bytes max_words e)) }
+    ensures failed { IfErr result (λ e. R.has_failed input.new ≡ true → e ≡ ReadFailed) }
+{
+    let mut owned = OwnedSegments::new(alloc);
+    match read_into(input, max_words, &mut owned) {
+        Ok(true) => Ok(Some(owned)),
+        Ok(false) => Ok(None),
         Err(e) => Err(e),
     }
 }

@@ -16,14 +16,10 @@ use crate::devices::{DeviceFault, Output, write_all};
 use capnp_arena::arena::ReaderSegments;
 use capnp_words::words::{count, part};
 
-/// The bytes of the longest table: the number of segments, 512 lengths and their padding.
-const TABLE_BYTES: usize = 2056;
-
 /// The whole words of a segment. None where there is no such segment.
 fn words_in<S: ReaderSegments>(segments: &S, id: u32) -> &[u8]
     requires small { IsSmall (S.segments segments.now) }
-    ensures words { id < length (S.segments segments.now)
-        → words_of result.now ≡ segment (message (S.segments segments.now)) id }
+    ensures words { words_of result.now ≡ segment (message (S.segments segments.now)) id }
     ensures whole { length result.now ≡ 8 * length (words_of result.now) }
     ensures short { length (words_of result.now) < 2 ^ 32 }
 {
@@ -41,24 +37,26 @@ fn put_number(to: &mut [u8], at: usize, number: u32)
     to[at..at + 4].copy_from_slice(number.to_le_bytes().as_slice());
 }
 
-/// Writes the number of segments less one, and the length of each in words, over zeros.
-fn put_table<S: ReaderSegments>(segments: &S, count: u32, to: &mut [u8])
-    requires small { IsSmall (S.segments segments.now) }
-    requires count { count ≡ length (S.segments segments.now) }
-    requires some { 1 ≤ count }
-    requires few { count ≤ max_frame_segments }
-    requires zeros { to.old ≡ replicate 2056 0 }
-    ensures { to.new ≡ to_le_bytes w32 (count - 1)
-        ++ (lengths (message (S.segments segments.now)) ++ replicate (2052 - 4 * count) 0) }
+/// The bytes of two numbers.
+fn two_numbers(first: u32, second: u32) -> [u8; 8]
+    ensures { result ≡ to_le_bytes w32 first ++ to_le_bytes w32 second }
 {
-    put_number(to, 0, count - 1);
-    for i in 0..count {
-        let words = words_in(segments, i).len() / 8;
-        put_number(to, 4 + 4 * i as usize, words as u32);
-    }
+    let mut bytes = [0u8; 8];
+    put_number(&mut bytes, 0, first);
+    put_number(&mut bytes, 4, second);
+    bytes
 }
 
-/// Writes the table of a message, with its padding.
+/// The length of a segment in words, 0 where there is no such segment.
+fn length_of<S: ReaderSegments>(segments: &S, id: u32) -> u32
+    requires small { IsSmall (S.segments segments.now) }
+    ensures { result ≡ length (segment (message (S.segments segments.now)) id) }
+{
+    (words_in(segments, id).len() / 8) as u32
+}
+
+/// Writes the table of a message, with its padding: the number of segments less one, and the length of each in words,
+/// two numbers at a time. The padding is the length of a segment that isn't there.
 fn write_table<W: Output, S: ReaderSegments>(
     output: &mut W,
     segments: &S,
@@ -75,9 +73,16 @@ fn write_table<W: Output, S: ReaderSegments>(
     ensures works { OnOk result (W.has_failed output.new ≡ false) }
     ensures fails { OnErr result (W.has_failed output.new ≡ true) }
 {
-    let mut table = [0u8; TABLE_BYTES];
-    put_table(segments, count, &mut table);
-    write_all(output, &table[..8 * (count as usize / 2 + 1)])
+    let first = two_numbers(count - 1, length_of(segments, 0));
+    write_all(output, first.as_slice())?;
+    for k in 0..count / 2 {
+        let next = two_numbers(
+            length_of(segments, 2 * k + 1),
+            length_of(segments, 2 * k + 2),
+        );
+        write_all(output, next.as_slice())?;
+    }
+    Ok(())
 }
 
 /// Writes whole words.

@@ -1,7 +1,8 @@
 //! A message made canonical and written as a frame ("Canonicalization", "Serialization Over a Stream").
-ghost use Rattle.std.specs.Prelude.{◌≡◌, ◌⊎◌, ◌∷◌, [], false, true, length, OnOk, IfErr};
+ghost use Rattle.std.specs.Prelude.{◌≡◌, ◌⊎◌, ◌∷◌, ◌<◌, ◌≤◌, ◌*◌, ◌/◌, ◌^◌, [], ℕ, List, false, true, length, OnOk, IfOk, IfErr};
 ghost use Rattle.capnp_words.specs.declared.error.ErrorKind.{ErrorKind};
 ghost use Rattle.capnp_words.specs.declared.error.ErrorKind.TheVariants.{AllocationFailed};
+ghost use Rattle.capnp_format.specs.Bytes.{words_of};
 ghost use Rattle.capnp_format.specs.Canonical.{encoding, trim};
 ghost use Rattle.capnp_format.specs.Tree.{Tree};
 ghost use Rattle.capnp_arena.specs.Allocations.{max_segment_words};
@@ -10,18 +11,22 @@ ghost use Rattle.capnp_framing.specs.Writing.{IsUnwritten, Prints};
 ghost use Rattle.capnp_framing.specs.declared.framing.frame_error.FrameError.{FrameError};
 ghost use Rattle.capnp_framing.specs.declared.framing.frame_error.FrameError.TheVariants.{WriteFailed};
 ghost use Rattle.capnp_readers.specs.Readers.{reading};
-ghost use Rattle.capnp_layout.specs.Answers.{IsReadWithin, RefusesCopy};
+ghost use Rattle.capnp_framing.specs.Frames.{bytes_of_words};
+ghost use Rattle.capnp_layout.specs.Answers.{HoldsCanonicalWords, IsReadWithin, RefusesCopy};
 ghost use Rattle.capnp_layout.specs.CanonicalErrors.{IsLeftOf};
 
 use super::canonical_error::CanonicalError;
 use crate::tool::copy_in_tries;
-use capnp_arena::arena::{BuilderArena, BuilderArenaImpl, HeapAllocator, ReaderArena};
+use capnp_arena::arena::{
+    Allocator, BuilderArena, BuilderArenaImpl, HeapAllocator, OutputSegments, ReaderArena,
+};
 use capnp_framing::devices::Output;
 use capnp_framing::framing::write;
 use capnp_objects::source::Source;
 use capnp_readers::readers::PointerReader;
 use capnp_words::error::ErrorKind;
 use capnp_words::read_limiter::ReadLimiter;
+use capnp_words::words::{count, part};
 use std::alloc::Global;
 
 /// How many words there are where a pointer is read.
@@ -46,16 +51,93 @@ fn settle(lim: &mut ReadLimiter, after: Option<usize>)
     let _ = lim.can_read(left - after);
 }
 
-/// Writes a message of one segment as a frame.
-fn write_segment<W: Output>(
+/// A message in canonical form, in a segment on the heap.
+pub type CanonicalCopy = BuilderArenaImpl<HeapAllocator>;
+
+/// Makes what a pointer means canonical: a message of one segment, its canonical words
+/// ("Canonicalization"), with memory of an allocator. A refusal gives the allocator back.
+///
+/// The limiter is charged what the copy costs, once, however many tries it takes to find the room. More
+/// than 536,870,911 words are `MessageTooLarge`. What is left of the limiter after a refusal isn't said.
+pub fn copy_canonical_with<A: Allocator, B: ReaderArena>(
+    alloc: Global,
+    allocator: A,
+    from: PointerReader<'_, B>,
+    lim: &mut ReadLimiter,
+) -> Result<BuilderArenaImpl<A>, (ErrorKind, A)>
+    ensures copied { IfOk result (λ made. (t : Tree)
+        × IsReadWithin (reading B.ReaderArena from.entry) lim.old.left lim.new.left t
+        × HoldsCanonicalWords (⟦<BuilderArenaImpl<A> as BuilderArena>⟧.view made) t) }
+    ensures refused { IfErr result (λ e. (e.0 ≡ AllocationFailed)
+        ⊎ RefusesCopy (reading B.ReaderArena from.entry) lim.old.left max_segment_words e.0) }
+{
+    let words = words_of_source(&from);
+    match copy_in_tries(alloc, allocator, from, lim.left(), words) {
+        Ok((made, after)) => {
+            settle(lim, after);
+            Ok(made)
+        }
+        Err(refused) => Err(refused),
+    }
+}
+
+/// The same, with memory of the heap.
+pub fn copy_canonical<B: ReaderArena>(
+    alloc: Global,
+    from: PointerReader<'_, B>,
+    lim: &mut ReadLimiter,
+) -> Result<CanonicalCopy, ErrorKind>
+    ensures copied { IfOk result (λ made. (t : Tree)
+        × IsReadWithin (reading B.ReaderArena from.entry) lim.old.left lim.new.left t
+        × HoldsCanonicalWords (⟦<CanonicalCopy as BuilderArena>⟧.view made) t) }
+    ensures refused { IfErr result (λ k. (k ≡ AllocationFailed)
+        ⊎ RefusesCopy (reading B.ReaderArena from.entry) lim.old.left max_segment_words k) }
+{
+    match copy_canonical_with(alloc, HeapAllocator::new(alloc, 0), from, lim) {
+        Ok(made) => Ok(made),
+        Err((kind, _)) => Err(kind),
+    }
+}
+
+/// Bytes are those of their words. It does nothing; its contract says so.
+fn are_words(bytes: &[u8])
+    requires { length bytes.now ≡ 8 * length (words_of bytes.now) }
+    ensures { bytes_of_words (words_of bytes.now) ≡ bytes.now }
+{}
+
+/// The bytes of the whole words of a segment.
+fn whole_words(segment: &[u8]) -> &[u8]
+    ensures bytes { result.now ≡ bytes_of_words (words_of segment.now) }
+    ensures shorter { length result.now ≤ 8 * (length segment.now / 8) }
+{
+    let words = part(segment, 0, count(segment));
+    are_words(words);
+    words
+}
+
+/// The bytes of a message of one segment, eight for each word.
+pub fn canonical_bytes<A: Allocator>(made: &BuilderArenaImpl<A>) -> &[u8]
+    requires { length (⟦<BuilderArenaImpl<A> as ReaderArena>⟧.segments made.now) ≡ 1 }
+    ensures bytes { (words : List ℕ) →
+        (⟦<BuilderArenaImpl<A> as BuilderArena>⟧.view made.now).words ≡ words ∷ []
+        → result.now ≡ bytes_of_words words }
+    ensures short { length result.now < 2 ^ 35 }
+{
+    match made.get_segments_for_output() {
+        Ok(OutputSegments::SingleSegment(segment)) => whole_words(segment),
+        _ => &[],
+    }
+}
+
+/// Writes a message of one segment as a frame. The refusal is the output's.
+pub fn write_copy<W: Output, A: Allocator>(
     output: &mut W,
-    made: &BuilderArenaImpl<HeapAllocator>,
+    made: &BuilderArenaImpl<A>,
 ) -> Result<(), CanonicalError>
     requires works { W.has_failed output.old ≡ false }
-    requires single { length (⟦<BuilderArenaImpl<HeapAllocator> as ReaderArena>⟧.segments made.now)
-        ≡ 1 }
+    requires single { length (⟦<BuilderArenaImpl<A> as ReaderArena>⟧.segments made.now) ≡ 1 }
     ensures written { OnOk result (Prints W.Output output.old output.new
-        (frame (⟦<BuilderArenaImpl<HeapAllocator> as BuilderArena>⟧.view made.now).words)) }
+        (frame (⟦<BuilderArenaImpl<A> as BuilderArena>⟧.view made.now).words)) }
     ensures works { OnOk result (W.has_failed output.new ≡ false) }
     ensures refused { IfErr result (λ e. (e ≡ CanonicalError.Frame WriteFailed)
         × (W.has_failed output.new ≡ true)) }
@@ -93,12 +175,8 @@ pub fn write_canonical<W: Output, B: ReaderArena>(
     ensures frame { IfErr result (λ e. (f : FrameError) → e ≡ CanonicalError.Frame f →
         (f ≡ WriteFailed) × (W.has_failed output.new ≡ true)) }
 {
-    let words = words_of_source(&from);
-    match copy_in_tries(alloc, HeapAllocator::new(alloc, 0), from, lim.left(), words) {
-        Ok((made, after)) => {
-            settle(lim, after);
-            write_segment(output, &made)
-        }
-        Err((kind, _)) => Err(CanonicalError::Layout(kind)),
+    match copy_canonical(alloc, from, lim) {
+        Ok(made) => write_copy(output, &made),
+        Err(kind) => Err(CanonicalError::Layout(kind)),
     }
 }

@@ -86,8 +86,8 @@ fn within_limits(command: &str, options: ReaderOptions) -> Option<Args>
     }
 }
 
-/// Reads an optional `-` and decimal digits; a `+` is refused.
-fn parse_nesting(text: &str) -> Option<i32>
+/// Reads a nesting limit: an optional `-` and decimal digits; a `+` is refused.
+pub fn parse_nesting(text: &str) -> Option<i32>
     ensures read { IfSome result (λ n. IsNesting text.now n) }
     ensures none { IsNone result → (n : ℤ) → IsNesting text.now n → ⊥ }
 {
@@ -98,8 +98,8 @@ fn parse_nesting(text: &str) -> Option<i32>
     }
 }
 
-/// Reads decimal digits, or `none`; a `+` is refused.
-fn parse_budget(text: &str) -> Option<Option<usize>>
+/// Reads a traversal limit: decimal digits, or `none`; a `+` is refused.
+pub fn parse_budget(text: &str) -> Option<Option<usize>>
     ensures read { IfSome result (λ n. IsBudget text.now n) }
     ensures none { IsNone result → (n : Option ℕ) → IsBudget text.now n → ⊥ }
 {

@@ -84,7 +84,7 @@ pub(crate) fn write_message_check<W: Output>(
 }
 
 /// Writes a number in decimal digits.
-fn write_number<W: Output>(output: &mut W, n: u64) -> Result<(), DeviceFault>
+pub fn write_number<W: Output>(output: &mut W, n: u64) -> Result<(), DeviceFault>
     requires { W.has_failed output.old ≡ false }
     ensures written { OnOk result (Prints W.Output output.old output.new (decimal n)) }
     ensures works { OnOk result (W.has_failed output.new ≡ false) }
@@ -96,8 +96,8 @@ fn write_number<W: Output>(output: &mut W, n: u64) -> Result<(), DeviceFault>
     write_all(output, &[b'0' + (n % 10) as u8])
 }
 
-/// Writes the line of a size.
-pub(crate) fn write_size<W: Output>(output: &mut W, size: MessageSize) -> Result<(), DeviceFault>
+/// Writes the line of a size, `words N caps M`.
+pub fn write_size<W: Output>(output: &mut W, size: MessageSize) -> Result<(), DeviceFault>
     requires { W.has_failed output.old ≡ false }
     ensures written { OnOk result (Prints W.Output output.old output.new
         (size_line size.word_count size.cap_count)) }

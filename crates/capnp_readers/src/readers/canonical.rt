@@ -1,15 +1,18 @@
 //! The test for canonical form, in place.
-ghost use Rattle.std.specs.Prelude.{ℕ, ◌≡◌, ◌≢◌, ◌<◌, ◌≤◌, ◌+◌, ◌*◌, ◌/◌, ◌-◌, ◌⊎◌, ◌↔◌, pred, ◌^◌, None, IsTrue, Ok, true, false, IfOk, IfErr, IfNone, OnErr, length, slice_index};
+ghost use Rattle.std.specs.Prelude.{ℕ, ◌≡◌, ◌≢◌, ◌<◌, ◌≤◌, ◌+◌, ◌*◌, ◌/◌, ◌-◌, ◌⊎◌, ◌↔◌, pred, ◌^◌, None, IsTrue, IsNone, Ok, true, false, IfOk, IfErr, IfNone, IfSome, OnErr, length, slice_index};
+ghost use Rattle.std.specs.Bool.{OnFalse};
 ghost use Rattle.capnp_format.specs.Bytes.{words_of};
 ghost use Rattle.capnp_format.specs.Word.{kind, element_size};
 ghost use Rattle.capnp_format.specs.Numbers.{words_for};
 ghost use Rattle.capnp_words.specs.Sizes.{size_number};
 ghost use Rattle.capnp_objects.specs.Reading.{segment_read, word_of};
 ghost use Rattle.capnp_objects.specs.Source.{levels};
+ghost use Rattle.capnp_readers.specs.Faults.{FaultIs, other_reason};
 ghost use Rattle.capnp_readers.specs.Readers.{reading};
 ghost use Rattle.capnp_readers.specs.Sizes.{pointers_read, reading_on};
-ghost use Rattle.capnp_readers.specs.Checking.{progress, level_refusal_name, IsFound, AreFound, IsCanonicalAt, IsTested, StartsRight, Tells, TellsAll, TellsFlat, TellsStruct, TellsRows, TellsClaimed, TestStops, TestsStop, StructTestStops, RowTestsStop, TestEnds, IsUnfit, TestsEnd, SectionsFail, RowsFail, ClaimedFails, StructTestFails, StartsWhole, IsCanonicalStruct, IsDataUsed, ArePointersUsed, head_behind};
+ghost use Rattle.capnp_readers.specs.Checking.{progress, level_refusal_name, IsFound, AreFound, IsCanonicalAt, IsTested, StartsRight, Tells, TellsAll, TellsFlat, TellsStruct, TellsRows, TellsClaimed, TestStops, TestsStop, StructTestStops, RowTestsStop, TestEnds, IsFault, IsUnfit, TestsEnd, SectionsFail, RowsFail, ClaimedFails, StructTestFails, StartsWhole, IsCanonicalStruct, IsDataUsed, ArePointersUsed, head_behind};
 
+use crate::readers::canonical_fault::{CanonicalFault, CanonicalFaultReason};
 use crate::readers::sizes::{flat_words, is_of_bits};
 use crate::readers::{PointerReader, StructReader};
 use capnp_arena::arena::ReaderArena;
@@ -58,12 +61,41 @@ impl<'a, A: ReaderArena> PointerReader<'a, A> {
             lim.new }
         ensures kept { (result ≡ Ok true → ⊥) → head.new ≡ head.old }
     {
-        match test_place(self, self.place.at, self.nesting_limit, *head, lim) {
+        Ok(self.canonical_fault(lim, head)?.is_none())
+    }
+
+    /// Where and why the pointer doesn't lead to a value in canonical form whose first object starts at
+    /// the head, or `None` where it does: `is_canonical` with the place of the no. What is charged,
+    /// refused and moved is as there.
+    ///
+    /// The fault is the first that is met, the pointers being tested in order, and its reason is true of
+    /// the word that it names.
+    pub fn canonical_fault(
+        &self,
+        lim: &mut ReadLimiter,
+        head: &mut u32,
+    ) -> Result<Option<CanonicalFault>, ErrorKind>
+        ensures exactly { IfOk result (λ o. IsNone o
+            ↔ IsCanonicalAt (reading A.ReaderArena self.now) head.old) }
+        ensures found { IfOk result (λ o. IfNone o
+            (IsFound (reading A.ReaderArena self.now) (progress head.old lim.old)
+            (progress head.new lim.new))) }
+        ensures refused { IfErr result
+            (λ k. TestStops k (reading A.ReaderArena self.now)
+            (progress head.old lim.old) lim.new) }
+        ensures fault { IfOk result (λ o. IfSome o
+            (λ f. TestEnds (IsFault f) (reading A.ReaderArena self.now)
+            (progress head.old lim.old) lim.new)) }
+        ensures kept { (result ≡ Ok None → ⊥) → head.new ≡ head.old }
+    {
+        let mut fault = no_fault();
+        let nesting_limit = self.nesting_limit;
+        match test_place(self, self.place.at, nesting_limit, *head, lim, &mut fault) {
             Ok(Some(end)) => {
                 *head = end;
-                Ok(true)
+                Ok(None)
             }
-            Ok(None) => Ok(false),
+            Ok(None) => Ok(Some(fault)),
             Err(kind) => Err(kind),
         }
     }
@@ -131,6 +163,7 @@ impl<'a, A: ReaderArena> StructReader<'a, A> {
             self.nesting_limit,
             *ptr_head,
             lim,
+            &mut no_fault(),
         ) {
             Ok(Some(end)) => end,
             Ok(None) => return Ok(false),
@@ -202,7 +235,8 @@ impl<'a, A: ReaderArena> StructReader<'a, A> {
 }
 
 /// Tests the pointer at a position, the first object being at a head: the head behind the canonical
-/// words, or `None` where there are none. All lies in one segment, whose reader serves every level.
+/// words, or `None` where there are none, and the fault is noted. All lies in one segment, whose reader
+/// serves every level.
 #[cycle(tests)]
 #[inline(always)]
 fn test_place<A: ReaderArena>(
@@ -211,6 +245,7 @@ fn test_place<A: ReaderArena>(
     nesting_limit: i32,
     head: u32,
     lim: &mut ReadLimiter,
+    fault: &mut CanonicalFault,
 ) -> Result<Option<u32>, ErrorKind>
     ensures tells { IfOk result (Tells (reading_on A.ReaderArena from.now at nesting_limit)
         (progress head lim.old) lim.new) }
@@ -218,23 +253,26 @@ fn test_place<A: ReaderArena>(
         (λ k. TestStops k (reading_on A.ReaderArena from.now at nesting_limit)
         (progress head lim.old) lim.new) }
     ensures failed { IfOk result (λ o.
-        IfNone o (TestEnds IsUnfit (reading_on A.ReaderArena from.now at nesting_limit)
+        IfNone o (TestEnds (IsFault fault.new)
+        (reading_on A.ReaderArena from.now at nesting_limit)
         (progress head lim.old) lim.new)) }
 {
     let word = Place { at, ..from.place }.word();
     if at as usize >= whole_words(from.place.bytes) {
+        note(fault, from.place, at, CanonicalFaultReason::NoPointer);
         return Ok(None);
     }
     if !word.is_positional() {
+        note(fault, from.place, at, reason_of(word));
         return Ok(None);
     }
     if word.is_null() {
         return Ok(Some(head));
     }
     match word.kind() {
-        WirePointerKind::Struct => test_struct(from, at, word, nesting_limit, head, lim),
-        _ if is_of_bits(word) => test_near_flat(from, at, word, nesting_limit, head, lim),
-        _ => test_list(from, at, word, nesting_limit, head, lim),
+        WirePointerKind::Struct => test_struct(from, at, word, nesting_limit, head, lim, fault),
+        _ if is_of_bits(word) => test_near_flat(from, at, word, nesting_limit, head, lim, fault),
+        _ => test_list(from, at, word, nesting_limit, head, lim, fault),
     }
 }
 
@@ -247,6 +285,7 @@ fn test_children<A: ReaderArena>(
     nesting_limit: i32,
     first: u32,
     lim: &mut ReadLimiter,
+    fault: &mut CanonicalFault,
 ) -> Result<Option<u32>, ErrorKind>
     requires inside { at + count ≤ length (segment_read (reading A.ReaderArena from.now)) }
     ensures tells { IfOk result (TellsAll (reading_on A.ReaderArena from.now at nesting_limit) count
@@ -255,12 +294,13 @@ fn test_children<A: ReaderArena>(
         (TestsStop (reading_on A.ReaderArena from.now at nesting_limit) count
         (progress first lim.old) lim.new) }
     ensures failed { IfOk result (λ o.
-        IfNone o (TestsEnd IsUnfit (reading_on A.ReaderArena from.now at nesting_limit) count
+        IfNone o (TestsEnd (IsFault fault.new)
+        (reading_on A.ReaderArena from.now at nesting_limit) count
         (progress first lim.old) lim.new)) }
 {
     let mut head = first;
     for i in 0..count {
-        head = match test_place(from, at + i, nesting_limit, head, lim) {
+        head = match test_place(from, at + i, nesting_limit, head, lim, fault) {
             Ok(Some(end)) => end,
             Ok(None) => return Ok(None),
             Err(kind) => return Err(kind),
@@ -279,6 +319,7 @@ fn test_struct<A: ReaderArena>(
     nesting_limit: i32,
     head: u32,
     lim: &mut ReadLimiter,
+    fault: &mut CanonicalFault,
 ) -> Result<Option<u32>, ErrorKind>
     requires tested { IsTested (reading_on A.ReaderArena from.now at nesting_limit) }
     requires there { word.0 ≡ word_of (reading_on A.ReaderArena from.now at nesting_limit) }
@@ -290,7 +331,8 @@ fn test_struct<A: ReaderArena>(
         (λ k. TestStops k (reading_on A.ReaderArena from.now at nesting_limit)
         (progress head lim.old) lim.new) }
     ensures failed { IfOk result (λ o.
-        IfNone o (TestEnds IsUnfit (reading_on A.ReaderArena from.now at nesting_limit)
+        IfNone o (TestEnds (IsFault fault.new)
+        (reading_on A.ReaderArena from.now at nesting_limit)
         (progress head lim.old) lim.new)) }
 {
     let place = Place { at, ..from.place };
@@ -303,12 +345,22 @@ fn test_struct<A: ReaderArena>(
     };
     let size = word.struct_size();
     if size.total() == 0 {
-        return Ok(if start == at { Some(head) } else { None });
-    }
-    if start != head {
+        if start == at {
+            return Ok(Some(head));
+        }
+        note(
+            fault,
+            from.place,
+            at,
+            CanonicalFaultReason::EmptyStructPlace,
+        );
         return Ok(None);
     }
-    test_sections(from, start, size, less(nesting_limit), lim)
+    if start != head {
+        note(fault, from.place, at, CanonicalFaultReason::ObjectPlace);
+        return Ok(None);
+    }
+    test_sections(from, start, size, less(nesting_limit), lim, fault)
 }
 
 /// Tests the sections of a struct that starts at a position, its first object being right behind it.
@@ -320,6 +372,7 @@ fn test_sections<A: ReaderArena>(
     size: StructSize,
     nesting_limit: i32,
     lim: &mut ReadLimiter,
+    fault: &mut CanonicalFault,
 ) -> Result<Option<u32>, ErrorKind>
     requires inside { start + (size.data_words + size.pointers)
         ≤ length (segment_read (reading A.ReaderArena from.now)) }
@@ -329,21 +382,37 @@ fn test_sections<A: ReaderArena>(
         (StructTestStops (reading_on A.ReaderArena from.now start nesting_limit) size
         lim.old lim.new) }
     ensures failed { IfOk result (λ o.
-        IfNone o (SectionsFail (reading_on A.ReaderArena from.now start nesting_limit) size
-        lim.old lim.new)) }
+        IfNone o (SectionsFail fault.new
+        (reading_on A.ReaderArena from.now start nesting_limit) size lim.old lim.new)) }
 {
     let data_words = u32::from(size.data_words);
     let pointers = u32::from(size.pointers);
     let first = start + data_words;
-    match test_row(from, first, pointers, nesting_limit, first + pointers, lim) {
-        Ok(Some(end)) => {
-            let is_used = ends_used(from.place, start, data_words)
-                && ends_used(from.place, first, pointers);
-            Ok(if is_used { Some(end) } else { None })
-        }
-        Ok(None) => Ok(None),
-        Err(kind) => Err(kind),
+    let behind = first + pointers;
+    let end = match test_row(from, first, pointers, nesting_limit, behind, lim, fault) {
+        Ok(Some(end)) => end,
+        Ok(None) => return Ok(None),
+        Err(kind) => return Err(kind),
+    };
+    if !ends_used(from.place, start, data_words) {
+        note(
+            fault,
+            from.place,
+            first - 1,
+            CanonicalFaultReason::DataSection,
+        );
+        return Ok(None);
     }
+    if !ends_used(from.place, first, pointers) {
+        note(
+            fault,
+            from.place,
+            behind - 1,
+            CanonicalFaultReason::PointerSection,
+        );
+        return Ok(None);
+    }
+    Ok(Some(end))
 }
 
 /// Tests the list of bits or bytes that the word at a position describes, as `test_list` does.
@@ -355,6 +424,7 @@ fn test_near_flat<A: ReaderArena>(
     nesting_limit: i32,
     head: u32,
     lim: &mut ReadLimiter,
+    fault: &mut CanonicalFault,
 ) -> Result<Option<u32>, ErrorKind>
     requires tested { IsTested (reading_on A.ReaderArena from.now at nesting_limit) }
     requires there { word.0 ≡ word_of (reading_on A.ReaderArena from.now at nesting_limit) }
@@ -367,7 +437,8 @@ fn test_near_flat<A: ReaderArena>(
         (λ k. TestStops k (reading_on A.ReaderArena from.now at nesting_limit)
         (progress head lim.old) lim.new) }
     ensures failed { IfOk result (λ o.
-        IfNone o (TestEnds IsUnfit (reading_on A.ReaderArena from.now at nesting_limit)
+        IfNone o (TestEnds (IsFault fault.new)
+        (reading_on A.ReaderArena from.now at nesting_limit)
         (progress head lim.old) lim.new)) }
 {
     let size = word.list_element_size();
@@ -382,9 +453,11 @@ fn test_near_flat<A: ReaderArena>(
         Err(kind) => return Err(name_of_refusal(word, kind)),
     };
     if start != head {
+        note(fault, from.place, at, CanonicalFaultReason::ObjectPlace);
         return Ok(None);
     }
-    Ok(test_flat(from.place.bytes, start, size, count))
+    let place = from.place;
+    Ok(test_flat(place.bytes, place.segment, start, size, count, fault))
 }
 
 /// Tests the list that the word at a position describes.
@@ -397,6 +470,7 @@ fn test_list<A: ReaderArena>(
     nesting_limit: i32,
     head: u32,
     lim: &mut ReadLimiter,
+    fault: &mut CanonicalFault,
 ) -> Result<Option<u32>, ErrorKind>
     requires tested { IsTested (reading_on A.ReaderArena from.now at nesting_limit) }
     requires there { word.0 ≡ word_of (reading_on A.ReaderArena from.now at nesting_limit) }
@@ -407,7 +481,8 @@ fn test_list<A: ReaderArena>(
         (λ k. TestStops k (reading_on A.ReaderArena from.now at nesting_limit)
         (progress head lim.old) lim.new) }
     ensures failed { IfOk result (λ o.
-        IfNone o (TestEnds IsUnfit (reading_on A.ReaderArena from.now at nesting_limit)
+        IfNone o (TestEnds (IsFault fault.new)
+        (reading_on A.ReaderArena from.now at nesting_limit)
         (progress head lim.old) lim.new)) }
 {
     let place = Place { at, ..from.place };
@@ -416,19 +491,26 @@ fn test_list<A: ReaderArena>(
         Err(kind) => return Err(name_of_refusal(word, kind)),
     };
     if !starts_right(object, at, head) {
+        note(fault, from.place, at, CanonicalFaultReason::ObjectPlace);
         return Ok(None);
     }
     match object {
-        Object::Null | Object::Capability(_) | Object::Struct { .. } => Ok(None),
-        Object::Flat { start, size, count } => Ok(test_flat(start.bytes, start.at, size, count)),
+        Object::Null | Object::Capability(_) | Object::Struct { .. } => {
+            note(fault, from.place, at, CanonicalFaultReason::ObjectPlace);
+            Ok(None)
+        }
+        Object::Flat { start, size, count } => {
+            let (bytes, segment) = (start.bytes, start.segment);
+            Ok(test_flat(bytes, segment, start.at, size, count, fault))
+        }
         Object::Pointers { start, count } => {
             let end = start.at + count;
-            test_children(from, start.at, count, less(nesting_limit), end, lim)
+            test_children(from, start.at, count, less(nesting_limit), end, lim, fault)
         }
         Object::Structs { start, size, count } => {
             let claimed = word.list_inline_composite_word_count();
             let inner = less(nesting_limit);
-            test_structs(from, start.at, size, count, inner, claimed, lim)
+            test_structs(from, start.at, size, count, inner, claimed, lim, fault)
         }
     }
 }
@@ -443,8 +525,10 @@ fn test_structs<A: ReaderArena>(
     nesting_limit: i32,
     claimed: u32,
     lim: &mut ReadLimiter,
+    fault: &mut CanonicalFault,
 ) -> Result<Option<u32>, ErrorKind>
     requires inside { start + claimed ≤ length (segment_read (reading A.ReaderArena from.now)) }
+    requires tagged { 0 < start }
     ensures tells { IfOk result (TellsClaimed
         (reading_on A.ReaderArena from.now start nesting_limit) size count claimed
         lim.old lim.new) }
@@ -453,16 +537,23 @@ fn test_structs<A: ReaderArena>(
         (RowTestsStop (reading_on A.ReaderArena from.now start nesting_limit) size count
         (progress (start + claimed) lim.old) lim.new) }
     ensures failed { IfOk result (λ o.
-        IfNone o (ClaimedFails (reading_on A.ReaderArena from.now start nesting_limit) size count
+        IfNone o (ClaimedFails fault.new
+        (reading_on A.ReaderArena from.now start nesting_limit) size count
         claimed lim.old lim.new)) }
 {
     if u64::from(count) * u64::from(size.total()) != u64::from(claimed) {
+        note(
+            fault,
+            from.place,
+            start - 1,
+            CanonicalFaultReason::ElementWords,
+        );
         return Ok(None);
     }
     if size.total() == 0 {
         return Ok(Some(start));
     }
-    test_rows(from, start, size, count, nesting_limit, lim)
+    test_rows(from, start, size, count, nesting_limit, lim, fault)
 }
 
 /// Tests so many elements of a list of structs, one behind the other from a place on, their first
@@ -475,16 +566,19 @@ fn test_rows<A: ReaderArena>(
     count: u32,
     nesting_limit: i32,
     lim: &mut ReadLimiter,
+    fault: &mut CanonicalFault,
 ) -> Result<Option<u32>, ErrorKind>
     requires inside { start + count * (size.data_words + size.pointers)
         ≤ length (segment_read (reading A.ReaderArena from.now)) }
+    requires tagged { 0 < start }
     ensures tells { IfOk result (TellsRows (reading_on A.ReaderArena from.now start nesting_limit)
         size count (progress (start + count * (size.data_words + size.pointers)) lim.old) lim.new) }
     ensures refused { IfErr result
         (RowTestsStop (reading_on A.ReaderArena from.now start nesting_limit) size count
         (progress (start + count * (size.data_words + size.pointers)) lim.old) lim.new) }
     ensures failed { IfOk result (λ o.
-        IfNone o (RowsFail (reading_on A.ReaderArena from.now start nesting_limit) size count
+        IfNone o (RowsFail fault.new
+        (reading_on A.ReaderArena from.now start nesting_limit) size count
         lim.old lim.new)) }
 {
     let data_words = u32::from(size.data_words);
@@ -495,7 +589,15 @@ fn test_rows<A: ReaderArena>(
     let mut are_pointers_used = pointers == 0;
     for i in 0..count {
         let at = start + i * width;
-        head = match test_row(from, at + data_words, pointers, nesting_limit, head, lim) {
+        head = match test_row(
+            from,
+            at + data_words,
+            pointers,
+            nesting_limit,
+            head,
+            lim,
+            fault,
+        ) {
             Ok(Some(end)) => end,
             Ok(None) => return Ok(None),
             Err(kind) => return Err(kind),
@@ -503,11 +605,25 @@ fn test_rows<A: ReaderArena>(
         is_data_used = is_data_used || ends_used(from.place, at, data_words);
         are_pointers_used = are_pointers_used || ends_used(from.place, at + data_words, pointers);
     }
-    Ok(if is_data_used && are_pointers_used {
-        Some(head)
-    } else {
-        None
-    })
+    if !is_data_used {
+        note(
+            fault,
+            from.place,
+            start - 1,
+            CanonicalFaultReason::ElementData,
+        );
+        return Ok(None);
+    }
+    if !are_pointers_used {
+        note(
+            fault,
+            from.place,
+            start - 1,
+            CanonicalFaultReason::ElementPointers,
+        );
+        return Ok(None);
+    }
+    Ok(Some(head))
 }
 
 /// Tests so many pointers of a struct, one behind the other from a position on. Where there are none
@@ -521,6 +637,7 @@ fn test_row<A: ReaderArena>(
     nesting_limit: i32,
     first: u32,
     lim: &mut ReadLimiter,
+    fault: &mut CanonicalFault,
 ) -> Result<Option<u32>, ErrorKind>
     requires inside { at + count ≤ length (segment_read (reading A.ReaderArena from.now)) }
     ensures tells { IfOk result (TellsAll (reading_on A.ReaderArena from.now at nesting_limit) count
@@ -529,22 +646,33 @@ fn test_row<A: ReaderArena>(
         (TestsStop (reading_on A.ReaderArena from.now at nesting_limit) count
         (progress first lim.old) lim.new) }
     ensures failed { IfOk result (λ o.
-        IfNone o (TestsEnd IsUnfit (reading_on A.ReaderArena from.now at nesting_limit) count
+        IfNone o (TestsEnd (IsFault fault.new)
+        (reading_on A.ReaderArena from.now at nesting_limit) count
         (progress first lim.old) lim.new)) }
 {
     if count == 0 {
         return Ok(Some(first));
     }
-    test_children(from, at, count, nesting_limit, first, lim)
+    test_children(from, at, count, nesting_limit, first, lim, fault)
 }
 
-/// Tests a list of numbers that starts at a position: the bits behind the last one have to be zero.
-fn test_flat(bytes: &[u8], start: u32, size: ElementSize, count: u32) -> Option<u32>
+/// Tests a list of numbers that starts at a position of a segment: the bits behind the last one have to be
+/// zero.
+fn test_flat(
+    bytes: &[u8],
+    segment: u64,
+    start: u32,
+    size: ElementSize,
+    count: u32,
+    fault: &mut CanonicalFault,
+) -> Option<u32>
     requires inside { start + words_for (size_number size) count ≤ length (words_of bytes.now) }
     requires small { length (words_of bytes.now) < 2 ^ 32 }
     requires is_flat { size_number size ≤ 5 }
     requires few { count < 2 ^ 29 }
-    ensures { TellsFlat (words_of bytes.now) start size count result }
+    ensures tells { TellsFlat (words_of bytes.now) start size count result }
+    ensures failed { IfNone result (FaultIs fault.new CanonicalFaultReason.Padding segment
+        (start + words_for (size_number size) count - 1)) }
 {
     let bits = u64::from(count) * u64::from(data_bits_per_element(size));
     let end = start + (bits / 64) as u32;
@@ -554,6 +682,11 @@ fn test_flat(bytes: &[u8], start: u32, size: ElementSize, count: u32) -> Option<
     } else if is_zero_from(word_at(bytes, end as usize), rest) {
         Some(end + 1)
     } else {
+        *fault = CanonicalFault {
+            segment,
+            word: end,
+            reason: CanonicalFaultReason::Padding,
+        };
         None
     }
 }
@@ -567,6 +700,39 @@ fn is_zero_from(word: u64, position: u64) -> bool
     lanes::is_zero((word >> position).to_le_bytes().as_slice())
 }
 
+/// Notes a fault of a word of a place's segment.
+fn note(fault: &mut CanonicalFault, place: Place, word: u32, reason: CanonicalFaultReason)
+    ensures { FaultIs fault.new reason place.entry.segment word }
+{
+    *fault = CanonicalFault {
+        segment: place.segment,
+        word,
+        reason,
+    };
+}
+
+/// A fault to be noted.
+fn no_fault() -> CanonicalFault {
+    CanonicalFault {
+        segment: 0,
+        word: 0,
+        reason: CanonicalFaultReason::NoPointer,
+    }
+}
+
+/// Why the pointer of a word isn't canonical that is neither of a struct nor of a list.
+fn reason_of(word: WirePointer) -> CanonicalFaultReason
+    ensures { result ≡ other_reason word.0 }
+{
+    if word.kind() == WirePointerKind::Far {
+        CanonicalFaultReason::FarPointer
+    } else if word.is_capability() {
+        CanonicalFaultReason::Capability
+    } else {
+        CanonicalFaultReason::UnknownPointer
+    }
+}
+
 /// How many whole words bytes have, each of which is one of 64 bits.
 fn whole_words(bytes: &[u8]) -> usize
     ensures count { result ≡ length (words_of bytes.now) }
@@ -578,8 +744,10 @@ fn whole_words(bytes: &[u8]) -> usize
 /// Whether there are none of so many words from a position on, or the last isn't zero.
 fn ends_used(place: Place, at: u32, count: u32) -> bool
     requires { at + count < 2 ^ 32 }
-    ensures { IsTrue result
+    ensures used { IsTrue result
         ↔ (count ≡ 0) ⊎ (slice_index (words_of place.entry.bytes.now) (at + count - 1) ≢ 0) }
+    ensures unused { OnFalse result ((0 < count)
+        × (slice_index (words_of place.entry.bytes.now) (at + count - 1) ≡ 0)) }
 {
     if count == 0 {
         return true;

@@ -1,5 +1,6 @@
 use Rattle.std.proofs.Common.{◌≡◌, ◌-◌, ◌≤◌, length, take, false}
 use Rattle.std.specs.Io.KnownBytes.{Consumes}
+use Rattle.capnp_framing.specs.Wholeness.{KeepsWhole}
 use Rattle.capnp_framing.proofs.framing.reading.read_up_to.Given as goal
 
 abbrev pub invariant-loop-n : goal.invariant-loop-n
@@ -7,6 +8,7 @@ invariant-loop-n g l = record {
   within : l.n ≤ length l.fn.to;
   read : Consumes (g.R.Input.remaining l.fn.input) (g.R.Input.remaining l.input) (take l.n l.to);
   works : g.R.Input.has_failed l.input ≡ false;
+  whole : KeepsWhole (g.R.Input.ends_whole l.fn.input) (g.R.Input.ends_whole l.input);
 }
 
 abbrev pub decreases-loop-n : goal.decreases-loop-n

@@ -3,7 +3,7 @@ use Rattle.std.proofs.lemmas.Bool.{false≢true, ne_eqb}
 use Rattle.std.proofs.lemmas.Int.{to_z-of_z}
 use mir.Syntax.{w32}
 use Rattle.capnp_format.specs.Word.{kind, data_words, pointer_count, list_count}
-use Rattle.capnp_format.specs.Segments.{segment}
+use Rattle.capnp_format.specs.Segments.{segment, IsPlace}
 use Rattle.capnp_format.specs.Tree.{no_trees}
 use Rattle.capnp_objects.specs.declared.object.Object.TheVariants.{Struct as ObjectStruct, Flat as ObjectFlat, Pointers as ObjectPointers, Structs as ObjectStructs}
 use Rattle.capnp_objects.specs.Source.{levels}
@@ -12,12 +12,13 @@ use Rattle.capnp_objects.specs.Reading.{Reading, segment_read, behind, word_of}
 use Rattle.capnp_objects.specs.declared.object.Purpose.TheVariants.{Value}
 use Rattle.capnp_objects.proofs.Walked.{row_within}
 use Rattle.capnp_readers.specs.Sizes.{reading_on}
-use Rattle.capnp_readers.specs.Checking.{IsTested, Progress, progress, StartsRight, TellsStruct, TellsAll, TellsClaimed, TestsStop, RowTestsStop, TestsEnd, IsUnfit, SectionsFail, ClaimedFails, AreFoundRows, here, no_near_pointer}
+use Rattle.capnp_readers.specs.Faults.{other_reason}
+use Rattle.capnp_readers.specs.Checking.{IsTested, Progress, progress, StartsRight, TellsStruct, TellsAll, TellsClaimed, TestsStop, RowTestsStop, TestsEnd, IsFault, SectionsFail, ClaimedFails, AreFoundRows, here, no_pointer, other_pointer}
 use Rattle.capnp_readers.proofs.Walking.{ok_so, err_so, err_with}
 use Rattle.capnp_readers.proofs.Checks.{tested, finds_none, pointer_found, pointer_never, unplaced_never, null_found_at, empty_tells, flat_tells, struct_tells, pointers_tell, structs_tell, pointer_ends, row_ends, struct_ends, pointers_end, structs_end, pointers_room, structs_room, some_right, level_falls, place_begins, elements_begin, pointers_here, structs_here, none_seen, row_seen, row_never, rows_unused, empties_found, still_seen, seen_now, RowDataUsed, RowPointersUsed}
 use Rattle.capnp_readers.proofs.NearRead.{struct_by_word}
-use Rattle.capnp_readers.proofs.Fails.{none_so, empty_fails, struct_fails, unplaced_fails, flat_fails, sections_fail, claimed_fails, rows_too_wide}
-use Rattle.capnp_readers.proofs.readers.canonical.+tests.Goals.{test_rows-then-is_data_used, test_rows-else-is_data_used, test_rows-then-are_pointers_used, test_rows-else-are_pointers_used, test_rows-else-is_data_used-2-via-then-is_data_used-2+else-are_pointers_used-2, test_rows-else-is_data_used-2-via-else-is_data_used-2}
+use Rattle.capnp_readers.proofs.Fails.{none_so, empty_fails, struct_fails, unplaced_fails, flat_fails, sections_fail, claimed_fails, rows_wide_data, rows_wide_pointers}
+use Rattle.capnp_readers.proofs.readers.canonical.+tests.Goals.{test_rows-then-is_data_used, test_rows-else-is_data_used, test_rows-then-are_pointers_used, test_rows-else-are_pointers_used}
 use Rattle.capnp_readers.proofs.readers.canonical.+tests.Goals as goal
 
 pub test_children-loop-i-init : goal.test_children-loop-i-init
@@ -71,7 +72,7 @@ test_list-returns-in-Flat-clause-tells g t c =
     let nl = to_z-of_z w32 c.args.nesting_limit (search rules) in
     let object : IsObject Value r c.args.lim.now c.read_object.new.lim (ObjectFlat c.in-Flat.start c.in-Flat.size c.in-Flat.count) = rw nl at (rw c.in-Flat.is at c.in-Ok.ensures.object) in
     let right : StartsRight (ObjectFlat c.in-Flat.start c.in-Flat.size c.in-Flat.count) c.args.at c.args.head = rw c.in-Flat.is at (c.starts_right.ensures.0 c.if-not-starts_right.false) in
-    flat_tells {r = r} (progress c.args.head c.args.lim.now) c.in-Flat.start c.in-Flat.size c.in-Flat.count c.test_flat.result ready object right c.test_flat.ensures
+    flat_tells {r = r} (progress c.args.head c.args.lim.now) c.in-Flat.start c.in-Flat.size c.in-Flat.count c.test_flat.result ready object right c.test_flat.ensures.tells
 
 pub test_list-returns-in-Pointers-clause-tells : goal.test_list-returns-in-Pointers-clause-tells
 test_list-returns-in-Pointers-clause-tells g t c =
@@ -146,24 +147,26 @@ test_rows-loop-i-preserved g t c =
     let data_so : IsTrue c.if-is_data_used.is_data_used ↔ (IsTrue c.loop-i.is_data_used ⊎ RowDataUsed r c.args.size i) =
     elim c.if-is_data_used.branch [
       | test_rows-then-is_data_used w ↦ still_seen w.is_data_used-is w.if-is_data_used.true
-      | test_rows-else-is_data_used w ↦ seen_now w.is_data_used-is w.if-is_data_used.false (rw (c.from-data_words.ensures, c.from-pointers.ensures, c.args.from.now.held.0) at w.ends_used-is_data_used.ensures)
+      | test_rows-else-is_data_used w ↦ seen_now w.is_data_used-is w.if-is_data_used.false (rw (c.from-data_words.ensures, c.from-pointers.ensures, c.args.from.now.held.0) at w.ends_used-is_data_used.ensures.used)
     ] in
     let pointers_so : IsTrue c.if-are_pointers_used.are_pointers_used ↔ (IsTrue c.loop-i.are_pointers_used ⊎ RowPointersUsed r c.args.size i) =
     elim c.if-are_pointers_used.branch [
       | test_rows-then-are_pointers_used w ↦ still_seen w.are_pointers_used-is w.if-are_pointers_used.true
-      | test_rows-else-are_pointers_used w ↦ seen_now w.are_pointers_used-is w.if-are_pointers_used.false (rw (c.from-data_words.ensures, c.from-pointers.ensures, c.args.from.now.held.0) at w.ends_used-are_pointers_used.ensures)
+      | test_rows-else-are_pointers_used w ↦ seen_now w.are_pointers_used-is w.if-are_pointers_used.false (rw (c.from-data_words.ensures, c.from-pointers.ensures, c.args.from.now.held.0) at w.ends_used-are_pointers_used.ensures.used)
     ] in
     row_seen c.if-is_data_used.is_data_used c.if-are_pointers_used.are_pointers_used c.loop-i.invariant inside (rw (c.from-data_words.ensures, c.from-pointers.ensures) at (rw c.in-Ok-Some.field-0-is at c.in-Ok-Some.ensures.tells)) data_so pointers_so
 
-pub test_rows-returns-else-is_data_used-2-clause-tells : goal.test_rows-returns-else-is_data_used-2-clause-tells
-test_rows-returns-else-is_data_used-2-clause-tells g t c =
+pub test_rows-returns-then-not-is_data_used-clause-tells : goal.test_rows-returns-then-not-is_data_used-clause-tells
+test_rows-returns-then-not-is_data_used-clause-tells g t c =
     let head : ℕ = c.args.start + c.args.count * (c.args.size.data_words + c.args.size.pointers) in
     let all : c.loop-i.i ≡ c.args.count = omega (arith, c.loop-i.auto.i-end, c.loop-i-test.false) in
-    let seen = rw all at c.loop-i.invariant in
-    elim c.else-is_data_used-2.branch [
-      | test_rows-else-is_data_used-2-via-then-is_data_used-2+else-are_pointers_used-2 w ↦ rows_unused (progress head c.args.lim.now) seen (λ both. false≢true (sym w.if-are_pointers_used-2.false ∙ both.1))
-      | test_rows-else-is_data_used-2-via-else-is_data_used-2 w ↦ rows_unused (progress head c.args.lim.now) seen (λ both. false≢true (sym w.if-is_data_used-2.false ∙ both.0))
-    ]
+    rows_unused (progress head c.args.lim.now) (rw all at c.loop-i.invariant) (λ both. false≢true (sym c.if-not-is_data_used.true ∙ both.0))
+
+pub test_rows-returns-then-not-are_pointers_used-clause-tells : goal.test_rows-returns-then-not-are_pointers_used-clause-tells
+test_rows-returns-then-not-are_pointers_used-clause-tells g t c =
+    let head : ℕ = c.args.start + c.args.count * (c.args.size.data_words + c.args.size.pointers) in
+    let all : c.loop-i.i ≡ c.args.count = omega (arith, c.loop-i.auto.i-end, c.loop-i-test.false) in
+    rows_unused (progress head c.args.lim.now) (rw all at c.loop-i.invariant) (λ both. false≢true (sym c.if-not-are_pointers_used.true ∙ both.1))
 
 pub test_structs-returns-then-total-eq0-clause-tells : goal.test_structs-returns-then-total-eq0-clause-tells
 test_structs-returns-then-total-eq0-clause-tells g t c =
@@ -236,15 +239,16 @@ test_list-test_structs-requires g t c κs within =
     let inner : levels c.less-inner.result ≡ pred (levels c.args.nesting_limit) = rw nl at c.less-inner.ensures in
     let claimed : list_count (word_of r) ≡ c.list_inline_composite_word_count-claimed.result = sym (c.list_inline_composite_word_count-claimed.ensures.value ∙ ap list_count c.requires.there) in
     let room = rw claimed at (subst (λ i. c.in-Structs.start.at + list_count (word_of r) ≤ length (segment r.segments i)) (sym (structs_here {r = r} c.in-Structs.start c.in-Structs.size c.in-Structs.count ready object)) (structs_room {r = r} c.in-Structs.start c.in-Structs.size c.in-Structs.count ready.near object)) in
-    (search (rules, nk, nl, inner, falls), (search rules, room))
+    let right : StartsRight (ObjectStructs c.in-Structs.start c.in-Structs.size c.in-Structs.count) c.args.at c.args.head = rw c.in-Structs.is at (c.starts_right.ensures.0 c.if-not-starts_right.false) in
+    (search (rules, nk, nl, inner, falls), (search rules, (room, omega (arith, right))))
 
 pub test_children-returns-in-Ok-None-clause-failed : goal.test_children-returns-in-Ok-None-clause-failed
 test_children-returns-in-Ok-None-clause-failed g t c =
     let nl = to_z-of_z w32 c.args.nesting_limit (search rules) in
     pointer_ends c.args.count (rw nl at c.loop-i.invariant) c.loop-i-test.true (rw nl at (rw c.in-Ok-None.field-0-is at c.in-Ok-None.ensures.failed))
 
-pub test_struct-returns-else-start-at-clause-failed : goal.test_struct-returns-else-start-at-clause-failed
-test_struct-returns-else-start-at-clause-failed g t c =
+pub test_struct-returns-then-total-eq0-clause-failed : goal.test_struct-returns-then-total-eq0-clause-failed
+test_struct-returns-then-total-eq0-clause-failed g t c =
     let r : Reading = reading_on g.A.ReaderArena c.args.from.now c.args.at c.args.nesting_limit in
     let ready : IsTested r = c.requires.tested in
     let nl = to_z-of_z w32 c.args.nesting_limit (search rules) in
@@ -253,7 +257,7 @@ test_struct-returns-else-start-at-clause-failed g t c =
     let object : IsObject Value r c.args.lim.now c.read_near_struct.new.lim (ObjectStruct start size) =
     struct_by_word {r = r} start size (rw c.requires.there at c.requires.is_struct) c.args.from.now.held refl (rw nl at c.in-Ok.ensures.object) (c.struct_size-size.ensures.data_of ∙ ap data_words c.requires.there) (c.struct_size-size.ensures.pointers_of ∙ ap pointer_count c.requires.there) in
     let none : size.data_words + size.pointers ≡ 0 = sym c.total.ensures ∙ c.if-total-eq0.true in
-    empty_fails {r = r} {from = progress c.args.head c.args.lim.now} start size ready object none c.if-start-at.false
+    empty_fails {r = r} {from = progress c.args.head c.args.lim.now} start size c.note.ensures ready object none c.if-start-at.false
 
 -- a struct of some words that starts elsewhere than at the head doesn't start right
 head_right : {n h x : ℕ} (p : ℕ) → 0 < n → x ≡ cond (nat_eq n 0) p h → x ≡ h
@@ -281,7 +285,7 @@ test_struct-returns-then-start-head-clause-failed g t c =
     let object : IsObject Value r c.args.lim.now c.read_near_struct.new.lim (ObjectStruct start size) =
     struct_by_word {r = r} start size (rw c.requires.there at c.requires.is_struct) c.args.from.now.held refl (rw nl at c.in-Ok.ensures.object) (c.struct_size-size.ensures.data_of ∙ ap data_words c.requires.there) (c.struct_size-size.ensures.pointers_of ∙ ap pointer_count c.requires.there) in
     let some : 0 < size.data_words + size.pointers = omega (arith, c.total.ensures, c.if-total-eq0.false) in
-    struct_fails {r = r} {from = progress c.args.head c.args.lim.now} start size ready object some c.if-start-head.true
+    struct_fails {r = r} {from = progress c.args.head c.args.lim.now} start size c.note-then-start-head.ensures ready object some c.if-start-head.true
 
 pub test_struct-returns-clause-failed : goal.test_struct-returns-clause-failed
 test_struct-returns-clause-failed g t c =
@@ -296,7 +300,7 @@ test_struct-returns-clause-failed g t c =
     let nm = to_z-of_z w32 c.less.result (search rules) in
     let there = place_begins r start (rw nl at c.less.ensures) refl in
     ok_so c.test_sections.result c.test_sections.ensures.failed (λ o h. none_so o h (λ fails. sections_fail {r = r} {from = progress c.args.head c.args.lim.now} start size ready object some (some_right c.args.at some c.if-start-head.false)
-    (subst (λ x. SectionsFail x size c.read_near_struct.new.lim c.test_sections.new.lim) there (rw nm at fails))))
+    (subst (λ x. SectionsFail c.test_sections.new.fault x size c.read_near_struct.new.lim c.test_sections.new.lim) there (rw nm at fails))))
 
 pub test_list-returns-then-not-starts_right-clause-failed : goal.test_list-returns-then-not-starts_right-clause-failed
 test_list-returns-then-not-starts_right-clause-failed g t c =
@@ -304,7 +308,7 @@ test_list-returns-then-not-starts_right-clause-failed g t c =
     let ready : IsTested r = c.requires.tested in
     let nl = to_z-of_z w32 c.args.nesting_limit (search rules) in
     let object : IsObject Value r c.args.lim.now c.read_object.new.lim c.in-Ok.object = rw nl at c.in-Ok.ensures.object in
-    unplaced_fails {r = r} {from = progress c.args.head c.args.lim.now} c.in-Ok.object ready (rw c.requires.there at c.requires.is_list) object (λ right. false≢true (sym c.if-not-starts_right.true ∙ c.starts_right.ensures.1 right))
+    unplaced_fails {r = r} {from = progress c.args.head c.args.lim.now} c.in-Ok.object c.note.ensures ready (rw c.requires.there at c.requires.is_list) object (λ right. false≢true (sym c.if-not-starts_right.true ∙ c.starts_right.ensures.1 right))
 
 pub test_list-returns-in-Flat-clause-failed : goal.test_list-returns-in-Flat-clause-failed
 test_list-returns-in-Flat-clause-failed g t c =
@@ -313,7 +317,7 @@ test_list-returns-in-Flat-clause-failed g t c =
     let nl = to_z-of_z w32 c.args.nesting_limit (search rules) in
     let object : IsObject Value r c.args.lim.now c.read_object.new.lim (ObjectFlat c.in-Flat.start c.in-Flat.size c.in-Flat.count) = rw nl at (rw c.in-Flat.is at c.in-Ok.ensures.object) in
     let right : StartsRight (ObjectFlat c.in-Flat.start c.in-Flat.size c.in-Flat.count) c.args.at c.args.head = rw c.in-Flat.is at (c.starts_right.ensures.0 c.if-not-starts_right.false) in
-    flat_fails {r = r} {from = progress c.args.head c.args.lim.now} c.in-Flat.start c.in-Flat.size c.in-Flat.count c.test_flat.result ready object right c.test_flat.ensures
+    flat_fails {r = r} {from = progress c.args.head c.args.lim.now} c.test_flat.new.fault c.in-Flat.start c.in-Flat.size c.in-Flat.count c.test_flat.result ready object right c.test_flat.ensures.tells c.test_flat.ensures.failed
 
 pub test_list-returns-in-Pointers-clause-failed : goal.test_list-returns-in-Pointers-clause-failed
 test_list-returns-in-Pointers-clause-failed g t c =
@@ -325,7 +329,7 @@ test_list-returns-in-Pointers-clause-failed g t c =
     let nm = to_z-of_z w32 c.less.result (search rules) in
     let there = place_begins r c.in-Pointers.start (rw nl at c.less.ensures) (pointers_here {r = r} c.in-Pointers.start c.in-Pointers.count ready object) in
     ok_so c.test_children.result c.test_children.ensures.failed (λ o h. none_so o h (λ fails. pointers_end {r = r} {from = progress c.args.head c.args.lim.now} c.in-Pointers.start c.in-Pointers.count ready object right
-    (subst (λ x. TestsEnd IsUnfit x c.in-Pointers.count (progress (c.in-Pointers.start.at + c.in-Pointers.count) c.read_object.new.lim) c.test_children.new.lim) there (rw nm at fails))))
+    (subst (λ x. TestsEnd (IsFault c.test_children.new.fault) x c.in-Pointers.count (progress (c.in-Pointers.start.at + c.in-Pointers.count) c.read_object.new.lim) c.test_children.new.lim) there (rw nm at fails))))
 
 pub test_list-returns-in-Structs-clause-failed : goal.test_list-returns-in-Structs-clause-failed
 test_list-returns-in-Structs-clause-failed g t c =
@@ -338,7 +342,7 @@ test_list-returns-in-Structs-clause-failed g t c =
     let there = elements_begin r c.in-Structs.start (rw nl at c.less-inner.ensures) (structs_here {r = r} c.in-Structs.start c.in-Structs.size c.in-Structs.count ready object) in
     let claimed : c.list_inline_composite_word_count-claimed.result ≡ list_count (word_of r) = c.list_inline_composite_word_count-claimed.ensures.value ∙ ap list_count c.requires.there in
     ok_so c.test_structs.result c.test_structs.ensures.failed (λ o h. none_so o h (λ fails. claimed_fails {r = r} {from = progress c.args.head c.args.lim.now} c.in-Structs.start c.in-Structs.size c.in-Structs.count ready object right
-    (subst (λ x. ClaimedFails x c.in-Structs.size c.in-Structs.count (list_count (word_of r)) c.read_object.new.lim c.test_structs.new.lim) there (rw (nk, claimed) at fails))))
+    (subst (λ x. ClaimedFails c.test_structs.new.fault x c.in-Structs.size c.in-Structs.count (list_count (word_of r)) c.read_object.new.lim c.test_structs.new.lim) there (rw (nk, claimed) at fails))))
 
 pub test_rows-returns-in-Ok-None-clause-failed : goal.test_rows-returns-in-Ok-None-clause-failed
 test_rows-returns-in-Ok-None-clause-failed g t c =
@@ -346,27 +350,39 @@ test_rows-returns-in-Ok-None-clause-failed g t c =
     inl (row_ends c.args.count (rw nl at c.loop-i.invariant) c.loop-i-test.true
     (rw (nl, c.from-data_words.ensures, c.from-pointers.ensures) at (rw c.in-Ok-None.field-0-is at c.in-Ok-None.ensures.failed)))
 
-pub test_rows-returns-else-is_data_used-2-clause-failed : goal.test_rows-returns-else-is_data_used-2-clause-failed
-test_rows-returns-else-is_data_used-2-clause-failed g t c =
+pub test_rows-returns-then-not-is_data_used-clause-failed : goal.test_rows-returns-then-not-is_data_used-clause-failed
+test_rows-returns-then-not-is_data_used-clause-failed g t c =
     let nl = to_z-of_z w32 c.args.nesting_limit (search rules) in
     let all : c.loop-i.i ≡ c.args.count = omega (arith, c.loop-i.auto.i-end, c.loop-i-test.false) in
-    let seen = rw all at (rw nl at c.loop-i.invariant) in
-    elim c.else-is_data_used-2.branch [
-      | test_rows-else-is_data_used-2-via-then-is_data_used-2+else-are_pointers_used-2 w ↦ inr (c.loop-i.head, rows_too_wide seen (λ both. false≢true (sym w.if-are_pointers_used-2.false ∙ both.1)))
-      | test_rows-else-is_data_used-2-via-else-is_data_used-2 w ↦ inr (c.loop-i.head, rows_too_wide seen (λ both. false≢true (sym w.if-is_data_used-2.false ∙ both.0)))
-    ]
+    inr (c.loop-i.head, rows_wide_data c.note.ensures (rw all at (rw nl at c.loop-i.invariant)) (λ used. false≢true (sym c.if-not-is_data_used.true ∙ used)))
+
+pub test_rows-returns-then-not-are_pointers_used-clause-failed : goal.test_rows-returns-then-not-are_pointers_used-clause-failed
+test_rows-returns-then-not-are_pointers_used-clause-failed g t c =
+    let nl = to_z-of_z w32 c.args.nesting_limit (search rules) in
+    let all : c.loop-i.i ≡ c.args.count = omega (arith, c.loop-i.auto.i-end, c.loop-i-test.false) in
+    inr (c.loop-i.head, rows_wide_pointers c.note-then-not-are_pointers_used.ensures (rw all at (rw nl at c.loop-i.invariant)) (λ used. false≢true (sym c.if-not-are_pointers_used.true ∙ used)))
 
 pub test_place-returns-then-at-whole_words-clause-failed : goal.test_place-returns-then-at-whole_words-clause-failed
 test_place-returns-then-at-whole_words-clause-failed g t c =
-    here (no_near_pointer (λ both. let there = both.0 in omega (arith, there, c.whole_words.ensures.count, c.if-at-whole_words.true, ap length c.args.from.now.held.0)) refl)
+    here (no_pointer c.note.ensures (λ there. omega (arith, there, c.whole_words.ensures.count, c.if-at-whole_words.true, ap length c.args.from.now.held.0)) refl)
 
 pub test_place-returns-then-not-is_positional-clause-failed : goal.test_place-returns-then-not-is_positional-clause-failed
 test_place-returns-then-not-is_positional-clause-failed g t c =
     let r : Reading = reading_on g.A.ReaderArena c.args.from.now c.args.at c.args.nesting_limit in
     let word : c.word-word.result.0 ≡ word_of r = c.word-word.ensures.value ∙ ap (λ ws. slice_index ws c.args.at) c.args.from.now.held.0 in
-    here (no_near_pointer (λ both. false≢true (sym c.if-not-is_positional.true ∙ c.is_positional.ensures.1 (subst (λ w. kind w < 2) (sym word) both.1))) refl)
+    let near : kind c.word-word.result.0 < 2 → ⊥ = λ small. false≢true (sym c.if-not-is_positional.true ∙ c.is_positional.ensures.1 small) in
+    let far : 2 ≤ kind c.word-word.result.0 = omega (arith, near) in
+    let fault = c.note-then-not-is_positional.ensures in
+    let there : IsPlace r.segments r.segment r.at = omega (arith, c.whole_words.ensures.count, c.if-at-whole_words.false, ap length c.args.from.now.held.0) in
+    here (other_pointer (fault.0 ∙ c.reason_of.ensures ∙ ap other_reason word, fault.1, fault.2) there (subst (λ w. 2 ≤ kind w) word far) refl)
 
 -- An element without pointers.
 pub test_row-returns-then-count-eq0-clause-tells : goal.test_row-returns-then-count-eq0-clause-tells
 test_row-returns-then-count-eq0-clause-tells g t c =
     (no_trees, sym c.if-count-eq0.true, finds_none (reading_on g.A.ReaderArena c.args.from.now c.args.at c.args.nesting_limit) (progress c.args.first c.args.lim.now))
+
+pub test_structs-returns-clause-failed : goal.test_structs-returns-clause-failed
+test_structs-returns-clause-failed g t c =
+    let nl = to_z-of_z w32 c.args.nesting_limit (search rules) in
+    let exact : c.args.count * (c.args.size.data_words + c.args.size.pointers) ≡ c.args.claimed = sym (ap₂ (λ x y. x * y) c.from.ensures (c.from-2.ensures ∙ c.total.ensures)) ∙ c.if-from.false ∙ c.from-3.ensures in
+    ok_so c.test_rows.result c.test_rows.ensures.failed (λ o h. none_so o h (λ fails. inr (exact, rw nl at fails)))

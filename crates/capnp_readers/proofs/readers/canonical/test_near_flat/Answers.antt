@@ -45,7 +45,7 @@ returns-then-start-head-clause-failed g c =
     let many : count ≡ list_count (word_of r) = c.list_element_count-count.ensures.value ∙ ap list_count c.requires.there in
     let object : IsObject Value r c.args.lim.now c.read_near_flat.new.lim (ObjectFlat start size count) =
     flat_by_word {r = r} start size count of_bits c.args.from.now.held refl (rw nl at c.in-Ok.ensures.object) width many in
-    unplaced_fails {r = r} {from = progress c.args.head c.args.lim.now} (ObjectFlat start size count) c.requires.tested of_bits.0 object c.if-start-head.true
+    unplaced_fails {r = r} {from = progress c.args.head c.args.lim.now} (ObjectFlat start size count) c.note.ensures c.requires.tested of_bits.0 object c.if-start-head.true
 
 pub returns-clause-tells : goal.returns-clause-tells
 returns-clause-tells g c =
@@ -59,7 +59,7 @@ returns-clause-tells g c =
     let many : count ≡ list_count (word_of r) = c.list_element_count-count.ensures.value ∙ ap list_count c.requires.there in
     let object : IsObject Value r c.args.lim.now c.read_near_flat.new.lim (ObjectFlat start size count) =
     flat_by_word {r = r} start size count of_bits c.args.from.now.held refl (rw nl at c.in-Ok.ensures.object) width many in
-    flat_tells {r = r} (progress c.args.head c.args.lim.now) start size count c.test_flat.result c.requires.tested object c.if-start-head.false c.test_flat.ensures
+    flat_tells {r = r} (progress c.args.head c.args.lim.now) start size count c.test_flat.result c.requires.tested object c.if-start-head.false c.test_flat.ensures.tells
 
 pub returns-clause-failed : goal.returns-clause-failed
 returns-clause-failed g c =
@@ -73,4 +73,4 @@ returns-clause-failed g c =
     let many : count ≡ list_count (word_of r) = c.list_element_count-count.ensures.value ∙ ap list_count c.requires.there in
     let object : IsObject Value r c.args.lim.now c.read_near_flat.new.lim (ObjectFlat start size count) =
     flat_by_word {r = r} start size count of_bits c.args.from.now.held refl (rw nl at c.in-Ok.ensures.object) width many in
-    flat_fails {r = r} {from = progress c.args.head c.args.lim.now} start size count c.test_flat.result c.requires.tested object c.if-start-head.false c.test_flat.ensures
+    flat_fails {r = r} {from = progress c.args.head c.args.lim.now} c.test_flat.new.fault start size count c.test_flat.result c.requires.tested object c.if-start-head.false c.test_flat.ensures.tells c.test_flat.ensures.failed

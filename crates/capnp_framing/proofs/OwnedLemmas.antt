@@ -1,0 +1,43 @@
+-- What is read into memory is a frame.
+use Rattle.std.proofs.Common.{◌≡◌, ℕ, ◌+◌, ◌*◌, ◌<◌, ◌≤◌, List, [], ◌∷◌, ◌++◌, length, get_or, take, drop, sym, ap, ◌∙◌, arith, length-take, take-append-drop, slice_index}
+use Rattle.std.proofs.lemmas.List.{get_or_append_left}
+use Rattle.std.proofs.Math.Seq.{get_or-append_seam}
+use Rattle.std.specs.Int.{from_le_bytes, w32}
+use borrow.Author.Count.{below_more}
+use Rattle.capnp_format.specs.Bytes.{message}
+use Rattle.capnp_arena.specs.Limits.{IsSmall}
+use Rattle.capnp_framing.specs.Flat.{parts}
+use Rattle.capnp_framing.specs.Frames.{IsFrameOf, contents, padding_size}
+use Rattle.capnp_framing.specs.Reading.{words_told}
+use Rattle.capnp_framing.proofs.FlatLemmas.{AreParts, length-parts}
+use Rattle.capnp_framing.proofs.ReadingLemmas.{AtTable, frame_read, small_from_short}
+
+-- The end of one segment more is kept.
+pub ends_more : (i sum : ℕ) (table ends : List ℕ) → length ends ≡ i → sum ≡ words_told (i + 1) table → ((k : ℕ) → k < i → slice_index ends k ≡ words_told (k + 1) table) →
+    (k : ℕ) → k < i + 1 → slice_index (ends ++ sum ∷ []) k ≡ words_told (k + 1) table
+ends_more i sum table ends long is kept =
+    below_more (λ k. slice_index (ends ++ sum ∷ []) k ≡ words_told (k + 1) table) i
+    (λ k less. get_or_append_left ends (sum ∷ []) 0 k (omega (arith, long, less)) ∙ kept k less)
+    (ap (λ k. get_or (ends ++ sum ∷ []) k 0) (sym long) ∙ get_or-append_seam ends sum [] 0 ∙ is)
+
+-- Memory has the lengths of n segments and their words, and what stands behind them.
+pub record AtOwned (first : List ℕ) (n : ℕ) (table words : List ℕ) : Type 0 where
+  pub four : length first ≡ 4
+  pub told : n ≡ from_le_bytes w32 first + 1
+  pub few : n ≤ 512
+  pub room : 4 * n + padding_size n ≤ length table
+
+-- of which the lengths and the padding are read
+pub front : {first table words : List ℕ} {n : ℕ} → AtOwned first n table words → AtTable first (take (4 * n + padding_size n) table) n
+front {first} {table} {words} {n} at =
+    let room = at.room in
+    record { four = at.four; told = at.told; few = at.few; size = omega (arith, length-take (4 * n + padding_size n) table, room) }
+
+pub owned_frame : {first table words : List ℕ} {n : ℕ} → AtOwned first n table words → ((i : ℕ) → get_or first i 0 < 256) → AreParts n table words (message (parts n table words)) →
+    IsFrameOf (message (parts n table words)) (first ++ (take (4 * n + padding_size n) table ++ contents (message (parts n table words))))
+owned_frame {first} {table} {words} {n} at below cut =
+    let size : ℕ = 4 * n + padding_size n in
+    frame_read (drop size table) (message (parts n table words)) (front at) below cut.count (cut.told ∙ ap (take (4 * n)) (sym (take-append-drop size table))) cut.short cut.words
+
+pub owned_small : {first table words : List ℕ} {n : ℕ} → AtOwned first n table words → AreParts n table words (message (parts n table words)) → IsSmall (parts n table words)
+owned_small {first} {table} {words} {n} at cut = (let few = at.few in omega (arith, length-parts n table words, few), small_from_short (parts n table words) cut.short)
