@@ -1,0 +1,5 @@
+pub mod MemoryLemmas
+pub mod PackingLemmas
+pub mod UnitLemmas
+pub mod UnpackingLemmas
+pub mod WholeLemmas

@@ -1,0 +1,317 @@
+-- Packed bytes unpack to what was packed, also behind what was packed before.
+use Rattle.std.proofs.Common.{
+  ◌≡◌,
+  ℕ,
+  zero,
+  suc,
+  ◌+◌,
+  ◌-◌,
+  ◌*◌,
+  ◌/◌,
+  ◌%◌,
+  ◌<◌,
+  ◌≤◌,
+  ◌≢◌,
+  List,
+  [],
+  ◌∷◌,
+  ◌++◌,
+  replicate,
+  length,
+  take,
+  drop,
+  set,
+  take-add,
+  take_all,
+  drop-cons,
+  ap₂,
+  Option,
+  Some,
+  None,
+  refl,
+  sym,
+  ap,
+  ◌∙◌,
+  arith,
+  add-one,
+  append_assoc,
+  append-nil,
+  length-append,
+  length-drop,
+  length-set,
+  length-take,
+}
+use Rattle.std.specs.Prelude.{cond, nat_eq, slice_index, slice_range}
+use Rattle.std.specs.Io.KnownBytes.{Appends, Keeps, append_known}
+use Rattle.std.proofs.KnownBytes.{Keeps-refl, Keeps-trans, append_known-moved}
+use Rattle.std.proofs.Math.Dec.{eqb-suc-zero}
+use Rattle.std.proofs.lemmas.Bool.{ne_eqb}
+use Rattle.std.proofs.lemmas.List.{nil_from_length, replicate-append-replicate, take-set, take_more_set, take_rest}
+use borrow.Rule.Slice.PartMut.{put_mid, post_of}
+use Rattle.capnp_packing.specs.Packing.{IsWhole, Packs, known_at, lead, nonzero_bytes, place_at_end, place_within, tag_of_word, unpacked_bytes, unpacked_known}
+use Rattle.capnp_packing.proofs.UnitLemmas.{length_front, parts_of, written}
+use Rattle.capnp_packing.proofs.UnpackingLemmas.{
+  leads_full,
+  place_at_end-append,
+  take_one,
+  unpacked-append,
+  word_behind,
+}
+use Rattle.capnp_packing.specs.declared.packing.place.Place.{Place}
+use Rattle.capnp_packing.specs.declared.packing.place.Place.TheVariants.{Tag, Kept, Zeros, Whole, Count, Raw}
+
+-- ---- a word behind its tag
+
+half_even : (n : ℕ) → (0 + 2 * n) / 2 ≡ n
+half_even n = omega arith
+
+half_odd : (n : ℕ) → (1 + 2 * n) / 2 ≡ n
+half_odd n = omega arith
+
+bit_even : (n : ℕ) → (0 + 2 * n) % 2 ≡ 0
+bit_even n = omega arith
+
+bit_odd : (n : ℕ) → (1 + 2 * n) % 2 ≡ 1
+bit_odd n = omega arith
+
+lead_even : (n t : ℕ) → lead (suc n) (0 + 2 * t) ≡ suc (lead n t)
+lead_even n t = rw (bit_even t, half_even t) (add-one (lead n t))
+
+lead_odd : (n t : ℕ) → lead (suc n) (1 + 2 * t) ≡ 0
+lead_odd n t = rw (bit_odd t) refl
+
+within_even : (n t : ℕ) → place_within (suc n) (0 + 2 * t) ≡ place_within n t
+within_even n t = rw (bit_even t, half_even t) refl
+
+within_odd : (n t : ℕ) → place_within (suc n) (1 + 2 * t) ≡ Kept t n
+within_odd n t = rw (bit_odd t, half_odd t) refl
+
+word_kept : (bs : List ℕ)
+    → (replicate (lead (length bs) (tag_of_word bs)) 0 ++ unpacked_bytes (place_within (length bs) (tag_of_word bs)) (nonzero_bytes bs) ≡ bs)
+    × IsWhole (place_within (length bs) (tag_of_word bs)) (nonzero_bytes bs)
+unfolding unpacked_bytes place_at_end
+word_kept [] = (refl, refl)
+word_kept (zero ∷ bs) = let ih = word_kept bs in
+    rw (lead_even (length bs) (tag_of_word bs), within_even (length bs) (tag_of_word bs)) (ap (λ l. 0 ∷ l) ih.0, ih.1)
+word_kept (suc b ∷ bs) = let ih = word_kept bs in
+    rw (eqb-suc-zero b, lead_odd (length bs) (tag_of_word bs), within_odd (length bs) (tag_of_word bs))
+    (ap (λ l. suc b ∷ l) ih.0, ih.1)
+
+gives_word : (word : List ℕ) → length word ≡ 8 → tag_of_word word ≢ 0 → tag_of_word word ≢ 255 → Packs (tag_of_word word ∷ nonzero_bytes word) word
+unfolding unpacked_bytes place_at_end
+gives_word word l some few =
+    let known = rw l at (word_kept word) in (
+      rw (ne_eqb (tag_of_word word) 0 some, ne_eqb (tag_of_word word) 255 few) known.0,
+      ap (λ p. place_at_end p (nonzero_bytes word)) (word_behind (tag_of_word word) some few) ∙ known.1,
+    )
+
+-- ---- a run of zero words
+
+gives_zeros : (n : ℕ) → Packs (0 ∷ n ∷ []) (replicate (8 + 8 * n) 0)
+unfolding unpacked_bytes place_at_end
+gives_zeros n = (
+  ap (λ l. replicate 8 0 ++ l) (append-nil (replicate (8 * n) 0)) ∙ replicate-append-replicate {A = ℕ} 8 (8 * n) 0,
+  refl,
+)
+
+-- ---- words as they are
+
+gives_full : (word run : List ℕ) (n : ℕ) → length word ≡ 8 → length run ≡ 8 * n
+    → Packs (255 ∷ (word ++ n ∷ run)) (word ++ run)
+gives_full word run n l m = let leads = leads_full word run n l m in (leads.0 ∙ append-nil (word ++ run), leads.1)
+
+-- ---- behind what was packed before
+
+grown : (place : Place) (old more bytes : List ℕ) → place_at_end Tag old ≡ place → Packs more bytes
+    → Appends (known_at place (unpacked_bytes Tag old)) (unpacked_known (Some (old ++ more))) bytes
+grown Tag old more bytes e g =
+    rw (place_at_end-append Tag old more, e, g.1) (unpacked-append Tag old more ∙ rw (e, g.0) refl)
+grown (Kept bits left) old more bytes e g = tt
+grown Zeros old more bytes e g = tt
+grown (Whole left) old more bytes e g = tt
+grown Count old more bytes e g = tt
+grown (Raw left) old more bytes e g = tt
+
+packs_known : (taken : Option (List ℕ)) (old more bytes : List ℕ) → Packs more bytes
+    → Appends (unpacked_known (append_known taken old)) (unpacked_known (append_known taken (old ++ more))) bytes
+packs_known None old more bytes p = tt
+packs_known (Some xs) old more bytes p =
+    rw (← append_assoc xs old more) (grown (place_at_end Tag (xs ++ old)) (xs ++ old) more bytes refl p)
+
+pub packs_none : Packs [] []
+unfolding unpacked_bytes place_at_end
+packs_none = (refl, refl)
+
+pub packs_append : (xs ys bytes more : List ℕ) → Packs xs bytes → Packs ys more → Packs (xs ++ ys) (bytes ++ more)
+packs_append xs ys bytes more p q = (
+  unpacked-append Tag xs ys ∙ rw (p.1, p.0, q.0) refl,
+  place_at_end-append Tag xs ys ∙ ap (λ place. place_at_end place ys) p.1 ∙ q.1,
+)
+
+keeps_unpacked : (old new : Option (List ℕ)) → Keeps old new → Keeps (unpacked_known old) (unpacked_known new)
+keeps_unpacked None new h = tt
+keeps_unpacked (Some xs) None h = absurd h
+keeps_unpacked (Some xs) (Some ys) h = rw h (Keeps-refl (unpacked_known (Some xs)))
+
+-- ---- the tag
+
+abbrev bound : ℕ → ℕ
+bound zero = 1
+bound (suc n) = 2 * bound n
+
+bound_some : (n : ℕ) → 1 ≤ bound n
+bound_some zero = omega arith
+bound_some (suc n) = omega (arith, bound_some n)
+
+bit_small : (b : ℕ) → cond (nat_eq b 0) 0 1 ≤ 1
+bit_small zero = omega arith
+bit_small (suc b) = rw (eqb-suc-zero b) (omega arith)
+
+tag_below : (bs : List ℕ) (n : ℕ) → length bs ≤ n → tag_of_word bs < bound n
+tag_below [] n h = omega (arith, bound_some n)
+tag_below (b ∷ bs) zero h = absurd (omega (arith, h))
+tag_below (b ∷ bs) (suc n) h = omega (arith, bit_small b, tag_below bs n (omega (arith, h)))
+
+pub tag_of_seven : (bs : List ℕ) → length bs ≤ 7 → tag_of_word bs < 128
+tag_of_seven bs h = tag_below bs 7 h
+
+tag_zero : (bs : List ℕ) → tag_of_word bs ≡ 0 → bs ≡ replicate (length bs) 0
+tag_zero [] h = refl
+tag_zero (zero ∷ bs) h = ap (λ l. 0 ∷ l) (tag_zero bs (omega (arith, h)))
+tag_zero (suc b ∷ bs) h = let e = rw (eqb-suc-zero b) at h in absurd (omega (arith, e))
+
+-- ---- what is written
+
+pub zeros_more : (bytes word : List ℕ) (n : ℕ) → word ≡ take 8 (drop (8 * n) bytes) → tag_of_word word ≡ 0 → length word ≡ 8
+    → take (8 * n) bytes ≡ replicate (8 * n) 0 → take (8 * (n + 1)) bytes ≡ replicate (8 * (n + 1)) 0
+zeros_more bytes word n w t l h =
+    let e : 8 * (n + 1) ≡ 8 * n + 8 = omega arith in
+    let zeros : word ≡ replicate 8 0 = tag_zero word t ∙ ap (λ m. replicate m 0) l in
+    rw e (take-add (8 * n) 8 bytes ∙ ap₂ (λ (us vs : List ℕ). us ++ vs) h (sym w ∙ zeros)
+    ∙ replicate-append-replicate {A = ℕ} (8 * n) 8 0)
+
+two_put : (to : List ℕ) (a b : ℕ) → 2 ≤ length to → take 2 (set (set to 0 a) 1 b) ≡ a ∷ b ∷ []
+two_put [] a b h = absurd (omega (arith, h))
+two_put (x ∷ []) a b h = absurd (omega (arith, h))
+two_put (x ∷ y ∷ to) a b h = refl
+
+pub zeros_packed : (to from : List ℕ) (n : ℕ) → 2 ≤ length to → 8 ≤ length from → tag_of_word (take 8 from) ≡ 0
+    → take (8 * n) (take (length from - 8) (drop 8 from)) ≡ replicate (8 * n) 0
+    → Packs (take 2 (set (set to 0 0) 1 n)) (take (8 + 8 * n) from)
+zeros_packed to from n room l t h =
+    let zeros : take 8 from ≡ replicate 8 0 = tag_zero (take 8 from) t ∙ ap (λ m. replicate m 0) (length_front 8 from l) in
+    let rest = rw (take_rest from 8) at h in
+    let all : take (8 + 8 * n) from ≡ replicate (8 + 8 * n) 0 =
+    take-add 8 (8 * n) from ∙ ap₂ (λ (us vs : List ℕ). us ++ vs) zeros rest ∙ replicate-append-replicate {A = ℕ} 8 (8 * n) 0 in
+    rw (two_put to 0 n room, all) (gives_zeros n)
+
+ten_put : (to word : List ℕ) (n : ℕ) → 10 ≤ length to → length word ≡ 8
+    → take 10 (set (put_mid 1 8 (set to 0 255) word) 9 n) ≡ 255 ∷ (word ++ n ∷ [])
+ten_put to word n room l =
+    let first = set to 0 255 in
+    let long : length (set to 0 255) ≡ length to = length-set to 0 255 in
+    let all : 9 < length (put_mid 1 8 (set to 0 255) word) =
+    omega (
+      arith,
+      length-append (take 1 (set to 0 255)) (word ++ post_of 1 8 (set to 0 255)),
+      length-append word (post_of 1 8 (set to 0 255)),
+      length-take 1 (set to 0 255),
+      length-drop 8 (drop 1 (set to 0 255)),
+      length-drop 1 (set to 0 255),
+      long,
+      room,
+      l,
+    ) in
+    take_more_set (put_mid 1 8 (set to 0 255) word) 9 n all
+    ∙ ap (λ us. us ++ n ∷ []) (written 1 8 8 (set to 0 255) word (omega (arith, long, room)) (omega (arith, l))
+    ∙ ap₂ (λ (us vs : List ℕ). us ++ vs) (take_one to 255 (omega (arith, room))) (take_all 8 word (omega (arith, l))))
+
+pub full_packed : (to from word run : List ℕ) (n k : ℕ) → 10 ≤ length to → 8 ≤ length from → word ≡ take 8 from
+    → 8 * n ≤ length (drop 8 from) → run ≡ take (8 * n) (drop 8 from)
+    → Packs (take (10 + 8 * n) (put_mid 10 k (set (put_mid 1 8 (set to 0 255) word) 9 n) run)) (take (8 + 8 * n) from)
+full_packed to from word run n k room l is few there =
+    let long : length word ≡ 8 = ap length is ∙ length_front 8 from l in
+    let many : length run ≡ 8 * n = ap length there ∙ length_front (8 * n) (drop 8 from) few in
+    let ten = ten_put to word n room long in
+    let inside : 10 ≤ length (set (put_mid 1 8 (set to 0 255) word) 9 n) =
+    omega (arith, ap length ten, length-take 10 (set (put_mid 1 8 (set to 0 255) word) 9 n), length-append word (n ∷ []), long) in
+    let packed : take (10 + 8 * n) (put_mid 10 k (set (put_mid 1 8 (set to 0 255) word) 9 n) run) ≡ 255 ∷ (word ++ n ∷ run) =
+    written 10 (8 * n) k (set (put_mid 1 8 (set to 0 255) word) 9 n) run inside (omega (arith, many))
+    ∙ ap₂ (λ (us vs : List ℕ). us ++ vs) ten (take_all (8 * n) run (omega (arith, many)))
+    ∙ ap (λ l. 255 ∷ l) (append_assoc word (n ∷ []) run) in
+    let bytes : take (8 + 8 * n) from ≡ word ++ run =
+    take-add 8 (8 * n) from ∙ ap₂ (λ (us vs : List ℕ). us ++ vs) (sym is) (sym there) in
+    rw (packed, bytes) (gives_full word run n long many)
+
+pub word_packed : (to from new : List ℕ) (n t k : ℕ) → 1 ≤ length to → 8 ≤ length from → t ≡ tag_of_word (take 8 from) → t ≢ 0
+    → t ≢ 255 → n ≤ length new → take n new ≡ nonzero_bytes (take 8 from)
+    → Packs (take (1 + n) (put_mid 1 k (set to 0 t) new)) (take 8 from)
+word_packed to from new n t k room l is some few inside there =
+    let packed : take (1 + n) (put_mid 1 k (set to 0 t) new) ≡ tag_of_word (take 8 from) ∷ nonzero_bytes (take 8 from) =
+    written 1 n k (set to 0 t) new (omega (arith, length-set to 0 t, room)) inside
+    ∙ ap₂ (λ (us vs : List ℕ). us ++ vs) (take_one to t (omega (arith, room))) there
+    ∙ ap (λ x. x ∷ nonzero_bytes (take 8 from)) is in
+    rw packed (gives_word (take 8 from) (length_front 8 from l) (λ h. some (is ∙ h)) (λ h. few (is ∙ h)))
+
+-- the bytes of a word that aren't zero, one by one
+pub byte_kept : (to word : List ℕ) (i n b : ℕ) → i < length word → n < length to → b ≡ slice_index word i → b ≢ 0
+    → take n to ++ nonzero_bytes (drop i word) ≡ nonzero_bytes word → take (n + 1) (set to n b) ++ nonzero_bytes (drop (i + 1) word) ≡ nonzero_bytes word
+byte_kept to word i n b h room is some before =
+    let next : nonzero_bytes (drop i word) ≡ b ∷ nonzero_bytes (drop (i + 1) word) =
+    ap nonzero_bytes (drop-cons word i 0 h)
+    ∙ rw (← is, ne_eqb b 0 some, add-one i) refl in
+    ap (λ l. l ++ nonzero_bytes (drop (i + 1) word)) (take_more_set to n b room)
+    ∙ append_assoc (take n to) (b ∷ []) (nonzero_bytes (drop (i + 1) word))
+    ∙ ap (λ l. take n to ++ l) (sym next) ∙ before
+
+pub zero_kept : (to word : List ℕ) (i n b : ℕ) → i < length word → b ≡ slice_index word i → b ≡ 0
+    → take n to ++ nonzero_bytes (drop i word) ≡ nonzero_bytes word → take n (set to n b) ++ nonzero_bytes (drop (i + 1) word) ≡ nonzero_bytes word
+zero_kept to word i n b h is none before =
+    let next : nonzero_bytes (drop i word) ≡ nonzero_bytes (drop (i + 1) word) =
+    ap nonzero_bytes (drop-cons word i 0 h) ∙ rw (← is, none, add-one i) refl in
+    ap (λ l. l ++ nonzero_bytes (drop (i + 1) word)) (take-set to n b) ∙ ap (λ l. take n to ++ l) (sym next) ∙ before
+
+pub all_kept : (to word : List ℕ) (i n : ℕ) → length word ≤ i → take n to ++ nonzero_bytes (drop i word) ≡ nonzero_bytes word
+    → take n to ≡ nonzero_bytes word
+all_kept to word i n h before =
+    let none : drop i word ≡ [] = nil_from_length (drop i word) (omega (arith, length-drop i word, h)) in
+    sym (append-nil (take n to)) ∙ ap (λ l. take n to ++ nonzero_bytes l) (sym none) ∙ before
+
+-- ---- one behind another
+
+pub unit_packed : (from to new : List ℕ) (taken given t n : ℕ) → given ≤ length to → n ≤ length new
+    → Packs (take given to) (take taken from) → Packs (take n new) (take t (take (length from - taken) (drop taken from)))
+    → Packs (take (given + n) (put_mid given (length to - given) to new)) (take (taken + t) from)
+unit_packed from to new taken given t n l m before unit =
+    let more = rw (take_rest from taken) at unit in
+    rw (take-add taken t from, written given n (length to - given) to new l m)
+    (packs_append (take given to) (take n new) (take taken from) (take t (drop taken from)) before more)
+
+-- ---- what an output has
+
+pub sent_more : (first old new : Option (List ℕ)) (items : List ℕ) (sent n end : ℕ) → sent + n ≤ end
+    → Keeps first (append_known old (slice_range items sent end)) → Appends old new (take n (slice_range items sent end))
+    → Keeps first (append_known new (slice_range items (sent + n) end))
+sent_more first old new items sent n end l k h =
+    Keeps-trans first _ _ k (append_known-moved old new (take n (slice_range items sent end))
+    (slice_range items (sent + n) end) (slice_range items sent end) h (parts_of items sent end n l))
+
+kept_appends : (a b c : Option (List ℕ)) (bytes : List ℕ) → Keeps a b → Appends b c bytes → Appends a c bytes
+kept_appends None b c bytes k h = tt
+kept_appends (Some x) None c bytes k h = absurd k
+kept_appends (Some x) (Some y) None bytes k h = absurd h
+kept_appends (Some x) (Some y) (Some z) bytes k h = h ∙ ap (λ l. l ++ bytes) k
+
+from_start : (items : List ℕ) (end : ℕ) → slice_range items 0 end ≡ take end items
+from_start items end = let e : end - 0 ≡ end = omega arith in ap (λ n. take n items) e
+
+pub packs_behind : (first taken : Option (List ℕ)) (items more bytes : List ℕ) (sent end n k : ℕ) → sent ≡ 0
+    → end ≤ length items → n ≤ length more → Keeps first (append_known taken (slice_range items sent end))
+    → Packs (take n more) bytes
+    → Appends (unpacked_known first)
+    (unpacked_known (append_known taken (slice_range (put_mid end k items more) sent (end + n)))) bytes
+packs_behind first taken items more bytes sent end n k none l m kept p =
+    let before = rw (none, from_start items end) at kept in
+    let all = from_start (put_mid end k items more) (end + n) ∙ written end n k items more l m in
+    rw (none, all) (kept_appends _ _ _ bytes (keeps_unpacked first (append_known taken (take end items)) before)
+    (packs_known taken (take end items) (take n more) bytes p))

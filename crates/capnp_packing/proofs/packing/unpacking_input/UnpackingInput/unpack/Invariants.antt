@@ -1,0 +1,21 @@
+use Rattle.std.proofs.Common.{◌≡◌, ◌≤◌, ◌-◌, length, take}
+use Rattle.std.specs.Prelude.{slice_range}
+use Rattle.std.specs.Io.KnownBytes.{prepend_known}
+use Rattle.capnp_packing.proofs.UnpackingLemmas.{Unpacks}
+use Rattle.capnp_packing.proofs.packing.unpacking_input.UnpackingInput.unpack.Given as goal
+
+abbrev pub invariant-loop-given : goal.invariant-loop-given
+invariant-loop-given g l = record {
+  bytes : Unpacks l.fn.self.zeros l.fn.self.place
+      (prepend_known (slice_range l.fn.self.packed.bytes l.fn.self.packed.at l.fn.self.packed.end)
+      (g.R.Input.remaining l.fn.self.packed.input))
+      l.self.zeros l.self.place
+      (prepend_known (slice_range l.self.packed.bytes l.self.packed.at l.self.packed.end)
+      (g.R.Input.remaining l.self.packed.input))
+      (take l.given l.to);
+  within : l.given ≤ length l.to;
+  failed : l.self.failed ≡ l.fn.self.failed;
+}
+
+abbrev pub decreases-loop-given : goal.decreases-loop-given
+decreases-loop-given g l = length l.to - l.given

@@ -1,0 +1,6 @@
+use Rattle.std.proofs.Common.{rules}
+use Rattle.capnp_packing.proofs.PackingLemmas.{zeros_packed}
+use Rattle.capnp_packing.proofs.packing.words.pack_zeros.Goals as goal
+
+pub returns-clause-packed : goal.returns-clause-packed
+returns-clause-packed c = zeros_packed c.args.to.now c.args.from.now c.zero_words-n.result (search rules) c.requires.word c.requires.zero c.zero_words-n.ensures.zeros

@@ -1,0 +1,125 @@
+-- Packed bytes (the encoding specification's "Packing"). A tag has a bit for each byte of a word, the lowest for
+-- the first: where it is 1 the byte is packed behind the tag, and else it is zero. Behind a tag of 0 stands how many
+-- words of zero follow that one; behind a tag of 255 and the word's eight bytes stands how many words follow as
+-- they are.
+use Rattle.std.specs.Prelude.{◌≡◌, ℕ, zero, suc, ◌+◌, ◌-◌, ◌*◌, ◌/◌, ◌%◌, Bool, true, false, cond, nat_eq, nat_lt}
+use Rattle.std.specs.Prelude.{List, [], ◌∷◌, ◌++◌, drop, slice_index, replicate, Option, Some, None, ⊤}
+use Rattle.capnp_packing.specs.declared.packing.place.Place.{Place}
+use Rattle.capnp_packing.specs.declared.packing.place.Place.TheVariants.{Tag, Kept, Zeros, Whole, Count, Raw}
+
+-- Of so many bytes of a word, how many aren't packed before the first that is.
+abbrev pub lead : ℕ → ℕ → ℕ
+lead zero bits = 0
+lead (suc n) bits = cond (nat_eq (bits % 2) 1) 0 (lead n (bits / 2) + 1)
+
+-- The place behind those: before that first one, or before a tag where there is none.
+abbrev pub place_within : ℕ → ℕ → Place
+place_within zero bits = Tag
+place_within (suc n) bits = cond (nat_eq (bits % 2) 1) (Kept (bits / 2) n) (place_within n (bits / 2))
+
+-- The byte that a packed byte gives itself.
+abbrev pub byte_given : Place → ℕ → Option ℕ
+byte_given (Kept bits left) b = Some b
+byte_given (Whole left) b = Some b
+byte_given (Raw left) b = Some b
+byte_given _ b = None
+
+-- How many bytes of zero it gives behind that.
+abbrev pub zeros_given : Place → ℕ → ℕ
+zeros_given Tag b = cond (nat_eq b 0) 8 (cond (nat_eq b 255) 0 (lead 8 b))
+zeros_given (Kept bits left) b = lead left bits
+zeros_given Zeros b = 8 * b
+zeros_given _ b = 0
+
+-- The place behind it.
+abbrev pub place_after : Place → ℕ → Place
+place_after Tag b = cond (nat_eq b 0) Zeros (cond (nat_eq b 255) (Whole 7) (place_within 8 b))
+place_after (Kept bits left) b = place_within left bits
+place_after Zeros b = Tag
+place_after (Whole left) b = cond (nat_eq left 0) Count (Whole (left - 1))
+place_after Count b = cond (nat_eq b 0) Tag (Raw (8 * b - 1))
+place_after (Raw left) b = cond (nat_eq left 0) Tag (Raw (left - 1))
+
+-- The place behind so many bytes of words that are given as they stand, where so many were behind the first.
+abbrev pub place_behind : ℕ → ℕ → Place
+place_behind left taken = cond (nat_lt left taken) Tag (Raw (left - taken))
+
+-- All that it gives.
+abbrev pub byte_of_option : Option ℕ → List ℕ
+byte_of_option (Some b) = b ∷ []
+byte_of_option None = []
+
+abbrev pub all_given : Place → ℕ → List ℕ
+all_given place b = byte_of_option (byte_given place b) ++ replicate (zeros_given place b) 0
+
+-- What packed bytes give from a place on, as far as they go.
+unfoldable pub unpacked_bytes : Place → List ℕ → List ℕ
+unpacked_bytes place [] = []
+unpacked_bytes place (b ∷ bytes) = all_given place b ++ unpacked_bytes (place_after place b) bytes
+
+-- The place behind all of them.
+unfoldable pub place_at_end : Place → List ℕ → Place
+place_at_end place [] = place
+place_at_end place (b ∷ bytes) = place_at_end (place_after place b) bytes
+
+-- They are whole: they don't end within a word or before a number.
+abbrev pub IsWhole : Place → List ℕ → Type 0
+IsWhole place packed = place_at_end place packed ≡ Tag
+
+-- They give some bytes and so many bytes of zero behind them, and lead to another place.
+abbrev pub GivesAndLeads : Place → List ℕ → List ℕ → ℕ → Place → Type 0
+GivesAndLeads place packed bytes zeros next =
+    (unpacked_bytes place packed ≡ bytes ++ replicate zeros 0) × (place_at_end place packed ≡ next)
+
+-- The bytes to come where so many bytes of zero are due, and packed bytes stand behind a place, if they are known.
+abbrev pub bytes_behind : ℕ → Place → Option (List ℕ) → Option (List ℕ)
+bytes_behind due place None = None
+bytes_behind due place (Some packed) = Some (replicate due 0 ++ unpacked_bytes place packed)
+
+-- Packed bytes that are known end at the same place, though some of them were taken.
+abbrev pub KeepsEnd : Place → Option (List ℕ) → Place → Option (List ℕ) → Type 0
+KeepsEnd place None next new = ⊤
+KeepsEnd place (Some packed) next None = ⊥
+KeepsEnd place (Some packed) next (Some rest) = place_at_end next rest ≡ place_at_end place packed
+
+-- Whether packed bytes behind a place are whole, if they are known.
+abbrev pub is_tag : Place → Bool
+is_tag Tag = true
+is_tag _ = false
+
+abbrev pub whole_behind : Place → Option (List ℕ) → Option Bool
+whole_behind place None = None
+whole_behind place (Some packed) = Some (is_tag (place_at_end place packed))
+
+-- The bytes of a word, of which a packed one is each whose bit is set: so many of them, from a bit on.
+unfoldable pub expanded : ℕ → ℕ → List ℕ → List ℕ
+expanded zero bits packed = []
+expanded (suc n) bits packed =
+    slice_index packed 0 * (bits % 2) ∷ expanded n (bits / 2) (drop (bits % 2) packed)
+
+-- How many of them are packed.
+unfoldable pub ones : ℕ → ℕ → ℕ
+ones zero bits = 0
+ones (suc n) bits = bits % 2 + ones n (bits / 2)
+
+-- What all packed bytes of an output stand for, where these are known and whole.
+abbrev pub known_at : Place → List ℕ → Option (List ℕ)
+known_at Tag bytes = Some bytes
+known_at _ bytes = None
+
+abbrev pub unpacked_known : Option (List ℕ) → Option (List ℕ)
+unpacked_known None = None
+unpacked_known (Some packed) = known_at (place_at_end Tag packed) (unpacked_bytes Tag packed)
+
+-- The tag of some bytes of a word, and those of them that are packed behind it.
+abbrev pub tag_of_word : List ℕ → ℕ
+tag_of_word [] = 0
+tag_of_word (b ∷ bs) = cond (nat_eq b 0) 0 1 + 2 * tag_of_word bs
+
+abbrev pub nonzero_bytes : List ℕ → List ℕ
+nonzero_bytes [] = []
+nonzero_bytes (b ∷ bs) = cond (nat_eq b 0) (nonzero_bytes bs) (b ∷ nonzero_bytes bs)
+
+-- Packed bytes are whole and stand for these.
+abbrev pub Packs : List ℕ → List ℕ → Type 0
+Packs packed bytes = (unpacked_bytes Tag packed ≡ bytes) × IsWhole Tag packed

@@ -1,0 +1,5 @@
+//! Packed bytes ("Packing"): words with their bytes of zero left out, read from an input as the
+//! bytes that they stand for.
+#![tactic(auto)]
+
+pub mod packing;

@@ -1,0 +1,17 @@
+//! Packed bytes: read one by one, where each gives some bytes and leads to another place in the
+//! packing, and written a word or a run of words at a time.
+
+mod in_memory;
+mod packing_error;
+mod packing_output;
+mod place;
+mod read_ahead;
+mod unpacking;
+mod unpacking_input;
+mod words;
+
+pub use in_memory::{pack, unpack};
+pub use packing_error::PackingError;
+pub use packing_output::PackingOutput;
+pub use place::{Place, Taken, step};
+pub use unpacking_input::UnpackingInput;

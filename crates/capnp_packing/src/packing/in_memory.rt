@@ -1,0 +1,107 @@
+//! Words packed, and packed bytes unpacked, in memory.
+ghost use Rattle.std.specs.Prelude.{◌≡◌, ◌≢◌, ◌⊎◌, ◌≤◌, ◌<◌, ◌+◌, ◌*◌, ◌%◌, ◌++◌, ℕ, List, length, take, IfOk, IfErr, OnOk};
+ghost use Rattle.std.specs.Io.KnownBytes.{Consumes, IsAtEnd};
+ghost use Rattle.capnp_packing.specs.Packing.{IsWhole, KeepsEnd, Packs, unpacked_bytes};
+ghost use Rattle.capnp_packing.specs.declared.packing.packing_error.PackingError.TheVariants.{AllocationFailed, CutWord, TooLong, Truncated};
+
+use super::packing_error::PackingError;
+use super::place::Place;
+use super::read_ahead::ReadAhead;
+use super::unpacking_input::UnpackingInput;
+use super::words::pack_front;
+use capnp_framing::devices::{Input, MemoryInput};
+use std::alloc::Global;
+
+/// How many bytes are made at once.
+const STEP: usize = 8192;
+
+/// Packs whole words ("Packing"). `CutWord` where the last one is cut short, and only there;
+/// `AllocationFailed` where there is no memory.
+pub fn pack(alloc: Global, words: &[u8]) -> Result<Vec<u8>, PackingError>
+    ensures packed { IfOk result (λ packed. Packs packed.items words.now) }
+    ensures whole { OnOk result (length words.now % 8 ≡ 0) }
+    ensures refused { IfErr result (λ e. (e ≡ AllocationFailed)
+        ⊎ ((e ≡ CutWord) × (length words.now % 8 ≢ 0))) }
+{
+    if !words.len().is_multiple_of(8) {
+        return Err(PackingError::CutWord);
+    }
+    let mut packed = Vec::new(alloc);
+    let mut taken = 0;
+    while taken < words.len() {
+        match pack_more(&mut packed, &words[taken..]) {
+            Ok(n) => taken += n,
+            Err(error) => return Err(error),
+        }
+    }
+    Ok(packed)
+}
+
+/// Packs some words behind what is packed; how many bytes of words these are.
+fn pack_more(packed: &mut Vec<u8>, words: &[u8]) -> Result<usize, PackingError>
+    requires { 8 ≤ length words.now }
+    ensures some { IfOk result (λ n. 0 < n) }
+    ensures words { IfOk result (λ n. n % 8 ≡ 0) }
+    ensures within { IfOk result (λ n. n ≤ length words.now) }
+    ensures packed { IfOk result (λ n. (more : List ℕ)
+        × (packed.new.items ≡ packed.old.items ++ more) × Packs more (take n words.now)) }
+    ensures refused { IfErr result (λ e. e ≡ AllocationFailed) }
+{
+    let mut part = [0; STEP];
+    let done = pack_front(&mut part, words);
+    if packed.extend_from_slice(&part[..done.given]).is_err() {
+        return Err(PackingError::AllocationFailed);
+    }
+    Ok(done.taken)
+}
+
+/// Unpacks packed bytes, where they stand for at most so many bytes ("Packing"). `TooLong` where
+/// they stand for more; `Truncated` where they end within a word or before a number;
+/// `AllocationFailed` where there is no memory.
+pub fn unpack(alloc: Global, packed: &[u8], max_bytes: usize) -> Result<Vec<u8>, PackingError>
+    ensures bytes { IfOk result (λ bytes. Packs packed.now bytes.items) }
+    ensures most { IfOk result (λ bytes. length bytes.items ≤ max_bytes) }
+    ensures refused { IfErr result (λ e. (e ≡ AllocationFailed)
+        ⊎ ((e ≡ TooLong) × (max_bytes < length (unpacked_bytes Place.Tag packed.now)))
+        ⊎ ((e ≡ Truncated) × (IsWhole Place.Tag packed.now → ⊥))) }
+{
+    let mut input = UnpackingInput::new(MemoryInput::new(packed));
+    let mut bytes = Vec::new(alloc);
+    while bytes.len() <= max_bytes {
+        let most = (STEP - 1).min(max_bytes - bytes.len()) + 1;
+        match unpack_more(&mut input, &mut bytes, most) {
+            Ok(0) if input.is_whole() => return Ok(bytes),
+            Ok(0) => return Err(PackingError::Truncated),
+            Ok(_) => {}
+            Err(error) => return Err(error),
+        }
+    }
+    Err(PackingError::TooLong)
+}
+
+/// Unpacks at most so many bytes more behind those that are there; how many these are.
+fn unpack_more<R: Input>(
+    input: &mut UnpackingInput<R>,
+    bytes: &mut Vec<u8>,
+    most: usize,
+) -> Result<usize, PackingError>
+    requires some { 0 < most }
+    requires few { most ≤ 8192 }
+    ensures within { IfOk result (λ n. n ≤ most) }
+    ensures bytes { IfOk result (λ n. (more : List ℕ) × (length more ≡ n)
+        × (bytes.new.items ≡ bytes.old.items ++ more)
+        × Consumes (⟦<UnpackingInput<R> as Input>⟧.remaining input.old)
+        (⟦<UnpackingInput<R> as Input>⟧.remaining input.new) more) }
+    ensures place { KeepsEnd
+        input.old.place (⟦<ReadAhead<R> as Input>⟧.remaining input.old.packed)
+        input.new.place (⟦<ReadAhead<R> as Input>⟧.remaining input.new.packed) }
+    ensures end { IfOk result (λ n. n ≡ 0 → (input.new.zeros ≡ 0)
+        × IsAtEnd (⟦<ReadAhead<R> as Input>⟧.remaining input.new.packed)) }
+    ensures refused { IfErr result (λ e. e ≡ AllocationFailed) }
+{
+    let mut part = [0; STEP];
+    match input.unpack(&mut part[..most]) {
+        Ok(n) if bytes.extend_from_slice(&part[..n]).is_ok() => Ok(n),
+        _ => Err(PackingError::AllocationFailed),
+    }
+}

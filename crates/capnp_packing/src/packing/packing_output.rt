@@ -1,0 +1,128 @@
+//! An output of words, as an output of packed bytes.
+ghost use Rattle.std.specs.Prelude.{◌≡◌, ◌≤◌, ◌+◌, false, true, OnOk, OnErr, length, slice_range};
+ghost use Rattle.std.specs.Io.KnownBytes.{Keeps, append_known};
+ghost use Rattle.capnp_packing.specs.Packing.{unpacked_known};
+
+use super::words::{MOST_BYTES, pack_front};
+use capnp_framing::devices::{DeviceFault, Output};
+
+/// How many packed bytes are kept at most.
+const CAPACITY: usize = 8192;
+
+/// An output of whole words, which packs them. It keeps packed bytes until there are many, or it is
+/// flushed. Fewer bytes than a word fail.
+#[derive(Drop)]
+pub struct PackingOutput<W> {
+    packed: W,
+    // The bytes from `sent` to `end` are packed, and the output hasn't taken them.
+    pending: [u8; CAPACITY],
+    sent: usize,
+    end: usize,
+    failed: bool,
+    ghost ordered: { sent ≤ end },
+    ghost inside: { end ≤ 8192 },
+}
+
+impl<W: Output> PackingOutput<W> {
+    /// The output that packs to an output.
+    pub fn new(packed: W) -> Self
+        ensures packed { result.packed ≡ packed }
+        ensures none { (result.sent ≡ 0) × (result.end ≡ 0) }
+        ensures works { result.failed ≡ false }
+        ensures contents { ⟦<Self as Output>⟧.contents result ≡ unpacked_known (W.contents packed) }
+    {
+        PackingOutput {
+            packed,
+            pending: [0; CAPACITY],
+            sent: 0,
+            end: 0,
+            failed: false,
+        }
+    }
+
+    /// Has the output take all packed bytes.
+    pub fn flush(&mut self) -> Result<(), DeviceFault>
+        ensures bytes { Keeps
+            (append_known (W.contents self.old.packed)
+            (slice_range self.old.pending self.old.sent self.old.end))
+            (append_known (W.contents self.new.packed)
+            (slice_range self.new.pending self.new.sent self.new.end)) }
+        ensures taken { OnOk result (Keeps (⟦<Self as Output>⟧.contents self.old)
+            (unpacked_known (W.contents self.new.packed))) }
+        ensures none { OnOk result ((self.new.sent ≡ 0) × (self.new.end ≡ 0)) }
+        ensures works { OnOk result (self.new.failed ≡ self.old.failed) }
+        ensures fails { OnErr result (self.new.failed ≡ true) }
+    {
+        while self.sent < self.end {
+            match self.packed.write(part(&self.pending, self.sent, self.end)) {
+                Ok(n) => self.sent += n,
+                Err(fault) => {
+                    self.failed = true;
+                    return Err(fault);
+                }
+            }
+        }
+        self.sent = 0;
+        self.end = 0;
+        Ok(())
+    }
+
+    /// The output that it packs to. Packed bytes that this hasn't taken are lost, so flush first.
+    pub fn into_packed(self) -> W
+        ensures { result ≡ self.packed }
+    {
+        self.packed
+    }
+
+    /// Makes room for what is packed at once.
+    fn make_room(&mut self) -> Result<(), DeviceFault>
+        ensures bytes { Keeps
+            (append_known (W.contents self.old.packed)
+            (slice_range self.old.pending self.old.sent self.old.end))
+            (append_known (W.contents self.new.packed)
+            (slice_range self.new.pending self.new.sent self.new.end)) }
+        ensures room { OnOk result (self.new.end + 2050 ≤ 8192) }
+        ensures none { OnOk result (self.new.sent ≡ 0) }
+        ensures works { OnOk result (self.new.failed ≡ self.old.failed) }
+        ensures fails { OnErr result (self.new.failed ≡ true) }
+    {
+        if self.sent == 0 && CAPACITY - self.end >= MOST_BYTES {
+            return Ok(());
+        }
+        self.flush()
+    }
+}
+
+/// The bytes from one position to another.
+fn part(bytes: &[u8], from: usize, to: usize) -> &[u8]
+    requires order { from ≤ to }
+    requires inside { to ≤ length bytes.now }
+    ensures { result.now ≡ slice_range bytes.now from to }
+{
+    &bytes[from..to]
+}
+
+impl<W: Output> Output for PackingOutput<W> {
+    ghost contents = { λ p. unpacked_known (append_known (W.contents p.packed)
+        (slice_range p.pending p.sent p.end)) };
+
+    ghost has_failed = { λ p. p.failed };
+
+    fn write(&mut self, from: &[u8]) -> Result<usize, DeviceFault> {
+        if from.is_empty() {
+            return Ok(0);
+        }
+        if from.len() < 8 {
+            self.failed = true;
+            return Err(DeviceFault);
+        }
+        self.make_room()?;
+        let done = pack_front(&mut self.pending[self.end..], from);
+        self.end += done.given;
+        Ok(done.taken)
+    }
+
+    fn failed(&self) -> bool {
+        self.failed
+    }
+}

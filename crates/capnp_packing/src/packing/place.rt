@@ -1,0 +1,136 @@
+//! Where a reader of packed bytes stands, and what a byte gives there ("Packing").
+ghost use Rattle.std.specs.Prelude.{◌≡◌, ◌≤◌, ◌<◌, ◌+◌, None};
+ghost use Rattle.capnp_packing.specs.Packing.{byte_given, lead, place_after, place_within, zeros_given};
+
+/// Where a reader of packed bytes stands.
+#[derive(Clone, Copy, Debug, PartialEq, Eq)]
+pub enum Place {
+    /// Before a tag.
+    Tag,
+    /// Before a byte of a word that is packed. So many bytes of the word are behind it, and the
+    /// bits say which of them are packed, the lowest one the first.
+    Kept { bits: u8, left: u8 },
+    /// Before the number of words of zero behind one.
+    Zeros,
+    /// Before a byte of a word that is given as it stands, with so many bytes behind it.
+    Whole(u8),
+    /// Before the number of words behind that one that are given as they stand.
+    Count,
+    /// Before a byte of such words, with so many bytes behind it.
+    Raw(u16),
+}
+
+/// What a packed byte gives: itself or nothing, and so many bytes of zero behind it; and where it
+/// leads to.
+#[derive(Clone, Copy, Debug, PartialEq, Eq)]
+pub struct Taken {
+    pub byte: Option<u8>,
+    pub zeros: u16,
+    pub next: Place,
+}
+
+/// Within a word, before so many bytes of it: how many aren't packed from there on, and the place
+/// behind these.
+fn within_word(bits: u8, left: u8) -> (u8, Place)
+    ensures zeros { result.0 ≡ lead left bits }
+    ensures place { result.1 ≡ place_within left bits }
+    ensures few { result.0 ≤ left }
+{
+    if left == 0 {
+        return (0, Place::Tag);
+    }
+    let (bits, left, is_packed) = (bits / 2, left - 1, bits % 2 == 1);
+    if is_packed {
+        return (0, Place::Kept { bits, left });
+    }
+    let (zeros, next) = within_word(bits, left);
+    (zeros + 1, next)
+}
+
+/// What a byte gives before a tag, which it is.
+fn step_tag(tag: u8) -> Taken
+    ensures byte { result.byte ≡ byte_given Place.Tag tag }
+    ensures zeros { result.zeros ≡ zeros_given Place.Tag tag }
+    ensures place { result.next ≡ place_after Place.Tag tag }
+{
+    if tag == 0 {
+        return Taken {
+            byte: None,
+            zeros: 8,
+            next: Place::Zeros,
+        };
+    }
+    if tag == 255 {
+        return Taken {
+            byte: None,
+            zeros: 0,
+            next: Place::Whole(7),
+        };
+    }
+    let (zeros, next) = within_word(tag, 8);
+    Taken {
+        byte: None,
+        zeros: u16::from(zeros),
+        next,
+    }
+}
+
+/// What a byte gives at a place, and the place behind it.
+pub fn step(place: Place, byte: u8) -> Taken
+    ensures byte { result.byte ≡ byte_given place byte }
+    ensures zeros { result.zeros ≡ zeros_given place byte }
+    ensures place { result.next ≡ place_after place byte }
+{
+    match place {
+        Place::Tag => step_tag(byte),
+        Place::Kept { bits, left } => {
+            let (zeros, next) = within_word(bits, left);
+            Taken {
+                byte: Some(byte),
+                zeros: u16::from(zeros),
+                next,
+            }
+        }
+        Place::Zeros => Taken {
+            byte: None,
+            zeros: 8 * u16::from(byte),
+            next: Place::Tag,
+        },
+        Place::Whole(left) => {
+            let next = if left == 0 {
+                Place::Count
+            } else {
+                Place::Whole(left - 1)
+            };
+            Taken {
+                byte: Some(byte),
+                zeros: 0,
+                next,
+            }
+        }
+        Place::Count => {
+            let next = if byte == 0 {
+                Place::Tag
+            } else {
+                Place::Raw(8 * u16::from(byte) - 1)
+            };
+            Taken {
+                byte: None,
+                zeros: 0,
+                next,
+            }
+        }
+        Place::Raw(left) => {
+            let next = if left == 0 {
+                Place::Tag
+            } else {
+                Place::Raw(left - 1)
+            };
+            Taken {
+                byte: Some(byte),
+                zeros: 0,
+                next,
+            }
+        }
+    }
+}

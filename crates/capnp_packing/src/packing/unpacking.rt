@@ -1,0 +1,171 @@
+//! Words unpacked from packed bytes in memory ("Packing").
+ghost use Rattle.std.specs.Prelude.{◌≡◌, ◌≢◌, ◌≤◌, ◌<◌, ◌+◌, ◌∷◌, [], length, take, drop, slice_index, replicate};
+ghost use Rattle.capnp_packing.specs.Packing.{GivesAndLeads, expanded, ones};
+
+use super::place::Place;
+
+/// The most packed bytes that a tag needs: itself, a word, and a number.
+pub(super) const UNIT: usize = 10;
+
+/// How far words were unpacked.
+#[derive(Clone, Copy)]
+pub(super) struct Progress {
+    /// How many packed bytes were taken.
+    pub(super) taken: usize,
+    /// How many bytes were given.
+    pub(super) given: usize,
+    /// How many bytes of zero are due behind them.
+    pub(super) zeros: u16,
+    /// The place behind the packed bytes.
+    pub(super) place: Place,
+}
+
+/// Makes all bytes zero.
+pub(super) fn put_zeros(to: &mut [u8])
+    ensures { to.new ≡ replicate (length to.old) 0 }
+{
+    for byte in to.iter_mut() {
+        *byte = 0;
+    }
+}
+
+/// Gives the bytes of a word: the next packed one where its bit is set, and else zero. How many
+/// were packed.
+#[inline(always)]
+fn put_word(tag: u8, packed: &[u8], to: &mut [u8]) -> usize
+    requires packed { length packed.now ≡ 8 }
+    requires room { length to.old ≡ 8 }
+    ensures bytes { to.new ≡ expanded 8 tag packed.now }
+    ensures taken { result ≡ ones 8 tag }
+    ensures within { result ≤ 8 }
+{
+    let mut bits = tag;
+    let mut at = 0;
+    for i in 0..8 {
+        let bit = bits % 2;
+        to[i] = packed[at] * bit;
+        at += bit as usize;
+        bits /= 2;
+    }
+    at
+}
+
+/// Words of zero, of which so many stand behind the first: as many as there is room for.
+#[inline(always)]
+fn unpack_zeros(more: u8, to: &mut [u8]) -> Progress
+    requires { 8 ≤ length to.old }
+    ensures taken { result.taken ≡ 2 }
+    ensures some { 8 ≤ result.given }
+    ensures within { result.given ≤ length to.new }
+    ensures leads { GivesAndLeads Place.Tag (0 ∷ more ∷ []) (take result.given to.new)
+        result.zeros result.place }
+{
+    let due = 8 + 8 * more as usize;
+    let given = to.len().min(due);
+    put_zeros(&mut to[..given]);
+    Progress {
+        taken: 2,
+        given,
+        zeros: (due - given) as u16,
+        place: Place::Tag,
+    }
+}
+
+/// A word as it stands, and those behind it where all of them are there and wanted.
+#[inline(always)]
+fn unpack_whole(packed: &[u8], to: &mut [u8]) -> Progress
+    requires packed { 10 ≤ length packed.now }
+    requires tag { slice_index packed.now 0 ≡ 255 }
+    requires room { 8 ≤ length to.old }
+    ensures taken { result.taken ≤ length packed.now }
+    ensures some { 8 ≤ result.given }
+    ensures within { result.given ≤ length to.new }
+    ensures leads { GivesAndLeads Place.Tag (take result.taken packed.now)
+        (take result.given to.new) result.zeros result.place }
+{
+    to[..8].copy_from_slice(&packed[1..9]);
+    let more = 8 * packed[9] as usize;
+    if more == 0 {
+        return Progress {
+            taken: 10,
+            given: 8,
+            zeros: 0,
+            place: Place::Tag,
+        };
+    }
+    if packed.len() - 10 < more || to.len() - 8 < more {
+        return Progress {
+            taken: 10,
+            given: 8,
+            zeros: 0,
+            place: Place::Raw(more as u16 - 1),
+        };
+    }
+    to[8..8 + more].copy_from_slice(&packed[10..10 + more]);
+    Progress {
+        taken: 10 + more,
+        given: 8 + more,
+        zeros: 0,
+        place: Place::Tag,
+    }
+}
+
+/// What a tag and the bytes behind it give.
+#[inline(always)]
+fn unpack_unit(packed: &[u8], to: &mut [u8]) -> Progress
+    requires packed { 10 ≤ length packed.now }
+    requires room { 8 ≤ length to.old }
+    ensures taken { result.taken ≤ length packed.now }
+    ensures some { 8 ≤ result.given }
+    ensures within { result.given ≤ length to.new }
+    ensures leads { GivesAndLeads Place.Tag (take result.taken packed.now)
+        (take result.given to.new) result.zeros result.place }
+{
+    let tag = packed[0];
+    if tag == 0 {
+        unpack_zeros(packed[1], to)
+    } else if tag == 255 {
+        unpack_whole(packed, to)
+    } else {
+        let taken = put_word(tag, &packed[1..9], &mut to[..8]);
+        Progress {
+            taken: 1 + taken,
+            given: 8,
+            zeros: 0,
+            place: Place::Tag,
+        }
+    }
+}
+
+/// Unpacks words while there is room for one, and so many packed bytes as a tag may need.
+pub(super) fn unpack_words(packed: &[u8], to: &mut [u8]) -> Progress
+    requires packed { 10 ≤ length packed.now }
+    requires room { 8 ≤ length to.old }
+    ensures taken { result.taken ≤ length packed.now }
+    ensures some { 8 ≤ result.given }
+    ensures within { result.given ≤ length to.new }
+    ensures leads { GivesAndLeads Place.Tag (take result.taken packed.now)
+        (take result.given to.new) result.zeros result.place }
+{
+    let mut taken = 0;
+    let mut given = 0;
+    while packed.len() - taken >= UNIT && to.len() - given >= 8 {
+        let unit = unpack_unit(&packed[taken..], &mut to[given..]);
+        taken += unit.taken;
+        given += unit.given;
+        if unit.zeros != 0 || !matches!(unit.place, Place::Tag) {
+            return Progress {
+                taken,
+                given,
+                zeros: unit.zeros,
+                place: unit.place,
+            };
+        }
+    }
+    Progress {
+        taken,
+        given,
+        zeros: 0,
+        place: Place::Tag,
+    }
+}

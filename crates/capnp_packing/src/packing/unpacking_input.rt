@@ -1,0 +1,241 @@
+//! An input of packed bytes, as an input of what they stand for.
+ghost use Rattle.std.specs.Prelude.{Some, ℕ, List, ◌≡◌, ◌≤◌, ◌<◌, ◌+◌, ◌-◌, ◌∷◌, ◌↔◌, [], IsTrue, false, true, IfOk, OnOk, OnErr, length, take, slice_range};
+ghost use Rattle.std.specs.Io.KnownBytes.{Consumes, IsAtEnd, ReadConsumes};
+ghost use Rattle.std.specs.Option.{option_map};
+ghost use Rattle.capnp_framing.specs.Wholeness.{KeepsWhole};
+ghost use Rattle.capnp_packing.specs.Packing.{KeepsEnd, bytes_behind, place_behind, unpacked_bytes, whole_behind};
+
+use super::place::{Place, step};
+use super::read_ahead::ReadAhead;
+use super::unpacking::{UNIT, put_zeros, unpack_words};
+use capnp_framing::devices::{DeviceFault, Input};
+
+/// An input of the bytes that packed bytes stand for, as far as they go.
+#[derive(Drop)]
+pub struct UnpackingInput<R> {
+    packed: ReadAhead<R>,
+    place: Place,
+    // How many bytes of zero are given before the next packed byte is taken.
+    zeros: u16,
+    // The packed input failed behind bytes that were given: the next read fails.
+    broken: bool,
+    failed: bool,
+}
+
+impl<R: Input> UnpackingInput<R> {
+    /// The input of packed bytes.
+    pub fn new(packed: R) -> Self
+        ensures place { result.place ≡ Place.Tag }
+        ensures zeros { result.zeros ≡ 0 }
+        ensures works { result.failed ≡ false }
+        ensures packed { ⟦<ReadAhead<R> as Input>⟧.remaining result.packed ≡ R.remaining packed }
+        ensures remaining { ⟦<Self as Input>⟧.remaining result
+            ≡ option_map (unpacked_bytes Place.Tag) (R.remaining packed) }
+        ensures whole { ⟦<Self as Input>⟧.ends_whole result
+            ≡ whole_behind Place.Tag (R.remaining packed) }
+    {
+        UnpackingInput {
+            packed: ReadAhead::new(packed),
+            place: Place::Tag,
+            zeros: 0,
+            broken: false,
+            failed: false,
+        }
+    }
+
+    /// Whether the packed bytes are whole, where nothing of what they stand for is left: reads on
+    /// to their end. It takes at most a byte of what is left.
+    pub fn finish(&mut self) -> Result<bool, DeviceFault>
+        ensures whole { IsAtEnd (⟦<Self as Input>⟧.remaining self.old) → IfOk result
+            (λ whole. KeepsWhole (⟦<Self as Input>⟧.ends_whole self.old) (Some whole)) }
+        ensures bytes { (bytes : List ℕ) × (length bytes ≤ 1)
+            × Consumes (⟦<Self as Input>⟧.remaining self.old)
+            (⟦<Self as Input>⟧.remaining self.new) bytes }
+        ensures works { OnOk result (self.new.failed ≡ self.old.failed) }
+        ensures fails { OnErr result (self.new.failed ≡ true) }
+    {
+        match self.unpack(&mut [0]) {
+            Ok(0) => Ok(self.is_whole()),
+            Ok(_) => Ok(false),
+            Err(fault) => Err(fault),
+        }
+    }
+
+    /// Whether what was read so far ends before a tag, with no byte due: not within a word or
+    /// before a number.
+    pub fn is_whole(&self) -> bool
+        ensures { IsTrue result ↔ (self.now.zeros ≡ 0) × (self.now.place ≡ Place.Tag) }
+    {
+        self.zeros == 0 && matches!(self.place, Place::Tag)
+    }
+
+    /// Reads at most `to.len()` bytes to the front of `to`, and gives their number. None are given
+    /// only where `to` has no room, or the packed bytes have ended.
+    pub(super) fn unpack(&mut self, to: &mut [u8]) -> Result<usize, DeviceFault>
+        ensures bound { IfOk result (λ n. n ≤ length to.new) }
+        ensures bytes { ReadConsumes (⟦<Self as Input>⟧.remaining self.old)
+            (⟦<Self as Input>⟧.remaining self.new) result to.new }
+        ensures place { KeepsEnd
+            self.old.place (⟦<ReadAhead<R> as Input>⟧.remaining self.old.packed)
+            self.new.place (⟦<ReadAhead<R> as Input>⟧.remaining self.new.packed) }
+        ensures end { IfOk result (λ n. n ≡ 0 → 0 < length to.new → (self.new.zeros ≡ 0)
+            × IsAtEnd (⟦<ReadAhead<R> as Input>⟧.remaining self.new.packed)) }
+        ensures works { OnOk result (self.new.failed ≡ self.old.failed) }
+        ensures fails { OnErr result (self.new.failed ≡ true) }
+    {
+        if self.broken {
+            self.failed = true;
+            return Err(DeviceFault);
+        }
+        let mut given = 0;
+        while given < to.len() {
+            match self.unpack_some(&mut to[given..]) {
+                Ok(0) => return Ok(given),
+                Ok(n) => given += n,
+                Err(DeviceFault) => {
+                    self.broken = true;
+                    if given > 0 {
+                        return Ok(given);
+                    }
+                    self.failed = true;
+                    return Err(DeviceFault);
+                }
+            }
+        }
+        Ok(given)
+    }
+
+    /// Reads some bytes, of which there are none only where the packed bytes have ended.
+    fn unpack_some(&mut self, to: &mut [u8]) -> Result<usize, DeviceFault>
+        requires { 0 < length to.old }
+        ensures bound { IfOk result (λ n. n ≤ length to.new) }
+        ensures bytes { IfOk result (λ n. Consumes (⟦<Self as Input>⟧.remaining self.old)
+            (⟦<Self as Input>⟧.remaining self.new) (take n to.new)) }
+        ensures kept { OnErr result (Consumes (⟦<Self as Input>⟧.remaining self.old)
+            (⟦<Self as Input>⟧.remaining self.new) []) }
+        ensures place { KeepsEnd
+            self.old.place (⟦<ReadAhead<R> as Input>⟧.remaining self.old.packed)
+            self.new.place (⟦<ReadAhead<R> as Input>⟧.remaining self.new.packed) }
+        ensures end { IfOk result (λ n. n ≡ 0 → (self.new.zeros ≡ 0)
+            × IsAtEnd (⟦<ReadAhead<R> as Input>⟧.remaining self.new.packed)) }
+        ensures failed { self.new.failed ≡ self.old.failed }
+    {
+        while self.zeros == 0 {
+            if let Place::Raw(left) = self.place {
+                return self.read_raw(left, to);
+            }
+            if !self.packed.fill()? {
+                return Ok(0);
+            }
+            if self.is_whole() && to.len() >= 8 && self.packed.ahead().len() >= UNIT {
+                return Ok(self.unpack_ahead(to));
+            }
+            let taken = step(self.place, self.packed.next());
+            self.place = taken.next;
+            self.zeros = taken.zeros;
+            if let Some(byte) = taken.byte {
+                to[0] = byte;
+                return Ok(1);
+            }
+        }
+        Ok(self.give_zeros(to))
+    }
+
+    /// Unpacks words that are read ahead.
+    fn unpack_ahead(&mut self, to: &mut [u8]) -> usize
+        requires zeros { self.old.zeros ≡ 0 }
+        requires place { self.old.place ≡ Place.Tag }
+        requires ahead { 10 ≤ self.old.packed.end - self.old.packed.at }
+        requires room { 8 ≤ length to.old }
+        ensures some { 0 < result }
+        ensures bound { result ≤ length to.new }
+        ensures bytes { Consumes (⟦<Self as Input>⟧.remaining self.old)
+            (⟦<Self as Input>⟧.remaining self.new) (take result to.new) }
+        ensures place { KeepsEnd
+            self.old.place (⟦<ReadAhead<R> as Input>⟧.remaining self.old.packed)
+            self.new.place (⟦<ReadAhead<R> as Input>⟧.remaining self.new.packed) }
+        ensures failed { self.new.failed ≡ self.old.failed }
+    {
+        let progress = unpack_words(self.packed.ahead(), to);
+        self.packed.consume(progress.taken);
+        self.place = progress.place;
+        self.zeros = progress.zeros;
+        progress.given
+    }
+
+    /// Gives bytes of zero that are due.
+    fn give_zeros(&mut self, to: &mut [u8]) -> usize
+        requires due { 0 < self.old.zeros }
+        requires room { 0 < length to.old }
+        ensures some { 0 < result }
+        ensures bound { result ≤ length to.new }
+        ensures bytes { Consumes (⟦<Self as Input>⟧.remaining self.old)
+            (⟦<Self as Input>⟧.remaining self.new) (take result to.new) }
+        ensures place { KeepsEnd
+            self.old.place (⟦<ReadAhead<R> as Input>⟧.remaining self.old.packed)
+            self.new.place (⟦<ReadAhead<R> as Input>⟧.remaining self.new.packed) }
+        ensures failed { self.new.failed ≡ self.old.failed }
+    {
+        let n = to.len().min(self.zeros as usize);
+        put_zeros(&mut to[..n]);
+        self.zeros -= n as u16;
+        n
+    }
+
+    /// Reads words that are given as they stand, of which there are so many bytes behind the first.
+    /// They go straight to where they are wanted.
+    fn read_raw(&mut self, left: u16, to: &mut [u8]) -> Result<usize, DeviceFault>
+        requires place { self.old.place ≡ Place.Raw left }
+        requires zeros { self.old.zeros ≡ 0 }
+        requires room { 0 < length to.old }
+        ensures bound { IfOk result (λ n. n ≤ length to.new) }
+        ensures bytes { IfOk result (λ n. Consumes (⟦<Self as Input>⟧.remaining self.old)
+            (⟦<Self as Input>⟧.remaining self.new) (take n to.new)) }
+        ensures kept { OnErr result (Consumes (⟦<Self as Input>⟧.remaining self.old)
+            (⟦<Self as Input>⟧.remaining self.new) []) }
+        ensures place { KeepsEnd
+            self.old.place (⟦<ReadAhead<R> as Input>⟧.remaining self.old.packed)
+            self.new.place (⟦<ReadAhead<R> as Input>⟧.remaining self.new.packed) }
+        ensures end { IfOk result (λ n. n ≡ 0 → (self.new.zeros ≡ 0)
+            × IsAtEnd (⟦<ReadAhead<R> as Input>⟧.remaining self.new.packed)) }
+        ensures failed { self.new.failed ≡ self.old.failed }
+    {
+        let most = to.len().min(left as usize + 1);
+        let n = self.packed.read(&mut to[..most])?;
+        if n > 0 {
+            self.place = raw_behind(left, n);
+        }
+        Ok(n)
+    }
+}
+
+/// The place behind some bytes of words that are given as they stand, where so many were behind the
+/// first.
+fn raw_behind(left: u16, taken: usize) -> Place
+    requires some { 0 < taken }
+    requires inside { taken ≤ left + 1 }
+    ensures { result ≡ place_behind left taken }
+{
+    if taken > left as usize {
+        Place::Tag
+    } else {
+        Place::Raw(left - taken as u16)
+    }
+}
+
+impl<R: Input> Input for UnpackingInput<R> {
+    ghost remaining = { λ u. bytes_behind u.zeros u.place
+        (⟦<ReadAhead<R> as Input>⟧.remaining u.packed) };
+
+    ghost has_failed = { λ u. u.failed };
+
+    ghost ends_whole = { λ u. whole_behind u.place (⟦<ReadAhead<R> as Input>⟧.remaining u.packed) };
+
+    fn read(&mut self, to: &mut [u8]) -> Result<usize, DeviceFault> {
+        self.unpack(to)
+    }
+
+    fn failed(&self) -> bool {
+        self.failed
+    }
+}

@@ -1,0 +1,176 @@
+//! Words packed to bytes in memory ("Packing").
+ghost use Rattle.std.specs.Prelude.{◌≡◌, ◌≤◌, ◌<◌, ◌+◌, ◌*◌, ◌%◌, length, take, replicate};
+ghost use Rattle.capnp_packing.specs.Packing.{Packs, nonzero_bytes, tag_of_word};
+
+/// The most packed bytes that are made at once: a tag, a word, a number, and so many words as it
+/// can tell.
+pub(super) const MOST_BYTES: usize = 2050;
+
+/// How much was packed.
+#[derive(Clone, Copy)]
+pub(super) struct Packed {
+    /// How many bytes of words were taken.
+    pub(super) taken: usize,
+    /// How many packed bytes were given.
+    pub(super) given: usize,
+}
+
+/// The tag of a word.
+#[inline(always)]
+fn tag_of(word: &[u8]) -> u8
+    requires { length word.now ≡ 8 }
+    ensures { result ≡ tag_of_word word.now }
+{
+    let mut bits = 0;
+    let mut i = 8;
+    while i > 0 {
+        i -= 1;
+        bits = 2 * bits + u8::from(word[i] != 0);
+    }
+    bits
+}
+
+/// How many words of zero there are at the front, as far as a byte can tell.
+fn zero_words(bytes: &[u8]) -> u8
+    ensures within { 8 * result ≤ length bytes.now }
+    ensures zeros { take (8 * result) bytes.now ≡ replicate (8 * result) 0 }
+{
+    let mut n = 0;
+    while n < 255 && bytes.len() >= 8 * (n as usize) + 8 {
+        let at = 8 * n as usize;
+        if tag_of(&bytes[at..at + 8]) != 0 {
+            break;
+        }
+        n += 1;
+    }
+    n
+}
+
+/// How many bytes of a word aren't zero.
+#[inline(always)]
+fn count_of(word: u64) -> u32 {
+    const LOW: u64 = 0x7f7f_7f7f_7f7f_7f7f;
+    (((word & LOW).wrapping_add(LOW) | word) & !LOW).count_ones()
+}
+
+/// How many words at the front have at most one byte of zero, as far as a byte can tell.
+fn full_words(bytes: &[u8]) -> u8
+    ensures { 8 * result ≤ length bytes.now }
+{
+    let mut n = 0;
+    for word in bytes.as_chunks::<8>().0 {
+        if n == 255 || count_of(u64::from_le_bytes(*word)) < 7 {
+            break;
+        }
+        n += 1;
+    }
+    n
+}
+
+/// Puts the bytes of a word that aren't zero to the front; how many these are.
+#[inline(always)]
+fn put_kept(to: &mut [u8], word: &[u8]) -> usize
+    requires room { length to.old ≡ 8 }
+    requires word { length word.now ≡ 8 }
+    ensures kept { take result to.new ≡ nonzero_bytes word.now }
+    ensures within { result ≤ 8 }
+{
+    let mut n = 0;
+    for i in 0..8 {
+        to[n] = word[i];
+        if word[i] != 0 {
+            n += 1;
+        }
+    }
+    n
+}
+
+/// Packs a word of zero and those behind it.
+#[inline(always)]
+fn pack_zeros(to: &mut [u8], from: &[u8]) -> Packed
+    requires room { 2050 ≤ length to.old }
+    requires word { 8 ≤ length from.now }
+    requires zero { tag_of_word (take 8 from.now) ≡ 0 }
+    ensures some { 0 < result.taken }
+    ensures words { result.taken % 8 ≡ 0 }
+    ensures taken { result.taken ≤ length from.now }
+    ensures given { result.given ≤ 2050 }
+    ensures packed { Packs (take result.given to.new) (take result.taken from.now) }
+{
+    let n = zero_words(&from[8..]);
+    to[0] = 0;
+    to[1] = n;
+    Packed {
+        taken: 8 + 8 * n as usize,
+        given: 2,
+    }
+}
+
+/// Packs a word without a byte of zero, and those behind it that have few.
+#[inline(always)]
+fn pack_full(to: &mut [u8], from: &[u8]) -> Packed
+    requires room { 2050 ≤ length to.old }
+    requires word { 8 ≤ length from.now }
+    ensures some { 0 < result.taken }
+    ensures words { result.taken % 8 ≡ 0 }
+    ensures taken { result.taken ≤ length from.now }
+    ensures given { result.given ≤ 2050 }
+    ensures packed { Packs (take result.given to.new) (take result.taken from.now) }
+{
+    let n = full_words(&from[8..]);
+    let more = 8 * n as usize;
+    to[0] = 255;
+    to[1..9].copy_from_slice(&from[..8]);
+    to[9] = n;
+    to[10..10 + more].copy_from_slice(&from[8..8 + more]);
+    Packed {
+        taken: 8 + more,
+        given: 10 + more,
+    }
+}
+
+/// Packs one word by its tag, or a run of words.
+#[inline(always)]
+fn pack_unit(to: &mut [u8], from: &[u8]) -> Packed
+    requires room { 2050 ≤ length to.old }
+    requires word { 8 ≤ length from.now }
+    ensures some { 0 < result.taken }
+    ensures words { result.taken % 8 ≡ 0 }
+    ensures taken { result.taken ≤ length from.now }
+    ensures given { result.given ≤ 2050 }
+    ensures packed { Packs (take result.given to.new) (take result.taken from.now) }
+{
+    let tag = tag_of(&from[..8]);
+    if tag == 0 {
+        return pack_zeros(to, from);
+    }
+    if tag == 255 {
+        return pack_full(to, from);
+    }
+    to[0] = tag;
+    let n = put_kept(&mut to[1..9], &from[..8]);
+    Packed {
+        taken: 8,
+        given: 1 + n,
+    }
+}
+
+/// Packs words while there is one, and room for what one may need.
+pub(super) fn pack_front(to: &mut [u8], from: &[u8]) -> Packed
+    requires room { 2050 ≤ length to.old }
+    requires word { 8 ≤ length from.now }
+    ensures some { 0 < result.taken }
+    ensures words { result.taken % 8 ≡ 0 }
+    ensures taken { result.taken ≤ length from.now }
+    ensures given { result.given ≤ length to.new }
+    ensures packed { Packs (take result.given to.new) (take result.taken from.now) }
+{
+    let mut taken = 0;
+    let mut given = 0;
+    while from.len() - taken >= 8 && to.len() - given >= MOST_BYTES {
+        let unit = pack_unit(&mut to[given..], &from[taken..]);
+        taken += unit.taken;
+        given += unit.given;
+    }
+    Packed { taken, given }
+}

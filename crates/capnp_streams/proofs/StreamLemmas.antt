@@ -1,0 +1,83 @@
+-- A stream is read and answered message by message.
+use Rattle.std.proofs.Common.{◌≡◌, ◌≤◌, ℕ, ◌+◌, List, [], ◌∷◌, ◌++◌, Bool, true, false, ◌&&◌, Option, Some, None}
+use Rattle.std.proofs.Common.{IfSome, refl, sym, ap, ◌∙◌, append_assoc, append-nil, arith, length-append}
+use Rattle.std.specs.Io.KnownBytes.{Appends, Consumes}
+use Rattle.capnp_format.specs.Segments.{Segments}
+use Rattle.capnp_framing.specs.Flat.{BeginsWithFrame}
+use Rattle.capnp_framing.specs.Frames.{IsFrameOf}
+use Rattle.capnp_framing.specs.Reading.{total}
+use Rattle.capnp_framing.proofs.ReadingLemmas.{consumes_both, consumes_none}
+use Rattle.capnp_framing.proofs.WritingLemmas.{appends_both}
+use Rattle.capnp_streams.specs.Streams.{AnswerIs, AreAnswered, AreDone, AreFrames, IsOneDone, Stage}
+use Rattle.capnp_streams.specs.declared.streams.task.Task.{Task}
+
+-- one frame more
+frames_more : (most : ℕ) (S : Segments) (last : List ℕ) (Ss : List Segments) (bytes : List ℕ) →
+    AreFrames most Ss bytes → IsFrameOf S last → total S ≤ most → AreFrames most (Ss ++ S ∷ []) (bytes ++ last)
+frames_more most S last [] bytes none framed short =
+    (last, [], ap (λ (bs : List ℕ). bs ++ last) none ∙ sym (append-nil last), framed, short, refl)
+frames_more most S last (T ∷ Ss) bytes (first, rest, same, is, few, more) framed short =
+    let whole = ap (λ (bs : List ℕ). bs ++ last) same ∙ append_assoc first rest last in
+    (first, rest ++ last, whole, is, few, frames_more most S last Ss rest more framed short)
+
+and_true : (b : Bool) → b ≡ b && true
+and_true true = refl
+and_true false = refl
+
+and_assoc : (a b c : Bool) → (a && b) && c ≡ a && (b && c)
+and_assoc true b c = refl
+and_assoc false b c = refl
+
+-- one answer more
+module _ (task : Task) (S : Segments) (holds : Bool) (last : List ℕ)
+    (is : AnswerIs task.command task.limits S holds last) where
+  answers_more : (Ss : List Segments) (all : Bool) (bytes : List ℕ) → AreAnswered task Ss all bytes →
+      AreAnswered task (Ss ++ S ∷ []) (all && holds) (bytes ++ last)
+  answers_more [] all bytes (none, nothing) =
+      let both = ap (λ (b : Bool). b && holds) none ∙ and_true holds in
+      (holds, true, last, [], is, (refl, refl), both, ap (λ (bs : List ℕ). bs ++ last) nothing ∙ sym (append-nil last))
+  answers_more (T ∷ Ss) all bytes (here, there, first, rest, this, more, both, same) =
+      let yes_all = ap (λ (b : Bool). b && holds) both ∙ and_assoc here there holds in
+      let whole = ap (λ (bs : List ℕ). bs ++ last) same ∙ append_assoc first rest last in
+      let others = answers_more Ss there rest more in
+      (here, there && holds, first, rest ++ last, this, others, yes_all, whole)
+
+-- nothing is done yet
+pub none_done : (task : Task) (from : Stage) → AreDone task from from (record { messages = 0; holds = true })
+none_done task from = record {
+  messages = [];
+  bytes = [];
+  answers = [];
+  many = refl;
+  framed = refl;
+  consumed = consumes_none from.input;
+  answered = (refl, refl);
+  written = appends_none from.output;
+}
+  where
+    appends_none : (a : Option (List ℕ)) → Appends a a []
+    appends_none None = tt
+    appends_none (Some x) = sym (append-nil x)
+
+-- one message more is done
+pub one_more_done : {task : Task} {old mid new : Stage} {count : ℕ} {holds here : Bool} →
+    AreDone task old mid (record { messages = count; holds = holds }) → IsOneDone task mid new here →
+    AreDone task old new (record { messages = count + 1; holds = holds && here })
+one_more_done {task} {old} {mid} {new} {count} {holds} {here} done one = record {
+  messages = done.messages ++ one.message ∷ [];
+  bytes = done.bytes ++ one.bytes;
+  answers = done.answers ++ one.answer;
+  many = omega (arith, length-append done.messages (one.message ∷ []), done.many);
+  framed = frames_more _ one.message one.bytes done.messages done.bytes done.framed one.framed one.short;
+  consumed = consumes_both old.input mid.input new.input done.bytes one.bytes done.consumed one.consumed;
+  answered = answers_more task one.message here one.answer one.answered done.messages holds done.answers done.answered;
+  written = appends_both old.output mid.output new.output done.answers one.answer done.written one.written;
+}
+
+-- an input from which a frame is read begins with it
+pub begins : (from left : Option (List ℕ)) {most : ℕ} {S : Segments} {bytes : List ℕ} →
+    Consumes from left bytes → IsFrameOf S bytes → total S ≤ most → IfSome from (λ all. BeginsWithFrame all most S)
+begins None left consumed framed short = tt
+begins (Some x) None consumed framed short = absurd consumed
+begins (Some x) (Some y) {bytes = bytes} consumed framed short =
+    record { front = bytes; behind = y; is = consumed; framed = framed; short = short }

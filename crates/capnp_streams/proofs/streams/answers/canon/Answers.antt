@@ -1,0 +1,10 @@
+use Rattle.std.proofs.Common.{refl}
+use Rattle.capnp_format.specs.Canonical.{encoding, trim}
+use Rattle.capnp_streams.specs.Streams.{form_bytes}
+use Rattle.capnp_streams.proofs.streams.answers.canon.Goals as goal
+
+pub returns-in-Ok-written-clause-answered : goal.returns-in-Ok-written-clause-answered
+returns-in-Ok-written-clause-answered g c =
+    let (t, value, is_made) = c.in-Ok.ensures.copied in
+    let bytes = form_bytes c.args.form (encoding (trim t)) in
+    (bytes, (refl, (t, value, refl)), c.in-Ok-written.ensures.written (encoding (trim t)) is_made)

@@ -1,0 +1,29 @@
+use Rattle.std.proofs.Common.{rules}
+use Rattle.capnp_framing.proofs.WholenessLemmas.{keeps_whole, keeps_whole_both}
+use Rattle.capnp_streams.proofs.AnsweredLemmas.{step_answerable, stops_behind}
+use Rattle.capnp_streams.proofs.StreamLemmas.{none_done, one_more_done}
+use Rattle.capnp_streams.proofs.streams.runs.run.Goals as goal
+
+pub loop-number-init : goal.loop-number-init
+loop-number-init g c = record {
+  done = none_done c.args.task _;
+  whole = keeps_whole _;
+  reads = search rules;
+  writes = search rules;
+}
+
+pub loop-number-preserved : goal.loop-number-preserved
+loop-number-preserved g c =
+    let all = one_more_done c.loop-number.invariant.done (rw c.in-Ok-Some.field-0-is at c.in-Ok-Some.ensures.answered) in
+    record {
+      done = rw c.both-holds.ensures all;
+      whole = keeps_whole_both _ _ _ c.loop-number.invariant.whole c.in-Ok-Some.ensures.whole;
+      reads = search rules;
+      writes = search rules;
+    }
+
+pub returns-in-Err-clause-refused : goal.returns-in-Err-clause-refused
+returns-in-Err-clause-refused g c = stops_behind _ _ _ _ _ c.in-Err.fault c.loop-number.invariant.done c.in-Err.ensures.refused
+
+pub returns-in-Err-clause-exactly : goal.returns-in-Err-clause-exactly
+returns-in-Err-clause-exactly g c = step_answerable _ _ _ _ c.in-Err.fault c.loop-number.invariant.done c.in-Err.ensures.refused

@@ -1,0 +1,15 @@
+use Rattle.std.proofs.Common.{◌≡◌, false}
+use Rattle.capnp_framing.specs.Wholeness.{KeepsWhole}
+use Rattle.capnp_streams.specs.Streams.{AreDone, stage_of}
+use Rattle.capnp_streams.proofs.streams.runs.run.Given as goal
+
+abbrev pub invariant-loop-number : goal.invariant-loop-number
+invariant-loop-number g l = record {
+  done : AreDone l.task
+      (stage_of g.R.Input g.W.Output l.fn.input l.fn.output)
+      (stage_of g.R.Input g.W.Output l.input l.output)
+      (record { messages = l.number; holds = l.holds });
+  whole : KeepsWhole (g.R.Input.ends_whole l.fn.input) (g.R.Input.ends_whole l.input);
+  reads : g.R.Input.has_failed l.input ≡ false;
+  writes : g.W.Output.has_failed l.output ≡ false;
+}

@@ -1,0 +1,4 @@
+pub mod Arguments
+pub mod Messages
+pub mod Packed
+pub mod Streams

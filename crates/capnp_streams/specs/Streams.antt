@@ -1,0 +1,206 @@
+-- The messages that stand in a stream, one frame behind the other, and what a task answers to them.
+use Rattle.std.specs.Prelude.{◌≡◌, ◌⊎◌, ℕ, ◌+◌, ◌-◌, ◌^◌, ◌≤◌, List, [], ◌∷◌, ◌++◌, All, length, codes}
+use Rattle.std.specs.Prelude.{Bool, true, false, ◌&&◌, Option, Some, None, IfSome, IsSomeAnd}
+use Rattle.std.specs.Fmt.{decimal}
+use Rattle.std.specs.Io.KnownBytes.{Appends, Consumes, IsAtEnd}
+use Rattle.capnp_words.specs.Meter.{unused}
+use Rattle.capnp_words.specs.Names.{name_of}
+use Rattle.capnp_words.specs.declared.error.ErrorKind.{ErrorKind}
+use Rattle.capnp_words.specs.declared.error.ErrorKind.TheVariants.{AllocationFailed}
+use Rattle.capnp_format.specs.Canonical.{encoding, trim, word_count}
+use Rattle.capnp_format.specs.Segments.{Segments}
+use Rattle.capnp_format.specs.Tree.{Tree}
+use Rattle.capnp_arena.specs.Allocations.{max_segment_words}
+use Rattle.capnp_arena.specs.View.{View}
+use Rattle.capnp_arena.specs.declared.arena.reader_arena_impl.ReaderOptions.{ReaderOptions}
+use Rattle.capnp_objects.specs.Sizing.{HasSize}
+use Rattle.capnp_framing.specs.Flat.{BeginsWithFrame}
+use Rattle.capnp_framing.specs.Frames.{IsFrameOf, bytes_of_words, frame}
+use Rattle.capnp_framing.specs.Names.{frame_error_name}
+use Rattle.capnp_framing.specs.Reading.{NoFrame, total}
+use Rattle.capnp_framing.specs.declared.devices.Input.{Ghosts as InputGhosts}
+use Rattle.capnp_framing.specs.declared.devices.Output.{Ghosts as OutputGhosts}
+use Rattle.capnp_framing.specs.declared.framing.frame_error.FrameError.TheVariants.{AllocationFailed as NoMemory}
+use Rattle.capnp_framing.specs.declared.framing.frame_error.FrameError.TheVariants.{ReadFailed, WriteFailed}
+use Rattle.capnp_readers.specs.Faults.{fault_reason_text}
+use Rattle.capnp_readers.specs.declared.readers.canonical_fault.CanonicalFault.{CanonicalFault}
+use Rattle.capnp_layout.specs.Answers.{CoversRoot, check_line, size_line}
+use Rattle.capnp_layout.specs.CanonicalMessages.{IsCanonicalMessage}
+use Rattle.capnp_streams.specs.Messages.{HasSizeOf, IsFaultOf, IsReadable, IsValueOf}
+use Rattle.capnp_streams.specs.Messages.{RefusesCanon, RefusesCheck, RefusesSize, left_of, root_within}
+use Rattle.capnp_streams.specs.declared.streams.fault.Fault.{Fault}
+use Rattle.capnp_streams.specs.declared.streams.fault.Fault.TheVariants.{Frame, Layout, TooManyMessages}
+use Rattle.capnp_streams.specs.declared.streams.runs.Stop.{Stop}
+use Rattle.capnp_streams.specs.declared.streams.runs.Summary.{Summary}
+use Rattle.capnp_streams.specs.declared.streams.task.Command.{Command}
+use Rattle.capnp_streams.specs.declared.streams.task.Command.TheVariants.{Canon, Check, Size}
+use Rattle.capnp_streams.specs.declared.streams.task.Form.{Form}
+use Rattle.capnp_streams.specs.declared.streams.task.Form.TheVariants.{Framed, Flat}
+use Rattle.capnp_streams.specs.declared.streams.task.Task.{Task}
+
+-- the name of a refusal
+abbrev pub fault_name : Fault → List ℕ
+fault_name (Frame e) = frame_error_name e
+fault_name (Layout k) = name_of k
+fault_name TooManyMessages = codes "TooManyMessages"
+
+-- How many words a message may have of which the frame is read: those of the traversal limit.
+abbrev pub words_within : Option ℕ → ℕ
+words_within (Some n) = n
+words_within None = 2 ^ 64 - 1
+
+abbrev pub most_words : ReaderOptions → ℕ
+most_words limits = words_within limits.traversal_limit_in_words
+
+-- The bytes of a canonical message in a form.
+abbrev pub form_bytes : Form → List ℕ → List ℕ
+form_bytes Framed words = frame (words ∷ [])
+form_bytes Flat words = bytes_of_words words
+
+-- The words of a message of one segment are written in a form, of which P holds.
+abbrev pub WritesCopy : Form → View → (List ℕ → Type 0) → Type 0
+WritesCopy form made P = (words : List ℕ) → made.words ≡ words ∷ [] → P (form_bytes form words)
+
+-- The line of a message that isn't canonical: why, and at which word.
+unfoldable pub no_text : List ℕ
+no_text = codes "not canonical: "
+
+unfoldable pub segment_text : ℕ → List ℕ
+segment_text segment = codes " at segment " ++ decimal segment
+
+unfoldable pub word_text : ℕ → List ℕ
+word_text word = codes ", word " ++ decimal word ++ 10 ∷ []
+
+abbrev pub fault_line : CanonicalFault → List ℕ
+fault_line f = no_text ++ fault_reason_text f.reason ++ segment_text f.segment ++ word_text f.word
+
+-- The line that says whether a message is canonical, and if not why: the reason is true of the word that it
+-- names.
+abbrev pub ChecksAs : Segments → ReaderOptions → Bool → List ℕ → Type 0
+ChecksAs S limits true bytes = IsCanonicalMessage S × (bytes ≡ check_line true)
+ChecksAs S limits false bytes =
+    (IsCanonicalMessage S → ⊥) × ((f : CanonicalFault) × IsFaultOf S limits f × (bytes ≡ fault_line f))
+
+-- What a command answers to a message: yes or no, and these bytes.
+abbrev pub AnswerIs : Command → ReaderOptions → Segments → Bool → List ℕ → Type 0
+AnswerIs (Canon form) limits S holds bytes =
+    (holds ≡ true) × ((t : Tree) × IsValueOf S limits t × (bytes ≡ form_bytes form (encoding (trim t))))
+AnswerIs Check limits S holds bytes = ChecksAs S limits holds bytes
+AnswerIs Size limits S holds bytes =
+    (holds ≡ true) × ((words : ℕ) × (caps : ℕ) × HasSizeOf S limits words caps × (bytes ≡ size_line words caps))
+
+-- P holds of the bytes that it answers.
+abbrev pub AnswersWith : Command → ReaderOptions → Segments → Bool → (List ℕ → Type 0) → Type 0
+AnswersWith command limits S holds P = (bytes : List ℕ) × AnswerIs command limits S holds bytes × P bytes
+
+-- Why it gives none.
+abbrev pub RefusesAnswer : Command → ReaderOptions → Segments → ErrorKind → Type 0
+RefusesAnswer (Canon form) limits S k = (k ≡ AllocationFailed) ⊎ RefusesCanon S limits k
+RefusesAnswer Check limits S k = RefusesCheck S limits k
+RefusesAnswer Size limits S k = RefusesSize S limits k
+
+-- A fault says why.
+abbrev pub RefusesBy : Command → ReaderOptions → Segments → Fault → Type 0
+RefusesBy command limits S (Layout k) = RefusesAnswer command limits S k
+RefusesBy command limits S _ = ⊥
+
+module _ {W : Type 0} (g : OutputGhosts W) where
+  -- A fault is that of an output, which has failed.
+  abbrev pub IsWriteFault : W → Fault → Type 0
+  IsWriteFault output fault = (fault ≡ Frame WriteFailed) × (g.has_failed output ≡ true)
+
+-- Wherever this holds there is an answer: there is a value without capabilities, whose canonical words fit a
+-- segment; a value, or not one segment; a size.
+abbrev pub HasAnswerWithin : Command → ReaderOptions → Segments → Type 0
+HasAnswerWithin (Canon form) limits S =
+    (t : Tree) × IsValueOf S limits t × (1 + word_count (trim t) ≤ max_segment_words)
+HasAnswerWithin Check limits S = length S ≡ 1 → IsReadable S limits
+HasAnswerWithin Size limits S =
+    CoversRoot S limits.traversal_limit_in_words × HasSize (root_within S limits) (unused (left_of limits))
+
+-- Bytes are the frames of these messages, one behind the other, each of at most so many words.
+abbrev pub AreFrames : ℕ → List Segments → List ℕ → Type 0
+AreFrames most [] bytes = bytes ≡ []
+AreFrames most (S ∷ more) bytes =
+    (first : List ℕ) × (rest : List ℕ) × (bytes ≡ first ++ rest) × IsFrameOf S first × (total S ≤ most)
+    × AreFrames most more rest
+
+-- A task answers to messages with these bytes, one answer behind the other, and with yes where each is.
+abbrev pub AreAnswered : Task → List Segments → Bool → List ℕ → Type 0
+AreAnswered task [] holds bytes = (holds ≡ true) × (bytes ≡ [])
+AreAnswered task (S ∷ more) holds bytes =
+    (here : Bool) × (there : Bool) × (first : List ℕ) × (rest : List ℕ)
+    × AnswerIs task.command task.limits S here first × AreAnswered task more there rest
+    × (holds ≡ here && there) × (bytes ≡ first ++ rest)
+
+-- How far a run has come: what its input has left and what its output holds, where these are known.
+pub record Stage : Type 0 where
+  pub input : Option (List ℕ)
+  pub output : Option (List ℕ)
+
+module _ {R W : Type 0} (g : InputGhosts R) (h : OutputGhosts W) where
+  abbrev pub stage_of : R → W → Stage
+  stage_of input output = record { input = g.remaining input; output = h.contents output }
+
+-- From one stage to another the frames of so many messages were taken from the front of the input, and what a
+-- task answers to these was written behind what the output had.
+pub record AreDone (task : Task) (old new : Stage) (summary : Summary) : Type 0 where
+  pub messages : List Segments
+  pub bytes : List ℕ
+  pub answers : List ℕ
+  pub many : length messages ≡ summary.messages
+  pub framed : AreFrames (most_words task.limits) messages bytes
+  pub consumed : Consumes old.input new.input bytes
+  pub answered : AreAnswered task messages summary.holds answers
+  pub written : Appends old.output new.output answers
+
+-- So those of one message.
+pub record IsOneDone (task : Task) (old new : Stage) (holds : Bool) : Type 0 where
+  pub message : Segments
+  pub bytes : List ℕ
+  pub answer : List ℕ
+  pub framed : IsFrameOf message bytes
+  pub short : total message ≤ most_words task.limits
+  pub consumed : Consumes old.input new.input bytes
+  pub answered : AnswerIs task.command task.limits message holds answer
+  pub written : Appends old.output new.output answer
+
+-- So those of all messages: behind them the input is at its end.
+abbrev pub AllAreDone : Task → Stage → Option (List ℕ) → Summary → Type 0
+AllAreDone task old output summary =
+    (left : Option (List ℕ)) × AreDone task old (record { input = left; output = output }) summary × IsAtEnd left
+
+-- Why the message at the front of what an input has left isn't answered, though some were: there is no frame
+-- of one, a task refuses the message, or memory or the input fails.
+abbrev pub StopsAt : Task → Option (List ℕ) → Bool → ℕ → Fault → Type 0
+StopsAt task left failed answered (Frame e) =
+    (e ≡ NoMemory) ⊎ ((e ≡ ReadFailed) × (failed ≡ true))
+    ⊎ IfSome left (λ bytes. NoFrame bytes (most_words task.limits) e)
+StopsAt task left failed answered (Layout k) =
+    (S : Segments) × IfSome left (λ bytes. BeginsWithFrame bytes (most_words task.limits) S)
+    × RefusesAnswer task.command task.limits S k
+StopsAt task left failed answered TooManyMessages = answered ≡ 2 ^ 64 - 1
+
+-- So many messages are answered, and the one behind them isn't.
+abbrev pub StopsBehind : Task → Stage → Option (List ℕ) → Bool → Stop → Type 0
+StopsBehind task old output failed stop =
+    (left : Option (List ℕ)) × (holds : Bool)
+    × AreDone task old (record { input = left; output = output })
+    (record { messages = stop.answered; holds = holds })
+    × StopsAt task left failed stop.answered stop.fault
+
+-- Bytes are frames of messages that a task has an answer to.
+abbrev pub CanBeAnswered : Task → List ℕ → Type 0
+CanBeAnswered task bytes =
+    (messages : List Segments) × AreFrames (most_words task.limits) messages bytes
+    × All (HasAnswerWithin task.command task.limits) messages
+
+-- A fault of no message: memory or a device fails, or there are too many messages to count.
+abbrev pub IsOfDevices : Fault → Type 0
+IsOfDevices (Frame e) = (e ≡ NoMemory) ⊎ (e ≡ ReadFailed) ⊎ (e ≡ WriteFailed)
+IsOfDevices (Layout k) = k ≡ AllocationFailed
+IsOfDevices TooManyMessages = Unit {0}
+
+-- Where all that an input has is frames of messages with an answer, a fault is none of these.
+abbrev pub WhereAnswerable : Task → Option (List ℕ) → Fault → Type 0
+WhereAnswerable task input fault = IsSomeAnd input (CanBeAnswered task) → IsOfDevices fault

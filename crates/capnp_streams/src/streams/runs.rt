@@ -1,0 +1,139 @@
+//! A task done with each message of a stream.
+ghost use Rattle.std.specs.Prelude.{◌≡◌, ◌⊎◌, ◌&&◌, ℕ, false, Ok, None, OnOk, IfOk, IfErr, IfSome};
+ghost use Rattle.std.specs.Io.KnownBytes.{IsAtEnd};
+ghost use Rattle.capnp_framing.specs.Wholeness.{KeepsWhole};
+ghost use Rattle.capnp_streams.specs.Streams.{AllAreDone, IsOneDone, IsWriteFault, StopsAt, StopsBehind, WhereAnswerable, most_words, stage_of};
+
+use super::answers::{Memory, answer};
+use super::fault::Fault;
+use super::task::Task;
+use capnp_arena::arena::ReaderOptions;
+use capnp_layout::devices::{Input, Output};
+use capnp_layout::framing::{OwnedSegments, read_into};
+use std::alloc::Global;
+
+/// What was done with a stream that is answered to its end.
+#[derive(Clone, Copy, Debug, PartialEq, Eq)]
+pub struct Summary {
+    /// How many messages there were.
+    pub messages: u64,
+    /// Whether each answer was a yes: of a test whether each message is canonical, and else always.
+    pub holds: bool,
+}
+
+/// Where a stream isn't answered any further.
+#[derive(Clone, Copy, Debug, PartialEq, Eq)]
+pub struct Stop {
+    /// How many messages were answered before.
+    pub answered: u64,
+    /// Why the one behind them isn't.
+    pub fault: Fault,
+}
+
+/// How many words a message may have whose frame is read.
+fn words_of(limits: ReaderOptions) -> u64
+    ensures { result ≡ most_words limits }
+{
+    match limits.traversal_limit_in_words {
+        Some(words) => words as u64,
+        None => u64::MAX,
+    }
+}
+
+/// Whether both are.
+fn both(a: bool, b: bool) -> bool
+    ensures { result ≡ a && b }
+{
+    a && b
+}
+
+/// Reads one message and answers to it; `None` where the input is at its end.
+fn step<R: Input, W: Output>(
+    task: Task,
+    input: &mut R,
+    segments: &mut OwnedSegments,
+    memory: &mut Memory,
+    output: &mut W,
+) -> Result<Option<bool>, Fault>
+    requires input { R.has_failed input.old ≡ false }
+    requires output { W.has_failed output.old ≡ false }
+    ensures end { result ≡ Ok None → IsAtEnd (R.remaining input.old)
+        × IsAtEnd (R.remaining input.new)
+        × (W.contents output.new ≡ W.contents output.old) }
+    ensures answered { IfOk result (λ m. IfSome m (IsOneDone task
+        (stage_of R.Input W.Output input.old output.old)
+        (stage_of R.Input W.Output input.new output.new))) }
+    ensures whole { OnOk result (KeepsWhole (R.ends_whole input.old) (R.ends_whole input.new)) }
+    ensures reads { OnOk result (R.has_failed input.new ≡ false) }
+    ensures writes { OnOk result (W.has_failed output.new ≡ false) }
+    ensures refused { IfErr result (λ e. IsWriteFault W.Output output.new e
+        ⊎ (((n : ℕ) → StopsAt task (R.remaining input.old) (R.has_failed input.new) n e)
+        × (W.contents output.new ≡ W.contents output.old))) }
+{
+    match read_into(input, words_of(task.limits), segments) {
+        Ok(false) => Ok(None),
+        Ok(true) => match answer(memory, task, &*segments, output) {
+            Ok(holds) => Ok(Some(holds)),
+            Err(fault) => Err(fault),
+        },
+        Err(error) => Err(Fault::Frame(error)),
+    }
+}
+
+/// Does a task with each message of an input, and writes the answers to an output, in the order of
+/// the messages.
+///
+/// The input holds frames, one behind the other, each of a message of at most so many words as the
+/// traversal limit. A message is read within the limits, as if it were alone. `Canon` answers with
+/// the canonical words of the message, as a frame of one segment, or bare ("Canonicalization");
+/// `Check` with the line `canonical` where the message is canonical as a whole, and else with `not
+/// canonical: REASON at segment S, word W`; `Size` with the line `words N caps M`, without landing
+/// pads.
+///
+/// The first message that isn't answered ends the run: the frame isn't read, the message is
+/// refused, or the output fails. But for the last of these, the output has the answers to all
+/// messages before, and nothing of that one. Of a stream of frames whose messages all have an
+/// answer within the limits, only want of memory or a device is a refusal. Memory is taken for one
+/// message at a time, and none for one that is no larger than those before.
+pub fn run<R: Input, W: Output>(
+    alloc: Global,
+    task: Task,
+    input: &mut R,
+    output: &mut W,
+) -> Result<Summary, Stop>
+    requires input { R.has_failed input.old ≡ false }
+    requires output { W.has_failed output.old ≡ false }
+    ensures done { IfOk result (AllAreDone task (stage_of R.Input W.Output input.old output.old)
+        (W.contents output.new)) }
+    ensures refused { IfErr result (λ s. IsWriteFault W.Output output.new s.fault
+        ⊎ StopsBehind task (stage_of R.Input W.Output input.old output.old)
+        (W.contents output.new) (R.has_failed input.new) s) }
+    ensures exactly { IfErr result (λ s. WhereAnswerable task (R.remaining input.old) s.fault) }
+    ensures end { OnOk result (IsAtEnd (R.remaining input.new)) }
+    ensures whole { OnOk result (KeepsWhole (R.ends_whole input.old) (R.ends_whole input.new)) }
+    ensures reads { OnOk result (R.has_failed input.new ≡ false) }
+    ensures works { OnOk result (W.has_failed output.new ≡ false) }
+{
+    let mut segments = OwnedSegments::new(alloc);
+    let mut memory = Memory::new(alloc);
+    let mut holds = true;
+    for number in 0..u64::MAX {
+        match step(task, input, &mut segments, &mut memory, output) {
+            Ok(None) => return Ok(Summary {
+                messages: number,
+                holds,
+            }),
+            Ok(Some(here)) => holds = both(holds, here),
+            Err(fault) => {
+                return Err(Stop {
+                    answered: number,
+                    fault,
+                });
+            }
+        }
+    }
+    Err(Stop {
+        answered: u64::MAX,
+        fault: Fault::TooManyMessages,
+    })
+}

@@ -1,0 +1,96 @@
+//! What is written of a message: its canonical words in a form, or a line.
+ghost use Rattle.std.specs.Prelude.{◌≡◌, ◌∷◌, [], length, codes, false, true, OnOk, OnErr};
+ghost use Rattle.capnp_framing.specs.Writing.{Prints};
+ghost use Rattle.capnp_layout.specs.Answers.{check_line};
+ghost use Rattle.capnp_streams.specs.Streams.{WritesCopy, fault_line, no_text, segment_text, word_text};
+
+use super::task::Form;
+use capnp_arena::arena::{Allocator, BuilderArena, BuilderArenaImpl, ReaderArena};
+use capnp_layout::devices::{DeviceFault, Output, write_all};
+use capnp_layout::framing::{CanonicalFault, canonical_bytes, write_copy};
+use capnp_layout::tool::write_number;
+
+/// Writes a canonical message, as a frame or as its bare words.
+pub(super) fn write_form<W: Output, A: Allocator>(
+    output: &mut W,
+    form: Form,
+    made: &BuilderArenaImpl<A>,
+) -> Result<(), DeviceFault>
+    requires works { W.has_failed output.old ≡ false }
+    requires single { length (⟦<BuilderArenaImpl<A> as ReaderArena>⟧.segments made.now) ≡ 1 }
+    ensures written { OnOk result (WritesCopy form
+        (⟦<BuilderArenaImpl<A> as BuilderArena>⟧.view made.now)
+        (Prints W.Output output.old output.new)) }
+    ensures works { OnOk result (W.has_failed output.new ≡ false) }
+    ensures fails { OnErr result (W.has_failed output.new ≡ true) }
+{
+    match form {
+        Form::Framed => match write_copy(output, made) {
+            Ok(()) => Ok(()),
+            Err(_) => Err(DeviceFault),
+        },
+        Form::Flat => write_all(output, canonical_bytes(made)),
+    }
+}
+
+/// Writes the line of a message that is canonical.
+pub(super) fn write_canonical<W: Output>(output: &mut W) -> Result<(), DeviceFault>
+    requires { W.has_failed output.old ≡ false }
+    ensures written { OnOk result (Prints W.Output output.old output.new (check_line true)) }
+    ensures works { OnOk result (W.has_failed output.new ≡ false) }
+    ensures fails { OnErr result (W.has_failed output.new ≡ true) }
+{
+    write_all(output, b"canonical\n")
+}
+
+/// Writes the front of the line of a message that isn't canonical.
+#[tactic(auto, unfolding(crate::specs::Streams::no_text))]
+fn write_no<W: Output>(output: &mut W) -> Result<(), DeviceFault>
+    requires { W.has_failed output.old ≡ false }
+    ensures written { OnOk result (Prints W.Output output.old output.new no_text) }
+    ensures works { OnOk result (W.has_failed output.new ≡ false) }
+    ensures fails { OnErr result (W.has_failed output.new ≡ true) }
+{
+    write_all(output, b"not canonical: ")
+}
+
+/// Writes in which segment it isn't.
+#[tactic(auto, unfolding(crate::specs::Streams::segment_text))]
+fn write_segment<W: Output>(output: &mut W, segment: u64) -> Result<(), DeviceFault>
+    requires { W.has_failed output.old ≡ false }
+    ensures written { OnOk result (Prints W.Output output.old output.new (segment_text segment)) }
+    ensures works { OnOk result (W.has_failed output.new ≡ false) }
+    ensures fails { OnErr result (W.has_failed output.new ≡ true) }
+{
+    write_all(output, b" at segment ")?;
+    write_number(output, segment)
+}
+
+/// Writes at which word of the segment, to the end of the line.
+#[tactic(auto, unfolding(crate::specs::Streams::word_text))]
+fn write_word<W: Output>(output: &mut W, word: u64) -> Result<(), DeviceFault>
+    requires { W.has_failed output.old ≡ false }
+    ensures written { OnOk result (Prints W.Output output.old output.new (word_text word)) }
+    ensures works { OnOk result (W.has_failed output.new ≡ false) }
+    ensures fails { OnErr result (W.has_failed output.new ≡ true) }
+{
+    write_all(output, b", word ")?;
+    write_number(output, word)?;
+    write_all(output, b"\n")
+}
+
+/// Writes the line of a message that isn't canonical: why, and where.
+pub(super) fn write_fault<W: Output>(
+    output: &mut W,
+    fault: CanonicalFault,
+) -> Result<(), DeviceFault>
+    requires { W.has_failed output.old ≡ false }
+    ensures written { OnOk result (Prints W.Output output.old output.new (fault_line fault)) }
+    ensures works { OnOk result (W.has_failed output.new ≡ false) }
+    ensures fails { OnErr result (W.has_failed output.new ≡ true) }
+{
+    write_no(output)?;
+    write_all(output, fault.reason.text().as_bytes())?;
+    write_segment(output, fault.segment)?;
+    write_word(output, u64::from(fault.word))
+}

@@ -1,0 +1,141 @@
+//! One run, as a line of text asks for it.
+ghost use Rattle.std.specs.Prelude.{◌≡◌, false};
+
+use crate::devices::{Strain, StrainedInput, StrainedOutput};
+use capnp_layout::devices::Output;
+use capnp_packing::packing::PackingOutput;
+use capnp_streams::streams::{self, Request, Stop, Summary, Task};
+use std::alloc::{AllocError, Global};
+
+/// What a line asks for.
+#[derive(Drop)]
+struct Run {
+    task: Task,
+    reads: Strain,
+    writes: Strain,
+    input: Vec<u8>,
+}
+
+/// The answer to a line.
+pub fn answer(alloc: Global, line: &str) -> Result<String, AllocError> {
+    match read_line(alloc, line)? {
+        Some(run) => run_once(alloc, &run),
+        None => String::from_str(alloc, "malformed"),
+    }
+}
+
+/// What a line asks for, if it has the form.
+fn read_line(alloc: Global, line: &str) -> Result<Option<Run>, AllocError> {
+    let mut words = Vec::new(alloc);
+    for word in line.split(' ') {
+        words.push(word)?;
+    }
+    let [args, reads, writes, input] = words.as_slice() else {
+        return Ok(None);
+    };
+    let Some(task) = read_task(alloc, *args)? else {
+        return Ok(None);
+    };
+    let Some(input) = read_input(alloc, *input)? else {
+        return Ok(None);
+    };
+    Ok(match (read_strain(*reads), read_strain(*writes)) {
+        (Some(reads), Some(writes)) => Some(Run {
+            task,
+            reads,
+            writes,
+            input,
+        }),
+        _ => None,
+    })
+}
+
+/// The words behind the program's name, parted by commas.
+fn read_task(alloc: Global, text: &str) -> Result<Option<Task>, AllocError> {
+    let mut words = Vec::new(alloc);
+    for word in text.split(',') {
+        words.push(String::from_str(alloc, word)?)?;
+    }
+    Ok(match streams::parse_args(words.as_slice()) {
+        Some(Request::Run(task)) => Some(task),
+        _ => None,
+    })
+}
+
+/// How many calls succeed, and how many bytes each moves at most, parted by a comma.
+fn read_strain(text: &str) -> Option<Strain> {
+    let (calls, most) = text.split_once(',')?;
+    Some(Strain {
+        calls: count(calls)?,
+        most: count(most)? as usize,
+    })
+}
+
+/// So many, or as many as there are for `none`.
+fn count(text: &str) -> Option<u64> {
+    if text == "none" {
+        Some(u64::MAX)
+    } else {
+        text.parse().ok()
+    }
+}
+
+/// The bytes of hex digits. `-` is none.
+fn read_input(alloc: Global, text: &str) -> Result<Option<Vec<u8>>, AllocError> {
+    if text == "-" {
+        return Ok(Some(Vec::new(alloc)));
+    }
+    match hex::decode(alloc, text) {
+        Ok(bytes) => Ok(Some(bytes)),
+        Err(_) => Ok(None),
+    }
+}
+
+/// Makes a run, and says how it ends and what was written.
+fn run_once(alloc: Global, run: &Run) -> Result<String, AllocError> {
+    let mut output = StrainedOutput {
+        bytes: Vec::new(alloc),
+        strain: run.writes,
+        failed: false,
+    };
+    if !run.task.pack {
+        let ended = run_to(alloc, run, &mut output);
+        return told(alloc, ended, output.bytes.as_slice());
+    }
+    let mut packing = PackingOutput::new(output);
+    let ended = run_to(alloc, run, &mut packing);
+    let is_flushed = packing.flush().is_ok();
+    let output = packing.into_packed();
+    if is_flushed {
+        told(alloc, ended, output.bytes.as_slice())
+    } else {
+        let digits = hex::encode(alloc, output.bytes.as_slice())?;
+        format!(in alloc; "unflushed -{digits}")
+    }
+}
+
+/// Makes a run to an output that hasn't failed.
+fn run_to<W: Output>(alloc: Global, run: &Run, output: &mut W) -> Result<Summary, Stop>
+    requires { W.has_failed output.old ≡ false }
+{
+    let mut input = StrainedInput {
+        bytes: run.input.as_slice(),
+        strain: run.reads,
+        failed: false,
+    };
+    if run.task.unpack {
+        streams::run_packed(alloc, run.task, input, output)
+    } else {
+        streams::run(alloc, run.task, &mut input, output)
+    }
+}
+
+/// How a run ended: how many messages there were, and whether each answer was a yes; or how many were answered, and
+/// why the next one wasn't. Behind a `-` what was written.
+fn told(alloc: Global, ended: Result<Summary, Stop>, written: &[u8]) -> Result<String, AllocError> {
+    let digits = hex::encode(alloc, written)?;
+    match ended {
+        Ok(summary) => format!(in alloc; "done {} {} -{digits}", summary.messages, summary.holds),
+        Err(stop) => format!(in alloc; "stopped {} {} -{digits}", stop.answered, stop.fault.name()),
+    }
+}
