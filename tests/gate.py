@@ -1,6 +1,6 @@
 #!/usr/bin/env python3
-"""The gate: the names of definitions, `rt ci`, and then the outside vectors, the rows and the hostile runs over the
-programs that it has just proved and built.
+"""The gate: the names of definitions, `rt ci`, and then the outside vectors, the rows, the hostile runs and the streams over
+the programs that it has just proved and built.
 
     gate.py [--anew]
 
@@ -19,12 +19,15 @@ import subprocess
 import sys
 
 TOP = pathlib.Path(__file__).resolve().parents[1]
-TOOL, ROWS, RUNS = (TOP / f'crates/{name}/out/{name}' for name in ('layout_tool', 'layout_rows', 'layout_runs'))
+TOOL, ROWS, RUNS, CANON, STREAM_RUNS = PROGRAMS = [
+    TOP / f'crates/{name}/out/{name}' for name in ('layout_tool', 'layout_rows', 'layout_runs', 'capnp_canon', 'stream_runs')
+]
 # What is run over programs that `rt ci` built: its name, the script, and the programs.
 OVER_PROGRAMS = (
     ('vectors', TOP / 'tests/vectors/run.py', (TOOL,)),
     ('rows', TOP / 'tests/rows/run.py', (ROWS,)),
     ('hostile', TOP / 'tests/hostile/run.py', (RUNS, ROWS)),
+    ('streams', TOP / 'tests/streams/run.py', (CANON, STREAM_RUNS)),
 )
 COUNTS = re.compile(r'(\d+) passed, (\d+) failed')
 
@@ -82,7 +85,7 @@ def main():
     sys.stdout.reconfigure(encoding='utf-8', errors='surrogateescape')
     if sys.argv[1:] not in ([], ['--anew']):
         sys.exit(__doc__)
-    for program in (TOOL, ROWS, RUNS):
+    for program in PROGRAMS:
         remove(program)
     parts = [
         counted('names', [sys.executable, str(TOP / 'tests/names.py')]),

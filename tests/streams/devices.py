@@ -1,0 +1,150 @@
+"""Runs whose standard input or output fails or ends early, and runs with little memory. The program is to end with a
+status and a name, and by no signal; and it is to take memory for what came, and not for what a table announces."""
+import os
+import pathlib
+import resource
+import subprocess
+import tempfile
+
+# 1,000 messages of null, which take 16 bytes each, as their answers do.
+NULL = bytes.fromhex('0000000001000000') + bytes(8)
+MANY = NULL * 1000
+FORMS = ['canon'], ['canon', '--flat'], ['canon', '--pack'], ['check'], ['size']
+FAILED = 2, 'refused WriteFailed\n'
+# A message of so many words: a list of bytes, none of them zero.
+WORDS = 1 << 17
+HELD, STEP, MOST = 1 << 21, 1 << 12, 1 << 26
+# By how many bytes a run may want more than was asked for, for what the system takes beside it.
+ROOM = 1 << 20
+
+
+def ended(program, args, given, taken):
+    """The status and standard error of a run between two files."""
+    run = subprocess.run([program.path, *args], stdin=given, stdout=taken, stderr=subprocess.PIPE, timeout=program.limit)
+    return run.returncode, run.stderr.decode()
+
+
+def input_of(data):
+    """A file to be read from its front."""
+    given = tempfile.TemporaryFile()
+    given.write(data)
+    given.seek(0)
+    return given
+
+
+def full(program, args, data):
+    """The run on a full disk."""
+    with input_of(data) as given, open('/dev/full', 'wb') as taken:
+        return ended(program, args, given, taken)
+
+
+def closed(program, args, data):
+    """The run to a pipe that nobody reads."""
+    reading, writing = os.pipe()
+    os.close(reading)
+    with input_of(data) as given, os.fdopen(writing, 'wb', buffering=0) as taken:
+        return ended(program, args, given, taken)
+
+
+def front(program, args, data, count):
+    """The run to a reader that takes so many bytes and leaves: these, the status and standard error."""
+    with input_of(data) as given:
+        run = subprocess.Popen([program.path, *args], stdin=given, stdout=subprocess.PIPE, stderr=subprocess.PIPE)
+        taken = run.stdout.read(count)
+        run.stdout.close()
+        error = run.stderr.read().decode()
+        run.stderr.close()
+    return taken, run.wait(program.limit), error
+
+
+def unread(program, args):
+    """The run on a folder as its input."""
+    folder = os.open(pathlib.Path(__file__).resolve().parent, os.O_RDONLY)
+    try:
+        return ended(program, args, folder, subprocess.DEVNULL)
+    finally:
+        os.close(folder)
+
+
+def failing(program, counts):
+    for args in FORMS:
+        counts.told(full(program, args, MANY) == FAILED, 'a full disk', args)
+        counts.told(full(program, args, b'') == (0, ''), 'nothing to a full disk', args)
+        counts.told(full(program, args, NULL + b'\0') == FAILED, 'a cut stream to a full disk', args)
+        counts.told(closed(program, args, MANY) == FAILED, 'a closed pipe', args)
+        counts.told(unread(program, args) == (2, 'message 1: refused ReadFailed\n'), 'a folder as the input', args)
+        with open(os.devnull, 'rb') as given:
+            counts.told(ended(program, args, given, subprocess.DEVNULL) == (0, ''), 'no input', args)
+    for words in ['--help'], ['--version']:
+        counts.told(full(program, words, b'') == FAILED, 'a full disk', words)
+    whole, _, _ = program.run(['canon'], MANY * 100)
+    got = front(program, ['canon'], MANY * 100, 10)
+    counts.told(got == (whole[:10], *FAILED), 'a reader that leaves', got)
+
+
+def scarce(program, counts):
+    """A small message and a large one, for each limit on the address space from one at which nothing is answered up to
+    one at which all is. What is refused is refused by its name, and what is written is the answers before."""
+    body = (1 | 2 << 32 | 8 * WORDS << 35).to_bytes(8, 'little') + b'\x11' * 8 * WORDS
+    large = bytes(4) + (WORDS + 1).to_bytes(4, 'little') + body
+    wanted = {NULL: 'message 2: refused AllocationFailed\n', b'': 'refused AllocationFailed\n', NULL + large: ''}
+    found = set()
+    for most in range(HELD, MOST, STEP * 16):
+        how = {'preexec_fn': lambda: resource.setrlimit(resource.RLIMIT_AS, (most, most))}
+        try:
+            output, status, error = program.run(['canon'], NULL + large, **how)
+        except (OSError, subprocess.SubprocessError):
+            continue
+        if status not in (0, 2):
+            # the system had no room for the program itself
+            continue
+        found.add(error)
+        answers = [it for it, name in wanted.items() if name == error]
+        counts.told(answers == [output] and (status == 0) == (error == ''), 'with little memory', most, status, error)
+        if status == 0:
+            break
+    counts.told(wanted[NULL] in found and '' in found, 'with little memory, only', found)
+
+
+def least(program, args, data):
+    """The least limit on the address space, in steps, at which no request of a run is refused."""
+    low, high = HELD // STEP, MOST // STEP
+    while low < high:
+        most = (low + high) // 2
+        how = {'preexec_fn': lambda: resource.setrlimit(resource.RLIMIT_AS, (most * STEP, most * STEP))}
+        try:
+            _, status, error = program.run(args, data, **how)
+        except (OSError, subprocess.SubprocessError):
+            status, error = -1, ''
+        if status in (0, 1, 2) and 'AllocationFailed' not in error:
+            high = most
+        else:
+            low = most + 1
+    return low * STEP
+
+
+def table(*lengths):
+    """The table of a frame of segments of so many words."""
+    numbers = b''.join(it.to_bytes(4, 'little') for it in (len(lengths) - 1, *lengths))
+    return numbers + bytes(-len(numbers) % 8)
+
+
+def bounded(program, counts):
+    """The memory of a run, over that for a message of one word: at most twice what came, and for `canon` as many words
+    more as came, or twice the canonical ones, however much is announced."""
+    announced = {'64 MiB': table((1 << 23) - 1), '512 segments': table(*[1 << 14] * 511, (1 << 14) - 1)}
+    for form in FORMS:
+        base = least(program, form, NULL)
+        for name, front in announced.items():
+            want = least(program, form, front + bytes(8))
+            counts.told(want <= base + ROOM, 'announced', name, form, want - base)
+        front = table((1 << 32) - 1)
+        want = least(program, [*form, '--words', 'none'], front + bytes(8))
+        counts.told(want <= base + ROOM, 'announced 32 GiB', form, want - base)
+        # a list of bytes, which is as long in canonical form; and one that nothing leads to
+        used = (1 | 2 << 32 | 8 * WORDS << 35).to_bytes(8, 'little') + b'\x11' * 8 * WORDS
+        for name, body in ('a list of bytes', used), ('words that nothing leads to', bytes(8) + used[8:]):
+            data = table(WORDS + 1) + body
+            most = (4 if form[0] == 'canon' else 2) * len(data) + ROOM
+            want = least(program, form, data)
+            counts.told(want <= base + most, name, form, want - base, 'for', len(data))

@@ -1,0 +1,256 @@
+"""Runs of the engine over six messages, one behind the other, by STREAM_RUNS: devices that move few bytes and fail at each
+call in turn, the stream cut behind each byte, each of its bits turned; plain and packed. What is answered before is the
+answers of the messages before, and nothing of the one that is refused is written.
+
+What is wanted of the six was worked out by hand. What an altered message is answered is what it is answered by itself, as
+a stream of one; where a stream is cut or altered its frames are found by tests/hostile/frames.py, and packed bytes are
+unpacked by packing.py."""
+import collections
+import re
+
+from frames import framed, refusal, table_of
+from packing import packed, unpacked
+from program import answers
+from runs import without_reasons
+
+# The segments of each message, its canonical words, and how many words it has without its root and landing pads.
+SIX = (
+    # data of three words, the last of them zero
+    ('0000000003000000111111111111111100000000000000800000000000000000', '000000000200000011111111111111110000000000000080', 3),
+    ('0000000000000000', '0000000000000000', 0),
+    # a landing pad of two words
+    ('0600000001000000 02000000020000000000000001000000 aabbccddeeff0102', '0000000001000000aabbccddeeff0102', 1),
+    # a text
+    ('010000003200000068656c6c6f000000', '010000003200000068656c6c6f000000', 1),
+    # two structs of a word and a pointer each: 1 and a text, 2 and null
+    (
+        '01000000270000000800000001000100010101010101010109000000320000000200000000000000' '00000000000000006162636465000000',
+        '01000000270000000800000001000100010101010101010109000000320000000200000000000000' '00000000000000006162636465000000',
+        6,
+    ),
+    # a struct of a word and nine bits
+    ('0000000001000100ffffffffffffffff0100000049000000ff01000000000000', '0000000001000100ffffffffffffffff0100000049000000ff01000000000000', 3),
+)
+FORMS = 'canon', 'canon,--flat', 'check', 'size'
+ALL = 'none,none'
+ANSWER = re.compile(r'(?:(done|stopped) (\d+) (\w+)|(unflushed)) -([0-9a-f]*)')
+Answer = collections.namedtuple('Answer', 'how number word written')
+
+
+def message(row):
+    return bytes.fromhex(framed([bytes.fromhex(it) for it in row[0].split()]))
+
+
+def wanted(form, row):
+    """What is answered to one of the six."""
+    segments, words, size = row
+    if form == 'check':
+        return b'canonical\n' if segments == words else b'not canonical\n'
+    if form == 'size':
+        return f'words {size} caps 0\n'.encode()
+    return bytes.fromhex(words if form == 'canon,--flat' else framed([bytes.fromhex(words)]))
+
+
+MESSAGES = [message(row) for row in SIX]
+STREAM = b''.join(MESSAGES)
+WANTED = {form: [wanted(form, row) for row in SIX] for form in FORMS}
+
+
+def ends(parts):
+    """How many bytes the first so many parts take, for each number of them."""
+    found = [0]
+    for part in parts:
+        found.append(found[-1] + len(part))
+    return found
+
+
+def whole_below(parts, count):
+    """How many of the parts lie wholly in so many bytes."""
+    return sum(end <= count for end in ends(parts)) - 1
+
+
+def answered(text):
+    found = ANSWER.fullmatch(text)
+    if not found:
+        return Answer(text, 0, '', b'')
+    how, number, word, unflushed, written = found.groups()
+    return Answer(how or unflushed, int(number or 0), word, bytes.fromhex(written))
+
+
+def asked(program, lines):
+    return [answered(it) for it in answers(program, lines)]
+
+
+def line(form, data, reads=ALL, writes=ALL):
+    return f'{form} {reads} {writes} {data.hex() or "-"}'
+
+
+def holds(form, number=len(SIX)):
+    """The word behind a run to the end: whether each answer is a yes."""
+    return 'false' if form == 'check' and b'not canonical\n' in WANTED[form][:number] else 'true'
+
+
+def is_front(form, answer):
+    """Whether what is written is the answers to as many messages as were answered."""
+    front = b''.join(WANTED[form][:answer.number])
+    return without_reasons(front, answer.written) == front
+
+
+class Runs:
+    def __init__(self, program, counts):
+        self.program, self.counts = [program], counts
+
+    def strained(self):
+        """Devices that move few bytes at a time."""
+        lines = [
+            (form, packing, line(form + packing, packed(STREAM) if packing else STREAM, f'none,{reads}', f'none,{writes}'))
+            for form in FORMS
+            for packing in ('', ',--packed')
+            for reads in range(1, 12)
+            for writes in range(1, 12)
+        ]
+        for (form, packing, text), got in zip(lines, asked(self.program, [it[2] for it in lines])):
+            good = (got.how, got.number, got.word) == ('done', len(SIX), holds(form)) and is_front(form, got)
+            self.counts.told(good, 'few bytes at a time', text, got)
+
+    def failed_reads(self):
+        """A read that fails, of one byte each: the messages that were read before are answered."""
+        for form in FORMS:
+            lines = [line(form, STREAM, f'{calls},1') for calls in range(len(STREAM) + 2)]
+            for calls, got in enumerate(asked(self.program, lines)):
+                how = 'stopped', whole_below(MESSAGES, calls), 'ReadFailed'
+                if calls > len(STREAM):
+                    how = 'done', len(SIX), holds(form)
+                self.counts.told((got.how, got.number, got.word) == how and is_front(form, got), 'a failed read', form, calls, got)
+
+    def failed_packed_reads(self):
+        """The same of a packed input, of which more may be read than a message takes, and the end twice."""
+        data = packed(STREAM)
+        for form in FORMS:
+            lines = [line(form + ',--packed', data, f'{calls},1') for calls in range(len(data) + 3)]
+            for calls, got in enumerate(asked(self.program, lines)):
+                ways = [('stopped', 'ReadFailed')] if calls <= len(data) + 1 else []
+                if calls > len(data):
+                    ways.append(('done', holds(form)))
+                self.counts.told((got.how, got.word) in ways and is_front(form, got), 'a failed packed read', form, calls, got)
+
+    def failed_writes(self):
+        """A write that fails, of one byte each: what was taken is the front of the answers."""
+        for form in FORMS:
+            output = asked(self.program, [line(form, STREAM)])[0].written
+            lines = [line(form, STREAM, ALL, f'{calls},1') for calls in range(len(output) + 1)]
+            for calls, got in enumerate(asked(self.program, lines)):
+                good = got.written == output[:calls]
+                if calls == len(output):
+                    good &= (got.how, got.number, got.word) == ('done', len(SIX), holds(form))
+                else:
+                    good &= (got.how, got.word) == ('stopped', 'WriteFailed')
+                    if form != 'check':
+                        good &= got.number == whole_below(WANTED[form], calls)
+                self.counts.told(good, 'a failed write', form, calls, got)
+
+    def failed_packed_writes(self):
+        """The same of packed output, which unpacks to the answers where all of it is taken."""
+        for form in 'canon', 'canon,--flat':
+            output = asked(self.program, [line(form + ',--pack', STREAM)])[0].written
+            self.counts.told(unpacked(output) == (b''.join(WANTED[form]), True), 'packed output', form, output)
+            lines = [line(form + ',--pack', STREAM, ALL, f'{calls},1') for calls in range(len(output) + 1)]
+            for calls, got in enumerate(asked(self.program, lines)):
+                how = 'done' if calls == len(output) else 'unflushed'
+                self.counts.told(got.how == how and got.written == output[:calls], 'a failed packed write', form, calls, got)
+
+    def cut(self):
+        """The stream cut behind each byte."""
+        for form in FORMS:
+            found = asked(self.program, [line(form, STREAM[:end]) for end in range(len(STREAM) + 1)])
+            for end, got in enumerate(found):
+                number = whole_below(MESSAGES, end)
+                at_end = end == ends(MESSAGES)[number]
+                how = ('done', number, holds(form, number)) if at_end else ('stopped', number, 'Truncated')
+                self.counts.told((got.how, got.number, got.word) == how and is_front(form, got), 'a cut stream', form, end, got)
+
+    def cut_packed(self):
+        """The packed stream cut behind each byte. Of a word whose number is missing the eight bytes may be given or not."""
+        data = packed(STREAM)
+        for form in FORMS:
+            found = asked(self.program, [line(form + ',--packed', data[:end]) for end in range(len(data) + 1)])
+            for end, got in enumerate(found):
+                given, is_whole = unpacked(data[:end])
+                most = whole_below(MESSAGES, len(given))
+                if is_whole and len(given) == ends(MESSAGES)[most]:
+                    good = (got.how, got.number, got.word) == ('done', most, holds(form, most))
+                else:
+                    least = whole_below(MESSAGES, len(given) - (0 if is_whole else 8))
+                    good = (got.how, got.word) == ('stopped', 'Truncated') and least <= got.number <= most
+                self.counts.told(good and is_front(form, got), 'a cut packed stream', form, end, got)
+
+    def turned(self):
+        """Each bit of the stream turned, plain and packed."""
+        altered, data = {}, packed(STREAM)
+        for bit in range(8 * len(STREAM)):
+            altered[turn(STREAM, bit)] = None
+        packed_ones = [turn(data, bit) for bit in range(8 * len(data))]
+        pairs = [(it, unpacked(it)) for it in packed_ones]
+        parts = {given: frames(given) for given in [*altered, *(it for _, (it, _) in pairs)]}
+        single = {frame: None for found, _ in parts.values() for frame in found}
+        for form in FORMS:
+            alone = dict(zip(single, asked(self.program, [line(form, it) for it in single])))
+            for given, got in zip(altered, asked(self.program, [line(form, it) for it in altered])):
+                want = expected(form, *parts[given], alone)
+                self.counts.told(got == want, 'a turned bit', form, given.hex(), want, got)
+            found = asked(self.program, [line(form + ',--packed', it) for it, _ in pairs])
+            for (_, (given, is_whole)), got in zip(pairs, found):
+                want = expected(form, *parts[given], alone)
+                good = got == want if is_whole else is_cut(got, want)
+                self.counts.told(good, 'a turned packed bit', form, is_whole, want, got)
+
+
+def turn(data, bit):
+    turned = bytearray(data)
+    turned[bit // 8] ^= 1 << bit % 8
+    return bytes(turned)
+
+
+def frames(data):
+    """The frames at the front of a stream, and why none is behind them, or None at its end."""
+    found = []
+    while data:
+        name = refusal(data)
+        if name:
+            return found, name
+        lengths, start = table_of(data)
+        end = start + 8 * sum(lengths)
+        found.append(data[:end])
+        data = data[end:]
+    return found, None
+
+
+def expected(form, found, name, alone):
+    """What is answered to a stream of these frames, by what is answered to each alone."""
+    written, word = b'', 'true'
+    for number, frame in enumerate(found):
+        answer = alone[frame]
+        if answer.how != 'done':
+            return Answer('stopped', number, answer.word, written)
+        written += answer.written
+        word = 'false' if answer.word == 'false' else word
+    if name:
+        return Answer('stopped', len(found), name, written)
+    return Answer('done', len(found), word, written)
+
+
+def is_cut(got, want):
+    """Whether a packed stream that is cut short, and would else be answered so, is. Of a word whose number is missing the
+    eight bytes may be given or not."""
+    if got.how != 'stopped' or got.number > want.number or not want.written.startswith(got.written):
+        return False
+    return got.word == 'Truncated' or got == want
+
+
+def runs(program, counts):
+    it = Runs(program, counts)
+    for part in (
+        it.strained, it.failed_reads, it.failed_packed_reads, it.failed_writes,
+        it.failed_packed_writes, it.cut, it.cut_packed, it.turned,
+    ):
+        part()

@@ -1,0 +1,62 @@
+#!/usr/bin/env python3
+"""Runs a built capnp_canon over streams of messages, and prints what differs.
+
+    run.py CAPNP_CANON STREAM_RUNS [--limit SECONDS] [--show N]
+
+- Each line of a .jsonl file is one run: its arguments, its whole input and the output that is wanted, both in hex digits,
+  standard error and the exit status. Those of peer.jsonl are real messages, with what C++ Cap'n Proto 0.9.2 answers
+  (tests/peer/rows.py). Those of worked.jsonl were worked out by hand from the encoding specification.
+- vectors.py makes streams of the vectors of tests/vectors, whose answers were made apart from this repository.
+- devices.py has standard input and output that fail, little memory, and how much of it a run takes.
+- hostile.py has STREAM_RUNS, a program over the same engine, make runs whose devices fail at each call in turn, of a
+  stream that is cut behind each byte and has each bit turned."""
+import argparse
+import json
+import pathlib
+import sys
+
+HERE = pathlib.Path(__file__).resolve().parent
+sys.path.append(str(HERE.parent / 'hostile'))
+
+import devices
+import hostile
+import vectors
+from program import Counts
+from runs import Program, same
+
+
+def rows(program, counts):
+    """The stored runs."""
+    for path in sorted(HERE.glob('*.jsonl')):
+        for number, line in enumerate(path.open(encoding='utf-8'), 1):
+            row = json.loads(line)
+            wanted = bytes.fromhex(row['output']), row['status'], row['stderr']
+            got = program.run(row['args'], bytes.fromhex(row['input']))
+            same(counts, f'{path.name}:{number} {row["name"]}: {row["args"]}', row['args'], wanted, got)
+
+
+def main():
+    parser = argparse.ArgumentParser(description=__doc__, formatter_class=argparse.RawDescriptionHelpFormatter)
+    parser.add_argument('canon')
+    parser.add_argument('runs')
+    parser.add_argument('--limit', type=float, default=60)
+    parser.add_argument('--show', type=int, default=10)
+    options = parser.parse_args()
+    program = Program(options.canon, options.limit)
+    counts = Counts(options.show)
+    for name, part in (
+        ('rows', lambda: rows(program, counts)),
+        ('vectors as streams', lambda: vectors.streams(program, counts)),
+        ('devices', lambda: devices.failing(program, counts)),
+        ('little memory', lambda: devices.scarce(program, counts)),
+        ('memory for what came', lambda: devices.bounded(program, counts)),
+        ('hostile runs', lambda: hostile.runs(options.runs, counts)),
+    ):
+        before = counts.passed + counts.failed
+        part()
+        print(f'{name}: {counts.passed + counts.failed - before} runs', flush=True)
+    print(f'{counts.passed} passed, {counts.failed} failed')
+    return 1 if counts.failed else 0
+
+
+sys.exit(main())

@@ -1,0 +1,98 @@
+"""The vectors of tests/vectors as streams: those of `canon` and `size`, and of `framed-check`, one behind the other up to
+one that is refused. Their answers are of one message each, and in hex digits; here they are those of a whole stream."""
+import itertools
+import json
+import pathlib
+import re
+from concurrent.futures import ThreadPoolExecutor
+
+from frames import MOST_SEGMENTS, framed
+from packing import packed
+from runs import same
+
+FILES = pathlib.Path(__file__).resolve().parents[1] / 'vectors'
+COMMANDS = {'canon': ['canon'], 'size': ['size'], 'framed-check': ['check']}
+CHECKED = {'canonical message\n': b'canonical\n', 'not a canonical message\n': b'not canonical\n'}
+MOST_MESSAGES = 40
+
+
+def messages():
+    """Each message that a vector has: its command, its limits, its frame, and the answer or refusal."""
+    for path in sorted(FILES.glob('*.jsonl')):
+        for line in path.open(encoding='utf-8'):
+            vector = json.loads(line)
+            if vector['status'] == 2 or vector['args'][0] not in COMMANDS:
+                continue
+            if not re.fullmatch('([0-9a-fA-F]*\n)+', vector['stdin']):
+                continue
+            command, nesting, words = vector['args']
+            lines = [bytes.fromhex(it) for it in vector['stdin'].split('\n')[:-1]]
+            frame = lines[0] if command == 'framed-check' else bytes.fromhex(framed(lines))
+            yield command, (nesting, words), frame, vector['stdout']
+
+
+def length(frame):
+    """How many bytes a frame takes by its table, and how many words it holds; None where that isn't told."""
+    count = int.from_bytes(frame[:4], 'little') + 1
+    start = (4 * (count + 1) + 7) // 8 * 8
+    if len(frame) < start or count > MOST_SEGMENTS:
+        return None
+    words = sum(int.from_bytes(frame[at:at + 4], 'little') for at in range(4, 4 * (count + 1), 4))
+    return start + 8 * words, words
+
+
+def answered(command, limit, frame, text):
+    """The frame without what stands behind it, and what a stream answers to it: bytes, or the name of a refusal. A frame
+    of more words than the limit is refused as such."""
+    told = length(frame)
+    if told and limit != 'none' and told[1] > int(limit):
+        return frame, 'MessageTooLong'
+    if told and len(frame) > told[0]:
+        frame = frame[:told[0]]
+    if text.startswith('refused '):
+        return frame, text.split()[1]
+    if command == 'canon':
+        return frame, bytes.fromhex(framed([bytes.fromhex(text)]))
+    return frame, text.encode() if command == 'size' else CHECKED[text]
+
+
+def chains(given):
+    """The messages in parts, each with at most one that is refused, which is the last."""
+    chain = []
+    for frame, answer in given:
+        chain.append((frame, answer))
+        if isinstance(answer, str) or len(chain) == MOST_MESSAGES:
+            yield chain
+            chain = []
+    if chain:
+        yield chain
+
+
+def stream(chain):
+    """The bytes of the messages, and what is wanted."""
+    data = b''.join(frame for frame, _ in chain)
+    output = b''.join(answer for _, answer in chain if not isinstance(answer, str))
+    last = chain[-1][1]
+    if isinstance(last, str):
+        return data, (output, 2, f'message {len(chain)}: refused {last}\n')
+    return data, (output, 1 if b'not canonical\n' in output else 0, '')
+
+
+def runs():
+    """Each run: its arguments, its input and what is wanted; plain, and packed where it is whole words."""
+    given = sorted(messages(), key=lambda it: it[:2])
+    for (command, (nesting, words)), group in itertools.groupby(given, key=lambda it: it[:2]):
+        found = [answered(command, words, frame, text) for _, _, frame, text in group if frame]
+        for chain in chains(found):
+            data, wanted = stream(chain)
+            args = [*COMMANDS[command], '--nesting', nesting, '--words', words]
+            yield args, data, wanted
+            if len(data) % 8 == 0:
+                yield [*args, '--packed'], packed(data), wanted
+
+
+def streams(program, counts):
+    given = list(runs())
+    with ThreadPoolExecutor(4) as pool:
+        for (args, data, wanted), got in zip(given, pool.map(lambda it: program.run(it[0], it[1]), given)):
+            same(counts, f'{args} {data.hex():.400}', args, wanted, got)
