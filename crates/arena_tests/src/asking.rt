@@ -1,10 +1,12 @@
 //! What an arena asks its allocator for.
 use capnp_arena::arena::{
     Allocator, BuilderArena, BuilderArenaImpl, HeapAllocator, OutputSegments, ReaderArena,
+    ReaderSegments,
 };
 use capnp_words::error::ErrorKind;
 use capnp_words::read_limiter::ReadLimiter;
-use test_support::{NotingAllocator, Request};
+use std::process::Abort;
+use test_support::{FirstInArena, NotingAllocator, Request};
 
 /// Words in a segment with room, the words of a segment to be written, one segment to be given out, and
 /// what is read: none of it asks for anything.
@@ -52,5 +54,79 @@ fn words_elsewhere(rt: HostRuntime) -> Result<(), ErrorKind> {
         Request::Row,
     ];
     assert!(rt; arena.into_allocator().requests() == &asked[..]);
+    Ok(())
+}
+
+/// Takes the two words of a segment, the second as the first that has room, and writes them.
+fn use_segment<A: Allocator>(rt: &impl Abort, arena: &mut BuilderArenaImpl<A>, id: u32) {
+    let there = (id as usize) < arena.len();
+    assert!(rt; there);
+    assert!(rt; arena.allocate(id, 1) == Some(0));
+    assert!(rt; arena.allocate_anywhere(1) == Ok((id, 1)));
+    match arena.allocated_mut(id) {
+        Some(bytes) => bytes.fill(3),
+        None => assert!(rt; false),
+    }
+    assert!(rt; arena.get_segment(id) == Ok(&[3; 16][..]));
+    let mut lim = ReadLimiter::new(Some(2));
+    assert!(rt; arena.contains_interval(id, 0, 2, &mut lim) == Ok(()));
+}
+
+/// Makes so many segments of two words, and does in each what asks for nothing.
+fn use_all<A: Allocator>(
+    rt: &impl Abort,
+    arena: &mut BuilderArenaImpl<A>,
+    segments: u32,
+) -> Result<(), ErrorKind> {
+    for _ in 0..segments {
+        arena.allocate_segment(2)?;
+    }
+    for id in 0..segments {
+        use_segment(rt, arena, id);
+    }
+    assert!(rt; arena.size_in_words() / 2 == arena.len() && arena.len() == segments as usize);
+    Ok(())
+}
+
+/// Whether each segment of two words was asked for once, each with its row but for those that need none, and nothing else.
+fn asked_once(requests: &[Request], segments: usize, rowless: usize) -> bool {
+    let mut asked = requests.iter();
+    for id in 0..segments {
+        if asked.next() != Some(&Request::Segment(2)) {
+            return false;
+        }
+        if id >= rowless && asked.next() != Some(&Request::Row) {
+            return false;
+        }
+    }
+    asked.next().is_none()
+}
+
+/// However many segments there are, each request is for a segment or its row.
+#[test]
+fn nothing_is_asked_of_many(rt: HostRuntime) -> Result<(), ErrorKind> {
+    for segments in [1, 10, 1_000] {
+        let heap = HeapAllocator::new(rt.alloc(), 0);
+        let mut arena = BuilderArenaImpl::new(rt.alloc(), NotingAllocator::new(rt.alloc(), heap));
+        use_all(&rt, &mut arena, segments)?;
+        assert!(rt; arena.get_segments_for_output()?.len() == segments as usize);
+        let allocator = arena.into_allocator();
+        assert!(rt; asked_once(allocator.requests(), segments as usize, 0));
+    }
+    Ok(())
+}
+
+/// The same where the first needs no row.
+#[test]
+fn nothing_is_asked_behind_the_first(rt: HostRuntime) -> Result<(), ErrorKind> {
+    for segments in [1, 10, 1_000] {
+        let heap = HeapAllocator::new(rt.alloc(), 0);
+        let noting = FirstInArena::new(NotingAllocator::new(rt.alloc(), heap));
+        let mut arena = BuilderArenaImpl::new(rt.alloc(), noting);
+        use_all(&rt, &mut arena, segments)?;
+        assert!(rt; arena.get_segments_for_output()?.len() == segments as usize);
+        let allocator = arena.into_allocator();
+        assert!(rt; asked_once(allocator.inner().requests(), segments as usize, 1));
+    }
     Ok(())
 }

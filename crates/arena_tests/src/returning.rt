@@ -4,26 +4,26 @@ use capnp_words::error::ErrorKind;
 use std::alloc::Global;
 use std::cell::Cell;
 use std::process::Abort;
-use test_support::{Granted, TestAllocator};
+use test_support::{FirstInArena, Granted, TestAllocator};
 
 // What comes back, each segment's words and then those that were used: with four rows all segments, fully
-// used; with three at once the fourth, unused, and then the others; with none each at once, unused.
+// used; with three at once the fourth, unused, and then the others; with none each at once, unused. Where the
+// first segment needs no row, with none each but the first at once.
 const ALL_USED: u64 = 3_03_05_05_07_07_11_11;
 
 const LAST_AT_ONCE: u64 = 11_00_03_03_05_05_07_07;
 
 const NONE_USED: u64 = 3_00_05_00_07_00_11_00;
 
-/// Takes words in three segments, and in a fourth that there may be no row for. Gives the arena and
-/// the number of segments.
-fn filled<'a>(
+const FIRST_USED: u64 = 5_00_07_00_11_00_03_03;
+
+/// Takes words in three segments, and in a fourth, where there are rows for them. Gives the arena and the number
+/// of segments.
+fn filled_of<A: Allocator>(
     rt: &impl Abort,
     alloc: Global,
-    rows: u64,
-    returned: &'a Cell<u64>,
-) -> (BuilderArenaImpl<TestAllocator<'a>>, u64) {
-    let heap = HeapAllocator::new(alloc, 0);
-    let allocator = TestAllocator::new(heap, Granted::Rows(rows), returned);
+    allocator: A,
+) -> (BuilderArenaImpl<A>, u64) {
     let mut arena = BuilderArenaImpl::new(alloc, allocator);
     let mut made: u64 = 0;
     for amount in [3, 5, 7, 11] {
@@ -35,11 +35,42 @@ fn filled<'a>(
     (arena, made)
 }
 
+/// The same with an allocator that grants all segments, and so many rows.
+fn filled<'a>(
+    rt: &impl Abort,
+    alloc: Global,
+    rows: u64,
+    returned: &'a Cell<u64>,
+) -> (BuilderArenaImpl<TestAllocator<'a>>, u64) {
+    let heap = HeapAllocator::new(alloc, 0);
+    filled_of(
+        rt,
+        alloc,
+        TestAllocator::new(heap, Granted::Rows(rows), returned),
+    )
+}
+
 #[test]
 fn dropped(rt: HostRuntime) {
     for (rows, made, want) in [(4, 4, ALL_USED), (3, 3, LAST_AT_ONCE), (0, 0, NONE_USED)] {
         let returned = Cell::new(0);
         let (arena, segments) = filled(&rt, rt.alloc(), rows, &returned);
+        assert!(rt; segments == made, "{rows} rows");
+        assert!(rt; arena.refused() == 4 - made, "{rows} rows");
+        drop(arena);
+        assert!(rt; returned.get() == want, "{rows} rows");
+    }
+}
+
+/// The first segment needs no row where it stands in the arena. A segment behind it goes back at once where its
+/// row is refused, and isn't dropped.
+#[test]
+fn first_in_the_arena(rt: HostRuntime) {
+    for (rows, made, want) in [(3, 4, ALL_USED), (2, 3, LAST_AT_ONCE), (0, 1, FIRST_USED)] {
+        let returned = Cell::new(0);
+        let heap = HeapAllocator::new(rt.alloc(), 0);
+        let allocator = TestAllocator::new(heap, Granted::Rows(rows), &returned);
+        let (arena, segments) = filled_of(&rt, rt.alloc(), FirstInArena::new(allocator));
         assert!(rt; segments == made, "{rows} rows");
         assert!(rt; arena.refused() == 4 - made, "{rows} rows");
         drop(arena);

@@ -45,3 +45,14 @@ fn borrowed_or_owned(rt: HostRuntime) -> Result<(), ErrorKind> {
     assert!(rt; matches!(none, ScratchSegment::Owned(_)) && none.bytes().is_empty());
     Ok(())
 }
+
+/// Zeros are written over all its bytes, also behind the last whole word.
+#[test]
+fn zeros_over_all_bytes(rt: HostRuntime) {
+    let mut scratch = [0xff; 35];
+    drop(ScratchSpaceHeapAllocator::new(rt.alloc(), &mut scratch, 0));
+    assert!(rt; scratch == [0; 35]);
+    let mut short = [0xff; 7];
+    drop(ScratchSpaceHeapAllocator::new(rt.alloc(), &mut short, 0));
+    assert!(rt; short == [0; 7]);
+}

@@ -1,5 +1,5 @@
 -- The rows that an arena keeps, where it is known how.
-use Rattle.std.proofs.Common.{◌≡◌, ℕ, Bool, true, false, List, [], refl}
+use Rattle.std.proofs.Common.{◌≡◌, Bool, true, false, [], refl}
 use Rattle.capnp_arena.specs.Kept.{arena_rows}
 use Rattle.capnp_arena.specs.Rows.{all}
 use Rattle.capnp_arena.specs.declared.arena.rows.Rows.{Rows}

@@ -9,6 +9,6 @@ pub mod RangeLemmas
 pub mod RowLemmas
 pub mod RowsCopied
 pub mod RowsLemmas
+pub mod Small
 pub mod TakingLemmas
 pub mod WordsOver
-mod Small

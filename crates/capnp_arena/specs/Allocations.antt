@@ -1,7 +1,7 @@
 -- What a segment of a builder arena holds: words that are allocated, and zeros behind them.
 use Rattle.std.specs.Prelude.{ℕ, List, ◌≡◌, ◌+◌, ◌*◌, ◌-◌, ◌/◌, ◌^◌, ◌≤◌, length, drop, replicate, min}
 
--- the greatest number of words of a builder segment
+-- the greatest number of words of a builder segment ("Inter-Segment Pointers")
 abbrev pub max_segment_words : ℕ
 max_segment_words = 2 ^ 29 - 1
 
@@ -25,6 +25,6 @@ IsClearFrom used bytes = drop (8 * used) bytes ≡ replicate (length bytes - 8 *
 abbrev pub one_more : ℕ → ℕ
 one_more n = min (n + 1) (2 ^ 64 - 1)
 
--- used words of a segment, whose other words are zero
-abbrev pub IsRow : ℕ → List ℕ → Type 0
-IsRow used bytes = (8 * used ≤ length bytes) × (length bytes ≤ 8 * max_segment_words) × IsClearFrom used bytes
+-- used words of a segment of so many bytes, of which these are ready; its other words are zero
+abbrev pub IsRow : ℕ → List ℕ → ℕ → Type 0
+IsRow used ready long = (8 * used ≤ length ready) × (length ready ≤ long) × (long ≤ 8 * max_segment_words) × IsClearFrom used ready

@@ -17,7 +17,7 @@ front_taken n xs ws e = ap (take n) (sym (front_written n xs ws e)) ∙ take_at 
 
 module _ {S : Type 0} (g : Ghosts S) where
   pub allocated_whole : (r : Row S g) → length (allocated g r) ≡ 8 * r.used
-  allocated_whole r = omega (arith, length-take (8 * r.used) (g.content r.segment), r.clear.0)
+  allocated_whole r = omega (arith, length-take (8 * r.used) (g.ready r.segment), r.clear.0)
 
   -- a row replaced by one that is the same in some way leaves each the same in it
   pub each_same : {A : Type 0} (f : Row S g → A) (rows : List (Row S g)) (i : ℕ) (old new : Row S g) → old ≡ get_or rows i old → f new ≡ f old → map f (set rows i new) ≡ map f rows
@@ -31,14 +31,14 @@ module _ {S : Type 0} (g : Ghosts S) where
       let at : List ℕ → ℕ → ℕ = λ xs k. get_or xs k 0 in
       ap at (each_same (capacity g) rows i old new e same)
 
-  content_over : (r : Row S g) (ws : List ℕ) → g.content (with_allocated g r ws).segment ≡ with_front (8 * r.used) (g.content r.segment) ws
-  content_over r ws = g.holds r.segment (with_front (8 * r.used) (g.content r.segment) ws) (length-with_front (8 * r.used) (g.content r.segment) ws r.clear.0)
+  ready_over : (r : Row S g) (ws : List ℕ) → g.ready (with_allocated g r ws).segment ≡ with_front (8 * r.used) (g.ready r.segment) ws
+  ready_over r ws = g.holds r.segment (with_front (8 * r.used) (g.ready r.segment) ws) (length-with_front (8 * r.used) (g.ready r.segment) ws r.clear.0)
 
   pub over : (r : Row S g) (ws : List ℕ) → length ws ≡ length (allocated g r) → allocated g (with_allocated g r ws) ≡ ws
-  over r ws l = ap (take (8 * r.used)) (content_over r ws) ∙ front_taken (8 * r.used) (g.content r.segment) ws (l ∙ allocated_whole r)
+  over r ws l = ap (take (8 * r.used)) (ready_over r ws) ∙ front_taken (8 * r.used) (g.ready r.segment) ws (l ∙ allocated_whole r)
 
   pub same_capacity : (r : Row S g) (ws : List ℕ) → capacity g (with_allocated g r ws) ≡ capacity g r
-  same_capacity r ws = ap (λ xs. length xs / 8) (content_over r ws) ∙ ap (λ n. n / 8) (length-with_front (8 * r.used) (g.content r.segment) ws r.clear.0)
+  same_capacity r ws = ap (λ n. n / 8) (g.as_long r.segment (with_front (8 * r.used) (g.ready r.segment) ws) (length-with_front (8 * r.used) (g.ready r.segment) ws r.clear.0))
 
   shown_set : (rows : List (Row S g)) (i : ℕ) (r : Row S g) → shown g (slice_set rows i r) ≡ slice_set (shown g rows) i (allocated g r)
   shown_set [] i r = refl

@@ -17,10 +17,10 @@ pub drop-with_front : (n : ℕ) (xs ws : List ℕ) → drop n (with_front n xs w
 drop-with_front n xs ws = drop-append-drop (length (take n ws)) xs (take n ws) n (omega (arith, length-take n ws)) refl
 
 -- writing the allocated words leaves the zeros behind them
-pub front_row : (used : ℕ) (bytes ws : List ℕ) → IsRow used bytes → IsRow used (with_front (8 * used) bytes ws)
-front_row used bytes ws row =
+pub front_row : (used long : ℕ) (bytes ws : List ℕ) → IsRow used bytes long → IsRow used (with_front (8 * used) bytes ws) long
+front_row used long bytes ws row =
     let l = length-with_front (8 * used) bytes ws row.0 in
-    (omega (arith, row.0, l), omega (arith, row.1, l), drop-with_front (8 * used) bytes ws ∙ row.2 ∙ ap (λ n. replicate (n - 8 * used) 0) (sym l))
+    (omega (arith, row.0, l), omega (arith, row.1, l), row.2, drop-with_front (8 * used) bytes ws ∙ row.3 ∙ ap (λ n. replicate (n - 8 * used) 0) (sym l))
 
 -- how many rows there can be beside the first: none, where that isn't there
 abbrev pub most_others : Bool → ℕ
@@ -30,7 +30,7 @@ most_others true = max_segments - 1
 module _ {S : Type 0} (g : Ghosts S) where
   -- the allocated words of a row, as bytes
   abbrev pub allocated : Row S g → List ℕ
-  allocated r = take (8 * r.used) (g.content r.segment)
+  allocated r = take (8 * r.used) (g.ready r.segment)
 
   -- how many words a row can hold
   abbrev pub capacity : Row S g → ℕ
@@ -56,14 +56,17 @@ module _ {S : Type 0} (g : Ghosts S) where
     pub room_below : (k : ℕ) → k < length old → capacity_at new k ≡ capacity_at old k
 
   -- the zeros behind them stay
-  pub clear_behind : (r : Row S g) (ws : List ℕ) → IsRow r.used (g.content (g.with_content r.segment (with_front (8 * r.used) (g.content r.segment) ws)))
+  pub clear_behind : (r : Row S g) (ws : List ℕ) → (let s = g.with_ready r.segment (with_front (8 * r.used) (g.ready r.segment) ws) in IsRow r.used (g.ready s) (length (g.content s)))
   clear_behind r ws =
-      let bytes = g.content r.segment in
-      subst (IsRow r.used) (sym (g.holds r.segment (with_front (8 * r.used) bytes ws) (length-with_front (8 * r.used) bytes ws r.clear.0))) (front_row r.used bytes ws r.clear)
+      let bytes = g.ready r.segment in
+      let new = with_front (8 * r.used) bytes ws in
+      let l = length-with_front (8 * r.used) bytes ws r.clear.0 in
+      subst (λ n. IsRow r.used (g.ready (g.with_ready r.segment new)) n) (sym (g.as_long r.segment new l))
+      (subst (λ xs. IsRow r.used xs (length (g.content r.segment))) (sym (g.holds r.segment new l)) (front_row r.used (length (g.content r.segment)) bytes ws r.clear))
 
   -- the row with ws over its allocated words, as bytes
   abbrev pub with_allocated : Row S g → List ℕ → Row S g
-  with_allocated r ws = record r { segment = g.with_content r.segment (with_front (8 * r.used) (g.content r.segment) ws); clear = clear_behind r ws }
+  with_allocated r ws = record r { segment = g.with_ready r.segment (with_front (8 * r.used) (g.ready r.segment) ws); clear = clear_behind r ws }
 
   -- the rows where that at id, if there is one, has ws over its allocated words, as bytes
   abbrev pub with_found : Vec (Row S g) → ℕ → List ℕ → Option (Row S g) → Vec (Row S g)

@@ -1,5 +1,5 @@
 //! Where a builder's segments come from.
-ghost use Rattle.std.specs.Prelude.{◌≡◌, ◌<◌, ◌≤◌, ◌+◌, ◌-◌, ◌*◌, ◌/◌, ◌^◌, ◌++◌, ◌∷◌, [], ℕ, Bool, false, List, length, IsTrue, IsNone, IfSome, IsOk, IfOk, OnOk, IfErr};
+ghost use Rattle.std.specs.Prelude.{◌≡◌, ◌<◌, ◌≤◌, ◌+◌, ◌-◌, ◌*◌, ◌/◌, ◌^◌, ◌++◌, ◌∷◌, [], ℕ, Bool, false, List, length, replicate, IsTrue, IsNone, IfSome, IsOk, IfOk, OnOk, IfErr};
 ghost use Rattle.std.specs.Borrow.{sem, Lends, Array, u8 as byte};
 ghost use Rattle.capnp_arena.specs.Allocations.{IsFresh, IsClearFrom, one_more, max_segment_words};
 ghost use Rattle.capnp_words.specs.declared.error.ErrorKind.TheVariants.{AllocationFailed, MessageTooLarge};
@@ -7,27 +7,47 @@ ghost use Rattle.capnp_words.specs.declared.error.ErrorKind.TheVariants.{Allocat
 use capnp_words::error::ErrorKind;
 use std::alloc::Global;
 
-/// The bytes of a segment, which never change their number.
+/// The bytes of a segment, which never change their number. Those at the front are ready: they can be read and written. The others are
+/// zero, and become ready as words are allocated.
 pub trait Segment {
+    // All bytes, be they ready or not.
     ghost content: { Self → List ℕ };
 
-    ghost with_content: { Self → List ℕ → Self };
+    // Those that are ready.
+    ghost ready: { Self → List ℕ };
 
-    ghost holds: { (s : Self) (w : List ℕ) → length w ≡ length (content s) → content (with_content s w) ≡ w };
+    // The segment with other bytes in place of those that are ready.
+    ghost with_ready: { Self → List ℕ → Self };
+
+    ghost holds: { (s : Self) (w : List ℕ) → length w ≡ length (ready s) → ready (with_ready s w) ≡ w };
+
+    ghost as_long: { (s : Self) (w : List ℕ) → length w ≡ length (ready s) → length (content (with_ready s w)) ≡ length (content s) };
+
+    ghost zeros_behind: { (s : Self) → content s ≡ ready s ++ replicate (length (content s) - length (ready s)) 0 };
 
     /// A segment of no bytes, for which no memory is taken.
     fn empty(alloc: Global) -> Self
         ensures { content result ≡ [] };
 
-    /// All its bytes.
-    fn bytes(&self) -> &[u8]
-        ensures { result.now ≡ content self.now };
+    /// How many bytes it has, be they ready or not.
+    fn len(&self) -> usize
+        ensures { result ≡ length (content self.now) };
 
-    /// All its bytes, to be written.
+    /// The bytes that are ready.
+    fn bytes(&self) -> &[u8]
+        ensures { result.now ≡ ready self.now };
+
+    /// The bytes that are ready, to be written.
     fn bytes_mut(&mut self) -> &mut [u8]
         ensures* lends { sem 𝓛 (Lends Self.row (Array byte 0) self.entry result
-            (with_content self.old)) }
-        ensures now { result.now ≡ content self.old };
+            (with_ready self.old)) }
+        ensures now { result.now ≡ ready self.old };
+
+    /// Makes at least so many bytes ready, and takes no memory.
+    fn make_ready(&mut self, bytes: usize)
+        requires { bytes ≤ length (content self.old) }
+        ensures ready { bytes ≤ length (ready self.new) }
+        ensures content { content self.new ≡ content self.old };
 }
 
 /// Where segments come from and go back to.

@@ -40,6 +40,7 @@ pub struct BuilderArenaImpl<A: Allocator> {
 }
 
 /// Gives the segment of a row back to the allocator.
+#[tactic(auto, using(crate::proofs::RowLemmas::segment_clear))]
 fn deallocate<A: Allocator>(allocator: &mut A, row: Row<A::Segment>)
     ensures refusals { A.refusals allocator.new ≡ A.refusals allocator.old }
     ensures offers { A.offers allocator.new ≡ A.offers allocator.old }

@@ -13,18 +13,29 @@ pub struct HeapSegment {
 }
 
 impl Segment for HeapSegment {
-    ghost use Rattle.capnp_arena.specs.Heap.{with_bytes, with_bytes-holds};
+    ghost use Rattle.capnp_arena.specs.Heap.{with_bytes, with_bytes-as_long, with_bytes-holds, all_ready};
 
     ghost content = { λ s. s.bytes.items };
 
-    ghost with_content = { with_bytes };
+    ghost ready = { λ s. s.bytes.items };
+
+    ghost with_ready = { with_bytes };
 
     ghost holds = { with_bytes-holds };
+
+    ghost as_long = { with_bytes-as_long };
+
+    ghost zeros_behind = { λ s. all_ready s.bytes.items };
 
     fn empty(alloc: Global) -> Self {
         HeapSegment {
             bytes: Vec::new(alloc),
         }
+    }
+
+    #[inline(always)]
+    fn len(&self) -> usize {
+        self.bytes.len()
     }
 
     fn bytes(&self) -> &[u8] {
@@ -34,6 +45,10 @@ impl Segment for HeapSegment {
     fn bytes_mut(&mut self) -> &mut [u8] {
         self.bytes.as_mut_slice()
     }
+
+    /// All bytes are ready.
+    #[inline(always)]
+    fn make_ready(&mut self, _bytes: usize) {}
 }
 
 /// Makes segments on the heap, each of the greater of `words` and what is asked for.

@@ -61,22 +61,22 @@ fn move_below(bytes: &mut [u8], end: usize, from: usize, to: usize, n: usize)
 
 /// Lends the first `n` bytes of a segment; the others stay.
 fn front_of<S: Segment>(segment: &mut S, n: usize) -> &mut [u8]
-    requires { n ≤ length (S.content segment.old) }
+    requires { n ≤ length (S.ready segment.old) }
     ensures* lends { sem 𝓛 (Lends S.row (Array byte 0) segment.entry result
-        (λ ws. S.with_content segment.old (with_front n (S.content segment.old) ws))) }
-    ensures now { result.now ≡ take n (S.content segment.old) }
+        (λ ws. S.with_ready segment.old (with_front n (S.ready segment.old) ws))) }
+    ensures now { result.now ≡ take n (S.ready segment.old) }
 {
     let bytes = segment.bytes_mut();
     &mut bytes[..n]
 }
 
-/// A segment, and how many of its words are allocated; the others are zero.
+/// A segment, and how many of its words are allocated, which are ready; the others are zero.
 pub(crate) struct Row<S: Segment> {
     pub(crate) segment: S,
     pub(crate) used: u32,
     /// At least the room of each row of the range that ends with this one (`bounds`).
     pub(crate) bound: u32,
-    ghost clear: { IsRow used (S.content segment) },
+    ghost clear: { IsRow used (S.ready segment) (length (S.content segment)) },
 }
 
 impl<S: Segment> Row<S> {
@@ -100,6 +100,7 @@ impl<S: Segment> Row<S> {
         front_of(&mut self.segment, n)
     }
 
+    #[tactic(auto, using(crate::proofs::RowLemmas::fresh_rows))]
     pub(crate) fn new(segment: S) -> Row<S>
         requires fresh { S.content segment ≡ zeros (length (S.content segment) / 8) }
         requires small { length (S.content segment) / 8 ≤ max_segment_words }
@@ -119,14 +120,14 @@ impl<S: Segment> Row<S> {
     pub(crate) fn room(&self) -> u32
         ensures { result ≡ room S.Segment self.now }
     {
-        (self.segment.bytes().len() / 8) as u32 - self.used
+        (self.segment.len() / 8) as u32 - self.used
     }
 
     /// Whether so many words more can be taken.
     pub(crate) fn has_room(&self, amount: u32) -> bool
         ensures { IsTrue result ↔ (self.now.used + amount ≤ capacity S.Segment self.now) }
     {
-        self.used as usize + amount as usize <= self.segment.bytes().len() / 8
+        self.used as usize + amount as usize <= self.segment.len() / 8
     }
 
     /// Takes so many words behind the others, which are zero.
@@ -141,6 +142,7 @@ impl<S: Segment> Row<S> {
         ensures capacity { capacity S.Segment self.new ≡ capacity S.Segment self.old }
     {
         let at = self.used;
+        self.segment.make_ready(8 * (at + amount) as usize);
         self.used = at + amount;
         at
     }

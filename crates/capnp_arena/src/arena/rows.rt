@@ -229,6 +229,7 @@ impl<S: Segment> Rows<S> {
     ghost use Rattle.capnp_arena.specs.contracts.arena.rows.Rows.{the_row};
 
     /// No row.
+    #[tactic(auto, using(crate::proofs::RowLemmas::fresh_rows))]
     pub(crate) fn new(alloc: Global) -> Self
         ensures { all S.Segment result ≡ [] }
     {

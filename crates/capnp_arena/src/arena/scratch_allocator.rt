@@ -1,6 +1,6 @@
 //! Segments of which the first is in memory that the caller lends.
-ghost use Rattle.std.specs.Prelude.{◌≡◌, ◌≤◌, ◌<◌, ◌+◌, ◌*◌, ◌/◌, ◌==◌, ℕ, List, length, min, max, refl, true, false, IsTrue, IsFalse, IsSome, IsNone, IfSome, ◌↔◌, IsOk, IfOk, IsOkAnd, OnOk, IfErr, Err};
-ghost use Rattle.capnp_arena.specs.Allocations.{IsClearFrom, IsFresh, max_segment_words, one_more, zeros};
+ghost use Rattle.std.specs.Prelude.{◌++◌, ◌∷◌, [], ◌≡◌, ◌≤◌, ◌<◌, ◌+◌, ◌*◌, ◌/◌, ◌==◌, ℕ, List, length, replicate, min, max, refl, true, false, IsTrue, IsFalse, IsSome, IsNone, IfSome, ◌↔◌, IsOk, IfOk, IsOkAnd, OnOk, IfErr, Err};
+ghost use Rattle.capnp_arena.specs.Allocations.{IsClearFrom, IsFresh, max_segment_words, one_more};
 ghost use Rattle.capnp_words.specs.declared.error.ErrorKind.TheVariants.{AllocationFailed, MessageTooLarge};
 
 use crate::arena::{Allocator, HeapAllocator, HeapSegment, MAX_SEGMENT_WORDS, Segment};
@@ -10,14 +10,27 @@ use std::marker::Model;
 
 /// Borrowed bytes are a segment.
 impl Segment for &mut [u8] {
+    ghost use Rattle.capnp_arena.specs.Heap.{all_ready};
+
     ghost content = { λ s. s.now };
 
-    ghost with_content = { λ s w. record s { now = w } };
+    ghost ready = { λ s. s.now };
+
+    ghost with_ready = { λ s w. record s { now = w } };
 
     ghost holds = { λ _ _ _. refl };
 
+    ghost as_long = { λ _ _ same. same };
+
+    ghost zeros_behind = { λ s. all_ready s.now };
+
     fn empty(_alloc: Global) -> Self {
         &mut []
+    }
+
+    #[inline(always)]
+    fn len(&self) -> usize {
+        (**self).len()
     }
 
     fn bytes(&self) -> &[u8] {
@@ -27,6 +40,10 @@ impl Segment for &mut [u8] {
     fn bytes_mut(&mut self) -> &mut [u8] {
         &mut **self
     }
+
+    /// All bytes are ready.
+    #[inline(always)]
+    fn make_ready(&mut self, _bytes: usize) {}
 }
 
 /// A segment in borrowed memory, or one on the heap.
@@ -39,16 +56,30 @@ pub enum ScratchSegment<B: Segment + Drop> {
 }
 
 impl<B: Segment + Drop> Segment for ScratchSegment<B> {
-    ghost use Rattle.capnp_arena.specs.Scratch.{content_of, with_content_of, with_content_of-holds};
+    ghost use Rattle.capnp_arena.specs.Scratch.{content_of, ready_of, with_ready_of, with_ready_of-as_long, with_ready_of-holds, zeros_behind_of};
 
     ghost content = { content_of B.Segment };
 
-    ghost with_content = { with_content_of B.Segment };
+    ghost ready = { ready_of B.Segment };
 
-    ghost holds = { with_content_of-holds B.Segment };
+    ghost with_ready = { with_ready_of B.Segment };
+
+    ghost holds = { with_ready_of-holds B.Segment };
+
+    ghost as_long = { with_ready_of-as_long B.Segment };
+
+    ghost zeros_behind = { zeros_behind_of B.Segment };
 
     fn empty(alloc: Global) -> Self {
         ScratchSegment::Owned(HeapSegment::empty(alloc))
+    }
+
+    #[inline(always)]
+    fn len(&self) -> usize {
+        match self {
+            ScratchSegment::Borrowed(segment) => segment.len(),
+            ScratchSegment::Owned(segment) => segment.len(),
+        }
     }
 
     fn bytes(&self) -> &[u8] {
@@ -64,59 +95,64 @@ impl<B: Segment + Drop> Segment for ScratchSegment<B> {
             ScratchSegment::Owned(segment) => segment.bytes_mut(),
         }
     }
+
+    #[inline(always)]
+    fn make_ready(&mut self, bytes: usize) {
+        match self {
+            ScratchSegment::Borrowed(segment) => segment.make_ready(bytes),
+            ScratchSegment::Owned(segment) => segment.make_ready(bytes),
+        }
+    }
 }
 
-/// Words that are borrowed, at most 536,870,911, all of them zero. A proof sees how many.
+/// Bytes that are borrowed, all of them zero. A proof sees how many.
 #[derive(Drop)]
-struct ZeroWords<'a> {
+struct ZeroBytes<'a> {
     bytes: &'a mut [u8],
 }
 
-impl<'a> Model for ZeroWords<'a> {
+impl<'a> Model for ZeroBytes<'a> {
     ghost Value = { ℕ };
 
-    ghost view = { λ z. length z.bytes.now / 8 };
+    ghost view = { λ z. length z.bytes.now };
 
-    ghost invariant = { λ z. (z.bytes.now ≡ zeros (length z.bytes.now / 8)) × (length z.bytes.now / 8 ≤ max_segment_words) };
+    ghost invariant = { λ z. z.bytes.now ≡ replicate (length z.bytes.now) 0 };
 }
 
-impl<'a> ZeroWords<'a> {
-    /// Writes zeros over all bytes, and takes the whole words, at most 536,870,911.
+impl<'a> ZeroBytes<'a> {
+    /// Writes zeros over all bytes.
     fn new(bytes: &'a mut [u8]) -> Self
-        ensures { result ≡ min (length bytes.old / 8) max_segment_words }
+        ensures { result ≡ length bytes.old }
     {
         bytes.fill(0);
-        let words = (bytes.len() / 8).min(MAX_SEGMENT_WORDS as usize);
-        ZeroWords {
-            bytes: &mut bytes[..8 * words],
-        }
+        ZeroBytes { bytes }
     }
 
     /// Writes zeros over the first words, behind which all are zero.
-    fn again(bytes: &'a mut [u8], words: u32, used: u32) -> Self
-        requires whole { length bytes.old ≡ 8 * words }
-        requires small { words ≤ max_segment_words }
+    fn again(bytes: &'a mut [u8], used: u32) -> Self
         requires within { 8 * used ≤ length bytes.old }
         requires clear { IsClearFrom used bytes.old }
-        ensures { result ≡ words }
+        ensures { result ≡ length bytes.old }
     {
         bytes[..8 * used as usize].fill(0);
-        ZeroWords { bytes }
+        ZeroBytes { bytes }
     }
 
-    fn len(&self) -> usize
-        ensures { result ≡ self.now }
+    /// How many of its whole words are a segment.
+    fn words(&self) -> u32
+        ensures { result ≡ min (self.now / 8) max_segment_words }
     {
-        self.bytes.len() / 8
+        (self.bytes.len() / 8).min(MAX_SEGMENT_WORDS as usize) as u32
     }
 
-    /// The words, as bytes.
-    fn into_bytes(self) -> &'a mut [u8]
-        ensures fresh { IsFresh self.entry result.now }
-        ensures words { length result.now / 8 ≡ self.entry }
+    /// These words, as bytes.
+    fn into_words(self) -> &'a mut [u8]
+        ensures fresh { IsFresh 0 result.now }
+        ensures words { length result.now / 8 ≡ min (self.entry / 8) max_segment_words }
     {
-        let ZeroWords { bytes } = self;
-        bytes
+        let words = self.words();
+        let ZeroBytes { bytes } = self;
+        &mut bytes[..8 * words as usize]
     }
 }
 
@@ -130,29 +166,29 @@ impl<'a> ZeroWords<'a> {
 /// scratch space takes no memory at all.
 #[derive(Drop)]
 pub struct ScratchSpaceHeapAllocator<'a> {
-    scratch: Option<ZeroWords<'a>>,
+    scratch: Option<ZeroBytes<'a>>,
     scratch_words: u32,
     heap: HeapAllocator,
 }
 
 // No ghost field stands here: an arena over a type that holds a `&mut` and one would have no proof.
 impl<'a> Model for ScratchSpaceHeapAllocator<'a> {
-    ghost use Rattle.std.specs.Prelude.{◌≡◌, ◌≤◌, is_some};
+    ghost use Rattle.std.specs.Prelude.{◌≡◌, ◌≤◌, ◌/◌, min, is_some};
     ghost use Rattle.std.specs.Option.{ForSome};
     ghost use Rattle.capnp_arena.specs.Allocations.{max_segment_words};
-    ghost use Rattle.capnp_arena.specs.Scratch.{Scratch};
+    ghost use Rattle.capnp_arena.specs.Scratch.{Scratch, bytes_at_hand};
 
     ghost Value = { Scratch };
 
-    ghost view = { λ a. record { here = is_some a.scratch; scratch_words = a.scratch_words; heap = a.heap } };
+    ghost view = { λ a. record { here = is_some a.scratch; zeros = bytes_at_hand a.scratch; scratch_words = a.scratch_words; heap = a.heap } };
 
-    ghost invariant = { λ a. (a.scratch_words ≤ max_segment_words) × ForSome a.scratch (λ words. words ≡ a.scratch_words) };
+    ghost invariant = { λ a. (a.scratch_words ≤ max_segment_words) × ForSome a.scratch (λ bytes. min (bytes / 8) max_segment_words ≡ a.scratch_words) };
 }
 
 impl<'a> ScratchSpaceHeapAllocator<'a> {
     ghost use Rattle.capnp_arena.specs.Scratch.{lends, offered, whole_words};
 
-    /// Writes zeros over the scratch space, and takes no memory. `words`, the least number of words of every other segment, is at most
+    /// Writes zeros over all bytes of the scratch space, and takes no memory. `words`, the least number of words of every other segment, is at most
     /// 536,870,911.
     pub fn new(alloc: Global, scratch: &'a mut [u8], words: u32) -> Self
         requires { words ≤ max_segment_words }
@@ -162,9 +198,10 @@ impl<'a> ScratchSpaceHeapAllocator<'a> {
             ≡ offered (λ asked given. given == max words asked) (whole_words scratch.old) }
         ensures refusals { ⟦<Self as Allocator>⟧.refusals result ≡ 0 }
         ensures scratch_words { result.scratch_words ≡ whole_words scratch.old }
+        ensures zeros { result.zeros ≡ length scratch.old }
     {
-        let scratch = ZeroWords::new(scratch);
-        let scratch_words = scratch.len() as u32;
+        let scratch = ZeroBytes::new(scratch);
+        let scratch_words = scratch.words();
         ScratchSpaceHeapAllocator {
             scratch: Some(scratch),
             scratch_words,
@@ -186,7 +223,7 @@ impl<'a> ScratchSpaceHeapAllocator<'a> {
             return None;
         }
         let scratch = self.scratch.take()?;
-        Some(scratch.into_bytes())
+        Some(scratch.into_words())
     }
 
     /// Takes the scratch space back, with zeros over its used words. Bytes of another number aren't the scratch space.
@@ -194,11 +231,12 @@ impl<'a> ScratchSpaceHeapAllocator<'a> {
         requires within { 8 * used_words ≤ length bytes.old }
         requires clear { IsClearFrom used_words bytes.old }
         ensures back { length bytes.old ≡ 8 * self.old.scratch_words → IsTrue self.new.here }
+        ensures stays { IsTrue self.old.here → IsTrue self.new.here }
         ensures words { self.new.scratch_words ≡ self.old.scratch_words }
         ensures heap { self.new.heap ≡ self.old.heap }
     {
         if bytes.len() == 8 * self.scratch_words as usize {
-            self.scratch = Some(ZeroWords::again(bytes, self.scratch_words, used_words));
+            self.scratch = Some(ZeroBytes::again(bytes, used_words));
         }
     }
 }
@@ -241,6 +279,11 @@ impl<'a> Allocator for ScratchSpaceHeapAllocator<'a> {
             ≡ ⟦<Self as Allocator>⟧.offers self.old }
         ensures sure { IsTrue (lends self.old min_words) → IsOk result }
         ensures lent { IsTrue (lends self.old min_words) → IsOkAnd result IsBorrowed }
+        ensures whole { IsTrue (lends self.old min_words)
+            → IfOk result (λ s. length (bytes_of s) / 8 ≡ self.old.scratch_words) }
+        ensures words { self.new.scratch_words ≡ self.old.scratch_words }
+        ensures as_heap { IsFalse (lends self.old min_words)
+            → IfOk result (λ s. length (bytes_of s) / 8 ≡ max self.old.heap.words min_words) }
         ensures no_memory { IsTrue (lends self.old min_words) → self.new.heap ≡ self.old.heap }
         ensures out { IsTrue (lends self.old min_words) → IsFalse self.new.here }
         ensures owned { IsFalse (lends self.old min_words) → IfOk result IsOwned }
@@ -263,6 +306,8 @@ impl<'a> Allocator for ScratchSpaceHeapAllocator<'a> {
             ≡ ⟦<Self as Allocator>⟧.offers self.old }
         ensures back { IsBorrowed segment.entry → length (bytes_of segment.entry)
             ≡ 8 * self.old.scratch_words → IsTrue self.new.here }
+        ensures words { self.new.scratch_words ≡ self.old.scratch_words }
+        ensures stays { IsTrue self.old.here → IsTrue self.new.here }
     {
         match segment {
             ScratchSegment::Borrowed(bytes) => self.take_back(bytes, used_words),
@@ -270,7 +315,16 @@ impl<'a> Allocator for ScratchSpaceHeapAllocator<'a> {
         }
     }
 
-    fn keep<T>(&mut self, list: &mut Vec<T>, row: T) -> Option<T> {
+    fn keep<T>(&mut self, list: &mut Vec<T>, row: T) -> Option<T>
+        ensures kept { IsNone result → (list.new.items ≡ list.old.items ++ row ∷ [])
+            × (self.new.heap.refused ≡ self.old.heap.refused) }
+        ensures given_back { IfSome result (λ r. (r ≡ row) × (list.new.items ≡ list.old.items)
+            × (self.new.heap.refused ≡ one_more self.old.heap.refused)) }
+        ensures offers { ⟦<Self as Allocator>⟧.offers self.new
+            ≡ ⟦<Self as Allocator>⟧.offers self.old }
+        ensures here { self.new.here ≡ self.old.here }
+        ensures words { self.new.scratch_words ≡ self.old.scratch_words }
+    {
         self.heap.keep(list, row)
     }
 

@@ -1,30 +1,73 @@
 //! Memory for copies that are made one after the other.
-ghost use Rattle.std.specs.Prelude.{◌≡◌, ◌==◌, true};
+ghost use Rattle.std.specs.Prelude.{◌≡◌, ◌==◌, ◌≤◌, ◌+◌, length, true, vec_len};
+ghost use Rattle.std.specs.Vec.{vec_capacity};
 
 use capnp_arena::arena::{Allocator, MAX_SEGMENT_WORDS, Segment};
 use capnp_words::error::ErrorKind;
 use std::alloc::{AllocError, Global};
 use std::mem;
 
-/// A segment on the heap, whose memory can be used again.
+/// How many bytes are made zero at once where fewer are needed: as many as stay in a processor's cache until they are written.
+const PIECE: usize = 64 * 1024;
+
+/// A segment on the heap, whose memory can be used again. It is reserved at once, and made zero as words are allocated, 64 KiB or more
+/// at a time: what lies behind these is never touched.
 #[derive(Drop)]
 pub struct CopySegment {
+    /// The bytes that are ready, in memory that has room for the others.
     bytes: Vec<u8>,
+    /// How many bytes there are besides.
+    unready: usize,
+    ghost room: { vec_len bytes + unready ≤ vec_capacity bytes },
+}
+
+impl CopySegment {
+    ghost use Rattle.capnp_layout.specs.CopyMemory.{copy_content};
+
+    /// Makes at least so many bytes ready.
+    #[cold]
+    #[inline(never)]
+    fn zero_up_to(&mut self, bytes: usize)
+        requires { bytes ≤ length (copy_content self.old) }
+        ensures ready { bytes ≤ length self.new.bytes.items }
+        ensures content { copy_content self.new ≡ copy_content self.old }
+    {
+        let missing = bytes.saturating_sub(self.bytes.len());
+        let more = missing.max(PIECE).min(self.unready);
+        let ready = self.bytes.len() + more;
+        self.unready -= more;
+        match self.bytes.resize(ready, 0) {
+            Ok(()) => {}
+            // Never: it has the capacity for them.
+            Err(AllocError) => {}
+        }
+    }
 }
 
 impl Segment for CopySegment {
-    ghost use Rattle.capnp_layout.specs.CopyMemory.{with_copy_bytes, with_copy_bytes-holds};
+    ghost use Rattle.capnp_layout.specs.CopyMemory.{copy_content, copy_zeros_behind, with_copy_bytes, with_copy_bytes-as_long, with_copy_bytes-holds};
 
-    ghost content = { λ s. s.bytes.items };
+    ghost content = { copy_content };
 
-    ghost with_content = { with_copy_bytes };
+    ghost ready = { λ s. s.bytes.items };
+
+    ghost with_ready = { with_copy_bytes };
 
     ghost holds = { with_copy_bytes-holds };
+
+    ghost as_long = { with_copy_bytes-as_long };
+
+    ghost zeros_behind = { copy_zeros_behind };
 
     fn empty(alloc: Global) -> Self {
         CopySegment {
             bytes: Vec::new(alloc),
+            unready: 0,
         }
+    }
+
+    fn len(&self) -> usize {
+        self.bytes.len() + self.unready
     }
 
     fn bytes(&self) -> &[u8] {
@@ -33,6 +76,13 @@ impl Segment for CopySegment {
 
     fn bytes_mut(&mut self) -> &mut [u8] {
         self.bytes.as_mut_slice()
+    }
+
+    #[inline(always)]
+    fn make_ready(&mut self, bytes: usize) {
+        if bytes > self.bytes.len() {
+            self.zero_up_to(bytes);
+        }
     }
 }
 
@@ -78,8 +128,9 @@ impl Allocator for CopyMemory {
         }
         let mut bytes = mem::replace(&mut self.kept, Vec::new(self.alloc));
         bytes.clear();
-        match bytes.resize(8 * min_words as usize, 0) {
-            Ok(()) => Ok(CopySegment { bytes }),
+        let unready = 8 * min_words as usize;
+        match bytes.reserve(unready) {
+            Ok(()) => Ok(CopySegment { bytes, unready }),
             Err(AllocError) => {
                 self.refused = self.refused.saturating_add(1);
                 Err(ErrorKind::AllocationFailed)
@@ -88,7 +139,7 @@ impl Allocator for CopyMemory {
     }
 
     fn deallocate_segment(&mut self, segment: CopySegment, _used_words: u32) {
-        let CopySegment { bytes } = segment;
+        let CopySegment { bytes, unready: _ } = segment;
         self.kept = bytes;
     }
 

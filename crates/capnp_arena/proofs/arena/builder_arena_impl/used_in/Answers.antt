@@ -8,4 +8,4 @@ loop-row-preserved g c =
     let there : c.loop-row.row-index < length rows = omega arith in
     let more = total_rows g.S.Segment rows c.loop-row.row-index c.row-item.result there c.row-item.is in
     let clear = c.row-item.result.clear in
-    record { counted = omega (arith, more, c.loop-row.invariant.counted); bounded = omega (arith, clear.0, clear.1, c.loop-row.invariant.bounded) }
+    record { counted = omega (arith, more, c.loop-row.invariant.counted); bounded = omega (arith, clear.0, clear.1, clear.2, c.loop-row.invariant.bounded) }

@@ -69,8 +69,8 @@ front_of_spec {M} 𝓤 𝓛 𝓜 𝓡 wired S L g d met =
     let z : G.Ghost = ((κs, qs, bounds, (a.0, tt), (mut_vals a.0, tt)), tt) in
     let tokens = ‵ (flft κs.0 qs.0) ⊛ ‵ (flft κs.1.0 qs.1.0) ⊛ ‵ ftrue in
     let Bytes = MutSlice (named 0) κ u8 in
-    qed 𝓛 ((tokens ⊛ ‵ (owns (MutRef (named 0) κ (param 0 S) ∷ usize ∷ []) a (mut_vals a.0, (vint w64 n ∷ [], tt)))) ∷ (raw (fact 𝓤 lives) ⊛ raw (fact 𝓤 (n ≤ length (g.content h)))) ∷ []) ∵
-    move ! (1 ∷ []) $ split ! $ heard ! lives (λ alive. heard ! (n ≤ length (g.content h)) (λ le.
+    qed 𝓛 ((tokens ⊛ ‵ (owns (MutRef (named 0) κ (param 0 S) ∷ usize ∷ []) a (mut_vals a.0, (vint w64 n ∷ [], tt)))) ∷ (raw (fact 𝓤 lives) ⊛ raw (fact 𝓤 (n ≤ length (g.ready h)))) ∷ []) ∵
+    move ! (1 ∷ []) $ split ! $ heard ! lives (λ alive. heard ! (n ≤ length (g.ready h)) (λ le.
     split ! $ move ! (1 ∷ []) $ fsplit ! $ move ! (0 ∷ 2 ∷ []) $
     -- [the segment; the tokens; the number]
     enter ! _ _ _ _ _ $ alloc_all ! (λ l. pass_all ! refl ((tt, tt), ((tt, record { fits = fits }), tt)) $
@@ -80,8 +80,8 @@ front_of_spec {M} 𝓤 𝓛 𝓜 𝓡 wired S L g d met =
     use2 𝓛 (raw (G.pre z)) (id⊢ 𝓤 _) $
     calls_at ! (framed 𝓤 𝓛.H 𝓜 (tables 𝓤 𝓛.H 𝓜 𝓡 𝓡.env)) G met.bytes_mut z (and_then ! (get ! refl) (no_more !)) (λ v.
     use1 𝓛 (later (some (λ (r : MutBor (List ℕ)). (tokens ⊛ ‵ (Bytes.own_val r (v ∷ []))) ⊛
-    some (λ (ws : Unit {0} × Unit {0}). ‵ (lasts (B.ended S g d) z.0.0 z.0.3 ws) ⊛ (‵ (follows (param 0 S) (Array u8 0) γ r.ghost_name (g.with_content h)) ⊛ raw (fact 𝓤 (r.now ≡ g.content h))))))) (id⊢ 𝓤 _) $
-    await ! tt $ pick ! (λ r. split ! $ split ! $ move ! (2 ∷ []) $ pick ! (λ ws. split ! $ drop ! $ split ! $ move ! (1 ∷ []) $ heard ! (r.now ≡ g.content h) (λ same.
+    some (λ (ws : Unit {0} × Unit {0}). ‵ (lasts (B.ended S g d) z.0.0 z.0.3 ws) ⊛ (‵ (follows (param 0 S) (Array u8 0) γ r.ghost_name (g.with_ready h)) ⊛ raw (fact 𝓤 (r.now ≡ g.ready h))))))) (id⊢ 𝓤 _) $
+    await ! tt $ pick ! (λ r. split ! $ split ! $ move ! (2 ∷ []) $ pick ! (λ ws. split ! $ drop ! $ split ! $ move ! (1 ∷ []) $ heard ! (r.now ≡ g.ready h) (λ same.
     -- [what the segment ends as; the tokens; its bytes]
     move ! (2 ∷ []) $ peeks ! Bytes (Is Bytes) (shows 𝓛 Bytes) r (v ∷ []) (λ is.
     let room : Room u8 (length r.now) = is.0.1 in
@@ -97,8 +97,8 @@ front_of_spec {M} 𝓤 𝓛 𝓜 𝓡 wired S L g d met =
     (lends_front 𝓛 κ q r.ref_ptr.0 r.ref_ptr.1 r.ghost_name n r.now long less (v ∷ [])) $ await ! tt $ pick ! (λ δ.
     -- [the first bytes, κ, what the bytes end as; the other token; what the segment ends as]
     returns ! (look_at ! 0 refl) $ free_all ! refl $ split3 ! $ move ! (4 ∷ 2 ∷ []) $
-    use2 𝓛 (‵ (follows (param 0 S) (Array u8 0) γ δ (λ w. g.with_content h (with_front n r.now w)))) (follows_then 𝓛 (param 0 S) (Array u8 0) (Array u8 0) (g.with_content h) (with_front n r.now) γ r.ghost_name δ) $
-    rewrite ! 0 (λ (xs : List ℕ). ‵ (follows (param 0 S) (Array u8 0) γ δ (λ w. g.with_content h (with_front n xs w)))) same refl $
+    use2 𝓛 (‵ (follows (param 0 S) (Array u8 0) γ δ (λ w. g.with_ready h (with_front n r.now w)))) (follows_then 𝓛 (param 0 S) (Array u8 0) (Array u8 0) (g.with_ready h) (with_front n r.now) γ r.ghost_name δ) $
+    rewrite ! 0 (λ (xs : List ℕ). ‵ (follows (param 0 S) (Array u8 0) γ δ (λ w. g.with_ready h (with_front n xs w)))) same refl $
     move ! (1 ∷ []) $
     rewrite ! 0 (λ (k : ℕ). ‵ (Bytes.own_val (record { ref_ptr = r.ref_ptr; ghost_name = δ; now = take n r.now }) (slice_val r.ref_ptr k ∷ []))) count refl $
     suffices ! _ (ends_at 𝓛 (ended S g d) (stayed S g d) c y (slice_val r.ref_ptr n) (record { ref_ptr = r.ref_ptr; ghost_name = δ; now = take n r.now }) (tt, (tt, tt)) (tt, (tt, tt))) $ keep ! (0 ∷ 1 ∷ 2 ∷ 3 ∷ []) $

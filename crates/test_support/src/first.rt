@@ -1,0 +1,59 @@
+//! An allocator whose arenas keep the row of their first segment in themselves.
+ghost use Rattle.std.specs.Prelude.{◌≡◌, true};
+
+use capnp_arena::arena::Allocator;
+use capnp_words::error::ErrorKind;
+
+/// What `A` does, but for where an arena keeps the row of its first segment: in itself, so that it asks for no
+/// memory for that row.
+#[derive(Drop)]
+pub struct FirstInArena<A: Allocator> {
+    inner: A,
+}
+
+impl<A: Allocator> FirstInArena<A> {
+    pub fn new(inner: A) -> Self
+        ensures { result.inner ≡ inner }
+    {
+        FirstInArena { inner }
+    }
+
+    /// The allocator that does the work.
+    pub fn inner(&self) -> &A
+        ensures { result.now ≡ self.now.inner }
+    {
+        &self.inner
+    }
+}
+
+impl<A: Allocator> Allocator for FirstInArena<A> {
+    type Segment = A::Segment;
+
+    ghost first_in_arena = { true };
+
+    fn keeps_first_in_arena() -> bool
+        ensures { result ≡ true }
+    {
+        true
+    }
+
+    ghost refusals = { λ a. A.refusals a.inner };
+
+    ghost offers = { λ a. A.offers a.inner };
+
+    fn allocate_segment(&mut self, min_words: u32) -> Result<A::Segment, ErrorKind> {
+        self.inner.allocate_segment(min_words)
+    }
+
+    fn deallocate_segment(&mut self, segment: A::Segment, used_words: u32) {
+        self.inner.deallocate_segment(segment, used_words);
+    }
+
+    fn keep<T>(&mut self, list: &mut Vec<T>, row: T) -> Option<T> {
+        self.inner.keep(list, row)
+    }
+
+    fn refused(&self) -> u64 {
+        self.inner.refused()
+    }
+}
