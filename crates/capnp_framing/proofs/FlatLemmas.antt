@@ -1,7 +1,7 @@
 -- Segments that stand one behind the other are those of a frame.
-use Rattle.std.proofs.Common.{◌≡◌, ℕ, zero, suc, ◌+◌, ◌-◌, ◌*◌, ◌^◌, ◌<◌, ◌≤◌, List, [], ◌∷◌, ◌++◌, length, get_or, take, drop, refl, sym, ap, ap₂, ◌∙◌, subst, arith, length-take, length-drop, get_or-drop, append_assoc, take-add, drop-drop, take-append-drop, slice_get, slice_index, slice_set, Some}
+use Rattle.std.proofs.Common.{◌≡◌, ℕ, zero, suc, ◌+◌, ◌-◌, ◌*◌, ◌^◌, ◌<◌, ◌≤◌, List, [], ◌∷◌, ◌++◌, length, get_or, take, drop, replicate, refl, sym, ap, ap₂, ◌∙◌, subst, arith, length-take, length-drop, get_or-drop, append_assoc, take-add, drop-drop, take-append-drop, slice_get, slice_index, slice_set, Some}
 use Rattle.std.specs.List.{All}
-use Rattle.std.proofs.lemmas.List.{get_or-set_same, get_or-set_other}
+use Rattle.std.proofs.lemmas.List.{get_or-set_same, get_or-set_other, length-replicate}
 use borrow.Author.Count.{below_more}
 use Rattle.std.specs.Int.{from_le_bytes, w32}
 use Rattle.std.proofs.lemmas.List.Elements.{All-nil, All-cons, All-from_get_or}
@@ -11,10 +11,10 @@ use Rattle.capnp_format.specs.Segments.{Segments}
 use Rattle.capnp_format.proofs.WordsOf.{small_word, words}
 use Rattle.capnp_arena.specs.Limits.{IsSmall}
 use Rattle.capnp_framing.specs.Flat.{BeginsWithFrame, first_told, part_at, parts}
-use Rattle.capnp_framing.specs.Frames.{AreSegmentWords, contents, lengths, padding_size}
-use Rattle.capnp_framing.specs.Reading.{max_length, total, words_told}
-use Rattle.capnp_framing.proofs.ReadingLemmas.{AtTable, frame_read, small_from_short}
-use Rattle.capnp_framing.proofs.TableLemmas.{below_take, bytes-words}
+use Rattle.capnp_framing.specs.Frames.{AreSegmentWords, contents, frame, lengths, padding_size}
+use Rattle.capnp_framing.specs.Reading.{max_length, table_size, total, words_told}
+use Rattle.capnp_framing.proofs.ReadingLemmas.{AtTable, frame_read, length-frame_with, small_from_short}
+use Rattle.capnp_framing.proofs.TableLemmas.{as_many, below_take, bytes-words}
 
 pub length-parts : (n : ℕ) (table bytes : List ℕ) → length (parts n table bytes) ≡ n
 length-parts zero table bytes = refl
@@ -153,3 +153,19 @@ flat_frame {n} {bytes} {table} {rest} most at short =
 -- and its segments are within the limits of a reader
 pub flat_small : {n : ℕ} {bytes table rest : List ℕ} → AtFrame n bytes table rest → IsSmall (parts n table rest)
 flat_small {n} {table = table} {rest = rest} at = (let few = at.few in omega (arith, length-parts n table rest, few), small_from_short (parts n table rest) (cut_parts at).short)
+
+-- how many words the segments have that were cut from such bytes
+total-parts : (n : ℕ) (table bytes : List ℕ) → 8 * words_told n table ≤ length bytes → total (message (parts n table bytes)) ≡ words_told n table
+total-parts zero table bytes whole = refl
+total-parts (suc n) table bytes whole =
+    let k : ℕ = first_told table in
+    let part : List ℕ = take (8 * k) bytes in
+    omega (arith, words part, length-take (8 * k) bytes, total-parts n (drop 4 table) (drop (8 * k) bytes) (omega (arith, length-drop (8 * k) bytes)))
+
+-- and how many bytes their frame has
+pub length-frame_of_parts : (n : ℕ) (table bytes : List ℕ) → 8 * words_told n table ≤ length bytes → length (frame (message (parts n table bytes))) ≡ table_size n + 8 * words_told n table
+length-frame_of_parts n table bytes whole =
+    let S : Segments = message (parts n table bytes) in
+    let count : length S ≡ n = as_many (parts n table bytes) ∙ length-parts n table bytes in
+    length-frame_with (replicate (padding_size (length S)) 0) S (length-replicate (padding_size (length S)) 0)
+    ∙ ap₂ (λ k m. table_size k + 8 * m) count (total-parts n table bytes whole)

@@ -1,19 +1,19 @@
 -- What is read piece by piece is read as a whole.
-use Rattle.std.proofs.Common.{◌≡◌, ℕ, zero, suc, ◌+◌, ◌-◌, ◌*◌, ◌/◌, ◌^◌, ◌<◌, ◌≤◌, inl, inr, List, [], ◌∷◌, ◌++◌, length, get_or, take, drop, map, refl, sym, ap, ap₂, ◌∙◌, subst, arith, length-append, length-take, length-drop, get_or-drop, append-nil, append_assoc, take-add, take_at, drop_at, drop-drop, take-append-drop, slice_get, Option, Some, None, IfSome}
+use Rattle.std.proofs.Common.{◌≡◌, ℕ, zero, suc, ◌+◌, ◌-◌, ◌*◌, ◌/◌, ◌^◌, ◌<◌, ◌≤◌, inl, inr, List, [], ◌∷◌, ◌++◌, length, get_or, take, drop, map, replicate, refl, sym, ap, ap₂, ◌∙◌, subst, arith, length-append, length-take, length-drop, get_or-drop, append-nil, append_assoc, take-add, take_at, drop_at, drop-drop, take-append-drop, slice_get, Option, Some, None, IfSome}
 use Rattle.std.specs.List.{All}
 use Rattle.std.specs.Int.{from_le_bytes, to_le_bytes, w32, w64}
 use Rattle.std.specs.Io.KnownBytes.{Consumes, IsAtEnd}
 use Rattle.std.proofs.lemmas.Grind.{common_steps}
-use Rattle.std.proofs.lemmas.List.{take-append-le, drop-append-le}
+use Rattle.std.proofs.lemmas.List.{take-append-le, drop-append-le, length-replicate}
 use Rattle.std.proofs.lemmas.Nat.{from_le_bytes-to_le_bytes_4, le_bytes_4}
 use Rattle.capnp_format.specs.Bytes.{message, words_of}
 use Rattle.capnp_framing.proofs.TableLemmas.{below_take, length-lengths}
-use Rattle.capnp_framing.specs.Laws.{FrameIsRead}
+use Rattle.capnp_framing.specs.Laws.{FrameIsRead, FramesAreAsLong}
 use borrow.Rule.Slice.PartMut.{put_mid}
 use Rattle.capnp_format.specs.Segments.{Segments}
 use Rattle.capnp_format.proofs.WordsOf.{words}
 use Rattle.std.proofs.lemmas.List.Elements.{All-head, All-tail}
-use Rattle.capnp_framing.specs.Frames.{AreSegmentWords, IsFrameOf, bytes_of_words, contents, lengths, padding_size}
+use Rattle.capnp_framing.specs.Frames.{AreSegmentWords, IsFrameOf, bytes_of_words, contents, frame_with, lengths, padding_size}
 use Rattle.capnp_framing.specs.Reading.{HasTable, NoFrame, WhyUnread, words_in_table, segments_told, table_size, count_cut, table_cut, too_long, too_many, total, words_cut, words_told}
 use Rattle.capnp_framing.specs.declared.framing.frame_error.FrameError.TheVariants.{MessageTooLong, Truncated}
 use Rattle.capnp_framing.specs.declared.devices.Input.{Ghosts}
@@ -25,10 +25,6 @@ consumes_both None b c first more f g = tt
 consumes_both (Some x) None c first more f g = absurd f
 consumes_both (Some x) (Some y) None first more f g = absurd g
 consumes_both (Some x) (Some y) (Some z) first more f g = grind (arith, common_steps)
-
-pub consumes_none : (a : Option (List ℕ)) → Consumes a a []
-consumes_none None = tt
-consumes_none (Some x) = refl
 
 -- the input ended behind these
 pub ended : (a b : Option (List ℕ)) (xs : List ℕ) (m : ℕ) → Consumes a b xs → IsAtEnd b → length xs < m → IfSome a (λ bytes. length bytes < m)
@@ -141,6 +137,13 @@ has_table {first} {tab} {n} rest h =
 table_words : {first tab : List ℕ} {n : ℕ} (rest zs : List ℕ) → AtTable first tab n → words_in_table (first ++ (tab ++ rest)) ≡ words_told n (tab ++ zs)
 table_words {first} {tab} {n} rest zs h = ap₂ words_told (table_told rest h) (drop_at first (tab ++ rest) 4 h.four) ∙ told_front n tab rest zs (omega (arith, h.size))
 
+-- as long as a table
+pub table_long : {first tab : List ℕ} {n : ℕ} → AtTable first tab n → length (first ++ tab) ≡ table_size (segments_told (first ++ tab))
+table_long {first} {tab} {n} h =
+    let told : segments_told (first ++ tab) ≡ n = ap (λ xs. from_le_bytes w32 xs + 1) (take_at first tab 4 h.four) ∙ sym h.told in
+    let long : length (first ++ tab) ≡ table_size n = omega (arith, length-append first tab, h.four, h.size) in
+    long ∙ ap table_size (sym told)
+
 pub long_table : {first tab : List ℕ} {n : ℕ} (rest zs : List ℕ) (w most : ℕ) → AtTable first tab n → w ≡ words_told n (tab ++ zs) → most < w → NoFrame (first ++ (tab ++ rest)) most (MessageTooLong w)
 long_table rest zs w most h e l = let same = table_words rest zs h in too_long (has_table rest h) (omega (arith, same, e)) (ap MessageTooLong (e ∙ sym same))
 
@@ -199,6 +202,25 @@ bytes-length (w ∷ ws) = omega (arith, bytes-length ws, length-append (to_le_by
 contents-length : (S : Segments) → length (contents S) ≡ 8 * total S
 contents-length [] = refl
 contents-length (ws ∷ S) = omega (arith, contents-length S, bytes-length ws, length-append (bytes_of_words ws) (contents S))
+
+-- how many bytes a frame has
+pub length-frame_with : (padding : List ℕ) (S : Segments) → length padding ≡ padding_size (length S) → length (frame_with padding S) ≡ table_size (length S) + 8 * total S
+length-frame_with padding S padded =
+    omega (
+      arith,
+      length-append (to_le_bytes w32 (length S - 1)) (lengths S ++ (padding ++ contents S)),
+      length-append (lengths S) (padding ++ contents S),
+      length-append padding (contents S),
+      length-lengths S,
+      contents-length S,
+      padded,
+    )
+
+pub frames_as_long : FramesAreAsLong
+frames_as_long S bytes f =
+    ap length f.is
+    ∙ length-frame_with f.padding S f.padded
+    ∙ sym (length-frame_with (replicate (padding_size (length S)) 0) S (length-replicate (padding_size (length S)) 0))
 
 pub frame_is_read : FrameIsRead
 frame_is_read S bytes rest most e f small wrong =

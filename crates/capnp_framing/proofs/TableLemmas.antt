@@ -83,13 +83,6 @@ bytes-words (suc n) (a ∷ b ∷ c ∷ d ∷ f ∷ g ∷ h ∷ i ∷ rest) e l =
 bytes-words zero (a ∷ xs) e l = absurd (omega arith)
 bytes-words (suc n) _ e l = absurd (omega arith)
 
--- a table and then the words are a frame
-pub whole_frame : (S : Segments) (n : ℕ) → n ≡ length S → (to_le_bytes w32 (n - 1) ++ (lengths S ++ replicate (padding_size n) 0)) ++ contents S ≡ frame S
-whole_frame S n e =
-    rw e
-    (append_assoc (to_le_bytes w32 (length S - 1)) (lengths S ++ replicate (padding_size (length S)) 0) (contents S)
-    ∙ ap (λ (xs : List ℕ). to_le_bytes w32 (length S - 1) ++ xs) (append_assoc (lengths S) (replicate (padding_size (length S)) 0) (contents S)))
-
 -- as many segments of words as of bytes
 pub as_many : (bytes : List (List ℕ)) → length (message bytes) ≡ length bytes
 as_many bytes = length-map bytes words_of

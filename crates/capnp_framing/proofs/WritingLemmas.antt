@@ -21,13 +21,6 @@ left_over_less {a = Some x} {b = None} less w e = absurd w.left_over
 left_over_less {a = Some x} {b = Some y} {c = None} less w e = absurd w.appended
 left_over_less {a = Some x} {b = Some y} {c = Some z} less w e = grind (arith, common_steps)
 
--- all is written, and then more
-pub left_over_none : {a b c : Option (List ℕ)} {all rest more : List ℕ} → Writes a b c all rest more → rest ≡ [] → Appends a c (all ++ more)
-left_over_none {a = None} w e = tt
-left_over_none {a = Some x} {b = None} w e = absurd w.left_over
-left_over_none {a = Some x} {b = Some y} {c = None} w e = absurd w.appended
-left_over_none {a = Some x} {b = Some y} {c = Some z} w e = grind (arith, common_steps)
-
 pub left_over_end : (a b : Option (List ℕ)) (all rest : List ℕ) → IsLeftOver a b all rest → rest ≡ [] → Appends a b all
 left_over_end None b all rest left e = tt
 left_over_end (Some x) None all rest left e = absurd left

@@ -1,5 +1,5 @@
 -- Which message bytes are a frame of.
-use Rattle.std.specs.Prelude.{◌≡◌, ℕ, ◌≤◌, List, ◌++◌}
+use Rattle.std.specs.Prelude.{◌≡◌, ℕ, ◌≤◌, List, ◌++◌, length}
 use Rattle.capnp_format.specs.Segments.{Segments}
 use Rattle.capnp_framing.specs.Frames.{CanBeFramed, IsFrameOf, frame}
 use Rattle.capnp_framing.specs.Reading.{NoFrame, total}
@@ -21,6 +21,10 @@ WrittenIsFrame = (S : Segments) → CanBeFramed S → IsFrameOf S (frame S)
 -- Two messages are written as the same bytes exactly if they are the same.
 abbrev pub SameFrames : Type 0
 SameFrames = (S R : Segments) → CanBeFramed S → CanBeFramed R → frame S ≡ frame R → S ≡ R
+
+-- The frames of a message, whatever their padding holds, are as long as the one that is written.
+abbrev pub FramesAreAsLong : Type 0
+FramesAreAsLong = (S : Segments) (bytes : List ℕ) → IsFrameOf S bytes → length bytes ≡ length (frame S)
 
 -- Bytes that begin with a frame of at most so many words are refused for nothing that they hold.
 abbrev pub FrameIsRead : Type 0

@@ -1,7 +1,7 @@
 -- Why bytes, or segments, make no frame.
 use Rattle.std.specs.Prelude.{◌≡◌, ◌⊎◌, ℕ, ◌+◌, ◌*◌, ◌<◌, ◌≤◌, List, [], ◌∷◌, length, take, drop, zero, suc, true, IfSome}
 use Rattle.std.specs.Int.{from_le_bytes, w32}
-use Rattle.std.specs.Io.KnownBytes.{Consumes}
+use Rattle.std.specs.Io.KnownBytes.{Consumes, IsAtEnd}
 use Rattle.capnp_format.specs.Segments.{Segments}
 use Rattle.capnp_framing.specs.Frames.{IsFrameOf, max_frame_segments, padding_size}
 use Rattle.capnp_framing.specs.declared.devices.Input.{Ghosts}
@@ -62,3 +62,11 @@ module _ {R : Type 0} (g : Ghosts R) where
     pub bytes : List ℕ
     pub consumed : Consumes (g.remaining from) (g.remaining to) bytes
     pub framed : IsFrameOf S bytes
+
+  -- What a refusal has taken from the front of an input: the number of segments where there are too many, the whole table where
+  -- it tells too many words, and all that was there where it was cut short.
+  abbrev pub HasTaken : R → R → FrameError → Type 0
+  HasTaken from to (TooManySegments n) = (bytes : List ℕ) × (length bytes ≡ 4) × Consumes (g.remaining from) (g.remaining to) bytes
+  HasTaken from to (MessageTooLong n) = (bytes : List ℕ) × (length bytes ≡ table_size (segments_told bytes)) × Consumes (g.remaining from) (g.remaining to) bytes
+  HasTaken from to Truncated = IsAtEnd (g.remaining to)
+  HasTaken from to _ = Unit {0}

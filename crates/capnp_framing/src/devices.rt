@@ -1,5 +1,6 @@
 //! Where bytes come from and go to. A device that fails once says so from then on.
-ghost use Rattle.std.specs.Prelude.{◌≡◌, ◌<◌, ◌≤◌, ◌+◌, ◌++◌, ℕ, List, [], Bool, true, false, Option, Some, length, take, IfOk, OnOk, OnErr};
+ghost use Rattle.std.specs.Prelude.{◌≡◌, ◌<◌, ◌≤◌, ◌+◌, ◌++◌, ℕ, List, [], Bool, true, false, Option, Some, Ok, length, take, min, vec_len, IfOk, IsErr, OnOk, OnErr};
+ghost use Rattle.std.specs.Vec.{vec_capacity};
 ghost use Rattle.std.specs.Io.KnownBytes.{ReadConsumes, WriteAppends, Keeps, Appends};
 ghost use Rattle.capnp_framing.specs.Wholeness.{KeepsWhole};
 
@@ -58,7 +59,7 @@ pub trait Output {
         ensures { result ≡ has_failed self.now };
 }
 
-/// Bytes in memory, to be read. It never fails.
+/// Bytes in memory, to be read. It never fails, and a read gives as many as there are and as there is room for.
 #[derive(Clone, Copy)]
 pub struct MemoryInput<'a> {
     bytes: &'a [u8],
@@ -80,7 +81,14 @@ impl Input for MemoryInput<'_> {
 
     ghost ends_whole = { λ _. Some true };
 
-    fn read(&mut self, to: &mut [u8]) -> Result<usize, DeviceFault> {
+    fn read(&mut self, to: &mut [u8]) -> Result<usize, DeviceFault>
+        ensures bound { IfOk result (λ n. n ≤ length to.new) }
+        ensures bytes { ReadConsumes (Some self.old.bytes.now) (Some self.new.bytes.now) result to.new }
+        ensures whole { KeepsWhole (Some true) (Some true) }
+        ensures works { OnOk result (false ≡ false) }
+        ensures fails { OnErr result (false ≡ true) }
+        ensures most { result ≡ Ok (min (length to.old) (length self.old.bytes.now)) }
+    {
         let n = to.len().min(self.bytes.len());
         to[..n].copy_from_slice(&self.bytes[..n]);
         self.bytes = &self.bytes[n..];
@@ -92,7 +100,8 @@ impl Input for MemoryInput<'_> {
     }
 }
 
-/// Bytes in memory, written one behind the other. It fails where there is no memory for more.
+/// Bytes in memory, written one behind the other. A write takes all that it is given, and fails only where there is no
+/// memory for more.
 #[derive(Drop)]
 pub struct MemoryOutput {
     bytes: Vec<u8>,
@@ -124,7 +133,15 @@ impl Output for MemoryOutput {
 
     ghost has_failed = { λ m. m.failed };
 
-    fn write(&mut self, from: &[u8]) -> Result<usize, DeviceFault> {
+    fn write(&mut self, from: &[u8]) -> Result<usize, DeviceFault>
+        ensures bound { IfOk result (λ n. n ≤ length from.now) }
+        ensures some { 0 < length from.now → IfOk result (λ n. 0 < n) }
+        ensures bytes { WriteAppends (Some self.old.bytes.items) (Some self.new.bytes.items) result from.now }
+        ensures works { OnOk result (self.new.failed ≡ self.old.failed) }
+        ensures fails { OnErr result (self.new.failed ≡ true) }
+        ensures all { IfOk result (λ n. n ≡ length from.now) }
+        ensures full { OnErr result (vec_capacity self.old.bytes < vec_len self.old.bytes + length from.now) }
+    {
         if self.bytes.extend_from_slice(from).is_err() {
             self.failed = true;
             return Err(DeviceFault);
@@ -153,7 +170,7 @@ pub fn write_all<W: Output>(output: &mut W, from: &[u8]) -> Result<(), DeviceFau
     Ok(())
 }
 
-/// The bytes of a reader. What goes wrong in it is a fault, and is not told.
+/// The bytes of a reader. What goes wrong in it is a fault, and is not told; the reader isn't asked again behind one.
 #[derive(Drop)]
 pub struct ReaderInput<R> {
     reader: R,
@@ -180,7 +197,17 @@ impl<R: Read> Input for ReaderInput<R> {
 
     ghost ends_whole = { λ _. Some true };
 
-    fn read(&mut self, to: &mut [u8]) -> Result<usize, DeviceFault> {
+    fn read(&mut self, to: &mut [u8]) -> Result<usize, DeviceFault>
+        ensures bound { IfOk result (λ n. n ≤ length to.new) }
+        ensures bytes { ReadConsumes (R.remaining self.old.reader) (R.remaining self.new.reader) result to.new }
+        ensures whole { KeepsWhole (Some true) (Some true) }
+        ensures works { OnOk result (self.new.failed ≡ self.old.failed) }
+        ensures fails { OnErr result (self.new.failed ≡ true) }
+        ensures stops { self.old.failed ≡ true → IsErr result × (self.new.reader ≡ self.old.reader) }
+    {
+        if self.failed {
+            return Err(DeviceFault);
+        }
         match self.reader.read(to) {
             Ok(n) => Ok(n),
             Err(_) => {

@@ -3,7 +3,8 @@ ghost use Rattle.std.specs.Prelude.{◌≡◌, ◌+◌, ◌*◌, ◌<◌, ◌≤
 ghost use Rattle.capnp_format.specs.Bytes.{message};
 ghost use Rattle.capnp_arena.specs.Limits.{IsSmall};
 ghost use Rattle.capnp_framing.specs.Flat.{AreStarts, BeginsWithFrame, part_at, parts};
-ghost use Rattle.capnp_framing.specs.Reading.{NoFrame, max_length, words_told};
+ghost use Rattle.capnp_framing.specs.Frames.{frame};
+ghost use Rattle.capnp_framing.specs.Reading.{NoFrame, max_length, table_size, words_told};
 
 use super::MAX_SEGMENTS;
 use super::frame_error::FrameError;
@@ -26,10 +27,13 @@ pub struct FrameSegments<'a> {
     words: &'a [u8],
     // How many words stand before every 32nd segment.
     starts: [u64; STARTS],
+    // How many bytes the frame takes.
+    size: usize,
     ghost few: { count ≤ 512 },
     ghost told: { 4 * count ≤ length table.now },
     ghost whole: { 8 * words_told count table.now ≤ length words.now },
     ghost kept: { AreStarts count table.now starts },
+    ghost sized: { size ≡ table_size count + 8 * words_told count table.now },
 }
 
 /// How many words stand before every 32nd segment of those that a table tells, and how many in all.
@@ -49,6 +53,14 @@ fn starts_of(table: &[u8], count: usize) -> ([u64; STARTS], u64)
 }
 
 impl<'a> FrameSegments<'a> {
+    /// How many bytes the frame takes at the front of those that it was read from: the table with its padding, and
+    /// the words. The next frame of a row begins behind them.
+    pub fn size_in_bytes(&self) -> usize
+        ensures { result ≡ length (frame (message (⟦<Self as ReaderSegments>⟧.segments self.now))) }
+    {
+        self.size
+    }
+
     /// How many words stand before a segment: from the nearest start that is kept.
     fn words_before(&self, id: usize) -> u64
         requires { id < self.now.count }
@@ -139,5 +151,6 @@ pub fn read_from_flat_slice(
         table: &bytes[4..],
         words: &bytes[size..],
         starts,
+        size: size + 8 * words as usize,
     }))
 }

@@ -5,7 +5,7 @@ ghost use Rattle.std.specs.Io.KnownBytes.{Consumes, IsAtEnd};
 ghost use Rattle.capnp_format.specs.Bytes.{message};
 ghost use Rattle.capnp_arena.specs.Limits.{IsSmall};
 ghost use Rattle.capnp_framing.specs.Flat.{AreEnds};
-ghost use Rattle.capnp_framing.specs.Reading.{IsFrameRead, NoFrame, WhyUnread, max_length, total, words_told};
+ghost use Rattle.capnp_framing.specs.Reading.{HasTaken, IsFrameRead, NoFrame, WhyUnread, max_length, total, words_told};
 ghost use Rattle.capnp_framing.specs.Wholeness.{KeepsWhole};
 ghost use Rattle.capnp_framing.specs.declared.framing.frame_error.FrameError.TheVariants.{AllocationFailed, ReadFailed, Truncated};
 
@@ -52,6 +52,7 @@ fn fill<R: Input>(input: &mut R, to: &mut [u8]) -> Result<(), FrameError>
     ensures works { OnOk result (R.has_failed input.new ≡ false) }
     ensures refused { IfErr result (WhyUnread R.Input input.old input.new (length to.old)) }
     ensures failed { IfErr result (λ e. R.has_failed input.new ≡ true → e ≡ ReadFailed) }
+    ensures cut { IfErr result (λ e. e ≡ Truncated → IsAtEnd (R.remaining input.new)) }
 {
     match read_up_to(input, to) {
         Ok(n) if n == to.len() => Ok(()),
@@ -96,6 +97,7 @@ fn fill_between<R: Input>(
     ensures works { OnOk result (R.has_failed input.new ≡ false) }
     ensures refused { IfErr result (WhyUnread R.Input input.old input.new (end - start)) }
     ensures failed { IfErr result (λ e. R.has_failed input.new ≡ true → e ≡ ReadFailed) }
+    ensures cut { IfErr result (λ e. e ≡ Truncated → IsAtEnd (R.remaining input.new)) }
 {
     fill(input, &mut to[start..end])
 }
@@ -111,6 +113,7 @@ fn read_front<R: Input>(input: &mut R, to: &mut Vec<u8>, size: usize) -> Result<
     ensures refused { IfErr result (λ e. (e ≡ AllocationFailed)
         ⊎ WhyUnread R.Input input.old input.new size e) }
     ensures failed { IfErr result (λ e. R.has_failed input.new ≡ true → e ≡ ReadFailed) }
+    ensures cut { IfErr result (λ e. e ≡ Truncated → IsAtEnd (R.remaining input.new)) }
 {
     let mut n = 0;
     while n < size {
@@ -182,7 +185,9 @@ fn are_bytes(bytes: &[u8])
 /// table that is cut short, its padding included, `Truncated`; more than `max_words` words together
 /// `MessageTooLong`, with their number; words that are cut short `Truncated`, in this order. `ReadFailed`
 /// is the input's, and where the input has failed there is no other refusal; `AllocationFailed` is want of
-/// memory. What a refusal leaves unread isn't said, nor which segments there are then.
+/// memory. Where there are too many segments their number is read, four bytes; where there are too many words the
+/// table; and what is cut short to its end. How much was read behind the other two isn't said, nor which segments there
+/// are after a refusal.
 ///
 /// The memory that is taken grows with the bytes that came, and not with those that the table announces.
 /// None is taken for a message that has no more segments and words than one that was read before.
@@ -204,6 +209,7 @@ pub fn read_into<R: Input>(
         ⊎ ((e ≡ ReadFailed) × (R.has_failed input.new ≡ true))
         ⊎ IfSome (R.remaining input.old) (λ bytes. NoFrame bytes max_words e)) }
     ensures failed { IfErr result (λ e. R.has_failed input.new ≡ true → e ≡ ReadFailed) }
+    ensures taken { IfErr result (HasTaken R.Input input.old input.new) }
 {
     into.count = 0;
     let mut first = [0u8; 4];
@@ -244,7 +250,7 @@ pub fn read_into<R: Input>(
 /// Reads a message from the front of an input, and leaves what stands behind it. `None` is an input that
 /// is at its end at once.
 ///
-/// It refuses what `read_into` refuses. What a refusal leaves unread isn't said.
+/// It refuses what `read_into` refuses, and leaves as much unread then.
 pub fn read<R: Input>(
     alloc: Global,
     input: &mut R,
@@ -266,6 +272,7 @@ pub fn read<R: Input>(
         ⊎ ((e ≡ ReadFailed) × (R.has_failed input.new ≡ true))
         ⊎ IfSome (R.remaining input.old) (λ bytes. NoFrame bytes max_words e)) }
     ensures failed { IfErr result (λ e. R.has_failed input.new ≡ true → e ≡ ReadFailed) }
+    ensures taken { IfErr result (HasTaken R.Input input.old input.new) }
 {
     let mut owned = OwnedSegments::new(alloc);
     match read_into(input, max_words, &mut owned) {

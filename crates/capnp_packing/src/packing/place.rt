@@ -75,6 +75,87 @@ fn step_tag(tag: u8) -> Taken
     }
 }
 
+/// What a byte of a packed word gives, with so many bytes of the word behind it, which the bits say of.
+fn step_kept(bits: u8, left: u8, byte: u8) -> Taken
+    ensures byte { result.byte ≡ byte_given (Place.Kept bits left) byte }
+    ensures zeros { result.zeros ≡ zeros_given (Place.Kept bits left) byte }
+    ensures place { result.next ≡ place_after (Place.Kept bits left) byte }
+{
+    let (zeros, next) = within_word(bits, left);
+    Taken {
+        byte: Some(byte),
+        zeros: u16::from(zeros),
+        next,
+    }
+}
+
+/// What the number of words of zero behind one gives.
+fn step_zeros(count: u8) -> Taken
+    ensures byte { result.byte ≡ byte_given Place.Zeros count }
+    ensures zeros { result.zeros ≡ zeros_given Place.Zeros count }
+    ensures place { result.next ≡ place_after Place.Zeros count }
+{
+    Taken {
+        byte: None,
+        zeros: 8 * u16::from(count),
+        next: Place::Tag,
+    }
+}
+
+/// What a byte of a word gives that is given as it stands, with so many bytes behind it.
+fn step_whole(left: u8, byte: u8) -> Taken
+    ensures byte { result.byte ≡ byte_given (Place.Whole left) byte }
+    ensures zeros { result.zeros ≡ zeros_given (Place.Whole left) byte }
+    ensures place { result.next ≡ place_after (Place.Whole left) byte }
+{
+    let next = if left == 0 {
+        Place::Count
+    } else {
+        Place::Whole(left - 1)
+    };
+    Taken {
+        byte: Some(byte),
+        zeros: 0,
+        next,
+    }
+}
+
+/// What the number of words gives that are given as they stand.
+fn step_count(count: u8) -> Taken
+    ensures byte { result.byte ≡ byte_given Place.Count count }
+    ensures zeros { result.zeros ≡ zeros_given Place.Count count }
+    ensures place { result.next ≡ place_after Place.Count count }
+{
+    let next = if count == 0 {
+        Place::Tag
+    } else {
+        Place::Raw(8 * u16::from(count) - 1)
+    };
+    Taken {
+        byte: None,
+        zeros: 0,
+        next,
+    }
+}
+
+/// What a byte of such words gives, with so many bytes behind it.
+fn step_raw(left: u16, byte: u8) -> Taken
+    ensures byte { result.byte ≡ byte_given (Place.Raw left) byte }
+    ensures zeros { result.zeros ≡ zeros_given (Place.Raw left) byte }
+    ensures place { result.next ≡ place_after (Place.Raw left) byte }
+{
+    let next = if left == 0 {
+        Place::Tag
+    } else {
+        Place::Raw(left - 1)
+    };
+    Taken {
+        byte: Some(byte),
+        zeros: 0,
+        next,
+    }
+}
+
 /// What a byte gives at a place, and the place behind it.
 pub fn step(place: Place, byte: u8) -> Taken
     ensures byte { result.byte ≡ byte_given place byte }
@@ -83,54 +164,10 @@ pub fn step(place: Place, byte: u8) -> Taken
 {
     match place {
         Place::Tag => step_tag(byte),
-        Place::Kept { bits, left } => {
-            let (zeros, next) = within_word(bits, left);
-            Taken {
-                byte: Some(byte),
-                zeros: u16::from(zeros),
-                next,
-            }
-        }
-        Place::Zeros => Taken {
-            byte: None,
-            zeros: 8 * u16::from(byte),
-            next: Place::Tag,
-        },
-        Place::Whole(left) => {
-            let next = if left == 0 {
-                Place::Count
-            } else {
-                Place::Whole(left - 1)
-            };
-            Taken {
-                byte: Some(byte),
-                zeros: 0,
-                next,
-            }
-        }
-        Place::Count => {
-            let next = if byte == 0 {
-                Place::Tag
-            } else {
-                Place::Raw(8 * u16::from(byte) - 1)
-            };
-            Taken {
-                byte: None,
-                zeros: 0,
-                next,
-            }
-        }
-        Place::Raw(left) => {
-            let next = if left == 0 {
-                Place::Tag
-            } else {
-                Place::Raw(left - 1)
-            };
-            Taken {
-                byte: Some(byte),
-                zeros: 0,
-                next,
-            }
-        }
+        Place::Kept { bits, left } => step_kept(bits, left, byte),
+        Place::Zeros => step_zeros(byte),
+        Place::Whole(left) => step_whole(left, byte),
+        Place::Count => step_count(byte),
+        Place::Raw(left) => step_raw(left, byte),
     }
 }

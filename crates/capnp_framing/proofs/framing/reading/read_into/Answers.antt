@@ -8,7 +8,7 @@ use Rattle.capnp_framing.specs.Reading.{NoFrame, words_told}
 use Rattle.capnp_framing.specs.declared.framing.frame_error.FrameError.TheVariants.{MessageTooLong}
 use Rattle.capnp_framing.proofs.FlatLemmas.{AreParts, are_parts}
 use Rattle.capnp_framing.proofs.OwnedLemmas.{AtOwned, front, owned_frame, owned_small}
-use Rattle.capnp_framing.proofs.ReadingLemmas.{consumes_both, cut_table, long_table, read_so, whatever}
+use Rattle.capnp_framing.proofs.ReadingLemmas.{consumes_both, cut_table, long_table, read_so, table_long, whatever}
 use Rattle.capnp_framing.proofs.WholenessLemmas.{keeps_whole_both}
 use Rattle.capnp_framing.proofs.framing.reading.read_into.Goals as goal
 
@@ -28,6 +28,21 @@ returns-then-words-max_words-clause-refused g c =
     let sum : c.in-Ok-ends_of.words ≡ words_told n (take size table ++ drop size table) = c.in-Ok-ends_of.ensures.sum ∙ ap (words_told n) (c.as_slice.ensures.value ∙ sym (take-append-drop size table)) in
     inr (inr (read_so _ _ _ first (take size table) (λ _. Unit {0}) (λ bytes. NoFrame bytes c.args.max_words (MessageTooLong c.in-Ok-ends_of.words)) f c.in-Ok-read_front.ensures.bytes (whatever _)
     (λ rest _. long_table rest (drop size table) c.in-Ok-ends_of.words c.args.max_words (front at) sum c.if-words-max_words.true)))
+
+pub returns-then-words-max_words-clause-taken : goal.returns-then-words-max_words-clause-taken
+returns-then-words-max_words-clause-taken g c =
+    let first : List ℕ = c.read_up_to.new.to in
+    let n : ℕ = c.from-told.result + 1 in
+    let size : ℕ = 4 * n + 4 * ((n + 1) % 2) in
+    let table : List ℕ = c.read_front.new.to.items in
+    let at : AtOwned first n table c.args.into.now.words.items = record {
+      four = omega (arith, c.read_up_to.auto.to);
+      told = omega (arith, c.from-told.ensures, c.from_le_bytes.ensures);
+      few = omega (arith, c.if-told.false);
+      room = c.in-Ok-read_front.ensures.long;
+    } in
+    let f = subst (λ (xs : List ℕ). Consumes (g.R.Input.remaining c.args.input.now) (g.R.Input.remaining c.read_up_to.new.input) xs) (take_all c.in-Ok-eq4.field-0 first (omega (arith, c.in-Ok-eq4.field-0-is, c.read_up_to.auto.to))) c.in-Ok-eq4.ensures.bytes in
+    (first ++ take size table, table_long (front at), consumes_both _ _ _ first (take size table) f c.in-Ok-read_front.ensures.bytes)
 
 pub overflow_mul-words : goal.overflow_mul-words
 overflow_mul-words g c = omega (arith, c.in-Ok-ends_of.ensures.small, c.if-told.false)
@@ -89,4 +104,5 @@ returns g c =
       works = search rules;
       refused = search rules;
       failed = search rules;
+      taken = search rules;
     }
