@@ -670,6 +670,15 @@ lists_alone m m' (ObjectFlat start size n) ready list object = tt
 lists_alone m m' (ObjectPointers start n) ready list object = tt
 lists_alone m m' (ObjectStructs start size n) ready list object = tt
 
+-- There are three kinds of lists.
+pub no_list_else : (x : Object) → IsList x → ((start : Place) (size : ElementSize) (n : ℕ) → x ≡ ObjectFlat start size n → ⊥) → ((start : Place) (n : ℕ) → x ≡ ObjectPointers start n → ⊥) → ((start : Place) (size : StructSize) (n : ℕ) → x ≡ ObjectStructs start size n → ⊥) → ⊥
+no_list_else (ObjectFlat start size n) list flat pointers structs = flat start size n refl
+no_list_else (ObjectPointers start n) list flat pointers structs = pointers start n refl
+no_list_else (ObjectStructs start size n) list flat pointers structs = structs start size n refl
+no_list_else ObjectNull list flat pointers structs = list
+no_list_else (ObjectCapability i) list flat pointers structs = list
+no_list_else (ObjectStruct start size) list flat pointers structs = list
+
 -- the words of an object are there
 
 pub struct_room : {r : Reading} {m m' : Meter} (start : Place) (size : StructSize) → IsObject Value r m m' (ObjectStruct start size) → start.at + (size.data_words + size.pointers) ≤ length (segment_read (beginning r start))

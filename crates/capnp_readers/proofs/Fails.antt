@@ -1,6 +1,6 @@
 -- Where the test for canonical form fails, which is a no: by which object, and what was charged until then.
 use Rattle.std.proofs.Common.{◌≡◌, ◌≢◌, ℕ, ◌+◌, ◌-◌, ◌*◌, ◌<◌, inl, inr, pred, Bool, IsTrue, [], ◌∷◌, true, false, Option, Some, None, sym, ap, ap₂, ◌∙◌, subst, arith}
-use Rattle.std.specs.Prelude.{IfNone, IfSome, is_some, not}
+use Rattle.std.specs.Prelude.{IfSome, is_some, not}
 use Rattle.capnp_format.specs.Word.{kind, offset_bits, data_words, pointer_count, element_size, list_count}
 use Rattle.capnp_format.specs.Numbers.{words_for}
 use Rattle.capnp_format.specs.Bytes.{words_of}
@@ -23,14 +23,9 @@ use Rattle.capnp_readers.specs.declared.readers.canonical_fault.CanonicalFault.{
 use Rattle.capnp_readers.specs.declared.readers.canonical_fault.CanonicalFaultReason.TheVariants.{EmptyStructPlace, ObjectPlace, Padding, ElementData, ElementPointers}
 use Rattle.capnp_readers.specs.Faults.{FaultIs}
 use Rattle.capnp_readers.specs.Standing.{IsPadded}
-use Rattle.capnp_readers.specs.Checking.{Progress, progress, AreFound, AreFoundTooWide, IsTested, StartsRight, TellsFlat, TestsEnd, RowTestsEnd, here, below, IsFault, IsUnfit, HasWideSection, empty_elsewhere, elsewhere, not_padded, other_claim, wide_sections, wide_elements, TestEnds, SectionsFail, ClaimedFails}
+use Rattle.capnp_readers.specs.Checking.{Progress, progress, AreFound, AreFoundTooWide, IsTested, StartsRight, TestsEnd, RowTestsEnd, here, below, IsFault, IsUnfit, HasWideSection, empty_elsewhere, elsewhere, not_padded, other_claim, wide_sections, wide_elements, TestEnds, SectionsFail, ClaimedFails}
 use Rattle.capnp_readers.proofs.Checks.{near_object, struct_pointers, list_elements, padded_at, some_starts, first_element, same_elements, lists_alone, AreSeen, struct_ends, structs_end}
 use Rattle.capnp_objects.proofs.Followed.{entered_leads}
-
--- what is so of no value is so of it in other words
-pub none_so : {A X Y : Type 0} (o : Option A) → IfNone o X → (X → Y) → IfNone o Y
-none_so None x f = f x
-none_so (Some a) x f = tt
 
 -- A test that ends where P says so ends where Q does that follows; so does that of pointers.
 pub ends_so : {P Q : Reading → Progress → Meter → Type 0} {r : Reading} {from : Progress} {m' : Meter} → ((s : Reading) (at : Progress) (m : Meter) → P s at m → Q s at m) → TestEnds P r from m' → TestEnds Q r from m'
@@ -73,11 +68,10 @@ unplaced_fails (ObjectStructs start size n) fault ready list (a, o, z, seven, (h
     here (elsewhere a fault ready.near o (λ none. let e = none.0 in omega (arith, e, z)) (λ e. other (omega (arith, e, at))))
 
 -- A list of numbers with other bits than zeros behind them.
-pub flat_fails : {r : Reading} {from : Progress} {m' : Meter} (f : CanonicalFault) (start : Place) (size : ElementSize) (n : ℕ) (o : Option ℕ) → IsTested r → IsObject Value r from.meter m' (ObjectFlat start size n) →
-    StartsRight (ObjectFlat start size n) r.at from.head → TellsFlat (words_of start.bytes.now) start.at size n o →
-    IfNone o (FaultIs f Padding start.segment (start.at + words_for (size_number size) n - 1)) → IfNone o (TestEnds (IsFault f) r from m')
-flat_fails f start size n (Some e) ready object right told fault = tt
-flat_fails {r} {from} {m'} f start size n None ready (a, o, z, small, (held, seg, at), width, len) right fails (reason, segment, word) =
+pub flat_fails : {f : CanonicalFault} {r : Reading} {from : Progress} {m' : Meter} (start : Place) (size : ElementSize) (n : ℕ) → IsTested r → IsObject Value r from.meter m' (ObjectFlat start size n) →
+    StartsRight (ObjectFlat start size n) r.at from.head → (IsPadded (words_of start.bytes.now ∷ []) 0 start.at (size_number size) n → ⊥) →
+    FaultIs f Padding start.segment (start.at + words_for (size_number size) n - 1) → TestEnds (IsFault f) r from m'
+flat_fails {f} {r} {from} {m'} start size n ready (a, o, z, small, (held, seg, at), width, len) right fails (reason, segment, word) =
     let last : f.word ≡ a.start + words_for (element_size a.word) (list_count a.word) - 1 = word ∙ ap₂ (λ i j. start.at + words_for i j - 1) width len ∙ omega (arith, at) in
     here (not_padded a (reason, segment ∙ seg, last) ready.near o (omega (arith, right, at)) z small (λ padded. fails
     (subst (λ ws. IsPadded (ws ∷ []) 0 start.at (size_number size) n) (sym held.0) (padded_at r.segments (sym seg) (omega (arith, at)) (sym width) (sym len) padded))))

@@ -17,6 +17,7 @@ ghost use Rattle.capnp_objects.specs.Wanted.{plain};
 ghost use Rattle.capnp_objects.specs.declared.object.Purpose.TheVariants.{Value};
 
 mod canonical;
+mod canonical_answer;
 mod canonical_fault;
 mod list_reader;
 mod primitive_element;

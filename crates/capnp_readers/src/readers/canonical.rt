@@ -1,5 +1,5 @@
 //! The test for canonical form, in place.
-ghost use Rattle.std.specs.Prelude.{ℕ, ◌≡◌, ◌≢◌, ◌<◌, ◌≤◌, ◌+◌, ◌*◌, ◌/◌, ◌-◌, ◌⊎◌, ◌↔◌, pred, ◌^◌, None, IsTrue, IsNone, Ok, true, false, IfOk, IfErr, IfNone, IfSome, OnErr, length, slice_index};
+ghost use Rattle.std.specs.Prelude.{ℕ, ◌≡◌, ◌≢◌, ◌<◌, ◌≤◌, ◌+◌, ◌*◌, ◌/◌, ◌-◌, ◌⊎◌, ◌↔◌, pred, ◌^◌, None, IsTrue, IsNone, Ok, true, false, Some, Err, IfOk, IfErr, IfNone, IfSome, OnOk, OnErr, length, slice_index};
 ghost use Rattle.std.specs.Bool.{OnFalse};
 ghost use Rattle.capnp_format.specs.Bytes.{words_of};
 ghost use Rattle.capnp_format.specs.Word.{kind, element_size};
@@ -7,11 +7,12 @@ ghost use Rattle.capnp_format.specs.Numbers.{words_for};
 ghost use Rattle.capnp_words.specs.Sizes.{size_number};
 ghost use Rattle.capnp_objects.specs.Reading.{segment_read, word_of};
 ghost use Rattle.capnp_objects.specs.Source.{levels};
-ghost use Rattle.capnp_readers.specs.Faults.{FaultIs, other_reason};
+ghost use Rattle.capnp_readers.specs.Faults.{FaultIs};
 ghost use Rattle.capnp_readers.specs.Readers.{reading};
 ghost use Rattle.capnp_readers.specs.Sizes.{pointers_read, reading_on};
 ghost use Rattle.capnp_readers.specs.Checking.{progress, level_refusal_name, IsFound, AreFound, IsCanonicalAt, IsTested, StartsRight, Tells, TellsAll, TellsFlat, TellsStruct, TellsRows, TellsClaimed, TestStops, TestsStop, StructTestStops, RowTestsStop, TestEnds, IsFault, IsUnfit, TestsEnd, SectionsFail, RowsFail, ClaimedFails, StructTestFails, StartsWhole, IsCanonicalStruct, IsDataUsed, ArePointersUsed, head_behind};
 
+use crate::readers::canonical_answer::{Answer, Stopped, fault_at, reason_of, refused, unanswered};
 use crate::readers::canonical_fault::{CanonicalFault, CanonicalFaultReason};
 use crate::readers::sizes::{flat_words, is_of_bits};
 use crate::readers::{PointerReader, StructReader};
@@ -88,15 +89,14 @@ impl<'a, A: ReaderArena> PointerReader<'a, A> {
             (progress head.old lim.old) lim.new)) }
         ensures kept { (result ≡ Ok None → ⊥) → head.new ≡ head.old }
     {
-        let mut fault = no_fault();
+        let mut answer = unanswered();
         let nesting_limit = self.nesting_limit;
-        match test_place(self, self.place.at, nesting_limit, *head, lim, &mut fault) {
-            Ok(Some(end)) => {
+        match test_place(self, self.place.at, nesting_limit, *head, lim, &mut answer) {
+            Ok(end) => {
                 *head = end;
                 Ok(None)
             }
-            Ok(None) => Ok(Some(fault)),
-            Err(kind) => Err(kind),
+            Err(Stopped) => Ok(Some(answer?)),
         }
     }
 }
@@ -156,6 +156,7 @@ impl<'a, A: ReaderArena> StructReader<'a, A> {
             nesting_limit: self.nesting_limit,
         };
         let count = u32::from(self.pointer_count);
+        let mut answer = unanswered();
         let end = match test_children(
             &first,
             self.pointers.at,
@@ -163,11 +164,13 @@ impl<'a, A: ReaderArena> StructReader<'a, A> {
             self.nesting_limit,
             *ptr_head,
             lim,
-            &mut no_fault(),
+            &mut answer,
         ) {
-            Ok(Some(end)) => end,
-            Ok(None) => return Ok(false),
-            Err(kind) => return Err(kind),
+            Ok(end) => end,
+            Err(Stopped) => {
+                answer?;
+                return Ok(false);
+            }
         };
         let data_words = self.bits / 64;
         *data_trunc = ends_used(self.pointers, *read_head, data_words);
@@ -235,8 +238,7 @@ impl<'a, A: ReaderArena> StructReader<'a, A> {
 }
 
 /// Tests the pointer at a position, the first object being at a head: the head behind the canonical
-/// words, or `None` where there are none, and the fault is noted. All lies in one segment, whose reader
-/// serves every level.
+/// words, if there are any. All lies in one segment, whose reader serves every level.
 #[cycle(tests)]
 #[inline(always)]
 fn test_place<A: ReaderArena>(
@@ -245,34 +247,35 @@ fn test_place<A: ReaderArena>(
     nesting_limit: i32,
     head: u32,
     lim: &mut ReadLimiter,
-    fault: &mut CanonicalFault,
-) -> Result<Option<u32>, ErrorKind>
-    ensures tells { IfOk result (Tells (reading_on A.ReaderArena from.now at nesting_limit)
-        (progress head lim.old) lim.new) }
-    ensures refused { IfErr result
+    answer: &mut Answer,
+) -> Result<u32, Stopped>
+    ensures tells { IfOk result (λ end.
+        Tells (reading_on A.ReaderArena from.now at nesting_limit)
+        (progress head lim.old) lim.new (Some end)) }
+    ensures never { OnErr result (OnOk answer.new
+        (Tells (reading_on A.ReaderArena from.now at nesting_limit)
+        (progress head lim.old) lim.new None)) }
+    ensures refused { OnErr result (IfErr answer.new
         (λ k. TestStops k (reading_on A.ReaderArena from.now at nesting_limit)
-        (progress head lim.old) lim.new) }
-    ensures failed { IfOk result (λ o.
-        IfNone o (TestEnds (IsFault fault.new)
+        (progress head lim.old) lim.new)) }
+    ensures failed { OnErr result (IfOk answer.new (λ f. TestEnds (IsFault f)
         (reading_on A.ReaderArena from.now at nesting_limit)
         (progress head lim.old) lim.new)) }
 {
     let word = Place { at, ..from.place }.word();
     if at as usize >= whole_words(from.place.bytes) {
-        note(fault, from.place, at, CanonicalFaultReason::NoPointer);
-        return Ok(None);
+        return Err(fault_at(answer, from.place, at, CanonicalFaultReason::NoPointer));
     }
     if !word.is_positional() {
-        note(fault, from.place, at, reason_of(word));
-        return Ok(None);
+        return Err(fault_at(answer, from.place, at, reason_of(word)));
     }
     if word.is_null() {
-        return Ok(Some(head));
+        return Ok(head);
     }
     match word.kind() {
-        WirePointerKind::Struct => test_struct(from, at, word, nesting_limit, head, lim, fault),
-        _ if is_of_bits(word) => test_near_flat(from, at, word, nesting_limit, head, lim, fault),
-        _ => test_list(from, at, word, nesting_limit, head, lim, fault),
+        WirePointerKind::Struct => test_struct(from, at, word, nesting_limit, head, lim, answer),
+        _ if is_of_bits(word) => test_near_flat(from, at, word, nesting_limit, head, lim, answer),
+        _ => test_list(from, at, word, nesting_limit, head, lim, answer),
     }
 }
 
@@ -285,28 +288,27 @@ fn test_children<A: ReaderArena>(
     nesting_limit: i32,
     first: u32,
     lim: &mut ReadLimiter,
-    fault: &mut CanonicalFault,
-) -> Result<Option<u32>, ErrorKind>
+    answer: &mut Answer,
+) -> Result<u32, Stopped>
     requires inside { at + count ≤ length (segment_read (reading A.ReaderArena from.now)) }
-    ensures tells { IfOk result (TellsAll (reading_on A.ReaderArena from.now at nesting_limit) count
-        (progress first lim.old) lim.new) }
-    ensures refused { IfErr result
+    ensures tells { IfOk result (λ end.
+        TellsAll (reading_on A.ReaderArena from.now at nesting_limit) count
+        (progress first lim.old) lim.new (Some end)) }
+    ensures never { OnErr result (OnOk answer.new
+        (TellsAll (reading_on A.ReaderArena from.now at nesting_limit) count
+        (progress first lim.old) lim.new None)) }
+    ensures refused { OnErr result (IfErr answer.new
         (TestsStop (reading_on A.ReaderArena from.now at nesting_limit) count
-        (progress first lim.old) lim.new) }
-    ensures failed { IfOk result (λ o.
-        IfNone o (TestsEnd (IsFault fault.new)
+        (progress first lim.old) lim.new)) }
+    ensures failed { OnErr result (IfOk answer.new (λ f. TestsEnd (IsFault f)
         (reading_on A.ReaderArena from.now at nesting_limit) count
         (progress first lim.old) lim.new)) }
 {
     let mut head = first;
     for i in 0..count {
-        head = match test_place(from, at + i, nesting_limit, head, lim, fault) {
-            Ok(Some(end)) => end,
-            Ok(None) => return Ok(None),
-            Err(kind) => return Err(kind),
-        };
+        head = test_place(from, at + i, nesting_limit, head, lim, answer)?;
     }
-    Ok(Some(head))
+    Ok(head)
 }
 
 /// Tests the struct that the word at a position describes.
@@ -319,19 +321,22 @@ fn test_struct<A: ReaderArena>(
     nesting_limit: i32,
     head: u32,
     lim: &mut ReadLimiter,
-    fault: &mut CanonicalFault,
-) -> Result<Option<u32>, ErrorKind>
+    answer: &mut Answer,
+) -> Result<u32, Stopped>
     requires tested { IsTested (reading_on A.ReaderArena from.now at nesting_limit) }
     requires there { word.0 ≡ word_of (reading_on A.ReaderArena from.now at nesting_limit) }
     requires some { word.0 ≢ 0 }
     requires is_struct { kind word.0 ≡ 0 }
-    ensures tells { IfOk result (Tells (reading_on A.ReaderArena from.now at nesting_limit)
-        (progress head lim.old) lim.new) }
-    ensures refused { IfErr result
+    ensures tells { IfOk result (λ end.
+        Tells (reading_on A.ReaderArena from.now at nesting_limit)
+        (progress head lim.old) lim.new (Some end)) }
+    ensures never { OnErr result (OnOk answer.new
+        (Tells (reading_on A.ReaderArena from.now at nesting_limit)
+        (progress head lim.old) lim.new None)) }
+    ensures refused { OnErr result (IfErr answer.new
         (λ k. TestStops k (reading_on A.ReaderArena from.now at nesting_limit)
-        (progress head lim.old) lim.new) }
-    ensures failed { IfOk result (λ o.
-        IfNone o (TestEnds (IsFault fault.new)
+        (progress head lim.old) lim.new)) }
+    ensures failed { OnErr result (IfOk answer.new (λ f. TestEnds (IsFault f)
         (reading_on A.ReaderArena from.now at nesting_limit)
         (progress head lim.old) lim.new)) }
 {
@@ -341,26 +346,24 @@ fn test_struct<A: ReaderArena>(
         .read_near_struct(place, word, nesting_limit, lim)
     {
         Ok(start) => start,
-        Err(kind) => return Err(name_of_refusal(word, kind)),
+        Err(kind) => return Err(refused(answer, word, kind)),
     };
     let size = word.struct_size();
     if size.total() == 0 {
         if start == at {
-            return Ok(Some(head));
+            return Ok(head);
         }
-        note(
-            fault,
+        return Err(fault_at(
+            answer,
             from.place,
             at,
             CanonicalFaultReason::EmptyStructPlace,
-        );
-        return Ok(None);
+        ));
     }
     if start != head {
-        note(fault, from.place, at, CanonicalFaultReason::ObjectPlace);
-        return Ok(None);
+        return Err(fault_at(answer, from.place, at, CanonicalFaultReason::ObjectPlace));
     }
-    test_sections(from, start, size, less(nesting_limit), lim, fault)
+    test_sections(from, start, size, less(nesting_limit), lim, answer)
 }
 
 /// Tests the sections of a struct that starts at a position, its first object being right behind it.
@@ -372,47 +375,44 @@ fn test_sections<A: ReaderArena>(
     size: StructSize,
     nesting_limit: i32,
     lim: &mut ReadLimiter,
-    fault: &mut CanonicalFault,
-) -> Result<Option<u32>, ErrorKind>
+    answer: &mut Answer,
+) -> Result<u32, Stopped>
     requires inside { start + (size.data_words + size.pointers)
         ≤ length (segment_read (reading A.ReaderArena from.now)) }
-    ensures tells { IfOk result (TellsStruct (reading_on A.ReaderArena from.now start nesting_limit)
-        size lim.old lim.new) }
-    ensures refused { IfErr result
+    ensures tells { IfOk result (λ end.
+        TellsStruct (reading_on A.ReaderArena from.now start nesting_limit) size
+        lim.old lim.new (Some end)) }
+    ensures never { OnErr result (OnOk answer.new
+        (TellsStruct (reading_on A.ReaderArena from.now start nesting_limit) size
+        lim.old lim.new None)) }
+    ensures refused { OnErr result (IfErr answer.new
         (StructTestStops (reading_on A.ReaderArena from.now start nesting_limit) size
-        lim.old lim.new) }
-    ensures failed { IfOk result (λ o.
-        IfNone o (SectionsFail fault.new
+        lim.old lim.new)) }
+    ensures failed { OnErr result (IfOk answer.new (λ f. SectionsFail f
         (reading_on A.ReaderArena from.now start nesting_limit) size lim.old lim.new)) }
 {
     let data_words = u32::from(size.data_words);
     let pointers = u32::from(size.pointers);
     let first = start + data_words;
     let behind = first + pointers;
-    let end = match test_row(from, first, pointers, nesting_limit, behind, lim, fault) {
-        Ok(Some(end)) => end,
-        Ok(None) => return Ok(None),
-        Err(kind) => return Err(kind),
-    };
+    let end = test_row(from, first, pointers, nesting_limit, behind, lim, answer)?;
     if !ends_used(from.place, start, data_words) {
-        note(
-            fault,
+        return Err(fault_at(
+            answer,
             from.place,
             first - 1,
             CanonicalFaultReason::DataSection,
-        );
-        return Ok(None);
+        ));
     }
     if !ends_used(from.place, first, pointers) {
-        note(
-            fault,
+        return Err(fault_at(
+            answer,
             from.place,
             behind - 1,
             CanonicalFaultReason::PointerSection,
-        );
-        return Ok(None);
+        ));
     }
-    Ok(Some(end))
+    Ok(end)
 }
 
 /// Tests the list of bits or bytes that the word at a position describes, as `test_list` does.
@@ -424,20 +424,23 @@ fn test_near_flat<A: ReaderArena>(
     nesting_limit: i32,
     head: u32,
     lim: &mut ReadLimiter,
-    fault: &mut CanonicalFault,
-) -> Result<Option<u32>, ErrorKind>
+    answer: &mut Answer,
+) -> Result<u32, Stopped>
     requires tested { IsTested (reading_on A.ReaderArena from.now at nesting_limit) }
     requires there { word.0 ≡ word_of (reading_on A.ReaderArena from.now at nesting_limit) }
     requires small { word.0 < 2 ^ 64 }
     requires is_list { kind word.0 ≡ 1 }
     requires of_bits { (0 < element_size word.0) × (element_size word.0 ≤ 5) }
-    ensures tells { IfOk result (Tells (reading_on A.ReaderArena from.now at nesting_limit)
-        (progress head lim.old) lim.new) }
-    ensures refused { IfErr result
+    ensures tells { IfOk result (λ end.
+        Tells (reading_on A.ReaderArena from.now at nesting_limit)
+        (progress head lim.old) lim.new (Some end)) }
+    ensures never { OnErr result (OnOk answer.new
+        (Tells (reading_on A.ReaderArena from.now at nesting_limit)
+        (progress head lim.old) lim.new None)) }
+    ensures refused { OnErr result (IfErr answer.new
         (λ k. TestStops k (reading_on A.ReaderArena from.now at nesting_limit)
-        (progress head lim.old) lim.new) }
-    ensures failed { IfOk result (λ o.
-        IfNone o (TestEnds (IsFault fault.new)
+        (progress head lim.old) lim.new)) }
+    ensures failed { OnErr result (IfOk answer.new (λ f. TestEnds (IsFault f)
         (reading_on A.ReaderArena from.now at nesting_limit)
         (progress head lim.old) lim.new)) }
 {
@@ -450,14 +453,16 @@ fn test_near_flat<A: ReaderArena>(
         .read_near_flat(place, word, words, nesting_limit, lim)
     {
         Ok(start) => start,
-        Err(kind) => return Err(name_of_refusal(word, kind)),
+        Err(kind) => return Err(refused(answer, word, kind)),
     };
     if start != head {
-        note(fault, from.place, at, CanonicalFaultReason::ObjectPlace);
-        return Ok(None);
+        return Err(fault_at(answer, from.place, at, CanonicalFaultReason::ObjectPlace));
     }
-    let place = from.place;
-    Ok(test_flat(place.bytes, place.segment, start, size, count, fault))
+    let first = Place {
+        at: start,
+        ..from.place
+    };
+    test_flat(first, size, count, answer)
 }
 
 /// Tests the list that the word at a position describes.
@@ -470,48 +475,44 @@ fn test_list<A: ReaderArena>(
     nesting_limit: i32,
     head: u32,
     lim: &mut ReadLimiter,
-    fault: &mut CanonicalFault,
-) -> Result<Option<u32>, ErrorKind>
+    answer: &mut Answer,
+) -> Result<u32, Stopped>
     requires tested { IsTested (reading_on A.ReaderArena from.now at nesting_limit) }
     requires there { word.0 ≡ word_of (reading_on A.ReaderArena from.now at nesting_limit) }
     requires is_list { kind word.0 ≡ 1 }
-    ensures tells { IfOk result (Tells (reading_on A.ReaderArena from.now at nesting_limit)
-        (progress head lim.old) lim.new) }
-    ensures refused { IfErr result
+    ensures tells { IfOk result (λ end.
+        Tells (reading_on A.ReaderArena from.now at nesting_limit)
+        (progress head lim.old) lim.new (Some end)) }
+    ensures never { OnErr result (OnOk answer.new
+        (Tells (reading_on A.ReaderArena from.now at nesting_limit)
+        (progress head lim.old) lim.new None)) }
+    ensures refused { OnErr result (IfErr answer.new
         (λ k. TestStops k (reading_on A.ReaderArena from.now at nesting_limit)
-        (progress head lim.old) lim.new) }
-    ensures failed { IfOk result (λ o.
-        IfNone o (TestEnds (IsFault fault.new)
+        (progress head lim.old) lim.new)) }
+    ensures failed { OnErr result (IfOk answer.new (λ f. TestEnds (IsFault f)
         (reading_on A.ReaderArena from.now at nesting_limit)
         (progress head lim.old) lim.new)) }
 {
     let place = Place { at, ..from.place };
     let object = match from.source.read_object(place, nesting_limit, lim) {
         Ok(object) => object,
-        Err(kind) => return Err(name_of_refusal(word, kind)),
+        Err(kind) => return Err(refused(answer, word, kind)),
     };
     if !starts_right(object, at, head) {
-        note(fault, from.place, at, CanonicalFaultReason::ObjectPlace);
-        return Ok(None);
+        return Err(fault_at(answer, from.place, at, CanonicalFaultReason::ObjectPlace));
     }
     match object {
-        Object::Null | Object::Capability(_) | Object::Struct { .. } => {
-            note(fault, from.place, at, CanonicalFaultReason::ObjectPlace);
-            Ok(None)
-        }
-        Object::Flat { start, size, count } => {
-            let (bytes, segment) = (start.bytes, start.segment);
-            Ok(test_flat(bytes, segment, start.at, size, count, fault))
-        }
+        Object::Flat { start, size, count } => test_flat(start, size, count, answer),
         Object::Pointers { start, count } => {
             let end = start.at + count;
-            test_children(from, start.at, count, less(nesting_limit), end, lim, fault)
+            test_children(from, start.at, count, less(nesting_limit), end, lim, answer)
         }
         Object::Structs { start, size, count } => {
             let claimed = word.list_inline_composite_word_count();
             let inner = less(nesting_limit);
-            test_structs(from, start.at, size, count, inner, claimed, lim, fault)
+            test_structs(from, start.at, size, count, inner, claimed, lim, answer)
         }
+        _ => Err(fault_at(answer, from.place, at, CanonicalFaultReason::ObjectPlace)),
     }
 }
 
@@ -525,35 +526,37 @@ fn test_structs<A: ReaderArena>(
     nesting_limit: i32,
     claimed: u32,
     lim: &mut ReadLimiter,
-    fault: &mut CanonicalFault,
-) -> Result<Option<u32>, ErrorKind>
+    answer: &mut Answer,
+) -> Result<u32, Stopped>
     requires inside { start + claimed ≤ length (segment_read (reading A.ReaderArena from.now)) }
     requires tagged { 0 < start }
-    ensures tells { IfOk result (TellsClaimed
-        (reading_on A.ReaderArena from.now start nesting_limit) size count claimed
-        lim.old lim.new) }
-    ensures exact { OnErr result (count * (size.data_words + size.pointers) ≡ claimed) }
-    ensures refused { IfErr result
+    ensures tells { IfOk result (λ end.
+        TellsClaimed (reading_on A.ReaderArena from.now start nesting_limit) size count claimed
+        lim.old lim.new (Some end)) }
+    ensures never { OnErr result (OnOk answer.new
+        (TellsClaimed (reading_on A.ReaderArena from.now start nesting_limit) size count claimed
+        lim.old lim.new None)) }
+    ensures exact { OnErr result (OnErr answer.new
+        (count * (size.data_words + size.pointers) ≡ claimed)) }
+    ensures refused { OnErr result (IfErr answer.new
         (RowTestsStop (reading_on A.ReaderArena from.now start nesting_limit) size count
-        (progress (start + claimed) lim.old) lim.new) }
-    ensures failed { IfOk result (λ o.
-        IfNone o (ClaimedFails fault.new
+        (progress (start + claimed) lim.old) lim.new)) }
+    ensures failed { OnErr result (IfOk answer.new (λ f. ClaimedFails f
         (reading_on A.ReaderArena from.now start nesting_limit) size count
         claimed lim.old lim.new)) }
 {
     if u64::from(count) * u64::from(size.total()) != u64::from(claimed) {
-        note(
-            fault,
+        return Err(fault_at(
+            answer,
             from.place,
             start - 1,
             CanonicalFaultReason::ElementWords,
-        );
-        return Ok(None);
+        ));
     }
     if size.total() == 0 {
-        return Ok(Some(start));
+        return Ok(start);
     }
-    test_rows(from, start, size, count, nesting_limit, lim, fault)
+    test_rows(from, start, size, count, nesting_limit, lim, answer)
 }
 
 /// Tests so many elements of a list of structs, one behind the other from a place on, their first
@@ -566,18 +569,21 @@ fn test_rows<A: ReaderArena>(
     count: u32,
     nesting_limit: i32,
     lim: &mut ReadLimiter,
-    fault: &mut CanonicalFault,
-) -> Result<Option<u32>, ErrorKind>
+    answer: &mut Answer,
+) -> Result<u32, Stopped>
     requires inside { start + count * (size.data_words + size.pointers)
         ≤ length (segment_read (reading A.ReaderArena from.now)) }
     requires tagged { 0 < start }
-    ensures tells { IfOk result (TellsRows (reading_on A.ReaderArena from.now start nesting_limit)
-        size count (progress (start + count * (size.data_words + size.pointers)) lim.old) lim.new) }
-    ensures refused { IfErr result
+    ensures tells { IfOk result (λ end.
+        TellsRows (reading_on A.ReaderArena from.now start nesting_limit) size count
+        (progress (start + count * (size.data_words + size.pointers)) lim.old) lim.new (Some end)) }
+    ensures never { OnErr result (OnOk answer.new
+        (TellsRows (reading_on A.ReaderArena from.now start nesting_limit) size count
+        (progress (start + count * (size.data_words + size.pointers)) lim.old) lim.new None)) }
+    ensures refused { OnErr result (IfErr answer.new
         (RowTestsStop (reading_on A.ReaderArena from.now start nesting_limit) size count
-        (progress (start + count * (size.data_words + size.pointers)) lim.old) lim.new) }
-    ensures failed { IfOk result (λ o.
-        IfNone o (RowsFail fault.new
+        (progress (start + count * (size.data_words + size.pointers)) lim.old) lim.new)) }
+    ensures failed { OnErr result (IfOk answer.new (λ f. RowsFail f
         (reading_on A.ReaderArena from.now start nesting_limit) size count
         lim.old lim.new)) }
 {
@@ -589,41 +595,28 @@ fn test_rows<A: ReaderArena>(
     let mut are_pointers_used = pointers == 0;
     for i in 0..count {
         let at = start + i * width;
-        head = match test_row(
-            from,
-            at + data_words,
-            pointers,
-            nesting_limit,
-            head,
-            lim,
-            fault,
-        ) {
-            Ok(Some(end)) => end,
-            Ok(None) => return Ok(None),
-            Err(kind) => return Err(kind),
-        };
+        let first = at + data_words;
+        head = test_row(from, first, pointers, nesting_limit, head, lim, answer)?;
         is_data_used = is_data_used || ends_used(from.place, at, data_words);
-        are_pointers_used = are_pointers_used || ends_used(from.place, at + data_words, pointers);
+        are_pointers_used = are_pointers_used || ends_used(from.place, first, pointers);
     }
     if !is_data_used {
-        note(
-            fault,
+        return Err(fault_at(
+            answer,
             from.place,
             start - 1,
             CanonicalFaultReason::ElementData,
-        );
-        return Ok(None);
+        ));
     }
     if !are_pointers_used {
-        note(
-            fault,
+        return Err(fault_at(
+            answer,
             from.place,
             start - 1,
             CanonicalFaultReason::ElementPointers,
-        );
-        return Ok(None);
+        ));
     }
-    Ok(Some(head))
+    Ok(head)
 }
 
 /// Tests so many pointers of a struct, one behind the other from a position on. Where there are none
@@ -637,58 +630,80 @@ fn test_row<A: ReaderArena>(
     nesting_limit: i32,
     first: u32,
     lim: &mut ReadLimiter,
-    fault: &mut CanonicalFault,
-) -> Result<Option<u32>, ErrorKind>
+    answer: &mut Answer,
+) -> Result<u32, Stopped>
     requires inside { at + count ≤ length (segment_read (reading A.ReaderArena from.now)) }
-    ensures tells { IfOk result (TellsAll (reading_on A.ReaderArena from.now at nesting_limit) count
-        (progress first lim.old) lim.new) }
-    ensures refused { IfErr result
+    ensures tells { IfOk result (λ end.
+        TellsAll (reading_on A.ReaderArena from.now at nesting_limit) count
+        (progress first lim.old) lim.new (Some end)) }
+    ensures never { OnErr result (OnOk answer.new
+        (TellsAll (reading_on A.ReaderArena from.now at nesting_limit) count
+        (progress first lim.old) lim.new None)) }
+    ensures refused { OnErr result (IfErr answer.new
         (TestsStop (reading_on A.ReaderArena from.now at nesting_limit) count
-        (progress first lim.old) lim.new) }
-    ensures failed { IfOk result (λ o.
-        IfNone o (TestsEnd (IsFault fault.new)
+        (progress first lim.old) lim.new)) }
+    ensures failed { OnErr result (IfOk answer.new (λ f. TestsEnd (IsFault f)
         (reading_on A.ReaderArena from.now at nesting_limit) count
         (progress first lim.old) lim.new)) }
 {
     if count == 0 {
-        return Ok(Some(first));
+        return Ok(first);
     }
-    test_children(from, at, count, nesting_limit, first, lim, fault)
+    test_children(from, at, count, nesting_limit, first, lim, answer)
 }
 
-/// Tests a list of numbers that starts at a position of a segment: the bits behind the last one have to be
-/// zero.
+/// Tests a list of numbers that starts at a place: the bits behind the last one have to be zero.
+#[inline(always)]
 fn test_flat(
-    bytes: &[u8],
-    segment: u64,
-    start: u32,
+    start: Place,
     size: ElementSize,
     count: u32,
-    fault: &mut CanonicalFault,
-) -> Option<u32>
+    answer: &mut Answer,
+) -> Result<u32, Stopped>
+    requires inside { start.at + words_for (size_number size) count
+        ≤ length (words_of start.bytes.now) }
+    requires small { length (words_of start.bytes.now) < 2 ^ 32 }
+    requires is_flat { size_number size ≤ 5 }
+    requires few { count < 2 ^ 29 }
+    ensures tells { IfOk result (λ end.
+        TellsFlat (words_of start.entry.bytes.now) start.entry.at size count (Some end)) }
+    ensures never { OnErr result
+        (TellsFlat (words_of start.entry.bytes.now) start.entry.at size count None) }
+    ensures failed { OnErr result (answer.new ≡ Ok (record {
+      segment = start.entry.segment;
+      word = start.entry.at + words_for (size_number size) count - 1;
+      reason = CanonicalFaultReason.Padding;
+    })) }
+{
+    match padded_end(start.bytes, start.at, size, count) {
+        Ok(end) => Ok(end),
+        Err(word) => Err(fault_at(answer, start, word, CanonicalFaultReason::Padding)),
+    }
+}
+
+/// The position behind a list of numbers that starts at one, or that of the word which has other bits than
+/// zeros behind the last number.
+#[inline(always)]
+fn padded_end(bytes: &[u8], start: u32, size: ElementSize, count: u32) -> Result<u32, u32>
     requires inside { start + words_for (size_number size) count ≤ length (words_of bytes.now) }
     requires small { length (words_of bytes.now) < 2 ^ 32 }
     requires is_flat { size_number size ≤ 5 }
     requires few { count < 2 ^ 29 }
-    ensures tells { TellsFlat (words_of bytes.now) start size count result }
-    ensures failed { IfNone result (FaultIs fault.new CanonicalFaultReason.Padding segment
-        (start + words_for (size_number size) count - 1)) }
+    ensures tells { IfOk result (λ end.
+        TellsFlat (words_of bytes.now) start size count (Some end)) }
+    ensures never { OnErr result (TellsFlat (words_of bytes.now) start size count None) }
+    ensures word { IfErr result (λ i. i ≡ start + words_for (size_number size) count - 1) }
 {
     let bits = u64::from(count) * u64::from(data_bits_per_element(size));
     let end = start + (bits / 64) as u32;
     let rest = bits % 64;
     if rest == 0 {
-        Some(end)
-    } else if is_zero_from(word_at(bytes, end as usize), rest) {
-        Some(end + 1)
-    } else {
-        *fault = CanonicalFault {
-            segment,
-            word: end,
-            reason: CanonicalFaultReason::Padding,
-        };
-        None
+        return Ok(end);
     }
+    if !is_zero_from(word_at(bytes, end as usize), rest) {
+        return Err(end);
+    }
+    Ok(end + 1)
 }
 
 /// Whether the bits of a word from a position on are zero.
@@ -698,39 +713,6 @@ fn is_zero_from(word: u64, position: u64) -> bool
     ensures { IsTrue result ↔ (word / 2 ^ position ≡ 0) }
 {
     lanes::is_zero((word >> position).to_le_bytes().as_slice())
-}
-
-/// Notes a fault of a word of a place's segment.
-fn note(fault: &mut CanonicalFault, place: Place, word: u32, reason: CanonicalFaultReason)
-    ensures { FaultIs fault.new reason place.entry.segment word }
-{
-    *fault = CanonicalFault {
-        segment: place.segment,
-        word,
-        reason,
-    };
-}
-
-/// A fault to be noted.
-fn no_fault() -> CanonicalFault {
-    CanonicalFault {
-        segment: 0,
-        word: 0,
-        reason: CanonicalFaultReason::NoPointer,
-    }
-}
-
-/// Why the pointer of a word isn't canonical that is neither of a struct nor of a list.
-fn reason_of(word: WirePointer) -> CanonicalFaultReason
-    ensures { result ≡ other_reason word.0 }
-{
-    if word.kind() == WirePointerKind::Far {
-        CanonicalFaultReason::FarPointer
-    } else if word.is_capability() {
-        CanonicalFaultReason::Capability
-    } else {
-        CanonicalFaultReason::UnknownPointer
-    }
 }
 
 /// How many whole words bytes have, each of which is one of 64 bits.
@@ -779,16 +761,5 @@ fn starts_right(object: Object, at: u32, head: u32) -> bool
         Object::Flat { start, .. } => start.at == head,
         Object::Pointers { start, .. } => start.at == head,
         Object::Structs { start, .. } => u64::from(start.at) == u64::from(head) + 1,
-    }
-}
-
-// How it is refused that the object of a word isn't read.
-fn name_of_refusal(word: WirePointer, kind: ErrorKind) -> ErrorKind
-    ensures { result ≡ level_refusal_name word.0 kind }
-{
-    match kind {
-        ErrorKind::MessageIsTooDeeplyNestedOrContainsCycles
-            if word.kind() == WirePointerKind::List => { ErrorKind::NestingLimitExceeded }
-        kind => kind,
     }
 }

@@ -220,10 +220,7 @@ fn add_row<A: ReaderArena>(
         (so_far walk.old.size lim.old) lim.new walk.new.refusal) }
 {
     for i in 0..count {
-        match add_pointer(from, at + i, nesting_limit, walk, lim) {
-            Ok(()) => {}
-            Err(Stopped) => return Err(Stopped),
-        }
+        add_pointer(from, at + i, nesting_limit, walk, lim)?;
     }
     Ok(())
 }
@@ -294,10 +291,7 @@ fn add_struct<A: ReaderArena>(
             return Err(Stopped);
         }
     };
-    match walk.add_words(u64::from(words)) {
-        Ok(()) => {}
-        Err(Stopped) => return Err(Stopped),
-    }
+    walk.add_words(u64::from(words))?;
     let size = word.struct_size();
     let first = start + u32::from(size.data_words);
     let count = u32::from(size.pointers);
@@ -371,10 +365,7 @@ fn add_object<A: ReaderArena>(
             return Err(Stopped);
         }
     };
-    match walk.add_words(words_of_object(object)) {
-        Ok(()) => {}
-        Err(Stopped) => return Err(Stopped),
-    }
+    walk.add_words(words_of_object(object))?;
     if let Object::Capability(_) = object {
         return walk.add_capability();
     }
@@ -424,10 +415,7 @@ fn add_rows<A: ReaderArena>(
     let width = u64::from(data_words) + u64::from(pointers);
     for i in 0..count {
         let at = u64::from(from.place.at) + u64::from(i) * width + u64::from(data_words);
-        match add_row(from, at as u32, pointers, from.nesting_limit, walk, lim) {
-            Ok(()) => {}
-            Err(Stopped) => return Err(Stopped),
-        }
+        add_row(from, at as u32, pointers, from.nesting_limit, walk, lim)?;
     }
     Ok(())
 }

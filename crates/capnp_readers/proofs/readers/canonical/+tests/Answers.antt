@@ -1,7 +1,8 @@
-use Rattle.std.proofs.Common.{◌≡◌, ℕ, slice_index, nat_eq, cond, pred, ◌+◌, ◌*◌, ◌<◌, ◌≤◌, ◌↔◌, ◌⊎◌, IsTrue, length, inl, inr, refl, sym, ap, ap₂, ◌∙◌, subst, arith, rules}
+use Rattle.std.proofs.Common.{◌≡◌, ℕ, slice_index, nat_eq, cond, pred, ◌+◌, ◌*◌, ◌<◌, ◌≤◌, ◌↔◌, ◌⊎◌, IsTrue, length, Some, None, inl, inr, refl, sym, ap, ap₂, ◌∙◌, subst, arith, rules}
 use Rattle.std.proofs.lemmas.Bool.{false≢true, ne_eqb}
 use Rattle.std.proofs.lemmas.Int.{to_z-of_z}
 use mir.Syntax.{w32}
+use mir.Val.{to_z, of_z}
 use Rattle.capnp_format.specs.Word.{kind, data_words, pointer_count, list_count}
 use Rattle.capnp_format.specs.Segments.{segment, IsPlace}
 use Rattle.capnp_format.specs.Tree.{no_trees}
@@ -13,11 +14,11 @@ use Rattle.capnp_objects.specs.declared.object.Purpose.TheVariants.{Value}
 use Rattle.capnp_objects.proofs.Walked.{row_within}
 use Rattle.capnp_readers.specs.Sizes.{reading_on}
 use Rattle.capnp_readers.specs.Faults.{other_reason}
-use Rattle.capnp_readers.specs.Checking.{IsTested, Progress, progress, StartsRight, TellsStruct, TellsAll, TellsClaimed, TestsStop, RowTestsStop, TestsEnd, IsFault, SectionsFail, ClaimedFails, AreFoundRows, here, no_pointer, other_pointer}
-use Rattle.capnp_readers.proofs.Walking.{ok_so, err_so, err_with}
-use Rattle.capnp_readers.proofs.Checks.{tested, finds_none, pointer_found, pointer_never, unplaced_never, null_found_at, empty_tells, flat_tells, struct_tells, pointers_tell, structs_tell, pointer_ends, row_ends, struct_ends, pointers_end, structs_end, pointers_room, structs_room, some_right, level_falls, place_begins, elements_begin, pointers_here, structs_here, none_seen, row_seen, row_never, rows_unused, empties_found, still_seen, seen_now, RowDataUsed, RowPointersUsed}
+use Rattle.capnp_readers.specs.Checking.{level_refusal_name, IsTested, Progress, progress, StartsRight, TellsStruct, TellsAll, TellsClaimed, TestsStop, RowTestsStop, TestsEnd, IsFault, SectionsFail, ClaimedFails, AreFoundRows, here, no_pointer, other_pointer}
+use Rattle.capnp_readers.proofs.Walking.{ok_so, err_so, err_with, on_err, on_err_so, on_err_both, on_ok_so}
+use Rattle.capnp_readers.proofs.Checks.{tested, finds_none, pointer_found, pointer_never, unplaced_never, null_found_at, empty_tells, flat_tells, struct_tells, pointers_tell, structs_tell, pointer_ends, row_ends, struct_ends, pointers_end, structs_end, pointers_room, structs_room, some_right, level_falls, place_begins, elements_begin, pointers_here, structs_here, none_seen, row_seen, row_never, rows_unused, empties_found, lists_alone, no_list_else, still_seen, seen_now, RowDataUsed, RowPointersUsed}
 use Rattle.capnp_readers.proofs.NearRead.{struct_by_word}
-use Rattle.capnp_readers.proofs.Fails.{none_so, empty_fails, struct_fails, unplaced_fails, flat_fails, sections_fail, claimed_fails, rows_wide_data, rows_wide_pointers}
+use Rattle.capnp_readers.proofs.Fails.{empty_fails, struct_fails, unplaced_fails, flat_fails, sections_fail, claimed_fails, rows_wide_data, rows_wide_pointers}
 use Rattle.capnp_readers.proofs.readers.canonical.+tests.Goals.{test_rows-then-is_data_used, test_rows-else-is_data_used, test_rows-then-are_pointers_used, test_rows-else-are_pointers_used}
 use Rattle.capnp_readers.proofs.readers.canonical.+tests.Goals as goal
 
@@ -26,14 +27,14 @@ test_children-loop-i-init g t c =
     let nl = to_z-of_z w32 c.args.nesting_limit (search rules) in
     rw nl (no_trees, refl, finds_none (reading_on g.A.ReaderArena c.args.from.now c.args.at c.args.nesting_limit) (progress c.args.first c.args.lim.now))
 
-pub test_children-returns-in-Ok-None-clause-tells : goal.test_children-returns-in-Ok-None-clause-tells
-test_children-returns-in-Ok-None-clause-tells g t c =
+pub test_children-returns-in_err-head-clause-never : goal.test_children-returns-in_err-head-clause-never
+test_children-returns-in_err-head-clause-never g t c =
     let from : Progress = progress c.args.first c.args.lim.now in
-    pointer_never from c.args.count c.loop-i.invariant c.loop-i-test.true (rw c.in-Ok-None.field-0-is at c.in-Ok-None.ensures.tells)
+    on_err c.from_residual.result (on_ok_so c.test_place.new.answer c.in_err-head.ensures.never (λ h. pointer_never from c.args.count c.loop-i.invariant c.loop-i-test.true h))
 
 pub test_children-loop-i-preserved : goal.test_children-loop-i-preserved
 test_children-loop-i-preserved g t c =
-    pointer_found c.loop-i.invariant (rw c.in-Ok-Some.field-0-is at c.in-Ok-Some.ensures.tells)
+    pointer_found c.loop-i.invariant c.in_ok-head.ensures.tells
 
 pub test_place-returns-then-is_null-clause-tells : goal.test_place-returns-then-is_null-clause-tells
 test_place-returns-then-is_null-clause-tells g t c =
@@ -48,22 +49,22 @@ test_struct-returns-in-Err-clause-refused g t c =
     let r : Reading = reading_on g.A.ReaderArena c.args.from.now c.args.at c.args.nesting_limit in
     let ready : IsTested r = c.requires.tested in
     let nl = to_z-of_z w32 c.args.nesting_limit (search rules) in
-    here (record { name = c.in-Err.kind; near = ready.near; stopped = rw nl at c.in-Err.ensures.refused; named = rw c.requires.there at c.name_of_refusal.ensures })
+    rw c.refused.ensures (here (record { name = c.in-Err.kind; near = ready.near; stopped = rw nl at c.in-Err.ensures.refused; named = ap (λ w. level_refusal_name w c.in-Err.kind) c.requires.there }))
 
 pub test_list-returns-in-Err-clause-refused : goal.test_list-returns-in-Err-clause-refused
 test_list-returns-in-Err-clause-refused g t c =
     let r : Reading = reading_on g.A.ReaderArena c.args.from.now c.args.at c.args.nesting_limit in
     let ready : IsTested r = c.requires.tested in
     let nl = to_z-of_z w32 c.args.nesting_limit (search rules) in
-    here (record { name = c.in-Err.kind; near = ready.near; stopped = rw nl at c.in-Err.ensures.refused; named = rw c.requires.there at c.name_of_refusal.ensures })
+    rw c.refused.ensures (here (record { name = c.in-Err.kind; near = ready.near; stopped = rw nl at c.in-Err.ensures.refused; named = ap (λ w. level_refusal_name w c.in-Err.kind) c.requires.there }))
 
-pub test_list-returns-then-not-starts_right-clause-tells : goal.test_list-returns-then-not-starts_right-clause-tells
-test_list-returns-then-not-starts_right-clause-tells g t c =
+pub test_list-returns-then-not-starts_right-clause-never : goal.test_list-returns-then-not-starts_right-clause-never
+test_list-returns-then-not-starts_right-clause-never g t c =
     let r : Reading = reading_on g.A.ReaderArena c.args.from.now c.args.at c.args.nesting_limit in
     let ready : IsTested r = c.requires.tested in
     let nl = to_z-of_z w32 c.args.nesting_limit (search rules) in
     let object : IsObject Value r c.args.lim.now c.read_object.new.lim c.in-Ok.object = rw nl at c.in-Ok.ensures.object in
-    unplaced_never r c.args.lim.now c.read_object.new.lim c.args.head c.in-Ok.object ready object (λ right. false≢true (sym c.if-not-starts_right.true ∙ c.starts_right.ensures.1 right))
+    rw c.fault_at.ensures (unplaced_never r c.args.lim.now c.read_object.new.lim c.args.head c.in-Ok.object ready object (λ right. false≢true (sym c.if-not-starts_right.true ∙ c.starts_right.ensures.1 right)))
 
 pub test_list-returns-in-Flat-clause-tells : goal.test_list-returns-in-Flat-clause-tells
 test_list-returns-in-Flat-clause-tells g t c =
@@ -72,7 +73,20 @@ test_list-returns-in-Flat-clause-tells g t c =
     let nl = to_z-of_z w32 c.args.nesting_limit (search rules) in
     let object : IsObject Value r c.args.lim.now c.read_object.new.lim (ObjectFlat c.in-Flat.start c.in-Flat.size c.in-Flat.count) = rw nl at (rw c.in-Flat.is at c.in-Ok.ensures.object) in
     let right : StartsRight (ObjectFlat c.in-Flat.start c.in-Flat.size c.in-Flat.count) c.args.at c.args.head = rw c.in-Flat.is at (c.starts_right.ensures.0 c.if-not-starts_right.false) in
-    flat_tells {r = r} (progress c.args.head c.args.lim.now) c.in-Flat.start c.in-Flat.size c.in-Flat.count c.test_flat.result ready object right c.test_flat.ensures.tells
+    ok_so c.test_flat.result c.test_flat.ensures.tells (λ e h. flat_tells {r = r} (progress c.args.head c.args.lim.now) c.in-Flat.start c.in-Flat.size c.in-Flat.count (Some e) ready object right h)
+
+pub test_list-returns-in-Flat-clause-never : goal.test_list-returns-in-Flat-clause-never
+test_list-returns-in-Flat-clause-never g t c =
+    let r : Reading = reading_on g.A.ReaderArena c.args.from.now c.args.at c.args.nesting_limit in
+    let ready : IsTested r = c.requires.tested in
+    let nl = to_z-of_z w32 c.args.nesting_limit (search rules) in
+    let object : IsObject Value r c.args.lim.now c.read_object.new.lim (ObjectFlat c.in-Flat.start c.in-Flat.size c.in-Flat.count) = rw nl at (rw c.in-Flat.is at c.in-Ok.ensures.object) in
+    let right : StartsRight (ObjectFlat c.in-Flat.start c.in-Flat.size c.in-Flat.count) c.args.at c.args.head = rw c.in-Flat.is at (c.starts_right.ensures.0 c.if-not-starts_right.false) in
+    on_err_both c.test_flat.result c.test_flat.ensures.never c.test_flat.ensures.failed (λ fails is. rw is (flat_tells {r = r} (progress c.args.head c.args.lim.now) c.in-Flat.start c.in-Flat.size c.in-Flat.count None ready object right fails))
+
+pub test_list-returns-in-Flat-clause-refused : goal.test_list-returns-in-Flat-clause-refused
+test_list-returns-in-Flat-clause-refused g t c =
+    on_err_so c.test_flat.result c.test_flat.ensures.failed (λ is. rw is tt)
 
 pub test_list-returns-in-Pointers-clause-tells : goal.test_list-returns-in-Pointers-clause-tells
 test_list-returns-in-Pointers-clause-tells g t c =
@@ -83,8 +97,20 @@ test_list-returns-in-Pointers-clause-tells g t c =
     let right : StartsRight (ObjectPointers c.in-Pointers.start c.in-Pointers.count) c.args.at c.args.head = rw c.in-Pointers.is at (c.starts_right.ensures.0 c.if-not-starts_right.false) in
     let nm = to_z-of_z w32 c.less.result (search rules) in
     let there = place_begins r c.in-Pointers.start (rw nl at c.less.ensures) (pointers_here {r = r} c.in-Pointers.start c.in-Pointers.count ready object) in
-    ok_so c.test_children.result c.test_children.ensures.tells (λ o h. pointers_tell {r = r} (progress c.args.head c.args.lim.now) c.test_children.new.lim c.in-Pointers.start c.in-Pointers.count o ready object right
-    (subst (λ x. TellsAll x c.in-Pointers.count (progress (c.in-Pointers.start.at + c.in-Pointers.count) c.read_object.new.lim) c.test_children.new.lim o) there (rw nm at h)))
+    ok_so c.test_children.result c.test_children.ensures.tells (λ e h. pointers_tell {r = r} (progress c.args.head c.args.lim.now) c.test_children.new.lim c.in-Pointers.start c.in-Pointers.count (Some e) ready object right
+    (subst (λ x. TellsAll x c.in-Pointers.count (progress (c.in-Pointers.start.at + c.in-Pointers.count) c.read_object.new.lim) c.test_children.new.lim (Some e)) there (rw nm at h)))
+
+pub test_list-returns-in-Pointers-clause-never : goal.test_list-returns-in-Pointers-clause-never
+test_list-returns-in-Pointers-clause-never g t c =
+    let r : Reading = reading_on g.A.ReaderArena c.args.from.now c.args.at c.args.nesting_limit in
+    let ready : IsTested r = c.requires.tested in
+    let nl = to_z-of_z w32 c.args.nesting_limit (search rules) in
+    let object : IsObject Value r c.args.lim.now c.read_object.new.lim (ObjectPointers c.in-Pointers.start c.in-Pointers.count) = rw nl at (rw c.in-Pointers.is at c.in-Ok.ensures.object) in
+    let right : StartsRight (ObjectPointers c.in-Pointers.start c.in-Pointers.count) c.args.at c.args.head = rw c.in-Pointers.is at (c.starts_right.ensures.0 c.if-not-starts_right.false) in
+    let nm = to_z-of_z w32 c.less.result (search rules) in
+    let there = place_begins r c.in-Pointers.start (rw nl at c.less.ensures) (pointers_here {r = r} c.in-Pointers.start c.in-Pointers.count ready object) in
+    on_err_so c.test_children.result c.test_children.ensures.never (λ x. on_ok_so c.test_children.new.answer x (λ h. pointers_tell {r = r} (progress c.args.head c.args.lim.now) c.test_children.new.lim c.in-Pointers.start c.in-Pointers.count None ready object right
+    (subst (λ x. TellsAll x c.in-Pointers.count (progress (c.in-Pointers.start.at + c.in-Pointers.count) c.read_object.new.lim) c.test_children.new.lim None) (ap (λ z. reading_on g.A.ReaderArena c.args.from.now c.in-Pointers.start.at z) nm ∙ there) h)))
 
 pub test_list-returns-in-Pointers-clause-refused : goal.test_list-returns-in-Pointers-clause-refused
 test_list-returns-in-Pointers-clause-refused g t c =
@@ -95,8 +121,8 @@ test_list-returns-in-Pointers-clause-refused g t c =
     let right : StartsRight (ObjectPointers c.in-Pointers.start c.in-Pointers.count) c.args.at c.args.head = rw c.in-Pointers.is at (c.starts_right.ensures.0 c.if-not-starts_right.false) in
     let nm = to_z-of_z w32 c.less.result (search rules) in
     let there = place_begins r c.in-Pointers.start (rw nl at c.less.ensures) (pointers_here {r = r} c.in-Pointers.start c.in-Pointers.count ready object) in
-    err_so c.test_children.result c.test_children.ensures.refused (λ k h. pointers_end {r = r} {from = progress c.args.head c.args.lim.now} c.in-Pointers.start c.in-Pointers.count ready object right
-    (subst (λ x. TestsStop x c.in-Pointers.count (progress (c.in-Pointers.start.at + c.in-Pointers.count) c.read_object.new.lim) c.test_children.new.lim k) there (rw nm at h)))
+    on_err_so c.test_children.result c.test_children.ensures.refused (λ x. err_so c.test_children.new.answer x (λ k h. pointers_end {r = r} {from = progress c.args.head c.args.lim.now} c.in-Pointers.start c.in-Pointers.count ready object right
+    (subst (λ x. TestsStop x c.in-Pointers.count (progress (c.in-Pointers.start.at + c.in-Pointers.count) c.read_object.new.lim) c.test_children.new.lim k) there (rw nm at h))))
 
 pub test_list-returns-in-Structs-clause-tells : goal.test_list-returns-in-Structs-clause-tells
 test_list-returns-in-Structs-clause-tells g t c =
@@ -108,8 +134,23 @@ test_list-returns-in-Structs-clause-tells g t c =
     let nk = to_z-of_z w32 c.less-inner.result (search rules) in
     let there = elements_begin r c.in-Structs.start (rw nl at c.less-inner.ensures) (structs_here {r = r} c.in-Structs.start c.in-Structs.size c.in-Structs.count ready object) in
     let claimed : c.list_inline_composite_word_count-claimed.result ≡ list_count (word_of r) = c.list_inline_composite_word_count-claimed.ensures.value ∙ ap list_count c.requires.there in
-    ok_so c.test_structs.result c.test_structs.ensures.tells (λ o h. structs_tell {r = r} (progress c.args.head c.args.lim.now) c.test_structs.new.lim c.in-Structs.start c.in-Structs.size c.in-Structs.count o ready object right
-    (subst (λ x. TellsClaimed x c.in-Structs.size c.in-Structs.count (list_count (word_of r)) c.read_object.new.lim c.test_structs.new.lim o) there (rw (nk, claimed) at h)))
+    ok_so c.test_structs.result c.test_structs.ensures.tells (λ e h. structs_tell {r = r} (progress c.args.head c.args.lim.now) c.test_structs.new.lim c.in-Structs.start c.in-Structs.size c.in-Structs.count (Some e) ready object right
+    (subst (λ x. TellsClaimed x c.in-Structs.size c.in-Structs.count (list_count (word_of r)) c.read_object.new.lim c.test_structs.new.lim (Some e)) there (rw (nk, claimed) at h)))
+
+pub test_list-returns-in-Structs-clause-never : goal.test_list-returns-in-Structs-clause-never
+test_list-returns-in-Structs-clause-never g t c =
+    let r : Reading = reading_on g.A.ReaderArena c.args.from.now c.args.at c.args.nesting_limit in
+    let ready : IsTested r = c.requires.tested in
+    let nl = to_z-of_z w32 c.args.nesting_limit (search rules) in
+    let object : IsObject Value r c.args.lim.now c.read_object.new.lim (ObjectStructs c.in-Structs.start c.in-Structs.size c.in-Structs.count) = rw nl at (rw c.in-Structs.is at c.in-Ok.ensures.object) in
+    let right : StartsRight (ObjectStructs c.in-Structs.start c.in-Structs.size c.in-Structs.count) c.args.at c.args.head = rw c.in-Structs.is at (c.starts_right.ensures.0 c.if-not-starts_right.false) in
+    let nk = to_z-of_z w32 c.less-inner.result (search rules) in
+    let there = elements_begin r c.in-Structs.start (rw nl at c.less-inner.ensures) (structs_here {r = r} c.in-Structs.start c.in-Structs.size c.in-Structs.count ready object) in
+    let claimed : c.list_inline_composite_word_count-claimed.result ≡ list_count (word_of r) = c.list_inline_composite_word_count-claimed.ensures.value ∙ ap list_count c.requires.there in
+    on_err_so c.test_structs.result c.test_structs.ensures.never (λ x. on_ok_so c.test_structs.new.answer x (λ h. structs_tell {r = r} (progress c.args.head c.args.lim.now) c.test_structs.new.lim c.in-Structs.start c.in-Structs.size c.in-Structs.count None ready object right
+    (subst (λ x. TellsClaimed x c.in-Structs.size c.in-Structs.count (list_count (word_of r)) c.read_object.new.lim c.test_structs.new.lim None) there
+    (subst (λ z. TellsClaimed (reading_on g.A.ReaderArena c.args.from.now c.in-Structs.start.at z) c.in-Structs.size c.in-Structs.count (list_count (word_of r)) c.read_object.new.lim c.test_structs.new.lim None) nk
+    (subst (λ w. TellsClaimed (reading_on g.A.ReaderArena c.args.from.now c.in-Structs.start.at (to_z w32 (of_z w32 c.less-inner.result))) c.in-Structs.size c.in-Structs.count w c.read_object.new.lim c.test_structs.new.lim None) claimed h)))))
 
 pub test_list-returns-in-Structs-clause-refused : goal.test_list-returns-in-Structs-clause-refused
 test_list-returns-in-Structs-clause-refused g t c =
@@ -121,8 +162,8 @@ test_list-returns-in-Structs-clause-refused g t c =
     let nk = to_z-of_z w32 c.less-inner.result (search rules) in
     let there = elements_begin r c.in-Structs.start (rw nl at c.less-inner.ensures) (structs_here {r = r} c.in-Structs.start c.in-Structs.size c.in-Structs.count ready object) in
     let claimed : c.list_inline_composite_word_count-claimed.result ≡ list_count (word_of r) = c.list_inline_composite_word_count-claimed.ensures.value ∙ ap list_count c.requires.there in
-    err_with c.test_structs.result c.test_structs.ensures.exact c.test_structs.ensures.refused (λ exact k h. structs_end {r = r} {from = progress c.args.head c.args.lim.now} c.in-Structs.start c.in-Structs.size c.in-Structs.count ready object right (exact ∙ claimed)
-    (subst (λ x. RowTestsStop x c.in-Structs.size c.in-Structs.count (progress (x.at + list_count (word_of r)) c.read_object.new.lim) c.test_structs.new.lim k) there (rw (nk, claimed) at h)))
+    on_err_both c.test_structs.result c.test_structs.ensures.exact c.test_structs.ensures.refused (λ x y. err_with c.test_structs.new.answer x y (λ exact k h. structs_end {r = r} {from = progress c.args.head c.args.lim.now} c.in-Structs.start c.in-Structs.size c.in-Structs.count ready object right (exact ∙ claimed)
+    (subst (λ x. RowTestsStop x c.in-Structs.size c.in-Structs.count (progress (x.at + list_count (word_of r)) c.read_object.new.lim) c.test_structs.new.lim k) there (rw (nk, claimed) at h))))
 
 pub test_rows-loop-i-init : goal.test_rows-loop-i-init
 test_rows-loop-i-init g t c =
@@ -131,11 +172,11 @@ test_rows-loop-i-init g t c =
     let nl = to_z-of_z w32 c.args.nesting_limit (search rules) in
     rw (nl, c.from-data_words.ensures, c.from-pointers.ensures) (none_seen r c.args.size (progress head c.args.lim.now) (nat_eq c.args.size.data_words 0) (nat_eq c.args.size.pointers 0) (search rules) (search rules))
 
-pub test_rows-returns-in-Ok-None-clause-tells : goal.test_rows-returns-in-Ok-None-clause-tells
-test_rows-returns-in-Ok-None-clause-tells g t c =
+pub test_rows-returns-in_err-head-clause-never : goal.test_rows-returns-in_err-head-clause-never
+test_rows-returns-in_err-head-clause-never g t c =
     let r : Reading = reading_on g.A.ReaderArena c.args.from.now c.args.start c.args.nesting_limit in
     let head : ℕ = c.args.start + c.args.count * (c.args.size.data_words + c.args.size.pointers) in
-    row_never (progress head c.args.lim.now) c.args.count c.loop-i.invariant c.loop-i-test.true (rw (c.from-data_words.ensures, c.from-pointers.ensures) at (rw c.in-Ok-None.field-0-is at c.in-Ok-None.ensures.tells))
+    on_err c.from_residual.result (on_ok_so c.test_row.new.answer c.in_err-head.ensures.never (λ h. row_never (progress head c.args.lim.now) c.args.count c.loop-i.invariant c.loop-i-test.true (rw (c.from-data_words.ensures, c.from-pointers.ensures) at h)))
 
 pub test_rows-loop-i-preserved : goal.test_rows-loop-i-preserved
 test_rows-loop-i-preserved g t c =
@@ -154,19 +195,19 @@ test_rows-loop-i-preserved g t c =
       | test_rows-then-are_pointers_used w ↦ still_seen w.are_pointers_used-is w.if-are_pointers_used.true
       | test_rows-else-are_pointers_used w ↦ seen_now w.are_pointers_used-is w.if-are_pointers_used.false (rw (c.from-data_words.ensures, c.from-pointers.ensures, c.args.from.now.held.0) at w.ends_used-are_pointers_used.ensures.used)
     ] in
-    row_seen c.if-is_data_used.is_data_used c.if-are_pointers_used.are_pointers_used c.loop-i.invariant inside (rw (c.from-data_words.ensures, c.from-pointers.ensures) at (rw c.in-Ok-Some.field-0-is at c.in-Ok-Some.ensures.tells)) data_so pointers_so
+    row_seen c.if-is_data_used.is_data_used c.if-are_pointers_used.are_pointers_used c.loop-i.invariant inside (rw (c.from-data_words.ensures, c.from-pointers.ensures) at c.in_ok-head.ensures.tells) data_so pointers_so
 
-pub test_rows-returns-then-not-is_data_used-clause-tells : goal.test_rows-returns-then-not-is_data_used-clause-tells
-test_rows-returns-then-not-is_data_used-clause-tells g t c =
+pub test_rows-returns-then-not-is_data_used-clause-never : goal.test_rows-returns-then-not-is_data_used-clause-never
+test_rows-returns-then-not-is_data_used-clause-never g t c =
     let head : ℕ = c.args.start + c.args.count * (c.args.size.data_words + c.args.size.pointers) in
     let all : c.loop-i.i ≡ c.args.count = omega (arith, c.loop-i.auto.i-end, c.loop-i-test.false) in
-    rows_unused (progress head c.args.lim.now) (rw all at c.loop-i.invariant) (λ both. false≢true (sym c.if-not-is_data_used.true ∙ both.0))
+    rw c.fault_at.ensures (rows_unused (progress head c.args.lim.now) (rw all at c.loop-i.invariant) (λ both. false≢true (sym c.if-not-is_data_used.true ∙ both.0)))
 
-pub test_rows-returns-then-not-are_pointers_used-clause-tells : goal.test_rows-returns-then-not-are_pointers_used-clause-tells
-test_rows-returns-then-not-are_pointers_used-clause-tells g t c =
+pub test_rows-returns-then-not-are_pointers_used-clause-never : goal.test_rows-returns-then-not-are_pointers_used-clause-never
+test_rows-returns-then-not-are_pointers_used-clause-never g t c =
     let head : ℕ = c.args.start + c.args.count * (c.args.size.data_words + c.args.size.pointers) in
     let all : c.loop-i.i ≡ c.args.count = omega (arith, c.loop-i.auto.i-end, c.loop-i-test.false) in
-    rows_unused (progress head c.args.lim.now) (rw all at c.loop-i.invariant) (λ both. false≢true (sym c.if-not-are_pointers_used.true ∙ both.1))
+    rw c.fault_at-then-not-are_pointers_used.ensures (rows_unused (progress head c.args.lim.now) (rw all at c.loop-i.invariant) (λ both. false≢true (sym c.if-not-are_pointers_used.true ∙ both.1)))
 
 pub test_structs-returns-then-total-eq0-clause-tells : goal.test_structs-returns-then-total-eq0-clause-tells
 test_structs-returns-then-total-eq0-clause-tells g t c =
@@ -201,8 +242,23 @@ test_struct-returns-clause-tells g t c =
     let some : 0 < size.data_words + size.pointers = omega (arith, c.total.ensures, c.if-total-eq0.false) in
     let nm = to_z-of_z w32 c.less.result (search rules) in
     let there = place_begins r start (rw nl at c.less.ensures) refl in
-    ok_so c.test_sections.result c.test_sections.ensures.tells (λ o h. struct_tells {r = r} (progress c.args.head c.args.lim.now) c.test_sections.new.lim start size o ready object some (some_right c.args.at some c.if-start-head.false)
-    (subst (λ x. TellsStruct x size c.read_near_struct.new.lim c.test_sections.new.lim o) there (rw nm at h)))
+    ok_so c.test_sections.result c.test_sections.ensures.tells (λ e h. struct_tells {r = r} (progress c.args.head c.args.lim.now) c.test_sections.new.lim start size (Some e) ready object some (some_right c.args.at some c.if-start-head.false)
+    (subst (λ x. TellsStruct x size c.read_near_struct.new.lim c.test_sections.new.lim (Some e)) there (rw nm at h)))
+
+pub test_struct-returns-clause-never : goal.test_struct-returns-clause-never
+test_struct-returns-clause-never g t c =
+    let r : Reading = reading_on g.A.ReaderArena c.args.from.now c.args.at c.args.nesting_limit in
+    let ready : IsTested r = c.requires.tested in
+    let nl = to_z-of_z w32 c.args.nesting_limit (search rules) in
+    let start = record c.args.from.now.place { at = c.in-Ok.start } in
+    let size = c.struct_size-size.result in
+    let object : IsObject Value r c.args.lim.now c.read_near_struct.new.lim (ObjectStruct start size) =
+    struct_by_word {r = r} start size (rw c.requires.there at c.requires.is_struct) c.args.from.now.held refl (rw nl at c.in-Ok.ensures.object) (c.struct_size-size.ensures.data_of ∙ ap data_words c.requires.there) (c.struct_size-size.ensures.pointers_of ∙ ap pointer_count c.requires.there) in
+    let some : 0 < size.data_words + size.pointers = omega (arith, c.total.ensures, c.if-total-eq0.false) in
+    let nm = to_z-of_z w32 c.less.result (search rules) in
+    let there = place_begins r start (rw nl at c.less.ensures) refl in
+    on_err_so c.test_sections.result c.test_sections.ensures.never (λ x. on_ok_so c.test_sections.new.answer x (λ h. struct_tells {r = r} (progress c.args.head c.args.lim.now) c.test_sections.new.lim start size None ready object some (some_right c.args.at some c.if-start-head.false)
+    (subst (λ x. TellsStruct x size c.read_near_struct.new.lim c.test_sections.new.lim None) (ap (λ z. reading_on g.A.ReaderArena c.args.from.now c.in-Ok.start z) nm ∙ there) h)))
 
 pub test_struct-returns-clause-refused : goal.test_struct-returns-clause-refused
 test_struct-returns-clause-refused g t c =
@@ -216,8 +272,8 @@ test_struct-returns-clause-refused g t c =
     let some : 0 < size.data_words + size.pointers = omega (arith, c.total.ensures, c.if-total-eq0.false) in
     let nm = to_z-of_z w32 c.less.result (search rules) in
     let there = place_begins r start (rw nl at c.less.ensures) refl in
-    err_so c.test_sections.result c.test_sections.ensures.refused (λ k h. struct_ends {r = r} {from = progress c.args.head c.args.lim.now} start size ready object some (some_right c.args.at some c.if-start-head.false)
-    (subst (λ x. TestsStop (behind x size.data_words) size.pointers (progress (c.in-Ok.start + size.data_words + size.pointers) c.read_near_struct.new.lim) c.test_sections.new.lim k) there (rw nm at h)))
+    on_err_so c.test_sections.result c.test_sections.ensures.refused (λ x. err_so c.test_sections.new.answer x (λ k h. struct_ends {r = r} {from = progress c.args.head c.args.lim.now} start size ready object some (some_right c.args.at some c.if-start-head.false)
+    (subst (λ x. TestsStop (behind x size.data_words) size.pointers (progress (c.in-Ok.start + size.data_words + size.pointers) c.read_near_struct.new.lim) c.test_sections.new.lim k) there (rw nm at h))))
 
 pub test_list-test_children-requires : goal.test_list-test_children-requires
 test_list-test_children-requires g t c κs within =
@@ -242,10 +298,10 @@ test_list-test_structs-requires g t c κs within =
     let right : StartsRight (ObjectStructs c.in-Structs.start c.in-Structs.size c.in-Structs.count) c.args.at c.args.head = rw c.in-Structs.is at (c.starts_right.ensures.0 c.if-not-starts_right.false) in
     (search (rules, nk, nl, inner, falls), (search rules, (room, omega (arith, right))))
 
-pub test_children-returns-in-Ok-None-clause-failed : goal.test_children-returns-in-Ok-None-clause-failed
-test_children-returns-in-Ok-None-clause-failed g t c =
+pub test_children-returns-in_err-head-clause-failed : goal.test_children-returns-in_err-head-clause-failed
+test_children-returns-in_err-head-clause-failed g t c =
     let nl = to_z-of_z w32 c.args.nesting_limit (search rules) in
-    pointer_ends c.args.count (rw nl at c.loop-i.invariant) c.loop-i-test.true (rw nl at (rw c.in-Ok-None.field-0-is at c.in-Ok-None.ensures.failed))
+    on_err c.from_residual.result (ok_so c.test_place.new.answer c.in_err-head.ensures.failed (λ f h. pointer_ends c.args.count (rw nl at c.loop-i.invariant) c.loop-i-test.true (rw nl at h)))
 
 pub test_struct-returns-then-total-eq0-clause-failed : goal.test_struct-returns-then-total-eq0-clause-failed
 test_struct-returns-then-total-eq0-clause-failed g t c =
@@ -257,14 +313,14 @@ test_struct-returns-then-total-eq0-clause-failed g t c =
     let object : IsObject Value r c.args.lim.now c.read_near_struct.new.lim (ObjectStruct start size) =
     struct_by_word {r = r} start size (rw c.requires.there at c.requires.is_struct) c.args.from.now.held refl (rw nl at c.in-Ok.ensures.object) (c.struct_size-size.ensures.data_of ∙ ap data_words c.requires.there) (c.struct_size-size.ensures.pointers_of ∙ ap pointer_count c.requires.there) in
     let none : size.data_words + size.pointers ≡ 0 = sym c.total.ensures ∙ c.if-total-eq0.true in
-    empty_fails {r = r} {from = progress c.args.head c.args.lim.now} start size c.note.ensures ready object none c.if-start-at.false
+    rw c.fault_at.ensures (empty_fails {r = r} {from = progress c.args.head c.args.lim.now} start size (refl, refl, refl) ready object none c.if-start-at.false)
 
 -- a struct of some words that starts elsewhere than at the head doesn't start right
 head_right : {n h x : ℕ} (p : ℕ) → 0 < n → x ≡ cond (nat_eq n 0) p h → x ≡ h
 head_right {n} {h} p some e = e ∙ ap (λ b. cond b p h) (ne_eqb n 0 (λ none. omega (arith, none, some)))
 
-pub test_struct-returns-then-start-head-clause-tells : goal.test_struct-returns-then-start-head-clause-tells
-test_struct-returns-then-start-head-clause-tells g t c =
+pub test_struct-returns-then-start-head-clause-never : goal.test_struct-returns-then-start-head-clause-never
+test_struct-returns-then-start-head-clause-never g t c =
     let r : Reading = reading_on g.A.ReaderArena c.args.from.now c.args.at c.args.nesting_limit in
     let ready : IsTested r = c.requires.tested in
     let nl = to_z-of_z w32 c.args.nesting_limit (search rules) in
@@ -273,7 +329,7 @@ test_struct-returns-then-start-head-clause-tells g t c =
     let object : IsObject Value r c.args.lim.now c.read_near_struct.new.lim (ObjectStruct start size) =
     struct_by_word {r = r} start size (rw c.requires.there at c.requires.is_struct) c.args.from.now.held refl (rw nl at c.in-Ok.ensures.object) (c.struct_size-size.ensures.data_of ∙ ap data_words c.requires.there) (c.struct_size-size.ensures.pointers_of ∙ ap pointer_count c.requires.there) in
     let some : 0 < size.data_words + size.pointers = omega (arith, c.total.ensures, c.if-total-eq0.false) in
-    unplaced_never r c.args.lim.now c.read_near_struct.new.lim c.args.head (ObjectStruct start size) ready object (λ right. c.if-start-head.true (head_right c.args.at some right))
+    rw c.fault_at-then-start-head.ensures (unplaced_never r c.args.lim.now c.read_near_struct.new.lim c.args.head (ObjectStruct start size) ready object (λ right. c.if-start-head.true (head_right c.args.at some right)))
 
 pub test_struct-returns-then-start-head-clause-failed : goal.test_struct-returns-then-start-head-clause-failed
 test_struct-returns-then-start-head-clause-failed g t c =
@@ -285,7 +341,7 @@ test_struct-returns-then-start-head-clause-failed g t c =
     let object : IsObject Value r c.args.lim.now c.read_near_struct.new.lim (ObjectStruct start size) =
     struct_by_word {r = r} start size (rw c.requires.there at c.requires.is_struct) c.args.from.now.held refl (rw nl at c.in-Ok.ensures.object) (c.struct_size-size.ensures.data_of ∙ ap data_words c.requires.there) (c.struct_size-size.ensures.pointers_of ∙ ap pointer_count c.requires.there) in
     let some : 0 < size.data_words + size.pointers = omega (arith, c.total.ensures, c.if-total-eq0.false) in
-    struct_fails {r = r} {from = progress c.args.head c.args.lim.now} start size c.note-then-start-head.ensures ready object some c.if-start-head.true
+    rw c.fault_at-then-start-head.ensures (struct_fails {r = r} {from = progress c.args.head c.args.lim.now} start size (refl, refl, refl) ready object some c.if-start-head.true)
 
 pub test_struct-returns-clause-failed : goal.test_struct-returns-clause-failed
 test_struct-returns-clause-failed g t c =
@@ -299,8 +355,8 @@ test_struct-returns-clause-failed g t c =
     let some : 0 < size.data_words + size.pointers = omega (arith, c.total.ensures, c.if-total-eq0.false) in
     let nm = to_z-of_z w32 c.less.result (search rules) in
     let there = place_begins r start (rw nl at c.less.ensures) refl in
-    ok_so c.test_sections.result c.test_sections.ensures.failed (λ o h. none_so o h (λ fails. sections_fail {r = r} {from = progress c.args.head c.args.lim.now} start size ready object some (some_right c.args.at some c.if-start-head.false)
-    (subst (λ x. SectionsFail c.test_sections.new.fault x size c.read_near_struct.new.lim c.test_sections.new.lim) there (rw nm at fails))))
+    on_err_so c.test_sections.result c.test_sections.ensures.failed (λ x. ok_so c.test_sections.new.answer x (λ f fails. sections_fail {r = r} {from = progress c.args.head c.args.lim.now} start size ready object some (some_right c.args.at some c.if-start-head.false)
+    (subst (λ x. SectionsFail f x size c.read_near_struct.new.lim c.test_sections.new.lim) there (rw nm at fails))))
 
 pub test_list-returns-then-not-starts_right-clause-failed : goal.test_list-returns-then-not-starts_right-clause-failed
 test_list-returns-then-not-starts_right-clause-failed g t c =
@@ -308,7 +364,7 @@ test_list-returns-then-not-starts_right-clause-failed g t c =
     let ready : IsTested r = c.requires.tested in
     let nl = to_z-of_z w32 c.args.nesting_limit (search rules) in
     let object : IsObject Value r c.args.lim.now c.read_object.new.lim c.in-Ok.object = rw nl at c.in-Ok.ensures.object in
-    unplaced_fails {r = r} {from = progress c.args.head c.args.lim.now} c.in-Ok.object c.note.ensures ready (rw c.requires.there at c.requires.is_list) object (λ right. false≢true (sym c.if-not-starts_right.true ∙ c.starts_right.ensures.1 right))
+    rw c.fault_at.ensures (unplaced_fails {r = r} {from = progress c.args.head c.args.lim.now} c.in-Ok.object (refl, refl, refl) ready (rw c.requires.there at c.requires.is_list) object (λ right. false≢true (sym c.if-not-starts_right.true ∙ c.starts_right.ensures.1 right)))
 
 pub test_list-returns-in-Flat-clause-failed : goal.test_list-returns-in-Flat-clause-failed
 test_list-returns-in-Flat-clause-failed g t c =
@@ -317,7 +373,7 @@ test_list-returns-in-Flat-clause-failed g t c =
     let nl = to_z-of_z w32 c.args.nesting_limit (search rules) in
     let object : IsObject Value r c.args.lim.now c.read_object.new.lim (ObjectFlat c.in-Flat.start c.in-Flat.size c.in-Flat.count) = rw nl at (rw c.in-Flat.is at c.in-Ok.ensures.object) in
     let right : StartsRight (ObjectFlat c.in-Flat.start c.in-Flat.size c.in-Flat.count) c.args.at c.args.head = rw c.in-Flat.is at (c.starts_right.ensures.0 c.if-not-starts_right.false) in
-    flat_fails {r = r} {from = progress c.args.head c.args.lim.now} c.test_flat.new.fault c.in-Flat.start c.in-Flat.size c.in-Flat.count c.test_flat.result ready object right c.test_flat.ensures.tells c.test_flat.ensures.failed
+    on_err_both c.test_flat.result c.test_flat.ensures.never c.test_flat.ensures.failed (λ fails is. rw is (flat_fails {r = r} {from = progress c.args.head c.args.lim.now} c.in-Flat.start c.in-Flat.size c.in-Flat.count ready object right fails (refl, refl, refl)))
 
 pub test_list-returns-in-Pointers-clause-failed : goal.test_list-returns-in-Pointers-clause-failed
 test_list-returns-in-Pointers-clause-failed g t c =
@@ -328,8 +384,8 @@ test_list-returns-in-Pointers-clause-failed g t c =
     let right : StartsRight (ObjectPointers c.in-Pointers.start c.in-Pointers.count) c.args.at c.args.head = rw c.in-Pointers.is at (c.starts_right.ensures.0 c.if-not-starts_right.false) in
     let nm = to_z-of_z w32 c.less.result (search rules) in
     let there = place_begins r c.in-Pointers.start (rw nl at c.less.ensures) (pointers_here {r = r} c.in-Pointers.start c.in-Pointers.count ready object) in
-    ok_so c.test_children.result c.test_children.ensures.failed (λ o h. none_so o h (λ fails. pointers_end {r = r} {from = progress c.args.head c.args.lim.now} c.in-Pointers.start c.in-Pointers.count ready object right
-    (subst (λ x. TestsEnd (IsFault c.test_children.new.fault) x c.in-Pointers.count (progress (c.in-Pointers.start.at + c.in-Pointers.count) c.read_object.new.lim) c.test_children.new.lim) there (rw nm at fails))))
+    on_err_so c.test_children.result c.test_children.ensures.failed (λ x. ok_so c.test_children.new.answer x (λ f fails. pointers_end {r = r} {from = progress c.args.head c.args.lim.now} c.in-Pointers.start c.in-Pointers.count ready object right
+    (subst (λ x. TestsEnd (IsFault f) x c.in-Pointers.count (progress (c.in-Pointers.start.at + c.in-Pointers.count) c.read_object.new.lim) c.test_children.new.lim) there (rw nm at fails))))
 
 pub test_list-returns-in-Structs-clause-failed : goal.test_list-returns-in-Structs-clause-failed
 test_list-returns-in-Structs-clause-failed g t c =
@@ -341,30 +397,30 @@ test_list-returns-in-Structs-clause-failed g t c =
     let nk = to_z-of_z w32 c.less-inner.result (search rules) in
     let there = elements_begin r c.in-Structs.start (rw nl at c.less-inner.ensures) (structs_here {r = r} c.in-Structs.start c.in-Structs.size c.in-Structs.count ready object) in
     let claimed : c.list_inline_composite_word_count-claimed.result ≡ list_count (word_of r) = c.list_inline_composite_word_count-claimed.ensures.value ∙ ap list_count c.requires.there in
-    ok_so c.test_structs.result c.test_structs.ensures.failed (λ o h. none_so o h (λ fails. claimed_fails {r = r} {from = progress c.args.head c.args.lim.now} c.in-Structs.start c.in-Structs.size c.in-Structs.count ready object right
-    (subst (λ x. ClaimedFails c.test_structs.new.fault x c.in-Structs.size c.in-Structs.count (list_count (word_of r)) c.read_object.new.lim c.test_structs.new.lim) there (rw (nk, claimed) at fails))))
+    on_err_so c.test_structs.result c.test_structs.ensures.failed (λ x. ok_so c.test_structs.new.answer x (λ f fails. claimed_fails {r = r} {from = progress c.args.head c.args.lim.now} c.in-Structs.start c.in-Structs.size c.in-Structs.count ready object right
+    (subst (λ x. ClaimedFails f x c.in-Structs.size c.in-Structs.count (list_count (word_of r)) c.read_object.new.lim c.test_structs.new.lim) there (rw (nk, claimed) at fails))))
 
-pub test_rows-returns-in-Ok-None-clause-failed : goal.test_rows-returns-in-Ok-None-clause-failed
-test_rows-returns-in-Ok-None-clause-failed g t c =
+pub test_rows-returns-in_err-head-clause-failed : goal.test_rows-returns-in_err-head-clause-failed
+test_rows-returns-in_err-head-clause-failed g t c =
     let nl = to_z-of_z w32 c.args.nesting_limit (search rules) in
-    inl (row_ends c.args.count (rw nl at c.loop-i.invariant) c.loop-i-test.true
-    (rw (nl, c.from-data_words.ensures, c.from-pointers.ensures) at (rw c.in-Ok-None.field-0-is at c.in-Ok-None.ensures.failed)))
+    on_err c.from_residual.result (ok_so c.test_row.new.answer c.in_err-head.ensures.failed (λ f h. inl (row_ends c.args.count (rw nl at c.loop-i.invariant) c.loop-i-test.true (rw (nl, c.from-data_words.ensures, c.from-pointers.ensures) at h))))
 
 pub test_rows-returns-then-not-is_data_used-clause-failed : goal.test_rows-returns-then-not-is_data_used-clause-failed
 test_rows-returns-then-not-is_data_used-clause-failed g t c =
     let nl = to_z-of_z w32 c.args.nesting_limit (search rules) in
     let all : c.loop-i.i ≡ c.args.count = omega (arith, c.loop-i.auto.i-end, c.loop-i-test.false) in
-    inr (c.loop-i.head, rows_wide_data c.note.ensures (rw all at (rw nl at c.loop-i.invariant)) (λ used. false≢true (sym c.if-not-is_data_used.true ∙ used)))
+    rw c.fault_at.ensures (inr (c.loop-i.head, rows_wide_data (refl, refl, refl) (rw all at (rw nl at c.loop-i.invariant)) (λ used. false≢true (sym c.if-not-is_data_used.true ∙ used))))
 
 pub test_rows-returns-then-not-are_pointers_used-clause-failed : goal.test_rows-returns-then-not-are_pointers_used-clause-failed
 test_rows-returns-then-not-are_pointers_used-clause-failed g t c =
     let nl = to_z-of_z w32 c.args.nesting_limit (search rules) in
     let all : c.loop-i.i ≡ c.args.count = omega (arith, c.loop-i.auto.i-end, c.loop-i-test.false) in
-    inr (c.loop-i.head, rows_wide_pointers c.note-then-not-are_pointers_used.ensures (rw all at (rw nl at c.loop-i.invariant)) (λ used. false≢true (sym c.if-not-are_pointers_used.true ∙ used)))
+    rw c.fault_at-then-not-are_pointers_used.ensures (inr (c.loop-i.head, rows_wide_pointers (refl, refl, refl) (rw all at (rw nl at c.loop-i.invariant)) (λ used. false≢true (sym c.if-not-are_pointers_used.true ∙ used))))
 
 pub test_place-returns-then-at-whole_words-clause-failed : goal.test_place-returns-then-at-whole_words-clause-failed
 test_place-returns-then-at-whole_words-clause-failed g t c =
-    here (no_pointer c.note.ensures (λ there. omega (arith, there, c.whole_words.ensures.count, c.if-at-whole_words.true, ap length c.args.from.now.held.0)) refl)
+    let r : Reading = reading_on g.A.ReaderArena c.args.from.now c.args.at c.args.nesting_limit in
+    rw c.fault_at.ensures (here {r = r} (no_pointer (refl, refl, refl) (λ there. omega (arith, there, c.whole_words.ensures.count, c.if-at-whole_words.true, ap length c.args.from.now.held.0)) refl))
 
 pub test_place-returns-then-not-is_positional-clause-failed : goal.test_place-returns-then-not-is_positional-clause-failed
 test_place-returns-then-not-is_positional-clause-failed g t c =
@@ -372,9 +428,8 @@ test_place-returns-then-not-is_positional-clause-failed g t c =
     let word : c.word-word.result.0 ≡ word_of r = c.word-word.ensures.value ∙ ap (λ ws. slice_index ws c.args.at) c.args.from.now.held.0 in
     let near : kind c.word-word.result.0 < 2 → ⊥ = λ small. false≢true (sym c.if-not-is_positional.true ∙ c.is_positional.ensures.1 small) in
     let far : 2 ≤ kind c.word-word.result.0 = omega (arith, near) in
-    let fault = c.note-then-not-is_positional.ensures in
     let there : IsPlace r.segments r.segment r.at = omega (arith, c.whole_words.ensures.count, c.if-at-whole_words.false, ap length c.args.from.now.held.0) in
-    here (other_pointer (fault.0 ∙ c.reason_of.ensures ∙ ap other_reason word, fault.1, fault.2) there (subst (λ w. 2 ≤ kind w) word far) refl)
+    rw c.fault_at-then-not-is_positional.ensures (here {r = r} (other_pointer (c.reason_of.ensures ∙ ap other_reason word, refl, refl) there (subst (λ w. 2 ≤ kind w) word far) refl))
 
 -- An element without pointers.
 pub test_row-returns-then-count-eq0-clause-tells : goal.test_row-returns-then-count-eq0-clause-tells
@@ -385,4 +440,21 @@ pub test_structs-returns-clause-failed : goal.test_structs-returns-clause-failed
 test_structs-returns-clause-failed g t c =
     let nl = to_z-of_z w32 c.args.nesting_limit (search rules) in
     let exact : c.args.count * (c.args.size.data_words + c.args.size.pointers) ≡ c.args.claimed = sym (ap₂ (λ x y. x * y) c.from.ensures (c.from-2.ensures ∙ c.total.ensures)) ∙ c.if-from.false ∙ c.from-3.ensures in
-    ok_so c.test_rows.result c.test_rows.ensures.failed (λ o h. none_so o h (λ fails. inr (exact, rw nl at fails)))
+    on_err_so c.test_rows.result c.test_rows.ensures.failed (λ x. ok_so c.test_rows.new.answer x (λ f fails. inr (exact, rw nl at fails)))
+
+-- What a list's pointer leads to is a list.
+pub test_list-returns-in_default-clause-never : goal.test_list-returns-in_default-clause-never
+test_list-returns-in_default-clause-never g t c =
+    let r : Reading = reading_on g.A.ReaderArena c.args.from.now c.args.at c.args.nesting_limit in
+    let ready : IsTested r = c.requires.tested in
+    let nl = to_z-of_z w32 c.args.nesting_limit (search rules) in
+    let object : IsObject Value r c.args.lim.now c.read_object.new.lim c.in-Ok.object = rw nl at c.in-Ok.ensures.object in
+    absurd (no_list_else c.in-Ok.object (lists_alone {r = r} c.args.lim.now c.read_object.new.lim c.in-Ok.object ready (rw c.requires.there at c.requires.is_list) object) c.in_default.not-Flat c.in_default.not-Pointers c.in_default.not-Structs)
+
+pub test_list-returns-in_default-clause-failed : goal.test_list-returns-in_default-clause-failed
+test_list-returns-in_default-clause-failed g t c =
+    let r : Reading = reading_on g.A.ReaderArena c.args.from.now c.args.at c.args.nesting_limit in
+    let ready : IsTested r = c.requires.tested in
+    let nl = to_z-of_z w32 c.args.nesting_limit (search rules) in
+    let object : IsObject Value r c.args.lim.now c.read_object.new.lim c.in-Ok.object = rw nl at c.in-Ok.ensures.object in
+    absurd (no_list_else c.in-Ok.object (lists_alone {r = r} c.args.lim.now c.read_object.new.lim c.in-Ok.object ready (rw c.requires.there at c.requires.is_list) object) c.in_default.not-Flat c.in_default.not-Pointers c.in_default.not-Structs)

@@ -1,4 +1,4 @@
-use Rattle.std.proofs.Common.{◌≡◌, ◌≤◌, ap, ◌∙◌, rules, refl}
+use Rattle.std.proofs.Common.{◌≡◌, ◌≤◌, Some, None, ap, ◌∙◌, rules, refl}
 use Rattle.std.proofs.lemmas.Int.{to_z-of_z}
 use mir.Syntax.{w32}
 use Rattle.capnp_format.specs.Word.{kind, element_size, list_count}
@@ -8,8 +8,9 @@ use Rattle.capnp_objects.specs.declared.object.Purpose.TheVariants.{Value}
 use Rattle.capnp_objects.specs.Objects.{IsObject}
 use Rattle.capnp_objects.specs.Reading.{Reading, word_of}
 use Rattle.capnp_readers.specs.Sizes.{reading_on}
-use Rattle.capnp_readers.specs.Checking.{progress, here}
+use Rattle.capnp_readers.specs.Checking.{progress, here, level_refusal_name}
 use Rattle.capnp_readers.proofs.NearRead.{flat_by_word}
+use Rattle.capnp_readers.proofs.Walking.{ok_so, on_err_so, on_err_both}
 use Rattle.capnp_readers.proofs.Checks.{unplaced_never, flat_tells}
 use Rattle.capnp_readers.proofs.Fails.{unplaced_fails, flat_fails}
 use Rattle.capnp_readers.proofs.readers.canonical.test_near_flat.Goals as goal
@@ -17,10 +18,10 @@ use Rattle.capnp_readers.proofs.readers.canonical.test_near_flat.Goals as goal
 pub returns-in-Err-clause-refused : goal.returns-in-Err-clause-refused
 returns-in-Err-clause-refused g c =
     let nl = to_z-of_z w32 c.args.nesting_limit (search rules) in
-    here (record { name = c.in-Err.kind; near = c.requires.tested.near; stopped = rw nl at c.in-Err.ensures.refused; named = rw c.requires.there at c.name_of_refusal.ensures })
+    rw c.refused.ensures (here (record { name = c.in-Err.kind; near = c.requires.tested.near; stopped = rw nl at c.in-Err.ensures.refused; named = ap (λ w. level_refusal_name w c.in-Err.kind) c.requires.there }))
 
-pub returns-then-start-head-clause-tells : goal.returns-then-start-head-clause-tells
-returns-then-start-head-clause-tells g c =
+pub returns-then-start-head-clause-never : goal.returns-then-start-head-clause-never
+returns-then-start-head-clause-never g c =
     let r : Reading = reading_on g.A.ReaderArena c.args.from.now c.args.at c.args.nesting_limit in
     let nl = to_z-of_z w32 c.args.nesting_limit (search rules) in
     let start = record c.args.from.now.place { at = c.in-Ok.start } in
@@ -31,7 +32,7 @@ returns-then-start-head-clause-tells g c =
     let many : count ≡ list_count (word_of r) = c.list_element_count-count.ensures.value ∙ ap list_count c.requires.there in
     let object : IsObject Value r c.args.lim.now c.read_near_flat.new.lim (ObjectFlat start size count) =
     flat_by_word {r = r} start size count of_bits c.args.from.now.held refl (rw nl at c.in-Ok.ensures.object) width many in
-    unplaced_never r c.args.lim.now c.read_near_flat.new.lim c.args.head (ObjectFlat start size count) c.requires.tested object c.if-start-head.true
+    rw c.fault_at.ensures (unplaced_never r c.args.lim.now c.read_near_flat.new.lim c.args.head (ObjectFlat start size count) c.requires.tested object c.if-start-head.true)
 
 pub returns-then-start-head-clause-failed : goal.returns-then-start-head-clause-failed
 returns-then-start-head-clause-failed g c =
@@ -45,7 +46,7 @@ returns-then-start-head-clause-failed g c =
     let many : count ≡ list_count (word_of r) = c.list_element_count-count.ensures.value ∙ ap list_count c.requires.there in
     let object : IsObject Value r c.args.lim.now c.read_near_flat.new.lim (ObjectFlat start size count) =
     flat_by_word {r = r} start size count of_bits c.args.from.now.held refl (rw nl at c.in-Ok.ensures.object) width many in
-    unplaced_fails {r = r} {from = progress c.args.head c.args.lim.now} (ObjectFlat start size count) c.note.ensures c.requires.tested of_bits.0 object c.if-start-head.true
+    rw c.fault_at.ensures (unplaced_fails {r = r} {from = progress c.args.head c.args.lim.now} (ObjectFlat start size count) (refl, refl, refl) c.requires.tested of_bits.0 object c.if-start-head.true)
 
 pub returns-clause-tells : goal.returns-clause-tells
 returns-clause-tells g c =
@@ -59,7 +60,25 @@ returns-clause-tells g c =
     let many : count ≡ list_count (word_of r) = c.list_element_count-count.ensures.value ∙ ap list_count c.requires.there in
     let object : IsObject Value r c.args.lim.now c.read_near_flat.new.lim (ObjectFlat start size count) =
     flat_by_word {r = r} start size count of_bits c.args.from.now.held refl (rw nl at c.in-Ok.ensures.object) width many in
-    flat_tells {r = r} (progress c.args.head c.args.lim.now) start size count c.test_flat.result c.requires.tested object c.if-start-head.false c.test_flat.ensures.tells
+    ok_so c.test_flat.result c.test_flat.ensures.tells (λ e h. flat_tells {r = r} (progress c.args.head c.args.lim.now) start size count (Some e) c.requires.tested object c.if-start-head.false h)
+
+pub returns-clause-never : goal.returns-clause-never
+returns-clause-never g c =
+    let r : Reading = reading_on g.A.ReaderArena c.args.from.now c.args.at c.args.nesting_limit in
+    let nl = to_z-of_z w32 c.args.nesting_limit (search rules) in
+    let start = record c.args.from.now.place { at = c.in-Ok.start } in
+    let size = c.list_element_size-size.result in
+    let count = c.list_element_count-count.result in
+    let of_bits : (kind (word_of r) ≡ 1) × (element_size (word_of r) ≤ 5) = (rw c.requires.there at c.requires.is_list, rw c.requires.there at c.requires.of_bits.1) in
+    let width : size_number size ≡ element_size (word_of r) = c.list_element_size-size.ensures ∙ ap element_size c.requires.there in
+    let many : count ≡ list_count (word_of r) = c.list_element_count-count.ensures.value ∙ ap list_count c.requires.there in
+    let object : IsObject Value r c.args.lim.now c.read_near_flat.new.lim (ObjectFlat start size count) =
+    flat_by_word {r = r} start size count of_bits c.args.from.now.held refl (rw nl at c.in-Ok.ensures.object) width many in
+    on_err_both c.test_flat.result c.test_flat.ensures.never c.test_flat.ensures.failed (λ fails is. rw is (flat_tells {r = r} (progress c.args.head c.args.lim.now) start size count None c.requires.tested object c.if-start-head.false fails))
+
+pub returns-clause-refused : goal.returns-clause-refused
+returns-clause-refused g c =
+    on_err_so c.test_flat.result c.test_flat.ensures.failed (λ is. rw is tt)
 
 pub returns-clause-failed : goal.returns-clause-failed
 returns-clause-failed g c =
@@ -73,4 +92,4 @@ returns-clause-failed g c =
     let many : count ≡ list_count (word_of r) = c.list_element_count-count.ensures.value ∙ ap list_count c.requires.there in
     let object : IsObject Value r c.args.lim.now c.read_near_flat.new.lim (ObjectFlat start size count) =
     flat_by_word {r = r} start size count of_bits c.args.from.now.held refl (rw nl at c.in-Ok.ensures.object) width many in
-    flat_fails {r = r} {from = progress c.args.head c.args.lim.now} c.test_flat.new.fault start size count c.test_flat.result c.requires.tested object c.if-start-head.false c.test_flat.ensures.tells c.test_flat.ensures.failed
+    on_err_both c.test_flat.result c.test_flat.ensures.never c.test_flat.ensures.failed (λ fails is. rw is (flat_fails {r = r} {from = progress c.args.head c.args.lim.now} start size count c.requires.tested object c.if-start-head.false fails (refl, refl, refl)))

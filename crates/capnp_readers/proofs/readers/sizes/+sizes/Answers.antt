@@ -16,7 +16,7 @@ use Rattle.capnp_objects.proofs.WalkStops.{beyond_at, struct_stops_at, capabilit
 use Rattle.capnp_format.specs.Tree.{no_trees, no_elements}
 use Rattle.capnp_readers.specs.Readers.{reading}
 use Rattle.capnp_readers.specs.Sizes.{reading_on, so_far, object_words}
-use Rattle.capnp_readers.proofs.Walking.{one_level_in, ok_so, err_so, beyond_with, Opened, object_level, object_inside, leaf_walked, object_walked, object_stops, object_beyond}
+use Rattle.capnp_readers.proofs.Walking.{on_err, one_level_in, ok_so, err_so, beyond_with, Opened, object_level, object_inside, leaf_walked, object_walked, object_stops, object_beyond}
 use Rattle.capnp_readers.proofs.readers.sizes.+sizes.Goals as goal
 
 pub add_object-returns-in-Err-clause-refused : goal.add_object-returns-in-Err-clause-refused
@@ -25,20 +25,20 @@ add_object-returns-in-Err-clause-refused g t c =
     let nl = to_z-of_z w32 c.args.nesting_limit c.ranges.nesting_limit in
     here {r = r} {from = so_far c.args.walk.now.size c.args.lim.now} c.requires.fits (unmeasured (rw nl at c.in-Err.ensures.refused))
 
-pub add_object-returns-in-Err-add_words-clause-refused : goal.add_object-returns-in-Err-add_words-clause-refused
-add_object-returns-in-Err-add_words-clause-refused g t c =
+pub add_object-returns-in_err-add_words-clause-refused : goal.add_object-returns-in_err-add_words-clause-refused
+add_object-returns-in_err-add_words-clause-refused g t c =
     let r : Reading = reading_on g.A.ReaderArena c.args.from.now c.args.at c.args.nesting_limit in
     let nl = to_z-of_z w32 c.args.nesting_limit c.ranges.nesting_limit in
     let object : IsObject Size r c.args.lim.now c.measure_object.new.lim c.in-Ok.object = rw nl at c.in-Ok.ensures.object in
-    let over : c.args.walk.now.size.word_count + object_words c.in-Ok.object < 2 ^ 64 → ⊥ = λ h. false≢true ((rw c.words_of_object.ensures at c.in-Err-add_words.ensures.exactly).1 h) in
-    rw c.in-Err-add_words.ensures.named (object_beyond {r = r} {from = so_far c.args.walk.now.size c.args.lim.now} c.in-Ok.object c.requires.fits object over)
+    let over : c.args.walk.now.size.word_count + object_words c.in-Ok.object < 2 ^ 64 → ⊥ = λ h. false≢true ((rw c.words_of_object.ensures at c.in_err-add_words.ensures.exactly).1 h) in
+    on_err c.from_residual.result (rw c.in_err-add_words.ensures.named (object_beyond {r = r} {from = so_far c.args.walk.now.size c.args.lim.now} c.in-Ok.object c.requires.fits object over))
 
 pub add_object-returns-in-Capability-clause-sized : goal.add_object-returns-in-Capability-clause-sized
 add_object-returns-in-Capability-clause-sized g t c =
     let r : Reading = reading_on g.A.ReaderArena c.args.from.now c.args.at c.args.nesting_limit in
     let nl = to_z-of_z w32 c.args.nesting_limit c.ranges.nesting_limit in
     let object : IsObject Size r c.args.lim.now c.measure_object.new.lim (ObjectCapability c.in-Capability.field-0) = rw nl at (rw c.in-Capability.is at c.in-Ok.ensures.object) in
-    let sum = rw (c.words_of_object.ensures, c.in-Capability.is) at c.in-Ok-add_words.ensures.sum in
+    let sum = rw (c.words_of_object.ensures, c.in-Capability.is) at c.in_ok-add_words.ensures.sum in
     let words = sum.0 ∙ add-zero c.args.walk.now.size.word_count in
     ok_so c.add_capability.result c.add_capability.ensures.sum (λ _ h. rw (h.0, h.1, words, sum.1) (capability_walked {r = r} {from = so_far c.args.walk.now.size c.args.lim.now} object))
 
@@ -48,7 +48,7 @@ add_object-returns-in-Capability-clause-refused g t c =
     let from : Tally = so_far c.args.walk.now.size c.args.lim.now in
     let nl = to_z-of_z w32 c.args.nesting_limit c.ranges.nesting_limit in
     let object : IsObject Size r c.args.lim.now c.measure_object.new.lim (ObjectCapability c.in-Capability.field-0) = rw nl at (rw c.in-Capability.is at c.in-Ok.ensures.object) in
-    beyond_with c.add_capability.result c.add_capability.new.self.refusal (λ k. SizeStops k r from c.measure_object.new.lim) (rw c.in-Ok-add_words.ensures.sum.1 at c.add_capability.ensures.exactly) c.add_capability.ensures.named
+    beyond_with c.add_capability.result c.add_capability.new.self.refusal (λ k. SizeStops k r from c.measure_object.new.lim) (rw c.in_ok-add_words.ensures.sum.1 at c.add_capability.ensures.exactly) c.add_capability.ensures.named
     (λ over. capability_beyond {r = r} {from = from} c.requires.fits object over)
 
 pub add_object-returns-in_default-rows_of_object-clause-sized : goal.add_object-returns-in_default-rows_of_object-clause-sized
@@ -56,7 +56,7 @@ add_object-returns-in_default-rows_of_object-clause-sized g t c =
     let r : Reading = reading_on g.A.ReaderArena c.args.from.now c.args.at c.args.nesting_limit in
     let nl = to_z-of_z w32 c.args.nesting_limit c.ranges.nesting_limit in
     let object : IsObject Size r c.args.lim.now c.measure_object.new.lim c.in-Ok.object = rw nl at c.in-Ok.ensures.object in
-    let sum = rw c.words_of_object.ensures at c.in-Ok-add_words.ensures.sum in
+    let sum = rw c.words_of_object.ensures at c.in_ok-add_words.ensures.sum in
     rw (sum.0, sum.1) (leaf_walked {r = r} {from = so_far c.args.walk.now.size c.args.lim.now} c.in-Ok.object object c.in_default-rows_of_object.ensures c.in_default.not-Capability)
 
 pub add_object-add_rows-requires : goal.add_object-add_rows-requires
@@ -66,8 +66,8 @@ add_object-add_rows-requires g t c =
     let level = object_level c.in-Ok.object opened in
     let less = one_level_in c.args.nesting_limit c.ranges.nesting_limit level in
     let inside = object_inside c.in-Ok.object opened in
-    let sum = c.in-Ok-add_words.ensures.sum in
-    let words = c.in-Ok-add_words.ensures.exactly.0 refl in
+    let sum = c.in_ok-add_words.ensures.sum in
+    let words = c.in_ok-add_words.ensures.exactly.0 refl in
     λ κs le. (omega (arith, less, level, c.decreases), (le, (inside, (omega (arith, sum.0, words), omega (arith, sum.1, c.requires.fits.1)))))
 
 pub add_object-returns-clause-sized : goal.add_object-returns-clause-sized
@@ -75,7 +75,7 @@ add_object-returns-clause-sized g t c =
     let r : Reading = reading_on g.A.ReaderArena c.args.from.now c.args.at c.args.nesting_limit in
     let opened : Opened r c.args.lim.now c.measure_object.new.lim c.in-Ok.object c.in-Some.rows = record { is_measured = rw (to_z-of_z w32 c.args.nesting_limit c.ranges.nesting_limit) at c.in-Ok.ensures.object; has = c.in-Some.ensures } in
     let less = one_level_in c.args.nesting_limit c.ranges.nesting_limit (object_level c.in-Ok.object opened) in
-    let sum = rw c.words_of_object.ensures at c.in-Ok-add_words.ensures.sum in
+    let sum = rw c.words_of_object.ensures at c.in_ok-add_words.ensures.sum in
     ok_so c.add_rows.result c.add_rows.ensures.sized (λ _ h. object_walked {r = r} {from = so_far c.args.walk.now.size c.args.lim.now} c.in-Ok.object opened (rw (less, sum.0, sum.1) at h))
 
 pub add_object-returns-clause-refused : goal.add_object-returns-clause-refused
@@ -83,7 +83,7 @@ add_object-returns-clause-refused g t c =
     let r : Reading = reading_on g.A.ReaderArena c.args.from.now c.args.at c.args.nesting_limit in
     let opened : Opened r c.args.lim.now c.measure_object.new.lim c.in-Ok.object c.in-Some.rows = record { is_measured = rw (to_z-of_z w32 c.args.nesting_limit c.ranges.nesting_limit) at c.in-Ok.ensures.object; has = c.in-Some.ensures } in
     let less = one_level_in c.args.nesting_limit c.ranges.nesting_limit (object_level c.in-Ok.object opened) in
-    let sum = rw c.words_of_object.ensures at c.in-Ok-add_words.ensures.sum in
+    let sum = rw c.words_of_object.ensures at c.in_ok-add_words.ensures.sum in
     err_so c.add_rows.result c.add_rows.ensures.refused (λ k h. object_stops {r = r} {from = so_far c.args.walk.now.size c.args.lim.now} c.in-Ok.object opened (rw (less, sum.0, sum.1) at h))
 
 pub add_pointer-returns-then-is_null-clause-sized : goal.add_pointer-returns-then-is_null-clause-sized
@@ -96,7 +96,7 @@ pub add_row-loop-i-init : goal.add_row-loop-i-init
 add_row-loop-i-init g t c = ((no_trees, refl, walks_none _ _), c.requires.fits)
 
 pub add_row-loop-i-preserved : goal.add_row-loop-i-preserved
-add_row-loop-i-preserved g t c = (pointer_walked c.loop-i.invariant.0 c.in-Ok.ensures.sized, c.in-Ok.ensures.fits)
+add_row-loop-i-preserved g t c = (pointer_walked c.loop-i.invariant.0 c.in_ok-add_pointer.ensures.sized, c.in_ok-add_pointer.ensures.fits)
 
 pub add_rows-returns-then-pointers-eq0-clause-sized : goal.add_rows-returns-then-pointers-eq0-clause-sized
 add_rows-returns-then-pointers-eq0-clause-sized g t c =
@@ -115,7 +115,7 @@ add_rows-loop-i-preserved g t c =
     let at : c.from-in-loop-i.result + c.from-in-loop-i-2.result * (c.from.result + c.from-2.result) + c.from-in-loop-i-3.result ≡ r.at + c.loop-i.i * (d + q) + d =
     ap₂ (λ x y. x + y) (ap₂ (λ x y. x + y) c.from-in-loop-i.ensures (ap₂ (λ x y. x * y) c.from-in-loop-i-2.ensures width)) c.from-in-loop-i-3.ensures in
     let nl = to_z-of_z w32 c.args.from.now.nesting_limit (search rules) in
-    (row_walked c.loop-i.invariant.0 (omega (arith, inside)) (rw (at, nl) at c.in-Ok.ensures.sized), c.in-Ok.ensures.fits)
+    (row_walked c.loop-i.invariant.0 (omega (arith, inside)) (rw (at, nl) at c.in_ok-add_row.ensures.sized), c.in_ok-add_row.ensures.fits)
 
 pub add_struct-returns-in-Err-clause-refused : goal.add_struct-returns-in-Err-clause-refused
 add_struct-returns-in-Err-clause-refused g t c =
@@ -123,14 +123,14 @@ add_struct-returns-in-Err-clause-refused g t c =
     let nl = to_z-of_z w32 c.args.nesting_limit c.ranges.nesting_limit in
     here {r = r} {from = so_far c.args.walk.now.size c.args.lim.now} c.requires.fits (unmeasured (rw nl at c.in-Err.ensures.refused))
 
-pub add_struct-returns-in-Err-add_words-clause-refused : goal.add_struct-returns-in-Err-add_words-clause-refused
-add_struct-returns-in-Err-add_words-clause-refused g t c =
+pub add_struct-returns-in_err-add_words-clause-refused : goal.add_struct-returns-in_err-add_words-clause-refused
+add_struct-returns-in_err-add_words-clause-refused g t c =
     let r : Reading = reading_on g.A.ReaderArena c.args.from.now c.args.at c.args.nesting_limit in
     let a : Target = near_at r c.in-Ok.start in
     let measured : Entered Size r c.args.lim.now c.measure_near.new.lim a = rw (to_z-of_z w32 c.args.nesting_limit c.ranges.nesting_limit) at c.in-Ok.ensures.object in
     let is_struct : kind (word_of r) ≡ 0 = rw c.requires.there at c.requires.is_struct in
     let words : c.from.result ≡ counted_words r.segments a = c.from.ensures ∙ c.struct_word_size-words.ensures ∙ ap (λ x. data_words x + pointer_count x) c.requires.there ∙ sym (counted_struct r.segments a is_struct) in
-    rw c.in-Err-add_words.ensures.named (beyond_at {r = r} {from = so_far c.args.walk.now.size c.args.lim.now} {a = a} c.from.result c.requires.fits measured words (λ h. false≢true (c.in-Err-add_words.ensures.exactly.1 h)))
+    on_err c.from_residual.result (rw c.in_err-add_words.ensures.named (beyond_at {r = r} {from = so_far c.args.walk.now.size c.args.lim.now} {a = a} c.from.result c.requires.fits measured words (λ h. false≢true (c.in_err-add_words.ensures.exactly.1 h))))
 
 pub add_struct-returns-then-count-eq0-clause-sized : goal.add_struct-returns-then-count-eq0-clause-sized
 add_struct-returns-then-count-eq0-clause-sized g t c =
@@ -140,7 +140,7 @@ add_struct-returns-then-count-eq0-clause-sized g t c =
     let is_struct : kind (word_of r) ≡ 0 = rw c.requires.there at c.requires.is_struct in
     let words : c.from.result ≡ counted_words r.segments a = c.from.ensures ∙ c.struct_word_size-words.ensures ∙ ap (λ x. data_words x + pointer_count x) c.requires.there ∙ sym (counted_struct r.segments a is_struct) in
     let many : pointer_count (word_of r) ≡ 0 = sym (c.from-count.ensures ∙ c.struct_size-size.ensures.pointers_of ∙ ap pointer_count c.requires.there) ∙ c.if-count-eq0.true in
-    let sum = c.in-Ok-add_words.ensures.sum in
+    let sum = c.in_ok-add_words.ensures.sum in
     rw (sum.0, sum.1, words) (struct_at {r = r} {from = so_far c.args.walk.now.size c.args.lim.now} measured is_struct (no_trees, sym many, walks_none _ _))
 
 pub add_struct-returns-clause-sized : goal.add_struct-returns-clause-sized
@@ -153,7 +153,7 @@ add_struct-returns-clause-sized g t c =
     let words : c.from.result ≡ counted_words r.segments a = c.from.ensures ∙ c.struct_word_size-words.ensures ∙ ap (λ x. data_words x + pointer_count x) c.requires.there ∙ sym (counted_struct r.segments a is_struct) in
     let wide : c.from-2.result ≡ data_words (word_of r) = c.from-2.ensures ∙ c.struct_size-size.ensures.data_of ∙ ap data_words c.requires.there in
     let many : c.from-count.result ≡ pointer_count (word_of r) = c.from-count.ensures ∙ c.struct_size-size.ensures.pointers_of ∙ ap pointer_count c.requires.there in
-    let sum = c.in-Ok-add_words.ensures.sum in
+    let sum = c.in_ok-add_words.ensures.sum in
     ok_so c.add_pointers.result c.add_pointers.ensures.sized (λ _ h. struct_at {r = r} {from = so_far c.args.walk.now.size c.args.lim.now} measured is_struct (rw (less, wide, many, sum.0, sum.1, words) at h))
 
 pub add_struct-returns-clause-refused : goal.add_struct-returns-clause-refused
@@ -166,5 +166,5 @@ add_struct-returns-clause-refused g t c =
     let words : c.from.result ≡ counted_words r.segments a = c.from.ensures ∙ c.struct_word_size-words.ensures ∙ ap (λ x. data_words x + pointer_count x) c.requires.there ∙ sym (counted_struct r.segments a is_struct) in
     let wide : c.from-2.result ≡ data_words (word_of r) = c.from-2.ensures ∙ c.struct_size-size.ensures.data_of ∙ ap data_words c.requires.there in
     let many : c.from-count.result ≡ pointer_count (word_of r) = c.from-count.ensures ∙ c.struct_size-size.ensures.pointers_of ∙ ap pointer_count c.requires.there in
-    let sum = c.in-Ok-add_words.ensures.sum in
+    let sum = c.in_ok-add_words.ensures.sum in
     err_so c.add_pointers.result c.add_pointers.ensures.refused (λ k h. struct_stops_at {r = r} {from = so_far c.args.walk.now.size c.args.lim.now} measured is_struct (rw (less, wide, many, sum.0, sum.1, words) at h))
