@@ -60,6 +60,7 @@ default_use of_null default t = ignored
 abbrev pub object_default : Option (Bor (List ℕ)) → Tree → DefaultUse
 object_default default t = default_use ignored default t
 
+-- What a call for a text or data that finds null does with its default.
 abbrev pub blob_default : Option (Bor (List ℕ)) → Tree → DefaultUse
 blob_default default t = default_use (denied ExistingPointerIsNotAList) default t
 

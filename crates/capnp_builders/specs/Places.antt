@@ -63,6 +63,7 @@ pub record Field : Type 0 where
   pub bits : ℕ
   pub value : ℕ
 
+-- Bits that are written, by their start, how many they are, and their number.
 abbrev pub field : ℕ → ℕ → ℕ → Field
 field start bits value = record { start = start; bits = bits; value = value }
 

@@ -111,7 +111,7 @@ object_made (Ok x) old new place object made = record {
   named = λ k e. absurd (cc);
   fits = λ room k e. absurd (cc);
   nowhere = λ e. absurd (cc);
-  taken = λ some. made.memory.taken;
+  taken = λ some. record { taken = made.memory.taken; behind = made.behind; memory = made.memory.granted };
 }
 object_made (Err k) old new place object made =
     let why : IsRefusedFor old new (words_made object) k = made.memory.named in
@@ -125,15 +125,15 @@ object_made (Err k) old new place object made =
     }
 
 -- a call that makes none
-pub pointed : (old new : View) (place : PointerPlace) (i : Option ℕ) (u : Tree) → ((t : Tree) → made_at (Point i) (PointerTo t) ≡ becomes u) → Puts old.words new.words place.segment place.word u → new.refusals ≡ old.refusals → KeepsLengths old.words new.words →
+pub pointed : (old new : View) (place : PointerPlace) (i : Option ℕ) (u : Tree) → ((t : Tree) → made_at (Point i) (PointerTo t) ≡ becomes u) → Puts old.words new.words place.segment place.word u → KeepsLimits old new → KeepsLengths old.words new.words →
     IsDoneAt old new place (Point i) None
-pointed old new place i u makes puts same lengths = record {
+pointed old new place i u makes puts limits lengths = record {
   done = λ t stored. record { left = Some u; leaves = as_it_stands (is_done u (makes t) refl refl); stands = puts t stored };
-  counted = same;
+  counted = ap (λ (v : View). v.refusals) limits;
   named = λ k e. absurd (cc);
   fits = λ room k e. absurd (cc);
   nowhere = λ e. absurd (cc);
-  taken = λ some. lengths;
+  taken = λ some. record { lengths = lengths; limits = limits };
 }
 
 -- a call that writes a part
@@ -145,7 +145,7 @@ part_done result old new place part does lengths limits named kept = record {
   named = λ k. refused_there result old new (λ j. ⊥) k named kept;
   fits = λ room k e. named_refusal result (λ j. is_of_path j ≡ true) k named e;
   nowhere = kept_nowhere result old new kept;
-  taken = λ some. lengths;
+  taken = λ some. record { lengths = lengths; limits = limits };
 }
 
 -- what is made stands at its place

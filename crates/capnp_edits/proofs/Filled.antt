@@ -210,7 +210,7 @@ bits_changed result old new e n puts limits named kept = record {
   named = λ k. refused_there result old new (λ j. ⊥) k (of_place result named) kept;
   fits = λ room k e. named_refusal result (λ j. is_of_path j ≡ true) k (of_place result named) e;
   nowhere = kept_nowhere result old new kept;
-  taken = bits_lengths old.words new.words e (bits_of n) (refusal_of result) puts;
+  taken = record { lengths = bits_lengths old.words new.words e (bits_of n) (refusal_of result) puts; limits = limits };
 }
 
 pub content_changed : {A : Type 0} (result : Result A ErrorKind) (old new : View) (e : ExistingStruct) (source : Source) → FillsAt old.words new.words (struct_place e) source (refusal_of result) → new.refusals ≡ refusals_after (refusal_of result) old.refusals →

@@ -14,3 +14,4 @@ pub mod ListReads
 pub mod CopiedList
 pub mod Copied
 pub mod Filled
+pub mod Fitting

@@ -14,6 +14,7 @@ use Rattle.capnp_format.specs.Bytes.{words_of}
 use Rattle.capnp_format.specs.Forest.{target}
 use Rattle.capnp_format.specs.Segments.{Segments, Target, word_at, IsPlace}
 use Rattle.capnp_format.specs.Tree.{Tree, Null, capabilities}
+use Rattle.capnp_format.proofs.Levels.{one_value}
 use Rattle.capnp_arena.specs.View.{View}
 use Rattle.capnp_making.specs.declared.existing.ExistingBytes.{ExistingBytes}
 use Rattle.capnp_making.specs.declared.existing.ExistingList.{ExistingList}
@@ -32,10 +33,12 @@ use Rattle.capnp_copies.specs.Originals.{value_original}
 use Rattle.capnp_readers.specs.declared.readers.PointerPlace.{PointerPlace}
 use Rattle.capnp_readers.specs.declared.readers.list_reader.ListPlace.{ListPlace}
 use Rattle.capnp_readers.specs.declared.readers.struct_reader.StructPlace.{StructPlace}
-use Rattle.capnp_making.specs.Makes.{CallAt, call_at}
-use Rattle.capnp_widening.specs.Opening.{Opens, OpensStruct, struct_opened}
+use Rattle.capnp_making.specs.Makes.{CallAt}
+use Rattle.capnp_widening.specs.Opening.{IsNoWider, Opens, OpensStruct, struct_opened}
+use Rattle.capnp_widening.specs.Rooms.{RefusesToBecome, direct_pointers, is_allocation_name, widened_words}
 use Rattle.capnp_widening.specs.RowsRemade.{RefusesWider}
-use Rattle.capnp_widening.specs.Widened.{list_widened, IsNoWider}
+use Rattle.capnp_widening.specs.Widened.{list_widened}
+use Rattle.capnp_widening.proofs.Refusing.{growth_named}
 use Rattle.capnp_builders.specs.Defaults.{IsShortDefault, DefaultUse, ignored, denied as is_denied_by, copied as is_copied_from, use_of_words, default_use, default_root, default_copy, RefusesDefault, WithDefault, DefaultFits}
 use Rattle.capnp_builders.specs.Found.{list_given, bytes_given, GivesFoundList, GivesFoundBytes, FindsList, FindsBytes}
 use Rattle.capnp_builders.specs.Opening.{IsStructGiven, IsListGiven, OpensList, FindsStruct, FindsStructs, StructFindFits, StructsFindFits}
@@ -45,7 +48,7 @@ use Rattle.capnp_edits.specs.declared.edit.tasks.Sought.{Sought}
 use Rattle.capnp_edits.specs.declared.edit.tasks.Sought.TheVariants.{Struct as ForStruct, List as ForList, StructList as ForStructs, Text as ForText, Data as ForData}
 use Rattle.capnp_edits.specs.Tasks.{is_small_default, is_in_range}
 use Rattle.capnp_edits.specs.Edits.{refusal_of, Making, allocates, becomes, nowhere, made_of_found, looked_for, with_default, is_of_path, IsOfMemory, Yields, is_done, is_denied, is_allocated, is_not_allocated, as_it_stands, default_put, default_dropped, DoesAt}
-use Rattle.capnp_edits.specs.Steps.{FitsAt, IsOpeningRefused, IsSearchRefused, FindsSought, IsDoneAt}
+use Rattle.capnp_edits.specs.Steps.{FitsAt, IsGrowthRefused, IsOpeningRefused, IsSearchRefused, FindsSought, IsDoneAt}
 use Rattle.capnp_edits.proofs.Applied.{Does, never_refused, of_allocation, of_no_place, denied_at}
 use Rattle.capnp_edits.proofs.Contents.{list_anywhere, data_anywhere, text_anywhere}
 use Rattle.capnp_edits.proofs.Names.{elsewhere, struct_elsewhere, structs_elsewhere, list_elsewhere, data_elsewhere, text_elsewhere, fault_elsewhere, unfound_name, list_unfound, data_unfound, text_unfound}
@@ -76,13 +79,17 @@ record DoesAs (S R : Segments) (place : PointerPlace) (making : Making) (t : Tre
 abbrev DoesSo : {B : Type 0} → (CallAt → Tree → Type 0) → (Tree → Making) → Result B ErrorKind → Type 0
 DoesSo P made_of result = (c : CallAt) (t : Tree) → IsStored c.old.words c.segment c.at t → P c t → DoesAs c.old.words c.new.words (place_in c) (made_of t) t (refusal_of result)
 
+-- a growth is refused for memory
+of_growth : (old new : View) (n pointers : ℕ) (k : ErrorKind) → RefusesGrowth old new n pointers k → IsOfMemory k
+of_growth old new n pointers k (inl (why, none)) = of_allocation old new (length new.words) (n + 1) k why
+of_growth old new n pointers k (inr (some, (why, none))) = of_allocation old new (length new.words) 2 k why
+
 -- what is opened stands in the stead of what stood, or that stays
 opened_so : {B : Type 0} (result : Result B ErrorKind) (size : StructSize) (Given : Segments → ℕ → ℕ → Tree → B → Type 0) (c : CallAt) (t : Tree) (q : Result Tree ErrorKind) → Opens size Given c t q result →
     DoesAs c.old.words c.new.words (place_in c) (made_of_found (allocates t) q) t (refusal_of result)
 opened_so (Ok b) size Given c t (Ok u) h = record { left = Some u; yields = is_allocated t u refl refl refl; stands = h.replaced }
 opened_so (Err k) size Given c t (Ok u) h =
-    let (n, (why, none)) = h.full in
-    record { left = Some t; yields = is_not_allocated t u k refl (of_allocation c.old c.new (length c.new.words) (n + 1) k why) refl refl; stands = h.stands }
+    record { left = Some t; yields = is_not_allocated t u k refl (of_growth c.old c.new (widened_words u) (direct_pointers t) k h.full) refl refl; stands = h.stands }
 opened_so result size Given c t (Err k) h = record { left = None; yields = is_denied k refl (ap refusal_of h.0) refl; stands = same_words h.1 }
 
 struct_so : (result : Result StructPlace ErrorKind) (size : StructSize) → DoesSo (OpensStruct IsStructGiven size result) (looked_for (ForStruct size)) result
@@ -174,25 +181,42 @@ with_does result of_null default made_of P c t stored does h = elim (null_or_ign
 ]
 
 -- Why a value isn't opened or found: by its name, which is no missing place, and all is as it was; or memory is refused.
-abbrev IsWhy : View → View → ErrorKind → Type 0
-IsWhy old new k = ((k ≡ NoSuchPlace → ⊥) × (new ≡ old)) ⊎ (SpendsMemory old new k × RefusesGrowth old new k)
+abbrev IsWhy : Sought → CallAt → ErrorKind → Type 0
+IsWhy sought c k = ((k ≡ NoSuchPlace → ⊥) × (c.new ≡ c.old)) ⊎ IsGrowthRefused sought c k
 
-abbrev WhySo : (CallAt → Tree → Type 0) → ErrorKind → Type 0
-WhySo P k = (c : CallAt) (t : Tree) → P c t → IsWhy c.old c.new k
+abbrev WhySo : Sought → (CallAt → Tree → Type 0) → ErrorKind → Type 0
+WhySo sought P k = (c : CallAt) (t : Tree) → IsStored c.old.words c.segment c.at t → P c t → IsWhy sought c k
 
 same_err : {A : Type 0} (j k : ErrorKind) → ◌≡◌ {A = Result A ErrorKind} (Err j) (Err k) → j ≡ k
 same_err j k e = cc
 
-why_opened : {B : Type 0} (k : ErrorKind) (size : StructSize) (Given : Segments → ℕ → ℕ → Tree → B → Type 0) (c : CallAt) (t : Tree) (q : Result Tree ErrorKind) → ((j : ErrorKind) → q ≡ Err j → j ≡ NoSuchPlace → ⊥) → Opens size Given c t q (Err k) → IsWhy c.old c.new k
-why_opened k size Given c t (Ok u) names h = inr (h.memory, h.full)
-why_opened k size Given c t (Err j) names h = inl ((λ e. names j refl (sym (same_err k j h.0) ∙ e)), h.1)
+same_ok : (t u : Tree) → ◌≡◌ {A = Result Tree ErrorKind} (Ok t) (Ok u) → t ≡ u
+same_ok t u e = cc
 
-struct_why : (size : StructSize) (k : ErrorKind) → WhySo (OpensStruct IsStructGiven size (Err k)) k
-struct_why size k c t h = why_opened k size IsStructGiven c t (struct_opened size t) (λ j e. elsewhere (struct_opened size t) j (struct_elsewhere size t) e) h
+-- memory for what becomes of the one value that stands
+not_become : (becomes_of : Tree → Result Tree ErrorKind) (c : CallAt) (t u : Tree) (k : ErrorKind) → IsStored c.old.words c.segment c.at t → becomes_of t ≡ Ok u → SpendsMemory c.old c.new k →
+    RefusesGrowth c.old c.new (widened_words u) (direct_pointers t) k → RefusesToBecome (IsStored c.old.words c.segment c.at) becomes_of c.old c.new k
+not_become becomes_of c t u k stored e memory full = record {
+  name = growth_named c.old c.new (widened_words u) (direct_pointers t) k full;
+  memory = memory;
+  full = λ x v stands f.
+      (let same : x ≡ t = (one_value c.old.words stands.means.0 stored.means.0 c.segment c.at x t stands.means.1 stored.means.1 stands.means.2 stored.means.2).0 in
+      let made : u ≡ v = same_ok u v (sym e ∙ ap becomes_of (sym same) ∙ f) in
+      subst (λ y. RefusesGrowth c.old c.new (widened_words y) (direct_pointers x) k) made (subst (λ y. RefusesGrowth c.old c.new (widened_words u) (direct_pointers y) k) (sym same) full));
+}
 
-structs_why : (size : StructSize) (k : ErrorKind) → WhySo (OpensList size (Err k)) k
-structs_why size k c Null h = absurd (let e = h.0 in cc)
-structs_why size k c t h = why_opened k size IsListGiven c t (list_widened size.data_words size.pointers t) (λ j e. elsewhere (list_widened size.data_words size.pointers t) j (structs_elsewhere size.data_words size.pointers t) e) h
+why_opened : {B : Type 0} (becomes_of : Tree → Result Tree ErrorKind) (k : ErrorKind) (size : StructSize) (Given : Segments → ℕ → ℕ → Tree → B → Type 0) (c : CallAt) (t : Tree) → IsStored c.old.words c.segment c.at t → (q : Result Tree ErrorKind) → becomes_of t ≡ q →
+    ((j : ErrorKind) → q ≡ Err j → j ≡ NoSuchPlace → ⊥) → Opens size Given c t q (Err k) → ((k ≡ NoSuchPlace → ⊥) × (c.new ≡ c.old)) ⊎ RefusesToBecome (IsStored c.old.words c.segment c.at) becomes_of c.old c.new k
+why_opened becomes_of k size Given c t stored (Ok u) e names h = inr (not_become becomes_of c t u k stored e h.memory h.full)
+why_opened becomes_of k size Given c t stored (Err j) e names h = inl ((λ e. names j refl (sym (same_err k j h.0) ∙ e)), h.1)
+
+struct_why : (size : StructSize) (k : ErrorKind) → WhySo (ForStruct size) (OpensStruct IsStructGiven size (Err k)) k
+struct_why size k c t stored h = why_opened (struct_opened size) k size IsStructGiven c t stored (struct_opened size t) refl (λ j e. elsewhere (struct_opened size t) j (struct_elsewhere size t) e) h
+
+structs_why : (size : StructSize) (k : ErrorKind) → WhySo (ForStructs size) (OpensList size (Err k)) k
+structs_why size k c Null stored h = absurd (let e = h.0 in cc)
+structs_why size k c t stored h =
+    why_opened (list_widened size.data_words size.pointers) k size IsListGiven c t stored (list_widened size.data_words size.pointers t) refl (λ j e. elsewhere (list_widened size.data_words size.pointers t) j (structs_elsewhere size.data_words size.pointers t) e) h
 
 list_err : (id : ℕ) (q : Result (Option ExistingList) ErrorKind) (k : ErrorKind) → Err k ≡ list_given id q → q ≡ Err k
 list_err id (Ok (Some l)) k e = absurd (cc)
@@ -204,24 +228,24 @@ bytes_err id (Ok (Some b)) k e = absurd (cc)
 bytes_err id (Ok None) k e = absurd (cc)
 bytes_err id (Err j) k e = ap Err (let same : j ≡ k = cc in same)
 
-list_why : (size : ElementSize) (k : ErrorKind) → WhySo (GivesFoundList size (Err k)) k
-list_why size k c t h = inl (elsewhere (list_in (target c.old.words c.segment c.at) size t) k (list_elsewhere (target c.old.words c.segment c.at) size t) (list_err c.segment (list_in (target c.old.words c.segment c.at) size t) k h.0), h.1)
+list_why : (size : ElementSize) (k : ErrorKind) → WhySo (ForList size) (GivesFoundList size (Err k)) k
+list_why size k c t stored h = inl (elsewhere (list_in (target c.old.words c.segment c.at) size t) k (list_elsewhere (target c.old.words c.segment c.at) size t) (list_err c.segment (list_in (target c.old.words c.segment c.at) size t) k h.0), h.1)
 
-data_why : (k : ErrorKind) → WhySo (GivesFoundBytes data_in (Err k)) k
-data_why k c t h = inl (elsewhere (data_in (target c.old.words c.segment c.at) t) k (data_elsewhere (target c.old.words c.segment c.at) t) (bytes_err c.segment (data_in (target c.old.words c.segment c.at) t) k h.0), h.1)
+data_why : (k : ErrorKind) → WhySo ForData (GivesFoundBytes data_in (Err k)) k
+data_why k c t stored h = inl (elsewhere (data_in (target c.old.words c.segment c.at) t) k (data_elsewhere (target c.old.words c.segment c.at) t) (bytes_err c.segment (data_in (target c.old.words c.segment c.at) t) k h.0), h.1)
 
-text_why : (k : ErrorKind) → WhySo (GivesFoundBytes text_in (Err k)) k
-text_why k c t h = inl (elsewhere (text_in (target c.old.words c.segment c.at) t) k (text_elsewhere (target c.old.words c.segment c.at) t) (bytes_err c.segment (text_in (target c.old.words c.segment c.at) t) k h.0), h.1)
+text_why : (k : ErrorKind) → WhySo ForText (GivesFoundBytes text_in (Err k)) k
+text_why k c t stored h = inl (elsewhere (text_in (target c.old.words c.segment c.at) t) k (text_elsewhere (target c.old.words c.segment c.at) t) (bytes_err c.segment (text_in (target c.old.words c.segment c.at) t) k h.0), h.1)
 
 -- Why a search is refused: as what stands is; or as the value of its default is, which is put first; or as the copy of that is.
-data Why (c : CallAt) (default : Option (Bor (List ℕ))) (k : ErrorKind) : Type 0 where
-  as_found : IsOpeningRefused c.old c.new k → Why c default k
-  as_default : (d : Bor (List ℕ)) (mid : View) → default ≡ Some d → KeepsMemory c.old mid → IsWhy mid c.new k → Why c default k
-  as_copy : (d : Bor (List ℕ)) → default ≡ Some d → SpendsMemory c.old c.new k → RefusesDefault d.now (default_copy c.segment c.at c.old c.new) k → Why c default k
+data Why (sought : Sought) (c : CallAt) (default : Option (Bor (List ℕ))) (k : ErrorKind) : Type 0 where
+  as_found : IsOpeningRefused sought c k → Why sought c default k
+  as_default : (d : Bor (List ℕ)) (mid : View) → default ≡ Some d → KeepsMemory c.old mid → IsWhy sought (record c { old = mid }) k → Why sought c default k
+  as_copy : (d : Bor (List ℕ)) → default ≡ Some d → SpendsMemory c.old c.new k → RefusesDefault d.now (default_copy c.segment c.at c.old c.new) k → Why sought c default k
 
-plainly : (old new : View) (k : ErrorKind) → IsWhy old new k → IsOpeningRefused old new k
-plainly old new k (inl h) = inl h.1
-plainly old new k (inr h) = inr h
+plainly : (sought : Sought) (c : CallAt) (k : ErrorKind) → IsWhy sought c k → IsOpeningRefused sought c k
+plainly sought c k (inl h) = inl h.1
+plainly sought c k (inr h) = inr h
 
 -- its words are those of its bytes
 abbrev IsOf : List ℕ → DefaultUse → Type 0
@@ -237,33 +261,34 @@ use_is of_null bytes (x ∷ xs) plain = by_first (nat_eq x 0)
     by_first true = plain
     by_first false = refl
 
-why_used : (B : Type 0) (k : ErrorKind) (used : DefaultUse) (d : Bor (List ℕ)) (P : CallAt → Tree → Type 0) (c : CallAt) → IsOf d.now used → WhySo P k → WithDefault {B = B} used c Null P (Err k) → Why c (Some d) k
-why_used B k ignored d P c only why h = as_found (plainly c.old c.new k (why c Null h))
-why_used B k (is_denied_by j) d P c only why h = as_found (inl h.1)
-why_used B k (is_copied_from bytes) d P c only why (inl on) = as_default d on.mid refl on.put.memory (why (record c { old = on.mid }) on.value on.does)
-why_used B k (is_copied_from bytes) d P c only why (inr drops) = as_copy d refl drops.memory (subst (λ b. RefusesDefault b (default_copy c.segment c.at c.old c.new) k) only drops.named)
+why_used : (B : Type 0) (k : ErrorKind) (used : DefaultUse) (d : Bor (List ℕ)) (sought : Sought) (P : CallAt → Tree → Type 0) (c : CallAt) → IsStored c.old.words c.segment c.at Null → IsOf d.now used → WhySo sought P k → WithDefault {B = B} used c Null P (Err k) →
+    Why sought c (Some d) k
+why_used B k ignored d sought P c stored only why h = as_found (plainly sought c k (why c Null stored h))
+why_used B k (is_denied_by j) d sought P c stored only why h = as_found (inl h.1)
+why_used B k (is_copied_from bytes) d sought P c stored only why (inl on) = as_default d on.mid refl on.put.memory (why (record c { old = on.mid }) on.value on.put.replaced.stored on.does)
+why_used B k (is_copied_from bytes) d sought P c stored only why (inr drops) = as_copy d refl drops.memory (subst (λ b. RefusesDefault b (default_copy c.segment c.at c.old c.new) k) only drops.named)
 
-why_null : (B : Type 0) (k : ErrorKind) (of_null : DefaultUse) (default : Option (Bor (List ℕ))) (P : CallAt → Tree → Type 0) (c : CallAt) → ((bytes : List ℕ) → IsOf bytes of_null) → WhySo P k →
-    WithDefault {B = B} (default_use of_null default Null) c Null P (Err k) → Why c default k
-why_null B k of_null None P c plain why h = as_found (plainly c.old c.new k (why c Null h))
-why_null B k of_null (Some d) P c plain why h = why_used B k (use_of_words of_null d.now (words_of d.now)) d P c (use_is of_null d.now (words_of d.now) (plain d.now)) why h
+why_null : (B : Type 0) (k : ErrorKind) (of_null : DefaultUse) (default : Option (Bor (List ℕ))) (sought : Sought) (P : CallAt → Tree → Type 0) (c : CallAt) → IsStored c.old.words c.segment c.at Null → ((bytes : List ℕ) → IsOf bytes of_null) → WhySo sought P k →
+    WithDefault {B = B} (default_use of_null default Null) c Null P (Err k) → Why sought c default k
+why_null B k of_null None sought P c stored plain why h = as_found (plainly sought c k (why c Null stored h))
+why_null B k of_null (Some d) sought P c stored plain why h = why_used B k (use_of_words of_null d.now (words_of d.now)) d sought P c stored (use_is of_null d.now (words_of d.now) (plain d.now)) why h
 
 -- a place that is null stores null; of any other one the call says why
-why_refused : (B : Type 0) (k : ErrorKind) (of_null : DefaultUse) (default : Option (Bor (List ℕ))) (P : CallAt → Tree → Type 0) (c : CallAt) → IsPlace c.old.words c.segment c.at → ((bytes : List ℕ) → IsOf bytes of_null) → WhySo P k →
-    ((t : Tree) → IsStored c.old.words c.segment c.at t → WithDefault {B = B} (default_use of_null default t) c t P (Err k)) → ((word_at c.old.words c.segment c.at ≡ 0 → ⊥) → IsOpeningRefused c.old c.new k) → Why c default k
-why_refused B k of_null default P c there plain why found set = elim (cases_lt 0 (word_at c.old.words c.segment c.at)) [
+why_refused : (B : Type 0) (k : ErrorKind) (of_null : DefaultUse) (default : Option (Bor (List ℕ))) (sought : Sought) (P : CallAt → Tree → Type 0) (c : CallAt) → IsPlace c.old.words c.segment c.at → ((bytes : List ℕ) → IsOf bytes of_null) → WhySo sought P k →
+    ((t : Tree) → IsStored c.old.words c.segment c.at t → WithDefault {B = B} (default_use of_null default t) c t P (Err k)) → ((word_at c.old.words c.segment c.at ≡ 0 → ⊥) → IsOpeningRefused sought c k) → Why sought c default k
+why_refused B k of_null default sought P c there plain why found set = elim (cases_lt 0 (word_at c.old.words c.segment c.at)) [
   | inl some ↦ as_found (set (λ null. absurd (omega (arith, some, null))))
-  | inr none ↦ why_null B k of_null default P c plain why (found Null (null_stored c.old.words c.segment c.at there (omega (arith, none))))
+  | inr none ↦ (let stored = null_stored c.old.words c.segment c.at there (omega (arith, none)) in why_null B k of_null default sought P c stored plain why (found Null stored))
 ]
 
 -- so it is refused
-refused_so : (c : CallAt) (default : Option (Bor (List ℕ))) (k : ErrorKind) → Why c default k → IsSearchRefused c default k
-refused_so c None k (as_found h) = h
-refused_so c (Some d) k (as_found h) = inl (c.old, keeps_itself c.old, h)
-refused_so c None k (as_default d mid is keeps h) = absurd (cc)
-refused_so c (Some e) k (as_default d mid is keeps h) = inl (mid, keeps, plainly mid c.new k h)
-refused_so c None k (as_copy d is spent named) = absurd (cc)
-refused_so c (Some e) k (as_copy d is spent named) =
+refused_so : (sought : Sought) (c : CallAt) (default : Option (Bor (List ℕ))) (k : ErrorKind) → Why sought c default k → IsSearchRefused sought c default k
+refused_so sought c None k (as_found h) = h
+refused_so sought c (Some d) k (as_found h) = inl (c.old, keeps_itself c.old, h)
+refused_so sought c None k (as_default d mid is keeps h) = absurd (cc)
+refused_so sought c (Some e) k (as_default d mid is keeps h) = inl (mid, keeps, plainly sought (record c { old = mid }) k h)
+refused_so sought c None k (as_copy d is spent named) = absurd (cc)
+refused_so sought c (Some e) k (as_copy d is spent named) =
     let same : d ≡ e = same_default d e (sym is) in
     inr (spent, subst (λ (x : Bor (List ℕ)). RefusesDefault x.now (default_copy c.segment c.at c.old c.new) k) same named)
   where
@@ -271,22 +296,24 @@ refused_so c (Some e) k (as_copy d is spent named) =
     same_default d e h = cc
 
 -- for no missing place, unless all is as it was
-grown_nowhere : (old new : View) (k : ErrorKind) → RefusesGrowth old new k → k ≡ NoSuchPlace → ⊥
-grown_nowhere old new k (n, (refuses, none)) e = of_no_place k (of_allocation old new (length new.words) (n + 1) k refuses) e
+grown_nowhere : (sought : Sought) (c : CallAt) (k : ErrorKind) → IsGrowthRefused sought c k → k ≡ NoSuchPlace → ⊥
+grown_nowhere (ForStruct size) c k h e = (let same = sym h.name ∙ ap is_allocation_name e in cc)
+grown_nowhere (ForStructs size) c k h e = (let same = sym h.name ∙ ap is_allocation_name e in cc)
+grown_nowhere sought c k h e = absurd h
 
-never_nowhere : (c : CallAt) (default : Option (Bor (List ℕ))) (k : ErrorKind) → Why c default k → k ≡ NoSuchPlace → c.new ≡ c.old
-never_nowhere c default k (as_found (inl same)) e = same
-never_nowhere c default k (as_found (inr h)) e = absurd (grown_nowhere c.old c.new k h.1 e)
-never_nowhere c default k (as_default d mid is keeps (inl h)) e = absurd (h.0 e)
-never_nowhere c default k (as_default d mid is keeps (inr h)) e = absurd (grown_nowhere mid c.new k h.1 e)
-never_nowhere c default k (as_copy d is spent named) e = absurd (elim (dropped_name d.now c.segment c.at c.old c.new k named) [
+never_nowhere : (sought : Sought) (c : CallAt) (default : Option (Bor (List ℕ))) (k : ErrorKind) → Why sought c default k → k ≡ NoSuchPlace → c.new ≡ c.old
+never_nowhere sought c default k (as_found (inl same)) e = same
+never_nowhere sought c default k (as_found (inr h)) e = absurd (grown_nowhere sought c k h e)
+never_nowhere sought c default k (as_default d mid is keeps (inl h)) e = absurd (h.0 e)
+never_nowhere sought c default k (as_default d mid is keeps (inr h)) e = absurd (grown_nowhere sought (record c { old = mid }) k h e)
+never_nowhere sought c default k (as_copy d is spent named) e = absurd (elim (dropped_name d.now c.segment c.at c.old c.new k named) [
   | inl memory ↦ of_no_place k memory e
   | inr fault ↦ fault_elsewhere of_default (subst (HasFault of_default (default_root d.now)) e fault)
 ])
 
 -- what a call leaves that is refused, or isn't
 search_done : {B : Type 0} (result : Result B ErrorKind) (sought : Sought) (default : Option (Bor (List ℕ))) (c : CallAt) → Does c.old.words c.new.words (place_in c) (Search sought default) (refusal_of result) → OnOk result (KeepsMemory c.old c.new) →
-    IfErr result (SpendsMemory c.old c.new) → IfErr result (Why c default) → (FitsAt c.old (Search sought default) (AtPointer (place_in c)) → IfErr result (λ k. is_of_path k ≡ true)) →
+    IfErr result (SpendsMemory c.old c.new) → IfErr result (Why sought c default) → (FitsAt c.old (Search sought default) (AtPointer (place_in c)) → IfErr result (λ k. is_of_path k ≡ true)) →
     ((t : Tree) → IsStored c.old.words c.segment c.at t → FindsSought sought default (refusal_of result) c t) → IsDoneAt c.old c.new (place_in c) (Search sought default) (refusal_of result)
 search_done (Ok x) sought default c does granted memory why fits finds = record {
   done = does;
@@ -299,9 +326,9 @@ search_done (Ok x) sought default c does granted memory why fits finds = record 
 search_done (Err k) sought default c does granted memory why fits finds = record {
   done = does;
   counted = memory.2;
-  named = λ j e. inr (subst (IsSearchRefused c default) (same_some k j e) (refused_so c default k why));
+  named = λ j e. inr (subst (IsSearchRefused sought c default) (same_some k j e) (refused_so sought c default k why));
   fits = λ room j e. subst (λ x. is_of_path x ≡ true) (same_some k j e) (fits room);
-  nowhere = λ e. never_nowhere c default k why (same_some k NoSuchPlace e);
+  nowhere = λ e. never_nowhere sought c default k why (same_some k NoSuchPlace e);
   taken = λ some. finds;
 }
 
@@ -361,36 +388,36 @@ found_fits {B} (Err k) of_null default P c there plain name found set room = eli
     at_null (Some d) fits h = used_fits B k of_null d.now (words_of d.now) (P (Err k)) c (plain d.now) (name k) fits.1 h
 
 -- of any call
-why_if : {B : Type 0} (result : Result B ErrorKind) (of_null : DefaultUse) (default : Option (Bor (List ℕ))) (P : Result B ErrorKind → CallAt → Tree → Type 0) (c : CallAt) → IsPlace c.old.words c.segment c.at → ((bytes : List ℕ) → IsOf bytes of_null) →
-    ((k : ErrorKind) → WhySo (P (Err k)) k) → ((t : Tree) → IsStored c.old.words c.segment c.at t → WithDefault (default_use of_null default t) c t (P result) result) →
-    ((word_at c.old.words c.segment c.at ≡ 0 → ⊥) → IfErr result (IsOpeningRefused c.old c.new)) → IfErr result (Why c default)
-why_if (Ok x) of_null default P c there plain why found set = tt
-why_if {B} (Err k) of_null default P c there plain why found set = why_refused B k of_null default (P (Err k)) c there plain (why k) found set
+why_if : {B : Type 0} (result : Result B ErrorKind) (of_null : DefaultUse) (default : Option (Bor (List ℕ))) (sought : Sought) (P : Result B ErrorKind → CallAt → Tree → Type 0) (c : CallAt) → IsPlace c.old.words c.segment c.at → ((bytes : List ℕ) → IsOf bytes of_null) →
+    ((k : ErrorKind) → WhySo sought (P (Err k)) k) → ((t : Tree) → IsStored c.old.words c.segment c.at t → WithDefault (default_use of_null default t) c t (P result) result) →
+    ((word_at c.old.words c.segment c.at ≡ 0 → ⊥) → IfErr result (IsOpeningRefused sought c)) → IfErr result (Why sought c default)
+why_if (Ok x) of_null default sought P c there plain why found set = tt
+why_if {B} (Err k) of_null default sought P c there plain why found set = why_refused B k of_null default sought (P (Err k)) c there plain (why k) found set
 
 -- of a place that isn't null
-set_struct : {B : Type 0} (result : Result B ErrorKind) (old new : View) (s p : ℕ) → IfErr result (IsNoWider (call_at s p old new)) → IfErr result (IsOpeningRefused old new)
-set_struct (Ok x) old new s p h = tt
-set_struct (Err k) old new s p (inl h) = inl h.1
-set_struct (Err k) old new s p (inr h) = inr h
+set_struct : {B : Type 0} (result : Result B ErrorKind) (c : CallAt) (size : StructSize) → IfErr result (IsNoWider size c) → IfErr result (IsOpeningRefused (ForStruct size) c)
+set_struct (Ok x) c size h = tt
+set_struct (Err k) c size (inl h) = inl h.1
+set_struct (Err k) c size (inr h) = inr h
 
-set_structs : {B : Type 0} (result : Result B ErrorKind) (old new : View) (s p : ℕ) (size : StructSize) → IfErr result (RefusesWider (IsStored old.words s p) size old new) → IfErr result (IsOpeningRefused old new)
-set_structs (Ok x) old new s p size h = tt
-set_structs (Err k) old new s p size (inl h) = inl h.0
-set_structs (Err k) old new s p size (inr h) = inr h
+set_structs : {B : Type 0} (result : Result B ErrorKind) (c : CallAt) (size : StructSize) → IfErr result (RefusesWider (IsStored c.old.words c.segment c.at) size c.old c.new) → IfErr result (IsOpeningRefused (ForStructs size) c)
+set_structs (Ok x) c size h = tt
+set_structs (Err k) c size (inl h) = inl h.0
+set_structs (Err k) c size (inr h) = inr h
 
-set_same : {B : Type 0} (result : Result B ErrorKind) (old new : View) → new ≡ old → IfErr result (IsOpeningRefused old new)
-set_same (Ok x) old new same = tt
-set_same (Err k) old new same = inl same
+set_same : {B : Type 0} (result : Result B ErrorKind) (sought : Sought) (c : CallAt) → c.new ≡ c.old → IfErr result (IsOpeningRefused sought c)
+set_same (Ok x) sought c same = tt
+set_same (Err k) sought c same = inl same
 
 -- the calls
 pub struct_sought : (result : Result StructPlace ErrorKind) (size : StructSize) (default : Option (Bor (List ℕ))) (c : CallAt) → IsPlace c.old.words c.segment c.at →
-    ((t : Tree) → IsStored c.old.words c.segment c.at t → FindsStruct size default result c t) → ((word_at c.old.words c.segment c.at ≡ 0 → ⊥) → IfErr result (IsNoWider c)) →
+    ((t : Tree) → IsStored c.old.words c.segment c.at t → FindsStruct size default result c t) → ((word_at c.old.words c.segment c.at ≡ 0 → ⊥) → IfErr result (IsNoWider size c)) →
     OnOk result (KeepsMemory c.old c.new) → IfErr result (SpendsMemory c.old c.new) → (StructFindFits size default c.old c.segment c.at → IsOk result) →
     IsDoneAt c.old c.new (place_in c) (Search (ForStruct size) default) (refusal_of result)
 struct_sought result size default c there found set granted memory fits =
     search_done result (ForStruct size) default c
     (λ t stored. with_does result ignored default (looked_for (ForStruct size)) (OpensStruct IsStructGiven size result) c t stored (struct_so result size) (found t stored)) granted memory
-    (why_if result ignored default (OpensStruct IsStructGiven size) c there (λ b. tt) (struct_why size) found (λ some. set_struct result c.old c.new c.segment c.at (set some))) (λ room. never_refused result (fits room)) (λ t stored. (result, refl, found t stored))
+    (why_if result ignored default (ForStruct size) (OpensStruct IsStructGiven size) c there (λ b. tt) (struct_why size) found (λ some. set_struct result c size (set some))) (λ room. never_refused result (fits room)) (λ t stored. (result, refl, found t stored))
 
 pub structs_sought : (result : Result ListPlace ErrorKind) (size : StructSize) (default : Option (Bor (List ℕ))) (c : CallAt) → IsPlace c.old.words c.segment c.at →
     ((t : Tree) → IsStored c.old.words c.segment c.at t → FindsStructs size default result c t) → ((word_at c.old.words c.segment c.at ≡ 0 → ⊥) → IfErr result (RefusesWider (IsStored c.old.words c.segment c.at) size c.old c.new)) →
@@ -399,7 +426,7 @@ pub structs_sought : (result : Result ListPlace ErrorKind) (size : StructSize) (
 structs_sought result size default c there found set granted memory fits =
     search_done result (ForStructs size) default c
     (λ t stored. with_does result ignored default (looked_for (ForStructs size)) (OpensList size result) c t stored (structs_so result size) (found t stored)) granted memory
-    (why_if result ignored default (OpensList size) c there (λ b. tt) (structs_why size) found (λ some. set_structs result c.old c.new c.segment c.at size (set some))) (λ room. never_refused result (fits room)) (λ t stored. (result, refl, found t stored))
+    (why_if result ignored default (ForStructs size) (OpensList size) c there (λ b. tt) (structs_why size) found (λ some. set_structs result c size (set some))) (λ room. never_refused result (fits room)) (λ t stored. (result, refl, found t stored))
 
 pub list_sought : (result : Result ListPlace ErrorKind) (size : ElementSize) (default : Option (Bor (List ℕ))) (c : CallAt) → IsPlace c.old.words c.segment c.at →
     ((t : Tree) → IsStored c.old.words c.segment c.at t → FindsList size default result c t) → ((word_at c.old.words c.segment c.at ≡ 0 → ⊥) → (c.new ≡ c.old) × IfErr result (λ k. is_unfound k ≡ true)) →
@@ -407,7 +434,7 @@ pub list_sought : (result : Result ListPlace ErrorKind) (size : ElementSize) (de
 list_sought result size default c there found set granted memory =
     search_done result (ForList size) default c
     (λ t stored. with_does result ignored default (looked_for (ForList size)) (GivesFoundList size result) c t stored (list_so result size) (found t stored)) granted memory
-    (why_if result ignored default (GivesFoundList size) c there (λ b. tt) (list_why size) found (λ some. set_same result c.old c.new (set some).0))
+    (why_if result ignored default (ForList size) (GivesFoundList size) c there (λ b. tt) (list_why size) found (λ some. set_same result (ForList size) c (set some).0))
     (λ room. found_fits result ignored default (GivesFoundList size) c there (λ b. tt) (list_name size) found (λ some. (set some).1) room) (λ t stored. (result, refl, found t stored))
 
 pub data_sought : (result : Result ExistingBytes ErrorKind) (default : Option (Bor (List ℕ))) (c : CallAt) → IsPlace c.old.words c.segment c.at →
@@ -417,7 +444,7 @@ data_sought result default c there found set granted memory =
     let of_null : DefaultUse = is_denied_by ExistingPointerIsNotAList in
     search_done result ForData default c
     (λ t stored. with_does result of_null default (looked_for ForData) (GivesFoundBytes data_in result) c t stored (data_so result) (found t stored)) granted memory
-    (why_if result of_null default (GivesFoundBytes data_in) c there (λ b. tt) data_why found (λ some. set_same result c.old c.new (set some).0))
+    (why_if result of_null default ForData (GivesFoundBytes data_in) c there (λ b. tt) data_why found (λ some. set_same result ForData c (set some).0))
     (λ room. found_fits result of_null default (GivesFoundBytes data_in) c there (λ b. refl) data_name found (λ some. (set some).1) room) (λ t stored. (result, refl, found t stored))
 
 pub text_sought : (result : Result ExistingBytes ErrorKind) (default : Option (Bor (List ℕ))) (c : CallAt) → IsPlace c.old.words c.segment c.at →
@@ -427,7 +454,7 @@ text_sought result default c there found set granted memory =
     let of_null : DefaultUse = is_denied_by ExistingPointerIsNotAList in
     search_done result ForText default c
     (λ t stored. with_does result of_null default (looked_for ForText) (GivesFoundBytes text_in result) c t stored (text_so result) (found t stored)) granted memory
-    (why_if result of_null default (GivesFoundBytes text_in) c there (λ b. tt) text_why found (λ some. set_same result c.old c.new (set some).0))
+    (why_if result of_null default ForText (GivesFoundBytes text_in) c there (λ b. tt) text_why found (λ some. set_same result ForText c (set some).0))
     (λ room. found_fits result of_null default (GivesFoundBytes text_in) c there (λ b. refl) text_name found (λ some. (set some).1) room) (λ t stored. (result, refl, found t stored))
 
 -- the numbers of a list that is looked for

@@ -139,6 +139,7 @@ value_of (ZeroText n) = zero_list 2 (n + 1)
 value_of (Text bytes) = Flat 2 (bytes.now ++ 0 ∷ [])
 value_of (Data bytes) = Flat 2 bytes.now
 
+-- How many words an object takes that is made, its landing pad aside.
 abbrev pub words_made : Object → ℕ
 words_made (ZeroStruct size) = size.data_words + size.pointers
 words_made (ZeroList size n) = list_words (size_number size) n

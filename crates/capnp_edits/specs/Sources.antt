@@ -38,6 +38,7 @@ use Rattle.capnp_edits.specs.declared.edit.copying.Wanted.{Wanted}
 use Rattle.capnp_edits.specs.declared.edit.copying.Wanted.TheVariants.{Value, Struct as AStruct, List as AList}
 use Rattle.capnp_objects.specs.declared.object.Purpose.TheVariants.{Value as ForValue}
 
+-- A copy from a source, of what is wanted there, in canonical form or as it stands.
 abbrev pub copying_from : Source → Wanted → Bool → Copying
 copying_from source wanted canonicalize = record { source = source; wanted = wanted; canonicalize = canonicalize }
 
@@ -45,6 +46,7 @@ copying_from source wanted canonicalize = record { source = source; wanted = wan
 abbrev pub words_in : Source → Segments
 words_in source = message (map whole (map (λ s. s.now) source.arena.now.segments.segments.now))
 
+-- The root of a source, read within its nesting limit.
 abbrev pub root_of : Source → Reading
 root_of source = record { segments = words_in source; charging = true; of_default = false; levels = levels source.arena.now.nesting_limit; segment = 0; at = 0 }
 
@@ -130,6 +132,7 @@ pub record Sections : Type 0 where
   pub pointers : ℕ
   pub limiter : Meter
 
+-- A place leads to a struct with these sections.
 pub data LeadsToStruct (r : Reading) (m : Meter) (s : Sections) : Type 0 where
   no_struct : word_of r ≡ 0 → s.words ≡ [] → s.pointers ≡ 0 → s.limiter ≡ m → LeadsToStruct r m s
   a_struct :

@@ -9,7 +9,7 @@ use Rattle.capnp_format.specs.Forest.{IsForest, target}
 use Rattle.capnp_format.specs.Segments.{Segments, segment}
 use Rattle.capnp_format.specs.Tree.{Tree, count}
 use Rattle.capnp_making.specs.Existing.{struct_in, data_in, text_in}
-use Rattle.capnp_making.specs.Memory.{HasRoom, IsRefusedFor, KeepsMemory, SpendsMemory, TakesWords, RefusesGrowth}
+use Rattle.capnp_making.specs.Memory.{HasRoom, IsRefusedFor, KeepsMemory, SpendsMemory, StandsBehind, TakesWords, start_of}
 use Rattle.capnp_making.specs.Path.{PathLeads}
 use Rattle.capnp_making.specs.Stored.{IsStored}
 use Rattle.capnp_making.specs.Zeroed.{IsPruned}
@@ -26,6 +26,9 @@ use Rattle.capnp_copies.specs.Growth.{TakesAtMost}
 use Rattle.capnp_copies.specs.Originals.{children_original}
 use Rattle.capnp_copies.specs.Rooms.{IsTooLarge}
 use Rattle.capnp_making.specs.Makes.{CallAt, call_at}
+use Rattle.capnp_widening.specs.Opening.{struct_opened}
+use Rattle.capnp_widening.specs.Rooms.{RefusesToBecome}
+use Rattle.capnp_widening.specs.Widened.{list_widened}
 use Rattle.capnp_builders.specs.Defaults.{RefusesDefault, DefaultFits, default_copy}
 use Rattle.capnp_builders.specs.Found.{FindsList, FindsBytes}
 use Rattle.capnp_builders.specs.Laws.{TakesBytes}
@@ -55,6 +58,17 @@ call_to place old new = call_at place.segment place.word old new
 -- Every segment has as many words as before.
 abbrev pub KeepsLengths : Segments → Segments → Type 0
 KeepsLengths S R = (v : ℕ) → length (segment R v) ≡ length (segment S v)
+
+-- No words are taken, and nothing but words is changed: every segment has as many as before, and as much room.
+pub record TakesNoWords (old new : View) : Type 0 where
+  pub lengths : KeepsLengths old.words new.words
+  pub limits : KeepsLimits old new
+
+-- An object of n words is made at a pointer, behind all words that were there: just these are taken, and every segment has as much room as before.
+pub record TakesForObject (old new : View) (place : PointerPlace) (n : ℕ) : Type 0 where
+  pub taken : TakesWords old new place.segment n
+  pub behind : StandsBehind old place.segment n (start_of (target new.words place.segment place.word))
+  pub memory : KeepsMemory old new
 
 -- The struct that a pointer leads to, if it holds a value.
 abbrev pub IsStructAt : Segments → PointerPlace → ExistingStruct → Type 0
@@ -111,15 +125,23 @@ abbrev pub IsContentRefused : View → View → StructPlace → Source → Error
 IsContentRefused old new place source k =
     CopiesNothing (copying_from source AStruct false) old new k ⊎ StopsFilling old new place source k
 
--- What is looked for isn't opened: all is as it was; or memory is refused, and truly.
-abbrev pub IsOpeningRefused : View → View → ErrorKind → Type 0
-IsOpeningRefused old new k = (new ≡ old) ⊎ (SpendsMemory old new k × RefusesGrowth old new k)
+-- Memory is refused for what becomes of the struct or of the list of structs that is looked for.
+abbrev pub IsGrowthRefused : Sought → CallAt → ErrorKind → Type 0
+IsGrowthRefused (ForStruct size) c k =
+    RefusesToBecome (IsStored c.old.words c.segment c.at) (struct_opened size) c.old c.new k
+IsGrowthRefused (ForStructs size) c k =
+    RefusesToBecome (IsStored c.old.words c.segment c.at) (list_widened size.data_words size.pointers) c.old c.new k
+IsGrowthRefused sought c k = ⊥
+
+-- What is looked for isn't opened: all is as it was; or memory is refused for what becomes of it.
+abbrev pub IsOpeningRefused : Sought → CallAt → ErrorKind → Type 0
+IsOpeningRefused sought c k = (c.new ≡ c.old) ⊎ IsGrowthRefused sought c k
 
 -- A search is refused: where a default's value is put in place of null first, from there on; or its copy is.
-abbrev pub IsSearchRefused : CallAt → Option (Bor (List ℕ)) → ErrorKind → Type 0
-IsSearchRefused call None k = IsOpeningRefused call.old call.new k
-IsSearchRefused call (Some default) k =
-    ((mid : View) × KeepsMemory call.old mid × IsOpeningRefused mid call.new k)
+abbrev pub IsSearchRefused : Sought → CallAt → Option (Bor (List ℕ)) → ErrorKind → Type 0
+IsSearchRefused sought call None k = IsOpeningRefused sought call k
+IsSearchRefused sought call (Some default) k =
+    ((mid : View) × KeepsMemory call.old mid × IsOpeningRefused sought (record call { old = mid }) k)
     ⊎ (SpendsMemory call.old call.new k × RefusesDefault default.now (default_copy call.segment call.at call.old call.new) k)
 
 -- A change of a struct is refused by the name k, but for a place.
@@ -133,7 +155,7 @@ IsRefusedAt old new (Make object) k (AtPointer place) = IsRefusedFor old new (wo
 IsRefusedAt old new (InStruct change) k (AtPointer place) =
     (e : ExistingStruct) × IsStructAt old.words place e × IsChangeRefused old new e change k
 IsRefusedAt old new (InStruct change) k (AtElement e) = IsChangeRefused old new e change k
-IsRefusedAt old new (Search sought default) k (AtPointer place) = IsSearchRefused (call_to place old new) default k
+IsRefusedAt old new (Search sought default) k (AtPointer place) = IsSearchRefused sought (call_to place old new) default k
 IsRefusedAt old new (CopyRoot c) k (AtPointer place) = IsWholeRefused (call_to place old new) c k
 IsRefusedAt old new task k there = ⊥
 
@@ -178,12 +200,12 @@ FindsSought ForData default r call t =
 
 -- The words that a change of a struct takes.
 abbrev pub TakesForChange : View → View → ExistingStruct → StructChange → Option ErrorKind → Type 0
-TakesForChange old new e (Bits n) r = KeepsLengths old.words new.words
+TakesForChange old new e (Bits n) r = TakesNoWords old new
 TakesForChange old new e (Content source) r = TakesForContentFrom old new (struct_place e) source r
 
 -- A task takes words as the builder's call says where it is done. An object that is refused takes none.
 abbrev pub TakesAt : View → View → Task → Option ErrorKind → PathEnd → Type 0
-TakesAt old new (Make object) None (AtPointer place) = TakesWords old new place.segment (words_made object)
+TakesAt old new (Make object) None (AtPointer place) = TakesForObject old new place (words_made object)
 TakesAt old new (Make object) (Some k) (AtPointer place) = IsPruned old.words new.words
 TakesAt old new (InStruct change) r (AtPointer place) =
     (e : ExistingStruct) × IsStructAt old.words place e × TakesForChange old new e change r
@@ -191,7 +213,7 @@ TakesAt old new (InStruct change) r (AtElement e) = TakesForChange old new e cha
 TakesAt old new (Search sought default) r (AtPointer place) =
     (t : Tree) → IsStored old.words place.segment place.word t → FindsSought sought default r (call_to place old new) t
 TakesAt old new (CopyRoot c) r (AtPointer place) = TakesForWhole (call_to place old new) c r
-TakesAt old new task r there = KeepsLengths old.words new.words
+TakesAt old new task r there = TakesNoWords old new
 
 -- Calls at a place.
 

@@ -38,6 +38,7 @@ is_in_range (Search (ForList size) default) = nat_le (size_number size) 6 && is_
 is_in_range (Search sought default) = is_small_default default
 is_in_range task = true
 
+-- A task, if its numbers are in range.
 abbrev pub if_in_range : Task → Option Task
 if_in_range task = cond (is_in_range task) (Some task) None
 

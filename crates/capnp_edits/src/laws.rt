@@ -1,5 +1,6 @@
 //! What follows of the contracts of this crate. Each function does nothing: its contract is a law, proved
 //! for all messages.
+ghost use Rattle.capnp_edits.specs.Fitting.{FittingEdits};
 ghost use Rattle.capnp_edits.specs.Sources.{CopiedOrRefused, FilledOrRefused};
 ghost use Rattle.capnp_edits.specs.Steps.{StepIsThere};
 
@@ -17,4 +18,11 @@ pub fn filled_or_refused()
 /// An edit whose path leads to a pointer is done at that one: what `apply` says of its place is said of it.
 pub fn step_is_there()
     ensures { StepIsThere }
+{}
+
+/// Edits that make objects, or write pointers, fields, elements and bytes, aren't refused for memory where their
+/// words together fit the first segment of a message that stands in it: each is done, or refused for what its
+/// path leads to. All that they make stands in that segment.
+pub fn fitting_edits()
+    ensures { FittingEdits }
 {}

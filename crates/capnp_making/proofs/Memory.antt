@@ -6,7 +6,7 @@ use Rattle.capnp_format.specs.Segments.{Segments, segment}
 use Rattle.capnp_arena.specs.Allocations.{one_more}
 use Rattle.capnp_arena.specs.Taking.{IsAllocationRefusal}
 use Rattle.capnp_arena.specs.View.{View, KeepsLimits}
-use Rattle.capnp_making.specs.Memory.{HasRoom, KeepsMemory, refusals_for, SpendsMemory, IsRefusedFor, RefusesWords, RefusesGrowth}
+use Rattle.capnp_making.specs.Memory.{HasRoom, KeepsMemory, refusals_for, SpendsMemory, IsRefusedFor, RefusesWords}
 use Rattle.capnp_making.specs.Zeroed.{IsPruned}
 
 abbrev pub words_in : View → Segments
@@ -83,9 +83,6 @@ words_refused_before a b c n k (r, full) e pruned =
       subst (λ i. IsAllocationRefusal a c i (n + 1) k) (sym pruned.segments) (refusal_of a a b c (length b.words) (n + 1) k refl (ap (λ (v : View). v.refusals) e) r),
       λ j fit. full j (omega (arith, fit.0, pruned.segments), omega (arith, fit.1, pruned.words j, same j), λ i less. omega (arith, fit.2 i less, pruned.words i, same i)),
     )
-
-pub refused_before : (a b c : View) (k : ErrorKind) → RefusesGrowth a b k → KeepsLimits b c → IsPruned b.words c.words → RefusesGrowth a c k
-refused_before a b c k (n, x) e pruned = (n, words_refused_before a b c n k x e pruned)
 
 -- an object that is refused
 pub made_refused : (a b : View) (id n : ℕ) (k : ErrorKind) → IsRefusedFor a b n k → b.words ≡ a.words → (HasRoom a id n → ⊥) → RefusesWords a b n k × SpendsMemory a b k

@@ -86,6 +86,7 @@ structs_misfit InlineComposite d q = None
 abbrev pub plain_list : Target → ElementSize → ℕ → ExistingList
 plain_list a size n = record { segment = a.segment; start = a.start; size = size; struct_size = record { data_words = 0; pointers = 0 }; count = n }
 
+-- A list of n structs, whose elements stand behind the tag ("Lists").
 abbrev pub struct_list : Target → ℕ → ℕ → ℕ → ExistingList
 struct_list a d q n = record { segment = a.segment; start = a.start + 1; size = InlineComposite; struct_size = record { data_words = d; pointers = q }; count = n }
 
@@ -94,7 +95,8 @@ abbrev pub unless : Option ErrorKind → ExistingList → Result (Option Existin
 unless None l = Ok (Some l)
 unless (Some e) l = Err e
 
--- The list that a value is which the pointer leads to at a, where its elements are to be as wide as expected ones.
+-- The list that a value is which the pointer leads to at a, where its elements are to be as wide as expected ones
+-- ("Lists").
 abbrev pub list_in : Target → ElementSize → Tree → Result (Option ExistingList) ErrorKind
 list_in a expected Null = Ok None
 list_in a expected (Capability i) = Err ExistingPointerIsNotAList
@@ -116,7 +118,7 @@ StructLiesIn S e = e.start + e.size.data_words + e.size.pointers ≤ length (seg
 abbrev pub bytes_at : Target → ℕ → ExistingBytes
 bytes_at a n = record { segment = a.segment; start = a.start; length = n }
 
--- The data that a value is.
+-- The data that a value is ("Lists").
 abbrev pub data_in : Target → Tree → Result (Option ExistingBytes) ErrorKind
 data_in a Null = Ok None
 data_in a (Capability i) = Err ExistingPointerIsNotAList
@@ -142,7 +144,7 @@ abbrev pub ends_in_zero : List ℕ → Bool
 ends_in_zero [] = false
 ends_in_zero (n ∷ ns) = nat_eq (get_or (n ∷ ns) (length ns) 0) 0
 
--- The text that a value is, without its last byte, which has to be 0.
+-- The text that a value is, without its last byte, which has to be 0 ("Lists").
 abbrev pub text_in : Target → Tree → Result (Option ExistingBytes) ErrorKind
 text_in a Null = Ok None
 text_in a (Capability i) = Err ExistingPointerIsNotAList

@@ -32,22 +32,25 @@ AsksWords (ListShape size n) = Unit {0}
 abbrev pub words_of_zero : ℕ → List ℕ
 words_of_zero n = replicate n 0
 
+-- So many null pointers.
 abbrev pub nulls : ℕ → Trees
 nulls zero = no_trees
 nulls (suc n) = tree Null (nulls n)
 
+-- So many structs of these sections, all zero.
 abbrev pub zero_elements : ℕ → ℕ → ℕ → Elements
 zero_elements d q zero = no_elements
 zero_elements d q (suc n) = element (words_of_zero d) (nulls q) (zero_elements d q n)
 
--- A struct, and a list of n structs, all zero.
+-- A struct, and a list of n structs, all zero ("Structs").
 abbrev pub zero_struct : StructSize → Tree
 zero_struct size = Struct (words_of_zero size.data_words) (nulls size.pointers)
 
+-- A list of n structs, all zero ("Lists").
 abbrev pub zero_structs : ℕ → StructSize → Tree
 zero_structs n size = Structs size.data_words size.pointers (zero_elements size.data_words size.pointers n)
 
--- A list of n elements that are no structs, all zero or null, by the number of its element size.
+-- A list of n elements that are no structs, all zero or null, by the number of its element size ("Lists").
 abbrev pub zero_list : ℕ → ℕ → Tree
 zero_list size n = cond (nat_eq size 6) (Pointers (nulls n)) (Flat size (words_of_zero n))
 

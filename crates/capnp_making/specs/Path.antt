@@ -15,6 +15,7 @@ tree_at no_trees i = Null
 tree_at (tree t ts) zero = t
 tree_at (tree t ts) (suc i) = tree_at ts i
 
+-- the children with another one as the i-th
 abbrev pub put_tree : Trees → ℕ → Tree → Trees
 put_tree no_trees i u = no_trees
 put_tree (tree t ts) zero u = tree u ts
@@ -26,6 +27,7 @@ struct_at no_elements i = Null
 struct_at (element ws ts es) zero = Struct ws ts
 struct_at (element ws ts es) (suc i) = struct_at es i
 
+-- the elements with another struct as the i-th
 abbrev pub put_struct : Elements → ℕ → Tree → Elements
 put_struct (element ws ts es) zero (Struct vs us) = element vs us es
 put_struct (element ws ts es) (suc i) u = element ws ts (put_struct es i u)

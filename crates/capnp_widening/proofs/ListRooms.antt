@@ -10,15 +10,16 @@ use Rattle.capnp_format.specs.Forest.{target}
 use Rattle.capnp_words.specs.Sizes.{size_number}
 use Rattle.capnp_words.specs.declared.wire_pointer.StructSize.{StructSize}
 use Rattle.capnp_making.specs.declared.existing.ExistingList.{ExistingList}
-use Rattle.capnp_making.specs.Memory.{HasRoom}
+use Rattle.capnp_making.specs.Memory.{HasRoom, SpendsMemory, RefusesGrowth, RefusesWords}
 use Rattle.capnp_making.specs.Near.{HasOwnRoom}
 use Rattle.capnp_making.specs.Made.{structs_words, zero_elements}
 use Rattle.capnp_widening.specs.declared.remaking.ElementRows.{ElementRows}
-use Rattle.capnp_widening.specs.Rooms.{GrowsByAtMost, widened_words, direct_pointers, HasRoomFor, RemadeRowsFit}
+use Rattle.capnp_widening.specs.Rooms.{GrowsByAtMost, RefusesToBecome, widened_words, direct_pointers, HasRoomFor, RemadeRowsFit}
 use Rattle.capnp_widening.specs.RowsRemade.{StoresRows, IsList}
 use Rattle.capnp_widening.specs.Widened.{fill_elements, struct_for_each, struct_for_each_tree, limited, list_widened}
 use Rattle.capnp_widening.proofs.Listed.{structs_widen}
 use Rattle.capnp_widening.proofs.ListsWidened.{count-struct_for_each, count-struct_for_each_tree, count-zero_elements}
+use Rattle.capnp_widening.proofs.Refusing.{growth_named}
 use Rattle.capnp_widening.proofs.PlainLists.{are_pointers, pointers_of, has_pointers, are_numbers, void_of, are_void, numbers_limited}
 use Rattle.capnp_widening.proofs.StructLists.{are_structs, rows_of, has_rows}
 use Rattle.capnp_widening.proofs.Widenings.{count-fill_elements}
@@ -92,6 +93,17 @@ rows_fit v s p t u rows size r (inr (here, fits)) = inr (sym r.there ∙ here, s
 pub rows_few : (S R : Segments) (s p : ℕ) (t u : Tree) (rows : ElementRows) (size : StructSize) → AreRows S s p t u rows size → GrowsByAtMost S R (structs_words rows.count size + 1 + 2 * (rows.count * rows.size.pointers)) → GrowsByAtMost S R (widened_words u + 1 + 2 * direct_pointers t)
 rows_few S R s p t u rows size r few = subst (λ m. GrowsByAtMost S R m) (sym (ap₂ (λ x y. x + 1 + 2 * y) r.words r.pointers)) few
 
+-- and so is the memory that is refused for it
+pub rows_refused : (a b : View) (s p : ℕ) (l : ExistingList) (rows : ElementRows) (size wide : StructSize) (k : ErrorKind) → SpendsMemory a b k → RefusesGrowth a b (structs_words rows.count wide) (rows.count * rows.size.pointers) k →
+    ((t u : Tree) → IsList a.words s p l t → list_widened size.data_words size.pointers t ≡ Ok u → AreRows a.words s p t u rows wide) →
+    RefusesToBecome (IsList a.words s p l) (list_widened size.data_words size.pointers) a b k
+rows_refused a b s p l rows size wide k memory full are = record {
+  name = growth_named a b _ _ k full;
+  memory = memory;
+  full = λ t u i e. (let r = are t u i e in
+      subst (λ n. RefusesGrowth a b n (direct_pointers t) k) (sym r.words) (subst (λ n. RefusesGrowth a b (structs_words rows.count wide) n k) (sym r.pointers) full));
+}
+
 -- no room is that large
 room_small : (v : View) (s n : ℕ) → ((k : ℕ) → v.room k < 2 ^ 29) → HasRoom v s n → n < 2 ^ 29
 room_small v s n small (inl fits) = omega (arith, fits, small s)
@@ -113,6 +125,15 @@ numbers_take S s p t u l size wide two five wd wp i e =
       ap widened_words same ∙ ap₂ (λ x y. 1 + x * y) (count-struct_for_each d q k.numbers ∙ sym n) (ap₂ (λ x y. x + y) (sym wd) (sym wp)),
       ap direct_pointers k.tree_of,
     )
+
+pub numbers_unmade : (a b : View) (s p n : ℕ) (l : ExistingList) (size : StructSize) (k : ErrorKind) → SpendsMemory a b k → RefusesWords a b n k →
+    ((t u : Tree) → IsList a.words s p l t → list_widened size.data_words size.pointers t ≡ Ok u → (widened_words u ≡ n) × (direct_pointers t ≡ 0)) →
+    RefusesToBecome (IsList a.words s p l) (list_widened size.data_words size.pointers) a b k
+numbers_unmade a b s p n l size k memory full are = record {
+  name = growth_named a b n 0 k (inl full);
+  memory = memory;
+  full = λ t u i e. inl (subst (λ m. RefusesWords a b m k) (sym (are t u i e).0) full);
+}
 
 pub numbers_fit : (v : View) (s p m : ℕ) (t u : Tree) → (widened_words u ≡ m) × (direct_pointers t ≡ 0) → HasRoomFor v s p t u → HasRoom v s m
 numbers_fit v s p m t u (e, none) (inl fits) = subst (λ i. HasRoom v s i) (let f : widened_words u + 2 * direct_pointers t ≡ m = omega (arith, e, none) in f) fits

@@ -122,3 +122,7 @@ if_ok_both (Err k) P W Q h g f = tt
 pub if_err_so : {A E : Type 0} (r : Result A E) (P Q : E → Type 0) → IfErr r P → ((k : E) → P k → Q k) → IfErr r Q
 if_err_so (Ok x) P Q h f = tt
 if_err_so (Err k) P Q h f = f k h
+
+pub if_err_both : {A E : Type 0} (r : Result A E) (P Q W : E → Type 0) → IfErr r P → IfErr r Q → ((k : E) → P k → Q k → W k) → IfErr r W
+if_err_both (Ok x) P Q W h g f = tt
+if_err_both (Err k) P Q W h g f = f k h g

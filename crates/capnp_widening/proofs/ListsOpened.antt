@@ -130,11 +130,11 @@ list_made a b s p t l size (Err k) stored found narrow none w =
     (subst (λ x. Opens size LeadsToAll (call_at s p a b) t x (Err k)) (sym e)
     (elim w.named [
       | inl (same, refused) ↦ absurd (same_result k u (sym e ∙ refused t stored))
-      | inr (memory, full) ↦ record {
+      | inr growth ↦ record {
         stands = stands_grown a.words b.words s p t stored (w.refused t stored);
         narrow = λ h. narrow (sections_wide a.words s p t l size found h);
-        memory = memory;
+        memory = growth.memory;
         taken = w.few t u stored e;
-        full = full;
+        full = growth.full t u stored e;
       }
     ]))

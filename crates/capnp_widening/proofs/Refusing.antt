@@ -1,10 +1,11 @@
--- Growths that are refused while pointers are moved.
-use Rattle.std.proofs.Common.{◌≡◌, inl, inr, ℕ, ◌+◌, length, sym, ap, ◌∙◌, subst, arith}
+-- Growths that are refused.
+use Rattle.std.proofs.Common.{◌≡◌, inl, inr, true, ℕ, ◌+◌, length, sym, ap, ◌∙◌, subst, arith}
 use Rattle.capnp_words.specs.declared.error.ErrorKind.{ErrorKind}
 use Rattle.capnp_format.specs.Segments.{segment}
 use Rattle.capnp_arena.specs.Taking.{IsAllocationRefusal, IsFirstFit}
 use Rattle.capnp_arena.specs.View.{View}
-use Rattle.capnp_making.specs.Memory.{refusals_for, SpendsMemory, IsRefusedFor, RefusesWords}
+use Rattle.capnp_making.specs.Memory.{refusals_for, SpendsMemory, IsRefusedFor, RefusesGrowth, RefusesWords}
+use Rattle.capnp_widening.specs.Rooms.{is_allocation_name}
 
 -- n words and one more are refused where no segment has room
 pub words_refused : (a b : View) (n : ℕ) (k : ErrorKind) → IsRefusedFor a b n k → b.words ≡ a.words → ((j : ℕ) → IsFirstFit a (n + 1) j → ⊥) → RefusesWords a b n k × SpendsMemory a b k
@@ -27,3 +28,13 @@ words_refused a b n k (r, e) words full =
         ],
       ),
     )
+
+-- by what names they are
+words_named : (a b : View) (n : ℕ) (k : ErrorKind) → RefusesWords a b n k → is_allocation_name k ≡ true
+words_named a b n k (inl h, none) = ap is_allocation_name h.0
+words_named a b n k (inr (inl h), none) = ap is_allocation_name h.0
+words_named a b n k (inr (inr h), none) = ap is_allocation_name h.0
+
+pub growth_named : (a b : View) (n pointers : ℕ) (k : ErrorKind) → RefusesGrowth a b n pointers k → is_allocation_name k ≡ true
+growth_named a b n pointers k (inl words) = words_named a b n k words
+growth_named a b n pointers k (inr (some, words)) = words_named a b 1 k words

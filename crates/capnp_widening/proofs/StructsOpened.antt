@@ -1,5 +1,5 @@
 -- Structs that are opened for writing.
-use Rattle.std.proofs.Common.{◌≡◌, inl, inr, Bool, true, false, ℕ, zero, suc, ◌+◌, ◌≤◌, max, List, length, Some, None, Ok, Err, refl, sym, ap, ap₂, ◌∙◌, subst, arith}
+use Rattle.std.proofs.Common.{◌≡◌, inl, Bool, true, false, ℕ, zero, suc, ◌+◌, ◌≤◌, max, List, length, Some, None, Result, Ok, Err, refl, sym, ap, ap₂, ◌∙◌, subst, arith}
 use Rattle.std.proofs.lemmas.Grind.{common_steps}
 use Rattle.capnp_words.specs.declared.error.ErrorKind.{ErrorKind}
 use Rattle.capnp_words.specs.declared.error.ErrorKind.TheVariants.{AllocationFailed}
@@ -13,17 +13,18 @@ use Rattle.capnp_making.specs.declared.existing.ExistingStruct.{ExistingStruct}
 use Rattle.capnp_making.specs.declared.making.Start.{Start}
 use Rattle.capnp_making.specs.Existing.{struct_in, StructLiesIn}
 use Rattle.capnp_making.specs.Made.{zero_struct, words_of_zero, nulls, LeadsToStart}
-use Rattle.capnp_making.specs.Memory.{HasRoom, KeepsMemory, SpendsMemory, IsRefusedFor}
+use Rattle.capnp_making.specs.Memory.{HasRoom, KeepsMemory, SpendsMemory, IsRefusedFor, RefusesGrowth, RefusesWords}
 use Rattle.capnp_making.specs.Stored.{IsStored, IsReplaced}
 use Rattle.capnp_making.proofs.Filling.{unchanged}
 use Rattle.capnp_making.proofs.FillingMade.{null_stored}
 use Rattle.capnp_making.proofs.Memory.{keeps_itself, spends_nothing, not_the_allocator, made_refused}
 use Rattle.capnp_making.proofs.Replaced.{grown}
 use Rattle.capnp_making.specs.Makes.{call_at}
-use Rattle.capnp_widening.specs.Opening.{LeadsToOne, OpensStruct}
-use Rattle.capnp_widening.specs.Rooms.{all_words, GrowsByAtMost, GrowsForStruct}
-use Rattle.capnp_widening.specs.Widened.{fill_words, fill_trees, GrowsByZeros, WidensStruct, LeavesAll, LeadsToWiderStruct, IsNoWider, rewriting}
+use Rattle.capnp_widening.specs.Opening.{LeadsToOne, OpensStruct, struct_opened}
+use Rattle.capnp_widening.specs.Rooms.{all_words, direct_pointers, GrowsByAtMost, GrowsForStruct, RefusesToBecome, widened_words}
+use Rattle.capnp_widening.specs.Widened.{fill_words, fill_trees, GrowsByZeros, WidensStruct, LeavesAll, LeadsToWiderStruct, rewriting, widened}
 use Rattle.capnp_widening.proofs.Filled.{already_wide, wide_words, wide_trees}
+use Rattle.capnp_widening.proofs.Refusing.{growth_named}
 use Rattle.capnp_widening.proofs.StructSteps.{the_struct, same_struct}
 use Rattle.capnp_widening.proofs.Widenings.{length-fill_words, count-fill_trees}
 
@@ -124,24 +125,43 @@ struct_wider a b s p (Pointers ts) e f size greater stored found w l m = absurd 
 struct_wider a b s p (Structs d q es) e f size greater stored found w l m = absurd (no_struct e found)
 
 -- or for which there is no memory
+same_ok : (t u : Tree) → ◌≡◌ {A = Result Tree ErrorKind} (Ok t) (Ok u) → t ≡ u
+same_ok t u e = cc
+
+pub struct_unwidened : (a b : View) (s p : ℕ) (e : ExistingStruct) (size : StructSize) (k : ErrorKind) → ((t : Tree) → IsStored a.words s p t → struct_in (target a.words s p) t ≡ Some e) → SpendsMemory a b k →
+    RefusesGrowth a b (max e.size.data_words size.data_words + max e.size.pointers size.pointers) e.size.pointers k → RefusesToBecome (IsStored a.words s p) (struct_opened size) a b k
+struct_unwidened a b s p e size k known memory full = record { name = growth_named a b _ _ k full; memory = memory; full = λ t u stored opened. of_value t u (known t stored) opened }
+  where
+    of_value : (t u : Tree) → struct_in (target a.words s p) t ≡ Some e → struct_opened size t ≡ Ok u → RefusesGrowth a b (widened_words u) (direct_pointers t) k
+    of_value Null u found opened = absurd (no_struct e found)
+    of_value (Capability i) u found opened = absurd (no_struct e found)
+    of_value (Struct ws ts) u found opened =
+        let is = same_struct (the_struct a.words s p ws ts) e found in
+        let d : length ws ≡ e.size.data_words = ap (λ (x : ExistingStruct). x.size.data_words) is in
+        let q : count ts ≡ e.size.pointers = ap (λ (x : ExistingStruct). x.size.pointers) is in
+        let words : max e.size.data_words size.data_words + max e.size.pointers size.pointers ≡ widened_words (widened size ws ts) =
+        omega (arith, d, q, length-fill_words size.data_words ws, count-fill_trees size.pointers ts) in
+        subst (λ x. RefusesGrowth a b (widened_words x) (count ts) k) (same_ok (widened size ws ts) u opened)
+        (subst (λ n. RefusesGrowth a b n (count ts) k) words (subst (λ n. RefusesGrowth a b (max e.size.data_words size.data_words + max e.size.pointers size.pointers) n k) (sym q) full))
+    of_value (Flat n ns) u found opened = absurd (no_struct e found)
+    of_value (Pointers ts) u found opened = absurd (no_struct e found)
+    of_value (Structs d q es) u found opened = absurd (no_struct e found)
+
 pub struct_kept : (a b : View) (s p : ℕ) (t : Tree) (e : ExistingStruct) (size : StructSize) (k : ErrorKind) → IsStored a.words s p t → struct_in (target a.words s p) t ≡ Some e →
-    (size.data_words ≤ e.size.data_words → size.pointers ≤ e.size.pointers → ⊥) → LeavesAll (IsStored a.words s p) a.words b.words → IsNoWider (call_at s p a b) k → GrowsForStruct a.words b.words s p size → OpensStruct LeadsToOne size (Err k) (call_at s p a b) t
+    (size.data_words ≤ e.size.data_words → size.pointers ≤ e.size.pointers → ⊥) → LeavesAll (IsStored a.words s p) a.words b.words → RefusesToBecome (IsStored a.words s p) (struct_opened size) a b k → GrowsForStruct a.words b.words s p size → OpensStruct LeadsToOne size (Err k) (call_at s p a b) t
 struct_kept a b s p Null e size k stored found narrow leaves named few = absurd (no_struct e found)
 struct_kept a b s p (Capability i) e size k stored found narrow leaves named few = absurd (no_struct e found)
 struct_kept a b s p (Struct ws ts) e size k stored found narrow leaves named few =
     let is = same_struct (the_struct a.words s p ws ts) e found in
     let d : length ws ≡ e.size.data_words = ap (λ (x : ExistingStruct). x.size.data_words) is in
     let q : count ts ≡ e.size.pointers = ap (λ (x : ExistingStruct). x.size.pointers) is in
-    elim named [
-      | inl (x, same, none) ↦ absurd (no_struct e (sym (none (Struct ws ts) stored) ∙ found))
-      | inr (memory, full) ↦ record {
-        stands = stands_grown a.words b.words s p (Struct ws ts) stored (leaves (Struct ws ts) stored);
-        narrow = λ h. narrow (omega (arith, h.0, d)) (omega (arith, h.1, q));
-        memory = memory;
-        taken = few ws ts stored;
-        full = full;
-      }
-    ]
+    record {
+      stands = stands_grown a.words b.words s p (Struct ws ts) stored (leaves (Struct ws ts) stored);
+      narrow = λ h. narrow (omega (arith, h.0, d)) (omega (arith, h.1, q));
+      memory = named.memory;
+      taken = few ws ts stored;
+      full = named.full (Struct ws ts) (widened size ws ts) stored refl;
+    }
 struct_kept a b s p (Flat n ns) e size k stored found narrow leaves named few = absurd (no_struct e found)
 struct_kept a b s p (Pointers ts) e size k stored found narrow leaves named few = absurd (no_struct e found)
 struct_kept a b s p (Structs d q es) e size k stored found narrow leaves named few = absurd (no_struct e found)
@@ -173,14 +193,15 @@ struct_made a b s p size h made memory few leads =
       unchanged = λ h. absurd h;
     }
 
-pub struct_unmade : (a b : View) (s p n : ℕ) (size : StructSize) (k : ErrorKind) → IsPlace a.words s p → word_at a.words s p ≡ 0 → b.words ≡ a.words → IsRefusedFor a b n k → (HasRoom a s n → ⊥) →
-    OpensStruct LeadsToOne size (Err k) (call_at s p a b) Null
-struct_unmade a b s p n size k place null same named full =
-    let refused = made_refused a b s n k named same full in
+pub struct_unmade : (a b : View) (s p : ℕ) (size : StructSize) (k : ErrorKind) → IsPlace a.words s p → word_at a.words s p ≡ 0 → b.words ≡ a.words → IsRefusedFor a b (size.data_words + size.pointers) k →
+    (HasRoom a s (size.data_words + size.pointers) → ⊥) → OpensStruct LeadsToOne size (Err k) (call_at s p a b) Null
+struct_unmade a b s p size k place null same named full =
+    let refused = made_refused a b s (size.data_words + size.pointers) k named same full in
+    let words : size.data_words + size.pointers ≡ widened_words (zero_struct size) = ap₂ (λ x y. x + y) (sym (zero_count size.data_words)) (sym (null_count size.pointers)) in
     record {
       stands = subst (λ R. IsReplaced a.words R s p Null Null) (sym same) (unchanged a.words s p Null (null_stored a.words s p place null));
       narrow = λ h. h;
       memory = refused.1;
       taken = omega (arith, ap all_words same);
-      full = (n, refused.0);
+      full = inl (subst (λ n. RefusesWords a b n k) words refused.0);
     }

@@ -1,5 +1,5 @@
 -- Structs and lists of structs that are opened for writing, at least as large as asked for ("Structs", "Lists").
-use Rattle.std.specs.Prelude.{◌≡◌, ℕ, ◌+◌, ◌*◌, ◌^◌, ◌≤◌, max, cond, nat_lt, Option, Some, None, IfSome, Result, Ok, Err, length}
+use Rattle.std.specs.Prelude.{◌≡◌, ◌⊎◌, ℕ, ◌+◌, ◌*◌, ◌^◌, ◌≤◌, max, cond, nat_lt, Option, Some, None, IfSome, Result, Ok, Err, length}
 use Rattle.capnp_words.specs.declared.error.ErrorKind.{ErrorKind}
 use Rattle.capnp_words.specs.declared.error.ErrorKind.TheVariants.{FoundBitListWhereStructListWasExpected, MessageContainsNonStructPointerWhereStructPointerWasExpected, MessageTooLarge}
 use Rattle.capnp_format.specs.Forest.{target}
@@ -15,8 +15,8 @@ use Rattle.capnp_making.specs.Existing.{list_in, struct_in, StructLiesIn}
 use Rattle.capnp_making.specs.Made.{zero_struct}
 use Rattle.capnp_making.specs.Makes.{CallAt}
 use Rattle.capnp_making.specs.Memory.{KeepsMemory, SpendsMemory, RefusesGrowth}
-use Rattle.capnp_making.specs.Stored.{IsReplaced}
-use Rattle.capnp_widening.specs.Rooms.{GrowsByAtMost, widened_words, direct_pointers}
+use Rattle.capnp_making.specs.Stored.{IsStored, IsReplaced}
+use Rattle.capnp_widening.specs.Rooms.{GrowsByAtMost, RefusesToBecome, widened_words, direct_pointers}
 use Rattle.capnp_widening.specs.RowsRemade.{ListLiesIn}
 use Rattle.capnp_widening.specs.Widened.{widened, list_widened}
 
@@ -46,13 +46,13 @@ pub record Opened (size : StructSize) (c : CallAt) (t u : Tree) (given : Type 0)
   pub unchanged : HasSections size t → c.new ≡ c.old
 
 -- Memory is refused by the name k, for a value t that isn't large enough and was to become u: it stands as it was, and new words are zero, no more than
--- u would have taken.
+-- u would have taken. It is its words that are refused, or those of a landing pad for one of the pointers of t.
 pub record Unopened (size : StructSize) (c : CallAt) (t u : Tree) (k : ErrorKind) : Type 0 where
   pub stands : IsReplaced c.old.words c.new.words c.segment c.at t t
   pub narrow : HasSections size t → ⊥
   pub memory : SpendsMemory c.old c.new k
   pub taken : GrowsByAtMost c.old.words c.new.words (widened_words u + 1 + 2 * direct_pointers t)
-  pub full : RefusesGrowth c.old c.new k
+  pub full : RefusesGrowth c.old c.new (widened_words u) (direct_pointers t) k
 
 -- A call opens t, which is to become u, and what it gives is as Given says; or it is refused: by what t is, and nothing is changed, or for memory.
 abbrev pub Opens : {B : Type 0} → StructSize → (Segments → ℕ → ℕ → Tree → B → Type 0) → CallAt → Tree → Result Tree ErrorKind → Result B ErrorKind → Type 0
@@ -70,6 +70,13 @@ LeadsToAll S s p u l = (list_in (target S s p) Void u ≡ Ok l) × IfSome l (Lis
 -- The struct that stands is opened, or a new one in place of null.
 abbrev pub OpensStruct : {B : Type 0} → (Segments → ℕ → ℕ → Tree → B → Type 0) → StructSize → Result B ErrorKind → CallAt → Tree → Type 0
 OpensStruct Given size result c t = Opens size Given c t (struct_opened size t) result
+
+-- A call that opens a struct is refused by the name k: the place stores none, and nothing is changed; or for memory.
+abbrev pub IsNoWider : StructSize → CallAt → ErrorKind → Type 0
+IsNoWider size c k =
+    ((k ≡ MessageContainsNonStructPointerWhereStructPointerWasExpected) × (c.new ≡ c.old)
+    × ((t : Tree) → IsStored c.old.words c.segment c.at t → struct_in (target c.old.words c.segment c.at) t ≡ None))
+    ⊎ RefusesToBecome (IsStored c.old.words c.segment c.at) (struct_opened size) c.old c.new k
 
 -- The list of structs that stands is opened, made one of any other list. Null is a list of none, and nothing is changed.
 abbrev pub OpensExistingList : StructSize → Result (Option ExistingList) ErrorKind → CallAt → Tree → Type 0

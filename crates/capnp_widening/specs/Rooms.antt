@@ -1,12 +1,14 @@
 -- The words that making an object wider takes, and the room for them.
-use Rattle.std.specs.Prelude.{◌≡◌, ◌⊎◌, ℕ, ◌+◌, ◌*◌, ◌<◌, ◌≤◌, Ok, List, [], ◌∷◌, length}
+use Rattle.std.specs.Prelude.{◌≡◌, ◌⊎◌, ℕ, ◌+◌, ◌*◌, ◌<◌, ◌≤◌, Bool, true, false, Result, Ok, List, [], ◌∷◌, length}
+use Rattle.capnp_words.specs.declared.error.ErrorKind.{ErrorKind}
+use Rattle.capnp_words.specs.declared.error.ErrorKind.TheVariants.{AllocationFailed, MessageTooLarge}
 use Rattle.capnp_format.specs.Segments.{Segments, word_at}
 use Rattle.capnp_format.specs.Tree.{Tree, Struct, Pointers, Structs, Trees, count, element_count}
 use Rattle.capnp_format.specs.Forest.{target}
 use Rattle.capnp_words.specs.declared.wire_pointer.StructSize.{StructSize}
 use Rattle.capnp_arena.specs.View.{View}
 use Rattle.capnp_making.specs.Made.{structs_words}
-use Rattle.capnp_making.specs.Memory.{HasRoom}
+use Rattle.capnp_making.specs.Memory.{HasRoom, SpendsMemory, RefusesGrowth}
 use Rattle.capnp_making.specs.Near.{HasOwnRoom}
 use Rattle.capnp_making.specs.Stored.{IsStored}
 use Rattle.capnp_widening.specs.declared.remaking.ElementRows.{ElementRows}
@@ -36,6 +38,19 @@ direct_pointers (Struct ws ts) = count ts
 direct_pointers (Pointers ts) = count ts
 direct_pointers (Structs d q es) = element_count es * q
 direct_pointers t = 0
+
+-- A request for words is refused by this name.
+abbrev pub is_allocation_name : ErrorKind → Bool
+is_allocation_name AllocationFailed = true
+is_allocation_name (MessageTooLarge n) = true
+is_allocation_name k = false
+
+-- The value that stands there finds no room for what it is to become, and a growth is refused by the name k: that of the words of what it becomes, or of a
+-- landing pad for one of its pointers.
+pub record RefusesToBecome (Stands : Tree → Type 0) (becomes : Tree → Result Tree ErrorKind) (old new : View) (k : ErrorKind) : Type 0 where
+  pub name : is_allocation_name k ≡ true
+  pub memory : SpendsMemory old new k
+  pub full : (t u : Tree) → Stands t → becomes t ≡ Ok u → RefusesGrowth old new (widened_words u) (direct_pointers t) k
 
 -- There is room for u, which t becomes at a place, and for two words for each pointer of t; or t stands in the segment of the place, and that has
 -- room for u.

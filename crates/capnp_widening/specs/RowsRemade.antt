@@ -14,7 +14,7 @@ use Rattle.capnp_making.specs.declared.existing.ExistingList.{ExistingList}
 use Rattle.capnp_making.specs.declared.making.Start.{Start}
 use Rattle.capnp_making.specs.Existing.{list_in}
 use Rattle.capnp_making.specs.Fields.{field_in}
-use Rattle.capnp_making.specs.Made.{zero_elements}
+use Rattle.capnp_making.specs.Made.{zero_elements, structs_words}
 use Rattle.capnp_making.specs.Makes.{CallAt}
 use Rattle.capnp_making.specs.Memory.{SpendsMemory, RefusesGrowth}
 use Rattle.capnp_making.specs.Path.{word_interval}
@@ -22,6 +22,7 @@ use Rattle.capnp_making.specs.Stored.{IsStored, IsReplaced}
 use Rattle.capnp_making.specs.Zeroed.{row}
 use Rattle.capnp_widening.specs.declared.remaking.ElementRows.{ElementRows}
 use Rattle.capnp_widening.specs.Moved.{Move, rows_of_moves}
+use Rattle.capnp_widening.specs.Rooms.{RefusesToBecome}
 use Rattle.capnp_widening.specs.Widened.{Rewriting, fill_elements, struct_for_each, struct_for_each_tree, limited, list_widened}
 
 -- From S to R the first d words of each of n rows are copied over those of other rows, and nothing else is written. The old rows start every w words
@@ -100,11 +101,12 @@ pub record BecomesList (c : Rewriting) (l : ExistingList) (t u : Tree) : Type 0 
 abbrev pub RemakesList : (Tree → Type 0) → StructSize → Rewriting → ExistingList → Type 0
 RemakesList Stands size c l = (t : Tree) → Stands t → BecomesList c l t (as_structs size t)
 
--- A call is refused by the name k: the elements would take too many words, and nothing is changed; or a growth is refused.
+-- A call is refused by the name k: the elements would take too many words, and nothing is changed; or memory is refused
+-- for their list, or for a landing pad of one of their pointers.
 abbrev pub RefusesRows : ElementRows → StructSize → CallAt → ErrorKind → Type 0
 RefusesRows rows size c k =
     ((c.new ≡ c.old) × ((t : Tree) → StoresRows c.old.words c.segment c.at rows t → limited (rows.count * (size.data_words + size.pointers)) (as_structs size t) ≡ Err k))
-    ⊎ (SpendsMemory c.old c.new k × RefusesGrowth c.old c.new k)
+    ⊎ (SpendsMemory c.old c.new k × RefusesGrowth c.old c.new (structs_words rows.count size) (rows.count * rows.size.pointers) k)
 
 -- The place stores t in S, which is the list l.
 abbrev pub IsList : Segments → ℕ → ℕ → ExistingList → Tree → Type 0
@@ -125,7 +127,8 @@ LeadsToWiderList size c l =
     (t u : Tree) → IsStored c.old c.segment c.at t → list_widened size.data_words size.pointers t ≡ Ok u
     → (list_in (target c.new c.segment c.at) Void u ≡ Ok l) × IfSome l (ListLiesIn c.new)
 
--- A call is refused by the name k: by what stands there and what is wanted, and nothing is changed; or a growth is refused.
+-- A call is refused by the name k: by what stands there and what is wanted, and nothing is changed; or for memory.
 abbrev pub RefusesWider : (Tree → Type 0) → StructSize → View → View → ErrorKind → Type 0
 RefusesWider Stands size old new k =
-    ((new ≡ old) × ((t : Tree) → Stands t → list_widened size.data_words size.pointers t ≡ Err k)) ⊎ (SpendsMemory old new k × RefusesGrowth old new k)
+    ((new ≡ old) × ((t : Tree) → Stands t → list_widened size.data_words size.pointers t ≡ Err k))
+    ⊎ RefusesToBecome Stands (list_widened size.data_words size.pointers) old new k

@@ -1,5 +1,5 @@
 -- Objects filled up with zeros and Nulls, and a struct for each element of another list ("Structs", "Lists").
-use Rattle.std.specs.Prelude.{◌≡◌, ℕ, zero, suc, ◌+◌, ◌-◌, ◌*◌, ◌^◌, ◌≤◌, ◌<◌, max, cond, ◌&&◌, nat_le, nat_lt, Result, Ok, Err, List, [], ◌∷◌, ◌++◌, ◌⊎◌, length, Some, None}
+use Rattle.std.specs.Prelude.{◌≡◌, ℕ, zero, suc, ◌+◌, ◌-◌, ◌*◌, ◌^◌, ◌≤◌, ◌<◌, max, cond, ◌&&◌, nat_le, nat_lt, Result, Ok, Err, List, [], ◌∷◌, ◌++◌, length, Some}
 use Rattle.capnp_format.specs.Segments.{Segments, Grows, segment, word_at}
 use Rattle.capnp_format.specs.Tree.{Tree, Null, Capability, Struct, Flat, Pointers, Structs, Trees, no_trees, tree, Elements, no_elements, element, count, element_count}
 use Rattle.capnp_words.specs.declared.wire_pointer.StructSize.{StructSize}
@@ -7,21 +7,21 @@ use Rattle.capnp_making.specs.declared.existing.ExistingStruct.{ExistingStruct}
 use Rattle.capnp_making.specs.Made.{words_of_zero, nulls, zero_elements}
 use Rattle.capnp_format.specs.Forest.{target}
 use Rattle.capnp_words.specs.declared.error.ErrorKind.{ErrorKind}
-use Rattle.capnp_words.specs.declared.error.ErrorKind.TheVariants.{ExistingPointerIsNotAList, FoundBitListWhereStructListWasExpected, MessageTooLarge, MessageContainsNonStructPointerWhereStructPointerWasExpected}
+use Rattle.capnp_words.specs.declared.error.ErrorKind.TheVariants.{ExistingPointerIsNotAList, FoundBitListWhereStructListWasExpected, MessageTooLarge}
 use Rattle.capnp_making.specs.Existing.{struct_in, StructLiesIn}
-use Rattle.capnp_making.specs.Makes.{CallAt}
-use Rattle.capnp_making.specs.Memory.{SpendsMemory, RefusesGrowth}
 use Rattle.capnp_making.specs.Stored.{IsStored, IsReplaced}
 
 -- Filled up to n words, or n children, and never cut.
 abbrev pub fill_words : ℕ → List ℕ → List ℕ
 fill_words n ws = ws ++ words_of_zero (n - length ws)
 
+-- Children filled up to n, and never cut.
 abbrev pub fill_trees : ℕ → Trees → Trees
 fill_trees n no_trees = nulls n
 fill_trees zero ts = ts
 fill_trees (suc n) (tree t ts) = tree t (fill_trees n ts)
 
+-- The sections of each element filled up, and never cut.
 abbrev pub fill_elements : ℕ → ℕ → Elements → Elements
 fill_elements d q no_elements = no_elements
 fill_elements d q (element ws ts es) = element (fill_words d ws) (fill_trees q ts) (fill_elements d q es)
@@ -31,6 +31,7 @@ abbrev pub struct_for_each : ℕ → ℕ → List ℕ → Elements
 struct_for_each d q [] = no_elements
 struct_for_each d q (x ∷ xs) = element (fill_words d (x ∷ [])) (nulls q) (struct_for_each d q xs)
 
+-- A struct for each child.
 abbrev pub struct_for_each_tree : ℕ → ℕ → Trees → Elements
 struct_for_each_tree d q no_trees = no_elements
 struct_for_each_tree d q (tree t ts) = element (words_of_zero d) (fill_trees q (tree t no_trees)) (struct_for_each_tree d q ts)
@@ -79,19 +80,13 @@ LeadsToWiderStruct Stands R s p e =
 abbrev pub IsAtLeast : StructSize → ExistingStruct → Type 0
 IsAtLeast size e = (size.data_words ≤ e.size.data_words) × (size.pointers ≤ e.size.pointers)
 
--- A call is refused by the name k: the place stores no struct, and nothing is changed; or a growth is refused.
-abbrev pub IsNoWider : CallAt → ErrorKind → Type 0
-IsNoWider c k =
-    ((k ≡ MessageContainsNonStructPointerWhereStructPointerWasExpected) × (c.new ≡ c.old)
-    × ((t : Tree) → IsStored c.old.words c.segment c.at t → struct_in (target c.old.words c.segment c.at) t ≡ None))
-    ⊎ (SpendsMemory c.old c.new k × RefusesGrowth c.old c.new k)
-
 -- A list of structs that take so many words, where these are fewer than 2^29.
 abbrev pub limited : ℕ → Tree → Result Tree ErrorKind
 limited n t = cond (nat_lt n (2 ^ 29)) (Ok t) (Err (MessageTooLarge n))
 
 -- What a list becomes where structs of at least d data words and q pointers are wanted, memory aside; or by what name that is refused. Null stays.
--- From void the elements are of exactly that size; a number is the lowest bits of a first data word, and a pointer the first one of a struct.
+-- From void the elements are of exactly that size; a number is the lowest bits of a first data word, and a pointer the first one of a struct
+-- ("Lists").
 abbrev pub list_widened : ℕ → ℕ → Tree → Result Tree ErrorKind
 list_widened d q Null = Ok Null
 list_widened d q (Capability i) = Err ExistingPointerIsNotAList

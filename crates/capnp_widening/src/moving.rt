@@ -11,7 +11,7 @@ ghost use Rattle.capnp_format.specs.Segments.{segment, word_at, IsPlace, Grows};
 ghost use Rattle.capnp_format.specs.Word.{kind, offset_bits, struct_word, upper_half};
 ghost use Rattle.capnp_format.specs.Forest.{times};
 ghost use Rattle.capnp_making.specs.Made.{IsShape, CountFits, AsksWords};
-ghost use Rattle.capnp_making.specs.Memory.{KeepsMemory, SpendsMemory, RefusesWords, RefusesGrowth};
+ghost use Rattle.capnp_making.specs.Memory.{KeepsMemory, SpendsMemory, RefusesWords};
 ghost use Rattle.capnp_making.specs.Path.{word_interval};
 ghost use Rattle.capnp_making.specs.Zeroed.{IsPruned};
 ghost use Rattle.capnp_widening.specs.Moved.{a_move, row_of_moves, Moves, MovesSome, Unmoves, rows_of_moves};
@@ -188,7 +188,8 @@ pub fn move_row<A: BuilderArena>(
     ensures longer { Grows (A.view arena.old).words (A.view arena.new).words }
     ensures granted { OnOk result (KeepsMemory (A.view arena.old) (A.view arena.new)) }
     ensures memory { IfErr result (SpendsMemory (A.view arena.old) (A.view arena.new)) }
-    ensures full { IfErr result (RefusesGrowth (A.view arena.old) (A.view arena.new)) }
+    ensures full { IfErr result (λ k. (0 < count)
+        × RefusesWords (A.view arena.old) (A.view arena.new) 1 k) }
     ensures few { GrowsByAtMost (A.view arena.old).words (A.view arena.new).words (2 * count) }
     ensures fits { HasSomeRoom (A.view arena.old) (2 * count) → IsOk result }
     ensures near { from.segment ≡ to.segment → IsOk result }
@@ -219,7 +220,8 @@ fn move_row_apart<A: BuilderArena>(
     ensures longer { Grows (A.view arena.old).words (A.view arena.new).words }
     ensures granted { OnOk result (KeepsMemory (A.view arena.old) (A.view arena.new)) }
     ensures memory { IfErr result (SpendsMemory (A.view arena.old) (A.view arena.new)) }
-    ensures full { IfErr result (RefusesGrowth (A.view arena.old) (A.view arena.new)) }
+    ensures full { IfErr result (λ k. (0 < count)
+        × RefusesWords (A.view arena.old) (A.view arena.new) 1 k) }
     ensures few { GrowsByAtMost (A.view arena.old).words (A.view arena.new).words (2 * count) }
     ensures fits { HasSomeRoom (A.view arena.old) (2 * count) → IsOk result }
     ensures near { from.segment ≡ to.segment → IsOk result }
@@ -245,7 +247,8 @@ fn move_each<A: BuilderArena>(
     ensures longer { Grows (A.view arena.old).words (A.view arena.new).words }
     ensures granted { OnOk result (KeepsMemory (A.view arena.old) (A.view arena.new)) }
     ensures memory { IfErr result (SpendsMemory (A.view arena.old) (A.view arena.new)) }
-    ensures full { IfErr result (RefusesGrowth (A.view arena.old) (A.view arena.new)) }
+    ensures full { IfErr result (λ k. (0 < count)
+        × RefusesWords (A.view arena.old) (A.view arena.new) 1 k) }
     ensures few { GrowsByAtMost (A.view arena.old).words (A.view arena.new).words (2 * count) }
     ensures fits { HasSomeRoom (A.view arena.old) (2 * count) → IsOk result }
     ensures near { from.segment ≡ to.segment → IsOk result }
@@ -331,7 +334,8 @@ pub fn move_rows<A: BuilderArena>(
     ensures longer { Grows (A.view arena.old).words (A.view arena.new).words }
     ensures granted { OnOk result (KeepsMemory (A.view arena.old) (A.view arena.new)) }
     ensures memory { IfErr result (SpendsMemory (A.view arena.old) (A.view arena.new)) }
-    ensures full { IfErr result (RefusesGrowth (A.view arena.old) (A.view arena.new)) }
+    ensures full { IfErr result (λ k. (0 < count * pointers)
+        × RefusesWords (A.view arena.old) (A.view arena.new) 1 k) }
     ensures few { GrowsByAtMost (A.view arena.old).words (A.view arena.new).words
         (2 * (count * pointers)) }
     ensures fits { HasSomeRoom (A.view arena.old) (2 * (count * pointers)) → IsOk result }

@@ -6,7 +6,7 @@ ghost use Rattle.capnp_format.specs.Segments.{segment, IsPlace};
 ghost use Rattle.capnp_words.specs.Sizes.{size_number};
 ghost use Rattle.capnp_making.specs.Made.{structs_words};
 ghost use Rattle.capnp_making.specs.Fields.{field_in};
-ghost use Rattle.capnp_making.specs.Memory.{HasRoom, KeepsMemory, SpendsMemory, RefusesGrowth};
+ghost use Rattle.capnp_making.specs.Memory.{HasRoom, KeepsMemory, SpendsMemory, RefusesWords};
 ghost use Rattle.capnp_widening.specs.Rooms.{GrowsByAtMost, WiderListFits, GrowsForList};
 ghost use Rattle.capnp_widening.specs.RowsRemade.{AreNumbersCopied, IsList, NumbersInside, RemakesList, WidensTo, RefusesWider};
 ghost use Rattle.capnp_widening.specs.Widened.{LeavesAll, rewriting};
@@ -95,7 +95,8 @@ fn remake_numbers<A: BuilderArena>(
     ensures granted { OnOk result (KeepsMemory (A.view arena.old) (A.view arena.new)) }
     ensures refused { OnErr result ((A.view arena.new).words ≡ (A.view arena.old).words) }
     ensures memory { IfErr result (SpendsMemory (A.view arena.old) (A.view arena.new)) }
-    ensures full { IfErr result (RefusesGrowth (A.view arena.old) (A.view arena.new)) }
+    ensures full { IfErr result (RefusesWords (A.view arena.old) (A.view arena.new)
+        (structs_words old.count size)) }
     ensures few { GrowsByAtMost (A.view arena.old).words (A.view arena.new).words
         (structs_words old.count size + 1) }
     ensures fits { HasRoom (A.view arena.old) id (structs_words old.count size) → IsOk result }

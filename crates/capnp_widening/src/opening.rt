@@ -1,16 +1,17 @@
 //! Structs and lists of structs opened for writing, at least as large as asked for ("Structs", "Lists").
-ghost use Rattle.std.specs.Prelude.{◌≡◌, ◌↔◌, ◌+◌, ◌*◌, ◌^◌, ◌≤◌, max, IsTrue, IsOk, Some, IfSome, IfOk, OnOk, IfErr, OnErr};
+ghost use Rattle.std.specs.Prelude.{◌-◌, ◌≡◌, ◌↔◌, ◌+◌, ◌*◌, ◌^◌, ◌≤◌, max, IsTrue, IsOk, Some, IfSome, IfOk, OnOk, IfErr, OnErr};
 ghost use Rattle.capnp_format.specs.Forest.{target};
 ghost use Rattle.capnp_format.specs.Segments.{IsPlace, word_at};
 ghost use Rattle.capnp_format.specs.Tree.{Tree, Null};
 ghost use Rattle.capnp_making.specs.Existing.{StructLiesIn, struct_in};
-ghost use Rattle.capnp_making.specs.Memory.{HasRoom, KeepsMemory, SpendsMemory, TakesWords};
+ghost use Rattle.capnp_format.specs.Word.{struct_word};
+ghost use Rattle.capnp_making.specs.Memory.{HasRoom, KeepsMemory, SpendsMemory, TakesWords, StandsBehind, start_of};
 ghost use Rattle.capnp_making.specs.Stored.{IsStored};
 ghost use Rattle.capnp_making.specs.Makes.{call_at};
-ghost use Rattle.capnp_widening.specs.Opening.{LeadsToOne, OpensStruct, OpensExistingList, refusal_of_elements, existing_struct};
-ghost use Rattle.capnp_widening.specs.Rooms.{WiderListFits, OpeningFits, WiderStructFits};
+ghost use Rattle.capnp_widening.specs.Opening.{IsNoWider, LeadsToOne, OpensStruct, struct_opened, OpensExistingList, refusal_of_elements, existing_struct};
+ghost use Rattle.capnp_widening.specs.Rooms.{RefusesToBecome, WiderListFits, OpeningFits, WiderStructFits};
 ghost use Rattle.capnp_widening.specs.RowsRemade.{RefusesWider};
-ghost use Rattle.capnp_widening.specs.Widened.{IsAtLeast, IsNoWider};
+ghost use Rattle.capnp_widening.specs.Widened.{IsAtLeast};
 ghost use Rattle.capnp_words.specs.declared.error.ErrorKind.TheVariants.{AllocationFailed};
 ghost use Rattle.capnp_words.specs.declared.wire_pointer.ElementSize.TheVariants.{InlineComposite};
 
@@ -44,11 +45,16 @@ pub fn open_struct<A: BuilderArena>(
     ensures granted { OnOk result (KeepsMemory (A.view arena.old) (A.view arena.new)) }
     ensures memory { IfErr result (SpendsMemory (A.view arena.old) (A.view arena.new)) }
     ensures named { (word_at (A.view arena.old).words id at ≡ 0 → ⊥)
-        → IfErr result (IsNoWider (call_at id at (A.view arena.old) (A.view arena.new))) }
+        → IfErr result (IsNoWider size (call_at id at (A.view arena.old) (A.view arena.new))) }
     ensures fits { OpeningFits (A.view arena.old) id at size → IsOk result }
     ensures taken { word_at (A.view arena.old).words id at ≡ 0
         → OnOk result
         (TakesWords (A.view arena.old) (A.view arena.new) id (size.data_words + size.pointers)) }
+    ensures empty { word_at (A.view arena.old).words id at ≡ 0 → size.data_words + size.pointers ≡ 0
+        → OnOk result (word_at (A.view arena.new).words id at ≡ struct_word (2 ^ 30 - 1) 0 0) }
+    ensures behind { word_at (A.view arena.old).words id at ≡ 0
+        → OnOk result (StandsBehind (A.view arena.old) id (size.data_words + size.pointers)
+        (start_of (target (A.view arena.new).words id at))) }
     ensures refused { word_at (A.view arena.old).words id at ≡ 0
         → OnErr result ((A.view arena.new).words ≡ (A.view arena.old).words) }
 {
@@ -90,6 +96,11 @@ fn new_struct<A: BuilderArena>(
     ensures fits { HasRoom (A.view arena.old) id (size.data_words + size.pointers) → IsOk result }
     ensures taken { OnOk result (TakesWords (A.view arena.old) (A.view arena.new) id
         (size.data_words + size.pointers)) }
+    ensures empty { size.data_words + size.pointers ≡ 0
+        → OnOk result (word_at (A.view arena.new).words id at ≡ struct_word (2 ^ 30 - 1) 0 0) }
+    ensures behind { OnOk result (StandsBehind (A.view arena.old) id
+        (size.data_words + size.pointers)
+        (start_of (target (A.view arena.new).words id at))) }
     ensures refused { OnErr result ((A.view arena.new).words ≡ (A.view arena.old).words) }
 {
     match make_struct(arena, id, at, size) {
@@ -125,7 +136,9 @@ fn widen_struct<A: BuilderArena>(
     ensures wide { IfOk result (IsAtLeast size) }
     ensures granted { OnOk result (KeepsMemory (A.view arena.old) (A.view arena.new)) }
     ensures memory { IfErr result (SpendsMemory (A.view arena.old) (A.view arena.new)) }
-    ensures named { IfErr result (IsNoWider (call_at id at (A.view arena.old) (A.view arena.new))) }
+    ensures named { IfErr result (RefusesToBecome
+        (IsStored (A.view arena.old).words id at) (struct_opened size)
+        (A.view arena.old) (A.view arena.new)) }
     ensures fits { WiderStructFits (A.view arena.old) id at size → IsOk result }
 {
     let old = ExistingStruct {

@@ -4,7 +4,7 @@ ghost use Rattle.std.specs.Prelude.{ℕ, ◌≡◌, ◌↔◌, ◌<◌, ◌≤�
 ghost use Rattle.capnp_arena.specs.View.{KeepsLimits};
 ghost use Rattle.capnp_format.specs.Segments.{Segments, segment, IsPlace, Grows};
 ghost use Rattle.capnp_making.specs.Made.{structs_words};
-ghost use Rattle.capnp_making.specs.Memory.{HasRoom, KeepsMemory, SpendsMemory, RefusesGrowth};
+ghost use Rattle.capnp_making.specs.Memory.{HasRoom, KeepsMemory, SpendsMemory, RefusesGrowth, RefusesWords};
 ghost use Rattle.capnp_making.specs.Near.{HasOwnRoom};
 ghost use Rattle.capnp_widening.specs.Rooms.{GrowsByAtMost, HasSomeRoom, RemadeRowsFit};
 ghost use Rattle.capnp_widening.specs.Housed.{IsRoom};
@@ -86,7 +86,8 @@ pub(crate) fn begin_list<A: BuilderArena>(
         (A.view arena.new).words) count size) }
     ensures granted { OnOk result (KeepsMemory (A.view arena.old) (A.view arena.new)) }
     ensures memory { IfErr result (SpendsMemory (A.view arena.old) (A.view arena.new)) }
-    ensures full { IfErr result (RefusesGrowth (A.view arena.old) (A.view arena.new)) }
+    ensures full { IfErr result
+        (RefusesWords (A.view arena.old) (A.view arena.new) (structs_words count size)) }
     ensures refused { OnErr result ((A.view arena.new).words ≡ (A.view arena.old).words) }
     ensures few { GrowsByAtMost (A.view arena.old).words (A.view arena.new).words
         (structs_words count size + 1) }
@@ -133,7 +134,8 @@ fn fill_rows<A: BuilderArena>(
     ensures longer { Grows (A.view arena.old).words (A.view arena.new).words }
     ensures granted { OnOk result (KeepsMemory (A.view arena.old) (A.view arena.new)) }
     ensures memory { IfErr result (SpendsMemory (A.view arena.old) (A.view arena.new)) }
-    ensures full { IfErr result (RefusesGrowth (A.view arena.old) (A.view arena.new)) }
+    ensures full { IfErr result (λ k. (0 < old.count * old.size.pointers)
+        × RefusesWords (A.view arena.old) (A.view arena.new) 1 k) }
     ensures few { GrowsByAtMost (A.view arena.old).words (A.view arena.new).words
         (2 * (old.count * old.size.pointers)) }
     ensures fits { HasSomeRoom (A.view arena.old) (2 * (old.count * old.size.pointers))
@@ -251,7 +253,8 @@ fn remake_rows<A: BuilderArena>(
         (LeavesAll (StoresRows (A.view arena.old).words id at old)
         (A.view arena.old).words (A.view arena.new).words) }
     ensures memory { IfErr result (SpendsMemory (A.view arena.old) (A.view arena.new)) }
-    ensures full { IfErr result (RefusesGrowth (A.view arena.old) (A.view arena.new)) }
+    ensures full { IfErr result (RefusesGrowth (A.view arena.old) (A.view arena.new)
+        (structs_words old.count size) (old.count * old.size.pointers)) }
     ensures few { GrowsByAtMost (A.view arena.old).words (A.view arena.new).words
         (structs_words old.count size + 1 + 2 * (old.count * old.size.pointers)) }
     ensures fits { RemadeRowsFit (A.view arena.old) id old size → IsOk result }

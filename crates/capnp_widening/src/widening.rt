@@ -1,11 +1,11 @@
 //! Structs and lists made wider where they are too small: the object stands anew in more words, its
 //! pointers are moved there, and at last its pointer is overwritten. Until then the old object stands
 //! as it was, and a refusal leaves nothing but zeros.
-ghost use Rattle.std.specs.Prelude.{ℕ, List, Some, ◌≡◌, ◌<◌, ◌≤◌, ◌+◌, ◌*◌, ◌^◌, max, length, IsOk, IfOk, OnOk, IfErr, OnErr};
+ghost use Rattle.std.specs.Prelude.{ℕ, Some, ◌≡◌, ◌<◌, ◌≤◌, ◌+◌, ◌*◌, ◌^◌, max, length, IsOk, IfOk, OnOk, IfErr, OnErr};
 ghost use Rattle.capnp_arena.specs.View.{KeepsLimits};
 ghost use Rattle.capnp_format.specs.Segments.{segment, word_at, IsPlace, Grows};
 ghost use Rattle.capnp_format.specs.Forest.{target};
-ghost use Rattle.capnp_format.specs.Tree.{Tree, Trees, Struct, count};
+ghost use Rattle.capnp_format.specs.Tree.{Tree};
 ghost use Rattle.capnp_making.specs.Existing.{StructLiesIn, struct_in};
 ghost use Rattle.capnp_making.specs.Made.{CountFits, AsksWords};
 ghost use Rattle.capnp_making.specs.Memory.{HasRoom, KeepsMemory, SpendsMemory, RefusesWords, RefusesGrowth};
@@ -14,12 +14,11 @@ ghost use Rattle.capnp_making.specs.Stored.{IsStored};
 ghost use Rattle.capnp_making.specs.Zeroed.{IsPruned};
 ghost use Rattle.capnp_widening.specs.Housed.{IsRoom, AreWordsCopied, Settles};
 ghost use Rattle.capnp_widening.specs.Rooms.{GrowsByAtMost, HasSomeRoom, WiderStructFits, GrowsForStruct};
-ghost use Rattle.capnp_widening.specs.Widened.{IsAtLeast, IsNoWider, IsStruct, LeadsToWiderStruct, LeavesAll, WidensStruct, rewriting};
-ghost use Rattle.capnp_making.specs.Makes.{call_at};
+ghost use Rattle.capnp_widening.specs.Widened.{IsStruct, LeadsToWiderStruct, LeavesAll, WidensStruct, rewriting};
 
 use crate::moving::{move_row, unmove_row};
 use capnp_arena::arena::BuilderArena;
-use capnp_making::existing::{self, ExistingStruct};
+use capnp_making::existing::ExistingStruct;
 use capnp_making::landing::word_of;
 use capnp_making::making::{Shape, Start, pointer_to};
 use capnp_making::zeroing::{zero_pads, zero_part};
@@ -127,53 +126,12 @@ pub(crate) fn settle<A: BuilderArena>(arena: &mut A, id: u32, at: u32, room: Roo
     arena.set_word(id, at, far.0);
 }
 
-/// The struct that the pointer at a place leads to, with both sections at least as large as asked for.
-/// Where one is too small, the struct stands anew with each section as large as the greater of old and
-/// wanted.
+/// Makes the struct that the pointer at a place leads to wider, where it is known and a section is too
+/// small: it stands anew with each section as large as the greater of old and wanted. It isn't looked for
+/// again.
 ///
-/// Anything but a struct is `MessageContainsNonStructPointerWhereStructPointerWasExpected`. Every other
-/// refusal is that of memory, or `MessageTooLarge`; the old struct stands then.
-pub fn get_struct<A: BuilderArena>(
-    arena: &mut A,
-    id: u32,
-    at: u32,
-    size: StructSize,
-) -> Result<ExistingStruct, ErrorKind>
-    requires place { IsPlace (A.view arena.old).words id at }
-    ensures widened { OnOk result (WidensStruct (IsStored (A.view arena.old).words id at) size
-        (rewriting id at (A.view arena.old).words (A.view arena.new).words)) }
-    ensures leads { IfOk result (LeadsToWiderStruct
-        (IsStored (A.view arena.old).words id at) (A.view arena.new).words id at) }
-    ensures wide { IfOk result (IsAtLeast size) }
-    ensures granted { OnOk result (KeepsMemory (A.view arena.old) (A.view arena.new)) }
-    ensures refused { OnErr result
-        (LeavesAll (IsStored (A.view arena.old).words id at)
-        (A.view arena.old).words (A.view arena.new).words) }
-    ensures named { IfErr result (IsNoWider (call_at id at (A.view arena.old) (A.view arena.new))) }
-    ensures stays { (ws : List ℕ) (ts : Trees)
-        → IsStored (A.view arena.old).words id at (Struct ws ts)
-        → size.data_words ≤ length ws → size.pointers ≤ count ts
-        → IsOk result × (A.view arena.new ≡ A.view arena.old) }
-    ensures fits { WiderStructFits (A.view arena.old) id at size → IsOk result }
-    ensures few { GrowsForStruct (A.view arena.old).words (A.view arena.new).words id at size }
-{
-    match existing::get_struct(arena, id, at) {
-        None => Err(ErrorKind::MessageContainsNonStructPointerWhereStructPointerWasExpected),
-        Some(old) => {
-            if size.data_words <= old.size.data_words && size.pointers <= old.size.pointers {
-                return Ok(old);
-            }
-            let wide = StructSize {
-                data_words: greater(old.size.data_words, size.data_words),
-                pointers: greater(old.size.pointers, size.pointers),
-            };
-            widen_struct(arena, id, at, old, wide)
-        }
-    }
-}
-
-/// Makes the struct that the pointer at a place leads to wider, as `get_struct` does, where it is known and
-/// too small. It isn't looked for again.
+/// A refusal is that of memory for its words or for a landing pad, or `MessageTooLarge`; the old struct
+/// stands then.
 pub(crate) fn widen_known<A: BuilderArena>(
     arena: &mut A,
     id: u32,
@@ -195,7 +153,10 @@ pub(crate) fn widen_known<A: BuilderArena>(
     ensures refused { OnErr result
         (LeavesAll (IsStored (A.view arena.old).words id at)
         (A.view arena.old).words (A.view arena.new).words) }
-    ensures named { IfErr result (IsNoWider (call_at id at (A.view arena.old) (A.view arena.new))) }
+    ensures memory { IfErr result (SpendsMemory (A.view arena.old) (A.view arena.new)) }
+    ensures full { IfErr result (RefusesGrowth (A.view arena.old) (A.view arena.new)
+        (max old.size.data_words size.data_words + max old.size.pointers size.pointers)
+        old.size.pointers) }
     ensures fits { WiderStructFits (A.view arena.old) id at size → IsOk result }
     ensures few { GrowsForStruct (A.view arena.old).words (A.view arena.new).words id at size }
 {
@@ -259,7 +220,8 @@ fn widen_struct<A: BuilderArena>(
         (LeavesAll (IsStruct (A.view arena.old).words id at old)
         (A.view arena.old).words (A.view arena.new).words) }
     ensures memory { IfErr result (SpendsMemory (A.view arena.old) (A.view arena.new)) }
-    ensures full { IfErr result (RefusesGrowth (A.view arena.old) (A.view arena.new)) }
+    ensures full { IfErr result (RefusesGrowth (A.view arena.old) (A.view arena.new)
+        (size.data_words + size.pointers) old.size.pointers) }
     ensures few { GrowsByAtMost (A.view arena.old).words (A.view arena.new).words
         (size.data_words + size.pointers + 1 + 2 * old.size.pointers) }
     ensures fits { HasRoom (A.view arena.old) id

@@ -1,14 +1,17 @@
 //! What a pointer leads to, found for writing: a default is put in place of null first, and a struct or
 //! list of structs that is too small is made wider ("Structs", "Lists", "Default Values").
-ghost use Rattle.std.specs.Prelude.{◌≡◌, ◌+◌, ◌*◌, ◌^◌, ◌<◌, ◌≤◌, true, IsNone, IsOk, IfOk, IfErr, OnOk, OnErr, Result};
+ghost use Rattle.std.specs.Prelude.{◌-◌, ◌≡◌, ◌+◌, ◌*◌, ◌^◌, ◌<◌, ◌≤◌, true, IsNone, IsOk, IfOk, IfErr, OnOk, OnErr, Result};
 ghost use Rattle.capnp_making.specs.declared.existing.ExistingBytes.{ExistingBytes};
 ghost use Rattle.capnp_making.specs.Existing.{BytesLieIn, data_in, is_unfound, text_in};
-ghost use Rattle.capnp_making.specs.Memory.{KeepsMemory, TakesWords};
+ghost use Rattle.capnp_format.specs.Forest.{target};
+ghost use Rattle.capnp_format.specs.Segments.{word_at};
+ghost use Rattle.capnp_format.specs.Word.{struct_word};
+ghost use Rattle.capnp_making.specs.Memory.{KeepsMemory, StandsBehind, TakesWords, start_of};
 ghost use Rattle.capnp_making.specs.Stored.{IsStored};
 ghost use Rattle.capnp_words.specs.Sizes.{size_number};
 ghost use Rattle.capnp_readers.specs.Readers.{IsListPlace};
+ghost use Rattle.capnp_widening.specs.Opening.{IsNoWider};
 ghost use Rattle.capnp_widening.specs.RowsRemade.{RefusesWider};
-ghost use Rattle.capnp_widening.specs.Widened.{IsNoWider};
 ghost use Rattle.capnp_words.specs.declared.error.ErrorKind.{ErrorKind};
 ghost use Rattle.capnp_builders.specs.Defaults.{IsShortDefault, DefaultFits, IsIgnoredDefault, object_default, PutsDefaultOver};
 ghost use Rattle.capnp_builders.specs.Found.{FindsList, FindsBytes, IsLent};
@@ -77,13 +80,21 @@ impl<'a, A: BuilderArena> PointerBuilder<'a, A> {
         ensures taken { IsNull (built A.view self.old) → IsIgnoredDefault default.entry
             → OnOk result (TakesWords (A.view self.old.arena.now) (A.view self.new.arena.now)
             self.old.segment (size.data_words + size.pointers)) }
+        ensures empty { IsNull (built A.view self.old) → IsIgnoredDefault default.entry
+            → size.data_words + size.pointers ≡ 0
+            → OnOk result (word_at (A.view self.new.arena.now).words self.old.segment self.old.at
+            ≡ struct_word (2 ^ 30 - 1) 0 0) }
+        ensures behind { IsNull (built A.view self.old) → IsIgnoredDefault default.entry
+            → OnOk result (StandsBehind (A.view self.old.arena.now) self.old.segment
+            (size.data_words + size.pointers)
+            (start_of (target (A.view self.new.arena.now).words self.old.segment self.old.at))) }
         ensures refused { IsNull (built A.view self.old) → IsIgnoredDefault default.entry
             → OnErr result ((A.view self.new.arena.now).words ≡ (A.view self.old.arena.now).words) }
         ensures wide { IfOk result (λ place.
             (64 * size.data_words ≤ place.bits) × (size.pointers ≤ place.pointers)) }
         ensures aligned { IfOk result IsAligned }
         ensures set { (IsNull (built A.view self.old) → ⊥)
-            → IfErr result (IsNoWider (calling A.view self.old self.new)) }
+            → IfErr result (IsNoWider size (calling A.view self.old self.new)) }
         ensures memory { ChangesWords result (A.view self.old.arena.now)
             (A.view self.new.arena.now) }
         ensures there { OfStored (built A.view self.old) (λ t. IsThere (built A.view self.new)) }

@@ -44,7 +44,11 @@ returns-in-Err-widen_list-clause-refused g c = λ t x. c.in-Err-widen_list.ensur
 pub returns-in-Err-widen_list-clause-named : goal.returns-in-Err-widen_list-clause-named
 returns-in-Err-widen_list-clause-named g c = elim c.in-Err-widen_list.ensures.named [
   | inl (same, named) ↦ inl (same, λ t x. named t (x, sym (sym (ap Ok c.in-Ok-Some.field-0-is) ∙ c.in-Ok-Some.ensures.found t x)))
-  | inr growth ↦ inr growth
+  | inr growth ↦ inr (record {
+    name = growth.name;
+    memory = growth.memory;
+    full = λ t u x e. growth.full t u (x, sym (sym (ap Ok c.in-Ok-Some.field-0-is) ∙ c.in-Ok-Some.ensures.found t x)) e;
+  })
 ]
 
 pub returns-in-Err-clause-memory : goal.returns-in-Err-clause-memory

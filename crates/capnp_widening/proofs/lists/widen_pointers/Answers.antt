@@ -1,10 +1,11 @@
 use Rattle.std.proofs.Common.{inl, inr, refl}
 use Rattle.capnp_format.specs.Segments.{Segments}
+use Rattle.capnp_words.specs.declared.wire_pointer.StructSize.{StructSize}
 use Rattle.capnp_arena.specs.View.{View}
 use Rattle.capnp_making.proofs.Outcomes.{on_err_so}
 use Rattle.capnp_widening.proofs.Listed.{if_ok_both, if_err_so}
 use Rattle.capnp_widening.proofs.AnyRows.{rows_inside}
-use Rattle.capnp_widening.proofs.ListRooms.{pointers_are, rows_fit, rows_few}
+use Rattle.capnp_widening.proofs.ListRooms.{pointers_are, rows_fit, rows_few, rows_refused}
 use Rattle.capnp_widening.proofs.PlainLists.{pointers_widened_to, pointers_left_as, pointers_refused}
 use Rattle.capnp_widening.proofs.lists.widen_pointers.Goals as goal
 
@@ -22,10 +23,13 @@ returns-clause-refused g c =
 
 pub returns-clause-named : goal.returns-clause-named
 returns-clause-named g c =
-    let S : Segments = (g.A.BuilderArena.view c.args.arena.now).words in
+    let a : View = g.A.BuilderArena.view c.args.arena.now in
+    let b : View = g.A.BuilderArena.view c.widen_rows.new.arena in
+    let wide : StructSize = record { data_words = c.args.size.data_words; pointers = c.greater.result } in
     if_err_so c.widen_rows.result _ _ c.widen_rows.ensures.named (λ k n. elim n [
-      | inl (same, refused) ↦ inl (same, pointers_refused S c.args.id c.args.at c.args.old c.args.size _ k c.requires.kind refl c.greater.ensures refused)
-      | inr growth ↦ inr growth
+      | inl (same, refused) ↦ inl (same, pointers_refused a.words c.args.id c.args.at c.args.old c.args.size _ k c.requires.kind refl c.greater.ensures refused)
+      | inr (memory, full) ↦ inr (rows_refused a b c.args.id c.args.at c.args.old _ c.args.size wide k memory full
+          (λ t u i e. pointers_are a.words c.args.id c.args.at t u c.args.old c.args.size wide c.requires.kind refl c.greater.ensures i e))
     ])
 
 pub returns-clause-fits : goal.returns-clause-fits

@@ -1,11 +1,12 @@
 use Rattle.std.proofs.Common.{◌≤◌, inl, inr, arith, rules}
 use Rattle.capnp_format.specs.Segments.{Segments}
+use Rattle.capnp_words.specs.declared.wire_pointer.StructSize.{StructSize}
 use Rattle.capnp_arena.specs.View.{View}
 use Rattle.capnp_making.proofs.Outcomes.{on_err_so}
 use Rattle.capnp_widening.proofs.Listed.{if_ok_both, if_err_so}
 use Rattle.capnp_widening.proofs.AnyRows.{rows_inside}
-use Rattle.capnp_widening.proofs.ListRooms.{structs_are, rows_fit, rows_few}
-use Rattle.capnp_widening.proofs.StructLists.{structs_kept, structs_widened_to, structs_left_as, structs_refused}
+use Rattle.capnp_widening.proofs.ListRooms.{structs_are, rows_fit, rows_few, rows_refused}
+use Rattle.capnp_widening.proofs.StructLists.{rows_of, structs_kept, structs_widened_to, structs_left_as, structs_refused}
 use Rattle.capnp_widening.proofs.lists.widen_structs.Goals.{else-size-had-via-then-size-had+else-size-had-2, else-size-had-via-else-size-had}
 use Rattle.capnp_widening.proofs.lists.widen_structs.Goals as goal
 
@@ -35,12 +36,16 @@ returns-clause-refused g c =
 
 pub returns-clause-named : goal.returns-clause-named
 returns-clause-named g c =
-    let S : Segments = (g.A.BuilderArena.view c.args.arena.now).words in
-    let narrow : c.args.size.data_words ≤ c.args.old.struct_size.data_words → c.args.size.pointers ≤ c.args.old.struct_size.pointers → ⊥ =
+    let a : View = g.A.BuilderArena.view c.args.arena.now in
+    let b : View = g.A.BuilderArena.view c.widen_rows.new.arena in
+    let l = c.args.old in
+    let wide : StructSize = record { data_words = c.greater.result; pointers = c.greater-2.result } in
+    let narrow : c.args.size.data_words ≤ l.struct_size.data_words → c.args.size.pointers ≤ l.struct_size.pointers → ⊥ =
     λ l m. elim c.else-size-had.branch [ else-size-had-via-then-size-had+else-size-had-2 w ↦ omega arith | else-size-had-via-else-size-had w ↦ omega arith ] in
     if_err_so c.widen_rows.result _ _ c.widen_rows.ensures.named (λ k n. elim n [
-      | inl (same, refused) ↦ inl (same, structs_refused S c.args.id c.args.at c.args.old c.args.size _ k c.requires.kind narrow c.greater.ensures c.greater-2.ensures (rw c.saturating_sub.ensures at refused))
-      | inr growth ↦ inr growth
+      | inl (same, refused) ↦ inl (same, structs_refused a.words c.args.id c.args.at l c.args.size _ k c.requires.kind narrow c.greater.ensures c.greater-2.ensures (rw c.saturating_sub.ensures at refused))
+      | inr (memory, full) ↦ inr (rows_refused a b c.args.id c.args.at l (rows_of l) c.args.size wide k memory full
+          (λ t u i e. structs_are a.words c.args.id c.args.at t u l c.args.size wide c.requires.kind narrow c.greater.ensures c.greater-2.ensures i e))
     ])
 
 pub returns-clause-stays : goal.returns-clause-stays

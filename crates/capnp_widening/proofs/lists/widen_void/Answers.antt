@@ -1,12 +1,12 @@
-use Rattle.std.proofs.Common.{inl, inr, ap, sym, ◌∙◌}
+use Rattle.std.proofs.Common.{ℕ, inl, inr, ap, sym, ◌∙◌}
 use Rattle.capnp_format.specs.Word.{list_count}
 use Rattle.capnp_format.specs.Segments.{Segments}
 use Rattle.capnp_arena.specs.View.{View}
 use Rattle.capnp_making.proofs.Outcomes.{on_err_so}
 use Rattle.capnp_widening.proofs.Listed.{if_ok_both, if_err_so}
 use Rattle.capnp_widening.proofs.AnyRows.{rows_inside}
-use Rattle.capnp_widening.proofs.ListRooms.{void_are, rows_fit, rows_few}
-use Rattle.capnp_widening.proofs.PlainLists.{void_widened_to, void_left_as, void_refused}
+use Rattle.capnp_widening.proofs.ListRooms.{void_are, rows_fit, rows_few, rows_refused}
+use Rattle.capnp_widening.proofs.PlainLists.{void_of, void_widened_to, void_left_as, void_refused}
 use Rattle.capnp_widening.proofs.lists.widen_void.Goals as goal
 
 pub returns-clause-widened : goal.returns-clause-widened
@@ -23,13 +23,16 @@ returns-clause-refused g c =
 
 pub returns-clause-named : goal.returns-clause-named
 returns-clause-named g c =
-    let S : Segments = (g.A.BuilderArena.view c.args.arena.now).words in
-    if_err_so c.widen_rows.result _ _ c.widen_rows.ensures.named (λ k n. elim n [
+    let a : View = g.A.BuilderArena.view c.args.arena.now in
+    let b : View = g.A.BuilderArena.view c.widen_rows.new.arena in
+    let n : ℕ = c.list_element_count.result in
+    if_err_so c.widen_rows.result _ _ c.widen_rows.ensures.named (λ k why. elim why [
       | inl (same, refused) ↦ inl (
         same,
-        void_refused S c.args.id c.args.at c.list_element_count.result c.args.old c.args.size k c.requires.kind (λ a l. c.list_element_count.ensures.value ∙ ap list_count (sym (c.description.ensures a l))) refused,
+        void_refused a.words c.args.id c.args.at n c.args.old c.args.size k c.requires.kind (λ a l. c.list_element_count.ensures.value ∙ ap list_count (sym (c.description.ensures a l))) refused,
       )
-      | inr growth ↦ inr growth
+      | inr (memory, full) ↦ inr (rows_refused a b c.args.id c.args.at c.args.old (void_of c.args.old n) c.args.size c.args.size k memory full
+          (λ t u i e. void_are a.words c.args.id c.args.at n t u c.args.old c.args.size c.requires.kind (λ o l. c.list_element_count.ensures.value ∙ ap list_count (sym (c.description.ensures o l))) i e))
     ])
 
 pub returns-clause-fits : goal.returns-clause-fits

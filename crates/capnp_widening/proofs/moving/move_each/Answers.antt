@@ -35,7 +35,7 @@ returns-in-Err-clause-some g c =
     moves_some S _ c.args.from.segment c.args.from.at c.args.to.segment c.args.to.at c.loop-i.i c.args.count (omega (arith, c.loop-i-test.true)) (subst (λ T. Moves S T ms) (sym c.in-Err.ensures.refused) c.loop-i.invariant.moves)
 
 pub returns-in-Err-clause-full : goal.returns-in-Err-clause-full
-returns-in-Err-clause-full g c = (1, words_refused_after (g.A.BuilderArena.view c.args.arena.now) (g.A.BuilderArena.view c.loop-i.arena) (g.A.BuilderArena.view c.move_pointer.new.arena) 1 c.in-Err.k c.loop-i.invariant.memory c.in-Err.ensures.full)
+returns-in-Err-clause-full g c = (omega (arith, c.loop-i-test.true), words_refused_after (g.A.BuilderArena.view c.args.arena.now) (g.A.BuilderArena.view c.loop-i.arena) (g.A.BuilderArena.view c.move_pointer.new.arena) 1 c.in-Err.k c.loop-i.invariant.memory c.in-Err.ensures.full)
 
 pub returns-in-Err-clause-few : goal.returns-in-Err-clause-few
 returns-in-Err-clause-few g c = omega (arith, c.loop-i.invariant.few, c.loop-i-test.true, ap all_words c.in-Err.ensures.refused)

@@ -2,7 +2,7 @@ use Rattle.std.proofs.Common.{◌≡◌, ◌+◌, ◌*◌, ◌≤◌, ℕ, le_tr
 use Rattle.capnp_arena.specs.View.{View}
 use Rattle.capnp_format.specs.Segments.{Segments}
 use Rattle.capnp_making.proofs.BelowElements.{element_within, next_place}
-use Rattle.capnp_making.proofs.Memory.{keeps_both}
+use Rattle.capnp_making.proofs.Memory.{keeps_both, words_refused_after}
 use Rattle.capnp_widening.specs.Moved.{rows_of_moves, Moves}
 use Rattle.capnp_widening.specs.Rooms.{GrowsByAtMost}
 use Rattle.capnp_widening.proofs.Rooms.{room_left, less_room}
@@ -55,3 +55,10 @@ returns-in-Err-clause-fits g c = λ h.
     let n : ℕ = 2 * c.args.pointers in
     let within : m + n ≤ 2 * (c.args.count * c.args.pointers) = omega (arith, element_within c.args.pointers c.args.count c.loop-i.i c.loop-i-test.true) in
     c.in-Err.ensures.fits (room_left a b m n c.loop-i.invariant.longer c.loop-i.invariant.few c.loop-i.invariant.memory.1 (less_room a (2 * (c.args.count * c.args.pointers)) (m + n) within h)))
+
+pub returns-in-Err-clause-full : goal.returns-in-Err-clause-full
+returns-in-Err-clause-full g c =
+    let (some, refused) = c.in-Err.ensures.full in (
+      omega (arith, some, element_within c.args.pointers c.args.count c.loop-i.i c.loop-i-test.true),
+      words_refused_after (g.A.BuilderArena.view c.args.arena.now) (g.A.BuilderArena.view c.loop-i.arena) (g.A.BuilderArena.view c.move_row.new.arena) 1 c.in-Err.k c.loop-i.invariant.memory refused,
+    )

@@ -1,11 +1,12 @@
-use Rattle.std.proofs.Common.{◌≡◌, ◌∙◌, ◌≤◌, ◌<◌, ◌+◌, ◌*◌, ◌^◌, ℕ, Err, inl, refl, sym, ap₂, subst, arith, rules}
+use Rattle.std.proofs.Common.{◌≡◌, ◌∙◌, ◌≤◌, ◌<◌, ◌+◌, ◌*◌, ◌^◌, ℕ, Err, inl, inr, refl, sym, ap₂, subst, arith, rules}
 use Rattle.capnp_words.specs.declared.error.ErrorKind.TheVariants.{MessageTooLarge}
+use Rattle.capnp_words.specs.declared.wire_pointer.StructSize.{StructSize}
 use Rattle.capnp_format.specs.Segments.{Segments}
 use Rattle.capnp_arena.specs.View.{View}
 use Rattle.capnp_making.proofs.Outcomes.{if_ok_so, on_err_so}
 use Rattle.capnp_widening.specs.Widened.{limited}
-use Rattle.capnp_widening.proofs.Listed.{too_many}
-use Rattle.capnp_widening.proofs.ListRooms.{numbers_take, numbers_fit, numbers_small}
+use Rattle.capnp_widening.proofs.Listed.{if_err_both, too_many}
+use Rattle.capnp_widening.proofs.ListRooms.{numbers_take, numbers_unmade, numbers_fit, numbers_small}
 use Rattle.capnp_widening.proofs.NumberLists.{numbers_inside}
 use Rattle.capnp_widening.proofs.PlainLists.{numbers_widened_to, numbers_refused}
 use Rattle.capnp_widening.proofs.StructSteps.{nothing_grown}
@@ -78,3 +79,11 @@ returns-clause-few g c = λ t u i e.
     (let v : View = g.A.BuilderArena.view c.args.arena.now in
     let words = numbers_take v.words c.args.id c.args.at t u c.args.old c.args.size (record { data_words = c.greater.result; pointers = c.args.size.pointers }) c.requires.kind.0 c.requires.kind.1 c.greater.ensures refl i e in
     omega (arith, c.remake_numbers.ensures.few, words.0))
+
+pub returns-clause-named : goal.returns-clause-named
+returns-clause-named g c =
+    let a : View = g.A.BuilderArena.view c.args.arena.now in
+    let b : View = g.A.BuilderArena.view c.remake_numbers.new.arena in
+    let wide : StructSize = record { data_words = c.greater.result; pointers = c.args.size.pointers } in
+    if_err_both c.remake_numbers.result _ _ _ c.remake_numbers.ensures.memory c.remake_numbers.ensures.full (λ k memory full. inr (numbers_unmade a b c.args.id c.args.at _ c.args.old c.args.size k memory full
+    (λ t u i e. numbers_take a.words c.args.id c.args.at t u c.args.old c.args.size wide c.requires.kind.0 c.requires.kind.1 c.greater.ensures refl i e)))

@@ -41,3 +41,15 @@ returns-else-is_wide-clause-taken g c = λ null. absurd (some_struct _ (c.in-Som
 
 pub returns-else-is_wide-clause-refused : goal.returns-else-is_wide-clause-refused
 returns-else-is_wide-clause-refused g c = λ null. absurd (some_struct _ (c.in-Some.ensures.found Null (null_stored (g.A.BuilderArena.view c.args.arena.now).words c.args.id c.args.at c.requires.place null)))
+
+pub returns-then-is_wide-clause-empty : goal.returns-then-is_wide-clause-empty
+returns-then-is_wide-clause-empty g c = λ null none. absurd (some_struct _ (c.in-Some.ensures.found Null (null_stored (g.A.BuilderArena.view c.args.arena.now).words c.args.id c.args.at c.requires.place null)))
+
+pub returns-else-is_wide-clause-empty : goal.returns-else-is_wide-clause-empty
+returns-else-is_wide-clause-empty g c = λ null none. absurd (some_struct _ (c.in-Some.ensures.found Null (null_stored (g.A.BuilderArena.view c.args.arena.now).words c.args.id c.args.at c.requires.place null)))
+
+pub returns-then-is_wide-clause-behind : goal.returns-then-is_wide-clause-behind
+returns-then-is_wide-clause-behind g c = λ null. absurd (some_struct _ (c.in-Some.ensures.found Null (null_stored (g.A.BuilderArena.view c.args.arena.now).words c.args.id c.args.at c.requires.place null)))
+
+pub returns-else-is_wide-clause-behind : goal.returns-else-is_wide-clause-behind
+returns-else-is_wide-clause-behind g c = λ null. absurd (some_struct _ (c.in-Some.ensures.found Null (null_stored (g.A.BuilderArena.view c.args.arena.now).words c.args.id c.args.at c.requires.place null)))

@@ -24,7 +24,7 @@ returns-in-Ok-clause-begun g c =
     )
 
 pub returns-in-Err-clause-full : goal.returns-in-Err-clause-full
-returns-in-Err-clause-full g c = (1 + c.args.count * c.total.result, c.in-Err.ensures.full)
+returns-in-Err-clause-full g c = rw c.total.ensures at c.in-Err.ensures.full
 
 -- The words of the list are taken, and a pad at most.
 pub returns-in-Ok-clause-few : goal.returns-in-Ok-clause-few

@@ -1,8 +1,7 @@
 use Rattle.std.proofs.Common.{◌≡◌, ◌*◌, sym, subst, arith, rules}
 use Rattle.capnp_arena.specs.View.{View}
 use Rattle.capnp_format.specs.Segments.{Segments}
-use Rattle.capnp_making.specs.Memory.{RefusesGrowth}
-use Rattle.capnp_making.proofs.Memory.{keeps_written, words_refused_after, refused_before}
+use Rattle.capnp_making.proofs.Memory.{keeps_written, words_refused_after, words_refused_before}
 use Rattle.capnp_widening.proofs.Movings.{none_moved}
 use Rattle.capnp_widening.specs.Rooms.{HasSomeRoom}
 use Rattle.capnp_widening.proofs.Rooms.{same_words, room_written}
@@ -38,9 +37,10 @@ returns-in-Err-clause-full g c =
     let D : View = g.A.BuilderArena.view c.copy_rows.new.arena in
     let P : View = g.A.BuilderArena.view c.move_rows.new.arena in
     let R : View = g.A.BuilderArena.view c.unmove_rows.new.arena in
-    let (n, r) = c.in-Err.ensures.full in
-    let first : RefusesGrowth S P c.in-Err.k = (n, words_refused_after S D P n c.in-Err.k (keeps_written S D D.words c.copy_rows.ensures.limits) r) in
-    refused_before S P R c.in-Err.k first c.unmove_rows.ensures.limits c.unmove_rows.ensures.pruned
+    let k = c.in-Err.k in
+    let (some, refused) = c.in-Err.ensures.full in
+    let moved = words_refused_after S D P 1 k (keeps_written S D D.words c.copy_rows.ensures.limits) refused in
+    (rw c.from-pointers.ensures at some, words_refused_before S P R 1 k moved c.unmove_rows.ensures.limits c.unmove_rows.ensures.pruned)
 
 -- Two words for a pointer are taken at most.
 pub returns-then-pointers-eq0-clause-few : goal.returns-then-pointers-eq0-clause-few
@@ -66,3 +66,9 @@ returns-in-Err-clause-fits g c = λ h.
     let D : View = g.A.BuilderArena.view c.copy_rows.new.arena in
     let left = room_written S D (2 * (c.args.old.count * c.args.old.size.pointers)) c.copy_rows.ensures.limits c.copy_rows.ensures.copied.segments c.copy_rows.ensures.copied.words h in
     c.in-Err.ensures.fits (subst (λ m. HasSomeRoom D (2 * (c.args.old.count * m))) (sym c.from-pointers.ensures) left))
+
+pub returns-in-Err-clause-longer : goal.returns-in-Err-clause-longer
+returns-in-Err-clause-longer g c = record {
+  segments = omega (arith, c.copy_rows.ensures.copied.segments, c.in-Err.ensures.longer.segments, c.unmove_rows.ensures.pruned.segments);
+  words = λ x. omega (arith, c.copy_rows.ensures.copied.words x, c.in-Err.ensures.longer.words x, c.unmove_rows.ensures.pruned.words x);
+}

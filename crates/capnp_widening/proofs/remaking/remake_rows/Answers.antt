@@ -1,8 +1,7 @@
 use Rattle.std.proofs.Common.{◌∙◌, ◌≤◌, ◌*◌, inl, inr, ℕ, length, sym, ap, arith}
 use Rattle.capnp_arena.specs.View.{View, KeepsLimits}
 use Rattle.capnp_format.specs.Segments.{Segments}
-use Rattle.capnp_making.specs.Memory.{RefusesGrowth}
-use Rattle.capnp_making.proofs.Memory.{keeps_both, keeps_written, keeps_then_spends, spends_then_limits, words_refused_after, refused_before}
+use Rattle.capnp_making.proofs.Memory.{keeps_both, keeps_written, keeps_then_spends, spends_then_limits, words_refused_after, words_refused_before}
 use Rattle.capnp_widening.proofs.AnyRows.{rows_remade, rows_left}
 use Rattle.capnp_widening.proofs.ListSteps.{ListSteps, ListUndone}
 use Rattle.capnp_widening.proofs.Rooms.{same_words}
@@ -101,9 +100,9 @@ returns-in-Err-fill_rows-clause-full g c =
     let B : View = g.A.BuilderArena.view c.begin_list.new.arena in
     let U : View = g.A.BuilderArena.view c.fill_rows.new.arena in
     let Z : View = g.A.BuilderArena.view c.zero_part-in-Err-fill_rows.new.arena in
-    let (n, r) = c.in-Err-fill_rows.ensures.full in
-    let first : RefusesGrowth S U c.in-Err-fill_rows.k = (n, words_refused_after S B U n c.in-Err-fill_rows.k c.in-Ok.ensures.granted r) in
-    refused_before S U Z c.in-Err-fill_rows.k first c.zero_part-in-Err-fill_rows.ensures.limits c.zero_part-in-Err-fill_rows.ensures.pruned
+    let k = c.in-Err-fill_rows.k in
+    let (some, refused) = c.in-Err-fill_rows.ensures.full in
+    inr (some, words_refused_before S U Z 1 k (words_refused_after S B U 1 k c.in-Ok.ensures.granted refused) c.zero_part-in-Err-fill_rows.ensures.limits c.zero_part-in-Err-fill_rows.ensures.pruned)
 
 -- The words of the list are taken, a pad at most, and two words for a pointer at most.
 pub returns-in-Ok-fill_rows-clause-few : goal.returns-in-Ok-fill_rows-clause-few

@@ -1,10 +1,10 @@
-use Rattle.std.proofs.Common.{◌+◌, ◌*◌, ℕ, sym, ap, subst, ◌∙◌, arith}
+use Rattle.std.proofs.Common.{inl, inr, ◌+◌, ◌*◌, ℕ, sym, ap, subst, ◌∙◌, arith}
 use Rattle.capnp_arena.specs.View.{View}
 use Rattle.capnp_format.specs.Segments.{Segments}
 use Rattle.capnp_making.specs.declared.making.Start.{Start}
-use Rattle.capnp_making.specs.Memory.{HasRoom, RefusesGrowth}
+use Rattle.capnp_making.specs.Memory.{HasRoom}
 use Rattle.capnp_making.specs.Near.{HasOwnRoom}
-use Rattle.capnp_making.proofs.Memory.{keeps_both, keeps_written, words_refused_after, refused_before}
+use Rattle.capnp_making.proofs.Memory.{keeps_both, keeps_written, words_refused_after, words_refused_before}
 use Rattle.capnp_widening.specs.Rooms.{HasSomeRoom}
 use Rattle.capnp_widening.proofs.Rooms.{same_words, room_written}
 use Rattle.capnp_widening.proofs.StructSteps.{StructSteps, struct_rehoused, struct_leads, StructUndone, struct_left, nothing_grown}
@@ -74,7 +74,7 @@ pub returns-in-Err-clause-refused : goal.returns-in-Err-clause-refused
 returns-in-Err-clause-refused g c = λ t i. nothing_grown (g.A.BuilderArena.view c.args.arena.now).words (g.A.BuilderArena.view c.take.new.arena).words c.in-Err.ensures.refused
 
 pub returns-in-Err-clause-full : goal.returns-in-Err-clause-full
-returns-in-Err-clause-full g c = (c.total.result, c.in-Err.ensures.full)
+returns-in-Err-clause-full g c = inl (rw c.total.ensures at c.in-Err.ensures.full)
 
 pub returns-in-Err-move_row-clause-full : goal.returns-in-Err-move_row-clause-full
 returns-in-Err-move_row-clause-full g c =
@@ -84,11 +84,12 @@ returns-in-Err-move_row-clause-full g c =
     let P : View = g.A.BuilderArena.view c.move_row.new.arena in
     let U : View = g.A.BuilderArena.view c.unmove_row.new.arena in
     let Z : View = g.A.BuilderArena.view c.zero_part-in-Err-move_row.new.arena in
-    let (n, r) = c.in-Err-move_row.ensures.full in
+    let k = c.in-Err-move_row.k in
+    let (some, refused) = c.in-Err-move_row.ensures.full in
     let (grown, near) = c.in-Ok.ensures.taken in
     let keeps = keeps_both old T D grown.grows.segments c.in-Ok.ensures.granted (keeps_written T D D.words c.copy_words.ensures.limits) in
-    let first : RefusesGrowth old P c.in-Err-move_row.k = (n, words_refused_after old D P n c.in-Err-move_row.k keeps r) in
-    refused_before old U Z c.in-Err-move_row.k (refused_before old P U c.in-Err-move_row.k first c.unmove_row.ensures.limits c.unmove_row.ensures.pruned) c.zero_part-in-Err-move_row.ensures.limits c.zero_part-in-Err-move_row.ensures.pruned
+    let undone = words_refused_before old P U 1 k (words_refused_after old D P 1 k keeps refused) c.unmove_row.ensures.limits c.unmove_row.ensures.pruned in
+    inr (rw c.from-count.ensures at some, words_refused_before old U Z 1 k undone c.zero_part-in-Err-move_row.ensures.limits c.zero_part-in-Err-move_row.ensures.pruned)
 
 -- Words are taken for the struct, and then two for a pointer at most.
 pub returns-in-Ok-move_row-clause-few : goal.returns-in-Ok-move_row-clause-few

@@ -2,13 +2,13 @@ use Rattle.std.proofs.Common.{◌≡◌, ◌+◌, ◌^◌, ◌<◌, Ok, Err, len
 use Rattle.capnp_arena.specs.View.{View}
 use Rattle.capnp_format.specs.Segments.{segment, word_at}
 use Rattle.capnp_format.specs.Tree.{Null}
-use Rattle.capnp_making.specs.Memory.{TakesWords}
+use Rattle.capnp_format.specs.Forest.{target}
+use Rattle.capnp_making.specs.Memory.{TakesWords, StandsBehind, start_of}
 use Rattle.capnp_making.proofs.FillingMade.{null_stored}
 use Rattle.capnp_making.proofs.Memory.{words_in}
 use Rattle.capnp_making.proofs.Zeros.{there}
-use Rattle.capnp_widening.specs.Opening.{LeadsToOne, OpensStruct, struct_opened}
+use Rattle.capnp_widening.specs.Opening.{IsNoWider, LeadsToOne, OpensStruct, struct_opened}
 use Rattle.capnp_widening.specs.Rooms.{OpeningFits}
-use Rattle.capnp_widening.specs.Widened.{IsNoWider}
 use Rattle.capnp_builders.specs.Defaults.{object_default}
 use Rattle.capnp_builders.specs.Opening.{IsStructGiven}
 use Rattle.capnp_builders.proofs.DefaultRooms.{null_left, then_fits, refused_default}
@@ -79,7 +79,7 @@ returns-in-Err-open_struct-clause-set g c = λ some.
     let s = c.args.self.now.segment in
     let p = c.args.self.now.at in
     let same = (c.in-Ok.ensures.stays some).1 in
-    subst (λ (v : View). IsNoWider (call_at s p v b) c.in-Err-open_struct.k) same (c.in-Err-open_struct.ensures.named (λ null. some (subst (λ (v : View). word_at v.words s p ≡ 0) same null))))
+    subst (λ (v : View). IsNoWider c.args.size (call_at s p v b) c.in-Err-open_struct.k) same (c.in-Err-open_struct.ensures.named (λ null. some (subst (λ (v : View). word_at v.words s p ≡ 0) same null))))
 
 -- Where null is left by the default, a new struct is made in the message as it was.
 pub returns-in-Ok-open_struct-clause-taken : goal.returns-in-Ok-open_struct-clause-taken
@@ -91,6 +91,25 @@ returns-in-Ok-open_struct-clause-taken g c = λ null none.
     let p = c.args.self.now.at in
     let same : m ≡ a = null_left (object_default c.args.default Null) s p a m (Ok c.in-Ok.field-0) none (c.in-Ok.ensures.put Null (null_stored a.words s p c.requires.there null)) in
     subst (λ (v : View). TakesWords v b s (c.args.size.data_words + c.args.size.pointers)) same (c.in-Ok-open_struct.ensures.taken (subst (λ (v : View). word_at v.words s p ≡ 0) (sym same) null)))
+
+pub returns-in-Ok-open_struct-clause-empty : goal.returns-in-Ok-open_struct-clause-empty
+returns-in-Ok-open_struct-clause-empty g c = λ null none nothing.
+    (let a : View = g.A.BuilderArena.view c.args.self.now.arena.now in
+    let m : View = g.A.BuilderArena.view c.put_default.new.arena in
+    let s = c.args.self.now.segment in
+    let p = c.args.self.now.at in
+    let same : m ≡ a = null_left (object_default c.args.default Null) s p a m (Ok c.in-Ok.field-0) none (c.in-Ok.ensures.put Null (null_stored a.words s p c.requires.there null)) in
+    c.in-Ok-open_struct.ensures.empty (subst (λ (v : View). word_at v.words s p ≡ 0) (sym same) null) nothing)
+
+pub returns-in-Ok-open_struct-clause-behind : goal.returns-in-Ok-open_struct-clause-behind
+returns-in-Ok-open_struct-clause-behind g c = λ null none.
+    (let a : View = g.A.BuilderArena.view c.args.self.now.arena.now in
+    let m : View = g.A.BuilderArena.view c.put_default.new.arena in
+    let b : View = g.A.BuilderArena.view c.open_struct.new.arena in
+    let s = c.args.self.now.segment in
+    let p = c.args.self.now.at in
+    let same : m ≡ a = null_left (object_default c.args.default Null) s p a m (Ok c.in-Ok.field-0) none (c.in-Ok.ensures.put Null (null_stored a.words s p c.requires.there null)) in
+    subst (λ (v : View). StandsBehind v s (c.args.size.data_words + c.args.size.pointers) (start_of (target b.words s p))) same (c.in-Ok-open_struct.ensures.behind (subst (λ (v : View). word_at v.words s p ≡ 0) (sym same) null)))
 
 pub returns-in-Err-open_struct-clause-refused : goal.returns-in-Err-open_struct-clause-refused
 returns-in-Err-open_struct-clause-refused g c = λ null none.

@@ -1,5 +1,4 @@
-use Rattle.std.proofs.Common.{Some, None, refl, sym, ap, subst}
-use Rattle.capnp_arena.specs.View.{View}
+use Rattle.std.proofs.Common.{Some, None, refl, sym, subst}
 use Rattle.capnp_format.specs.Tree.{Null, Capability}
 use Rattle.capnp_edits.specs.declared.edit.tasks.Task.TheVariants.{Point}
 use Rattle.capnp_edits.specs.Edits.{place_of}
@@ -13,7 +12,7 @@ returns-in-Some-clause-pointed g c =
     let new = g.A.BuilderArena.view c.set_capability.new.self.arena.now in
     let place = place_of c.args.pointer.now in
     subst (λ i. IsDoneAt old new place (Point i) None) (sym c.in-Some.is)
-    (pointed old new place (Some c.in-Some.index) (Capability c.in-Some.index) (λ t. refl) c.set_capability.ensures.made (ap (λ (v : View). v.refusals) c.set_capability.ensures.limits) c.set_capability.ensures.only.words)
+    (pointed old new place (Some c.in-Some.index) (Capability c.in-Some.index) (λ t. refl) c.set_capability.ensures.made c.set_capability.ensures.limits c.set_capability.ensures.only.words)
 
 pub returns-in-None-clause-pointed : goal.returns-in-None-clause-pointed
 returns-in-None-clause-pointed g c =
@@ -21,4 +20,4 @@ returns-in-None-clause-pointed g c =
     let new = g.A.BuilderArena.view c.clear.new.self.arena.now in
     let place = place_of c.args.pointer.now in
     subst (λ i. IsDoneAt old new place (Point i) None) (sym c.in-None.is)
-    (pointed old new place None Null (λ t. refl) c.clear.ensures.cleared (ap (λ (v : View). v.refusals) c.clear.ensures.limits) c.clear.ensures.only.words)
+    (pointed old new place None Null (λ t. refl) c.clear.ensures.cleared c.clear.ensures.limits c.clear.ensures.only.words)

@@ -1,0 +1,162 @@
+-- Edits whose words fit the first segment.
+use Rattle.std.proofs.Common.{◌≡◌, ◌≢◌, ◌⊎◌, inl, inr, ℕ, ◌+◌, ◌<◌, ◌≤◌, true, List, [], ◌∷◌, length, Option, Some, None, IfSome, IsSomeAnd, refl, sym, ap, ◌∙◌, subst, arith}
+use Rattle.std.proofs.lemmas.Bool.{cases_eq}
+use Rattle.capnp_words.specs.declared.error.ErrorKind.{ErrorKind}
+use Rattle.capnp_words.specs.declared.error.ErrorKind.TheVariants.{AllocationFailed, MessageTooLarge, NoSuchPlace}
+use Rattle.capnp_arena.specs.View.{View}
+use Rattle.capnp_format.specs.Forest.{IsForest, cover}
+use Rattle.capnp_format.specs.Segments.{Segments, segment}
+use Rattle.capnp_format.specs.Tree.{Tree}
+use Rattle.capnp_making.specs.Path.{word_interval}
+use Rattle.capnp_making.specs.Stored.{IsStored}
+use Rattle.capnp_making.proofs.Extents.{once_held, times-first}
+use Rattle.capnp_making.proofs.Replaced.{forest_stored, stored_within}
+use Rattle.capnp_readers.specs.declared.readers.PointerPlace.{PointerPlace}
+use Rattle.capnp_edits.specs.declared.edit.Edit.{Edit}
+use Rattle.capnp_edits.specs.declared.edit.path.PathEnd.{PathEnd}
+use Rattle.capnp_edits.specs.declared.edit.path.PathEnd.TheVariants.{Pointer as AtPointer, Element as AtElement}
+use Rattle.capnp_edits.specs.declared.edit.tasks.Object.{Object}
+use Rattle.capnp_edits.specs.declared.edit.tasks.Task.{Task}
+use Rattle.capnp_edits.specs.declared.edit.tasks.Task.TheVariants.{Make, Point, InStruct, Write, Search, CopyRoot}
+use Rattle.capnp_edits.specs.declared.edit.tasks.StructChange.TheVariants.{Bits, Content}
+use Rattle.capnp_edits.specs.Edits.{IsOfMemory, is_of_path, words_made}
+use Rattle.capnp_edits.specs.Fitting.{words_asked, all_asked, AsksNoMore, AllAskNoMore, AreInFirst, IsNoneOfMemory, NoneOfMemory, StaysInFirst, FittingEdits}
+use Rattle.capnp_edits.specs.Paths.{path_of, IsPathFound}
+use Rattle.capnp_edits.specs.Steps.{FitsAt, IsOfPath, IsRefusedAt, IsStep, AreSteps, TakesAt, TakesForObject, TakesNoWords}
+use Rattle.capnp_edits.specs.Tasks.{task_of}
+use Rattle.capnp_edits.proofs.Applied.{of_memory}
+
+-- a place that stores a value is in the first segment
+held_first : (S : Segments) (u q : ℕ) (x : Tree) → AreInFirst S → IsStored S u q x → u ≡ 0
+held_first S u q x first stored = elim (cases_eq u 0) [
+  | inl e ↦ e
+  | inr other ↦ absurd (omega (arith, first u other, stored.inside u q (omega (arith, times-first (word_interval u q) (cover S u q x) u q, once_held u q))))
+]
+
+-- a name of memory is none of a path
+not_of_path : (k : ErrorKind) → IsOfMemory k → is_of_path k ≡ true → ⊥
+not_of_path k (inl h) e = let same = sym e ∙ ap is_of_path h in cc
+not_of_path k (inr (n, h)) e = let same = sym e ∙ ap is_of_path h in cc
+
+-- nothing is changed
+same_first : (old new : View) (n : ℕ) → AreInFirst old.words → new ≡ old → StaysInFirst old new n
+same_first old new n first same = subst (λ (v : View). StaysInFirst old v n) (sym same) (record { words = omega arith; first = first; room = refl; refusals = refl })
+
+-- no words are taken
+kept_first : (old new : View) (n : ℕ) → AreInFirst old.words → TakesNoWords old new → StaysInFirst old new n
+kept_first old new n first x = record {
+  words = omega (arith, x.lengths 0);
+  first = λ k other. x.lengths k ∙ first k other;
+  room = ap (λ (v : View). v.room 0) x.limits;
+  refusals = ap (λ (v : View). v.refusals) x.limits;
+}
+
+-- or those of an object
+made_first : (old new : View) (place : PointerPlace) (n : ℕ) → 0 < length old.words → AreInFirst old.words → place.segment ≡ 0 → length (segment old.words 0) + n ≤ old.room 0 → TakesForObject old new place n → StaysInFirst old new n
+made_first old new place n there first here fits x =
+    let near = x.taken.near (subst (λ s. length (segment old.words s) + n ≤ old.room s) (sym here) fits) in
+    let gained = subst (λ s. length (segment new.words s) ≡ length (segment old.words s) + n) here near.gained in
+    record {
+      words = omega (arith, gained);
+      first = λ k other. near.others k (λ e. other (e ∙ here)) ∙ first k other;
+      room = x.memory.1 0 there;
+      refusals = ap (λ (v : View). v.refusals) x.memory.0;
+    }
+
+-- What is known of an edit at its place.
+record Fact (old new : View) (there : PathEnd) (task : Task) (r : Option ErrorKind) : Type 0 where
+  fits : FitsAt old task there → (k : ErrorKind) → r ≡ Some k → is_of_path k ≡ true
+  named : (k : ErrorKind) → r ≡ Some k → IsOfPath old new k ⊎ IsRefusedAt old new task k there
+  taken : (r ≡ Some NoSuchPlace → ⊥) → TakesAt old new task r there
+
+-- it is refused for its path, and nothing is changed; or done
+by_outcome : (old new : View) (n : ℕ) (r : Option ErrorKind) → AreInFirst old.words → IsNoneOfMemory r → ((k : ErrorKind) → r ≡ Some k → new ≡ old) → (r ≡ None → StaysInFirst old new n) → IsNoneOfMemory r × StaysInFirst old new n
+by_outcome old new n None first none kept done = (none, done refl)
+by_outcome old new n (Some k) first none kept done = (none, same_first old new n first (kept k refl))
+
+not_missing : (r : Option ErrorKind) → r ≡ None → r ≡ Some NoSuchPlace → ⊥
+not_missing r e f = absurd (cc)
+
+unrefused : (old new : View) (k : ErrorKind) → IsOfPath old new k ⊎ ⊥ → new ≡ old
+unrefused old new k (inl h) = h.1
+unrefused old new k (inr none) = absurd none
+
+-- so each task
+without_words : (old new : View) (n : ℕ) (r : Option ErrorKind) → AreInFirst old.words → IsNoneOfMemory r → ((k : ErrorKind) → r ≡ Some k → new ≡ old) → ((r ≡ Some NoSuchPlace → ⊥) → TakesNoWords old new) → IsNoneOfMemory r × StaysInFirst old new n
+without_words old new n r first none kept taken = by_outcome old new n r first none kept (λ e. kept_first old new n first (taken (not_missing r e)))
+
+with_object : (old new : View) (place : PointerPlace) (object : Object) (r : Option ErrorKind) → 0 < length old.words → AreInFirst old.words → place.segment ≡ 0 → length (segment old.words 0) + words_made object ≤ old.room 0 → Fact old new (AtPointer place) (Make object) r →
+    IsNoneOfMemory r × StaysInFirst old new (words_made object)
+with_object old new place object r there first here fits f =
+    let none = f.fits (inl (subst (λ s. length (segment old.words s) + words_made object ≤ old.room s) (sym here) fits)) in
+    by_outcome old new (words_made object) r first none
+    (λ k e. elim (f.named k e) [ inl h ↦ h.1 | inr why ↦ absurd (not_of_path k (of_memory old new (words_made object) k why) (none k e)) ])
+    (λ e. made_first old new place (words_made object) there first here fits (subst (λ o. TakesAt old new (Make object) o (AtPointer place)) e (f.taken (not_missing r e))))
+
+at_place : (old new : View) (there : PathEnd) (task : Task) (r : Option ErrorKind) → 0 < length old.words → AreInFirst old.words → ((place : PointerPlace) → there ≡ AtPointer place → place.segment ≡ 0) → AsksNoMore (Some task) →
+    length (segment old.words 0) + words_asked (Some task) ≤ old.room 0 → Fact old new there task r → IsNoneOfMemory r × StaysInFirst old new (words_asked (Some task))
+at_place old new (AtPointer place) (Make object) r there first here asks fits f = with_object old new place object r there first (here place refl) fits f
+at_place old new (AtElement e) (Make object) r there first here asks fits f = without_words old new _ r first (f.fits tt) (λ k is. unrefused old new k (f.named k is)) (λ some. element_none r (f.taken some))
+  where
+    element_none : (o : Option ErrorKind) → TakesAt old new (Make object) o (AtElement e) → TakesNoWords old new
+    element_none None x = x
+    element_none (Some k) x = x
+at_place old new (AtPointer place) (Point i) r there first here asks fits f = without_words old new _ r first (f.fits tt) (λ k is. unrefused old new k (f.named k is)) f.taken
+at_place old new (AtElement e) (Point i) r there first here asks fits f = without_words old new _ r first (f.fits tt) (λ k is. unrefused old new k (f.named k is)) f.taken
+at_place old new (AtPointer place) (Write part) r there first here asks fits f = without_words old new _ r first (f.fits tt) (λ k is. unrefused old new k (f.named k is)) f.taken
+at_place old new (AtElement e) (Write part) r there first here asks fits f = without_words old new _ r first (f.fits tt) (λ k is. unrefused old new k (f.named k is)) f.taken
+at_place old new (AtPointer place) (InStruct (Bits n)) r there first here asks fits f =
+    without_words old new _ r first (f.fits (λ e is. tt)) (λ k is. elim (f.named k is) [ inl h ↦ h.1 | inr (e, is_e, none) ↦ absurd none ]) (λ some. (f.taken some).2)
+at_place old new (AtElement e) (InStruct (Bits n)) r there first here asks fits f = without_words old new _ r first (f.fits tt) (λ k is. unrefused old new k (f.named k is)) f.taken
+at_place old new there (InStruct (Content source)) r some first here asks fits f = absurd asks
+at_place old new there (Search sought default) r some first here asks fits f = absurd asks
+at_place old new there (CopyRoot c) r some first here asks fits f = absurd asks
+
+-- an edit without a place or a task
+nowhere_first : (old new : View) (edit : Edit) (r : Option ErrorKind) (n : ℕ) → AreInFirst old.words → IsStep old new edit r → r ≡ Some NoSuchPlace → IsNoneOfMemory r × StaysInFirst old new n
+nowhere_first old new edit r n first s e = (subst IsNoneOfMemory (sym e) (λ k is. ap is_of_path (same_name k is)), same_first old new n first (s.nowhere e))
+  where
+    same_name : (k : ErrorKind) → Some NoSuchPlace ≡ Some k → k ≡ NoSuchPlace
+    same_name k is = cc
+
+-- one edit
+one_fits : (old new : View) (edit : Edit) (r : Option ErrorKind) (t : Tree) → IsForest old.words t → AreInFirst old.words → AsksNoMore (task_of edit.op) → length (segment old.words 0) + words_asked (task_of edit.op) ≤ old.room 0 → IsStep old new edit r →
+    IsNoneOfMemory r × StaysInFirst old new (words_asked (task_of edit.op))
+one_fits old new edit r t forest first asks fits s = by_task s.path_end (task_of edit.op) refl refl asks fits
+  where
+    by_task : (o : Option PathEnd) (w : Option Task) → s.path_end ≡ o → task_of edit.op ≡ w → AsksNoMore w → length (segment old.words 0) + words_asked w ≤ old.room 0 → IsNoneOfMemory r × StaysInFirst old new (words_asked w)
+    by_task None w none is asks fits = nowhere_first old new edit r (words_asked w) first s (s.missing none)
+    by_task (Some there) None found is asks fits = nowhere_first old new edit r 0 first s (s.out_of_range is)
+    by_task (Some there) (Some task) found is asks fits =
+        let stored = forest_stored old.words t forest in
+        let root : 0 < length (segment old.words 0) = omega (arith, stored.inside 0 0 (omega (arith, times-first (word_interval 0 0) (cover old.words 0 0 t) 0 0, once_held 0 0))) in
+        let leads : IsPathFound old.words 0 0 t (path_of edit.path.now) (Some there) = subst (IsPathFound old.words 0 0 t (path_of edit.path.now)) found (s.leads t stored) in
+        at_place old new there task r (some_segment old.words root) first (λ place e. place_first place (subst (λ x. IsPathFound old.words 0 0 t (path_of edit.path.now) (Some x)) e leads)) asks fits (record {
+          fits = λ room. s.fits (subst (λ x. IfSome x (λ y. IfSome (task_of edit.op) (λ z. FitsAt old z y))) (sym found) (subst (λ x. IfSome x (λ z. FitsAt old z there)) (sym is) room));
+          named = λ k e. elim (s.named k e) [
+            | inl h ↦ inl h
+            | inr h ↦ inr (subst (λ x. IsSomeAnd x (λ z. IsRefusedAt old new z k there)) is (subst (λ x. IsSomeAnd x (λ y. IsSomeAnd (task_of edit.op) (λ z. IsRefusedAt old new z k y))) found h))
+          ];
+          taken = λ some. subst (λ x. IfSome x (λ z. TakesAt old new z r there)) is (subst (λ x. IfSome x (λ y. IfSome (task_of edit.op) (λ z. TakesAt old new z r y))) found (s.taken some));
+        })
+      where
+        some_segment : (S : Segments) → 0 < length (segment S 0) → 0 < length S
+        some_segment [] h = absurd (omega (arith, h))
+        some_segment (x ∷ S) h = omega arith
+
+        place_first : (place : PointerPlace) → IsPathFound old.words 0 0 t (path_of edit.path.now) (Some (AtPointer place)) → place.segment ≡ 0
+        place_first place f =
+            held_first old.words place.segment place.word f.value first (stored_within old.words 0 0 t (path_of edit.path.now) place.segment place.word f.value f.leads (forest_stored old.words t forest))
+
+-- and edits
+pub fitting_edits : FittingEdits
+fitting_edits old new [] [] t forest first asks fits same = (tt, same_first old new 0 first same)
+fitting_edits old new [] (r ∷ rs) t forest first asks fits none = absurd none
+fitting_edits old new (e ∷ es) [] t forest first asks fits none = absurd none
+fitting_edits old new (e ∷ es) (r ∷ rs) t forest first (asks, rest) fits (mid, s, steps) =
+    let (none, one) = one_fits old mid e r t forest first asks (omega (arith, fits)) s in
+    let (u, then, takes) = s.applied t forest in
+    let (others, all) = fitting_edits mid new es rs u then one.first rest (omega (arith, fits, one.words, one.room)) steps in (
+      (none, others),
+      record { words = omega (arith, one.words, all.words); first = all.first; room = all.room ∙ one.room; refusals = all.refusals ∙ one.refusals },
+    )
