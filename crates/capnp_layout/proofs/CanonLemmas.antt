@@ -1,28 +1,30 @@
 -- What a refused copy says of the message that was read.
-use Rattle.std.proofs.Common.{◌≡◌, ◌⊎◌, inl, inr, Some, None, ℕ, ◌+◌, ◌<◌, ◌≤◌, List, [], ◌∷◌, length, Bool, true, false, Option, IfSome, IsNone, refl, ap, sym, ◌∙◌, subst, arith, length-set, get_or}
+use Rattle.std.proofs.Common.{◌≡◌, ◌⊎◌, inl, inr, Some, None, ℕ, ◌+◌, ◌<◌, ◌≤◌, List, [], ◌∷◌, length, Bool, true, false, IsTrue, Option, IfSome, IsNone, refl, ap, sym, ◌∙◌, subst, arith, length-set, get_or}
 use Rattle.capnp_words.specs.declared.error.ErrorKind.{ErrorKind}
-use Rattle.capnp_words.specs.declared.error.ErrorKind.TheVariants.{MessageTooLarge}
+use Rattle.capnp_words.specs.declared.error.ErrorKind.TheVariants.{AllocationFailed, MessageTooLarge}
 use Rattle.capnp_format.specs.Segments.{Segments, segment}
-use Rattle.capnp_words.specs.Meter.{Meter, Affords, charged, unused, less, FitsIn}
-use Rattle.capnp_objects.specs.Spending.{after, pointers_in}
-use Rattle.capnp_objects.specs.Refusals.{Refused}
+use Rattle.capnp_words.specs.Meter.{Meter, unused, less, FitsIn}
+use Rattle.capnp_objects.specs.Refusals.{BreaksOff, Refused, StopsWithin}
 use Rattle.capnp_objects.specs.Reading.{Reading}
 use Rattle.capnp_objects.specs.Wanted.{canonical}
 use Rattle.capnp_objects.proofs.Limits.{not_for_memory, not_for_size}
-use Rattle.capnp_format.specs.Canonical.{trim, word_count}
+use Rattle.capnp_format.specs.Canonical.{encoding, trim, word_count}
 use Rattle.capnp_format.specs.Tree.{Tree}
 use Rattle.capnp_format.proofs.Levels.{one_value}
 use Rattle.capnp_objects.specs.Outcomes.{Reads}
 use Rattle.std.proofs.lemmas.Bool.{cases_lt}
-use Rattle.capnp_making.specs.Memory.{KeepsMemory, RefusesWords}
-use Rattle.capnp_copies.specs.Changes.{IsCopiedInRoom, MakesCopy, change}
+use Rattle.std.proofs.lemmas.List.Sums.{sum_by-cons}
+use Rattle.capnp_making.specs.Memory.{KeepsMemory, RefusesWords, SpendsMemory}
+use Rattle.capnp_copies.specs.Changes.{IsCopiedInRoom, MakesCopy, WantsWords, change}
+use Rattle.capnp_copies.specs.Costs.{spent_until}
+use Rattle.capnp_copies.specs.Growth.{MakesAtMost, message_words}
+use Rattle.capnp_copies.proofs.Growth.{pads_apart}
 use Rattle.capnp_copies.specs.Originals.{value_original}
 use Rattle.capnp_copies.proofs.Originals.{value_beyond}
 use Rattle.capnp_builders.specs.Building.{Building, IsNull, built}
 use Rattle.capnp_builders.specs.Kept.{FillsMessage, LeavesCleared}
 use Rattle.capnp_builders.specs.declared.builders.PointerBuilder.{PointerBuilder}
-use Rattle.capnp_edits.specs.Edits.{IsOfMemory}
-use Rattle.capnp_layout.specs.Answers.{CoversRoot, IsMadeWhereAlone, IsReadWithin, LacksMemoryOr, RefusesCopy, RefusesCopyAnywhere, RefusesMessage, is_message_too_large, message_root}
+use Rattle.capnp_layout.specs.Answers.{CoversRoot, IsMadeWhereAlone, LacksMemoryOr, OutgrowsRoom, RefusesCopy, RefusesCopyAnywhere, RefusesMessage, ValueOf, is_message_too_large, message_root, wants_room}
 use Rattle.capnp_layout.specs.Answers.RefusesMessage.{below_root}
 use Rattle.capnp_layout.specs.Tries.{NeedsMoreRoom}
 use Rattle.capnp_layout.specs.declared.tool.args.Args.TheVariants.{Canon}
@@ -53,16 +55,9 @@ only_null {B} fresh = ap (λ i. segment B.segments i) fresh.first ∙ ap (λ (R 
 pub null_root : {B : Building} {room : ℕ} → IsFreshPlace B room → B.at ≡ 0 → IsNull B
 null_root {B} fresh start = ap (λ (ws : List ℕ). get_or ws B.at 0) (only_null fresh) ∙ ap (λ i. get_or (0 ∷ []) i 0) start
 
--- what is left after a cost, whether or not pointers were counted
-left_after : (charging : Bool) (m : Meter) (c i : ℕ) → (after charging m c i).left ≡ (charged charging m c).left
-left_after true m c i = refl
-left_after false m c i = refl
-
 -- a copy to the root of a fresh message is made, if that has one segment afterwards
-pub made_copy : (r : Reading) (left : Option ℕ) (s p : ℕ) (old made : View) (l m : Meter) → l ≡ unused left → FillsMessage r (change canonical s p old made l m) → (t : Tree) × IsReadWithin r left m.left t × IsMadeWhereAlone made t
-made_copy r left s p old made l m begun (t, reads, copy) =
-    let spent = ap (λ (y : Meter). y.left) reads.spent ∙ left_after r.charging l reads.cost (pointers_in t) ∙ ap (λ (y : Meter). (charged r.charging y reads.cost).left) begun in
-    (t, (reads.cost, reads.means, reads.takes tt, subst (λ (x : Meter). Affords r.charging x reads.cost) begun reads.covers, spent), copy)
+pub made_copy : (r : Reading) (left : Option ℕ) (s p : ℕ) (old made : View) (l m : Meter) → l ≡ unused left → FillsMessage r (change canonical s p old made l m) → (t : Tree) × Reads canonical r (unused left) m t × IsMadeWhereAlone made t
+made_copy r left s p old made l m begun (t, reads, copy) = (t, subst (λ (x : Meter). Reads canonical r x m t) begun reads, copy)
 
 -- where it has more, not all words fit in the first
 spread : {r : Reading} {room : ℕ} {l m : Meter} {t : Tree} (old new : View) (s p : ℕ) → IsFreshPlace (record { segments = old.words; segment = s; at = p; room = old.room s }) room → Reads canonical r l m t → IsCopiedInRoom old new s p (trim t) →
@@ -86,18 +81,48 @@ kept_room old new s p fresh kept =
     kept.1 0 some ∙ ap old.room (sym fresh.first) ∙ fresh.holds
 
 -- the names by which words are refused are want of room
-want_of_words : (old new : View) (n : ℕ) (k : ErrorKind) → RefusesWords old new n k → IsOfMemory k
-want_of_words old new n k (inl memory, none) = inl memory.0
-want_of_words old new n k (inr (inl large), none) = inr (_, large.0)
-want_of_words old new n k (inr (inr many), none) = inr (_, many.0)
+want_of_words : (old new : View) (n : ℕ) (k : ErrorKind) → RefusesWords old new n k → wants_room k ≡ true
+want_of_words old new n k (inl memory, none) = ap wants_room memory.0
+want_of_words old new n k (inr (inl large), none) = ap wants_room large.0
+want_of_words old new n k (inr (inr many), none) = ap wants_room many.0
+
+-- a segment has no more words than the message
+first_within : (S : Segments) → length (segment S 0) ≤ message_words S
+first_within [] = omega arith
+first_within (s ∷ S) = omega (arith, sum_by-cons length s S)
+
+some_segment : (S : Segments) → 0 < message_words S → 0 < length S
+some_segment [] h = absurd (omega (arith, h))
+some_segment (s ∷ S) h = omega arith
+
+-- an object that finds no room is as large as what is left of the room
+outgrown : {room : ℕ} (r : Reading) (left : Option ℕ) (s p : ℕ) (old new : View) (l m : Meter) (k : ErrorKind) (n : ℕ) → l ≡ unused left →
+    IsFreshPlace (record { segments = old.words; segment = s; at = p; room = old.room s }) room → RefusesWords old new n k → SpendsMemory old new k →
+    StopsWithin canonical (WantsWords canonical n) r l m → (x : BreaksOff canonical r l m) × MakesAtMost s old new (spent_until x).words (spent_until x).pointers → OutgrowsRoom r left room
+outgrown {room} r left s p old new l m k n begun fresh refuses memory stops (x, made) =
+    let one : message_words old.words ≡ 1 = ap message_words fresh.null in
+    let grown = (pads_apart s made.words made.pads old new made.made).0 in
+    let within = first_within new.words in
+    let there : 0 < length new.words = some_segment new.words (omega (arith, grown, one)) in
+    let first : 0 < length old.words = omega (arith, ap length fresh.null) in
+    let same : new.room 0 ≡ room = memory.1 0 first ∙ ap old.room (sym fresh.first) ∙ fresh.holds in
+    let full : new.room 0 < length (segment new.words 0) + (n + 1) = elim (cases_lt (new.room 0) (length (segment new.words 0) + (n + 1))) [
+      | inl beyond ↦ beyond
+      | inr fits ↦ absurd (refuses.1 0 (there, fits, λ j h. absurd (omega (arith, h))))
+    ] in
+    let bound : room ≤ 1 + (spent_until x).words + (spent_until x).pointers + n = omega (arith, one, grown, within, same, full, made.less, made.few) in
+    let Begun : Meter → Type 0 = λ y. StopsWithin canonical (WantsWords canonical n) r y m × ((z : BreaksOff canonical r y m) × (room ≤ 1 + (spent_until z).words + (spent_until z).pointers + n)) in
+    let begins = subst Begun begun (stops, (x, bound)) in
+    record { after = m; words = n; reached = begins.0; broken = begins.1.0; many = begins.1.1 }
 
 -- what refuses a copy to the root of a fresh message
 pub refused_copy : {room : ℕ} (r : Reading) (left : Option ℕ) (s p : ℕ) (old new : View) (l m : Meter) (k : ErrorKind) → l ≡ unused left → IsFreshPlace (record { segments = old.words; segment = s; at = p; room = old.room s }) room →
-    LeavesCleared (value_original r) (change canonical s p old new l m) k → RefusesCopyAnywhere r left room k
-refused_copy r left s p old new l m k begun fresh stop = elim stop.why [
+    LeavesCleared (value_original r) (change canonical s p old new l m) k → (x : BreaksOff canonical r l m) × MakesAtMost s old new (spent_until x).words (spent_until x).pointers → RefusesCopyAnywhere r left room k
+refused_copy r left s p old new l m k begun fresh stop taken = elim stop.why [
   | inl x ↦
       let used : length (segment old.words s) ≡ 1 = ap length (only_null fresh) in
-      inl (want_of_words old new x.0 k x.1, λ t c means. (let beyond = value_beyond canonical r (length (segment old.words s)) (old.room s) x.3 t c means in omega (arith, beyond, used, fresh.holds)))
+      let reached : StopsWithin canonical (WantsWords canonical x.0) r l m = elim x.2 [ inl made ↦ absurd made.1 | inr stops ↦ stops ] in
+      inl (want_of_words old new x.0 k x.1, λ t c means. (let beyond = value_beyond canonical r (length (segment old.words s)) (old.room s) x.3 t c means in omega (arith, beyond, used, fresh.holds)), outgrown r left s p old new l m k x.0 begun fresh x.1 stop.memory reached taken)
   | inr y ↦ elim y [ inl refused ↦ inr (m, subst (λ (x : Meter). Refused canonical r x m k) begun refused) | inr none ↦ absurd none ]
 ]
 
@@ -111,31 +136,67 @@ pub offers_kept : (o : Option ℕ) {old new : View} (P : ℕ → Type 0) (words 
 offers_kept (Some at) P words some none = ap (λ (v : View). v.offers) some.1
 offers_kept None P words some none = ap (λ (v : View). v.offers) (none refl)
 
+-- what is offered for a request, where the room is written otherwise
+pub moved_offer : {old new : ℕ → ℕ → Bool} (asked : ℕ) {room there : ℕ} → old ≡ new → room ≡ there → IsTrue (old asked there) → IsTrue (new asked room)
+moved_offer {new = new} asked {there = there} same kept offered =
+    subst (λ n. IsTrue (new asked n)) (sym kept) (subst (λ (offers : ℕ → ℕ → Bool). IsTrue (offers asked there)) same offered)
+
 -- want of room is no name of a reading that is refused
-pub never_read : {r : Reading} {l m : Meter} {k : ErrorKind} → IsOfMemory k → Refused canonical r l m k → ⊥
-never_read {r} {l} {m} (inl e) refused = not_for_memory (subst (Refused canonical r l m) e refused)
-never_read {r} {l} {m} (inr (w, e)) refused = not_for_size w (subst (Refused canonical r l m) e refused)
+pub never_read : {r : Reading} {l m : Meter} (k : ErrorKind) → wants_room k ≡ true → Refused canonical r l m k → ⊥
+never_read AllocationFailed want refused = not_for_memory refused
+never_read (MessageTooLarge w) want refused = not_for_size w refused
+never_read _ want refused = absurd (cc)
+
+-- what says that something is too large wants room
+pub large_wants : (k : ErrorKind) → is_message_too_large k ≡ true → wants_room k ≡ true
+large_wants (MessageTooLarge w) large = refl
+large_wants _ large = absurd (cc)
+
+-- a room that is outgrown is outgrown if it is less
+less_outgrown : {r : Reading} {left : Option ℕ} (more room : ℕ) → room ≤ more → OutgrowsRoom r left more → OutgrowsRoom r left room
+less_outgrown more room least out = record { after = out.after; words = out.words; reached = out.reached; broken = out.broken; many = omega (arith, out.many, least) }
 
 -- a copy that finds no room anywhere needs more words than fewer than there are in its segment
-pub refused_try : {r : Reading} {left : Option ℕ} {k : ErrorKind} (more room w : ℕ) → room ≤ more → IsOfMemory k → RefusesCopyAnywhere r left more k → RefusesCopy r left room (MessageTooLarge w)
-refused_try more room w least want (inl (named, large)) = inl (w, refl, λ t c means. (let beyond = large t c means in omega arith))
-refused_try more room w least want (inr (m, refused)) = absurd (never_read want refused)
+pub refused_try : {r : Reading} {left : Option ℕ} {k : ErrorKind} (more room : ℕ) → room ≤ more → wants_room k ≡ true → RefusesCopyAnywhere r left more k → RefusesCopy r left room (MessageTooLarge room)
+refused_try more room least want (inl (named, large, out)) = inl (refl, λ t c means. (let beyond = large t c means in omega arith), inr (less_outgrown more room least out))
+refused_try {k = k} more room least want (inr (m, refused)) = absurd (never_read k want refused)
 
 -- the last try speaks for all room there can be
 pub last_try : {r : Reading} {left : Option ℕ} {room old new : ℕ} {k : ErrorKind} → (room ≡ max_segment_words) ⊎ (is_message_too_large k ≡ false) → LacksMemoryOr old new k (RefusesCopy r left room k) → LacksMemoryOr old new k (RefusesCopy r left max_segment_words k)
 last_try last (inl memory) = inl memory
 last_try last (inr (inr refused, same)) = inr (inr refused, same)
-last_try {r = r} (inl most) (inr (inl (w, named, large), same)) = inr (inl (w, named, subst (NeedsMoreRoom r) most large), same)
-last_try (inr other) (inr (inl (w, named, large), same)) = absurd (let wrong : true ≡ false = sym (ap is_message_too_large named) ∙ other in cc)
+last_try {r = r} {left = left} {k = k} (inl most) (inr (refused, same)) = inr (subst (λ n. RefusesCopy r left n k) most refused, same)
+last_try (inr other) (inr (inl (named, large, out), same)) = absurd (let wrong : true ≡ false = sym (ap is_message_too_large named) ∙ other in cc)
 
 pub moved_try : {old new old' new' : ℕ} {k : ErrorKind} {P : Type 0} → old ≡ old' → new' ≡ new → LacksMemoryOr old new k P → LacksMemoryOr old' new' k P
 moved_try before after (inl (named, risen)) = inl (named, after ∙ risen ∙ ap one_more before)
 moved_try before after (inr (refused, same)) = inr (refused, after ∙ same ∙ before)
 
+-- want of memory that was counted is want of memory
+pub or_memory : {old new : ℕ} {k : ErrorKind} {P : Type 0} → LacksMemoryOr old new k P → (k ≡ AllocationFailed) ⊎ P
+or_memory (inl memory) = inl memory.0
+or_memory (inr refused) = inr refused.0
+
 -- what the budget covers beside the word of the root pointer
 pub covers_root : (budget : Option ℕ) (c : ℕ) → FitsIn budget 1 → FitsIn (less budget 1) c → FitsIn budget (1 + c)
 covers_root None c one rest = tt
 covers_root (Some b) c one rest = omega arith
+
+-- what the root leads to is the value of its message
+pub value_made : (options : ReaderOptions) {r : Reading} {segments : List (List ℕ)} {m after : Meter} {words : Segments}
+    → r ≡ message_root (message segments) (levels options.nesting_limit) → m.left ≡ less options.traversal_limit_in_words 1 → CoversRoot (message segments) options.traversal_limit_in_words
+    → (t : Tree) × Reads canonical r m after t × (words ≡ encoding (trim t) ∷ []) → (t : Tree) × ValueOf segments options t × (words ≡ encoding (trim t) ∷ [])
+value_made options {segments = segments} {m = m} {after = after} same rest covers (t, read, is_made) =
+    let there = subst (λ (x : Reading). Reads canonical x m after t) same read in
+    let covered = subst (λ (l : Option ℕ). FitsIn l there.cost) rest there.covers in
+    let value : ValueOf segments options t = record {
+      root = covers.root;
+      cost = there.cost;
+      means = there.means;
+      free = there.takes tt;
+      covered = covers_root options.traversal_limit_in_words there.cost covers.covered covered;
+    } in
+    (t, value, is_made)
 
 -- what refuses a copy of the root refuses the message
 pub copy_refused : (options : ReaderOptions) {r : Reading} {segments : List (List ℕ)} {left : Option ℕ} {old new : ℕ} {k : ErrorKind}

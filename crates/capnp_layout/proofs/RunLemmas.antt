@@ -34,11 +34,11 @@ covers_rest (Some b) c h = omega arith
 -- a message is not refused of which the root means a value whose canonical words fit a segment
 pub not_refused : (options : ReaderOptions) {segments : List (List ℕ)} {k : ErrorKind} {t : Tree}
     → IsSmall segments → ValueOf segments options t → 1 + word_count (trim t) ≤ max_segment_words → RefusesMessage segments (Canon options) k → ⊥
-not_refused options small value fits (beyond_limits w named large) = large small
+not_refused options small value fits (beyond_limits named large) = large small
 not_refused options small value fits (at_root (no_root named none)) = none value.root
 not_refused options small value fits (at_root (no_budget named root none)) =
     absurd (let covered : FitsIn (Some 0) (1 + value.cost) = subst (λ (b : Option ℕ). FitsIn b (1 + value.cost)) none value.covered in omega arith)
-not_refused options {t = t} small value fits (below_root covers (inl (w, named, large))) =
+not_refused options {t = t} small value fits (below_root covers (inl (named, large, out))) =
     absurd (let more = large t value.cost value.means in omega arith)
 not_refused options {t = t} small value fits (below_root covers (inr (m, refused))) =
     (unreadable refused).only t value.cost value.means (λ _. value.free) (covers_rest options.traversal_limit_in_words value.cost value.covered)

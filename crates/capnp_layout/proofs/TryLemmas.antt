@@ -2,7 +2,6 @@
 use Rattle.std.proofs.Common.{◌≡◌, inl, inr, ℕ, ◌+◌, ◌*◌, ◌/◌, ◌<◌, suc, min, Bool, true, false, IsTrue, List, [], ◌∷◌, length, Option, refl, ap, sym, ◌∙◌, subst, arith}
 use Rattle.std.proofs.lemmas.Bool.{cases_lt}
 use Rattle.capnp_words.specs.declared.error.ErrorKind.{ErrorKind}
-use Rattle.capnp_words.specs.declared.error.ErrorKind.TheVariants.{MessageTooLarge}
 use Rattle.capnp_format.specs.Bytes.{message, words_of}
 use Rattle.capnp_format.proofs.WordsOf.{length-words_of}
 use Rattle.capnp_arena.specs.Allocations.{max_segment_words}
@@ -11,52 +10,47 @@ use Rattle.capnp_arena.proofs.MessageLemmas.{total-cons}
 use Rattle.capnp_objects.specs.Reading.{Reading}
 use Rattle.capnp_framing.specs.Reading.{total}
 use Rattle.capnp_layout.specs.Answers.{LacksMemoryOr, RefusesCopy, is_message_too_large}
-use Rattle.capnp_layout.specs.Tries.{IsMadeByFirstTry, NeedsMoreRoom, room_of_try}
-use Rattle.capnp_layout.proofs.CanonLemmas.{never_read}
+use Rattle.capnp_layout.specs.Tries.{IsMadeByFirstTry, NeedsMoreRoom, room_of_try, words_read}
+use Rattle.capnp_layout.proofs.CanonLemmas.{large_wants, never_read}
 
 -- The tries have come to one that asks for this room: what those before it ask for is too little.
-pub record ComesTo (r : Reading) (words room : ℕ) : Type 0 where
+pub record ComesTo (r : Reading) (room : ℕ) : Type 0 where
   pub try : ℕ
-  pub asks : room ≡ room_of_try words try
-  pub before : (j : ℕ) → j < try → NeedsMoreRoom r (room_of_try words j)
+  pub asks : room ≡ room_of_try (words_read r) try
+  pub before : (j : ℕ) → j < try → NeedsMoreRoom r (room_of_try (words_read r) j)
 
-pub first_comes : (r : Reading) (words : ℕ) {room : ℕ} → room ≡ room_of_try words 0 → ComesTo r words room
-first_comes r words asks = record { try = 0; asks = asks; before = λ j below. absurd (omega arith) }
+pub first_comes : (r : Reading) {words room : ℕ} → room ≡ room_of_try words 0 → words ≡ words_read r → ComesTo r room
+first_comes r asks same = record { try = 0; asks = asks ∙ ap (λ n. room_of_try n 0) same; before = λ j below. absurd (omega arith) }
 
-pub next_comes : {r : Reading} {words room next : ℕ} → ComesTo r words room → next ≡ min (2 * room) max_segment_words → NeedsMoreRoom r room → ComesTo r words next
-next_comes {r} {words} come doubled little = record {
+pub next_comes : {r : Reading} {room next : ℕ} → ComesTo r room → next ≡ min (2 * room) max_segment_words → NeedsMoreRoom r room → ComesTo r next
+next_comes {r} come doubled little = record {
   try = suc come.try;
   asks = doubled ∙ ap (λ n. min (2 * n) max_segment_words) come.asks;
   before = λ j below. elim (cases_lt j come.try) [
     | inl less ↦ come.before j less
     | inr least ↦
         let same : come.try ≡ j = omega (arith, below, least) in
-        subst (λ i. NeedsMoreRoom r (room_of_try words i)) same (subst (NeedsMoreRoom r) come.asks little)
+        subst (λ i. NeedsMoreRoom r (room_of_try (words_read r) i)) same (subst (NeedsMoreRoom r) come.asks little)
   ];
 }
 
 -- where it makes the words, they are made by the first try with enough room
-pub made_by_try : {r : Reading} {words room : ℕ} (offers : ℕ → ℕ → Bool) (there : ℕ) → ComesTo r words room → IsTrue (offers room there) → IsMadeByFirstTry r words offers there
+pub made_by_try : {r : Reading} {room : ℕ} (offers : ℕ → ℕ → Bool) (there : ℕ) → ComesTo r room → IsTrue (offers room there) → IsMadeByFirstTry r offers there
 made_by_try offers there come asked = record {
   try = come.try;
   asked = subst (λ n. IsTrue (offers n there)) come.asks asked;
   before = come.before;
 }
 
--- the same, where the place and the number of words are written otherwise
-pub moved_tries : {r q : Reading} {words n : ℕ} (offers : ℕ → ℕ → Bool) (room : ℕ) → r ≡ q → words ≡ n → IsMadeByFirstTry r words offers room → IsMadeByFirstTry q n offers room
-moved_tries {r} {n = n} offers room place same tries =
-    subst (λ (x : Reading). IsMadeByFirstTry x n offers room) place (subst (λ i. IsMadeByFirstTry r i offers room) same tries)
-
-large_named : (k : ErrorKind) → is_message_too_large k ≡ true → (w : ℕ) × (k ≡ MessageTooLarge w)
-large_named (MessageTooLarge w) large = (w, refl)
-large_named _ large = absurd (cc)
+-- the same, where the place is written otherwise
+pub moved_tries : {r q : Reading} (offers : ℕ → ℕ → Bool) (room : ℕ) → r ≡ q → IsMadeByFirstTry r offers room → IsMadeByFirstTry q offers room
+moved_tries offers room place tries = subst (λ (x : Reading). IsMadeByFirstTry x offers room) place tries
 
 -- a try that says that something is too large has too little room
 pub try_too_small : {r : Reading} {left : Option ℕ} {room old new : ℕ} {k : ErrorKind} → is_message_too_large k ≡ true → LacksMemoryOr old new k (RefusesCopy r left room k) → NeedsMoreRoom r room
 try_too_small large (inl (named, risen)) = absurd (let wrong : false ≡ true = sym (ap is_message_too_large named) ∙ large in cc)
-try_too_small large (inr (inl (w, named, little), same)) = little
-try_too_small {k = k} large (inr (inr (m, refused), same)) = absurd (never_read (inr (large_named k large)) refused)
+try_too_small large (inr (inl (named, little, out), same)) = little
+try_too_small {k = k} large (inr (inr (m, refused), same)) = absurd (never_read k (large_wants k large) refused)
 
 -- and memory wasn't refused
 pub try_is_granted : {old new : ℕ} {k : ErrorKind} {P : Type 0} → is_message_too_large k ≡ true → LacksMemoryOr old new k P → new ≡ old

@@ -1,5 +1,5 @@
 -- What the program says of a message, and the line that it then prints.
-use Rattle.std.specs.Prelude.{◌≡◌, ◌⊎◌, ℕ, ◌+◌, ◌≤◌, List, [], ◌∷◌, ◌++◌, Bool, true, false, codes, length, Option, Some, None}
+use Rattle.std.specs.Prelude.{◌≡◌, ◌⊎◌, ℕ, ◌+◌, ◌-◌, ◌^◌, ◌≤◌, List, [], ◌∷◌, ◌++◌, Bool, true, false, codes, length, Option, Some, None}
 use Rattle.std.specs.Fmt.{decimal}
 use Rattle.std.specs.Int.{to_le_bytes, w64}
 use Rattle.hex.specs.Hex.{encode_lower}
@@ -10,20 +10,21 @@ use Rattle.capnp_format.specs.Bytes.{message}
 use Rattle.capnp_format.specs.Tree.{Tree, capabilities, depth}
 use Rattle.capnp_format.specs.Means.{Means}
 use Rattle.capnp_format.specs.Canonical.{trim, encoding, word_count, charge, Stands}
-use Rattle.capnp_words.specs.Meter.{Meter, Affords, FitsIn, charged, less, unused}
+use Rattle.capnp_words.specs.Meter.{Meter, FitsIn, less, unused}
 use Rattle.capnp_arena.specs.Allocations.{max_segment_words, one_more}
 use Rattle.capnp_arena.specs.Checks.{misplaced}
 use Rattle.capnp_arena.specs.Limits.{IsSmall}
 use Rattle.capnp_arena.specs.View.{View}
 use Rattle.capnp_arena.specs.declared.arena.reader_arena_impl.ReaderOptions.{ReaderOptions}
-use Rattle.capnp_edits.specs.Edits.{IsOfMemory}
 use Rattle.capnp_layout.specs.declared.tool.args.Args.{Args}
 use Rattle.capnp_layout.specs.declared.tool.args.Args.TheVariants.{Canon, Check, Size}
 use Rattle.capnp_layout.specs.declared.tool.engine.Outcome.{Outcome}
 use Rattle.capnp_layout.specs.declared.tool.engine.Outcome.TheVariants.{Done, Refused as RefusedOutcome, WriteFailed}
 use Rattle.capnp_objects.specs.Source.{levels}
-use Rattle.capnp_objects.specs.Outcomes.{MeansThere}
-use Rattle.capnp_objects.specs.Refusals.{Refused}
+use Rattle.capnp_objects.specs.Outcomes.{Reads}
+use Rattle.capnp_objects.specs.Refusals.{BreaksOff, Refused, StopsWithin}
+use Rattle.capnp_copies.specs.Changes.{WantsWords}
+use Rattle.capnp_copies.specs.Costs.{spent_until}
 use Rattle.capnp_objects.specs.Reading.{Reading}
 use Rattle.capnp_objects.specs.Sizing.{Totals, HasSize, SizeRefused}
 use Rattle.capnp_objects.specs.Wanted.{canonical}
@@ -67,21 +68,36 @@ abbrev pub is_message_too_large : ErrorKind → Bool
 is_message_too_large (MessageTooLarge w) = true
 is_message_too_large _ = false
 
--- A place means a value t without capabilities, so many words, if there is a limit, cover what reading it costs, and those that are
--- left after that cost are these.
-abbrev pub IsReadWithin : Reading → Option ℕ → Option ℕ → Tree → Type 0
-IsReadWithin r left after t =
-    (c : ℕ) × MeansThere r t c × (capabilities t ≡ 0) × Affords r.charging (unused left) c × (after ≡ (charged r.charging (unused left) c).left)
+-- whether a refusal says that there is no room, or no memory for more
+abbrev pub wants_room : ErrorKind → Bool
+wants_room AllocationFailed = true
+wants_room k = is_message_too_large k
+
+-- An object is reached for which there is no room: its words, that of the root, those that reading cost until the copy broke off,
+-- and one for each pointer that was followed are as many as this room, or more.
+pub record OutgrowsRoom (r : Reading) (left : Option ℕ) (room : ℕ) : Type 0 where
+  pub after : Meter
+  pub words : ℕ
+  pub reached : StopsWithin canonical (WantsWords canonical words) r (unused left) after
+  pub broken : BreaksOff canonical r (unused left) after
+  pub many : room ≤ 1 + (spent_until broken).words + (spent_until broken).pointers + words
+
+-- A place means a value that the budget lets be read, whose canonical words are more than the room; or an object is reached for which
+-- there is no room.
+abbrev pub IsReadOrOutgrows : Reading → Option ℕ → ℕ → Type 0
+IsReadOrOutgrows r left room = ((t : Tree) × (m : Meter) × Reads canonical r (unused left) m t) ⊎ OutgrowsRoom r left room
 
 -- A copy of what a place means, into a fresh segment of so many words, is refused by the name k: it needs more words, or
 -- reading it is refused.
 abbrev pub RefusesCopy : Reading → Option ℕ → ℕ → ErrorKind → Type 0
-RefusesCopy r left room k = ((w : ℕ) × (k ≡ MessageTooLarge w) × NeedsMoreRoom r room) ⊎ ((m : Meter) × Refused canonical r (unused left) m k)
+RefusesCopy r left room k =
+    ((k ≡ MessageTooLarge room) × NeedsMoreRoom r room × IsReadOrOutgrows r left room) ⊎ ((m : Meter) × Refused canonical r (unused left) m k)
 
 -- A copy of what a place means, into a fresh segment with this room and into further ones where they are to be had, is refused by
 -- the name k: there is none, and it needs more words than that room; or reading it is refused.
 abbrev pub RefusesCopyAnywhere : Reading → Option ℕ → ℕ → ErrorKind → Type 0
-RefusesCopyAnywhere r left room k = (IsOfMemory k × NeedsMoreRoom r room) ⊎ ((m : Meter) × Refused canonical r (unused left) m k)
+RefusesCopyAnywhere r left room k =
+    ((wants_room k ≡ true) × NeedsMoreRoom r room × OutgrowsRoom r left room) ⊎ ((m : Meter) × Refused canonical r (unused left) m k)
 
 -- Memory was refused once more, from a count to another; or that is not so, and P holds.
 abbrev pub LacksMemoryOr : ℕ → ℕ → ErrorKind → Type 0 → Type 0
@@ -91,7 +107,7 @@ LacksMemoryOr old new k P = ((k ≡ AllocationFailed) × (new ≡ one_more old))
 abbrev pub message_root : Segments → ℕ → Reading
 message_root S n = record { segments = S; charging = true; of_default = false; levels = n; segment = 0; at = 0 }
 
--- A message has a root pointer, and the budget covers its word.
+-- A message has a root pointer, and the budget covers its word ("Messages").
 pub record CoversRoot (S : Segments) (budget : Option ℕ) : Type 0 where
   pub root : IsPlace S 0 0
   pub covered : FitsIn budget 1
@@ -170,7 +186,7 @@ RefusesCommand _ r left k = ⊥
 -- Why a command refuses a message, by the bytes of its segments, by the name k.
 pub data RefusesMessage (segments : List (List ℕ)) (args : Args) (k : ErrorKind) : Type 0 where
   -- there are too many segments, or one is too large, for a reader
-  beyond_limits : (w : ℕ) → k ≡ MessageTooLarge w → (IsSmall segments → ⊥) → RefusesMessage segments args k
+  beyond_limits : k ≡ MessageTooLarge (2 ^ 64 - 1) → (IsSmall segments → ⊥) → RefusesMessage segments args k
   -- the root pointer is refused
   at_root : RefusesRoot (message segments) (budget_of args) k → RefusesMessage segments args k
   -- the budget covers the root pointer, and what it leads to is refused, with what the budget has left for it

@@ -15,7 +15,8 @@ use Rattle.capnp_readers.specs.Faults.{FaultIs}
 use Rattle.capnp_readers.specs.Checking.{Finds, TestEnds, IsFault, IsUnfit, TestStops, progress}
 use Rattle.capnp_layout.specs.Answers.{CoversRoot, RefusesRoot, message_root}
 
--- A message is the canonical one of t: one segment, which holds t's canonical words and nothing else.
+-- A message is the canonical one of t: one segment, which holds t's canonical words and nothing else
+-- ("Canonicalization").
 pub record IsCanonicalOf (S : Segments) (t : Tree) : Type 0 where
   pub value : IsValue t
   pub trimmed : IsTrimmed t
@@ -23,7 +24,7 @@ pub record IsCanonicalOf (S : Segments) (t : Tree) : Type 0 where
   pub encodable : IsEncodable t
   pub is : S ≡ encoding t ∷ []
 
--- It is that of some value.
+-- It is that of some value ("Canonicalization").
 abbrev pub IsCanonicalMessage : Segments → Type 0
 IsCanonicalMessage S = (t : Tree) × IsCanonicalOf S t
 

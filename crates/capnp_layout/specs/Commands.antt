@@ -1,5 +1,5 @@
 -- What each command answers to the lines of its input, as bytes, and why it refuses them. A line is a segment, or holds a frame.
-use Rattle.std.specs.Prelude.{◌≡◌, ◌⊎◌, ◌↔◌, ℕ, ◌+◌, ◌≤◌, List, [], ◌∷◌, ◌++◌, Bool, true, false, IsTrue, codes, length}
+use Rattle.std.specs.Prelude.{◌≡◌, ◌⊎◌, ◌↔◌, ℕ, ◌+◌, ◌-◌, ◌^◌, ◌≤◌, List, [], ◌∷◌, ◌++◌, Bool, true, false, IsTrue, codes, length}
 use Rattle.hex.specs.Hex.{encode_lower}
 use Rattle.capnp_words.specs.declared.error.ErrorKind.{ErrorKind}
 use Rattle.capnp_words.specs.declared.error.ErrorKind.TheVariants.{AllocationFailed, MessageTooLarge}
@@ -97,7 +97,7 @@ WhereAnswered lines args P = IsWithin args lines → HasAnswer lines args → P
 
 -- Segments have no frame: one is too large or there are too many for a reader, or there is none or too many for a frame.
 pub data RefusesToFrame (lines : List (List ℕ)) (r : Refusal) : Type 0 where
-  beyond_limits : (w : ℕ) → r ≡ Layout (MessageTooLarge w) → (IsSmall lines → ⊥) → RefusesToFrame lines r
+  beyond_limits : r ≡ Layout (MessageTooLarge (2 ^ 64 - 1)) → (IsSmall lines → ⊥) → RefusesToFrame lines r
   wrong_number : (e : FrameError) → r ≡ NoFrameFor e → IsRefusedNumber (length lines) e → RefusesToFrame lines r
 
 -- No frame is read: there is no line; it is empty; or it begins with no frame, for the first reason that stands.

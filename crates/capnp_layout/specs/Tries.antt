@@ -1,8 +1,9 @@
 -- In how much room the canonical words of a message are tried to be made.
-use Rattle.std.specs.Prelude.{ℕ, ◌+◌, ◌*◌, ◌<◌, zero, suc, min, Bool, IsTrue}
+use Rattle.std.specs.Prelude.{ℕ, ◌+◌, ◌*◌, ◌<◌, zero, suc, min, cond, Bool, IsTrue}
 use Rattle.capnp_arena.specs.Allocations.{max_segment_words}
 use Rattle.capnp_format.specs.Canonical.{trim, word_count}
 use Rattle.capnp_format.specs.Tree.{Tree}
+use Rattle.capnp_framing.specs.Reading.{total}
 use Rattle.capnp_objects.specs.Outcomes.{MeansThere}
 use Rattle.capnp_objects.specs.Reading.{Reading}
 
@@ -16,9 +17,13 @@ abbrev pub room_of_try : ℕ → ℕ → ℕ
 room_of_try words zero = min (words + 1) max_segment_words
 room_of_try words (suc k) = min (2 * room_of_try words k) max_segment_words
 
--- A try made the canonical words of what a place means, where the input has so many words: its segment, of this room, was offered
--- for what that try asks for, and what each try before it asks for is too little.
-pub record IsMadeByFirstTry (r : Reading) (words : ℕ) (offers : ℕ → ℕ → Bool) (room : ℕ) : Type 0 where
+-- The words of the message where a place is read; where that is a default, none.
+abbrev pub words_read : Reading → ℕ
+words_read r = cond r.of_default 0 (total r.segments)
+
+-- A try made the canonical words of what a place means: its segment, of this room, was offered for what that try asks for, and what
+-- each try before it asks for is too little.
+pub record IsMadeByFirstTry (r : Reading) (offers : ℕ → ℕ → Bool) (room : ℕ) : Type 0 where
   pub try : ℕ
-  pub asked : IsTrue (offers (room_of_try words try) room)
-  pub before : (j : ℕ) → j < try → NeedsMoreRoom r (room_of_try words j)
+  pub asked : IsTrue (offers (room_of_try (words_read r) try) room)
+  pub before : (j : ℕ) → j < try → NeedsMoreRoom r (room_of_try (words_read r) j)

@@ -14,7 +14,6 @@ mod size;
 mod writing;
 
 pub use args::{Args, parse_args, parse_budget, parse_nesting};
-pub(crate) use canon::copy_in_tries;
 pub use engine::{Outcome, run, run_with};
 pub use refusal::Refusal;
 pub use writing::{write_number, write_size};

@@ -44,30 +44,30 @@ root_refused covers (no_budget named root none) =
     let covered : FitsIn (Some 0) 1 = subst (λ (b : Option ℕ). FitsIn b 1) none covers.covered in omega arith
 
 -- nor is a copy of a value, whose canonical words fit a segment
-canon_refused : (S : Segments) (limits : ReaderOptions) (t : Tree) {k : ErrorKind} →
+pub canon_refused : (S : Segments) (limits : ReaderOptions) (t : Tree) {k : ErrorKind} →
     IsValueOf S limits t → 1 + word_count (trim t) ≤ max_segment_words → RefusesCanon S limits k → ⊥
 canon_refused S limits t value fits (inl root) = root_refused value.root root
-canon_refused S limits t value fits (inr (covers, inl (w, named, large))) =
+canon_refused S limits t value fits (inr (covers, inl (named, large, out))) =
     absurd (let more = large t value.cost value.means in omega arith)
 canon_refused S limits t value fits (inr (covers, inr (m, refused))) =
     (unreadable refused).only t value.cost value.means (λ _. value.free)
     (covers_rest limits.traversal_limit_in_words value.cost value.covered)
 
 -- nor the test of a message that can be read
-check_refused : (S : Segments) (limits : ReaderOptions) {k : ErrorKind} →
+pub check_refused : (S : Segments) (limits : ReaderOptions) {k : ErrorKind} →
     IsReadable S limits → RefusesCheck S limits k → ⊥
 check_refused S limits read (one, (m, inl (root, same))) = root_refused read.root root
 check_refused S limits read (one, (m, inr (covers, stops))) =
     never_stops stops read.value read.cost read.means
     (covers_rest limits.traversal_limit_in_words read.cost read.covered)
 
-size_refused : (S : Segments) (limits : ReaderOptions) {k : ErrorKind} →
+pub size_refused : (S : Segments) (limits : ReaderOptions) {k : ErrorKind} →
     CoversRoot S limits.traversal_limit_in_words → HasSize (root_within S limits) (unused (left_of limits)) → RefusesSize S limits k → ⊥
 size_refused S limits covers has (inl root) = root_refused covers root
 size_refused S limits covers has (inr (same, (m, refused))) = no_size refused has
 
 -- where there is an answer, memory alone is refused
-answer_refused : (command : Command) (limits : ReaderOptions) (S : Segments) {k : ErrorKind} →
+pub answer_refused : (command : Command) (limits : ReaderOptions) (S : Segments) {k : ErrorKind} →
     HasAnswerWithin command limits S → RefusesAnswer command limits S k → k ≡ AllocationFailed
 answer_refused (Canon form) limits S (t, value, fits) (inl memory) = memory
 answer_refused (Canon form) limits S (t, value, fits) (inr refused) =

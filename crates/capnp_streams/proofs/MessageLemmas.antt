@@ -1,37 +1,24 @@
 -- What reading the root of a message says of the message.
-use Rattle.std.proofs.Common.{◌≡◌, ◌⊎◌, inl, inr, ℕ, zero, suc, ℤ, List, length, Option, Some, None, Result, Ok, Err}
+use Rattle.std.proofs.Common.{◌≡◌, inl, inr, ℕ, zero, suc, ℤ, List, [], ◌∷◌, length, Option, Some, None, Result, Ok, Err}
 use Rattle.std.proofs.Common.{IsOk, IfOk, IfSome, IfErr, true, false, refl, sym, ap, ◌∙◌, subst, arith}
 use Rattle.capnp_words.specs.declared.error.ErrorKind.{ErrorKind}
-use Rattle.capnp_words.specs.declared.error.ErrorKind.TheVariants.{AllocationFailed}
 use Rattle.capnp_words.specs.Meter.{Meter, spent, unused}
+use Rattle.capnp_format.specs.Canonical.{encoding, trim}
 use Rattle.capnp_format.specs.Segments.{Segments}
 use Rattle.capnp_format.specs.Tree.{Tree}
 use Rattle.capnp_arena.specs.Allocations.{max_segment_words}
 use Rattle.capnp_arena.specs.declared.arena.reader_arena_impl.ReaderOptions.{ReaderOptions}
+use Rattle.capnp_objects.specs.Outcomes.{Reads}
 use Rattle.capnp_objects.specs.Reading.{Reading}
 use Rattle.capnp_objects.specs.Source.{levels}
-use Rattle.capnp_layout.specs.Answers.{CoversRoot, IsReadWithin, RefusesCopy, message_root}
+use Rattle.capnp_objects.specs.Wanted.{canonical}
+use Rattle.capnp_layout.specs.Answers.{CoversRoot, LacksMemoryOr, RefusesCopy, message_root}
 use Rattle.capnp_layout.proofs.CanonLemmas.{covers_root}
 use Rattle.capnp_layout.specs.CanonicalMessages.{IsMessageFault, RefusesTest}
 use Rattle.capnp_format.specs.Bytes.{message}
 use Rattle.capnp_framing.proofs.TableLemmas.{as_many}
 use Rattle.capnp_readers.specs.declared.readers.canonical_fault.CanonicalFault.{CanonicalFault}
 use Rattle.capnp_streams.specs.Messages.{IsFaultOf, IsValueOf, RefusesCanon, RefusesCheck, left_of, root_within}
-
--- what a root leads to is the value of its message
-pub value_of : {S : Segments} {limits : ReaderOptions} {r : Reading} {left after : Option ℕ} {t : Tree} →
-    r ≡ root_within S limits → left ≡ left_of limits → CoversRoot S limits.traversal_limit_in_words →
-    IsReadWithin r left after t → IsValueOf S limits t
-value_of {S} {limits} {r} {left} {after} {t} same rest covers read =
-    let placed = subst (λ (x : Reading). IsReadWithin x left after t) same read in
-    let there = subst (λ (l : Option ℕ). IsReadWithin (root_within S limits) l after t) rest placed in
-    record {
-      root = covers;
-      cost = there.0;
-      means = there.1;
-      free = there.2;
-      covered = covers_root limits.traversal_limit_in_words there.0 covers.covered there.3;
-    }
 
 -- The root of a message is read, and m is what the limit has left.
 pub record AtRoot (S : Segments) (limits : ReaderOptions) (r : Reading) (m : Meter) : Type 0 where
@@ -52,15 +39,36 @@ at_root {S} {T} {limits} {r} {n} {before} {after} same nesting begun place paid 
       covers = subst (λ (l : Option ℕ). CoversRoot S l) (ap (λ (x : Meter). x.left) begun) here;
     }
 
+-- what a root leads to is the value of its message
+pub value_of : {S : Segments} {limits : ReaderOptions} {r : Reading} {m after : Meter} {t : Tree} →
+    AtRoot S limits r m → Reads canonical r m after t → IsValueOf S limits t
+value_of {S} {limits} {r} {m} {after} {t} root read =
+    let placed = subst (λ (x : Reading). Reads canonical x m after t) root.place read in
+    let there = subst (λ (x : Meter). Reads canonical (root_within S limits) x after t) root.left placed in
+    record {
+      root = root.covers;
+      cost = there.cost;
+      means = there.means;
+      free = there.takes tt;
+      covered = covers_root limits.traversal_limit_in_words there.cost root.covers.covered there.covers;
+    }
+
+-- so is what was made a copy of that
+pub copy_of : {S : Segments} {limits : ReaderOptions} {r : Reading} {m after : Meter} {words : Segments} →
+    AtRoot S limits r m → (t : Tree) × Reads canonical r m after t × (words ≡ encoding (trim t) ∷ []) →
+    (t : Tree) × IsValueOf S limits t × (words ≡ encoding (trim t) ∷ [])
+copy_of root (t, read, is_made) = (t, value_of root read, is_made)
+
 -- a copy of what the root leads to that is refused refuses the message
-pub copy_refused : {S : Segments} {limits : ReaderOptions} {r : Reading} {m : Meter} {k : ErrorKind} →
-    AtRoot S limits r m → (k ≡ AllocationFailed) ⊎ RefusesCopy r m.left max_segment_words k →
-    (k ≡ AllocationFailed) ⊎ RefusesCanon S limits k
+pub copy_refused : {S : Segments} {limits : ReaderOptions} {r : Reading} {m : Meter} {old new : ℕ} {k : ErrorKind} →
+    AtRoot S limits r m → LacksMemoryOr old new k (RefusesCopy r m.left max_segment_words k) →
+    LacksMemoryOr old new k (RefusesCanon S limits k)
 copy_refused root (inl memory) = inl memory
-copy_refused {S} {limits} {r} {m} {k} root (inr refused) =
+copy_refused {S} {limits} {r} {m} {k = k} root (inr (refused, kept)) =
     let there = subst (λ (x : Reading). RefusesCopy x m.left max_segment_words k) root.place refused in
     let left = ap (λ (x : Meter). x.left) root.left in
-    inr (inr (root.covers, subst (λ (l : Option ℕ). RefusesCopy (root_within S limits) l max_segment_words k) left there))
+    let here = subst (λ (l : Option ℕ). RefusesCopy (root_within S limits) l max_segment_words k) left there in
+    inr (inr (root.covers, here), kept)
 
 -- the test of a message, within the limits: what it finds, and why it is refused
 pub fault_of_message : {S T : Segments} {limits : ReaderOptions} {z : ℤ} {old : Meter}

@@ -6,7 +6,7 @@ use Rattle.capnp_format.specs.Segments.{Segments}
 use Rattle.capnp_framing.specs.Flat.{BeginsWithFrame}
 use Rattle.capnp_framing.specs.Frames.{IsFrameOf}
 use Rattle.capnp_framing.specs.Reading.{total}
-use Rattle.capnp_framing.proofs.ReadingLemmas.{consumes_both, consumes_none}
+use Rattle.capnp_framing.proofs.ReadingLemmas.{consumes_both}
 use Rattle.capnp_framing.proofs.WritingLemmas.{appends_both}
 use Rattle.capnp_streams.specs.Streams.{AnswerIs, AreAnswered, AreDone, AreFrames, IsOneDone, Stage}
 use Rattle.capnp_streams.specs.declared.streams.task.Task.{Task}
@@ -43,6 +43,10 @@ module _ (task : Task) (S : Segments) (holds : Bool) (last : List ℕ)
       (here, there && holds, first, rest ++ last, this, others, yes_all, whole)
 
 -- nothing is done yet
+consumes_none : (a : Option (List ℕ)) → Consumes a a []
+consumes_none None = tt
+consumes_none (Some x) = refl
+
 pub none_done : (task : Task) (from : Stage) → AreDone task from from (record { messages = 0; holds = true })
 none_done task from = record {
   messages = [];

@@ -15,7 +15,7 @@ use Rattle.capnp_layout.specs.Answers.{CoversRoot, HasTotals, RefusesCopy, Refus
 use Rattle.capnp_layout.specs.CanonicalMessages.{IsMessageFault, RefusesTest}
 
 -- The root of a message means t without capabilities, within the nesting limit, and the traversal limit
--- covers what reading it costs, and one word for the root pointer.
+-- covers what reading it costs, and one word for the root pointer ("Messages", "Security Considerations").
 pub record IsValueOf (S : Segments) (limits : ReaderOptions) (t : Tree) : Type 0 where
   pub root : CoversRoot S limits.traversal_limit_in_words
   pub cost : ℕ
@@ -23,7 +23,7 @@ pub record IsValueOf (S : Segments) (limits : ReaderOptions) (t : Tree) : Type 0
   pub free : capabilities t ≡ 0
   pub covered : FitsIn limits.traversal_limit_in_words (1 + cost)
 
--- It means some value so, with capabilities or without.
+-- It means some value so, with capabilities or without ("Messages", "Security Considerations").
 pub record IsReadable (S : Segments) (limits : ReaderOptions) : Type 0 where
   pub root : CoversRoot S limits.traversal_limit_in_words
   pub value : Tree

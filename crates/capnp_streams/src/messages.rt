@@ -1,50 +1,32 @@
 //! What is said of a whole message, whatever holds its segments: its canonical copy, the test for
 //! canonical form, its size.
-ghost use Rattle.std.specs.Prelude.{◌≡◌, ◌⊎◌, ◌↔◌, IsOk, OnOk, IfOk, IfSome, IfErr, IsNone, IsTrue};
-ghost use Rattle.capnp_words.specs.Meter.{spent};
+ghost use Rattle.std.specs.Prelude.{◌≡◌, ◌⊎◌, ◌↔◌, IfOk, IfSome, IfErr, IsNone, IsTrue};
 ghost use Rattle.capnp_words.specs.declared.error.ErrorKind.TheVariants.{AllocationFailed};
 ghost use Rattle.capnp_format.specs.Bytes.{message};
 ghost use Rattle.capnp_format.specs.Tree.{Tree};
 ghost use Rattle.capnp_arena.specs.Limits.{IsSmall};
-ghost use Rattle.capnp_objects.specs.Source.{levels};
-ghost use Rattle.capnp_readers.specs.Readers.{reading};
-ghost use Rattle.capnp_layout.specs.Answers.{CoversRoot, HoldsCanonicalWords, RefusesRoot, message_root};
+ghost use Rattle.capnp_layout.specs.Answers.{HoldsCanonicalWords, LacksMemoryOr};
 ghost use Rattle.capnp_layout.specs.CanonicalMessages.{IsCanonicalMessage};
 ghost use Rattle.capnp_streams.specs.Messages.{HasSizeOf, IsFaultOf, IsValueOf, RefusesCanon, RefusesCheck, RefusesSize};
 
 use capnp_arena::arena::{
-    Allocator, BuilderArena, BuilderArenaImpl, HeapAllocator, ReaderArena, ReaderArenaImpl,
-    ReaderOptions, ReaderSegments,
+    Allocator, BuilderArena, BuilderArenaImpl, HeapAllocator, ReaderArenaImpl, ReaderOptions,
+    ReaderSegments,
 };
-use capnp_layout::framing::{CanonicalCopy, CanonicalFault, canonical_fault, copy_canonical_with};
-use capnp_readers::readers::{MessageSize, PointerReader};
+use capnp_layout::framing::{
+    CanonicalCopy, CanonicalFault, canonical_fault, copy_canonical_with, read_root,
+};
+use capnp_readers::readers::MessageSize;
 use capnp_words::error::ErrorKind;
 use capnp_words::read_limiter::ReadLimiter;
 use std::alloc::Global;
-
-/// A reader of the root of a message, after its word is charged.
-fn read_root<'a, S: ReaderSegments + Drop>(
-    arena: &'a ReaderArenaImpl<S>,
-    lim: &mut ReadLimiter,
-) -> Result<PointerReader<'a, ReaderArenaImpl<S>>, ErrorKind>
-    ensures exactly { IsOk result ↔ CoversRoot
-        (message (⟦<ReaderArenaImpl<S> as ReaderArena>⟧.segments arena.now)) lim.old.left }
-    ensures place { IfOk result (λ root. reading ⟦<ReaderArenaImpl<S> as ReaderArena>⟧ root
-        ≡ message_root (message (⟦<ReaderArenaImpl<S> as ReaderArena>⟧.segments arena.now))
-        (levels arena.now.nesting_limit)) }
-    ensures charged { OnOk result (lim.new ≡ spent lim.old 1) }
-    ensures refused { IfErr result
-        (λ k. RefusesRoot (message (⟦<ReaderArenaImpl<S> as ReaderArena>⟧.segments arena.now))
-        lim.old.left k) }
-{
-    PointerReader::get_root_from_arena(arena, lim)
-}
 
 /// Makes the value of a message canonical: a message of one segment, its canonical words
 /// ("Canonicalization"), with memory of an allocator. A refusal gives the allocator back.
 ///
 /// The value is read within the limits, from the root on, whose word costs one. Want of memory is
-/// `AllocationFailed`; more than 536,870,911 canonical words are `MessageTooLarge`.
+/// `AllocationFailed`, which the allocator has counted; more than 536,870,911 canonical words are
+/// `MessageTooLarge(536870911)`.
 pub fn canonical_with<A: Allocator, S: ReaderSegments + Drop>(
     alloc: Global,
     allocator: A,
@@ -55,8 +37,9 @@ pub fn canonical_with<A: Allocator, S: ReaderSegments + Drop>(
     ensures copied { IfOk result (λ made. (t : Tree)
         × IsValueOf (message (S.segments segments)) limits t
         × HoldsCanonicalWords (⟦<BuilderArenaImpl<A> as BuilderArena>⟧.view made) t) }
-    ensures refused { IfErr result (λ e. (e.0 ≡ AllocationFailed)
-        ⊎ RefusesCanon (message (S.segments segments)) limits e.0) }
+    ensures refused { IfErr result
+        (λ e. LacksMemoryOr (A.refusals allocator) (A.refusals e.1) e.0
+        (RefusesCanon (message (S.segments segments)) limits e.0)) }
 {
     let arena = ReaderArenaImpl::new(segments, limits);
     let mut lim = ReadLimiter::new(limits.traversal_limit_in_words);

@@ -13,24 +13,25 @@ use test_support::{arena_of, bytes_of};
 const DOUBLED: &str =
     "0000000000000200 0400000000000200 0000000000000200 0400000000000200 0000000000000200 0400000001000000 0000000001000000 0900000000000000";
 
-/// A struct of two words of data, and a value that takes several tries, are each written as one frame and
-/// charged once. Where the limiter doesn't cover the copy nothing is written.
+/// A struct of two words of data, and a value that takes several tries, are each written as one frame, and
+/// charged and counted once. Where the limiter doesn't cover the copy nothing is written, charged or counted.
 #[test]
 fn frames(rt: HostRuntime) {
     let two = "0000000002000000 1111111111111111 0000000000000080";
     let refused = Err(CanonicalError::Layout(ErrorKind::ReadLimitExceeded));
-    for (text, budget, want, words) in [
-        (two, 3, Ok(()), 3u8),
-        (DOUBLED, 23, Ok(()), 23),
-        (DOUBLED, 22, refused, 0),
+    for (text, budget, want, words, left, pointers) in [
+        (two, 3, Ok(()), 3u8, 0, 1),
+        (DOUBLED, 23, Ok(()), 23, 0, 15),
+        (DOUBLED, 22, refused, 0, 21, 0),
     ] {
         let source = arena_of(rt.alloc(), text, ReaderOptions::default()).expect(&rt, "a message");
         let mut lim = ReadLimiter::new(Some(budget));
         let from = PointerReader::get_root_from_arena(&source, &mut lim).expect(&rt, "a root");
         let mut to = MemoryOutput::new(rt.alloc());
         assert!(rt; write_canonical(rt.alloc(), &mut to, from, &mut lim) == want);
+        assert!(rt; lim.left() == Some(left));
+        assert!(rt; lim.followed() == pointers);
         if want.is_ok() {
-            assert!(rt; lim.left() == Some(0));
             let head = [0, 0, 0, 0, words, 0, 0, 0];
             assert!(rt; to.bytes().starts_with(&head));
             assert!(rt; to.bytes().len() == 8 + 8 * words as usize);

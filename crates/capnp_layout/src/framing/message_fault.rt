@@ -8,8 +8,9 @@ ghost use Rattle.capnp_readers.specs.Readers.{reading};
 ghost use Rattle.capnp_layout.specs.Answers.{CoversRoot, RefusesRoot, message_root};
 ghost use Rattle.capnp_layout.specs.CanonicalMessages.{CanBeTested, IsCanonicalMessage, IsMessageFault, IsPaid, IsRootFault, RefusesTest};
 
+use super::root::read_root;
 use capnp_arena::arena::{ReaderArena, ReaderArenaImpl, ReaderSegments};
-use capnp_readers::readers::{CanonicalFault, CanonicalFaultReason, PointerReader};
+use capnp_readers::readers::{CanonicalFault, CanonicalFaultReason};
 use capnp_words::error::ErrorKind;
 use capnp_words::read_limiter::ReadLimiter;
 
@@ -28,25 +29,6 @@ fn segment_count_fault<A: ReaderArena>(arena: &A) -> Option<CanonicalFault>
         word: 0,
         reason: CanonicalFaultReason::SegmentCount,
     })
-}
-
-/// A reader of the root of a message, after its word is charged.
-fn read_root<'a, S: ReaderSegments>(
-    arena: &'a ReaderArenaImpl<S>,
-    lim: &mut ReadLimiter,
-) -> Result<PointerReader<'a, ReaderArenaImpl<S>>, ErrorKind>
-    ensures exactly { IsOk result ↔ CoversRoot
-        (message (⟦<ReaderArenaImpl<S> as ReaderArena>⟧.segments arena.now)) lim.old.left }
-    ensures place { IfOk result (λ root. reading ⟦<ReaderArenaImpl<S> as ReaderArena>⟧ root
-        ≡ message_root (message (⟦<ReaderArenaImpl<S> as ReaderArena>⟧.segments arena.now))
-        (levels arena.now.nesting_limit)) }
-    ensures charged { OnOk result (lim.new ≡ spent lim.old 1) }
-    ensures refused { IfErr result
-        (λ k. RefusesRoot (message (⟦<ReaderArenaImpl<S> as ReaderArena>⟧.segments arena.now))
-        lim.old.left k
-        × (lim.new ≡ lim.old)) }
-{
-    PointerReader::get_root_from_arena(arena, lim)
 }
 
 /// Where and why the words of the only segment aren't the canonical ones of a value.

@@ -1,103 +1,30 @@
 //! A message made canonical and written as a frame ("Canonicalization", "Serialization Over a Stream").
-ghost use Rattle.std.specs.Prelude.{◌≡◌, ◌⊎◌, ◌∷◌, ◌<◌, ◌≤◌, ◌*◌, ◌/◌, ◌^◌, [], ℕ, List, false, true, length, OnOk, IfOk, IfErr};
+ghost use Rattle.std.specs.Prelude.{◌≡◌, ◌⊎◌, ◌∷◌, ◌<◌, ◌≤◌, ◌*◌, ◌/◌, ◌^◌, [], ℕ, List, false, true, length, OnOk, IfErr};
 ghost use Rattle.capnp_words.specs.declared.error.ErrorKind.{ErrorKind};
 ghost use Rattle.capnp_words.specs.declared.error.ErrorKind.TheVariants.{AllocationFailed};
 ghost use Rattle.capnp_format.specs.Bytes.{words_of};
 ghost use Rattle.capnp_format.specs.Canonical.{encoding, trim};
 ghost use Rattle.capnp_format.specs.Tree.{Tree};
 ghost use Rattle.capnp_arena.specs.Allocations.{max_segment_words};
-ghost use Rattle.capnp_framing.specs.Frames.{frame};
+ghost use Rattle.capnp_framing.specs.Frames.{bytes_of_words, frame};
 ghost use Rattle.capnp_framing.specs.Writing.{IsUnwritten, Prints};
 ghost use Rattle.capnp_framing.specs.declared.framing.frame_error.FrameError.{FrameError};
 ghost use Rattle.capnp_framing.specs.declared.framing.frame_error.FrameError.TheVariants.{WriteFailed};
+ghost use Rattle.capnp_objects.specs.Outcomes.{Reads};
+ghost use Rattle.capnp_objects.specs.Wanted.{canonical};
 ghost use Rattle.capnp_readers.specs.Readers.{reading};
-ghost use Rattle.capnp_framing.specs.Frames.{bytes_of_words};
-ghost use Rattle.capnp_layout.specs.Answers.{HoldsCanonicalWords, IsReadWithin, RefusesCopy};
-ghost use Rattle.capnp_layout.specs.CanonicalErrors.{IsLeftOf};
+ghost use Rattle.capnp_layout.specs.Answers.{RefusesCopy};
 
+use super::canonical_copy::copy_canonical_with;
 use super::canonical_error::CanonicalError;
-use crate::tool::copy_in_tries;
-use capnp_arena::arena::{
-    Allocator, BuilderArena, BuilderArenaImpl, HeapAllocator, OutputSegments, ReaderArena,
-};
+use super::copy_memory::CopyMemory;
+use capnp_arena::arena::{Allocator, BuilderArena, BuilderArenaImpl, OutputSegments, ReaderArena};
 use capnp_framing::devices::Output;
 use capnp_framing::framing::write;
-use capnp_objects::source::Source;
 use capnp_readers::readers::PointerReader;
-use capnp_words::error::ErrorKind;
 use capnp_words::read_limiter::ReadLimiter;
 use capnp_words::words::{count, part};
 use std::alloc::Global;
-
-/// How many words there are where a pointer is read.
-fn words_of_source<B: ReaderArena>(from: &PointerReader<'_, B>) -> usize {
-    match from.source {
-        Source::Arena(arena) => arena.size_in_words(),
-        _ => 0,
-    }
-}
-
-/// Charges what a copy has spent, so that so many words are left.
-fn settle(lim: &mut ReadLimiter, after: Option<usize>)
-    requires { IsLeftOf after lim.old.left }
-    ensures { lim.new.left ≡ after }
-{
-    let Some(left) = lim.left() else {
-        return;
-    };
-    let Some(after) = after else {
-        return;
-    };
-    let _ = lim.can_read(left - after);
-}
-
-/// A message in canonical form, in a segment on the heap.
-pub type CanonicalCopy = BuilderArenaImpl<HeapAllocator>;
-
-/// Makes what a pointer means canonical: a message of one segment, its canonical words
-/// ("Canonicalization"), with memory of an allocator. A refusal gives the allocator back.
-///
-/// The limiter is charged what the copy costs, once, however many tries it takes to find the room. More
-/// than 536,870,911 words are `MessageTooLarge`. What is left of the limiter after a refusal isn't said.
-pub fn copy_canonical_with<A: Allocator, B: ReaderArena>(
-    alloc: Global,
-    allocator: A,
-    from: PointerReader<'_, B>,
-    lim: &mut ReadLimiter,
-) -> Result<BuilderArenaImpl<A>, (ErrorKind, A)>
-    ensures copied { IfOk result (λ made. (t : Tree)
-        × IsReadWithin (reading B.ReaderArena from.entry) lim.old.left lim.new.left t
-        × HoldsCanonicalWords (⟦<BuilderArenaImpl<A> as BuilderArena>⟧.view made) t) }
-    ensures refused { IfErr result (λ e. (e.0 ≡ AllocationFailed)
-        ⊎ RefusesCopy (reading B.ReaderArena from.entry) lim.old.left max_segment_words e.0) }
-{
-    let words = words_of_source(&from);
-    match copy_in_tries(alloc, allocator, from, lim.left(), words) {
-        Ok((made, after)) => {
-            settle(lim, after);
-            Ok(made)
-        }
-        Err(refused) => Err(refused),
-    }
-}
-
-/// The same, with memory of the heap.
-pub fn copy_canonical<B: ReaderArena>(
-    alloc: Global,
-    from: PointerReader<'_, B>,
-    lim: &mut ReadLimiter,
-) -> Result<CanonicalCopy, ErrorKind>
-    ensures copied { IfOk result (λ made. (t : Tree)
-        × IsReadWithin (reading B.ReaderArena from.entry) lim.old.left lim.new.left t
-        × HoldsCanonicalWords (⟦<CanonicalCopy as BuilderArena>⟧.view made) t) }
-    ensures refused { IfErr result (λ k. (k ≡ AllocationFailed)
-        ⊎ RefusesCopy (reading B.ReaderArena from.entry) lim.old.left max_segment_words k) }
-{
-    match copy_canonical_with(alloc, HeapAllocator::new(alloc, 0), from, lim) {
-        Ok(made) => Ok(made),
-        Err((kind, _)) => Err(kind),
-    }
-}
 
 /// Bytes are those of their words. It does nothing; its contract says so.
 fn are_words(bytes: &[u8])
@@ -153,10 +80,11 @@ pub fn write_copy<W: Output, A: Allocator>(
 
 /// Writes what a pointer means as the frame of a canonical message: one segment, its canonical words.
 ///
-/// The limiter is charged what the copy costs, once, however many tries it takes to find the room. A
-/// value that isn't copied is `Layout`, with the refusal of the copy, and nothing is written; more than
-/// 536,870,911 words are `MessageTooLarge`. `Frame` says that the output has failed; how much it took
-/// isn't said. What is left of the limiter after a refusal isn't said.
+/// The limiter is charged what the copy costs, and counts each pointer that isn't null, once, however
+/// many tries it takes to find the room. A value that isn't copied is `Layout`, with the refusal of the
+/// copy; nothing is written, and the limiter is left as it was. More than 536,870,911 words are
+/// `MessageTooLarge(536870911)`. `Frame` says that the output has failed; how much it took isn't said,
+/// and the copy is charged.
 pub fn write_canonical<W: Output, B: ReaderArena>(
     alloc: Global,
     output: &mut W,
@@ -165,18 +93,22 @@ pub fn write_canonical<W: Output, B: ReaderArena>(
 ) -> Result<(), CanonicalError>
     requires { W.has_failed output.old ≡ false }
     ensures written { OnOk result ((t : Tree)
-        × IsReadWithin (reading B.ReaderArena from.entry) lim.old.left lim.new.left t
+        × Reads canonical (reading B.ReaderArena from.entry) lim.old lim.new t
         × Prints W.Output output.old output.new (frame (encoding (trim t) ∷ []))) }
     ensures works { OnOk result (W.has_failed output.new ≡ false) }
     ensures layout { IfErr result (λ e. (k : ErrorKind) → e ≡ CanonicalError.Layout k →
         ((k ≡ AllocationFailed)
         ⊎ RefusesCopy (reading B.ReaderArena from.entry) lim.old.left max_segment_words k)
         × IsUnwritten W.Output output.old output.new) }
+    ensures unread { IfErr result (λ e. (k : ErrorKind) → e ≡ CanonicalError.Layout k
+        → lim.new ≡ lim.old) }
     ensures frame { IfErr result (λ e. (f : FrameError) → e ≡ CanonicalError.Frame f →
         (f ≡ WriteFailed) × (W.has_failed output.new ≡ true)) }
+    ensures charged { IfErr result (λ e. (f : FrameError) → e ≡ CanonicalError.Frame f →
+        (t : Tree) × Reads canonical (reading B.ReaderArena from.entry) lim.old lim.new t) }
 {
-    match copy_canonical(alloc, from, lim) {
+    match copy_canonical_with(alloc, CopyMemory::new(alloc), from, lim) {
         Ok(made) => write_copy(output, &made),
-        Err(kind) => Err(CanonicalError::Layout(kind)),
+        Err((kind, _)) => Err(CanonicalError::Layout(kind)),
     }
 }

@@ -6,9 +6,11 @@ ghost use Rattle.capnp_layout.specs.Messages.{segments_in};
 
 use super::args::Args;
 use super::lines::Message;
-use super::root::{open, read_root};
+use super::root::open;
+use crate::framing::read_root;
 use capnp_arena::arena::ReaderOptions;
 use capnp_words::error::ErrorKind;
+use capnp_words::read_limiter::ReadLimiter;
 
 /// Whether canonical words stand at the root of a message, the first object right behind the root
 /// pointer ("Canonicalization").
@@ -23,7 +25,8 @@ pub(crate) fn is_canonical(source: Message, options: ReaderOptions) -> Result<bo
         Ok(arena) => arena,
         Err(kind) => return Err(kind),
     };
-    let (root, mut lim) = read_root(&arena, options.traversal_limit_in_words)?;
+    let mut lim = ReadLimiter::new(options.traversal_limit_in_words);
+    let root = read_root(&arena, &mut lim)?;
     let mut head = 1;
     root.is_canonical(&mut lim, &mut head)
 }

@@ -23,9 +23,10 @@ use super::refusal::Refusal;
 use super::size::size_of;
 use super::writing::{write_check, write_refusal, write_size, write_words};
 use crate::devices::{DeviceFault, Input, Output};
+use crate::framing::CopyMemory;
 use capnp_arena::arena::{
-    Allocator, BuilderArena, BuilderArenaImpl, HeapAllocator, OutputSegments, ReaderArena,
-    ReaderOptions, ReaderSegments,
+    Allocator, BuilderArena, BuilderArenaImpl, OutputSegments, ReaderArena, ReaderOptions,
+    ReaderSegments,
 };
 use capnp_words::error::ErrorKind;
 use std::alloc::Global;
@@ -328,6 +329,6 @@ pub fn run<R: Input, W: Output>(
     ensures works { result ≢ Outcome.WriteFailed → W.has_failed output.new ≡ false }
     ensures failed { result ≡ Outcome.WriteFailed → W.has_failed output.new ≡ true }
 {
-    let (outcome, _) = run_with(alloc, HeapAllocator::new(alloc, 0), args, input, output);
+    let (outcome, _) = run_with(alloc, CopyMemory::new(alloc), args, input, output);
     outcome
 }

@@ -6,10 +6,12 @@ ghost use Rattle.capnp_layout.specs.Messages.{segments_in};
 
 use super::args::Args;
 use super::lines::Message;
-use super::root::{open, read_root};
+use super::root::open;
+use crate::framing::read_root;
 use capnp_arena::arena::ReaderOptions;
 use capnp_readers::readers::MessageSize;
 use capnp_words::error::ErrorKind;
+use capnp_words::read_limiter::ReadLimiter;
 
 /// The words and capabilities that the root of a message leads to, without landing pads.
 pub(crate) fn size_of(source: Message, options: ReaderOptions) -> Result<MessageSize, ErrorKind>
@@ -22,6 +24,7 @@ pub(crate) fn size_of(source: Message, options: ReaderOptions) -> Result<Message
         Ok(arena) => arena,
         Err(kind) => return Err(kind),
     };
-    let (root, mut lim) = read_root(&arena, options.traversal_limit_in_words)?;
+    let mut lim = ReadLimiter::new(options.traversal_limit_in_words);
+    let root = read_root(&arena, &mut lim)?;
     root.total_size(&mut lim)
 }

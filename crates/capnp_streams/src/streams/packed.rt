@@ -30,7 +30,8 @@ pub fn run_packed<R: Input + Drop, W: Output>(
     ensures refused { IfErr result (λ s. IsWriteFault W.Output output.new s.fault
         ⊎ StopsBehind task (unpacked_stage (stage_of R.Input W.Output packed output.old))
         (W.contents output.new) true s
-        ⊎ IsCutBehind task (stage_of R.Input W.Output packed output.old) (W.contents output.new) s) }
+        ⊎ IsCutBehind task (stage_of R.Input W.Output packed output.old)
+        (W.contents output.new) s) }
     ensures exactly { IfErr result (λ s. WherePackedAnswerable task (R.remaining packed) s.fault) }
     ensures works { OnOk result (W.has_failed output.new ≡ false) }
 {

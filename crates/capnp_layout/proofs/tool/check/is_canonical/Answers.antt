@@ -1,5 +1,6 @@
-use Rattle.std.proofs.Common.{rules, ◌∙◌, ◌^◌, ◌-◌, ap, IsOk, subst}
+use Rattle.std.proofs.Common.{rules, ◌∙◌, ap, ℕ, IsOk, Option, subst}
 use Rattle.std.proofs.lemmas.Result.{IfErr-weaker}
+use Rattle.capnp_words.specs.Meter.{Meter, spent}
 use Rattle.capnp_format.specs.Bytes.{message}
 use Rattle.capnp_format.specs.Segments.{Segments}
 use Rattle.capnp_objects.specs.Source.{levels}
@@ -11,16 +12,18 @@ use Rattle.capnp_layout.proofs.tool.check.is_canonical.Goals as goal
 
 pub returns-in-Err-clause-refused : goal.returns-in-Err-clause-refused
 returns-in-Err-clause-refused c =
-    beyond_limits (2 ^ 64 - 1) c.in-Err.ensures.named (λ small. (let read : IsOk c.open.result = c.open.ensures.small.1 small in absurd (search rules)))
+    beyond_limits c.in-Err.ensures.named (λ small. (let read : IsOk c.open.result = c.open.ensures.small.1 small in absurd (search rules)))
 
 pub returns : goal.returns
 returns c =
     let read : IsOk c.read_root.result = search rules in
     let same = c.in-Ok.ensures.words in
-    let at_root : AtRoot (segments_in c.args.source) c.args.options _ c.in_ok-root.lim = record {
+    let limit = ap (λ (m : Meter). m.left) c.new-lim.ensures in
+    let there = subst (λ (S : Segments). CoversRoot S c.new-lim.result.left) same (c.read_root.ensures.exactly.0 read) in
+    let at_root : AtRoot (segments_in c.args.source) c.args.options _ c.read_root.new.lim = record {
       place = c.in_ok-root.ensures.place ∙ ap (λ (S : Segments). message_root S (levels c.in-Ok.arena.nesting_limit)) same ∙ ap (λ n. message_root (message (segments_in c.args.source)) (levels n)) c.in-Ok.ensures.nesting;
-      left = c.in_ok-root.ensures.left;
-      covers = subst (λ (S : Segments). CoversRoot S c.args.options.traversal_limit_in_words) same (c.read_root.ensures.exactly.0 read);
+      left = c.in_ok-root.ensures.charged ∙ ap (λ (m : Meter). spent m 1) c.new-lim.ensures;
+      covers = subst (λ (l : Option ℕ). CoversRoot (message (segments_in c.args.source)) l) limit there;
     } in
     record {
       small = search rules;

@@ -1,10 +1,10 @@
-use Rattle.std.proofs.Common.{◌-◌, ap, ◌^◌, refl, inl, inr, arith, rules}
+use Rattle.std.proofs.Common.{ap, refl, inl, inr, arith, rules}
 use Rattle.capnp_framing.specs.declared.framing.frame_error.FrameError.TheVariants.{NoSegments, TooManySegments}
 use Rattle.capnp_layout.specs.Commands.{beyond_limits, wrong_number}
 use Rattle.capnp_layout.proofs.tool.framed.count_of.Goals as goal
 
 pub returns-then-not-is_small-clause-refused : goal.returns-then-not-is_small-clause-refused
-returns-then-not-is_small-clause-refused c = beyond_limits (2 ^ 64 - 1) refl (search rules)
+returns-then-not-is_small-clause-refused c = beyond_limits refl (search rules)
 
 pub returns-then-count-eq0-clause-refused : goal.returns-then-count-eq0-clause-refused
 returns-then-count-eq0-clause-refused c = wrong_number NoSegments refl (inl (refl, omega (arith, c.len-count.ensures)))

@@ -1,5 +1,6 @@
-use Rattle.std.proofs.Common.{rules, ◌∙◌, ◌^◌, ◌-◌, ap, IsOk, subst}
+use Rattle.std.proofs.Common.{rules, ◌∙◌, ap, ℕ, IsOk, Option, subst}
 use Rattle.std.proofs.lemmas.Result.{IfOk-weaker}
+use Rattle.capnp_words.specs.Meter.{Meter, spent}
 use Rattle.capnp_format.specs.Bytes.{message}
 use Rattle.capnp_format.specs.Segments.{Segments}
 use Rattle.capnp_objects.specs.Source.{levels}
@@ -11,13 +12,15 @@ use Rattle.capnp_layout.proofs.tool.size.size_of.Goals as goal
 
 pub returns-in-Err-clause-refused : goal.returns-in-Err-clause-refused
 returns-in-Err-clause-refused c =
-    beyond_limits (2 ^ 64 - 1) c.in-Err.ensures.named (λ small. (let read : IsOk c.open.result = c.open.ensures.small.1 small in absurd (search rules)))
+    beyond_limits c.in-Err.ensures.named (λ small. (let read : IsOk c.open.result = c.open.ensures.small.1 small in absurd (search rules)))
 
 pub returns-clause-size : goal.returns-clause-size
 returns-clause-size c =
     let read : IsOk c.read_root.result = search rules in
     let same = c.in-Ok.ensures.words in
     let at_root = c.in_ok-root.ensures.place ∙ ap (λ (S : Segments). message_root S (levels c.in-Ok.arena.nesting_limit)) same ∙ ap (λ n. message_root (message (segments_in c.args.source)) (levels n)) c.in-Ok.ensures.nesting in
-    let covers : CoversRoot (message (segments_in c.args.source)) c.args.options.traversal_limit_in_words =
-    subst (λ (S : Segments). CoversRoot S c.args.options.traversal_limit_in_words) same (c.read_root.ensures.exactly.0 read) in
-    IfOk-weaker c.total_size.result _ _ (λ z. totals_read at_root c.in_ok-root.ensures.left covers) c.total_size.ensures.sized
+    let limit = ap (λ (m : Meter). m.left) c.new-lim.ensures in
+    let there = subst (λ (S : Segments). CoversRoot S c.new-lim.result.left) same (c.read_root.ensures.exactly.0 read) in
+    let covers = subst (λ (l : Option ℕ). CoversRoot (message (segments_in c.args.source)) l) limit there in
+    let left = c.in_ok-root.ensures.charged ∙ ap (λ (m : Meter). spent m 1) c.new-lim.ensures in
+    IfOk-weaker c.total_size.result _ _ (λ z. totals_read at_root left covers) c.total_size.ensures.sized

@@ -1,10 +1,13 @@
-use Rattle.std.proofs.Common.{rules, ◌≡◌, ◌⊎◌, Option, length, subst, sym, ℕ}
+use Rattle.std.proofs.Common.{rules, ◌≡◌, ◌⊎◌, length, subst}
+use Rattle.capnp_words.specs.Meter.{unused}
 use Rattle.capnp_format.specs.Tree.{Tree}
+use Rattle.capnp_objects.specs.Outcomes.{Reads}
+use Rattle.capnp_objects.specs.Wanted.{canonical}
 use Rattle.capnp_readers.specs.Readers.{reading}
-use Rattle.capnp_layout.specs.Answers.{IsReadWithin, IsMadeWhereAlone}
+use Rattle.capnp_layout.specs.Answers.{IsMadeWhereAlone}
 use Rattle.capnp_layout.specs.Tries.{NeedsMoreRoom}
 use Rattle.capnp_layout.proofs.CanonLemmas.{fresh_root, null_root, made_copy, kept_room, refused_copy, spread_copy}
-use Rattle.capnp_layout.proofs.tool.canon.copy_root.Goals as goal
+use Rattle.capnp_layout.proofs.framing.canonical_copy.copy_root.Goals as goal
 
 pub returns-in-Ok-clause-copied : goal.returns-in-Ok-clause-copied
 returns-in-Ok-clause-copied g c =
@@ -13,8 +16,7 @@ returns-in-Ok-clause-copied g c =
     let root = c.get_root-root.result in
     let fresh = fresh_root view root c.args.arena.now c.get_root-root.ensures.now c.get_root-root.ensures.place.0 c.requires.root in
     let made = made_copy r c.args.left root.segment root.at (view root.arena.now) (view c.copy_from.new.self.arena.now) _ _ c.new-lim.ensures (c.in-Ok.ensures.alone fresh.null) in
-    let left = subst (λ (after : Option ℕ). (t : Tree) × IsReadWithin r c.args.left after t × IsMadeWhereAlone (view c.copy_from.new.self.arena.now) t) (sym c.left.ensures) made in
-    subst (λ (a : g.row.A.Denot). (t : Tree) × IsReadWithin r c.args.left c.left.result t × IsMadeWhereAlone (view a) t) (search rules) left
+    subst (λ (a : g.row.A.Denot). (t : Tree) × Reads canonical r (unused c.args.left) c.copy_from.new.lim t × IsMadeWhereAlone (view a) t) (search rules) made
 
 pub returns-in-Ok-clause-room : goal.returns-in-Ok-clause-room
 returns-in-Ok-clause-room g c =
@@ -38,4 +40,4 @@ returns-in-Err-clause-refused g c =
     let view = g.A.BuilderArena.view in
     let root = c.get_root-root.result in
     let fresh = fresh_root view root c.args.arena.now c.get_root-root.ensures.now c.get_root-root.ensures.place.0 c.requires.root in
-    refused_copy (reading g.B.ReaderArena c.args.from) c.args.left root.segment root.at (view root.arena.now) (view c.copy_from.new.self.arena.now) _ _ c.in-Err.kind c.new-lim.ensures fresh c.in-Err.ensures.refused
+    refused_copy (reading g.B.ReaderArena c.args.from) c.args.left root.segment root.at (view root.arena.now) (view c.copy_from.new.self.arena.now) _ _ c.in-Err.kind c.new-lim.ensures fresh c.in-Err.ensures.refused c.in-Err.ensures.taken
