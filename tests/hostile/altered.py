@@ -1,4 +1,5 @@
 """Runs of the tool over altered messages and frames, over devices that fail, and under refused memory."""
+import itertools
 import json
 import re
 
@@ -54,12 +55,20 @@ def row(command, text, reads='none', writes='none', requests='none'):
     return f'{command} {reads} {writes} {requests} {text}'
 
 
-def altered(program, vectors, counts):
-    """Each message of the worked runs, cut and turned at every place: each command answers, or refuses by a name. What
-    `check` finds canonical `canon` copies as it stands; what `canon` writes `check` finds canonical and `canon` writes again."""
+def listed(path):
+    """The segments of the messages of a file, each behind a note."""
+    for line in path.open(encoding='utf-8'):
+        if not line.startswith('#'):
+            yield [bytes.fromhex(segment) for segment in line.rpartition(':')[2].strip().split(',')]
+
+
+def altered(program, vectors, others, counts):
+    """Each message of the worked runs, and each of the others, cut and turned at every place: each command answers, or refuses
+    by a name. What `check` finds canonical `canon` copies as it stands; what `canon` writes `check` finds canonical and
+    `canon` writes again."""
     messages = {}
-    for lines in messages_of(vectors, COMMANDS):
-        segments = [bytes.fromhex(line) for line in lines.split('\n')[:-1]]
+    worked_ones = ([bytes.fromhex(line) for line in lines.split('\n')[:-1]] for lines in messages_of(vectors, COMMANDS))
+    for segments in itertools.chain(worked_ones, others):
         for changed in alterations(segments):
             messages[','.join(it.hex() for it in changed)] = None
     rows = [row(f'{command},{LIMITS}', text) for text in messages for command in COMMANDS]

@@ -8,7 +8,9 @@ from program import answers
 from trees import segments_of, value
 
 WORDS = 1, 2, 3, 7
-SEGMENTS = range(1, 8)
+SEGMENTS = range(8)
+# Rows that ask for objects of so many elements, or bytes, are left out.
+MANY = 10_000
 REFUSED = 'AllocationFailed'
 STRUCT = '0000000001000100070000000000000001000000120000006100000000000000'
 # What is built in a scratch space alone: a text, a struct and its own, and a canonical copy of these.
@@ -17,8 +19,19 @@ ALONE = {
     '-:is,1,1;-:sf,2,0,7;c0:st,61': f'ok;ok;ok {STRUCT}',
     f'-:cf,{STRUCT},64,8,1': f'ok {STRUCT}',
 }
-# Edits that leave null where they are refused memory; the others leave what was there.
+# Edits, and builder calls, that leave null where they are refused memory; the others leave what was there.
 MAKING = {'is', 'il', 'isl', 'it', 'id', 'st', 'sd', 'cf', 'ss', 'sl'}
+MAKING_CALLS = {
+    'put_struct', 'init_struct', 'put_list', 'init_list', 'put_struct_list', 'init_struct_list', 'init_text', 'init_data',
+    'set_text', 'set_data', 'put_default', 'copy', 'set_struct', 'set_list',
+}
+# Those that open a struct or a list of structs, whose last argument may be a default.
+OPENING_CALLS = {'find_struct', 'get_struct', 'find_struct_list', 'get_struct_list'}
+# Which argument of an edit or of a builder call is a number of elements or bytes.
+COUNTS = {
+    'il': 1, 'isl': 0, 'it': 0, 'id': 0,
+    'put_list': 1, 'init_list': 1, 'put_struct_list': 0, 'init_struct_list': 0, 'init_text': 0, 'init_data': 0,
+}
 
 
 def operation(edit):
@@ -63,20 +76,38 @@ def lent(program, command, calls, counts):
         counts.told(got == wanted, 'other answers in scratch space', run, wanted, got)
 
 
-def is_small(text):
-    """Whether no number in a list of edits or calls is so large that the machine's memory might not suffice."""
-    return not re.search(r'[,\s]\d{5,11}(?![0-9a-f])', text)
+def is_large(call):
+    """Whether an edit or a builder call asks for an object of very many elements."""
+    name, *arguments = re.split('[:.]', call)[-1].split(',')
+    at = COUNTS.get(name)
+    return at is not None and int(arguments[at]) >= MANY
 
 
-def lists(paths):
-    """The lists of edits of rows, each once, but for those of very large objects."""
+def lists(paths, left_out):
+    """The lists of edits of rows, each once, but for those of very large objects, which are added to those left out."""
     found = {}
     for path in paths:
         for line in path.open(encoding='utf-8'):
             _, _, edits = json.loads(line)['stdin'].rstrip('\n').split(' ')
-            if is_small(edits):
-                found[edits] = None
+            (left_out if any(map(is_large, edits.split(';'))) else found)[edits] = None
     return list(found)
+
+
+def refusals(program, command, texts, counts):
+    """The runs of these texts in which a segment is refused, with the words of the allocator's segments before them, and their
+    answers: from no segment on, one more each time, until none is refused."""
+    runs = [(f'{words} ', text) for text in texts for words in WORDS]
+    for segments in itertools.count():
+        found = answers([*program, command], [f'{words}{segments} {text}' for words, text in runs])
+        runs = [(words, text, answer) for (words, text), answer in zip(runs, found) if REFUSED in answer]
+        if not runs:
+            return
+        for words, text, answer in runs:
+            if segments:
+                yield f'{words}{segments} ', text, answer
+            else:
+                counts.told(answer == f'refused {REFUSED}', 'no segment', words, text, answer)
+        runs = [(words, text) for words, text, _ in runs]
 
 
 def is_told(choice, answer):
@@ -84,11 +115,9 @@ def is_told(choice, answer):
     return all(wanted in (None, got) for (_, wanted), got in zip(choice, outcomes))
 
 
-def edited(program, paths, counts):
+def edited(program, edits, counts):
     """Lists of edits, with segments refused: each refused edit leaves what it says, and the others do as they do else."""
-    runs = [(f'{words} {segments} ', edits) for edits in lists(paths) for words in WORDS for segments in SEGMENTS]
-    found = run_edits(program, [start + edits for start, edits in runs])
-    runs = [(start, edits.split(';'), *answer) for (start, edits), answer in zip(runs, found) if REFUSED in answer[0]]
+    runs = [(start, edits.split(';'), *parted(answer)) for start, edits, answer in refusals(program, 'edits', edits, counts)]
     # content that is refused leaves some of it: the list up to there is looked at by itself
     parts, whole = [], []
     for run in runs:
@@ -143,21 +172,22 @@ def cut(whole, path):
         yield copy.deepcopy(whole)
 
 
-def builder_calls(paths):
-    """The lists of builder calls of rows, each once, but for those of very large objects or of segments as bytes."""
+def builder_calls(paths, left_out):
+    """The lists of builder calls of rows, each once, but for those of segments as bytes, and for those of very large objects,
+    which are added to those left out."""
     calls = {}
     for path in paths:
         for line in path.open(encoding='utf-8'):
             rest = json.loads(line)['stdin'].rstrip('\n').split(' ', 2)[2:]
-            if rest and is_small(rest[0]) and not re.search('allocated|pointer_at', rest[0]):
-                calls[rest[0]] = None
+            if rest and not re.search('allocated|pointer_at', rest[0]):
+                (left_out if any(map(is_large, rest[0].split())) else calls)[rest[0]] = None
     return list(calls)
 
 
 def in_scratch(program, edits, builds, counts):
     """Lists of edits and of builder calls, with segments refused, and the first one on the heap and in scratch space."""
-    lent(program, 'edits', lists(edits), counts)
-    lent(program, 'builds', builder_calls(builds), counts)
+    lent(program, 'edits', edits, counts)
+    lent(program, 'builds', builds, counts)
 
 
 def alone(program, counts):
@@ -167,12 +197,38 @@ def alone(program, counts):
         counts.told(got == wanted, 'not built in scratch space alone', line, wanted, got)
 
 
-def built(program, paths, counts):
-    """Lists of builder calls, with segments refused: what stands is a message that a builder makes."""
-    calls = builder_calls(paths)
-    runs = [f'{words} {segments} {rest}' for rest in calls for words in WORDS for segments in SEGMENTS]
-    found = answers([*program, 'builds'], runs)
-    audited(program, [(run, answer.rpartition(';')[2]) for run, answer in zip(runs, found) if REFUSED in answer], counts)
+def calls_instead(call):
+    """What may stand where a builder call is refused memory, as calls with ample memory, which keep no place either; none where
+    it leaves a part of what it copies."""
+    place, point, rest = call.rpartition('.')
+    name, *arguments = rest.split(',')
+    if name == 'content':
+        return []
+    if name in MAKING_CALLS:
+        return [[f'{place}{point}clear']]
+    if name in OPENING_CALLS and len(arguments) == 3:
+        # the default's copy is refused; or it is put, and what is opened is refused more words
+        return [[], [f'{place}{point}put_default,{arguments[2]}']]
+    return [[]]
+
+
+def calls_replaced(calls, outcomes):
+    """The lists of calls, of which one leaves with ample memory what these calls leave."""
+    choices = [calls_instead(call) if outcome.startswith(REFUSED) else [[call]] for call, outcome in zip(calls, outcomes)]
+    return [list(itertools.chain(*choice)) or ['clear'] for choice in itertools.product(*choices)]
+
+
+def built(program, calls, counts):
+    """Lists of builder calls, with segments refused: what stands is a message that a builder makes, and the value that calls
+    with ample memory leave in place of those that were refused."""
+    runs = [(start + calls, calls, *answer.rsplit(';', 1)) for start, calls, answer in refusals(program, 'builds', calls, counts)]
+    audited(program, [(line, words) for line, _, _, words in runs], counts)
+    choices = [((line, words), choice) for line, calls, outcomes, words in runs for choice in calls_replaced(calls.split(), outcomes.split(';'))]
+    ample = answers([*program, 'builds'], ['1024 none ' + ' '.join(choice) for _, choice in choices])
+    for (line, words), group in itertools.groupby(zip(choices, ample), key=lambda it: it[0][0]):
+        found = value(segments_of(words))
+        holds = any(value(segments_of(answer.rpartition(';')[2])) == found for _, answer in group)
+        counts.told(holds, 'another value stands', line, words)
 
 
 def deep(program, counts):

@@ -3,11 +3,12 @@
 
     run.py LAYOUT_RUNS LAYOUT_ROWS [--show N]
 
-LAYOUT_RUNS and LAYOUT_ROWS are the built programs of these names. Each message of the worked vectors is cut behind every
-byte and has every bit turned, and so has each frame; its runs meet a reader, a writer and an allocator that fail at each
-call in turn; and the lists of edits and of builder calls of tests/rows are done again with segments refused from every one
-on, and with the first segment in scratch space; and the segments of a message are asked for with little memory. What is
-wanted of each run is said beside it; values are read back by trees.py, and frames by frames.py, apart from the crates."""
+LAYOUT_RUNS and LAYOUT_ROWS are the built programs of these names. Each message of the worked vectors and of messages.txt is
+cut behind every byte and has every bit turned, and so has each frame; its runs meet a reader, a writer and an allocator that
+fail at each call in turn. The lists of edits and of builder calls of tests/rows are done again with segments refused from
+every one on, until none is refused, and with the first segment in scratch space; the segments of a message are asked for
+with little memory. What is wanted of each run is said beside it; values are read back by trees.py, and frames by frames.py,
+apart from the crates."""
 import argparse
 import pathlib
 import sys
@@ -27,10 +28,13 @@ def main():
     parser.add_argument('--show', type=int, default=10)
     options = parser.parse_args()
     vectors = list(altered.worked(TESTS / 'vectors/worked.jsonl'))
-    edits, builds = (sorted((TESTS / 'rows').glob(name)) for name in ('edits*.jsonl', 'builds*.jsonl'))
+    others = list(altered.listed(TESTS / 'hostile/messages.txt'))
+    left_out = {}
+    edits = growth.lists(sorted((TESTS / 'rows').glob('edits*.jsonl')), left_out)
+    builds = growth.builder_calls(sorted((TESTS / 'rows').glob('builds*.jsonl')), left_out)
     total = Counts(options.show)
     for name, part in (
-        ('altered messages', lambda: altered.altered([options.runs], vectors, total)),
+        ('altered messages', lambda: altered.altered([options.runs], vectors, others, total)),
         ('messages framed', lambda: altered.reframed([options.runs], vectors, total)),
         ('altered frames', lambda: altered.unframed([options.runs], vectors, total)),
         ('devices and memory that fail', lambda: altered.failing([options.runs], vectors, total)),
@@ -44,6 +48,7 @@ def main():
         before = total.passed + total.failed
         part()
         print(f'{name}: {total.passed + total.failed - before} runs')
+    print(f'left out: {len(left_out)} rows that ask for objects of {growth.MANY} elements or more')
     print(f'{total.passed} passed, {total.failed} failed')
     return 1 if total.failed else 0
 

@@ -8,9 +8,10 @@ that are wanted, with standard error where it is wanted too. The answers were ma
 model of the format written in Python from its description, and those of canon, check and size compared with those of
 Rust's capnp 0.27.3 on the same input: worked examples, random values in random layouts, mutated messages, and messages made to be refused.
 heavy.jsonl holds short messages that read much, deep.jsonl messages of many levels, and worked.jsonl runs whose answers
-were worked out by hand."""
+were worked out by hand. Each command is run, too, with an input that can't be read and with a full disk for its output."""
 import argparse
 import json
+import os
 import pathlib
 import subprocess
 import sys
@@ -23,6 +24,27 @@ def answer(binary, vector, limit):
     except subprocess.TimeoutExpired:
         return '', 'no end', ''
     return run.stdout.decode('latin-1'), run.returncode, run.stderr.decode('latin-1').strip()
+
+
+# Each command as it is run with devices that fail, and what a null root, or its frame, makes it write more than nothing.
+LIMITS = '64', '8388608'
+ON_DEVICES = [(['frame'], '00' * 8), (['unframe'], '00000000010000000000000000000000')] + [
+    ([command, *LIMITS], '00' * 8) for command in ('canon', 'check', 'size', 'framed-canon')
+] + [(['framed-check', *LIMITS], '00000000010000000000000000000000')]
+
+
+def on_devices(binary, limit):
+    """Runs whose input can't be read, and runs whose output can't be written: each with its outcome and the wanted one."""
+    for args, line in ON_DEVICES:
+        with open('/dev/full', 'wb') as full:
+            run = subprocess.run([binary, *args], input=f'{line}\n'.encode(), stdout=full, stderr=subprocess.DEVNULL, timeout=limit)
+        yield f"{' '.join(args)} > /dev/full", run.returncode, 2
+        folder = os.open('/', os.O_RDONLY)
+        try:
+            run = subprocess.run([binary, *args], stdin=folder, capture_output=True, timeout=limit)
+        finally:
+            os.close(folder)
+        yield f"{' '.join(args)} < /", (run.returncode, run.stdout, run.stderr), (2, b'', b'bad input\n')
 
 
 def main():
@@ -42,6 +64,13 @@ def main():
             failed += 1
             if failed <= options.show:
                 print(f"{path.name}:{number} {' '.join(vector['args'])}: wanted {vector['stdout']!r:.200} {vector['status']}, got {output!r:.200} {status} {error:.100}")
+    for run, got, wanted in on_devices(options.binary, options.limit):
+        if got == wanted:
+            passed += 1
+            continue
+        failed += 1
+        if failed <= options.show:
+            print(f'{run}: wanted {wanted}, got {got}')
     print(f'{passed} passed, {failed} failed')
     return 1 if failed else 0
 
